@@ -1,0 +1,9 @@
+pub mod Tokens
+pub mod Lexed
+pub mod Left
+pub mod Statements
+pub mod Grammar
+pub mod Reading
+pub mod Parsing
+pub mod Shown
+pub mod Words
