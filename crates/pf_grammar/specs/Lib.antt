@@ -7,3 +7,4 @@ pub mod Reading
 pub mod Parsing
 pub mod Shown
 pub mod Words
+pub mod Names

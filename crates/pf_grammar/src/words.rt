@@ -100,7 +100,7 @@ fn are_digits(text: &[u8]) -> bool
 
 /// A number of one to so many digits, at most this. Leading zeros may stand within the digits.
 #[tactic(auto, unfolding(crate::specs::Words::number_of))]
-fn decimal(text: &[u8], digits: usize, most: u16) -> Option<u16>
+pub fn parse_decimal(text: &[u8], digits: usize, most: u16) -> Option<u16>
     requires { digits ≤ 5 }
     ensures value { result ≡ number_of digits most text.now }
     ensures small { IfSome result (λ n. n ≤ most) }
@@ -144,7 +144,7 @@ fn named_octet(table: &[(&str, u8)], text: &[u8]) -> Option<u8>
 fn octet(text: &[u8]) -> Option<u8>
     ensures { result ≡ number_of 3 255 text.now }
 {
-    match decimal(text, 3, 255) {
+    match parse_decimal(text, 3, 255) {
         Some(number) => Some(number as u8),
         None => None,
     }
@@ -156,7 +156,7 @@ pub fn parse_port(text: &[u8]) -> Option<u16>
 {
     match named(&SERVICES, text) {
         Some(number) => Some(number),
-        None => decimal(text, 5, u16::MAX),
+        None => parse_decimal(text, 5, u16::MAX),
     }
 }
 

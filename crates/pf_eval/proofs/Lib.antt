@@ -1,0 +1,5 @@
+pub mod Digits
+pub mod Words
+pub mod Ascii
+pub mod Groups
+pub mod Later

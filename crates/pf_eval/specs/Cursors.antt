@@ -1,0 +1,30 @@
+-- What a cursor over words has left, and what a reader of words answers.
+use Rattle.std.specs.Prelude.{◌≡◌, List, map, Option, Some, None, Result, Ok, Err}
+use Rattle.pf_eval.specs.declared.cursor.Cursor.{Cursor}
+use Rattle.pf_eval.specs.declared.fault.PacketFault.{PacketFault}
+use Rattle.pf_eval.specs.declared.fault.PacketFault.TheVariants.{Memory, BadPacket}
+use Rattle.pf_eval.specs.declared.cursor.End as code
+use Rattle.pf_eval.specs.PacketTexts.{Word, End}
+
+abbrev pub left : Cursor → List Word
+left c = map (λ w. w.now) c.left.now
+
+abbrev pub end_of : code.End → End
+end_of e = record { addr = e.addr; port = e.port }
+
+-- a value was read, and these words are left, or none was
+abbrev pub Reads : {X : Type 0} → Option X → List Word → Option (X × List Word) → Type 0
+Reads None ws read = read ≡ None
+Reads (Some x) ws read = read ≡ Some (x, ws)
+
+-- the same where memory may run out
+abbrev pub ReadsAll : {X Y : Type 0} → (X → Y) → Result X PacketFault → List Word → Option (Y × List Word) → Type 0
+ReadsAll view (Ok x) ws read = read ≡ Some (view x, ws)
+ReadsAll view (Err Memory) ws read = Unit {0}
+ReadsAll view (Err BadPacket) ws read = read ≡ None
+
+-- the value that is there, or none; unless memory ran out
+abbrev pub Answers : {X : Type 0} → Result X PacketFault → Option X → Type 0
+Answers (Ok x) o = o ≡ Some x
+Answers (Err Memory) o = Unit {0}
+Answers (Err BadPacket) o = o ≡ None

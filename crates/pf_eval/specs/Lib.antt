@@ -1,0 +1,6 @@
+pub mod Packets
+pub mod PacketTexts
+pub mod Cursors
+pub mod Matching
+pub mod Verdicts
+pub mod Seen

@@ -1,0 +1,34 @@
+//! Why a packet text is refused.
+
+ghost use Rattle.std.specs.Prelude.{◌≡◌};
+ghost use Rattle.pf_eval.specs.declared.fault.PacketFault.TheVariants.{Memory};
+
+use std::alloc::{AllocError, AllocFailed};
+use thiserror::Error;
+
+/// Why a packet text gives no packet.
+#[derive(Clone, Copy, Debug, PartialEq, Eq, Error)]
+pub enum PacketFault {
+    /// A growth was refused.
+    #[error("out of memory")]
+    Memory,
+    /// The text isn't spelled as a packet (refusal 30).
+    #[error("not a packet")]
+    BadPacket,
+}
+
+impl From<AllocError> for PacketFault {
+    ghost from_gives = { λ _ e. e ≡ Memory };
+
+    fn from(_e: AllocError) -> PacketFault {
+        PacketFault::Memory
+    }
+}
+
+impl<T: Drop> From<AllocFailed<T>> for PacketFault {
+    ghost from_gives = { λ _ e. e ≡ Memory };
+
+    fn from(_e: AllocFailed<T>) -> PacketFault {
+        PacketFault::Memory
+    }
+}

@@ -1,0 +1,72 @@
+//! A packet.
+
+ghost use Rattle.std.specs.Prelude.{◌≡◌, length};
+ghost use Rattle.std.specs.List.{list_any};
+ghost use Rattle.std.specs.Str.{bytes_eq};
+ghost use Rattle.pf_eval.specs.Packets.{without_digits, interfaces};
+
+use pf_addr::Addr;
+use pf_grammar::{Name, TcpFlags, Way};
+use std::marker::Model;
+
+/// A packet record: what the filter reads of a packet that belongs to no state. It is made by `parse_packet`.
+#[derive(Drop)]
+pub struct Packet {
+    pub(crate) way: Way,
+    pub(crate) interface: Name,
+    pub(crate) groups: Vec<Name>,
+    pub(crate) protocol: u8,
+    pub(crate) source: Addr,
+    pub(crate) source_port: Option<u16>,
+    pub(crate) destination: Addr,
+    pub(crate) destination_port: Option<u16>,
+    pub(crate) flags: TcpFlags,
+    pub(crate) icmp_type: Option<u8>,
+}
+
+impl Model for Packet {
+    ghost use Rattle.pf_eval.specs.Packets.{PacketValue};
+
+    ghost Value = { PacketValue };
+
+    ghost view = { λ p. record { way = p.way; interface = p.interface; groups = p.groups.items; protocol = p.protocol; source = p.source; source_port = p.source_port; destination = p.destination; destination_port = p.destination_port; flags = p.flags; icmp_type = p.icmp_type } };
+}
+
+impl Packet {
+    /// Whether a name is one of the packet's interface: the interface, it without the digits at its end, or a group.
+    pub(crate) fn is_on(&self, name: &[u8]) -> bool
+        ensures { result ≡ list_any (λ n. bytes_eq n name.now) (interfaces self.now) }
+    {
+        let own = self.interface.as_bytes();
+        own == name
+            || without_digits(own) == name
+            || is_among(&self.groups, name)
+    }
+}
+
+/// Whether the name is among these.
+fn is_among(names: &[Name], name: &[u8]) -> bool
+    ensures { result ≡ list_any (λ n. bytes_eq n name.now) names.now }
+{
+    for other in names {
+        if other.as_bytes() == name {
+            return true;
+        }
+    }
+    false
+}
+
+/// The name without the digits at its end.
+#[tactic(auto, using(crate::proofs::Digits::no_digit, crate::proofs::Digits::one_digit))]
+fn without_digits(name: &[u8]) -> &[u8]
+    ensures { result.now ≡ without_digits name.now }
+{
+    let mut rest = name;
+    while let [front @ .., last] = rest {
+        if !last.is_ascii_digit() {
+            return rest;
+        }
+        rest = front;
+    }
+    rest
+}

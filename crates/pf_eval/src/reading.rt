@@ -1,0 +1,127 @@
+//! Packets from text.
+
+ghost use Rattle.std.specs.Prelude.{◌≡◌, ◌&&◌, map};
+ghost use Rattle.pf_eval.specs.PacketTexts.{same_family, has_ports, is_there_if, only_if, agrees, said_flags, packet_at, packet_of};
+ghost use Rattle.pf_eval.specs.Cursors.{Answers, end_of};
+
+use crate::cursor::{Cursor, End};
+use crate::fault::PacketFault;
+use crate::packet::Packet;
+use crate::word::{has_outer_blank, words};
+use pf_addr::Addr;
+use pf_grammar::{Name, TcpFlags};
+use std::alloc::Global;
+
+/// How many groups a packet's interface is in at most.
+const GROUPS_MAX: usize = 16;
+
+fn same_family(a: Addr, b: Addr) -> bool
+    ensures { result ≡ same_family a b }
+{
+    match (a, b) {
+        (Addr::V4(_), Addr::V4(_)) | (Addr::V6(_), Addr::V6(_)) => true,
+        (Addr::V4(_), Addr::V6(_)) | (Addr::V6(_), Addr::V4(_)) => false,
+    }
+}
+
+fn has_ports(protocol: u8) -> bool
+    ensures { result ≡ has_ports protocol }
+{
+    protocol == 6 || protocol == 17
+}
+
+/// Whether the ends have ports just where the protocol has.
+fn ports_agree(protocol: u8, source: End, destination: End) -> bool
+    ensures { result ≡ (is_there_if (has_ports protocol) source.port && is_there_if (has_ports protocol) destination.port) }
+{
+    source.port.is_some() == has_ports(protocol) && destination.port.is_some() == has_ports(protocol)
+}
+
+/// The flags that are set.
+fn said_flags(flags: Option<TcpFlags>) -> TcpFlags
+    ensures { result ≡ said_flags flags }
+{
+    match flags {
+        None => TcpFlags::NONE,
+        Some(flags) => flags,
+    }
+}
+
+/// Whether the parts of a packet go together.
+#[tactic(auto, unfolding(crate::specs::PacketTexts::agrees))]
+fn agrees(
+    groups: &[Name],
+    protocol: u8,
+    source: End,
+    destination: End,
+    flags: Option<TcpFlags>,
+    icmp_type: Option<u8>,
+) -> bool
+    ensures { result ≡ agrees (groups.now) protocol (end_of source) (end_of destination) flags icmp_type }
+{
+    groups.len() <= GROUPS_MAX
+        && same_family(source.addr, destination.addr)
+        && ports_agree(protocol, source, destination)
+        && (protocol == 6 || flags.is_none())
+        && (protocol == 1 || icmp_type.is_none())
+}
+
+/// The packet of these words.
+#[tactic(auto, unfolding(crate::specs::PacketTexts::packet_at))]
+fn packet(alloc: Global, words: &[&[u8]]) -> Result<Packet, PacketFault>
+    ensures { Answers result (packet_at (map (λ w. w.now) words.now)) }
+{
+    let mut cursor = Cursor::new(words);
+    let Some(way) = cursor.way() else {
+        return Err(PacketFault::BadPacket);
+    };
+    let Some(interface) = cursor.name_after(b"on") else {
+        return Err(PacketFault::BadPacket);
+    };
+    let groups = cursor.groups(alloc)?;
+    let Some(protocol) = cursor.protocol() else {
+        return Err(PacketFault::BadPacket);
+    };
+    let Some(source) = cursor.end(b"from") else {
+        return Err(PacketFault::BadPacket);
+    };
+    let Some(destination) = cursor.end(b"to") else {
+        return Err(PacketFault::BadPacket);
+    };
+    let Some(flags) = cursor.flags() else {
+        return Err(PacketFault::BadPacket);
+    };
+    let Some(icmp_type) = cursor.icmp_type() else {
+        return Err(PacketFault::BadPacket);
+    };
+    if !cursor.is_empty() || !agrees(&groups, protocol, source, destination, flags, icmp_type) {
+        return Err(PacketFault::BadPacket);
+    }
+    Ok(Packet {
+        way,
+        interface: Name::from_bytes(alloc, interface)?,
+        groups,
+        protocol,
+        source: source.addr,
+        source_port: source.port,
+        destination: destination.addr,
+        destination_port: destination.port,
+        flags: said_flags(flags),
+        icmp_type,
+    })
+}
+
+/// Reads a packet: `in|out on IFNAME {group IFNAME} proto PROTO from ADDR [port N] to ADDR [port N] [flags LETTERS]
+/// [icmp-type N]`, blanks between the words and none at either end, 16 groups at most. Both addresses have one family;
+/// both ports are there for tcp and udp and for no other protocol; flags are for tcp alone, and where they are missing
+/// none is set; a type is for icmp alone. Every other text is `BadPacket`.
+pub fn parse_packet(alloc: Global, text: &str) -> Result<Packet, PacketFault>
+    ensures { Answers result (packet_of text.now) }
+{
+    let bytes = text.as_bytes();
+    if has_outer_blank(bytes) {
+        return Err(PacketFault::BadPacket);
+    }
+    let words = words(alloc, bytes)?;
+    packet(alloc, &words)
+}

@@ -1,0 +1,51 @@
+//! The words of a packet text.
+
+ghost use Rattle.std.specs.Prelude.{◌≡◌, ◌++◌, IfOk, OnOk, map};
+ghost use Rattle.pf_eval.specs.PacketTexts.{is_blank, ended, has_outer_blank, words};
+
+use std::alloc::{AllocError, Global};
+
+/// Whether the byte is a space or a tab.
+fn is_blank(b: u8) -> bool
+    ensures { result ≡ is_blank b }
+{
+    b == b' ' || b == b'\t'
+}
+
+/// Whether a blank stands first or last.
+pub(crate) fn has_outer_blank(text: &[u8]) -> bool
+    ensures { result ≡ has_outer_blank text.now }
+{
+    match text {
+        [] => false,
+        [.., last] => is_blank(text[0]) || is_blank(*last),
+    }
+}
+
+/// Puts the word behind those that were found, unless it is empty.
+fn put_word<'a>(found: &mut Vec<&'a [u8]>, word: &'a [u8]) -> Result<(), AllocError>
+    ensures { OnOk result (map (λ w. w.now) found.new.items ≡ map (λ w. w.now) found.old.items ++ ended word.now) }
+{
+    if word.is_empty() {
+        return Ok(());
+    }
+    found.push(word)?;
+    Ok(())
+}
+
+/// The words between blanks.
+pub(crate) fn words<'a>(alloc: Global, text: &'a [u8]) -> Result<Vec<&'a [u8]>, AllocError>
+    ensures { IfOk result (λ found. map (λ w. w.now) found.items ≡ words text.now) }
+{
+    let mut found = Vec::new(alloc);
+    let mut start = 0usize;
+    for (i, b) in text.iter().enumerate() {
+        if !is_blank(*b) {
+            continue;
+        }
+        put_word(&mut found, &text[start..i])?;
+        start = i + 1;
+    }
+    put_word(&mut found, &text[start..])?;
+    Ok(found)
+}
