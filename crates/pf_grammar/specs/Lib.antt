@@ -8,3 +8,4 @@ pub mod Parsing
 pub mod Shown
 pub mod Words
 pub mod Names
+pub mod Faults

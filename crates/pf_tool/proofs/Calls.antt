@@ -1,0 +1,79 @@
+-- The word that a parse entered, and its packet words.
+use Rattle.std.proofs.Common.{◌≡◌, ◌≢◌, ℕ, Bool, true, false, List, Option, Some, None, [], ◌∷◌, inl, inr, codes, refl, subst, sym, ◌∙◌, ap, ap₂}
+use Rattle.std.specs.Prelude.{option_map, bytes_eq, if◌then◌else◌}
+use Rattle.clap.specs.Words.{Row, Text, all_of, rows_of, found_of, subcommand_rows_of, subcommand_rows, subcommand_name_of}
+use Rattle.clap.specs.declared.parser.matches.ArgMatches.{ArgMatches}
+use Rattle.clap.specs.declared.parser.matches.ArgMatches.TheViews.{out-ArgMatches}
+use Rattle.clap.specs.Words.{App, HasMatchesOf, is_simple, subcommand_of, kind_of}
+use Rattle.clap.specs.Faults.{fault_of, is_simple_and_free}
+use Rattle.clap.specs.Kinds.{Kinds, HasKind}
+use Rattle.clap.specs.declared.error.Error.{Error}
+use Rattle.clap.specs.declared.error.kind.ErrorKind.TheVariants.{OutOfMemory}
+use Rattle.pf_tool.specs.declared.status.Status.{Status}
+use Rattle.pf_tool.specs.declared.status.Status.TheVariants as status
+use Rattle.pf_tool.specs.Tool.{pfx_app, packets_in, Call, Misused, called, unless_faulty, call_of, Ran}
+
+-- a pair of two values of one thing
+abbrev paired : {T : Type 0} → (T → Text) → (T → List Row) → T → Text × List Row
+paired f g x = (f x, g x)
+
+both : (T : Type 0) (o : Option T) (f : T → Text) (g : T → List Row) (name : Text) (rows : List Row)
+    → option_map f o ≡ Some name → option_map {U = List Row} (λ (p : Text × List Row). p.1) (option_map (paired f g) o) ≡ Some rows
+    → option_map (paired f g) o ≡ Some (name, rows)
+both T None f g name rows e h = absurd cc
+both T (Some x) f g name rows e h = let a : f x ≡ name = cc in let b : g x ≡ rows = cc in rw (a, b) refl
+
+-- the rows of the word, which is this one
+pub rows_entered : (m : ArgMatches) (name : Text) (rows : List Row) → subcommand_name_of m ≡ Some name
+    → option_map (λ p. p.1) (subcommand_rows (out-ArgMatches m).subcommand) ≡ Some rows → subcommand_rows_of m ≡ Some (name, rows)
+rows_entered m name rows e f = both _ (out-ArgMatches m).subcommand _ _ name rows e f
+
+-- a parse that passes says what is called
+pub call_entered : (words : List Text) (m : ArgMatches) → fault_of pfx_app words ≡ [] → subcommand_rows_of m ≡ subcommand_of pfx_app words
+    → call_of words ≡ called (packets_in (subcommand_rows_of m))
+unfolding call_of
+call_entered words m e f = rw (e, f) refl
+
+-- where memory ran out or something failed, nothing hangs on what was called
+unhindered : (s : Status) (call : Call) (input old new : Option (List ℕ)) → Ran s Misused None old new → (s ≡ status.Usage → ⊥) → Ran s call input old new
+unhindered status.Memory call input old new h k = h
+unhindered status.Failed call input old new h k = tt
+unhindered status.Done call input old new h k = absurd (k h)
+unhindered status.Refused call input old new h k = absurd (k h)
+unhindered status.Usage call input old new h k = absurd (k h)
+
+misused_over : (s : Status) (input old new : Option (List ℕ)) → Ran s Misused None old new → Ran s Misused input old new
+misused_over status.Memory input old new h = h
+misused_over status.Failed input old new h = tt
+misused_over status.Done input old new h = h
+misused_over status.Refused input old new h = h
+misused_over status.Usage input old new h = h
+
+refused_by : (s : Status) (kinds : Kinds) (call : Call) (e : Error) (input old new : Option (List ℕ)) → Ran s Misused None old new → HasKind kinds e
+    → (kind_of e ≡ OutOfMemory → s ≡ status.Usage → ⊥) → Ran s (unless_faulty kinds call) input old new
+refused_by s [] call e input old new h k none = elim k as (λ _. Ran s call input old new) [ inl m ↦ unhindered s call input old new h (none m) | inr bad ↦ absurd bad ]
+refused_by s (x ∷ xs) call e input old new h k none = misused_over s input old new h
+
+-- a parse that is refused
+pub call_refused : (s : Status) (words : List Text) (e : Error) (input old new : Option (List ℕ)) → Ran s Misused None old new
+    → HasKind (fault_of pfx_app words) e → (kind_of e ≡ OutOfMemory → s ≡ status.Usage → ⊥) → Ran s (call_of words) input old new
+unfolding call_of
+call_refused s words e input old new h k none = refused_by s (fault_of pfx_app words) _ e input old new h k none
+
+-- ---- what clap says of a command that is the program's
+
+simple_and_free : is_simple_and_free pfx_app ≡ true
+simple_and_free = refl
+
+simple : is_simple pfx_app ≡ true
+simple = refl
+
+pub kinds_of_program : (a : App) (words : List Text) (e : Error) → a ≡ pfx_app → (is_simple_and_free a ≡ true → HasKind (fault_of a words) e)
+    → HasKind (fault_of pfx_app words) e
+kinds_of_program a words e same h = let P : App → Type 0 = λ b. is_simple_and_free b ≡ true → HasKind (fault_of b words) e in subst P same h simple_and_free
+
+pub passes_program : (a : App) (words : List Text) → a ≡ pfx_app → (is_simple_and_free a ≡ true → fault_of a words ≡ []) → fault_of pfx_app words ≡ []
+passes_program a words same h = let P : App → Type 0 = λ b. is_simple_and_free b ≡ true → fault_of b words ≡ [] in subst P same h simple_and_free
+
+pub rows_of_program : (a : App) (words : List Text) (m : ArgMatches) → a ≡ pfx_app → HasMatchesOf a words m → subcommand_rows_of m ≡ subcommand_of pfx_app words
+rows_of_program a words m same h = let P : App → Type 0 = λ b. HasMatchesOf b words m in (subst P same h simple).1

@@ -1,0 +1,23 @@
+use Rattle.std.proofs.Common.{◌≡◌, ◌∙◌, sym, ap, map, refl}
+use Rattle.pf_tool.specs.Tool.{called}
+use Rattle.pf_tool.proofs.Calls.{call_entered, call_refused, kinds_of_program, passes_program, rows_of_program}
+use Rattle.pf_tool.proofs.program.run.Goals as goal
+
+pub returns-in-Err : goal.returns-in-Err
+returns-in-Err g c =
+    let kinds = kinds_of_program _ (map g.S.AsStr.text c.args.words.now) c.in-Err.error c.in-Ok.ensures c.in-Err.ensures.kinds in
+    call_refused c.misused.result _ c.in-Err.error _ _ _ c.misused.ensures.ran kinds c.misused.ensures.memory
+
+pub returns-in-Some : goal.returns-in-Some
+returns-in-Some g c =
+    let free = passes_program _ (map g.S.AsStr.text c.args.words.now) c.in-Ok.ensures c.in-Ok-try_get_matches_from.ensures.kinds in
+    let rows = rows_of_program _ (map g.S.AsStr.text c.args.words.now) c.in-Ok-try_get_matches_from.matches c.in-Ok.ensures c.in-Ok-try_get_matches_from.ensures.matches in
+    let e = call_entered (map g.S.AsStr.text c.args.words.now) c.in-Ok-try_get_matches_from.matches free rows ∙ ap called (sym c.in-Some.ensures) in
+    rw e c.test.ensures
+
+pub returns : goal.returns
+returns g c =
+    let free = passes_program _ (map g.S.AsStr.text c.args.words.now) c.in-Ok.ensures c.in-Ok-try_get_matches_from.ensures.kinds in
+    let rows = rows_of_program _ (map g.S.AsStr.text c.args.words.now) c.in-Ok-try_get_matches_from.matches c.in-Ok.ensures c.in-Ok-try_get_matches_from.ensures.matches in
+    let e = call_entered (map g.S.AsStr.text c.args.words.now) c.in-Ok-try_get_matches_from.matches free rows ∙ ap called (sym c.in-None.ensures) in
+    rw e refl

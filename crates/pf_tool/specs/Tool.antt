@@ -1,0 +1,110 @@
+-- The words of the program, and what it writes.
+use Rattle.std.specs.Prelude.{◌≡◌, ℕ, Bool, true, false, List, [], ◌∷◌, ◌++◌, Option, Some, None, Result, Ok, Err, IfSome, codes, decimal, bytes_eq, option_map, if◌then◌else◌}
+use Rattle.std.specs.Io.KnownBytes.{Appends}
+use Rattle.clap.specs.Words.{App, Row, Text, new_app, new_rule, with_rule, with_subcommand, subcommand_of, all_of}
+use Rattle.clap.specs.Faults.{fault_of}
+use Rattle.clap.specs.Kinds.{Kinds}
+use Rattle.clap.specs.declared.builder.action.ArgAction.TheVariants.{Append}
+use Rattle.clap.specs.Lexer.{usize_max}
+use Rattle.pf_grammar.specs.declared.fault.Refusal.{Refusal}
+use Rattle.pf_grammar.specs.declared.ruleset.Place.TheVariants.{Main}
+use Rattle.pf_grammar.specs.Faults.{cause_code}
+use Rattle.pf_grammar.specs.Reading.{Rules, reading}
+use Rattle.pf_eval.specs.Packets.{PacketValue}
+use Rattle.pf_eval.specs.PacketTexts.{packet_of}
+use Rattle.pf_eval.specs.Verdicts.{judgement}
+use Rattle.pf_eval.specs.Seen.{verdict_of, verdict_text}
+use Rattle.pf_tool.specs.declared.output.Ending.{Ending}
+use Rattle.pf_tool.specs.declared.output.Ending.TheVariants.{Done, Refused}
+use Rattle.pf_tool.specs.declared.status.Status.{Status}
+use Rattle.pf_tool.specs.declared.status.Status.TheVariants as status
+
+-- ---- what the words ask for
+
+-- test PACKET..
+abbrev pub test_app : App
+test_app = with_rule (new_app (codes "test")) (record (new_rule (codes "packet")) { action = Some Append; required = true; range = Some (record { start_inclusive = 1; end_inclusive = usize_max }) })
+
+-- the program: one of its words has to be named
+abbrev pub pfx_app : App
+pfx_app =
+    let named = with_subcommand (new_app (codes "pfx")) test_app.top in
+    record named { top = record named.top { subcommand_required = true } }
+
+-- what is asked for: verdicts for packet texts, or nothing that the program knows
+pub data Call : Type 0 where
+  Test : (packets : List Text) → Call
+  Misused : Call
+
+-- the packet words of test, if that is the word
+abbrev pub packets_in : Option (Text × List Row) → Option (List Text)
+packets_in None = None
+packets_in (Some (name, rows)) = if bytes_eq name (codes "test") then all_of (codes "packet") rows else None
+
+abbrev pub called : Option (List Text) → Call
+called None = Misused
+called (Some packets) = Test packets
+
+abbrev pub unless_faulty : Kinds → Call → Call
+unless_faulty [] call = call
+unless_faulty (k ∷ ks) call = Misused
+
+-- the words after the program's name
+unfoldable pub call_of : List Text → Call
+call_of words = unless_faulty (fault_of pfx_app words) (called (packets_in (subcommand_of pfx_app words)))
+
+-- ---- what is written
+
+-- the bytes, and how the run ends
+pub record Written : Type 0 where
+  pub text : List ℕ
+  pub ending : Ending
+
+abbrev pub line : List ℕ → List ℕ
+line text = text ++ 10 ∷ []
+
+abbrev pub behind : List ℕ → Written → Written
+behind text written = record { text = text ++ written.text; ending = written.ending }
+
+abbrev pub refused_packet : Written
+refused_packet = record { text = line (codes "refused 30"); ending = Refused }
+
+-- the verdict for a packet text, none where it is no packet
+unfoldable pub verdict_for : Rules → Text → Option (List ℕ)
+verdict_for rules packet = option_map (λ (k : PacketValue). verdict_text (verdict_of (judgement rules.skip rules.items k))) (packet_of packet)
+
+-- the verdict line before what follows; a text that is no packet ends it
+abbrev pub put_verdict : Option (List ℕ) → Written → Written
+put_verdict None later = refused_packet
+put_verdict (Some verdict) later = behind (line verdict) later
+
+-- a line for each packet text in turn
+abbrev pub verdict_lines : Rules → List Text → Written
+verdict_lines rules [] = record { text = []; ending = Done }
+verdict_lines rules (packet ∷ packets) = put_verdict (verdict_for rules packet) (verdict_lines rules packets)
+
+abbrev pub refusal_line : Refusal → List ℕ
+refusal_line r = line (codes "refused " ++ decimal (cause_code r.cause) ++ codes " line " ++ decimal r.line)
+
+abbrev pub tested : List Text → Result Rules Refusal → Written
+tested packets (Err refusal) = record { text = refusal_line refusal; ending = Refused }
+tested packets (Ok rules) = verdict_lines rules packets
+
+-- test PACKET.. over this input
+unfoldable pub test_output : List Text → List ℕ → Written
+test_output packets input = tested packets (reading Main input)
+
+abbrev pub status_of : Ending → Status
+status_of Done = status.Done
+status_of Refused = status.Refused
+
+abbrev pub Writes : Option (List ℕ) → Option (List ℕ) → Status → Written → Type 0
+Writes old new ending written = Appends old new written.text × (ending ≡ status_of written.ending)
+
+-- What a run has done that ended so, over this input. Where memory ran out it wrote that alone; of a read or a write that
+-- failed, and of the text for words that aren't understood, nothing is said.
+abbrev pub Ran : Status → Call → Option (List ℕ) → Option (List ℕ) → Option (List ℕ) → Type 0
+Ran status.Memory call input old new = Appends old new (line (codes "memory"))
+Ran status.Failed call input old new = Unit {0}
+Ran ending (Test packets) input old new = IfSome input (λ bytes. Writes old new ending (test_output packets bytes))
+Ran ending Misused input old new = ending ≡ status.Usage

@@ -1,0 +1,30 @@
+//! The words of the program, as `clap` reads them.
+
+ghost use Rattle.std.specs.Prelude.{◌≡◌, IfOk, false};
+ghost use Rattle.clap.specs.Words.{app_of};
+ghost use Rattle.clap.specs.declared.builder.command.Command.TheViews.{out-Command};
+ghost use Rattle.pf_tool.specs.Tool.{test_app, pfx_app};
+
+use clap::{Arg, ArgAction, Command};
+use std::alloc::{AllocError, Global};
+
+/// `test PACKET..`
+fn test_command<'a>(alloc: Global) -> Result<Command<'a>, AllocError>
+    ensures app { IfOk result (λ c. app_of c ≡ test_app) }
+    ensures local { IfOk result (λ c. (out-Command c).has_globals ≡ false) }
+{
+    let packet = Arg::new(alloc, "packet")
+        .action(ArgAction::Append)
+        .required(true)
+        .num_args(1..);
+    Command::new(alloc, "test").arg(packet)
+}
+
+/// All words of the program.
+pub(crate) fn program<'a>(alloc: Global) -> Result<Command<'a>, AllocError>
+    ensures { IfOk result (λ c. app_of c ≡ pfx_app) }
+{
+    let test = test_command(alloc)?;
+    let command = Command::new(alloc, "pfx").subcommand(test)?;
+    Ok(command.subcommand_required(true))
+}

@@ -1,0 +1,57 @@
+//! The input of a run.
+
+ghost use Rattle.std.specs.Prelude.{◌≡◌, ◌≢◌, ◌≤◌, ℕ, List, Option, Ok, false, length, IfSome, IfOk, IfErr, OnOk};
+ghost use Rattle.std.specs.Io.KnownBytes.{Consumes, IsAtEnd};
+
+use crate::status::Status;
+use std::alloc::Global;
+use std::io::Read;
+
+/// How many reads are made at most.
+const READS_MAX: u32 = 16_777_217;
+
+/// How many bytes are read at most.
+const BYTES_MAX: usize = 16_777_216;
+
+/// Why the input isn't there.
+#[derive(Clone, Copy, Debug, PartialEq, Eq)]
+pub(crate) enum InputFault {
+    Memory,
+    Failed,
+}
+
+/// Reads once, onto the end of what was read, and answers whether there may be more.
+fn read_some<R: Read>(reader: &mut R, all: &mut Vec<u8>) -> Result<bool, InputFault>
+    requires { length all.old.items ≤ 16777216 }
+    ensures taken { (first : Option (List ℕ)) → Consumes first (R.remaining reader.old) all.old.items → OnOk result (Consumes first (R.remaining reader.new) all.new.items) }
+    ensures end { result ≡ Ok false → IsAtEnd (R.remaining reader.new) }
+    ensures few { OnOk result (length all.new.items ≤ 16777216) }
+{
+    let mut buf = [0u8; 4096];
+    let Ok(n) = reader.read(&mut buf) else {
+        return Err(InputFault::Failed);
+    };
+    if n == 0 {
+        return Ok(false);
+    }
+    if n > BYTES_MAX - all.len() {
+        return Err(InputFault::Failed);
+    }
+    all.extend_from_slice(&buf[..n])
+        .map_err(|_| InputFault::Memory)?;
+    Ok(true)
+}
+
+/// All that is left to read, up to a limit; more is a failed read.
+pub(crate) fn read_all<R: Read>(alloc: Global, reader: &mut R) -> Result<Vec<u8>, InputFault>
+    ensures whole { IfOk result (λ v. IfSome (R.remaining reader.old) (λ input. v.items ≡ input)) }
+    ensures few { IfOk result (λ v. length v.items ≤ 16777216) }
+{
+    let mut all = Vec::new(alloc);
+    for _ in 0..READS_MAX {
+        if !read_some(reader, &mut all)? {
+            return Ok(all);
+        }
+    }
+    Err(InputFault::Failed)
+}

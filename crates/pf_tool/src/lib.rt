@@ -1,0 +1,19 @@
+//! What the program does with its words and its input.
+//!
+//! # Organization
+//!
+//! - `run`: the words of the program, over any reader and writer.
+//! - `Status`: how a run ends, and the exit status.
+#![tactic(auto)]
+
+mod command;
+mod input;
+mod output;
+mod program;
+
+mod status;
+mod test_word;
+
+pub use program::run;
+pub use status::Status;
+
