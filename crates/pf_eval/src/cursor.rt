@@ -7,7 +7,7 @@ ghost use Rattle.pf_grammar.specs.Words.{protocol_of, flags_of};
 ghost use Rattle.pf_eval.specs.Cursors.{left, end_of, Reads, ReadsAll};
 
 use crate::fault::PacketFault;
-use pf_addr::{Addr, parse_addr_bytes};
+use pf_addr::{Addr, parse_bytes};
 use pf_grammar::{
     Name, Profile, TcpFlags, Way, is_interface_name, parse_decimal, parse_flags, parse_protocol,
 };
@@ -149,7 +149,7 @@ where
         ensures { Reads result (left self.new) (keyed key.now address_of (left self.old)) }
     {
         let word = self.word_after(key)?;
-        parse_addr_bytes(word).ok()
+        parse_bytes(word).ok()
     }
 
     #[tactic(auto, unfolding(crate::specs::PacketTexts::keyed, crate::specs::PacketTexts::optional))]

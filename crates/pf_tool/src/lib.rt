@@ -14,6 +14,6 @@ mod program;
 mod status;
 mod test_word;
 
-pub use program::run;
+pub use program::{out_of_memory, run};
 pub use status::Status;
 

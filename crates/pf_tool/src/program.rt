@@ -17,8 +17,8 @@ use std::alloc::Global;
 use std::convert::AsStr;
 use std::io::{Read, Write};
 
-/// Writes that memory ran out.
-fn out_of_memory<W: Write>(writer: &mut W) -> Status
+/// Writes `memory`: what a run does where a growth was refused.
+pub fn out_of_memory<W: Write>(writer: &mut W) -> Status
     ensures { (result ≡ Status.Failed) ⊎ ((result ≡ Status.Memory) × Appends (W.contents writer.old) (W.contents writer.new) (line (codes "memory"))) }
 {
     match writer.write_all(b"memory\n") {
