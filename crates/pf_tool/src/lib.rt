@@ -10,10 +10,11 @@ mod command;
 mod input;
 mod output;
 mod program;
-
 mod status;
 mod test_word;
 
 pub use program::{out_of_memory, run};
 pub use status::Status;
 
+#[cfg(test)]
+mod tests;

@@ -72,7 +72,11 @@ fn verdict_lines(alloc: Global, loaded: &Ruleset, packets: &[&str]) -> Result<Ou
 
 /// What `test PACKET..` writes over this input.
 #[tactic(auto, unfolding(crate::specs::Tool::test_output))]
-pub(crate) fn test_output(alloc: Global, packets: &[&str], input: &[u8]) -> Result<Output, AllocError>
+pub(crate) fn test_output(
+    alloc: Global,
+    packets: &[&str],
+    input: &[u8],
+) -> Result<Output, AllocError>
     ensures { IfOk result (λ o. written o ≡ test_output (map (λ p. p.now) packets.now) input.now) }
 {
     match parse(alloc, input, Place::Main) {
