@@ -1,6 +1,5 @@
 -- How the groups of a packet come, a pair of words at a time.
-use Rattle.std.proofs.Common.{◌≡◌, ℕ, Bool, true, false, List, [], ◌∷◌, ◌++◌, Option, Some, None, codes, refl, ap, append_assoc}
-use Rattle.std.specs.Prelude.{bytes_eq}
+use Rattle.std.proofs.Common.{◌≡◌, ℕ, true, false, List, [], ◌∷◌, ◌++◌, Option, Some, None, codes, refl, ap, append_assoc}
 use Rattle.pf_eval.specs.PacketTexts.{Word, ◌>>=◌, begins, word_after, keyed, name_of, groups_at, put_name}
 
 pub groups_stop : (ws : List Word) → begins (codes "group") ws ≡ false → groups_at ws ≡ Some ([], ws)

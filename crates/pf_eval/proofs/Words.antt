@@ -1,7 +1,7 @@
 -- How the words of a text come byte by byte.
-use Rattle.std.proofs.Common.{◌≡◌, ℕ, ◌+◌, ◌-◌, ◌<◌, ◌≤◌, Bool, true, false, List, [], ◌∷◌, ◌++◌, length, get_or, take, drop, refl, ap, sym, ◌∙◌, arith, drop-cons, add-one, length-drop}
-use Rattle.std.proofs.lemmas.List.{take_more, get_or-drop, length-take-le}
-use Rattle.pf_eval.specs.PacketTexts.{Word, is_blank, ended, words_from}
+use Rattle.std.proofs.Common.{◌≡◌, ℕ, ◌+◌, ◌-◌, ◌<◌, ◌≤◌, true, false, List, [], ◌∷◌, ◌++◌, length, get_or, take, drop, refl, ap, ◌∙◌, arith, drop-cons, add-one, length-drop}
+use Rattle.std.proofs.lemmas.List.{take_more, get_or-drop}
+use Rattle.pf_eval.specs.PacketTexts.{is_blank, ended, words_from}
 
 at_drop : (text : List ℕ) (start i : ℕ) → start ≤ i → get_or (drop start text) (i - start) 0 ≡ get_or text i 0
 at_drop text start i h = get_or-drop start text (i - start) 0 ∙ ap (λ n. get_or text n 0) (omega arith)

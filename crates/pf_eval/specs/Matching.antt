@@ -1,7 +1,5 @@
 -- Whether a rule matches a packet: each of its conditions holds (pf.conf(5), PACKET FILTERING).
-use Rattle.std.specs.Prelude.{ℕ, Bool, true, false, ◌==◌, ◌&&◌, Option, Some, None, not, if◌then◌else◌}
-use Rattle.std.specs.List.{list_any}
-use Rattle.std.specs.Str.{bytes_eq}
+use Rattle.std.specs.Prelude.{Bool, true, false, ◌==◌, ◌&&◌, Option, Some, None, not, if◌then◌else◌}
 use Rattle.pf_addr.specs.declared.addr.Addr.{Addr}
 use Rattle.pf_addr.specs.Blocks.{in_prefix}
 use Rattle.pf_grammar.specs.declared.rule.Way.{Way}

@@ -1,10 +1,8 @@
 -- The verdict: of the rules that match, the last one before the evaluation ends decides (pf.conf(5), "the last matching rule decides").
-use Rattle.std.specs.Prelude.{ℕ, ◌+◌, Bool, true, false, List, [], ◌∷◌, ◌++◌, Option, Some, None, codes, decimal, if◌then◌else◌}
+use Rattle.std.specs.Prelude.{ℕ, ◌+◌, Bool, List, [], ◌∷◌, ◌++◌, Option, Some, None, if◌then◌else◌}
 use Rattle.std.specs.List.{list_any}
 use Rattle.std.specs.Str.{bytes_eq}
 use Rattle.pf_grammar.specs.declared.rule.Action.{Action}
-use Rattle.pf_grammar.specs.declared.rule.Action.TheVariants.{Pass, Drop}
-use Rattle.pf_grammar.specs.declared.rule.Rule.{Rule}
 use Rattle.pf_grammar.specs.declared.ruleset.Item.{Item}
 use Rattle.pf_grammar.specs.declared.ruleset.Item.TheVariants.{Filter}
 use Rattle.pf_eval.specs.Packets.{PacketValue, interfaces}

@@ -38,9 +38,7 @@ impl Packet {
         ensures { result ≡ list_any (λ n. bytes_eq n name.now) (interfaces self.now) }
     {
         let own = self.interface.as_bytes();
-        own == name
-            || without_digits(own) == name
-            || is_among(&self.groups, name)
+        own == name || without_digits(own) == name || is_among(&self.groups, name)
     }
 }
 

@@ -34,7 +34,8 @@ fn has_ports(protocol: u8) -> bool
 fn ports_agree(protocol: u8, source: End, destination: End) -> bool
     ensures { result ≡ (is_there_if (has_ports protocol) source.port && is_there_if (has_ports protocol) destination.port) }
 {
-    source.port.is_some() == has_ports(protocol) && destination.port.is_some() == has_ports(protocol)
+    source.port.is_some() == has_ports(protocol)
+        && destination.port.is_some() == has_ports(protocol)
 }
 
 /// The flags that are set.

@@ -15,7 +15,10 @@ pub use name::Name;
 pub use reading::{parse, reading_again, reads_the_grammar};
 pub use rule::{Action, FlagTest, Host, Rule, TcpFlags, Way};
 pub use ruleset::{Item, Place, Profile, Ruleset, TableDef};
-pub use words::{is_interface_name, is_reserved, parse_decimal, parse_flags, parse_icmp_type, parse_port, parse_protocol};
+pub use words::{
+    is_interface_name, is_reserved, parse_decimal, parse_flags, parse_icmp_type, parse_port,
+    parse_protocol,
+};
 
 #[cfg(test)]
 mod tests;

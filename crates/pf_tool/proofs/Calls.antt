@@ -1,7 +1,7 @@
 -- The word that a parse entered, and its packet words.
-use Rattle.std.proofs.Common.{◌≡◌, ◌≢◌, ℕ, Bool, true, false, List, Option, Some, None, [], ◌∷◌, inl, inr, codes, refl, subst, sym, ◌∙◌, ap, ap₂}
-use Rattle.std.specs.Prelude.{option_map, bytes_eq, if◌then◌else◌}
-use Rattle.clap.specs.Words.{Row, Text, all_of, rows_of, found_of, subcommand_rows_of, subcommand_rows, subcommand_name_of}
+use Rattle.std.proofs.Common.{◌≡◌, ℕ, true, List, Option, Some, None, [], ◌∷◌, inl, inr, refl, subst}
+use Rattle.std.specs.Prelude.{option_map}
+use Rattle.clap.specs.Words.{Row, Text, subcommand_rows_of, subcommand_rows, subcommand_name_of}
 use Rattle.clap.specs.declared.parser.matches.ArgMatches.{ArgMatches}
 use Rattle.clap.specs.declared.parser.matches.ArgMatches.TheViews.{out-ArgMatches}
 use Rattle.clap.specs.Words.{App, HasMatchesOf, is_simple, subcommand_of, kind_of}

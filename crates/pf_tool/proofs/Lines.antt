@@ -1,5 +1,5 @@
 -- A packet text that is no packet ends the lines.
-use Rattle.std.proofs.Common.{◌≡◌, ◌∙◌, ℕ, ◌+◌, ◌<◌, List, [], ◌∷◌, ◌++◌, Option, None, length, map, drop, get_or, drop-cons, add-one, ap, refl, Bor}
+use Rattle.std.proofs.Common.{◌≡◌, ℕ, ◌+◌, ◌<◌, List, ◌∷◌, None, length, map, drop, get_or, drop-cons, add-one, refl, Bor}
 use Rattle.pf_grammar.specs.Reading.{Rules}
 use Rattle.pf_tool.specs.Tool.{behind, refused_packet, verdict_for, verdict_lines}
 

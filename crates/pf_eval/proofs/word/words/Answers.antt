@@ -1,5 +1,4 @@
-use Rattle.std.proofs.Common.{◌≡◌, ◌∙◌, ◌++◌, sym, ap, List, ℕ, take, drop, map, refl, arith, append_assoc, ◌-◌, ◌+◌, false, true}
-use Rattle.pf_eval.specs.PacketTexts.{words_from, ended}
+use Rattle.std.proofs.Common.{◌∙◌, sym, arith, append_assoc, ◌+◌}
 use Rattle.pf_eval.proofs.Words.{word_grows, word_ends, word_begins}
 use Rattle.pf_eval.proofs.word.words.Goals as goal
 

@@ -1,4 +1,4 @@
-use Rattle.std.proofs.Common.{◌≡◌, ◌≤◌, ◌+◌, ◌-◌, ◌++◌, length, map, take, drop}
+use Rattle.std.proofs.Common.{◌≡◌, ◌≤◌, ◌-◌, ◌++◌, map, take, drop}
 use Rattle.pf_eval.specs.PacketTexts.{words, words_from}
 use Rattle.pf_eval.proofs.word.words.Given as goal
 

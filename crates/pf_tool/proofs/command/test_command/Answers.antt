@@ -1,10 +1,9 @@
-use Rattle.std.proofs.Common.{◌≡◌, ◌∙◌, ap, ap₂, refl, rules, codes, true, Some}
+use Rattle.std.proofs.Common.{◌≡◌, ◌∙◌, ap, ap₂, rules, codes, true, Some}
 use Rattle.std.proofs.lemmas.Result.{IfOk-weaker}
 use Rattle.clap.specs.Walk.{Rule, rule_of}
-use Rattle.clap.specs.Simple.{app_of, with_rule, new_rule}
+use Rattle.clap.specs.Simple.{with_rule, new_rule}
 use Rattle.clap.specs.Lexer.{usize_max}
 use Rattle.clap.specs.declared.builder.action.ArgAction.TheVariants.{Append}
-use Rattle.pf_tool.specs.Tool.{test_app}
 use Rattle.pf_tool.proofs.Ranges.{some_is}
 use Rattle.pf_tool.proofs.command.test_command.Goals as goal
 

@@ -1,4 +1,4 @@
-use Rattle.std.proofs.Common.{◌≡◌, ◌∙◌, sym, ap, map, refl}
+use Rattle.std.proofs.Common.{◌∙◌, sym, ap, map, refl}
 use Rattle.pf_tool.specs.Tool.{called}
 use Rattle.pf_tool.proofs.Calls.{call_entered, call_refused, kinds_of_program, passes_program, rows_of_program}
 use Rattle.pf_tool.proofs.program.run.Goals as goal

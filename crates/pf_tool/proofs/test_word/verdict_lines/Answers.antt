@@ -1,4 +1,4 @@
-use Rattle.std.proofs.Common.{◌≡◌, ◌∙◌, sym, ap, string_bytes, arith}
+use Rattle.std.proofs.Common.{◌∙◌, sym, ap, string_bytes, arith}
 use Rattle.std.specs.Prelude.{option_map}
 use Rattle.pf_grammar.specs.Reading.{rules_of}
 use Rattle.pf_tool.proofs.Lines.{line_refused}
