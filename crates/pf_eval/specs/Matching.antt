@@ -1,32 +1,73 @@
--- Whether a rule matches a packet: each of its conditions holds (pf.conf(5), PACKET FILTERING).
-use Rattle.std.specs.Prelude.{Bool, true, false, ◌==◌, ◌&&◌, Option, Some, None, not, if◌then◌else◌}
+-- Whether a rule matches a packet: each of its conditions holds (pf.conf(5), PACKET FILTERING and PARAMETERS).
+use Rattle.std.specs.Prelude.{ℕ, Bool, true, false, ◌==◌, ◌&&◌, ◌||◌, Option, Some, None, not, nat_lt, nat_le, if◌then◌else◌}
+use Rattle.std.specs.List.{list_any}
+use Rattle.std.specs.Str.{bytes_eq}
 use Rattle.pf_addr.specs.declared.addr.Addr.{Addr}
-use Rattle.pf_addr.specs.Blocks.{in_prefix}
-use Rattle.pf_grammar.specs.declared.rule.Way.{Way}
-use Rattle.pf_grammar.specs.declared.rule.Way.TheVariants.{In, Out}
+use Rattle.pf_addr.specs.declared.addr.Addr.TheVariants.{V4, V6}
+use Rattle.pf_addr.specs.Blocks.{in_prefix, in_range}
+use Rattle.pf_grammar.specs.declared.rule.Direction.{Direction}
+use Rattle.pf_grammar.specs.declared.rule.Direction.TheVariants.{In, Out}
+use Rattle.pf_grammar.specs.declared.rule.Family.{Family}
+use Rattle.pf_grammar.specs.declared.rule.Family.TheVariants.{Inet, Inet6}
+use Rattle.pf_grammar.specs.declared.rule.Interface.{Interface}
+use Rattle.pf_grammar.specs.declared.rule.Addresses.{Addresses}
+use Rattle.pf_grammar.specs.declared.rule.Addresses.TheVariants.{Prefix, Range}
 use Rattle.pf_grammar.specs.declared.rule.Host.{Host}
-use Rattle.pf_grammar.specs.declared.rule.Host.TheVariants.{Any, Within}
+use Rattle.pf_grammar.specs.declared.rule.Host.TheVariants as host
+use Rattle.pf_grammar.specs.declared.rule.PortTest.{PortTest}
+use Rattle.pf_grammar.specs.declared.rule.PortTest.TheVariants.{Equal, NotEqual, Less, LessEqual, Greater, GreaterEqual, FromTo, Between, Outside}
 use Rattle.pf_grammar.specs.declared.rule.TcpFlags.{TcpFlags}
 use Rattle.pf_grammar.specs.declared.rule.FlagTest.{FlagTest}
 use Rattle.pf_grammar.specs.declared.rule.FlagTest.TheVariants as flags
-use Rattle.pf_grammar.specs.declared.rule.Rule.{Rule}
-use Rattle.pf_eval.specs.Packets.{PacketValue}
+use Rattle.pf_grammar.specs.declared.rule.Conditions.{Conditions}
+use Rattle.pf_eval.specs.Packets.{PacketValue, interfaces}
 
-abbrev pub way_eq : Way → Way → Bool
-way_eq In In = true
-way_eq In Out = false
-way_eq Out In = false
-way_eq Out Out = true
+abbrev pub direction_eq : Direction → Direction → Bool
+direction_eq In In = true
+direction_eq In Out = false
+direction_eq Out In = false
+direction_eq Out Out = true
 
 -- a condition that isn't set holds
 abbrev pub if_set : {X : Type 0} → (X → Bool) → Option X → Bool
 if_set test None = true
 if_set test (Some x) = test x
 
--- the address is within the prefix, or any will do
+-- a condition on something that the packet lacks doesn't hold
+abbrev pub if_there : {X : Type 0} → (X → Bool) → Option X → Bool
+if_there test None = false
+if_there test (Some x) = test x
+
+-- the interface is one of the packet's names, or, negated, none of them
+unfoldable pub on_interface : PacketValue → Interface → Bool
+on_interface k i = if i.negated then not (list_any (λ n. bytes_eq n i.name) (interfaces k)) else list_any (λ n. bytes_eq n i.name) (interfaces k)
+
+abbrev pub of_family : Addr → Family → Bool
+of_family (V4 bits) Inet = true
+of_family (V4 bits) Inet6 = false
+of_family (V6 bits) Inet = false
+of_family (V6 bits) Inet6 = true
+
+unfoldable pub in_addresses : Addr → Addresses → Bool
+in_addresses a (Prefix block) = in_prefix a block
+in_addresses a (Range span) = in_range a span.first span.last
+
+-- negation turns the answer round, also for an address of the other family
 abbrev pub at_host : Addr → Host → Bool
-at_host a Any = true
-at_host a (Within p) = in_prefix a p
+at_host a host.Any = true
+at_host a (host.In set) = in_addresses a set
+at_host a (host.NotIn set) = not (in_addresses a set)
+
+unfoldable pub port_passes : PortTest → ℕ → Bool
+port_passes (Equal n) port = port == n
+port_passes (NotEqual n) port = not (port == n)
+port_passes (Less n) port = nat_lt port n
+port_passes (LessEqual n) port = nat_le port n
+port_passes (Greater n) port = nat_lt n port
+port_passes (GreaterEqual n) port = nat_le n port
+port_passes (FromTo a b) port = nat_le a port && nat_le port b
+port_passes (Between a b) port = nat_lt a port && nat_lt port b
+port_passes (Outside a b) port = nat_lt port a || nat_lt b port
 
 -- a flag that is looked at is set exactly if it is to be
 abbrev pub flag_passes : Bool → Bool → Bool → Bool
@@ -45,10 +86,24 @@ unfoldable pub flags_pass : FlagTest → PacketValue → Bool
 flags_pass flags.Any k = true
 flags_pass (flags.Just set of) k = if k.protocol == 6 then just set of k.flags else true
 
--- each condition holds
-unfoldable pub matches : Rule → PacketValue → Bool
-matches r k =
-    if_set (way_eq k.way) r.way
-    && at_host k.source r.source
-    && at_host k.destination r.destination
+-- what is asked of the packet itself
+unfoldable pub is_such : Conditions → PacketValue → Bool
+is_such r k =
+    if_set (direction_eq k.direction) r.direction
+    && if_set (on_interface k) r.interface
+    && if_set (of_family k.source) r.family
+    && if_set (λ n. k.protocol == n) r.protocol
     && flags_pass r.flags k
+    && if_set (λ n. if_there (λ m. m == n) k.icmp_type) r.icmp_type
+
+-- what is asked of its two ends
+unfoldable pub is_between : Conditions → PacketValue → Bool
+is_between r k =
+    at_host k.source r.source
+    && if_set (λ t. if_there (port_passes t) k.source_port) r.source_port
+    && at_host k.destination r.destination
+    && if_set (λ t. if_there (port_passes t) k.destination_port) r.destination_port
+
+-- each condition holds
+unfoldable pub matches : Conditions → PacketValue → Bool
+matches r k = is_such r k && is_between r k

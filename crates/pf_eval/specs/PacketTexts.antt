@@ -4,12 +4,11 @@ use Rattle.std.specs.Result.{result_ok}
 use Rattle.pf_addr.specs.declared.addr.Addr.{Addr}
 use Rattle.pf_addr.specs.declared.addr.Addr.TheVariants.{V4, V6}
 use Rattle.pf_addr.specs.Spelling.{addr_of}
-use Rattle.pf_grammar.specs.declared.rule.Way.{Way}
-use Rattle.pf_grammar.specs.declared.rule.Way.TheVariants.{In, Out}
+use Rattle.pf_grammar.specs.declared.rule.Direction.{Direction}
+use Rattle.pf_grammar.specs.declared.rule.Direction.TheVariants.{In, Out}
 use Rattle.pf_grammar.specs.declared.rule.TcpFlags.{TcpFlags}
-use Rattle.pf_grammar.specs.declared.ruleset.Profile.TheVariants.{One}
-use Rattle.pf_grammar.specs.Statements.{no_flags}
-use Rattle.pf_grammar.specs.Words.{is_interface_name, protocol_of, number_of, flags_of}
+use Rattle.pf_grammar.specs.Profiles.{One}
+use Rattle.pf_grammar.specs.Words.{is_interface_name, protocol_of, number_of, flags_of, no_flags}
 use Rattle.pf_eval.specs.Packets.{PacketValue}
 
 -- ---- words
@@ -87,8 +86,8 @@ optional key read ws = if begins key ws then (keyed key read ws >>= λ r. Some (
 -- ---- the parts of a packet
 
 -- "in" | "out"
-abbrev pub way_of : Word → Option Way
-way_of w = if bytes_eq w (codes "in") then Some In else (if bytes_eq w (codes "out") then Some Out else None)
+abbrev pub direction_of : Word → Option Direction
+direction_of w = if bytes_eq w (codes "in") then Some In else (if bytes_eq w (codes "out") then Some Out else None)
 
 -- IFNAME, of which the words reserved in profile One are none
 abbrev pub name_of : Word → Option Word
@@ -174,8 +173,8 @@ at_end false x ws = None
 -- in|out on IFNAME {group IFNAME} proto PROTO from ADDR [port N] to ADDR [port N] [flags LETTERS] [icmp-type N]
 unfoldable pub packet_at : List Word → Option PacketValue
 packet_at ws = do
-  way ← value way_of ws
-  interface ← keyed (codes "on") name_of way.1
+  direction ← value direction_of ws
+  interface ← keyed (codes "on") name_of direction.1
   groups ← groups_at interface.1
   protocol ← keyed (codes "proto") protocol_of groups.1
   source ← end_at (codes "from") protocol.1
@@ -183,7 +182,7 @@ packet_at ws = do
   flags ← optional (codes "flags") flags_of destination.1
   icmp_type ← optional (codes "icmp-type") type_number_of flags.1
   at_end (agrees groups.0 protocol.0 source.0 destination.0 flags.0 icmp_type.0) (record {
-    way = way.0;
+    direction = direction.0;
     interface = interface.0;
     groups = groups.0;
     protocol = protocol.0;

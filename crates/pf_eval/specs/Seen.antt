@@ -11,6 +11,7 @@ use Rattle.pf_eval.specs.Verdicts.{Judgement, Skipped, Decided, Hit}
 abbrev pub decided : Action → Spot → Verdict
 decided act.Pass s = verdict.Pass s
 decided act.Drop s = verdict.Drop s
+decided act.Return s = verdict.Return s
 
 abbrev pub of_hit : Option Hit → Verdict
 of_hit None = verdict.Default

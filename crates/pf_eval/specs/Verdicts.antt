@@ -16,7 +16,7 @@ pub record Hit : Type 0 where
 
 -- what the rule with this index comes to
 abbrev pub rule_hits : PacketValue → ℕ → Item → List Hit
-rule_hits k i (Filter r) = if matches r k then record { index = i; action = r.action; stops = r.quick } ∷ [] else []
+rule_hits k i (Filter r) = if matches r.conditions k then record { index = i; action = r.action; stops = r.quick } ∷ [] else []
 
 -- the hits of rules with the indices from i on
 abbrev pub hits_from : PacketValue → ℕ → List Item → List Hit

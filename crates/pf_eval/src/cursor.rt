@@ -2,14 +2,15 @@
 
 ghost use Rattle.std.specs.Prelude.{◌≡◌, Some, ◌<◌, drop, length, IsSome, IfSome, IsAscii, map, option_map, codes};
 ghost use Rattle.std.specs.Option.{option_copied};
-ghost use Rattle.pf_eval.specs.PacketTexts.{is_empty, begins, word_at, word_after, value, keyed, optional, way_of, name_of, address_of, port_number_of, type_number_of, groups_at, end_at};
+ghost use Rattle.pf_eval.specs.PacketTexts.{is_empty, begins, word_at, word_after, value, keyed, optional, direction_of, name_of, address_of, port_number_of, type_number_of, groups_at, end_at};
 ghost use Rattle.pf_grammar.specs.Words.{protocol_of, flags_of};
 ghost use Rattle.pf_eval.specs.Cursors.{left, end_of, Reads, ReadsAll};
 
 use crate::fault::PacketFault;
 use pf_addr::{Addr, parse_bytes};
 use pf_grammar::{
-    Name, Profile, TcpFlags, Way, is_interface_name, parse_decimal, parse_flags, parse_protocol,
+    Direction, Name, Profile, TcpFlags, is_interface_name, parse_decimal, parse_flags,
+    parse_protocol,
 };
 use std::alloc::Global;
 
@@ -90,16 +91,16 @@ where
         self.word()
     }
 
-    /// The way of the packet.
+    /// The direction of the packet.
     #[tactic(auto, unfolding(crate::specs::PacketTexts::value))]
-    pub(crate) fn way(&mut self) -> Option<Way>
-        ensures { Reads result (left self.new) (value way_of (left self.old)) }
+    pub(crate) fn direction(&mut self) -> Option<Direction>
+        ensures { Reads result (left self.new) (value direction_of (left self.old)) }
     {
         let word = self.word()?;
         if word == b"in".as_slice() {
-            Some(Way::In)
+            Some(Direction::In)
         } else if word == b"out".as_slice() {
-            Some(Way::Out)
+            Some(Direction::Out)
         } else {
             None
         }

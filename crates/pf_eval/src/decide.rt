@@ -1,13 +1,13 @@
 //! The verdict for a packet.
 
-ghost use Rattle.std.specs.Prelude.{◌≡◌, ◌≤◌, length, map, string_bytes};
+ghost use Rattle.std.specs.Prelude.{◌≡◌, ◌≤◌, length};
 ghost use Rattle.pf_eval.specs.Verdicts.{judgement, is_skipped, hits, cut, last};
 ghost use Rattle.pf_eval.specs.Seen.{verdict_of, of_hit, decided};
 
 use crate::answer::{Spot, Verdict};
 use crate::matching::matches;
 use crate::packet::Packet;
-use pf_grammar::{Action, Item, Rule, Ruleset};
+use pf_grammar::{Action, Item, Name, Ruleset};
 
 /// The verdict that a rule gives where it decides.
 fn decided(action: Action, index: u32) -> Verdict
@@ -16,6 +16,7 @@ fn decided(action: Action, index: u32) -> Verdict
     match action {
         Action::Pass => Verdict::Pass(Spot { index }),
         Action::Drop => Verdict::Drop(Spot { index }),
+        Action::Return => Verdict::Return(Spot { index }),
     }
 }
 
@@ -28,7 +29,7 @@ fn last_match(items: &[Item], packet: &Packet) -> Verdict
     let mut found = Verdict::Default;
     for (index, item) in items.iter().enumerate() {
         let Item::Filter(rule) = item;
-        if matches(rule, packet) {
+        if matches(&rule.conditions, packet) {
             found = decided(rule.action, index as u32);
             if rule.quick {
                 return found;
@@ -39,8 +40,8 @@ fn last_match(items: &[Item], packet: &Packet) -> Verdict
 }
 
 /// Whether the packet is on an interface that is skipped.
-fn is_skipped(skip: &[String], packet: &Packet) -> bool
-    ensures { result ≡ is_skipped (map string_bytes skip.now) packet.now }
+fn is_skipped(skip: &[Name], packet: &Packet) -> bool
+    ensures { result ≡ is_skipped skip.now packet.now }
 {
     for name in skip {
         if packet.is_on(name.as_bytes()) {
@@ -54,7 +55,7 @@ fn is_skipped(skip: &[String], packet: &Packet) -> bool
 /// else the last matching rule decides, and a matching `quick` rule ends the evaluation; where no rule matches the
 /// packet passes (pf.conf(5), PACKET FILTERING).
 pub fn verdict_flat(ruleset: &Ruleset, packet: &Packet) -> Verdict
-    ensures { result ≡ verdict_of (judgement (map string_bytes «ruleset».now.skip.items) «ruleset».now.items.items packet.now) }
+    ensures { result ≡ verdict_of (judgement «ruleset».now.skip.items «ruleset».now.items.items packet.now) }
 {
     if is_skipped(&ruleset.skip, packet) {
         return Verdict::Skip;

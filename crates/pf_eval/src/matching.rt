@@ -1,29 +1,82 @@
 //! Whether a rule matches a packet.
 
 ghost use Rattle.std.specs.Prelude.{◌≡◌, ◌==◌};
-ghost use Rattle.pf_eval.specs.Matching.{way_eq, if_set, at_host, flag_passes, just, flags_pass, matches};
+ghost use Rattle.pf_eval.specs.Matching.{direction_eq, on_interface, of_family, in_addresses, at_host, port_passes, flag_passes, just, flags_pass, matches, is_such, is_between, if_set, if_there};
 
 use crate::packet::Packet;
 use pf_addr::Addr;
-use pf_grammar::{FlagTest, Host, Rule, TcpFlags, Way};
+use pf_grammar::{
+    Addresses, Conditions, Direction, Family, FlagTest, Host, Interface, PortTest, TcpFlags,
+};
 
-/// Whether each condition of the rule holds of the packet.
+/// Whether each condition holds of the packet.
 #[tactic(auto, unfolding(crate::specs::Matching::matches))]
-pub(crate) fn matches(rule: &Rule, packet: &Packet) -> bool
+pub(crate) fn matches(rule: &Conditions, packet: &Packet) -> bool
     ensures { result ≡ matches rule.now packet.now }
 {
-    is_way(rule.way, packet.way)
-        && at_host(packet.source, &rule.source)
-        && at_host(packet.destination, &rule.destination)
-        && have_flags(rule.flags, packet)
+    is_such(rule, packet) && is_between(rule, packet)
 }
 
-fn is_way(wanted: Option<Way>, way: Way) -> bool
-    ensures { result ≡ if_set (way_eq way) wanted }
+#[tactic(auto, unfolding(crate::specs::Matching::is_such))]
+fn is_such(rule: &Conditions, packet: &Packet) -> bool
+    ensures { result ≡ is_such rule.now packet.now }
 {
-    match (wanted, way) {
-        (None, _) | (Some(Way::In), Way::In) | (Some(Way::Out), Way::Out) => true,
-        (Some(Way::In), Way::Out) | (Some(Way::Out), Way::In) => false,
+    is_direction(rule.direction, packet.direction)
+        && is_interface(&rule.interface, packet)
+        && is_family(rule.family, packet.source)
+        && is_number(rule.protocol, packet.protocol)
+        && have_flags(rule.flags, packet)
+        && is_type(rule.icmp_type, packet.icmp_type)
+}
+
+#[tactic(auto, unfolding(crate::specs::Matching::is_between))]
+fn is_between(rule: &Conditions, packet: &Packet) -> bool
+    ensures { result ≡ is_between rule.now packet.now }
+{
+    at_host(packet.source, &rule.source)
+        && is_port(rule.source_port, packet.source_port)
+        && at_host(packet.destination, &rule.destination)
+        && is_port(rule.destination_port, packet.destination_port)
+}
+
+fn is_direction(wanted: Option<Direction>, direction: Direction) -> bool
+    ensures { result ≡ if_set (direction_eq direction) wanted }
+{
+    match (wanted, direction) {
+        (None, _) | (Some(Direction::In), Direction::In) | (Some(Direction::Out), Direction::Out) =>
+            true,
+        (Some(Direction::In), Direction::Out) | (Some(Direction::Out), Direction::In) => false,
+    }
+}
+
+#[tactic(auto, unfolding(crate::specs::Matching::on_interface))]
+fn is_interface(wanted: &Option<Interface>, packet: &Packet) -> bool
+    ensures { result ≡ if_set (on_interface packet.now) wanted.now }
+{
+    match wanted {
+        None => true,
+        Some(interface) => {
+            let found = packet.is_on(interface.name.as_bytes());
+            if interface.negated { !found } else { found }
+        }
+    }
+}
+
+fn is_family(wanted: Option<Family>, addr: Addr) -> bool
+    ensures { result ≡ if_set (of_family addr) wanted }
+{
+    match (wanted, addr) {
+        (None, _) | (Some(Family::Inet), Addr::V4(_)) | (Some(Family::Inet6), Addr::V6(_)) => true,
+        (Some(Family::Inet), Addr::V6(_)) | (Some(Family::Inet6), Addr::V4(_)) => false,
+    }
+}
+
+fn is_number(wanted: Option<u8>, number: u8) -> bool
+    ensures { result ≡ if_set (λ n. number == n) wanted }
+{
+    match wanted {
+        None => true,
+        Some(wanted) => number == wanted,
     }
 }
 
@@ -32,7 +85,45 @@ fn at_host(addr: Addr, host: &Host) -> bool
 {
     match host {
         Host::Any => true,
-        Host::Within(prefix) => prefix.contains(addr),
+        Host::In(set) => in_addresses(addr, set),
+        Host::NotIn(set) => !in_addresses(addr, set),
+    }
+}
+
+#[tactic(auto, unfolding(crate::specs::Matching::in_addresses))]
+fn in_addresses(addr: Addr, set: &Addresses) -> bool
+    ensures { result ≡ in_addresses addr set.now }
+{
+    match set {
+        Addresses::Prefix(prefix) => prefix.contains(addr),
+        Addresses::Range(range) => range.contains(addr),
+    }
+}
+
+fn is_port(wanted: Option<PortTest>, port: Option<u16>) -> bool
+    ensures { result ≡ if_set (λ t. if_there (port_passes t) port) wanted }
+{
+    match (wanted, port) {
+        (None, _) => true,
+        (Some(_), None) => false,
+        (Some(test), Some(port)) => port_passes(test, port),
+    }
+}
+
+#[tactic(auto, unfolding(crate::specs::Matching::port_passes))]
+fn port_passes(test: PortTest, port: u16) -> bool
+    ensures { result ≡ port_passes test port }
+{
+    match test {
+        PortTest::Equal(n) => port == n,
+        PortTest::NotEqual(n) => port != n,
+        PortTest::Less(n) => port < n,
+        PortTest::LessEqual(n) => port <= n,
+        PortTest::Greater(n) => n < port,
+        PortTest::GreaterEqual(n) => n <= port,
+        PortTest::FromTo(a, b) => a <= port && port <= b,
+        PortTest::Between(a, b) => a < port && port < b,
+        PortTest::Outside(a, b) => port < a || b < port,
     }
 }
 
@@ -64,4 +155,14 @@ fn just(set: TcpFlags, of: TcpFlags, here: TcpFlags) -> bool
         && flag_passes(of.urg, set.urg, here.urg)
         && flag_passes(of.ece, set.ece, here.ece)
         && flag_passes(of.cwr, set.cwr, here.cwr)
+}
+
+fn is_type(wanted: Option<u8>, kind: Option<u8>) -> bool
+    ensures { result ≡ if_set (λ n. if_there (λ m. m == n) kind) wanted }
+{
+    match (wanted, kind) {
+        (None, _) => true,
+        (Some(_), None) => false,
+        (Some(wanted), Some(kind)) => kind == wanted,
+    }
 }

@@ -6,13 +6,13 @@ ghost use Rattle.std.specs.Str.{bytes_eq};
 ghost use Rattle.pf_eval.specs.Packets.{without_digits, interfaces};
 
 use pf_addr::Addr;
-use pf_grammar::{Name, TcpFlags, Way};
+use pf_grammar::{Direction, Name, TcpFlags};
 use std::marker::Model;
 
 /// A packet record: what the filter reads of a packet that belongs to no state. It is made by `parse_packet`.
 #[derive(Drop)]
 pub struct Packet {
-    pub(crate) way: Way,
+    pub(crate) direction: Direction,
     pub(crate) interface: Name,
     pub(crate) groups: Vec<Name>,
     pub(crate) protocol: u8,
@@ -29,7 +29,7 @@ impl Model for Packet {
 
     ghost Value = { PacketValue };
 
-    ghost view = { λ p. record { way = p.way; interface = p.interface; groups = p.groups.items; protocol = p.protocol; source = p.source; source_port = p.source_port; destination = p.destination; destination_port = p.destination_port; flags = p.flags; icmp_type = p.icmp_type } };
+    ghost view = { λ p. record { direction = p.direction; interface = p.interface; groups = p.groups.items; protocol = p.protocol; source = p.source; source_port = p.source_port; destination = p.destination; destination_port = p.destination_port; flags = p.flags; icmp_type = p.icmp_type } };
 }
 
 impl Packet {

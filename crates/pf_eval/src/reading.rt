@@ -73,7 +73,7 @@ fn packet(alloc: Global, words: &[&[u8]]) -> Result<Packet, PacketFault>
     ensures { Answers result (packet_at (map (λ w. w.now) words.now)) }
 {
     let mut cursor = Cursor::new(words);
-    let Some(way) = cursor.way() else {
+    let Some(direction) = cursor.direction() else {
         return Err(PacketFault::BadPacket);
     };
     let Some(interface) = cursor.name_after(b"on") else {
@@ -99,7 +99,7 @@ fn packet(alloc: Global, words: &[&[u8]]) -> Result<Packet, PacketFault>
         return Err(PacketFault::BadPacket);
     }
     Ok(Packet {
-        way,
+        direction,
         interface: Name::from_bytes(alloc, interface)?,
         groups,
         protocol,

@@ -1,10 +1,10 @@
 -- Words that stand for numbers, for flags and for names.
-use Rattle.std.specs.Prelude.{ℕ, ◌+◌, ◌*◌, ◌-◌, ◌&&◌, ◌||◌, ◌==◌, Bool, false, List, [], ◌∷◌, length, Option, Some, None, nat_le, nat_lt, not, bytes_eq, codes, fold, if◌then◌else◌}
+use Rattle.std.specs.Prelude.{ℕ, ◌+◌, ◌*◌, ◌-◌, ◌&&◌, ◌||◌, ◌==◌, Bool, true, false, List, [], ◌∷◌, length, Option, Some, None, nat_le, nat_lt, not, bytes_eq, codes, fold, if◌then◌else◌}
 use Rattle.std.specs.List.{list_all, list_any}
 use Rattle.std.specs.Char.{is_ascii_digit, is_ascii_alphabetic, is_ascii_alphanumeric}
 use Rattle.pf_grammar.specs.declared.rule.TcpFlags.{TcpFlags}
-use Rattle.pf_grammar.specs.declared.ruleset.Profile.{Profile}
-use Rattle.pf_grammar.specs.declared.ruleset.Profile.TheVariants.{One, Two}
+use Rattle.pf_tokens.specs.declared.profile.Profile.{Profile}
+use Rattle.pf_tokens.specs.declared.profile.Profile.TheVariants.{One, Two}
 
 -- ---- numbers
 
@@ -123,3 +123,18 @@ begins_with_letter (b ∷ bytes) = is_ascii_alphabetic b
 unfoldable pub is_interface_name : Profile → List ℕ → Bool
 is_interface_name profile text =
     begins_with_letter text && nat_le (length text) 15 && list_all is_interface_byte text && not (is_reserved profile text)
+
+-- no flag is set
+abbrev pub no_flags : TcpFlags
+no_flags = record { fin = false; syn = false; rst = false; psh = false; ack = false; urg = false; ece = false; cwr = false }
+
+-- a flag of the first is one of the second
+abbrev pub implies : Bool → Bool → Bool
+implies true b = b
+implies false b = true
+
+-- each flag of the first is one of the second
+unfoldable pub is_within : TcpFlags → TcpFlags → Bool
+is_within set of =
+    implies set.fin of.fin && implies set.syn of.syn && implies set.rst of.rst && implies set.psh of.psh
+    && implies set.ack of.ack && implies set.urg of.urg && implies set.ece of.ece && implies set.cwr of.cwr

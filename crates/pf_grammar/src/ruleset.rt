@@ -1,29 +1,23 @@
-//! What a text comes to.
+//! What a text of rules comes to.
 
 ghost use Rattle.std.specs.Prelude.{◌≤◌, length};
 
+use crate::name::Name;
 use crate::rule::Rule;
 
 /// Where a text is loaded.
 #[derive(Clone, Copy, Debug, PartialEq, Eq)]
 pub enum Place {
+    /// The main ruleset.
     Main,
+    /// An anchor, whose text has no `set`.
     Anchor,
-}
-
-/// Which words a text may use. The texts of a log keep the profile that they were written for.
-#[derive(Clone, Copy, Debug, PartialEq, Eq)]
-pub enum Profile {
-    /// The grammar without types of ICMP.
-    One,
-    /// The grammar with types of ICMP; `icmp-type` is a reserved word.
-    Two,
 }
 
 /// A table that a text defines.
 #[derive(Debug, Drop)]
 pub struct TableDef {
-    pub name: String,
+    pub name: Name,
 }
 
 /// What is evaluated in its turn.
@@ -32,12 +26,14 @@ pub enum Item {
     Filter(Rule),
 }
 
-/// What a text comes to: the interfaces that are skipped, the tables, and the rules in order.
+/// What a text comes to.
 #[derive(Debug, Drop)]
 pub struct Ruleset {
-    pub skip: Vec<String>,
+    /// The interfaces and groups whose packets aren't filtered, in the order of the text, as often as written.
+    pub skip: Vec<Name>,
+    /// The tables that the text defines.
     pub tables: Vec<TableDef>,
-    /// The rules in their order, 1,024 at most.
+    /// The rules in their expanded order, 1,024 at most.
     pub items: Vec<Item>,
     ghost few: { length items.items ≤ 1024 },
 }

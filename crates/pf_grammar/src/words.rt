@@ -6,7 +6,7 @@ ghost use Rattle.std.specs.Char.{is_ascii_digit};
 ghost use Rattle.pf_grammar.specs.Words.{number_of, decimal_value, named, protocol_of, port_of, icmp_type_of, is_letter, are_letters, flags_of, is_among, is_reserved, is_interface_byte, begins_with_letter, is_interface_name};
 
 use crate::rule::TcpFlags;
-use crate::ruleset::Profile;
+use pf_tokens::Profile;
 
 /// Protocols that have a name (protocols(5)).
 const PROTOCOLS: [(&str, u8); 11] = [

@@ -11,7 +11,8 @@ use Rattle.clap.specs.declared.error.Error.{Error}
 use Rattle.clap.specs.declared.error.kind.ErrorKind.TheVariants.{OutOfMemory}
 use Rattle.pf_tool.specs.declared.status.Status.{Status}
 use Rattle.pf_tool.specs.declared.status.Status.TheVariants as status
-use Rattle.pf_tool.specs.Tool.{pfx_app, packets_in, Call, Misused, called, unless_faulty, call_of, Ran}
+use Rattle.pf_grammar.specs.declared.ruleset.Place.{Place}
+use Rattle.pf_tool.specs.Tool.{pfx_app, Call, Misused, called, unless_faulty, call_of, Ran}
 
 -- a pair of two values of one thing
 abbrev paired : {T : Type 0} → (T → Text) → (T → List Row) → T → Text × List Row
@@ -30,7 +31,7 @@ rows_entered m name rows e f = both _ (out-ArgMatches m).subcommand _ _ name row
 
 -- a parse that passes says what is called
 pub call_entered : (words : List Text) (m : ArgMatches) → fault_of pfx_app words ≡ [] → subcommand_rows_of m ≡ subcommand_of pfx_app words
-    → call_of words ≡ called (packets_in (subcommand_rows_of m))
+    → call_of words ≡ called (subcommand_rows_of m)
 unfolding call_of
 call_entered words m e f = rw (e, f) refl
 
@@ -77,3 +78,6 @@ passes_program a words same h = let P : App → Type 0 = λ b. is_simple_and_fre
 
 pub rows_of_program : (a : App) (words : List Text) (m : ArgMatches) → a ≡ pfx_app → HasMatchesOf a words m → subcommand_rows_of m ≡ subcommand_of pfx_app words
 rows_of_program a words m same h = let P : App → Type 0 = λ b. HasMatchesOf b words m in (subst P same h simple).1
+
+abbrev pub some_place : Place → Option Place
+some_place place = Some place

@@ -1,9 +1,9 @@
 -- A packet text that is no packet ends the lines.
 use Rattle.std.proofs.Common.{◌≡◌, ℕ, ◌+◌, ◌<◌, List, ◌∷◌, None, length, map, drop, get_or, drop-cons, add-one, refl, Bor}
-use Rattle.pf_grammar.specs.Reading.{Rules}
+use Rattle.pf_grammar.specs.Reading.{RulesetValue}
 use Rattle.pf_tool.specs.Tool.{behind, refused_packet, verdict_for, verdict_lines}
 
-pub line_refused : (rules : Rules) (packets : List (Bor (List ℕ))) (i : ℕ) (d : Bor (List ℕ)) (text : List ℕ) → i < length packets
+pub line_refused : (rules : RulesetValue) (packets : List (Bor (List ℕ))) (i : ℕ) (d : Bor (List ℕ)) (text : List ℕ) → i < length packets
     → verdict_for rules (get_or packets i d).now ≡ None
     → behind text (verdict_lines rules (map (λ p. p.now) (drop i packets))) ≡ behind text refused_packet
 line_refused rules packets i d text h e =

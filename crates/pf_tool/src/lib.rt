@@ -6,6 +6,7 @@
 //! - `Status`: how a run ends, and the exit status.
 #![tactic(auto)]
 
+mod check_word;
 mod command;
 mod input;
 mod output;

@@ -1,17 +1,17 @@
 //! The word `test`: the verdicts of a text's rules for packets.
 
 ghost use Rattle.std.specs.Prelude.{◌≡◌, ◌++◌, IfOk, OnOk, map, option_map, string_bytes};
-ghost use Rattle.pf_grammar.specs.Reading.{rules_of};
+ghost use Rattle.pf_grammar.specs.Reading.{ruleset_of};
 ghost use Rattle.pf_tool.specs.Tool.{line, refusal_line, verdict_for, verdict_lines, test_output};
 ghost use Rattle.pf_tool.specs.Output.{written};
 
 use crate::output::{Ending, Output};
 use pf_eval::{PacketFault, parse_packet, show_verdict, verdict_flat};
-use pf_grammar::{ParseFault, Place, Refusal, Ruleset, parse};
+use pf_grammar::{ParseFault, Place, Profile, Refusal, Ruleset, parse};
 use std::alloc::{AllocError, Global};
 
 /// The line of a refused text.
-fn refusal_line(alloc: Global, refusal: Refusal) -> Result<String, AllocError>
+pub(crate) fn refusal_line(alloc: Global, refusal: Refusal) -> Result<String, AllocError>
     ensures { IfOk result (λ text. string_bytes text ≡ refusal_line refusal) }
 {
     let mut text = String::new(alloc);
@@ -34,7 +34,7 @@ fn push_line(text: &mut String, shown: &str) -> Result<(), AllocError>
 /// The verdict for a packet text, none where it is no packet.
 #[tactic(auto, unfolding(crate::specs::Tool::verdict_for))]
 fn verdict_for(alloc: Global, loaded: &Ruleset, packet: &str) -> Result<Option<String>, AllocError>
-    ensures { IfOk result (λ found. option_map string_bytes found ≡ verdict_for (rules_of loaded.now) packet.now) }
+    ensures { IfOk result (λ found. option_map string_bytes found ≡ verdict_for (ruleset_of loaded.now) packet.now) }
 {
     match parse_packet(alloc, packet) {
         Ok(packet) => {
@@ -49,7 +49,7 @@ fn verdict_for(alloc: Global, loaded: &Ruleset, packet: &str) -> Result<Option<S
 
 /// A verdict line for each packet text in turn, up to the first that is no packet.
 fn verdict_lines(alloc: Global, loaded: &Ruleset, packets: &[&str]) -> Result<Output, AllocError>
-    ensures { IfOk result (λ o. written o ≡ verdict_lines (rules_of loaded.now) (map (λ p. p.now) packets.now)) }
+    ensures { IfOk result (λ o. written o ≡ verdict_lines (ruleset_of loaded.now) (map (λ p. p.now) packets.now)) }
 {
     let mut text = String::new(alloc);
     for packet in packets {
@@ -79,7 +79,7 @@ pub(crate) fn test_output(
 ) -> Result<Output, AllocError>
     ensures { IfOk result (λ o. written o ≡ test_output (map (λ p. p.now) packets.now) input.now) }
 {
-    match parse(alloc, input, Place::Main) {
+    match parse(alloc, input, Place::Main, Profile::Two) {
         Ok(loaded) => verdict_lines(alloc, &loaded, packets),
         Err(ParseFault::Memory) => Err(AllocError),
         Err(ParseFault::Refused(refusal)) => {

@@ -163,3 +163,322 @@ fn a_failed_write_ends_the_run(rt: HostRuntime) -> Result<(), Fail> {
     assert_eq!(rt; writer.taken, 1);
     Ok(())
 }
+
+/// What the word `check` writes for this text, and the exit status.
+fn checked(alloc: Global, text: &[u8], anchor: bool) -> (u8, Vec<u8>) {
+    let mut reader = text;
+    let mut out = Vec::new(alloc);
+    let status = if anchor {
+        run(alloc, &["pfx", "check", "--anchor"], &mut reader, &mut out)
+    } else {
+        run(alloc, &["pfx", "check"], &mut reader, &mut out)
+    };
+    (status.code(), out)
+}
+
+#[test]
+fn the_shipped_ruleset(rt: HostRuntime) -> Result<(), Fail> {
+    let text =
+        b"set skip on lo\nblock return\npass\nblock return in on ! lo0 proto tcp to port 6000:6010\n";
+    let x11 = "in on em0 proto tcp from 10.1.2.3 port 4000 to 192.0.2.1 port 6005 flags S";
+    let loopback = "in on lo0 proto tcp from 10.1.2.3 port 4000 to 192.0.2.1 port 6005 flags S";
+    let (status, out) = tested(rt.alloc(), text, &[x11, loopback, SYN_PACKET, ACK_PACKET]);
+    let wanted = b"block return @2\npass skip\npass @1\nblock return @0\n";
+    assert_eq!(rt; out.as_slice(), wanted.as_slice());
+    assert_eq!(rt; status, 0);
+    let more =
+        b"set skip on lo\nblock return\npass\nblock return in on ! lo0 proto tcp to port 6000:6010\nblock return out log proto {tcp udp} user _pbuild\n";
+    let (status, out) = tested(rt.alloc(), more, &[SYN_PACKET]);
+    assert_eq!(rt; out.as_slice(), b"refused 12 line 5\n".as_slice());
+    assert_eq!(rt; status, 1);
+    Ok(())
+}
+
+#[test]
+fn port_ranges(rt: HostRuntime) -> Result<(), Fail> {
+    let packets = [
+        "in on em0 proto tcp from 10.1.2.3 port 4000 to 192.0.2.1 port 1999",
+        "in on em0 proto tcp from 10.1.2.3 port 4000 to 192.0.2.1 port 2000",
+        "in on em0 proto tcp from 10.1.2.3 port 4000 to 192.0.2.1 port 2001",
+        "in on em0 proto tcp from 10.1.2.3 port 4000 to 192.0.2.1 port 2004",
+        "in on em0 proto tcp from 10.1.2.3 port 4000 to 192.0.2.1 port 2005",
+    ];
+    for (text, wanted) in [
+        (
+            "block proto tcp to port 2000 >< 2004",
+            "pass default\npass default\nblock drop @0\npass default\npass default\n",
+        ),
+        (
+            "block proto tcp to port 2000 <> 2004",
+            "block drop @0\npass default\npass default\npass default\nblock drop @0\n",
+        ),
+        (
+            "block proto tcp to port 2000:2004",
+            "pass default\nblock drop @0\nblock drop @0\nblock drop @0\npass default\n",
+        ),
+    ] {
+        let (_, out) = tested(rt.alloc(), text.as_bytes(), packets.as_slice());
+        assert_eq!(rt; out.as_slice(), wanted.as_bytes(), "{text}");
+    }
+    Ok(())
+}
+
+#[test]
+fn an_expansion_is_shown(rt: HostRuntime) -> Result<(), Fail> {
+    let text =
+        b"ext = \"em0\"\npass in on $ext proto { tcp, udp } from { 10/8, 2001:db8::/32 } to any port domain\n";
+    let wanted =
+        "pass in on em0 inet proto 6 from 10.0.0.0/8 to any port = 53 flags S/SA keep state\n\
+        pass in on em0 inet6 proto 6 from 2001:db8::/32 to any port = 53 flags S/SA keep state\n\
+        pass in on em0 inet proto 17 from 10.0.0.0/8 to any port = 53 flags S/SA keep state\n\
+        pass in on em0 inet6 proto 17 from 2001:db8::/32 to any port = 53 flags S/SA keep state\n";
+    let (status, out) = checked(rt.alloc(), text, false);
+    assert_eq!(rt; out.as_slice(), wanted.as_bytes());
+    assert_eq!(rt; status, 0);
+    Ok(())
+}
+
+#[test]
+fn refusals_on_line_one(rt: HostRuntime) -> Result<(), Fail> {
+    for (text, anchor, wanted) in [
+        (
+            "pass from 10/8 to 2001:db8::1",
+            false,
+            "refused 14 line 1\n",
+        ),
+        ("pass to port 22", false, "refused 13 line 1\n"),
+        ("pass on $none", false, "refused 11 line 1\n"),
+        ("pass & block", false, "refused 10 line 1\n"),
+        ("set skip on lo", true, "refused 17 line 1\n"),
+    ] {
+        let (status, out) = checked(rt.alloc(), text.as_bytes(), anchor);
+        assert_eq!(rt; out.as_slice(), wanted.as_bytes(), "{text}");
+        assert_eq!(rt; status, 1, "{text}");
+    }
+    Ok(())
+}
+
+#[test]
+fn types_of_icmp(rt: HostRuntime) -> Result<(), Fail> {
+    let text = b"block all\npass inet proto icmp icmp-type echoreq\n";
+    let packets = [
+        "in on em0 proto icmp from 10.0.0.1 to 192.0.2.1 icmp-type 8",
+        "in on em0 proto icmp from 10.0.0.1 to 192.0.2.1 icmp-type 0",
+        "in on em0 proto icmp from 10.0.0.1 to 192.0.2.1",
+    ];
+    let (_, out) = tested(rt.alloc(), text, packets.as_slice());
+    assert_eq!(rt;
+        out.as_slice(),
+        b"pass @1\nblock drop @0\nblock drop @0\n".as_slice()
+    );
+    Ok(())
+}
+
+#[test]
+fn each_text_comes_to_its_line(rt: HostRuntime) -> Result<(), Fail> {
+    for (text, wanted) in [
+        ("", ""),
+        ("\n\n# nothing\n", ""),
+        ("block \\\nin all # x\n", "block drop in all\n"),
+        (
+            "a = \"10/8\"\nb = $a \"11/8\"\npass from { $b }\n",
+            "pass inet from 10.0.0.0/8 to any flags S/SA keep state\npass inet from 11.0.0.0/8 to any flags S/SA keep state\n",
+        ),
+        (
+            "pass in proto icmp icmp-type { echoreq, 0 }\n",
+            "pass in inet proto 1 all icmp-type 8 flags S/SA keep state\npass in inet proto 1 all icmp-type 0 flags S/SA keep state\n",
+        ),
+        ("pass inet6 proto icmp icmp-type 8", "refused 14 line 1\n"),
+        ("pass icmp-type 8", "refused 19 line 1\n"),
+        ("pass proto tcp icmp-type 8", "refused 19 line 1\n"),
+        ("pass proto icmp icmp-type 256", "refused 19 line 1\n"),
+        ("pass proto icmp icmp-type 8 code 0", "refused 12 line 1\n"),
+        ("pass proto icmp icmp-type quick", "refused 12 line 1\n"),
+        ("pass proto icmp icmp-type { quick }", "refused 19 line 1\n"),
+        ("pass", "pass all flags S/SA keep state\n"),
+        ("block", "block drop all\n"),
+        ("block return", "block return all\n"),
+        (
+            "set block-policy return\nblock\nset block-policy drop\nblock\nblock return\n",
+            "block return all\nblock drop all\nblock return all\n",
+        ),
+        (
+            "pass out quick",
+            "pass out quick all flags S/SA keep state\n",
+        ),
+        (
+            "pass in log quick all no state",
+            "pass in quick all flags any no state\n",
+        ),
+        ("pass no state flags S/SA", "pass all flags S/SA no state\n"),
+        ("pass flags any", "pass all flags any keep state\n"),
+        (
+            "pass flags /SF keep state",
+            "pass all flags /FS keep state\n",
+        ),
+        ("pass flags S / SAFR", "pass all flags S/FSRA keep state\n"),
+        ("block flags A/A", "block drop all flags A/A\n"),
+        ("block no state", "block drop all\n"),
+        ("pass flags S/A", "refused 12 line 1\n"),
+        ("pass flags S/SA flags any", "refused 12 line 1\n"),
+        ("pass no state keep state", "refused 12 line 1\n"),
+        ("block keep state", "refused 12 line 1\n"),
+        ("pass on em0", "pass on em0 all flags S/SA keep state\n"),
+        ("pass on \"em0\"", "pass on em0 all flags S/SA keep state\n"),
+        (
+            "pass on { em0 ! em1 }",
+            "pass on em0 all flags S/SA keep state\npass on !em1 all flags S/SA keep state\n",
+        ),
+        ("pass on any", "refused 12 line 1\n"),
+        ("pass on \"any\"", "refused 12 line 1\n"),
+        ("pass on 0em", "refused 12 line 1\n"),
+        ("pass inet", "pass inet all flags S/SA keep state\n"),
+        ("pass inet6 from 10/8", "refused 14 line 1\n"),
+        ("pass proto 6", "pass proto 6 all flags S/SA keep state\n"),
+        (
+            "pass proto { tcp udp } to port ssh no state",
+            "pass proto 6 from any to any port = 22 flags any no state\npass proto 17 from any to any port = 22 flags any no state\n",
+        ),
+        ("pass proto 256", "refused 12 line 1\n"),
+        (
+            "pass proto tcp from port 1024:65535 to 192.0.2.1 port != 80",
+            "pass inet proto 6 from any port 1024:65535 to 192.0.2.1 port != 80 flags S/SA keep state\n",
+        ),
+        (
+            "block proto udp from any port { < 10, <= 11, > 12, >= 13, = 14 }",
+            "block drop proto 17 from any port < 10 to any\nblock drop proto 17 from any port <= 11 to any\nblock drop proto 17 from any port > 12 to any\nblock drop proto 17 from any port >= 13 to any\nblock drop proto 17 from any port = 14 to any\n",
+        ),
+        (
+            "block proto tcp to port { 1 >< 5, 1 <> 5 }",
+            "block drop proto 6 from any to any port 1 >< 5\nblock drop proto 6 from any to any port 1 <> 5\n",
+        ),
+        ("pass proto tcp to port 65536", "refused 13 line 1\n"),
+        ("pass proto tcp to port = 20:30", "refused 13 line 1\n"),
+        ("pass proto tcp to port 20:", "refused 13 line 1\n"),
+        ("pass proto { tcp icmp } to port 22", "refused 13 line 1\n"),
+        ("pass proto tcp to port { 1 - 2 }", "refused 13 line 1\n"),
+        ("pass proto tcp to port 1 - 2", "refused 12 line 1\n"),
+        (
+            "pass from ! 10.0.0.1",
+            "pass inet from !10.0.0.1 to any flags S/SA keep state\n",
+        ),
+        (
+            "pass from 10.0.0.1 - 10.0.0.9 to ! 2001:db8::1 - 2001:db8::2",
+            "refused 14 line 1\n",
+        ),
+        (
+            "block from 10.0.0.1 - 10.0.0.9",
+            "block drop inet from 10.0.0.1 - 10.0.0.9 to any\n",
+        ),
+        (
+            "block to 2001:DB8::9 - 2001:db8::a",
+            "block drop inet6 from any to 2001:db8::9 - 2001:db8::a\n",
+        ),
+        ("block from 10.0.0.9 - 10.0.0.1", "refused 12 line 1\n"),
+        ("block from 10.0.0.1-10.0.0.2", "refused 12 line 1\n"),
+        ("block from ! any", "refused 12 line 1\n"),
+        (
+            "block from { 10/8 , { 11/8 any } }",
+            "block drop inet from 10.0.0.0/8 to any\nblock drop inet from 11.0.0.0/8 to any\nblock drop all\n",
+        ),
+        ("block from { }", "refused 12 line 1\n"),
+        (
+            "block from { 10/8\n\n, 11/8 }\n",
+            "block drop inet from 10.0.0.0/8 to any\nblock drop inet from 11.0.0.0/8 to any\n",
+        ),
+        ("block from { 10/8", "refused 12 line 1\n"),
+        (
+            "set skip on { lo em0 }\nset skip on \"em1\"\npass",
+            "set skip on { lo em0 em1 }\npass all flags S/SA keep state\n",
+        ),
+        ("set skip on", "refused 12 line 1\n"),
+        ("set timeout 1", "refused 12 line 1\n"),
+        ("table <t> { 10/8 }", "refused 12 line 1\n"),
+        ("anchor \"x\"", "refused 12 line 1\n"),
+        ("block from <t>", "refused 12 line 1\n"),
+        ("\"pass\"", "refused 12 line 1\n"),
+        ("a = \"b\nc\"\n", "refused 10 line 1\n"),
+        ("\n'x'", "refused 10 line 2\n"),
+        ("pass\n$x\n", "refused 11 line 2\n"),
+        ("a = \"$b\"", "refused 11 line 1\n"),
+        ("pass = \"x\"", "refused 11 line 1\n"),
+        ("a-b = \"x\"", "refused 11 line 1\n"),
+        ("a =", "refused 12 line 1\n"),
+        ("a = \"\"\n$a\npass\n", "pass all flags S/SA keep state\n"),
+        (
+            "a = \"pass\"\na = \"block\"\n$a in\n",
+            "block drop in all\n",
+        ),
+        ("pass\n}\n", "refused 12 line 2\n"),
+    ] {
+        let (status, out) = checked(rt.alloc(), text.as_bytes(), false);
+        assert_eq!(rt; out.as_slice(), wanted.as_bytes(), "{text}");
+        let refused = wanted.as_bytes().first() == Some(&b'r');
+        assert_eq!(rt; status, u8::from(refused), "{text}");
+    }
+    Ok(())
+}
+
+/// So many addresses between blanks.
+fn push_addresses(alloc: Global, text: &mut String, count: u32) -> Result<(), Fail> {
+    for n in 0..count {
+        let (high, low) = (n / 256, n % 256);
+        text.push_str(" 10.0.")?;
+        text.push_str(high.to_string(alloc)?.as_str())?;
+        text.push('.')?;
+        text.push_str(low.to_string(alloc)?.as_str())?;
+    }
+    Ok(())
+}
+
+#[test]
+fn large_texts_are_refused(rt: HostRuntime) -> Result<(), Fail> {
+    let alloc = rt.alloc();
+    for (uses, wanted) in [(33, "refused 18 line 2\n"), (32, "refused 12 line 2\n")] {
+        let mut text = String::new(alloc);
+        text.push_str("a = \"x")?;
+        for _ in 0..1999 {
+            text.push_str(" x")?;
+        }
+        text.push_str("\"\npass")?;
+        for _ in 0..uses {
+            text.push_str(" $a")?;
+        }
+        let (_, out) = checked(alloc, text.as_bytes(), false);
+        assert_eq!(rt; out.as_slice(), wanted.as_bytes(), "{uses}");
+    }
+    for (sources, destinations, status_wanted) in [(32, 32, 0), (32, 33, 1), (256, 257, 1)] {
+        let mut text = String::new(alloc);
+        text.push_str("pass from {")?;
+        push_addresses(alloc, &mut text, sources)?;
+        text.push_str(" } to {")?;
+        push_addresses(alloc, &mut text, destinations)?;
+        text.push_str(" }")?;
+        let (status, out) = checked(alloc, text.as_bytes(), false);
+        assert_eq!(rt; status, status_wanted, "{destinations}");
+        if status_wanted == 1 {
+            assert_eq!(rt;
+                out.as_slice(),
+                b"refused 18 line 1\n".as_slice(),
+                "{destinations}"
+            );
+        }
+    }
+    for (depth, wanted) in [
+        (8, "block drop inet from 10.0.0.0/8 to any\n"),
+        (9, "refused 18 line 1\n"),
+    ] {
+        let mut text = String::new(alloc);
+        text.push_str("block from ")?;
+        for _ in 0..depth {
+            text.push_str("{ ")?;
+        }
+        text.push_str("10/8")?;
+        for _ in 0..depth {
+            text.push_str(" }")?;
+        }
+        let (_, out) = checked(alloc, text.as_bytes(), false);
+        assert_eq!(rt; out.as_slice(), wanted.as_bytes(), "{depth}");
+    }
+    Ok(())
+}

@@ -1,40 +1,110 @@
-use Rattle.std.proofs.Common.{◌∙◌, sym, arith, map, string_bytes}
-use Rattle.std.proofs.lemmas.Grind.{common_steps}
-use Rattle.pf_grammar.specs.Lexed.{placed_of}
-use Rattle.pf_grammar.specs.declared.ruleset.TableDef.{TableDef}
-use Rattle.pf_grammar.specs.Parsing.{stream, left, later}
-use Rattle.pf_grammar.proofs.Statements.{Begins, newline_more, refused_syntax, refused_many, rule_more, shorter, reading_none}
+use Rattle.std.proofs.Common.{◌≡◌, ◌∙◌, List, length, arith, drop, Ok, Result, ap, sym, false, true}
+use Rattle.std.proofs.lemmas.Result.{err_from_is_err_and}
+use Rattle.pf_tokens.specs.Tokens.{Placed, tokens}
+use Rattle.pf_tokens.specs.Left.{tokens_left}
+use Rattle.pf_tokens.specs.Parsing.{tokens_of, placed_left, later, is_defining}
+use Rattle.pf_tokens.specs.Productions.{is_end}
+use Rattle.pf_tokens.proofs.Walking.{reading_ends}
+use Rattle.pf_grammar.specs.declared.fault.Refusal.{Refusal}
+use Rattle.pf_grammar.specs.Reading.{Sofar, judge, macros_of, reading, made_if, nothing}
+use Rattle.pf_grammar.specs.Gathering.{sofar_of}
+use Rattle.pf_grammar.proofs.ReadingSteps.{from, Begun, rest_shorter, passed_over, went_on, fails_so, few_stay}
 use Rattle.pf_grammar.proofs.reading.parse.Goals as goal
 
-pub loop-token-preserved-then-is_newline : goal.loop-token-preserved-then-is_newline
-loop-token-preserved-then-is_newline c =
-    let e = newline_more c.args.place (record { skip = map string_bytes c.new-skip.result.items; tables = map (λ (t : TableDef). string_bytes t.name) c.new-tables.result.items; items = c.loop-token.items.items }) (placed_of c.in-Some.token) (stream c.loop-token.parser) (sym c.in-Some.ensures) (sym c.is_newline.ensures ∙ c.if-is_newline.true) in
-    (rw c.advance.ensures (sym e ∙ c.loop-token.invariant.0), c.loop-token.invariant.1)
+made : Sofar → Result Sofar Refusal
+made sofar = Ok sofar
 
-pub returns-in_default-rule : goal.returns-in_default-rule
-unfolding left
-returns-in_default-rule c =
-    let begins : Begins (placed_of c.in-Some.token) (stream c.loop-token.parser) = record { is_first = sym c.in-Some.ensures; is_token = sym c.is_newline.ensures ∙ c.if-is_newline.false } in
-    sym c.loop-token.invariant.0 ∙ refused_syntax c.args.place _ _ _ begins (sym c.in_default-rule.ensures.value)
+pub statements-init : goal.statements-init
+statements-init c =
+    let lines : tokens_left c.lexer-lexer.result ≡ tokens c.args.text.now = c.lexer-lexer.ensures ∙ c.in_ok-joined.ensures in
+    record {
+      same = ap (λ (s : Sofar). from c.args.place c.args.profile s (tokens_left c.lexer-lexer.result)) c.new-gathered.ensures ∙ ap (λ (ts : List Placed). from c.args.place c.args.profile nothing ts) lines;
+      few = omega (arith, ap (λ (s : Sofar). length s.items) c.new-gathered.ensures);
+    }
 
-pub returns-then-len-ge-RULES_MAX : goal.returns-then-len-ge-RULES_MAX
-unfolding left
-returns-then-len-ge-RULES_MAX c =
-    let begins : Begins (placed_of c.in-Some.token) (stream c.loop-token.parser) = record { is_first = sym c.in-Some.ensures; is_token = sym c.is_newline.ensures ∙ c.if-is_newline.false } in
-    sym c.loop-token.invariant.0 ∙ refused_many c.args.place _ _ _ _ begins (sym c.in-Some-rule.ensures.value) (omega arith)
+pub statements-smaller-then-at_end : goal.statements-smaller-then-at_end
+statements-smaller-then-at_end c =
+    let sofar = sofar_of c.statements.gathered in
+    let statement = placed_left c.begin-parser.result in
+    let rest = tokens_left c.finish-lexer.result in
+    let begun : Begun sofar c.in-Some.line (tokens_left c.statements.lexer) (tokens_left c.next_statement.new.self) (is_defining c.begin-parser.result) statement rest = record {
+      is_past = c.next_statement.ensures.left;
+      is_line = c.in-Some.ensures.line;
+      is_defines = c.begin-parser.ensures.defining;
+      is_statement = rw c.as_slice.ensures.value at c.begin-parser.ensures.placed;
+      is_rest = c.finish-lexer.ensures ∙ ap (λ (us : List Placed). drop 1 us) (rw c.as_slice.ensures.value at c.begin-parser.ensures.later);
+    } in
+    rest_shorter sofar c.in-Some.line (tokens_left c.statements.lexer) (tokens_left c.next_statement.new.self) (is_defining c.begin-parser.result) statement rest begun
 
-pub loop-token-smaller : goal.loop-token-smaller
-unfolding left later
-loop-token-smaller c =
-    let begins : Begins (placed_of c.in-Some.token) (stream c.loop-token.parser) = record { is_first = sym c.in-Some.ensures; is_token = sym c.is_newline.ensures ∙ c.if-is_newline.false } in
-    shorter _ _ _ begins c.in-Some-rule.ensures.end c.in-Some-rule.ensures.later
+pub statements-preserved-then-at_end : goal.statements-preserved-then-at_end
+statements-preserved-then-at_end c =
+    let sofar = sofar_of c.statements.gathered in
+    let statement = placed_left c.begin-parser.result in
+    let rest = tokens_left c.finish-lexer.result in
+    let begun : Begun sofar c.in-Some.line (tokens_left c.statements.lexer) (tokens_left c.next_statement.new.self) (is_defining c.begin-parser.result) statement rest = record {
+      is_past = c.next_statement.ensures.left;
+      is_line = c.in-Some.ensures.line;
+      is_defines = c.begin-parser.ensures.defining;
+      is_statement = rw c.as_slice.ensures.value at c.begin-parser.ensures.placed;
+      is_rest = c.finish-lexer.ensures ∙ ap (λ (us : List Placed). drop 1 us) (rw c.as_slice.ensures.value at c.begin-parser.ensures.later);
+    } in
+    let ended : is_end (tokens_of statement) ≡ true = ap is_end (sym c.begin-parser.ensures.left) ∙ sym c.at_end.ensures ∙ c.if-at_end.true in
+    record {
+      same = sym (passed_over c.args.place c.args.profile sofar c.in-Some.line (tokens_left c.statements.lexer) (tokens_left c.next_statement.new.self) (is_defining c.begin-parser.result) statement rest begun ended) ∙ c.statements.invariant.same;
+      few = c.statements.invariant.few;
+    }
 
-pub loop-token-preserved : goal.loop-token-preserved
-unfolding left later
-loop-token-preserved c =
-    let begins : Begins (placed_of c.in-Some.token) (stream c.loop-token.parser) = record { is_first = sym c.in-Some.ensures; is_token = sym c.is_newline.ensures ∙ c.if-is_newline.false } in
-    let more = rule_more c.args.place (record { skip = map string_bytes c.new-skip.result.items; tables = map (λ (t : TableDef). string_bytes t.name) c.new-tables.result.items; items = c.loop-token.items.items }) _ _ (stream c.rule.new.self) c.in-Some-rule.rule begins (sym c.in-Some-rule.ensures.value) (omega arith) c.in-Some-rule.ensures.end c.in-Some-rule.ensures.later in
-    (rw c.in_ok-push.ensures.items (sym more ∙ c.loop-token.invariant.0), rw c.in_ok-push.ensures.items (grind (arith, common_steps)))
+pub statements-smaller : goal.statements-smaller
+statements-smaller c =
+    let sofar = sofar_of c.statements.gathered in
+    let statement = placed_left c.begin-parser.result in
+    let rest = tokens_left c.finish-lexer-in-Some.result in
+    let begun : Begun sofar c.in-Some.line (tokens_left c.statements.lexer) (tokens_left c.next_statement.new.self) (is_defining c.begin-parser.result) statement rest = record {
+      is_past = c.next_statement.ensures.left;
+      is_line = c.in-Some.ensures.line;
+      is_defines = c.begin-parser.ensures.defining;
+      is_statement = rw c.as_slice.ensures.value at c.begin-parser.ensures.placed;
+      is_rest = c.finish-lexer-in-Some.ensures ∙ ap (λ (us : List Placed). drop 1 us) (c.in_ok-change.ensures.later ∙ (rw c.as_slice.ensures.value at c.begin-parser.ensures.later));
+    } in
+    rest_shorter sofar c.in-Some.line (tokens_left c.statements.lexer) (tokens_left c.next_statement.new.self) (is_defining c.begin-parser.result) statement rest begun
+
+pub statements-preserved : goal.statements-preserved
+unfolding made
+statements-preserved c =
+    let sofar = sofar_of c.statements.gathered in
+    let statement = placed_left c.begin-parser.result in
+    let rest = tokens_left c.finish-lexer-in-Some.result in
+    let begun : Begun sofar c.in-Some.line (tokens_left c.statements.lexer) (tokens_left c.next_statement.new.self) (is_defining c.begin-parser.result) statement rest = record {
+      is_past = c.next_statement.ensures.left;
+      is_line = c.in-Some.ensures.line;
+      is_defines = c.begin-parser.ensures.defining;
+      is_statement = rw c.as_slice.ensures.value at c.begin-parser.ensures.placed;
+      is_rest = c.finish-lexer-in-Some.ensures ∙ ap (λ (us : List Placed). drop 1 us) (c.in_ok-change.ensures.later ∙ (rw c.as_slice.ensures.value at c.begin-parser.ensures.later));
+    } in
+    let more : is_end (tokens_of statement) ≡ false = ap is_end (sym c.begin-parser.ensures.left) ∙ sym c.at_end.ensures ∙ c.if-at_end.false in
+    let next = sofar_of c.add.new.self in
+    let judged : judge c.args.place c.args.profile sofar c.in-Some.line (is_defining c.begin-parser.result) statement ≡ Ok next = (rw c.begin-parser.ensures.left at c.in_ok-change.ensures.value) ∙ ap made (sym c.in_ok-add.ensures) in
+    record {
+      same = sym (went_on c.args.place c.args.profile sofar next c.in-Some.line (tokens_left c.statements.lexer) (tokens_left c.next_statement.new.self) (is_defining c.begin-parser.result) statement rest begun more judged) ∙ c.statements.invariant.same;
+      few = few_stay c.args.place c.args.profile sofar next c.in-Some.line (is_defining c.begin-parser.result) statement c.statements.invariant.few judged;
+    }
+
+pub returns-in_err-change : goal.returns-in_err-change
+returns-in_err-change c =
+    let sofar = sofar_of c.statements.gathered in
+    let statement = placed_left c.begin-parser.result in
+    let rest = drop 1 (later c.begin-parser.result) in
+    let begun : Begun sofar c.in-Some.line (tokens_left c.statements.lexer) (tokens_left c.next_statement.new.self) (is_defining c.begin-parser.result) statement rest = record {
+      is_past = c.next_statement.ensures.left;
+      is_line = c.in-Some.ensures.line;
+      is_defines = c.begin-parser.ensures.defining;
+      is_statement = rw c.as_slice.ensures.value at c.begin-parser.ensures.placed;
+      is_rest = ap (λ (us : List Placed). drop 1 us) (rw c.as_slice.ensures.value at c.begin-parser.ensures.later);
+    } in
+    let more : is_end (tokens_of statement) ≡ false = ap is_end (sym c.begin-parser.ensures.left) ∙ sym c.at_end.ensures ∙ c.if-at_end.false in
+    let passed = err_from_is_err_and c.from_residual-in_err-change.result c.from_residual-in_err-change.ensures.1 in
+    rw (passed.1, passed.2) (fails_so c.args.place c.args.profile c.args.text.now sofar c.in_err-change.field-0.0 c.in-Some.line (tokens_left c.statements.lexer) (tokens_left c.next_statement.new.self) (is_defining c.begin-parser.result) statement rest begun more (rw c.begin-parser.ensures.left at c.in_err-change.ensures.value) c.statements.invariant.same)
 
 pub returns : goal.returns
-returns c = sym c.loop-token.invariant.0 ∙ reading_none c.args.place _ _ (sym c.in_default.ensures)
+unfolding reading
+returns c = rw c.new-2.ensures.items (ap made_if (sym c.statements.invariant.same ∙ reading_ends macros_of (judge c.args.place c.args.profile) (sofar_of c.statements.gathered) (tokens_left c.statements.lexer) (sym c.in_default.ensures.line)))

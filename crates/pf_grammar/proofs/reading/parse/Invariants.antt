@@ -1,12 +1,17 @@
-use Rattle.std.proofs.Common.{◌≡◌, ◌≤◌, [], length, map, string_bytes}
-use Rattle.pf_grammar.specs.declared.ruleset.TableDef.{TableDef}
-use Rattle.pf_grammar.specs.Reading.{reading, reading_from}
-use Rattle.pf_grammar.specs.Parsing.{stream}
+use Rattle.std.proofs.Common.{◌≡◌, ◌≤◌, length}
+use Rattle.pf_tokens.specs.Tokens.{tokens}
+use Rattle.pf_tokens.specs.Left.{tokens_left}
+use Rattle.pf_grammar.specs.Reading.{nothing}
+use Rattle.pf_grammar.specs.Gathering.{sofar_of}
+use Rattle.pf_grammar.proofs.ReadingSteps.{from}
 use Rattle.pf_grammar.proofs.reading.parse.Given as goal
 
--- what is left comes to what all comes to, and the rules so far are few enough
-abbrev pub invariant-loop-token : goal.invariant-loop-token
-invariant-loop-token l = (reading_from l.fn.place (record { skip = map string_bytes l.skip.items; tables = map (λ (t : TableDef). string_bytes t.name) l.tables.items; items = l.items.items }) [] (stream l.parser) ≡ reading l.fn.place l.text) × (length l.items.items ≤ 1024)
+-- what is left comes to what all comes to
+abbrev pub invariant-statements : goal.invariant-statements
+invariant-statements l = record {
+  same : from l.fn.place l.fn.profile (sofar_of l.gathered) (tokens_left l.lexer) ≡ from l.fn.place l.fn.profile nothing (tokens l.fn.text);
+  few : length l.gathered.items.items ≤ 1024;
+}
 
-abbrev pub decreases-loop-token : goal.decreases-loop-token
-decreases-loop-token l = length (stream l.parser)
+abbrev pub decreases-statements : goal.decreases-statements
+decreases-statements l = length (tokens_left l.lexer)

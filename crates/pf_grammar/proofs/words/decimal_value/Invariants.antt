@@ -1,4 +1,4 @@
-use Rattle.std.proofs.Common.{◌≡◌, ◌<◌, ◌^◌, take}
+use Rattle.std.proofs.Common.{◌≡◌, ◌<◌, ◌^◌, ◌-◌, ◌+◌, ◌*◌, take, fold}
 use Rattle.pf_grammar.specs.Words.{decimal_value}
 use Rattle.pf_grammar.proofs.words.decimal_value.Given as goal
 

@@ -1,5 +1,6 @@
-use Rattle.std.proofs.Common.{◌∙◌, sym, ap, map, refl}
-use Rattle.pf_tool.specs.Tool.{called}
+use Rattle.std.proofs.Common.{◌≡◌, ◌∙◌, sym, ap, ap₂, map, refl}
+use Rattle.clap.specs.Words.{subcommand_rows_of}
+use Rattle.pf_tool.specs.Tool.{called_as, place_in}
 use Rattle.pf_tool.proofs.Calls.{call_entered, call_refused, kinds_of_program, passes_program, rows_of_program}
 use Rattle.pf_tool.proofs.program.run.Goals as goal
 
@@ -8,16 +9,26 @@ returns-in-Err g c =
     let kinds = kinds_of_program _ (map g.S.AsStr.text c.args.words.now) c.in-Err.error c.in-Ok.ensures c.in-Err.ensures.kinds in
     call_refused c.misused.result _ c.in-Err.error _ _ _ c.misused.ensures.ran kinds c.misused.ensures.memory
 
+-- the word is `test`
 pub returns-in-Some : goal.returns-in-Some
 returns-in-Some g c =
     let free = passes_program _ (map g.S.AsStr.text c.args.words.now) c.in-Ok.ensures c.in-Ok-try_get_matches_from.ensures.kinds in
     let rows = rows_of_program _ (map g.S.AsStr.text c.args.words.now) c.in-Ok-try_get_matches_from.matches c.in-Ok.ensures c.in-Ok-try_get_matches_from.ensures.matches in
-    let e = call_entered (map g.S.AsStr.text c.args.words.now) c.in-Ok-try_get_matches_from.matches free rows ∙ ap called (sym c.in-Some.ensures) in
+    let e = call_entered (map g.S.AsStr.text c.args.words.now) c.in-Ok-try_get_matches_from.matches free rows ∙ ap₂ called_as (sym c.in-Some.ensures) refl in
     rw e c.test.ensures
 
+-- the word is `check`
+pub returns-in-Some-place_of : goal.returns-in-Some-place_of
+returns-in-Some-place_of g c =
+    let free = passes_program _ (map g.S.AsStr.text c.args.words.now) c.in-Ok.ensures c.in-Ok-try_get_matches_from.ensures.kinds in
+    let rows = rows_of_program _ (map g.S.AsStr.text c.args.words.now) c.in-Ok-try_get_matches_from.matches c.in-Ok.ensures c.in-Ok-try_get_matches_from.ensures.matches in
+    let e = call_entered (map g.S.AsStr.text c.args.words.now) c.in-Ok-try_get_matches_from.matches free rows ∙ ap₂ called_as (sym c.in-None.ensures) (sym c.in-Some-place_of.ensures) in
+    rw e c.check.ensures
+
+-- the program knows no other word
 pub returns : goal.returns
 returns g c =
     let free = passes_program _ (map g.S.AsStr.text c.args.words.now) c.in-Ok.ensures c.in-Ok-try_get_matches_from.ensures.kinds in
     let rows = rows_of_program _ (map g.S.AsStr.text c.args.words.now) c.in-Ok-try_get_matches_from.matches c.in-Ok.ensures c.in-Ok-try_get_matches_from.ensures.matches in
-    let e = call_entered (map g.S.AsStr.text c.args.words.now) c.in-Ok-try_get_matches_from.matches free rows ∙ ap called (sym c.in-None.ensures) in
+    let e = call_entered (map g.S.AsStr.text c.args.words.now) c.in-Ok-try_get_matches_from.matches free rows ∙ ap₂ called_as (sym c.in-None.ensures) (sym c.in-None-place_of.ensures) in
     rw e refl

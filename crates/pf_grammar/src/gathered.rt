@@ -1,0 +1,84 @@
+//! What the statements of a text so far come to, and what one more changes.
+
+ghost use Rattle.std.specs.Prelude.{◌≡◌, ◌++◌, map, OnOk};
+ghost use Rattle.pf_grammar.specs.declared.rule.Rule.{Rule as IRule};
+ghost use Rattle.pf_grammar.specs.declared.ruleset.Item.TheVariants.{Filter};
+ghost use Rattle.pf_grammar.specs.Reading.{nothing};
+ghost use Rattle.pf_grammar.specs.Gathering.{sofar_of, with_change};
+
+use crate::name::Name;
+use crate::rule::{Policy, Rule};
+use crate::ruleset::Item;
+use pf_tokens::Macro;
+use std::alloc::{AllocError, Global};
+
+/// What the statements so far come to.
+#[derive(Debug, Drop)]
+pub(crate) struct Gathered {
+    pub(crate) macros: Vec<Macro>,
+    /// What a plain `block` does.
+    pub(crate) policy: Policy,
+    pub(crate) skip: Vec<Name>,
+    pub(crate) items: Vec<Item>,
+}
+
+/// What a statement that isn't refused changes.
+#[derive(Debug, Drop)]
+pub(crate) enum Change {
+    /// It defines a macro.
+    Defines(Macro),
+    /// It says what a plain `block` does from here on.
+    Sets(Policy),
+    /// It names interfaces whose packets aren't filtered.
+    Skips(Vec<Name>),
+    /// It comes to these rules.
+    Adds(Vec<Rule>),
+}
+
+/// Appends the names.
+fn push_names(skip: &mut Vec<Name>, names: Vec<Name>) -> Result<(), AllocError>
+    ensures { OnOk result (skip.new.items ≡ skip.old.items ++ names.items) }
+{
+    for name in names {
+        skip.push(name)?;
+    }
+    Ok(())
+}
+
+/// Appends the rules.
+fn push_rules(items: &mut Vec<Item>, rules: Vec<Rule>) -> Result<(), AllocError>
+    ensures { OnOk result (items.new.items ≡ items.old.items ++ map (λ (r : IRule). Filter r) rules.items) }
+{
+    for rule in rules {
+        items.push(Item::Filter(rule))?;
+    }
+    Ok(())
+}
+
+impl Gathered {
+    /// Before the first statement.
+    pub(crate) fn new(alloc: Global) -> Gathered
+        ensures { sofar_of result ≡ nothing }
+    {
+        Gathered {
+            macros: Vec::new(alloc),
+            policy: Policy::Drop,
+            skip: Vec::new(alloc),
+            items: Vec::new(alloc),
+        }
+    }
+
+    /// With one statement more.
+    #[tactic(auto, using(crate::proofs::ReadingSteps::map_push))]
+    pub(crate) fn add(&mut self, change: Change) -> Result<(), AllocError>
+        ensures { OnOk result (sofar_of self.new ≡ with_change (sofar_of self.old) change) }
+    {
+        match change {
+            Change::Defines(made) => self.macros.push(made)?,
+            Change::Sets(policy) => self.policy = policy,
+            Change::Skips(names) => push_names(&mut self.skip, names)?,
+            Change::Adds(rules) => push_rules(&mut self.items, rules)?,
+        }
+        Ok(())
+    }
+}

@@ -1,0 +1,16 @@
+pub mod Lexing
+pub mod Joining
+pub mod Flowing
+pub mod Pulling
+pub mod Beginning
+pub mod Blanking
+pub mod Newlines
+pub mod Skipping
+pub mod Opening
+pub mod Listing
+pub mod Walking
+pub mod Passing
+pub mod Collecting
+pub mod Parts
+pub mod Written
+pub mod Spelling

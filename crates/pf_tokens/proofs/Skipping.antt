@@ -1,0 +1,178 @@
+-- What is left of a statement behind its next token.
+use Rattle.std.proofs.Common.{◌≡◌, ℕ, zero, suc, ◌≤◌, Bool, true, false, List, [], ◌∷◌, drop, map, Option, Some, None, refl, sym, ap, ◌∙◌, arith}
+use Rattle.std.specs.Prelude.{is_some}
+use Rattle.pf_tokens.specs.declared.lexeme.Lexed.{Lexed}
+use Rattle.pf_tokens.specs.declared.stream.Stream.{Stream}
+use Rattle.pf_tokens.specs.declared.parser.Parser.{Parser}
+use Rattle.pf_tokens.specs.Tokens.{Token, Placed, first, is_newline}
+use Rattle.pf_tokens.specs.Lexed.{token_of, placed_of}
+use Rattle.pf_tokens.specs.Left.{tokens_left}
+use Rattle.pf_tokens.specs.Macros.{Definition, unwritten, depth_after, ends}
+use Rattle.pf_tokens.specs.Blanks.{blanked, open_after}
+use Rattle.pf_tokens.specs.Flow.{statement_left, ending_left, pulled}
+use Rattle.pf_tokens.specs.Pending.{behind, unless_none, pending, known, at_newline, Stays, Blanks}
+use Rattle.pf_tokens.specs.Parsing.{tokens_of, definitions, placed_left, left, later}
+use Rattle.pf_tokens.proofs.Blanking.{blanked_there}
+use Rattle.pf_tokens.proofs.Flowing.{pulled_keeps}
+use Rattle.pf_tokens.proofs.Pulling.{pending_some}
+
+module _ (ds : List Definition) (defining : Bool) (line depth : ℕ) (inside text : List Placed) where
+  -- the statement that is left, with this token at hand
+  abbrev statement_with : Option Lexed → List Placed
+  statement_with next = statement_left ds defining depth (behind next (map (unwritten line) inside)) (unless_none next text)
+
+  with_none : (next : Option Lexed) → next ≡ None → statement_with next ≡ []
+  with_none None e = refl
+  with_none (Some l) e = absurd cc
+
+  with_end : (next : Option Lexed) (l : Lexed) → next ≡ Some l → ends depth (placed_of l) ≡ true → statement_with next ≡ []
+  with_end None l e ended = absurd cc
+  with_end (Some k) l e ended = let same : k ≡ l = cc in rw (same, ended) refl
+
+  with_token : (next : Option Lexed) (l : Lexed) → next ≡ Some l → ends depth (placed_of l) ≡ false → statement_with next ≡ placed_of l ∷ statement_left ds defining (depth_after depth (token_of l.lexeme)) (map (unwritten line) inside) text
+  with_token None l e stays = absurd cc
+  with_token (Some k) l e stays = let same : k ≡ l = cc in rw (same, stays) refl
+
+  abbrev ending_with : Option Lexed → List Placed
+  ending_with next = ending_left ds defining depth (behind next (map (unwritten line) inside)) (unless_none next text)
+
+  ending_token : (next : Option Lexed) (l : Lexed) → next ≡ Some l → ends depth (placed_of l) ≡ false → ending_with next ≡ ending_left ds defining (depth_after depth (token_of l.lexeme)) (map (unwritten line) inside) text
+  ending_token None l e stays = absurd cc
+  ending_token (Some k) l e stays = let same : k ≡ l = cc in rw (same, stays) refl
+
+  ending_none : (next : Option Lexed) → next ≡ None → ending_with next ≡ []
+  ending_none None e = refl
+  ending_none (Some l) e = absurd cc
+
+  ending_end : (next : Option Lexed) (l : Lexed) → next ≡ Some l → ends depth (placed_of l) ≡ true → ending_with next ≡ placed_of l ∷ text
+  ending_end None l e ended = absurd cc
+  ending_end (Some k) l e ended = let same : k ≡ l = cc in rw (same, ended) refl
+
+blanked_none : (n : ℕ) → blanked n [] ≡ []
+blanked_none zero = refl
+blanked_none (suc n) = refl
+
+placed_none : (parser : Parser) → parser.stream.next ≡ None → placed_left parser ≡ []
+unfolding pending placed_left
+placed_none parser e = with_none (definitions parser) parser.stream.defining parser.stream.line parser.depth (tokens_left parser.stream.inside) (tokens_left parser.stream.text) parser.stream.next e
+
+placed_end : (parser : Parser) (l : Lexed) → parser.stream.next ≡ Some l → ends parser.depth (placed_of l) ≡ true → placed_left parser ≡ []
+unfolding pending placed_left
+placed_end parser l e ended = with_end (definitions parser) parser.stream.defining parser.stream.line parser.depth (tokens_left parser.stream.inside) (tokens_left parser.stream.text) parser.stream.next l e ended
+
+pub left_none : (parser : Parser) → parser.stream.next ≡ None → left parser ≡ []
+unfolding left
+left_none parser e = ap (λ (ps : List Placed). blanked parser.braces (tokens_of ps)) (placed_none parser e) ∙ blanked_none parser.braces
+
+pub left_end : (parser : Parser) (l : Lexed) → parser.stream.next ≡ Some l → ends parser.depth (placed_of l) ≡ true → left parser ≡ []
+unfolding left
+left_end parser l e ended = ap (λ (ps : List Placed). blanked parser.braces (tokens_of ps)) (placed_end parser l e ended) ∙ blanked_none parser.braces
+
+-- the token at hand and what is behind it
+module _ (parser : Parser) (l : Lexed) (at_hand : parser.stream.next ≡ Some l) (inner : ends parser.depth (placed_of l) ≡ false) where
+  behind_it : (drop 1 (pending parser.stream).0 ≡ map (unwritten parser.stream.line) (tokens_left parser.stream.inside)) × ((pending parser.stream).1 ≡ tokens_left parser.stream.text)
+  behind_it = pending_some parser.stream (ap is_some at_hand)
+
+  pub placed_is : placed_left parser ≡ placed_of l ∷ statement_left (definitions parser) parser.stream.defining (depth_after parser.depth (token_of l.lexeme)) (drop 1 (pending parser.stream).0) (pending parser.stream).1
+  unfolding pending placed_left
+  placed_is =
+      with_token (definitions parser) parser.stream.defining parser.stream.line parser.depth (tokens_left parser.stream.inside) (tokens_left parser.stream.text) parser.stream.next l at_hand inner
+      ∙ ap (λ (ts : List Placed). placed_of l ∷ statement_left (definitions parser) parser.stream.defining (depth_after parser.depth (token_of l.lexeme)) ts (tokens_left parser.stream.text)) (sym behind_it.0)
+      ∙ ap (λ (raw : List Placed). placed_of l ∷ statement_left (definitions parser) parser.stream.defining (depth_after parser.depth (token_of l.lexeme)) (drop 1 (pending parser.stream).0) raw) (sym behind_it.1)
+
+  pub later_is : later parser ≡ ending_left (definitions parser) parser.stream.defining (depth_after parser.depth (token_of l.lexeme)) (drop 1 (pending parser.stream).0) (pending parser.stream).1
+  unfolding pending later
+  later_is =
+      ending_token (definitions parser) parser.stream.defining parser.stream.line parser.depth (tokens_left parser.stream.inside) (tokens_left parser.stream.text) parser.stream.next l at_hand inner
+      ∙ ap (λ (ts : List Placed). ending_left (definitions parser) parser.stream.defining (depth_after parser.depth (token_of l.lexeme)) ts (tokens_left parser.stream.text)) (sym behind_it.0)
+      ∙ ap (λ (raw : List Placed). ending_left (definitions parser) parser.stream.defining (depth_after parser.depth (token_of l.lexeme)) (drop 1 (pending parser.stream).0) raw) (sym behind_it.1)
+
+  no_newline : (o : Option Lexed) → o ≡ Some l → at_newline o ≡ false → is_newline (token_of l.lexeme) ≡ false
+  no_newline None e other = absurd cc
+  no_newline (Some k) e other = let same : k ≡ l = cc in ap (λ (m : Lexed). is_newline (token_of m.lexeme)) (sym same) ∙ other
+
+  -- the first token, and those behind it
+  pub left_is : left parser ≡ token_of l.lexeme ∷ blanked (open_after parser.braces (token_of l.lexeme)) (drop 1 (tokens_of (placed_left parser)))
+  unfolding left
+  left_is =
+      ap (λ (ps : List Placed). blanked parser.braces (tokens_of ps)) placed_is
+      ∙ blanked_there parser.braces (token_of l.lexeme) _ (λ some. no_newline parser.stream.next at_hand (parser.blank some))
+      ∙ ap (λ (ps : List Placed). token_of l.lexeme ∷ blanked (open_after parser.braces (token_of l.lexeme)) (drop 1 (tokens_of ps))) (sym placed_is)
+
+  pub left_token : first (left parser) ≡ Some (token_of l.lexeme)
+  left_token = ap (λ (ts : List Token). first ts) left_is
+
+  pub left_behind : drop 1 (left parser) ≡ blanked (open_after parser.braces (token_of l.lexeme)) (drop 1 (tokens_of (placed_left parser)))
+  left_behind = ap (λ (ts : List Token). drop 1 ts) left_is
+
+  -- what is taken to hand behind it
+  module _ (mid : Stream) (pulls : pending mid ≡ pulled (definitions parser) parser.stream.defining (drop 1 (pending parser.stream).0) (pending parser.stream).1) (stays : Stays parser.stream mid) where
+    abbrev depth : ℕ
+    depth = depth_after parser.depth (token_of l.lexeme)
+
+    mid_left : statement_left (known mid) mid.defining depth (pending mid).0 (pending mid).1 ≡ drop 1 (placed_left parser)
+    mid_left =
+        ap (λ (ds : List Definition). statement_left ds mid.defining depth (pending mid).0 (pending mid).1) stays.known
+        ∙ ap (λ (w : Bool). statement_left (definitions parser) w depth (pending mid).0 (pending mid).1) stays.defining
+        ∙ ap (λ (p : List Placed × List Placed). statement_left (definitions parser) parser.stream.defining depth p.0 p.1) pulls
+        ∙ (pulled_keeps (definitions parser) parser.stream.defining (drop 1 (pending parser.stream).0) (pending parser.stream).1).statement depth
+        ∙ sym (ap (λ (ps : List Placed). drop 1 ps) placed_is)
+
+    mid_later : ending_left (known mid) mid.defining depth (pending mid).0 (pending mid).1 ≡ later parser
+    mid_later =
+        ap (λ (ds : List Definition). ending_left ds mid.defining depth (pending mid).0 (pending mid).1) stays.known
+        ∙ ap (λ (w : Bool). ending_left (definitions parser) w depth (pending mid).0 (pending mid).1) stays.defining
+        ∙ ap (λ (p : List Placed × List Placed). ending_left (definitions parser) parser.stream.defining depth p.0 p.1) pulls
+        ∙ (pulled_keeps (definitions parser) parser.stream.defining (drop 1 (pending parser.stream).0) (pending parser.stream).1).ending depth
+        ∙ sym later_is
+
+    -- newlines that are blanks have been passed too
+    module _ (new : Parser) (blanks : Blanks new.braces (known mid) mid.defining (pending mid) (pending new.stream)) (moved : Stays mid new.stream) (deeper : new.depth ≡ depth) where
+      within : new.braces ≤ depth
+      within = omega (arith, new.nested, deeper)
+
+      same_left : placed_left new ≡ statement_left (known mid) mid.defining depth (pending new.stream).0 (pending new.stream).1
+      unfolding placed_left
+      same_left =
+          ap (λ (ds : List Definition). statement_left ds new.stream.defining new.depth (pending new.stream).0 (pending new.stream).1) moved.known
+          ∙ ap (λ (w : Bool). statement_left (known mid) w new.depth (pending new.stream).0 (pending new.stream).1) moved.defining
+          ∙ ap (λ (d : ℕ). statement_left (known mid) mid.defining d (pending new.stream).0 (pending new.stream).1) deeper
+
+      tokens_drop : (ps : List Placed) → tokens_of (drop 1 ps) ≡ drop 1 (tokens_of ps)
+      tokens_drop [] = refl
+      tokens_drop (p ∷ ps) = refl
+
+      pub taken_left : left new ≡ blanked new.braces (drop 1 (tokens_of (placed_left parser)))
+      unfolding left
+      taken_left =
+          ap (λ (ps : List Placed). blanked new.braces (tokens_of ps)) same_left
+          ∙ blanks.statement depth within
+          ∙ ap (λ (ps : List Placed). blanked new.braces (tokens_of ps)) mid_left
+          ∙ ap (blanked new.braces) (tokens_drop (placed_left parser))
+
+      pub taken_later : later new ≡ later parser
+      unfolding later
+      taken_later =
+          ap (λ (ds : List Definition). ending_left ds new.stream.defining new.depth (pending new.stream).0 (pending new.stream).1) moved.known
+          ∙ ap (λ (w : Bool). ending_left (known mid) w new.depth (pending new.stream).0 (pending new.stream).1) moved.defining
+          ∙ ap (λ (d : ℕ). ending_left (known mid) mid.defining d (pending new.stream).0 (pending new.stream).1) deeper
+          ∙ blanks.ending depth within
+          ∙ mid_later
+
+-- ---- at the end
+
+pub later_none : (parser : Parser) → parser.stream.next ≡ None → later parser ≡ []
+unfolding pending later
+later_none parser e = ending_none (definitions parser) parser.stream.defining parser.stream.line parser.depth (tokens_left parser.stream.inside) (tokens_left parser.stream.text) parser.stream.next e
+
+later_end : (parser : Parser) (l : Lexed) → parser.stream.next ≡ Some l → ends parser.depth (placed_of l) ≡ true → later parser ≡ placed_of l ∷ tokens_left parser.stream.text
+unfolding pending later
+later_end parser l e ended = ending_end (definitions parser) parser.stream.defining parser.stream.line parser.depth (tokens_left parser.stream.inside) (tokens_left parser.stream.text) parser.stream.next l e ended
+
+-- where the statement has ended, the token at hand ends it
+pub later_behind : (parser : Parser) (l : Lexed) → parser.stream.next ≡ Some l → left parser ≡ [] → drop 1 (later parser) ≡ tokens_left parser.stream.text
+later_behind parser l e nothing = cases (ends parser.depth (placed_of l)) refl
+  where
+    cases : (b : Bool) → ends parser.depth (placed_of l) ≡ b → drop 1 (later parser) ≡ tokens_left parser.stream.text
+    cases true ended = ap (λ (ps : List Placed). drop 1 ps) (later_end parser l e ended)
+    cases false inner = absurd (let h = sym (left_token parser l e inner) ∙ ap (λ (ts : List Token). first ts) nothing in cc)

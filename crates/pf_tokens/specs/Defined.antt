@@ -1,0 +1,6 @@
+-- A macro without where it lies in memory.
+use Rattle.pf_tokens.specs.declared.macros.Macro.{Macro}
+use Rattle.pf_tokens.specs.Macros.{Definition}
+
+abbrev pub definition_of : Macro → Definition
+definition_of m = record { name = m.name.items; text = m.text.items }

@@ -1,0 +1,20 @@
+-- What the lexer's values stand for.
+use Rattle.std.specs.Prelude.{ℕ, Option, option_map}
+use Rattle.pf_tokens.specs.declared.lexeme.Lexeme.{Lexeme}
+use Rattle.pf_tokens.specs.declared.lexeme.Lexeme.TheVariants as lexed
+use Rattle.pf_tokens.specs.declared.lexeme.Lexed.{Lexed}
+use Rattle.pf_tokens.specs.Tokens.{Token, Word, Quoted, Macro, Mark, Newline, Bad, Placed, Front}
+
+abbrev pub token_of : Lexeme → Token
+token_of (lexed.Word text) = Word text.now
+token_of (lexed.Quoted text) = Quoted text.now
+token_of (lexed.Macro name) = Macro name.now
+token_of (lexed.Mark symbol) = Mark symbol
+token_of lexed.Newline = Newline
+token_of lexed.Bad = Bad
+
+abbrev pub placed_of : Lexed → Placed
+placed_of t = record { token = token_of t.lexeme; line = t.line; written = t.written }
+
+abbrev pub front_of : (Option Lexeme × ℕ) → Front
+front_of r = record { token = option_map token_of r.0; len = r.1 }

@@ -1,0 +1,43 @@
+-- What stands before a parser: tokens that have been replaced already, and those of the text.
+use Rattle.std.specs.Prelude.{◌≡◌, ◌≤◌, ℕ, Bool, false, List, [], ◌∷◌, map, Option, Some, None}
+use Rattle.pf_tokens.specs.declared.lexeme.Lexed.{Lexed}
+use Rattle.pf_tokens.specs.declared.stream.Stream.{Stream}
+use Rattle.pf_tokens.specs.Tokens.{Placed, is_newline}
+use Rattle.pf_tokens.specs.Lexed.{placed_of, token_of}
+use Rattle.pf_tokens.specs.Left.{tokens_left}
+use Rattle.pf_tokens.specs.Macros.{Definition, unwritten}
+use Rattle.pf_tokens.specs.Defined.{definition_of}
+use Rattle.pf_tokens.specs.Blanks.{blanked}
+use Rattle.pf_tokens.specs.Flow.{statement_left, ending_left}
+
+abbrev pub behind : Option Lexed → List Placed → List Placed
+behind None ts = []
+behind (Some t) ts = placed_of t ∷ ts
+
+abbrev pub unless_none : Option Lexed → List Placed → List Placed
+unless_none None ts = []
+unless_none (Some t) ts = ts
+
+-- the tokens that have been replaced already: the one at hand and those of a macro's text; and those of the text
+unfoldable pub pending : Stream → List Placed × List Placed
+pending stream = (behind stream.next (map (unwritten stream.line) (tokens_left stream.inside)), unless_none stream.next (tokens_left stream.text))
+
+-- the macros that are known
+abbrev pub known : Stream → List Definition
+known stream = map definition_of stream.macros.now
+
+-- whether a newline is at hand
+abbrev pub at_newline : Option Lexed → Bool
+at_newline None = false
+at_newline (Some t) = is_newline (token_of t.lexeme)
+
+-- what a step leaves as it is
+pub record Stays (old new : Stream) : Type 0 where
+  pub known : known new ≡ known old
+  pub defining : new.defining ≡ old.defining
+
+-- where so many braces of a list are open, at least so many being open in all, the statement stays the same but
+-- for newlines, and so does its end
+pub record Blanks (braces : ℕ) (ds : List Definition) (defining : Bool) (old new : List Placed × List Placed) : Type 0 where
+  pub statement : (depth : ℕ) → braces ≤ depth → blanked braces (map (λ (p : Placed). p.token) (statement_left ds defining depth new.0 new.1)) ≡ blanked braces (map (λ (p : Placed). p.token) (statement_left ds defining depth old.0 old.1))
+  pub ending : (depth : ℕ) → braces ≤ depth → ending_left ds defining depth new.0 new.1 ≡ ending_left ds defining depth old.0 old.1

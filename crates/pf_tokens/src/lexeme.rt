@@ -1,0 +1,181 @@
+//! Tokens and what stands at the front of a text.
+
+ghost use Rattle.std.specs.Prelude.{◌≡◌, ◌≤◌, ◌==◌, length, not, drop};
+ghost use Rattle.std.specs.List.{prefix_len};
+ghost use Rattle.pf_tokens.specs.Tokens.{is_word_byte, is_name_byte, is_quoted_byte, is_newline, quoted_closed, macro_front, longer_symbol, longest, symbol_of, front};
+ghost use Rattle.pf_tokens.specs.Macros.{ends};
+ghost use Rattle.pf_tokens.specs.Lexed.{token_of, placed_of, front_of};
+
+use crate::symbol::{Symbol, symbol_of, symbol_of_two};
+
+/// A token without its place.
+#[derive(Clone, Copy, Debug)]
+pub enum Lexeme<'a> {
+    /// The longest run of letters, digits and `. : _ - + * % @`.
+    Word(&'a [u8]),
+    /// A text in quotes, without them: printable ASCII and tabs, but no quote and no backslash.
+    Quoted(&'a [u8]),
+    /// The name of a macro, without its dollar sign.
+    Macro(&'a [u8]),
+    /// A symbol.
+    Mark(Symbol),
+    /// A newline.
+    Newline,
+    /// A byte that begins no token, or a quote that isn't closed on its line.
+    Bad,
+}
+
+impl Lexeme<'_> {
+    /// Whether it is a newline.
+    pub fn is_newline(self) -> bool
+        ensures { result ≡ is_newline (token_of self.entry) }
+    {
+        match self {
+            Lexeme::Newline => true,
+            Lexeme::Word(_)
+            | Lexeme::Quoted(_)
+            | Lexeme::Macro(_)
+            | Lexeme::Mark(_)
+            | Lexeme::Bad => false,
+        }
+    }
+}
+
+/// A token, its line, and whether it stands in the text as it is, and not in a macro's text.
+#[derive(Clone, Copy, Debug)]
+pub(crate) struct Lexed<'a> {
+    pub lexeme: Lexeme<'a>,
+    pub line: u64,
+    pub written: bool,
+}
+
+impl Lexed<'_> {
+    /// Whether it ends a statement that has no brace open.
+    pub(crate) fn is_empty_statement(self) -> bool
+        ensures { result ≡ ends 0 (placed_of self.entry) }
+    {
+        self.written && self.lexeme.is_newline()
+    }
+}
+
+/// Whether the byte may stand in a word.
+fn is_word_byte(b: u8) -> bool
+    ensures { result ≡ is_word_byte b }
+{
+    match b {
+        b'.' | b':' | b'_' | b'-' | b'+' | b'*' | b'%' | b'@' => true,
+        _ => b.is_ascii_alphanumeric(),
+    }
+}
+
+/// How many bytes the word at the front has.
+fn word_len(text: &[u8]) -> usize
+    ensures { result ≡ prefix_len is_word_byte text.now }
+{
+    text.iter().take_while(|b| is_word_byte(**b)).count()
+}
+
+/// How many bytes stand before the end of the line.
+fn line_len(text: &[u8]) -> usize
+    ensures { result ≡ prefix_len (λ b. not (b == 10)) text.now }
+{
+    text.iter().take_while(|b| **b != b'\n').count()
+}
+
+/// Whether the byte may stand in a macro's name.
+pub(crate) fn is_name_byte(b: u8) -> bool
+    ensures { result ≡ is_name_byte b }
+{
+    b.is_ascii_alphanumeric() || b == b'_'
+}
+
+/// Whether the byte may stand between quotes.
+fn is_quoted_byte(b: u8) -> bool
+    ensures { result ≡ is_quoted_byte b }
+{
+    (b == b'\t' || (32 <= b && b <= 126)) && b != b'"' && b != b'\\'
+}
+
+/// How many bytes the name at the front has.
+#[tactic(auto, using(crate::proofs::Lexing::prefix_len_le))]
+fn name_len(text: &[u8]) -> usize
+    ensures value { result ≡ prefix_len is_name_byte text.now }
+    ensures within { result ≤ length text.now }
+{
+    text.iter().take_while(|b| is_name_byte(**b)).count()
+}
+
+/// How many bytes at the front may stand between quotes.
+#[tactic(auto, using(crate::proofs::Lexing::prefix_len_le))]
+fn quoted_len(text: &[u8]) -> usize
+    ensures value { result ≡ prefix_len is_quoted_byte text.now }
+    ensures within { result ≤ length text.now }
+{
+    text.iter().take_while(|b| is_quoted_byte(**b)).count()
+}
+
+/// What stands behind an opening quote.
+fn quoted(bytes: &[u8]) -> (Option<Lexeme<'_>>, usize)
+    ensures { front_of result ≡ quoted_closed bytes.now (prefix_len is_quoted_byte bytes.now) (drop (prefix_len is_quoted_byte bytes.now) bytes.now) }
+{
+    let len = quoted_len(bytes);
+    let (text, others) = bytes.split_at(len);
+    match others.first() {
+        Some(b'"') => (Some(Lexeme::Quoted(text)), len + 2),
+        _ => (Some(Lexeme::Bad), 1),
+    }
+}
+
+/// What stands behind a dollar sign.
+fn macro_name(bytes: &[u8]) -> (Option<Lexeme<'_>>, usize)
+    ensures { front_of result ≡ macro_front bytes.now (prefix_len is_name_byte bytes.now) }
+{
+    let len = name_len(bytes);
+    if len == 0 {
+        return (Some(Lexeme::Bad), 1);
+    }
+    let (name, _) = bytes.split_at(len);
+    (Some(Lexeme::Macro(name)), len + 1)
+}
+
+/// The symbol of two letters that begins with this one.
+fn longer_symbol(b: u8, others: &[u8]) -> Option<Symbol>
+    ensures { result ≡ longer_symbol b others.now }
+{
+    let next = others.first()?;
+    symbol_of_two(b, *next)
+}
+
+/// The longest symbol that begins with the byte.
+fn symbol_front<'a>(b: u8, others: &[u8]) -> (Option<Lexeme<'a>>, usize)
+    ensures { front_of result ≡ longest (longer_symbol b others.now) (symbol_of b) }
+{
+    if let Some(symbol) = longer_symbol(b, others) {
+        return (Some(Lexeme::Mark(symbol)), 2);
+    }
+    match symbol_of(b) {
+        Some(symbol) => (Some(Lexeme::Mark(symbol)), 1),
+        None => (Some(Lexeme::Bad), 1),
+    }
+}
+
+/// What stands at the front: a token, or none where it is a blank or a comment, and how many bytes it takes.
+pub(crate) fn front(text: &[u8]) -> (Option<Lexeme<'_>>, usize)
+    ensures { front_of result ≡ front text.now }
+{
+    let Some((first, others)) = text.split_first() else {
+        return (None, 0);
+    };
+    if is_word_byte(*first) {
+        let len = word_len(text);
+        return (Some(Lexeme::Word(&text[..len])), len);
+    }
+    match *first {
+        b'\n' => (Some(Lexeme::Newline), 1),
+        b' ' | b'\t' => (None, 1),
+        b'#' => (None, line_len(text)),
+        b'"' => quoted(others),
+        b'$' => macro_name(others),
+        other => symbol_front(other, others),
+    }
+}

@@ -1,0 +1,130 @@
+//! Tokens, one after another, from the bytes of a text.
+
+ghost use Rattle.std.specs.Prelude.{◌≡◌, ◌+◌, ◌<◌, ◌^◌, length};
+ghost use Rattle.pf_tokens.specs.Tokens.{line_after};
+
+use crate::lexeme::{Lexed, front};
+
+/// The line of what follows the byte.
+fn line_after(line: u64, b: u8) -> u64
+    requires { line + 1 < 2 ^ 64 }
+    ensures { result ≡ line_after line b }
+{
+    if b == b'\n' { line + 1 } else { line }
+}
+
+/// The tokens of a text, which are made one at a time.
+///
+/// Lines are those of the text as given: at each of the steps a backslash and a newline were taken out.
+#[derive(Clone, Copy, Debug)]
+pub struct Lexer<'a> {
+    rest: &'a [u8],
+    at: usize,
+    steps: &'a [usize],
+    line: u64,
+    ghost within: { at + length rest.now < 2 ^ 64 },
+    ghost counted: { line + length rest.now + length steps.now < 2 ^ 64 },
+}
+
+impl<'a> Lexer<'a> {
+    ghost use Rattle.std.specs.Prelude.{◌≡◌, ◌+◌, ◌<◌, ◌^◌, ◌++◌, length, option_map, drop, List, ℕ};
+    ghost use Rattle.std.specs.Option.{option_to_list};
+    ghost use Rattle.pf_tokens.specs.Tokens.{Placed, tokens_behind, plain_tokens, first};
+    ghost use Rattle.pf_tokens.specs.Reading.{past_newlines};
+    ghost use Rattle.pf_tokens.specs.Joined.{letters_at, passed};
+    ghost use Rattle.pf_tokens.specs.Lexed.{placed_of};
+    ghost use Rattle.pf_tokens.specs.Left.{tokens_left};
+
+    /// The tokens of a macro's text.
+    #[tactic(auto, using(crate::proofs::Joining::letters_plain), unfolding(crate::specs::Left::tokens_left))]
+    pub(crate) fn plain(text: &'a [u8]) -> Lexer<'a>
+        ensures { tokens_left result ≡ plain_tokens text.now }
+    {
+        Lexer::joined(text, &[])
+    }
+
+    /// The tokens of a text of which a backslash and a newline were taken out at each of the steps.
+    #[tactic(auto, unfolding(crate::specs::Left::tokens_left))]
+    pub(crate) fn joined(rest: &'a [u8], steps: &'a [usize]) -> Lexer<'a>
+        ensures { tokens_left result ≡ tokens_behind 0 (letters_at 1 0 steps.now rest.now) }
+    {
+        Lexer {
+            rest,
+            at: 0,
+            steps,
+            line: 1,
+        }
+    }
+
+    /// Counts the lines of the steps before the next byte.
+    fn pass_steps(&mut self)
+        ensures left { tokens_left self.new ≡ tokens_left self.old }
+        ensures rest { self.new.rest.now ≡ self.old.rest.now }
+        ensures passed { passed self.new.at self.new.steps.now ≡ 0 }
+    {
+        while let Some((first, others)) = self.steps.split_first() {
+            if *first > self.at {
+                return;
+            }
+            *self = Lexer {
+                rest: self.rest,
+                at: self.at,
+                steps: others,
+                line: self.line + 1,
+            };
+        }
+    }
+
+    /// Goes past what stands at the front, which may be no token.
+    fn step(&mut self) -> Option<Lexed<'a>>
+        requires { 0 < length self.old.rest.now }
+        ensures left { tokens_left self.old ≡ option_to_list (option_map placed_of result) ++ tokens_left self.new }
+        ensures shorter { length self.new.rest.now < length self.old.rest.now }
+    {
+        self.pass_steps();
+        let line = self.line;
+        let next = line_after(line, self.rest[0]);
+        let (lexeme, len) = front(self.rest);
+        let (_, rest) = self.rest.split_at(len);
+        *self = Lexer {
+            rest,
+            at: self.at + len,
+            steps: self.steps,
+            line: next,
+        };
+        lexeme.map(|lexeme| Lexed {
+            lexeme,
+            line,
+            written: true,
+        })
+    }
+
+    /// Goes past empty statements. Answers the line of the first token behind them, none where no token is left.
+    #[tactic(auto, using(crate::proofs::Passing::passed_none, crate::proofs::Passing::passed_token, crate::proofs::Passing::passed_newline))]
+    pub fn next_statement(&mut self) -> Option<u64>
+        ensures line { result ≡ option_map (λ (p : Placed). p.line) (first (past_newlines (tokens_left self.old))) }
+        ensures left { tokens_left self.new ≡ past_newlines (tokens_left self.old) }
+    {
+        let mut ahead = *self;
+        while let Some(token) = ahead.next_token() {
+            if !token.is_empty_statement() {
+                return Some(token.line);
+            }
+            *self = ahead;
+        }
+        None
+    }
+
+    /// The next token.
+    pub(crate) fn next_token(&mut self) -> Option<Lexed<'a>>
+        ensures token { option_map placed_of result ≡ first (tokens_left self.old) }
+        ensures left { tokens_left self.new ≡ drop 1 (tokens_left self.old) }
+    {
+        while !self.rest.is_empty() {
+            if let Some(token) = self.step() {
+                return Some(token);
+            }
+        }
+        None
+    }
+}

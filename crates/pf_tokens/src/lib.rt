@@ -1,0 +1,37 @@
+//! Tokens of texts of rules, and the core of their parser (`pf.conf(5)`, GRAMMAR and MACROS).
+//!
+//! # Organization
+//!
+//! - [`Text`] joins continued lines, and its [`Lexer`] goes from one statement to the next.
+//! - [`Parser`] has the tokens of one statement, in which macros are replaced. A production is a function over it, whose
+//!   contract speaks of `left`, the tokens that the statement still has, and of `later`, those from its end on.
+//! - [`list`] and [`some`] read lists of any [`Element`], [`definition`] reads macro statements.
+#![tactic(auto)]
+
+mod defining;
+mod fault;
+mod lexeme;
+mod lexer;
+mod lists;
+mod macros;
+mod parser;
+mod profile;
+mod stop;
+mod stream;
+mod symbol;
+mod text;
+
+pub use defining::{DefinitionFault, definition};
+pub use fault::ReadingFault;
+pub use lexeme::Lexeme;
+pub use lexer::Lexer;
+pub use lists::{Element, Listed, list, lists_as_spelled, some};
+pub use macros::Macro;
+pub use parser::Parser;
+pub use profile::Profile;
+pub use stop::Stop;
+pub use symbol::Symbol;
+pub use text::Text;
+
+#[cfg(test)]
+mod tests;

@@ -1,0 +1,321 @@
+//! The core of a descent: the tokens of one statement, from one to the next.
+
+ghost use Rattle.std.specs.Prelude.{◌≡◌, ◌<◌, ◌≤◌, false};
+ghost use Rattle.pf_tokens.specs.Pending.{at_newline};
+ghost use Rattle.pf_tokens.specs.Lexed.{token_of, placed_of};
+ghost use Rattle.pf_tokens.specs.Macros.{depth_after, ends};
+ghost use Rattle.pf_tokens.specs.Blanks.{open_after};
+
+use crate::fault::ReadingFault;
+use crate::lexeme::{Lexed, Lexeme};
+use crate::lexer::Lexer;
+use crate::macros::{Macro, text_of};
+use crate::stream::Stream;
+use crate::symbol::Symbol;
+
+/// How many tokens a statement has at most.
+const TOKENS_MAX: u32 = 65536;
+
+/// How many braces are open at once at most.
+const OPEN_MAX: u8 = 64;
+
+/// The tokens of one statement, in which macros are replaced.
+///
+/// A statement ends at the first newline outside braces. Contracts speak of `left`, the tokens that the statement
+/// still has, and of `later`, the tokens of the text from its end on.
+#[derive(Clone, Copy, Debug)]
+pub struct Parser<'t, 's> {
+    stream: Stream<'t, 's>,
+    /// How many braces are open; no more than 65 are told apart.
+    depth: u8,
+    /// How many of them belong to the list that is being read, in which newlines are blanks.
+    braces: u8,
+    ghost nested: { braces ≤ depth },
+    ghost blank: { 0 < braces → at_newline stream.next ≡ false },
+}
+
+impl<'t, 's> Parser<'t, 's>
+where
+    't: 's,
+{
+    ghost use Rattle.std.specs.Prelude.{◌≡◌, ◌<◌, ◌≤◌, drop, map, option_map, Some, false};
+    ghost use Rattle.std.specs.Option.{option_copied};
+    ghost use Rattle.pf_tokens.specs.Tokens.{first, is_newline};
+    ghost use Rattle.pf_tokens.specs.Lexed.{token_of, placed_of};
+    ghost use Rattle.pf_tokens.specs.Left.{tokens_left};
+    ghost use Rattle.pf_tokens.specs.Macros.{is_definition, depth_after, ends};
+    ghost use Rattle.pf_tokens.specs.Blanks.{blanked, open_after};
+    ghost use Rattle.pf_tokens.specs.Flow.{statement_raw, ending_raw};
+    ghost use Rattle.pf_tokens.specs.Defined.{definition_of};
+    ghost use Rattle.pf_tokens.specs.Faults.{reading_fault};
+    ghost use Rattle.pf_tokens.specs.Defining.{item_of};
+    ghost use Rattle.pf_tokens.specs.Productions.{begins, begins_symbol, option_at, symbol_at, word_at, name_at, is_end, taken_if, list_opened};
+    ghost use Rattle.pf_tokens.specs.Parsing.{tokens_of, definitions, is_defining, placed_left, left, later, Reads};
+
+    /// At the start of a statement, where these macros are known.
+    #[tactic(auto, using(crate::proofs::Beginning::begins_there, crate::proofs::Beginning::begins_later), unfolding(crate::specs::Parsing::placed_left, crate::specs::Parsing::left, crate::specs::Parsing::later))]
+    pub fn begin(text: Lexer<'t>, macros: &'s [Macro]) -> Parser<'t, 's>
+        ensures placed { placed_left result ≡ statement_raw (map definition_of macros.now) (is_definition (tokens_left text.entry)) 0 (tokens_left text.entry) }
+        ensures left { left result ≡ tokens_of (placed_left result) }
+        ensures later { later result ≡ ending_raw (map definition_of macros.now) (is_definition (tokens_left text.entry)) 0 (tokens_left text.entry) }
+        ensures definitions { definitions result ≡ map definition_of macros.now }
+        ensures defining { is_defining result ≡ is_definition (tokens_left text.entry) }
+    {
+        Parser {
+            stream: Stream::begin(text, macros),
+            depth: 0,
+            braces: 0,
+        }
+    }
+
+    /// Whether the statement defines a macro: its first two tokens as written are a word and `=`.
+    pub fn is_definition(&self) -> bool
+        ensures { result ≡ is_defining self.now }
+    {
+        self.stream.defining
+    }
+
+    /// The first fault among the tokens of the statement.
+    pub fn fault(self) -> Option<ReadingFault>
+        ensures { result ≡ reading_fault (definitions self.entry) 0 0 (left self.entry) }
+    {
+        let mut parser = self;
+        let mut count = 0u32;
+        let mut depth = 0;
+        while let Some(lexeme) = parser.peek() {
+            depth = depth_after(depth, lexeme);
+            match lexeme {
+                Lexeme::Bad => return Some(ReadingFault::Lexical),
+                Lexeme::Macro(name) if text_of(parser.stream.macros, name).is_none() => {
+                    return Some(ReadingFault::UnknownMacro);
+                }
+                _ => {}
+            }
+            if count >= TOKENS_MAX || depth > OPEN_MAX {
+                return Some(ReadingFault::TooMany);
+            }
+            count += 1;
+            parser.skip();
+        }
+        None
+    }
+
+    /// The next token of the statement.
+    #[tactic(auto, using(crate::proofs::Skipping::left_none, crate::proofs::Skipping::left_end, crate::proofs::Skipping::left_token))]
+    pub fn peek(&self) -> Option<Lexeme<'s>>
+        ensures { option_map token_of result ≡ first (left self.now) }
+    {
+        match self.stream.next {
+            None => None,
+            Some(token) => {
+                if ends(self.depth, token) {
+                    None
+                } else {
+                    Some(token.lexeme)
+                }
+            }
+        }
+    }
+
+    /// Takes the token at hand, behind which so many braces of the list are open.
+    fn take(&mut self, token: Lexed<'s>, braces: u8)
+        requires at_hand { self.old.stream.next ≡ Some token }
+        requires inner { ends self.old.depth (placed_of token) ≡ false }
+        requires nested { braces ≤ depth_after self.old.depth (token_of token.lexeme) }
+        ensures left { left self.new ≡ blanked braces (drop 1 (tokens_of (placed_left self.old))) }
+        ensures later { later self.new ≡ later self.old }
+        ensures definitions { definitions self.new ≡ definitions self.old }
+        ensures braces { self.new.braces ≡ braces }
+    {
+        let mut stream = self.stream;
+        stream.advance();
+        stream.pass_newlines(braces);
+        *self = Parser {
+            stream,
+            depth: depth_after(self.depth, token.lexeme),
+            braces,
+        };
+    }
+
+    /// Goes past a token of the statement, if one is left.
+    pub fn skip(&mut self)
+        ensures left { left self.new ≡ drop 1 (left self.old) }
+        ensures later { later self.new ≡ later self.old }
+        ensures definitions { definitions self.new ≡ definitions self.old }
+    {
+        let Some(token) = self.stream.next else {
+            return;
+        };
+        if !ends(self.depth, token) {
+            self.take(token, open_after(self.braces, token.lexeme));
+        }
+    }
+
+    /// Whether the next token is this word.
+    pub fn begins(&self, word: &[u8]) -> bool
+        ensures { result ≡ begins word.now (left self.now) }
+    {
+        match self.peek() {
+            Some(Lexeme::Word(text)) => text == word,
+            _ => false,
+        }
+    }
+
+    /// Goes past this word, if it comes next.
+    #[tactic(auto, unfolding(crate::specs::Productions::option_at))]
+    pub fn accept(&mut self, word: &[u8]) -> bool
+        ensures read { (result, left self.new) ≡ option_at word.now (left self.old) }
+        ensures later { later self.new ≡ later self.old }
+        ensures definitions { definitions self.new ≡ definitions self.old }
+    {
+        let found = self.begins(word);
+        if found {
+            self.skip();
+        }
+        found
+    }
+
+    /// Whether the next token is this symbol.
+    pub fn begins_symbol(&self, symbol: Symbol) -> bool
+        ensures { result ≡ begins_symbol symbol (left self.now) }
+    {
+        match self.peek() {
+            Some(Lexeme::Mark(found)) => found == symbol,
+            _ => false,
+        }
+    }
+
+    /// Goes past this symbol, if it comes next.
+    #[tactic(auto, unfolding(crate::specs::Productions::symbol_at))]
+    pub fn accept_symbol(&mut self, symbol: Symbol) -> bool
+        ensures read { (result, left self.new) ≡ symbol_at symbol (left self.old) }
+        ensures later { later self.new ≡ later self.old }
+        ensures definitions { definitions self.new ≡ definitions self.old }
+    {
+        let found = self.begins_symbol(symbol);
+        if found {
+            self.skip();
+        }
+        found
+    }
+
+    /// Goes past a newline, if it comes next: within braces that are no list, newlines are tokens.
+    pub fn accept_newline(&mut self) -> bool
+        ensures read { (result, left self.new) ≡ taken_if is_newline (left self.old) }
+        ensures later { later self.new ≡ later self.old }
+        ensures definitions { definitions self.new ≡ definitions self.old }
+    {
+        let found = matches!(self.peek(), Some(Lexeme::Newline));
+        if found {
+            self.skip();
+        }
+        found
+    }
+
+    /// A word.
+    pub fn word(&mut self) -> Option<&'s [u8]>
+        ensures read { Reads (option_copied result) (left self.new) (word_at (left self.old)) }
+        ensures later { later self.new ≡ later self.old }
+        ensures definitions { definitions self.new ≡ definitions self.old }
+    {
+        let Some(Lexeme::Word(text)) = self.peek() else {
+            return None;
+        };
+        self.skip();
+        Some(text)
+    }
+
+    /// The text of a word or a string.
+    pub fn name(&mut self) -> Option<&'s [u8]>
+        ensures read { Reads (option_copied result) (left self.new) (name_at (left self.old)) }
+        ensures later { later self.new ≡ later self.old }
+        ensures definitions { definitions self.new ≡ definitions self.old }
+    {
+        let (Lexeme::Word(text) | Lexeme::Quoted(text)) = self.peek()? else {
+            return None;
+        };
+        self.skip();
+        Some(text)
+    }
+
+    /// The text that a token gives to a macro's text.
+    pub(crate) fn item(&self, lexeme: Lexeme<'s>) -> Option<&'s [u8]>
+        ensures { option_copied result ≡ item_of (definitions self.now) (token_of lexeme.entry) }
+    {
+        match lexeme {
+            Lexeme::Word(text) | Lexeme::Quoted(text) => Some(text),
+            Lexeme::Macro(name) => text_of(self.stream.macros, name),
+            Lexeme::Mark(_) | Lexeme::Newline | Lexeme::Bad => None,
+        }
+    }
+
+    /// Whether the statement has no token left.
+    pub fn at_end(&self) -> bool
+        ensures { result ≡ is_end (left self.now) }
+    {
+        self.peek().is_none()
+    }
+
+    /// Goes past the brace that opens a list, if it comes next: up to the brace that closes it newlines are blanks.
+    pub fn open_list(&mut self) -> bool
+        ensures read { (result, left self.new) ≡ list_opened (left self.old) }
+        ensures later { later self.new ≡ later self.old }
+        ensures definitions { definitions self.new ≡ definitions self.old }
+    {
+        let Some(token) = self.stream.next else {
+            return false;
+        };
+        if !self.begins_symbol(Symbol::Open) {
+            return false;
+        }
+        if self.braces == 0 {
+            self.take(token, 1);
+        } else {
+            self.skip();
+        }
+        true
+    }
+
+    /// The tokens of the text behind the statement, and behind the newline that ends it.
+    pub fn finish(self) -> Lexer<'t>
+        ensures { tokens_left result ≡ drop 1 (later self.entry) }
+    {
+        let mut parser = self;
+        while !parser.at_end() {
+            parser.skip();
+        }
+        match parser.stream.next {
+            None => Lexer::plain(&[]),
+            Some(_) => parser.stream.text,
+        }
+    }
+}
+
+/// Whether the statement ends with the token.
+fn ends(depth: u8, token: Lexed<'_>) -> bool
+    ensures { result ≡ ends depth (placed_of token.entry) }
+{
+    token.written && token.lexeme.is_newline() && depth == 0
+}
+
+/// How many braces are open behind the token; no more than 65 are told apart.
+fn depth_after(depth: u8, lexeme: Lexeme<'_>) -> u8
+    ensures { result ≡ depth_after depth (token_of lexeme.entry) }
+{
+    match lexeme {
+        Lexeme::Mark(Symbol::Open) => { if depth < 65 { depth + 1 } else { depth } }
+        Lexeme::Mark(Symbol::Close) => depth.saturating_sub(1),
+        _ => depth,
+    }
+}
+
+/// How many braces of a list are open behind the token.
+fn open_after(braces: u8, lexeme: Lexeme<'_>) -> u8
+    ensures { result ≡ open_after braces (token_of lexeme.entry) }
+{
+    if braces == 0 {
+        0
+    } else {
+        depth_after(braces, lexeme)
+    }
+}

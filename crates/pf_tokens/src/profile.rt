@@ -1,0 +1,10 @@
+//! Profiles of the grammar.
+
+/// Which words a text may use. Texts of a log keep the profile that they were written for.
+#[derive(Clone, Copy, Debug, PartialEq, Eq)]
+pub enum Profile {
+    /// The grammar without types of ICMP.
+    One,
+    /// The grammar with types of ICMP; `icmp-type` is a reserved word.
+    Two,
+}

@@ -1,0 +1,161 @@
+//! The tokens of a statement, in which macros are replaced.
+
+ghost use Rattle.std.specs.Prelude.{◌≡◌, ◌<◌, [], drop, map, length, false, true};
+ghost use Rattle.std.specs.Bool.{OnTrue, OnFalse};
+ghost use Rattle.std.specs.Option.{option_copied};
+ghost use Rattle.pf_tokens.specs.Lexed.{placed_of};
+ghost use Rattle.pf_tokens.specs.Left.{tokens_left};
+ghost use Rattle.pf_tokens.specs.Macros.{unwritten, text_tokens, replaced, is_definition};
+ghost use Rattle.pf_tokens.specs.Flow.{pulled, pulled_raw};
+ghost use Rattle.pf_tokens.specs.Defined.{definition_of};
+ghost use Rattle.pf_tokens.specs.Pending.{pending, known, at_newline, Stays, Blanks};
+
+use crate::lexeme::{Lexed, Lexeme};
+use crate::lexer::Lexer;
+use crate::macros::{Macro, text_of};
+use crate::symbol::Symbol;
+
+/// The tokens of a text from the start of a statement on, in which macros are replaced, with one of them at hand.
+#[derive(Clone, Copy, Debug)]
+pub(crate) struct Stream<'t, 's> {
+    pub next: Option<Lexed<'s>>,
+    /// The line of the tokens of the macro that is being replaced.
+    line: u64,
+    inside: Lexer<'s>,
+    pub text: Lexer<'t>,
+    pub macros: &'s [Macro],
+    /// Whether the statement defines a macro.
+    pub defining: bool,
+}
+
+impl<'t, 's> Stream<'t, 's>
+where
+    't: 's,
+{
+    /// At the start of a statement.
+    #[tactic(auto, unfolding(crate::specs::Left::tokens_left))]
+    pub(crate) fn begin(text: Lexer<'t>, macros: &'s [Macro]) -> Stream<'t, 's>
+        ensures pulled { pending result ≡ pulled_raw (map definition_of macros.now) (is_definition (tokens_left text.entry)) (tokens_left text.entry) }
+        ensures known { known result ≡ map definition_of macros.now }
+        ensures defining { result.defining ≡ is_definition (tokens_left text.entry) }
+    {
+        let mut stream = Stream {
+            next: None,
+            line: 0,
+            inside: Lexer::plain(&[]),
+            text,
+            macros,
+            defining: is_definition(text),
+        };
+        stream.pull();
+        stream
+    }
+
+    /// The text of a macro that is to be replaced.
+    fn replacement(&self, token: Lexed<'t>) -> Option<&'s [u8]>
+        ensures { text_tokens (placed_of token.entry) (option_copied result) ≡ replaced (known self.now) self.now.defining (placed_of token.entry) }
+    {
+        match token.lexeme {
+            Lexeme::Macro(name) if !self.defining => text_of(self.macros, name),
+            _ => None,
+        }
+    }
+
+    /// Takes a token of the macro's text to hand, if one is left.
+    #[tactic(auto, using(crate::proofs::Pulling::inside_taken, crate::proofs::Pulling::inside_none, crate::proofs::Pulling::inside_some), unfolding(crate::specs::Pending::pending))]
+    fn take_inside(&mut self) -> bool
+        ensures some { OnTrue result (0 < length (tokens_left self.old.inside)) }
+        ensures taken { OnTrue result (pending self.new ≡ (map (unwritten self.old.line) (tokens_left self.old.inside), tokens_left self.old.text)) }
+        ensures none { OnFalse result ((tokens_left self.old.inside ≡ []) × (tokens_left self.new.inside ≡ [])) }
+        ensures text { self.new.text ≡ self.old.text }
+        ensures stays { Stays self.old self.new }
+    {
+        match self.inside.next_token() {
+            None => false,
+            Some(token) => {
+                self.next = Some(Lexed {
+                    lexeme: token.lexeme,
+                    line: self.line,
+                    written: false,
+                });
+                true
+            }
+        }
+    }
+
+    /// Takes the next token of the text to hand, or the first of its macro.
+    fn pull(&mut self)
+        requires { tokens_left self.old.inside ≡ [] }
+        ensures pulled { pending self.new ≡ pulled_raw (known self.old) self.old.defining (tokens_left self.old.text) }
+        ensures stays { Stays self.old self.new }
+    {
+        while let Some(token) = self.text.next_token() {
+            match self.replacement(token) {
+                None => {
+                    self.next = Some(token);
+                    return;
+                }
+                Some(text) => {
+                    self.line = token.line;
+                    self.inside = Lexer::plain(text);
+                    if self.take_inside() {
+                        return;
+                    }
+                }
+            }
+        }
+        self.next = None;
+    }
+
+    /// Takes the next token to hand, or none if there is none.
+    pub(crate) fn advance(&mut self)
+        ensures pulled { pending self.new ≡ pulled (known self.old) self.old.defining (drop 1 (pending self.old).0) (pending self.old).1 }
+        ensures stays { Stays self.old self.new }
+    {
+        if self.next.is_none() {
+            return;
+        }
+        if !self.take_inside() {
+            self.pull();
+        }
+    }
+
+    /// Goes past newlines where braces of a list are open.
+    pub(crate) fn pass_newlines(&mut self, braces: u8)
+        ensures blanks { Blanks braces (known self.old) self.old.defining (pending self.old) (pending self.new) }
+        ensures passed { 0 < braces → at_newline self.new.next ≡ false }
+        ensures stays { Stays self.old self.new }
+    {
+        while braces > 0 && self.at_newline() {
+            self.advance();
+        }
+    }
+
+    /// Whether a newline is at hand.
+    fn at_newline(&self) -> bool
+        ensures { result ≡ at_newline self.now.next }
+    {
+        match self.next {
+            None => false,
+            Some(token) => token.lexeme.is_newline(),
+        }
+    }
+}
+
+/// Whether a macro is defined by what comes next.
+#[tactic(auto, using(crate::proofs::Beginning::defines_two, crate::proofs::Beginning::defines_none, crate::proofs::Beginning::defines_one, crate::proofs::Beginning::defines_not))]
+fn is_definition(text: Lexer<'_>) -> bool
+    ensures { result ≡ is_definition (tokens_left text.entry) }
+{
+    let mut ahead = text;
+    let Some(first) = ahead.next_token() else {
+        return false;
+    };
+    if !matches!(first.lexeme, Lexeme::Word(_)) {
+        return false;
+    }
+    let Some(second) = ahead.next_token() else {
+        return false;
+    };
+    matches!(second.lexeme, Lexeme::Mark(Symbol::Equals))
+}
