@@ -1,7 +1,7 @@
 -- Shown flags are read again.
-use Rattle.std.proofs.Common.{◌≡◌, ℕ, ◌<◌, ◌==◌, ◌&&◌, ◌||◌, Bool, true, false, cond, List, [], ◌∷◌, ◌++◌, length, Some, refl, sym, ap, ◌∙◌, arith}
-use Rattle.std.specs.Prelude.{bytes_eq, codes, nat_lt}
-use Rattle.std.specs.List.{list_any, list_all}
+use Rattle.std.proofs.Common.{◌≡◌, ℕ, ◌==◌, ◌||◌, Bool, true, false, List, ◌++◌, length, Some, refl, ◌∙◌, arith}
+use Rattle.std.specs.Prelude.{nat_lt}
+use Rattle.std.specs.List.{list_all}
 use Rattle.std.proofs.lemmas.Bool.Decides.{nat_tests}
 use Rattle.pf_grammar.specs.declared.rule.TcpFlags.{TcpFlags}
 use Rattle.pf_grammar.specs.Words.{has, is_letter, flags_with, flags_of}

@@ -1,15 +1,14 @@
 -- Shown numbers are read again.
-use Rattle.std.proofs.Common.{◌≡◌, ℕ, ◌+◌, ◌-◌, ◌*◌, ◌^◌, ◌<◌, ◌≤◌, ◌==◌, ◌&&◌, ◌||◌, Bool, true, false, cond, List, [], ◌∷◌, ◌++◌, length, Option, Some, None, refl, sym, ap, ◌∙◌, arith, nat_le}
-use Rattle.std.specs.Prelude.{decimal, bytes_eq, codes, nat_lt, fold, not}
-use Rattle.std.specs.List.{AllByRecursion, list_all, list_any}
+use Rattle.std.proofs.Common.{◌≡◌, ℕ, ◌+◌, ◌-◌, ◌*◌, ◌^◌, ◌<◌, ◌≤◌, ◌==◌, ◌&&◌, Bool, true, false, List, [], ◌∷◌, length, Some, None, refl, ap, arith, nat_le}
+use Rattle.std.specs.Prelude.{decimal, bytes_eq, codes, nat_lt, fold}
+use Rattle.std.specs.List.{AllByRecursion, list_all}
 use Rattle.std.specs.Char.{is_ascii_digit}
-use Rattle.std.proofs.lemmas.Bool.{le-leb}
 use Rattle.std.proofs.lemmas.Bool.Decides.{nat_tests}
 use Rattle.std.proofs.lemmas.Fmt.{digits_decimal, digits_value-decimal, decimal_nonempty, length-decimal-le}
 use Rattle.std.proofs.lemmas.Str.Parse.{IsNumeralModel, numerals_by_fold, IsDigitsTest, FoldsDigits}
 use Rattle.pf_tokens.specs.declared.profile.Profile.{Profile}
 use Rattle.pf_tokens.specs.declared.profile.Profile.TheVariants.{One, Two}
-use Rattle.pf_grammar.specs.Words.{decimal_value, is_decimal, number_of, Named, named, or_else, protocols, protocol_of, services, port_of, icmp_types, icmp_type_of, common_reserved, is_among, is_reserved}
+use Rattle.pf_grammar.specs.Words.{decimal_value, number_of, Named, named, protocols, protocol_of, services, port_of, icmp_types, icmp_type_of, common_reserved, is_among, is_reserved}
 
 -- ---- digits
 

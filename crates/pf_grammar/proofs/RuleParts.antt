@@ -1,8 +1,8 @@
 -- The parts of a shown rule are its tokens.
-use Rattle.std.proofs.Common.{◌≡◌, ℕ, ◌+◌, ◌<◌, ◌≤◌, ◌==◌, ◌&&◌, ◌||◌, ◌⊎◌, inl, inr, Bool, true, false, cond, List, [], ◌∷◌, ◌++◌, length, Option, Some, None, refl, sym, ap, subst, ◌∙◌, append_assoc, arith, eqb-true}
+use Rattle.std.proofs.Common.{◌≡◌, ℕ, ◌<◌, ◌≤◌, ◌==◌, ◌&&◌, ◌||◌, ◌⊎◌, inl, inr, Bool, true, false, cond, List, [], ◌∷◌, ◌++◌, length, Option, Some, None, refl, sym, ap, subst, append_assoc, arith, eqb-true}
 use Rattle.std.specs.Prelude.{decimal, codes, nat_lt}
 use Rattle.std.specs.List.{AllByRecursion, list_all}
-use Rattle.std.specs.Char.{is_ascii_alphanumeric, is_ascii_alphabetic}
+use Rattle.std.specs.Char.{is_ascii_alphanumeric}
 use Rattle.std.proofs.lemmas.Bool.{false≢true}
 use Rattle.std.proofs.lemmas.Bool.Decides.{nat_tests}
 use Rattle.std.proofs.lemmas.List.{append-nil, length-append}
@@ -14,7 +14,7 @@ use Rattle.pf_addr.proofs.Made.{FitsBlock}
 use Rattle.pf_addr.proofs.Plain.{IsAddressByte, address_plain, address_some}
 use Rattle.pf_tokens.specs.declared.profile.Profile.{Profile}
 use Rattle.pf_tokens.specs.declared.symbol.Symbol.TheVariants as mark
-use Rattle.pf_tokens.specs.Tokens.{Token, Word, Mark, is_word_byte, Placed}
+use Rattle.pf_tokens.specs.Tokens.{Token, Mark, is_word_byte}
 use Rattle.pf_grammar.specs.declared.rule.Action.{Action}
 use Rattle.pf_grammar.specs.declared.rule.Action.TheVariants as act
 use Rattle.pf_grammar.specs.declared.rule.Direction.{Direction}
@@ -41,10 +41,10 @@ use Rattle.pf_grammar.proofs.Parts.{lexed, IsPart, word_part, not_part, slash_pa
 
 -- ---- bytes of words
 
-abbrev Words : List ℕ → Type 0
+abbrev pub Words : List ℕ → Type 0
 Words text = list_all is_word_byte text ≡ true
 
-some_word : (word : List ℕ) → 0 < length word → Words word → IsPart word (key word)
+pub some_word : (word : List ℕ) → 0 < length word → Words word → IsPart word (key word)
 some_word [] some all = absurd (omega arith)
 some_word (b ∷ word) some all = word_part b word all
 
@@ -126,13 +126,13 @@ name_word profile name e =
 
 -- ---- the parts
 
-one_part : (part : List ℕ) (ts : List Token) → IsPart part ts → AreParts (part ∷ []) ts
+pub one_part : (part : List ℕ) (ts : List Token) → IsPart part ts → AreParts (part ∷ []) ts
 one_part part ts is = subst (λ (us : List Token). AreParts (part ∷ []) us) (append-nil ts) (OnePart part [] ts [] is NoPart)
 
 key_parts : (b : ℕ) (word : List ℕ) → Words (b ∷ word) → AreParts ((b ∷ word) ∷ []) (key (b ∷ word))
 key_parts b word all = one_part (b ∷ word) (key (b ∷ word)) (word_part b word all)
 
-behind_key : (b : ℕ) (word : List ℕ) (parts : List (List ℕ)) (ts : List Token) → Words (b ∷ word) → AreParts parts ts → AreParts ((b ∷ word) ∷ parts) (key (b ∷ word) ++ ts)
+pub behind_key : (b : ℕ) (word : List ℕ) (parts : List (List ℕ)) (ts : List Token) → Words (b ∷ word) → AreParts parts ts → AreParts ((b ∷ word) ∷ parts) (key (b ∷ word) ++ ts)
 behind_key b word parts ts all are = OnePart (b ∷ word) parts (key (b ∷ word)) ts (word_part b word all) are
 
 decimal_part : (n : ℕ) → n ≤ 65535 → IsPart (decimal n) (key (decimal n))
@@ -309,7 +309,7 @@ state_are act.Return keep = NoPart
 
 -- ---- the whole rule
 
-abbrev more_tokens : Rule → List Token
+abbrev pub more_tokens : Rule → List Token
 more_tokens r =
     direction_tokens r.conditions.direction ++ ([] ++ (quick_tokens r.quick ++ (interface_tokens r.conditions.interface ++ (family_tokens r.conditions.family ++ (protocol_tokens r.conditions.protocol
     ++ (ends_tokens r.conditions.source r.conditions.source_port r.conditions.destination r.conditions.destination_port ++ option_tokens r))))))

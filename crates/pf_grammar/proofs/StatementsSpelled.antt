@@ -335,6 +335,25 @@ rule_reads profile ts r is =
       is.keeps,
     ) refl
 
+-- what stands behind the action
+pub rule_rank : (profile : Profile) (ts : List Token) (r : RuleText) (is : IsRule profile ts r) → 1 < rank (is.direction ++ (is.log ++ (is.quick ++ (is.interfaces ++ (is.family ++ (is.protocols ++ (is.hosts ++ is.options)))))))
+rule_rank profile ts r is =
+    let t8 = is.options in
+    let t7 = is.hosts ++ t8 in
+    let t6 = is.protocols ++ t7 in
+    let t5 = is.family ++ t6 in
+    let t4 = is.interfaces ++ t5 in
+    let t3 = is.quick ++ t4 in
+    let t2 = is.log ++ t3 in
+    let r8 = options_rank profile no_options is.options r.options is.are_options in
+    let r7 = hosts_rank profile is.hosts t8 r.source r.destination is.are_hosts r8 in
+    let r6 = proto_rank is.protocols t7 r.protocols is.are_protocols r7 in
+    let r5 = family_rank is.family t6 r.family is.is_family r6 in
+    let r4 = on_rank is.interfaces t5 r.interfaces is.are_interfaces r5 in
+    let r3 = quick_rank is.quick t4 r.quick is.is_quick r4 in
+    let r2 = log_rank is.log t3 is.logs is.is_log r3 in
+    direction_rank is.direction t2 r.direction is.is_direction r2
+
 rule_took : (profile : Profile) (ts : List Token) (r : RuleText) → rule_of profile ts ≡ Some r → IsRule profile ts r
 unfolding rule_of
 rule_took profile ts r e =

@@ -1,22 +1,19 @@
 -- The tokens of a shown rule spell that rule.
-use Rattle.std.proofs.Common.{◌≡◌, ℕ, ◌+◌, ◌*◌, ◌^◌, ◌<◌, ◌≤◌, ◌==◌, ◌&&◌, ◌||◌, Bool, true, false, cond, List, [], ◌∷◌, ◌++◌, length, Option, Some, None, Result, Ok, refl, sym, ap, subst, ◌∙◌, arith}
+use Rattle.std.proofs.Common.{◌≡◌, ℕ, ◌<◌, ◌≤◌, ◌==◌, ◌&&◌, ◌||◌, Bool, true, false, cond, List, [], ◌∷◌, ◌++◌, length, Option, Some, None, refl, sym, ap, subst, ◌∙◌, arith}
 use Rattle.std.specs.Prelude.{codes, decimal, is_some, not, nat_lt}
-use Rattle.pf_addr.specs.declared.addr.Addr.{Addr}
-use Rattle.pf_addr.specs.Blocks.{Block, Span, span_of, width, FitsAddr}
+use Rattle.pf_addr.specs.Blocks.{Block, span_of, width, FitsAddr}
 use Rattle.std.specs.List.{list_any}
 use Rattle.std.proofs.lemmas.Bool.Decides.{nat_tests}
-use Rattle.pf_addr.specs.Spelling.{addr_of, block_of, cut_at, before_front}
+use Rattle.pf_addr.specs.Spelling.{cut_at, before_front}
 use Rattle.pf_addr.specs.Shown.{shown_addr}
 use Rattle.pf_addr.proofs.Again.{addr_again, block_again}
 use Rattle.pf_addr.proofs.Made.{FitsBlock}
 use Rattle.pf_tokens.specs.declared.profile.Profile.{Profile}
-use Rattle.pf_tokens.specs.declared.symbol.Symbol.{Symbol}
 use Rattle.pf_tokens.specs.declared.symbol.Symbol.TheVariants as mark
-use Rattle.pf_tokens.specs.Tokens.{Token, Word, Mark}
+use Rattle.pf_tokens.specs.Tokens.{Token}
 use Rattle.pf_tokens.specs.Lists.{Elements}
 use Rattle.pf_grammar.specs.declared.rule.Action.{Action}
 use Rattle.pf_grammar.specs.declared.rule.Action.TheVariants as act
-use Rattle.pf_grammar.specs.declared.rule.Policy.{Policy}
 use Rattle.pf_grammar.specs.declared.rule.Policy.TheVariants as policy
 use Rattle.pf_grammar.specs.declared.rule.Direction.{Direction}
 use Rattle.pf_grammar.specs.declared.rule.Direction.TheVariants.{In, Out}
@@ -39,11 +36,13 @@ use Rattle.pf_grammar.specs.declared.written.Protocol.{Protocol}
 use Rattle.pf_grammar.specs.declared.written.WrittenPort.{WrittenPort}
 use Rattle.pf_grammar.specs.declared.written.WrittenType.{WrittenType}
 use Rattle.pf_grammar.specs.Words.{is_interface_name, is_within, no_flags, flags_with, flags_of, is_reserved, port_of}
-use Rattle.pf_grammar.specs.Statements.{Ends, any_end, any_host, Options, no_options, RuleText, has_types, may_keep, one_port, two_ports, lone_test, colon_parts}
-use Rattle.pf_grammar.specs.Grammar.{key, sign, IsSome, One, IsBehind, Missing, Behind, IsPolicy, DropWord, ReturnWord, IsAction, PassWord, BlockSaid, IsDirection, NoDirection, InWord, OutWord, IsSaid, Unsaid, Said, IsInterfaceName, NameWord, IsInterface, OnInterface, NotOnInterface, IsFamily, NoFamily, InetWord, Inet6Word, IsProtocol, ProtocolWord, IsAddresses, WholeAddress, CutAddress, AddressRange, IsHost, AnyWord, HostIn, HostNotIn, EqualsSign, NotEqualSign, LessSign, LessEqualSign, GreaterSign, GreaterEqualSign, BetweenSign, OutsideSign, IsPort, PortAlone, PortCompared, PortBounds, IsPart, PartHosts, IsHosts, AllWord, FromToParts, IsFlags, AnyFlags, NoneOf, SomeOf, NoWord, KeepWord, IsTypes, TypeAlone, IsOptions, NoOption, FlagsOption, StateOption, TypesOption, IsRule}
+use Rattle.pf_grammar.specs.Statements.{Ends, Options, no_options, RuleText, has_types, may_keep, one_port, two_ports, lone_test, colon_parts}
+use Rattle.pf_grammar.specs.Grammar.{key, sign, IsSome, One, IsBehind, Missing, Behind, DropWord, ReturnWord, IsAction, PassWord, BlockSaid, IsDirection, NoDirection, InWord, OutWord, IsSaid, Unsaid, Said, NameWord, IsInterface, OnInterface, NotOnInterface, IsFamily, NoFamily, InetWord, Inet6Word, IsProtocol, ProtocolWord, IsAddresses, WholeAddress, CutAddress, AddressRange, IsHost, AnyWord, HostIn, HostNotIn, EqualsSign, NotEqualSign, LessSign, LessEqualSign, GreaterSign, GreaterEqualSign, BetweenSign, OutsideSign, IsPort, PortAlone, PortCompared, PortBounds, IsPart, PartHosts, IsHosts, AllWord, FromToParts, IsFlags, AnyFlags, NoneOf, SomeOf, NoWord, KeepWord, IsTypes, TypeAlone, IsOptions, NoOption, FlagsOption, StateOption, TypesOption, IsRule}
 use Rattle.pf_grammar.specs.Expansion.{host_family, type_family, occurring}
 use Rattle.pf_grammar.specs.Shown.{letters}
 use Rattle.pf_grammar.proofs.Numbers.{lt_is, IsDigit, Digits, BeginsDigit, decimal_digits, decimal_there, protocol_again, port_again, type_again, digit_free, decimal_begins}
+use Rattle.pf_grammar.proofs.Fronts.{rank}
+use Rattle.pf_grammar.proofs.StatementsSpelled.{rule_rank}
 use Rattle.pf_grammar.proofs.FlagLetters.{flags_again, flags_with_again}
 
 -- ---- what a rule of a ruleset is
@@ -464,3 +463,13 @@ rule_told profile r fits = record {
   are_options = options_told profile r.conditions.protocol r.conditions.icmp_type r.action r.keeps_state r.conditions.flags fits.types fits.flags;
   keeps = may_told r.action r.keeps_state;
 }
+
+-- what stands behind the action
+abbrev pub behind_action : Rule → List Token
+behind_action r =
+    direction_tokens r.conditions.direction ++ ([] ++ (quick_tokens r.quick ++ (interface_tokens r.conditions.interface ++ (family_tokens r.conditions.family ++ (protocol_tokens r.conditions.protocol
+    ++ (ends_tokens r.conditions.source r.conditions.source_port r.conditions.destination r.conditions.destination_port ++ option_tokens r))))))
+
+pub told_rank : (profile : Profile) (r : Rule) → FitsRule profile r → 1 < rank (behind_action r)
+unfolding rule_told
+told_rank profile r fits = rule_rank profile (rule_tokens r) (written r) (rule_told profile r fits)

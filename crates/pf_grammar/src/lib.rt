@@ -7,6 +7,7 @@
 //! - [`Rule`] and the types of its parts; [`Cause`], why a statement is refused.
 //! - Words that stand for numbers, flags and names: [`parse_protocol`], [`parse_port`], [`parse_flags`] and others.
 //! - [`reads_the_grammar`]: a statement is read exactly as the grammar spells it.
+//! - [`reading_again`]: what is shown of a ruleset is read as that ruleset.
 #![tactic(auto)]
 
 mod behind;
@@ -31,7 +32,7 @@ mod words;
 mod written;
 
 pub use fault::{Cause, ParseFault, Refusal};
-pub use laws::reads_the_grammar;
+pub use laws::{reading_again, reads_the_grammar};
 pub use name::Name;
 pub use pf_tokens::Profile;
 pub use reading::parse;
