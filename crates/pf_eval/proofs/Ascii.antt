@@ -6,8 +6,8 @@ use Rattle.std.specs.List.{list_all}
 use Rattle.std.proofs.lemmas.Bool.{and_parts}
 use Rattle.std.proofs.lemmas.Str.Ascii.{IsAscii-from_all}
 use Rattle.std.proofs.lemmas.List.Sums.{AllPass-from_list_all}
-use Rattle.pf_grammar.specs.Profiles.{Profile}
-use Rattle.pf_grammar.specs.Words.{is_interface_name, is_interface_byte, begins_with_letter, is_reserved}
+use Rattle.pf_words.specs.Profiles.{Profile}
+use Rattle.pf_words.specs.Words.{is_interface_name, is_interface_byte, begins_with_letter, is_reserved}
 
 byte_ascii : (b : ℕ) → is_interface_byte b ≡ true → b < 128
 byte_ascii b e = grind (arith, nat_tests)

@@ -5,21 +5,21 @@ use Rattle.std.specs.Str.{bytes_eq}
 use Rattle.pf_addr.specs.declared.addr.Addr.{Addr}
 use Rattle.pf_addr.specs.declared.addr.Addr.TheVariants.{V4, V6}
 use Rattle.pf_addr.specs.Blocks.{in_prefix, in_range}
-use Rattle.pf_grammar.specs.declared.rule.Direction.{Direction}
-use Rattle.pf_grammar.specs.declared.rule.Direction.TheVariants.{In, Out}
-use Rattle.pf_grammar.specs.declared.rule.Family.{Family}
-use Rattle.pf_grammar.specs.declared.rule.Family.TheVariants.{Inet, Inet6}
-use Rattle.pf_grammar.specs.declared.rule.Interface.{Interface}
-use Rattle.pf_grammar.specs.declared.rule.Addresses.{Addresses}
-use Rattle.pf_grammar.specs.declared.rule.Addresses.TheVariants.{Prefix, Range}
-use Rattle.pf_grammar.specs.declared.rule.Host.{Host}
-use Rattle.pf_grammar.specs.declared.rule.Host.TheVariants as host
-use Rattle.pf_grammar.specs.declared.rule.PortTest.{PortTest}
-use Rattle.pf_grammar.specs.declared.rule.PortTest.TheVariants.{Equal, NotEqual, Less, LessEqual, Greater, GreaterEqual, FromTo, Between, Outside}
-use Rattle.pf_grammar.specs.declared.rule.TcpFlags.{TcpFlags}
-use Rattle.pf_grammar.specs.declared.rule.FlagTest.{FlagTest}
-use Rattle.pf_grammar.specs.declared.rule.FlagTest.TheVariants as flags
-use Rattle.pf_grammar.specs.declared.rule.Conditions.{Conditions}
+use Rattle.pf_statements.specs.declared.parts.Direction.{Direction}
+use Rattle.pf_statements.specs.declared.parts.Direction.TheVariants.{In, Out}
+use Rattle.pf_statements.specs.declared.parts.Family.{Family}
+use Rattle.pf_statements.specs.declared.parts.Family.TheVariants.{Inet, Inet6}
+use Rattle.pf_statements.specs.declared.parts.Interface.{Interface}
+use Rattle.pf_statements.specs.declared.parts.Addresses.{Addresses}
+use Rattle.pf_statements.specs.declared.parts.Addresses.TheVariants.{Prefix, Range}
+use Rattle.pf_statements.specs.declared.parts.Host.{Host}
+use Rattle.pf_statements.specs.declared.parts.Host.TheVariants as host
+use Rattle.pf_statements.specs.declared.parts.PortTest.{PortTest}
+use Rattle.pf_statements.specs.declared.parts.PortTest.TheVariants.{Equal, NotEqual, Less, LessEqual, Greater, GreaterEqual, FromTo, Between, Outside}
+use Rattle.pf_words.specs.declared.flags.TcpFlags.{TcpFlags}
+use Rattle.pf_statements.specs.declared.parts.FlagTest.{FlagTest}
+use Rattle.pf_statements.specs.declared.parts.FlagTest.TheVariants as flags
+use Rattle.pf_ruleset.specs.declared.rule.Conditions.{Conditions}
 use Rattle.pf_eval.specs.Packets.{PacketValue, interfaces}
 
 abbrev pub direction_eq : Direction → Direction → Bool

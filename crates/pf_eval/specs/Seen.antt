@@ -1,7 +1,7 @@
 -- What a verdict of the code stands for, and how it is shown.
 use Rattle.std.specs.Prelude.{ℕ, List, ◌∷◌, ◌++◌, Option, Some, None, codes, decimal}
-use Rattle.pf_grammar.specs.declared.rule.Action.{Action}
-use Rattle.pf_grammar.specs.declared.rule.Action.TheVariants as act
+use Rattle.pf_ruleset.specs.declared.rule.Action.{Action}
+use Rattle.pf_ruleset.specs.declared.rule.Action.TheVariants as act
 use Rattle.pf_eval.specs.declared.answer.Spot.{Spot}
 use Rattle.pf_eval.specs.declared.answer.Verdict.{Verdict}
 use Rattle.pf_eval.specs.declared.answer.Verdict.TheVariants as verdict

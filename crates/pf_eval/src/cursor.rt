@@ -3,15 +3,13 @@
 ghost use Rattle.std.specs.Prelude.{◌≡◌, Some, ◌<◌, drop, length, IsSome, IfSome, IsAscii, map, option_map, codes};
 ghost use Rattle.std.specs.Option.{option_copied};
 ghost use Rattle.pf_eval.specs.PacketTexts.{is_empty, begins, word_at, word_after, value, keyed, optional, direction_of, name_of, address_of, port_number_of, type_number_of, groups_at, end_at};
-ghost use Rattle.pf_grammar.specs.Words.{protocol_of, flags_of};
+ghost use Rattle.pf_words.specs.Words.{protocol_of, flags_of};
 ghost use Rattle.pf_eval.specs.Cursors.{left, end_of, Reads, ReadsAll};
 
 use crate::fault::PacketFault;
 use pf_addr::{Addr, parse_bytes};
-use pf_grammar::{
-    Direction, Name, Profile, TcpFlags, is_interface_name, parse_decimal, parse_flags,
-    parse_protocol,
-};
+use pf_statements::{Direction, Name};
+use pf_words::{Profile, TcpFlags, is_interface_name, parse_decimal, parse_flags, parse_protocol};
 use std::alloc::Global;
 
 /// An address and its port.

@@ -7,7 +7,8 @@ ghost use Rattle.pf_eval.specs.Seen.{verdict_of, of_hit, decided};
 use crate::answer::{Spot, Verdict};
 use crate::matching::matches;
 use crate::packet::Packet;
-use pf_grammar::{Action, Item, Name, Ruleset};
+use pf_ruleset::{Action, Item, Ruleset};
+use pf_statements::Name;
 
 /// The verdict that a rule gives where it decides.
 fn decided(action: Action, index: u32) -> Verdict

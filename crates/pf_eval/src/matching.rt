@@ -5,9 +5,9 @@ ghost use Rattle.pf_eval.specs.Matching.{direction_eq, on_interface, of_family, 
 
 use crate::packet::Packet;
 use pf_addr::Addr;
-use pf_grammar::{
-    Addresses, Conditions, Direction, Family, FlagTest, Host, Interface, PortTest, TcpFlags,
-};
+use pf_ruleset::Conditions;
+use pf_statements::{Addresses, Direction, Family, FlagTest, Host, Interface, PortTest};
+use pf_words::TcpFlags;
 
 /// Whether each condition holds of the packet.
 #[tactic(auto, unfolding(crate::specs::Matching::matches))]

@@ -9,7 +9,8 @@ use crate::fault::PacketFault;
 use crate::packet::Packet;
 use crate::word::{has_outer_blank, words};
 use pf_addr::Addr;
-use pf_grammar::{Name, TcpFlags};
+use pf_statements::Name;
+use pf_words::TcpFlags;
 use std::alloc::Global;
 
 /// How many groups a packet's interface is in at most.

@@ -1,12 +1,12 @@
 -- Two families among the hosts leave no rule, whatever is chosen besides.
 use Rattle.std.proofs.Common.{◌≡◌, List, [], ◌∷◌, Option, Some, None, is_none, true, refl, ap}
 use Rattle.std.specs.List.{flat_map}
-use Rattle.pf_grammar.specs.declared.rule.Family.{Family}
-use Rattle.pf_grammar.specs.declared.rule.Family.TheVariants.{Inet, Inet6}
-use Rattle.pf_grammar.specs.declared.rule.Policy.{Policy}
-use Rattle.pf_grammar.specs.declared.rule.Rule.{Rule}
-use Rattle.pf_grammar.specs.declared.written.WrittenType.{WrittenType}
-use Rattle.pf_grammar.specs.Statements.{RuleText}
+use Rattle.pf_statements.specs.declared.parts.Family.{Family}
+use Rattle.pf_statements.specs.declared.parts.Family.TheVariants.{Inet, Inet6}
+use Rattle.pf_statements.specs.declared.parts.Policy.{Policy}
+use Rattle.pf_ruleset.specs.declared.rule.Rule.{Rule}
+use Rattle.pf_statements.specs.declared.written.WrittenType.{WrittenType}
+use Rattle.pf_statements.specs.Statements.{RuleText}
 use Rattle.pf_grammar.specs.Expansion.{Combination, with_family, occurring, host_family, rules_if, rules_of, choices, by_type, by_destination_port}
 use Rattle.pf_grammar.specs.Chosen.{host_families}
 

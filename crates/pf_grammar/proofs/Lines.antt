@@ -17,34 +17,34 @@ use Rattle.pf_tokens.specs.Parsing.{tokens_of}
 use Rattle.pf_tokens.specs.Productions.{begins_symbol, is_symbol}
 use Rattle.pf_tokens.specs.Reading.{◌>>=◌, judged, with_statement, reading_from}
 use Rattle.pf_grammar.specs.declared.fault.Refusal.{Refusal}
-use Rattle.pf_grammar.specs.declared.rule.Action.{Action}
-use Rattle.pf_grammar.specs.declared.rule.Action.TheVariants as act
-use Rattle.pf_grammar.specs.declared.rule.Direction.{Direction}
-use Rattle.pf_grammar.specs.declared.rule.Direction.TheVariants.{In, Out}
-use Rattle.pf_grammar.specs.declared.rule.Family.{Family}
-use Rattle.pf_grammar.specs.declared.rule.Family.TheVariants.{Inet, Inet6}
-use Rattle.pf_grammar.specs.declared.rule.Interface.{Interface}
-use Rattle.pf_grammar.specs.declared.rule.Addresses.{Addresses}
-use Rattle.pf_grammar.specs.declared.rule.Addresses.TheVariants.{Prefix, Range}
-use Rattle.pf_grammar.specs.declared.rule.Host.{Host}
-use Rattle.pf_grammar.specs.declared.rule.Host.TheVariants as host
-use Rattle.pf_grammar.specs.declared.rule.PortTest.{PortTest}
-use Rattle.pf_grammar.specs.declared.rule.PortTest.TheVariants as test
-use Rattle.pf_grammar.specs.declared.rule.FlagTest.{FlagTest}
-use Rattle.pf_grammar.specs.declared.rule.FlagTest.TheVariants as flags
-use Rattle.pf_grammar.specs.declared.rule.Policy.{Policy}
-use Rattle.pf_grammar.specs.declared.rule.Rule.{Rule}
-use Rattle.pf_grammar.specs.declared.ruleset.Item.{Item}
-use Rattle.pf_grammar.specs.declared.ruleset.Item.TheVariants.{Filter}
-use Rattle.pf_grammar.specs.declared.ruleset.Place.{Place}
-use Rattle.pf_grammar.specs.Names.{Name}
-use Rattle.pf_grammar.specs.Statements.{Statement, Rules, value_of}
+use Rattle.pf_ruleset.specs.declared.rule.Action.{Action}
+use Rattle.pf_ruleset.specs.declared.rule.Action.TheVariants as act
+use Rattle.pf_statements.specs.declared.parts.Direction.{Direction}
+use Rattle.pf_statements.specs.declared.parts.Direction.TheVariants.{In, Out}
+use Rattle.pf_statements.specs.declared.parts.Family.{Family}
+use Rattle.pf_statements.specs.declared.parts.Family.TheVariants.{Inet, Inet6}
+use Rattle.pf_statements.specs.declared.parts.Interface.{Interface}
+use Rattle.pf_statements.specs.declared.parts.Addresses.{Addresses}
+use Rattle.pf_statements.specs.declared.parts.Addresses.TheVariants.{Prefix, Range}
+use Rattle.pf_statements.specs.declared.parts.Host.{Host}
+use Rattle.pf_statements.specs.declared.parts.Host.TheVariants as host
+use Rattle.pf_statements.specs.declared.parts.PortTest.{PortTest}
+use Rattle.pf_statements.specs.declared.parts.PortTest.TheVariants as test
+use Rattle.pf_statements.specs.declared.parts.FlagTest.{FlagTest}
+use Rattle.pf_statements.specs.declared.parts.FlagTest.TheVariants as flags
+use Rattle.pf_statements.specs.declared.parts.Policy.{Policy}
+use Rattle.pf_ruleset.specs.declared.rule.Rule.{Rule}
+use Rattle.pf_ruleset.specs.declared.ruleset.Item.{Item}
+use Rattle.pf_ruleset.specs.declared.ruleset.Item.TheVariants.{Filter}
+use Rattle.pf_grammar.specs.declared.place.Place.{Place}
+use Rattle.pf_statements.specs.Names.{Name}
+use Rattle.pf_statements.specs.Statements.{Statement, Rules, value_of}
 use Rattle.pf_grammar.specs.Causes.{statement_cause}
-use Rattle.pf_grammar.specs.Grammar.{RuleStatement}
+use Rattle.pf_statements.specs.Grammar.{RuleStatement}
 use Rattle.pf_grammar.specs.Reading.{Sofar, macros_of, judge, meant, answered, unless_fault}
-use Rattle.pf_grammar.specs.Shown.{shown_items, letters}
-use Rattle.pf_grammar.proofs.Fronts.{rank, no_symbol}
-use Rattle.pf_grammar.proofs.StatementsSpelled.{statement_reads}
+use Rattle.pf_ruleset.specs.Shown.{shown_items, letters}
+use Rattle.pf_statements.proofs.Fronts.{rank, no_symbol}
+use Rattle.pf_statements.proofs.StatementsSpelled.{statement_reads}
 use Rattle.pf_grammar.proofs.Told.{FitsRule, rule_told, told_rank, written, action_tokens, direction_tokens, quick_tokens, negated_tokens, interface_tokens, family_tokens, protocol_tokens, length_tokens, addresses_tokens, host_tokens, test_tokens, port_tokens, end_tokens, both_tokens, ends_tokens, type_tokens, letters_token, test_of_tokens, flags_tokens, state_tokens, option_tokens, rule_tokens}
 use Rattle.pf_grammar.proofs.Expanded.{expanded_again, no_cause}
 use Rattle.pf_grammar.proofs.Parts.{lexed, at_line}

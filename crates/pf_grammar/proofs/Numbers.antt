@@ -8,7 +8,7 @@ use Rattle.std.proofs.lemmas.Fmt.{digits_decimal, digits_value-decimal, decimal_
 use Rattle.std.proofs.lemmas.Str.Parse.{IsNumeralModel, numerals_by_fold, IsDigitsTest, FoldsDigits}
 use Rattle.pf_tokens.specs.declared.profile.Profile.{Profile}
 use Rattle.pf_tokens.specs.declared.profile.Profile.TheVariants.{One, Two}
-use Rattle.pf_grammar.specs.Words.{decimal_value, number_of, Named, named, protocols, protocol_of, services, port_of, icmp_types, icmp_type_of, common_reserved, is_among, is_reserved}
+use Rattle.pf_words.specs.Words.{decimal_value, number_of, Named, named, protocols, protocol_of, services, port_of, icmp_types, icmp_type_of, common_reserved, is_among, is_reserved}
 
 -- ---- digits
 

@@ -11,19 +11,19 @@ use Rattle.pf_addr.proofs.Made.{block_fits, addr_fits}
 use Rattle.pf_tokens.specs.declared.profile.Profile.{Profile}
 use Rattle.pf_tokens.specs.Tokens.{Token}
 use Rattle.pf_tokens.specs.Shorter.{some_is}
-use Rattle.pf_grammar.specs.declared.rule.Addresses.{Addresses}
-use Rattle.pf_grammar.specs.declared.rule.Host.{Host}
-use Rattle.pf_grammar.specs.declared.rule.PortTest.{PortTest}
-use Rattle.pf_grammar.specs.declared.rule.PortTest.TheVariants.{Equal, NotEqual, Less, LessEqual, Greater, GreaterEqual, FromTo, Between, Outside}
-use Rattle.pf_grammar.specs.declared.rule.TcpFlags.{TcpFlags}
-use Rattle.pf_grammar.specs.declared.rule.FlagTest.{FlagTest}
-use Rattle.pf_grammar.specs.declared.written.Protocol.{Protocol}
-use Rattle.pf_grammar.specs.declared.written.WrittenPort.{WrittenPort}
-use Rattle.pf_grammar.specs.declared.written.WrittenType.{WrittenType}
-use Rattle.pf_grammar.specs.Words.{decimal_value, is_decimal, number_of, Named, named, or_else, protocols, protocol_of, services, port_of, icmp_types, icmp_type_of, has, is_letter, are_letters, flags_with, flags_of, no_flags, is_within}
-use Rattle.pf_grammar.specs.Statements.{one_port, two_ports, lone_word, lone_test, colon_parts}
-use Rattle.pf_grammar.specs.Grammar.{IsProtocol, ProtocolWord, IsAddresses, WholeAddress, CutAddress, AddressRange, IsHost, AnyWord, HostIn, HostNotIn, EqualsSign, NotEqualSign, LessSign, LessEqualSign, GreaterSign, GreaterEqualSign, BetweenSign, OutsideSign, IsPort, PortAlone, PortCompared, PortBounds, IsFlags, AnyFlags, NoneOf, SomeOf, IsType, TypeWord}
-use Rattle.pf_grammar.specs.Shown.{letter, letters}
+use Rattle.pf_statements.specs.declared.parts.Addresses.{Addresses}
+use Rattle.pf_statements.specs.declared.parts.Host.{Host}
+use Rattle.pf_statements.specs.declared.parts.PortTest.{PortTest}
+use Rattle.pf_statements.specs.declared.parts.PortTest.TheVariants.{Equal, NotEqual, Less, LessEqual, Greater, GreaterEqual, FromTo, Between, Outside}
+use Rattle.pf_words.specs.declared.flags.TcpFlags.{TcpFlags}
+use Rattle.pf_statements.specs.declared.parts.FlagTest.{FlagTest}
+use Rattle.pf_statements.specs.declared.written.Protocol.{Protocol}
+use Rattle.pf_statements.specs.declared.written.WrittenPort.{WrittenPort}
+use Rattle.pf_statements.specs.declared.written.WrittenType.{WrittenType}
+use Rattle.pf_words.specs.Words.{decimal_value, is_decimal, number_of, Named, named, or_else, protocols, protocol_of, services, port_of, icmp_types, icmp_type_of, has, is_letter, are_letters, flags_with, flags_of, no_flags, is_within}
+use Rattle.pf_statements.specs.Statements.{one_port, two_ports, lone_word, lone_test, colon_parts}
+use Rattle.pf_statements.specs.Grammar.{IsProtocol, ProtocolWord, IsAddresses, WholeAddress, CutAddress, AddressRange, IsHost, AnyWord, HostIn, HostNotIn, EqualsSign, NotEqualSign, LessSign, LessEqualSign, GreaterSign, GreaterEqualSign, BetweenSign, OutsideSign, IsPort, PortAlone, PortCompared, PortBounds, IsFlags, AnyFlags, NoneOf, SomeOf, IsType, TypeWord}
+use Rattle.pf_ruleset.specs.Shown.{letter, letters}
 use Rattle.pf_grammar.proofs.Numbers.{lt_is}
 use Rattle.pf_grammar.proofs.Told.{FitsAddresses, FitsHost, FitsTest, FitsIf, FitsFlags}
 

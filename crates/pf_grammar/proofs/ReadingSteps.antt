@@ -22,11 +22,11 @@ use Rattle.pf_grammar.specs.declared.fault.Cause.{Cause}
 use Rattle.pf_grammar.specs.declared.fault.ParseFault.{ParseFault}
 use Rattle.pf_grammar.specs.declared.fault.ParseFault.TheVariants as faults
 use Rattle.pf_grammar.specs.declared.fault.Refusal.{Refusal}
-use Rattle.pf_grammar.specs.declared.rule.Policy.{Policy}
-use Rattle.pf_grammar.specs.declared.rule.Rule.{Rule}
-use Rattle.pf_grammar.specs.declared.ruleset.Item.TheVariants.{Filter}
-use Rattle.pf_grammar.specs.declared.ruleset.Place.{Place}
-use Rattle.pf_grammar.specs.Statements.{Statement, Sets, Rules, SetPolicy, SetSkip, RuleText}
+use Rattle.pf_statements.specs.declared.parts.Policy.{Policy}
+use Rattle.pf_ruleset.specs.declared.rule.Rule.{Rule}
+use Rattle.pf_ruleset.specs.declared.ruleset.Item.TheVariants.{Filter}
+use Rattle.pf_grammar.specs.declared.place.Place.{Place}
+use Rattle.pf_statements.specs.Statements.{Statement, Sets, Rules, SetPolicy, SetSkip, RuleText}
 use Rattle.pf_grammar.specs.Expansion.{expanded}
 use Rattle.pf_grammar.specs.Causes.{has_too_many, bad_ports, has_no_combination, bad_types, lowest, rule_causes, setting_causes, statement_cause}
 use Rattle.pf_grammar.specs.Reading.{Sofar, judge, macros_of, answered, taken, defined, meant, unless_fault, nothing, reading, made_if, Fails}

@@ -7,20 +7,20 @@ use Rattle.pf_tokens.specs.declared.profile.Profile.{Profile}
 use Rattle.pf_tokens.specs.Tokens.{Token}
 use Rattle.pf_tokens.specs.Lists.{Elements}
 use Rattle.pf_tokens.specs.Shorter.{some_is}
-use Rattle.pf_grammar.specs.declared.rule.Policy.{Policy}
-use Rattle.pf_grammar.specs.declared.rule.Policy.TheVariants as policy
-use Rattle.pf_grammar.specs.declared.rule.Family.{Family}
-use Rattle.pf_grammar.specs.declared.rule.Family.TheVariants.{Inet, Inet6}
-use Rattle.pf_grammar.specs.declared.rule.Interface.{Interface}
-use Rattle.pf_grammar.specs.declared.rule.FlagTest.{FlagTest}
-use Rattle.pf_grammar.specs.declared.written.WrittenAction.{WrittenAction}
-use Rattle.pf_grammar.specs.declared.written.WrittenAction.TheVariants.{Pass, Block as Blocks}
-use Rattle.pf_grammar.specs.declared.written.Protocol.{Protocol}
-use Rattle.pf_grammar.specs.declared.written.WrittenPort.{WrittenPort}
-use Rattle.pf_grammar.specs.declared.written.WrittenType.{WrittenType}
-use Rattle.pf_grammar.specs.Words.{is_interface_name, is_within}
-use Rattle.pf_grammar.specs.Statements.{Ends, any_end, Options, no_options, RuleText, has_types}
-use Rattle.pf_grammar.specs.Grammar.{IsSome, IsBehind, Missing, Behind, IsPort, IsPart, PartHosts, PartPorts, IsHosts, NoHosts, AllWord, FromPart, ToPart, FromToParts, IsTypes, TypeAlone, TypeList, IsOptions, NoOption, FlagsOption, StateOption, TypesOption, IsRule}
+use Rattle.pf_statements.specs.declared.parts.Policy.{Policy}
+use Rattle.pf_statements.specs.declared.parts.Policy.TheVariants as policy
+use Rattle.pf_statements.specs.declared.parts.Family.{Family}
+use Rattle.pf_statements.specs.declared.parts.Family.TheVariants.{Inet, Inet6}
+use Rattle.pf_statements.specs.declared.parts.Interface.{Interface}
+use Rattle.pf_statements.specs.declared.parts.FlagTest.{FlagTest}
+use Rattle.pf_statements.specs.declared.written.WrittenAction.{WrittenAction}
+use Rattle.pf_statements.specs.declared.written.WrittenAction.TheVariants.{Pass, Block as Blocks}
+use Rattle.pf_statements.specs.declared.written.Protocol.{Protocol}
+use Rattle.pf_statements.specs.declared.written.WrittenPort.{WrittenPort}
+use Rattle.pf_statements.specs.declared.written.WrittenType.{WrittenType}
+use Rattle.pf_words.specs.Words.{is_interface_name, is_within}
+use Rattle.pf_statements.specs.Statements.{Ends, any_end, Options, no_options, RuleText, has_types}
+use Rattle.pf_statements.specs.Grammar.{IsSome, IsBehind, Missing, Behind, IsPort, IsPart, PartHosts, PartPorts, IsHosts, NoHosts, AllWord, FromPart, ToPart, FromToParts, IsTypes, TypeAlone, TypeList, IsOptions, NoOption, FlagsOption, StateOption, TypesOption, IsRule}
 use Rattle.pf_grammar.specs.Expansion.{choices, host_family, type_family, with_family, occurring, resolved, keeps_state, tested_flags, Combination, nothing_chosen, number_in, test_in, type_in, rule_with, families, rules_if, rules_of, by_type, by_destination_port, by_destination, by_source_port, by_source, by_protocol, by_interface, expanded}
 use Rattle.pf_grammar.specs.Causes.{any_listed, all_listed, is_bad_port, has_ports, says_ports, bad_ports, is_bad_type, is_icmp, bad_types}
 use Rattle.pf_grammar.proofs.Made.{interface_fits, some_fits, list_fits}

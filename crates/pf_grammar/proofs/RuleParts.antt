@@ -15,26 +15,26 @@ use Rattle.pf_addr.proofs.Plain.{IsAddressByte, address_plain, address_some}
 use Rattle.pf_tokens.specs.declared.profile.Profile.{Profile}
 use Rattle.pf_tokens.specs.declared.symbol.Symbol.TheVariants as mark
 use Rattle.pf_tokens.specs.Tokens.{Token, Mark, is_word_byte}
-use Rattle.pf_grammar.specs.declared.rule.Action.{Action}
-use Rattle.pf_grammar.specs.declared.rule.Action.TheVariants as act
-use Rattle.pf_grammar.specs.declared.rule.Direction.{Direction}
-use Rattle.pf_grammar.specs.declared.rule.Direction.TheVariants.{In, Out}
-use Rattle.pf_grammar.specs.declared.rule.Family.{Family}
-use Rattle.pf_grammar.specs.declared.rule.Family.TheVariants.{Inet, Inet6}
-use Rattle.pf_grammar.specs.declared.rule.Interface.{Interface}
-use Rattle.pf_grammar.specs.declared.rule.Addresses.{Addresses}
-use Rattle.pf_grammar.specs.declared.rule.Addresses.TheVariants.{Prefix, Range}
-use Rattle.pf_grammar.specs.declared.rule.Host.{Host}
-use Rattle.pf_grammar.specs.declared.rule.Host.TheVariants as host
-use Rattle.pf_grammar.specs.declared.rule.PortTest.{PortTest}
-use Rattle.pf_grammar.specs.declared.rule.PortTest.TheVariants.{Equal, NotEqual, Less, LessEqual, Greater, GreaterEqual, FromTo, Between, Outside}
-use Rattle.pf_grammar.specs.declared.rule.TcpFlags.{TcpFlags}
-use Rattle.pf_grammar.specs.declared.rule.FlagTest.{FlagTest}
-use Rattle.pf_grammar.specs.declared.rule.FlagTest.TheVariants as flags
-use Rattle.pf_grammar.specs.declared.rule.Rule.{Rule}
-use Rattle.pf_grammar.specs.Words.{is_interface_name, is_interface_byte, begins_with_letter}
-use Rattle.pf_grammar.specs.Grammar.{key, sign}
-use Rattle.pf_grammar.specs.Shown.{action_parts, direction_parts, quick_parts, negated_part, negated_parts, interface_parts, family_parts, protocol_parts, addresses_parts, host_parts, test_parts, port_parts, end_parts, ends_parts, type_parts, letter, letters, flags_text, flags_parts, state_parts, condition_parts, rule_parts, line as shown_line}
+use Rattle.pf_ruleset.specs.declared.rule.Action.{Action}
+use Rattle.pf_ruleset.specs.declared.rule.Action.TheVariants as act
+use Rattle.pf_statements.specs.declared.parts.Direction.{Direction}
+use Rattle.pf_statements.specs.declared.parts.Direction.TheVariants.{In, Out}
+use Rattle.pf_statements.specs.declared.parts.Family.{Family}
+use Rattle.pf_statements.specs.declared.parts.Family.TheVariants.{Inet, Inet6}
+use Rattle.pf_statements.specs.declared.parts.Interface.{Interface}
+use Rattle.pf_statements.specs.declared.parts.Addresses.{Addresses}
+use Rattle.pf_statements.specs.declared.parts.Addresses.TheVariants.{Prefix, Range}
+use Rattle.pf_statements.specs.declared.parts.Host.{Host}
+use Rattle.pf_statements.specs.declared.parts.Host.TheVariants as host
+use Rattle.pf_statements.specs.declared.parts.PortTest.{PortTest}
+use Rattle.pf_statements.specs.declared.parts.PortTest.TheVariants.{Equal, NotEqual, Less, LessEqual, Greater, GreaterEqual, FromTo, Between, Outside}
+use Rattle.pf_words.specs.declared.flags.TcpFlags.{TcpFlags}
+use Rattle.pf_statements.specs.declared.parts.FlagTest.{FlagTest}
+use Rattle.pf_statements.specs.declared.parts.FlagTest.TheVariants as flags
+use Rattle.pf_ruleset.specs.declared.rule.Rule.{Rule}
+use Rattle.pf_words.specs.Words.{is_interface_name, is_interface_byte, begins_with_letter}
+use Rattle.pf_statements.specs.Grammar.{key, sign}
+use Rattle.pf_ruleset.specs.Shown.{action_parts, direction_parts, quick_parts, negated_part, negated_parts, interface_parts, family_parts, protocol_parts, addresses_parts, host_parts, test_parts, port_parts, end_parts, ends_parts, type_parts, letter, letters, flags_text, flags_parts, state_parts, condition_parts, rule_parts, line as shown_line}
 use Rattle.pf_grammar.proofs.Numbers.{IsDigit, Digits, decimal_digits, decimal_there}
 use Rattle.pf_grammar.proofs.Told.{FitsAddresses, FitsHost, FitsTest, FitsIf, FitsFlags, FitsType, FitsRule, action_tokens, direction_tokens, quick_tokens, negated_tokens, interface_tokens, family_tokens, protocol_tokens, length_tokens, addresses_tokens, host_tokens, test_tokens, port_tokens, end_tokens, both_tokens, ends_tokens, type_tokens, letters_token, test_of_tokens, flags_tokens, state_tokens, option_tokens, rule_tokens}
 use Rattle.pf_grammar.proofs.Parts.{lexed, IsPart, word_part, not_part, slash_part, slash_first, equals_part, less_part, greater_part, not_equal_part, less_equal_part, greater_equal_part, between_part, outside_part, AreParts, NoPart, OnePart, parts_append, with_newline, line_lexes}

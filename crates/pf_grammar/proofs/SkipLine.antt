@@ -11,16 +11,16 @@ use Rattle.pf_tokens.specs.Faults.{reading_fault}
 use Rattle.pf_tokens.specs.Lists.{Elements}
 use Rattle.pf_tokens.specs.Reading.{◌>>=◌, reading_from}
 use Rattle.pf_grammar.specs.declared.fault.Refusal.{Refusal}
-use Rattle.pf_grammar.specs.declared.rule.Policy.{Policy}
-use Rattle.pf_grammar.specs.declared.ruleset.Place.TheVariants.{Main}
-use Rattle.pf_grammar.specs.Names.{Name}
-use Rattle.pf_grammar.specs.Words.{is_interface_name}
-use Rattle.pf_grammar.specs.Statements.{SetSkip, Statement, Sets, value_of}
+use Rattle.pf_statements.specs.declared.parts.Policy.{Policy}
+use Rattle.pf_grammar.specs.declared.place.Place.TheVariants.{Main}
+use Rattle.pf_statements.specs.Names.{Name}
+use Rattle.pf_words.specs.Words.{is_interface_name}
+use Rattle.pf_statements.specs.Statements.{SetSkip, Statement, Sets, value_of}
 use Rattle.pf_grammar.specs.Causes.{statement_cause}
-use Rattle.pf_grammar.specs.Grammar.{IsElements, LastOne, OneMore, NoComma, Braces, Listed, IsInterfaceName, NameWord, SkipSetting, SetStatement}
+use Rattle.pf_statements.specs.Grammar.{IsElements, LastOne, OneMore, NoComma, Braces, Listed, IsInterfaceName, NameWord, SkipSetting, SetStatement}
 use Rattle.pf_grammar.specs.Reading.{Sofar, macros_of, judge, meant, answered}
-use Rattle.pf_grammar.specs.Shown.{skip_line}
-use Rattle.pf_grammar.proofs.StatementsSpelled.{statement_reads}
+use Rattle.pf_ruleset.specs.Shown.{skip_line}
+use Rattle.pf_statements.proofs.StatementsSpelled.{statement_reads}
 use Rattle.pf_grammar.proofs.Parts.{lexed, at_line, with_newline, AreParts, OnePart, word_part, open_part, close_part, line_lexes}
 use Rattle.pf_grammar.proofs.RuleParts.{name_word, some_word, one_part, behind_key}
 use Rattle.pf_grammar.proofs.Lines.{AreInLine, not_full, not_definition, line_judged, line_read, so_far}

@@ -12,37 +12,37 @@ use Rattle.pf_tokens.specs.declared.profile.Profile.{Profile}
 use Rattle.pf_tokens.specs.declared.symbol.Symbol.TheVariants as mark
 use Rattle.pf_tokens.specs.Tokens.{Token}
 use Rattle.pf_tokens.specs.Lists.{Elements}
-use Rattle.pf_grammar.specs.declared.rule.Action.{Action}
-use Rattle.pf_grammar.specs.declared.rule.Action.TheVariants as act
-use Rattle.pf_grammar.specs.declared.rule.Policy.TheVariants as policy
-use Rattle.pf_grammar.specs.declared.rule.Direction.{Direction}
-use Rattle.pf_grammar.specs.declared.rule.Direction.TheVariants.{In, Out}
-use Rattle.pf_grammar.specs.declared.rule.Family.{Family}
-use Rattle.pf_grammar.specs.declared.rule.Family.TheVariants.{Inet, Inet6}
-use Rattle.pf_grammar.specs.declared.rule.Interface.{Interface}
-use Rattle.pf_grammar.specs.declared.rule.Addresses.{Addresses}
-use Rattle.pf_grammar.specs.declared.rule.Addresses.TheVariants.{Prefix, Range}
-use Rattle.pf_grammar.specs.declared.rule.Host.{Host}
-use Rattle.pf_grammar.specs.declared.rule.Host.TheVariants as host
-use Rattle.pf_grammar.specs.declared.rule.PortTest.{PortTest}
-use Rattle.pf_grammar.specs.declared.rule.PortTest.TheVariants.{Equal, NotEqual, Less, LessEqual, Greater, GreaterEqual, FromTo, Between, Outside}
-use Rattle.pf_grammar.specs.declared.rule.TcpFlags.{TcpFlags}
-use Rattle.pf_grammar.specs.declared.rule.FlagTest.{FlagTest}
-use Rattle.pf_grammar.specs.declared.rule.FlagTest.TheVariants as flags
-use Rattle.pf_grammar.specs.declared.rule.Rule.{Rule}
-use Rattle.pf_grammar.specs.declared.written.WrittenAction.{WrittenAction}
-use Rattle.pf_grammar.specs.declared.written.WrittenAction.TheVariants.{Pass, Block as Blocks}
-use Rattle.pf_grammar.specs.declared.written.Protocol.{Protocol}
-use Rattle.pf_grammar.specs.declared.written.WrittenPort.{WrittenPort}
-use Rattle.pf_grammar.specs.declared.written.WrittenType.{WrittenType}
-use Rattle.pf_grammar.specs.Words.{is_interface_name, is_within, no_flags, flags_with, flags_of, is_reserved, port_of}
-use Rattle.pf_grammar.specs.Statements.{Ends, Options, no_options, RuleText, has_types, may_keep, one_port, two_ports, lone_test, colon_parts}
-use Rattle.pf_grammar.specs.Grammar.{key, sign, IsSome, One, IsBehind, Missing, Behind, DropWord, ReturnWord, IsAction, PassWord, BlockSaid, IsDirection, NoDirection, InWord, OutWord, IsSaid, Unsaid, Said, NameWord, IsInterface, OnInterface, NotOnInterface, IsFamily, NoFamily, InetWord, Inet6Word, IsProtocol, ProtocolWord, IsAddresses, WholeAddress, CutAddress, AddressRange, IsHost, AnyWord, HostIn, HostNotIn, EqualsSign, NotEqualSign, LessSign, LessEqualSign, GreaterSign, GreaterEqualSign, BetweenSign, OutsideSign, IsPort, PortAlone, PortCompared, PortBounds, IsPart, PartHosts, IsHosts, AllWord, FromToParts, IsFlags, AnyFlags, NoneOf, SomeOf, NoWord, KeepWord, IsTypes, TypeAlone, IsOptions, NoOption, FlagsOption, StateOption, TypesOption, IsRule}
+use Rattle.pf_ruleset.specs.declared.rule.Action.{Action}
+use Rattle.pf_ruleset.specs.declared.rule.Action.TheVariants as act
+use Rattle.pf_statements.specs.declared.parts.Policy.TheVariants as policy
+use Rattle.pf_statements.specs.declared.parts.Direction.{Direction}
+use Rattle.pf_statements.specs.declared.parts.Direction.TheVariants.{In, Out}
+use Rattle.pf_statements.specs.declared.parts.Family.{Family}
+use Rattle.pf_statements.specs.declared.parts.Family.TheVariants.{Inet, Inet6}
+use Rattle.pf_statements.specs.declared.parts.Interface.{Interface}
+use Rattle.pf_statements.specs.declared.parts.Addresses.{Addresses}
+use Rattle.pf_statements.specs.declared.parts.Addresses.TheVariants.{Prefix, Range}
+use Rattle.pf_statements.specs.declared.parts.Host.{Host}
+use Rattle.pf_statements.specs.declared.parts.Host.TheVariants as host
+use Rattle.pf_statements.specs.declared.parts.PortTest.{PortTest}
+use Rattle.pf_statements.specs.declared.parts.PortTest.TheVariants.{Equal, NotEqual, Less, LessEqual, Greater, GreaterEqual, FromTo, Between, Outside}
+use Rattle.pf_words.specs.declared.flags.TcpFlags.{TcpFlags}
+use Rattle.pf_statements.specs.declared.parts.FlagTest.{FlagTest}
+use Rattle.pf_statements.specs.declared.parts.FlagTest.TheVariants as flags
+use Rattle.pf_ruleset.specs.declared.rule.Rule.{Rule}
+use Rattle.pf_statements.specs.declared.written.WrittenAction.{WrittenAction}
+use Rattle.pf_statements.specs.declared.written.WrittenAction.TheVariants.{Pass, Block as Blocks}
+use Rattle.pf_statements.specs.declared.written.Protocol.{Protocol}
+use Rattle.pf_statements.specs.declared.written.WrittenPort.{WrittenPort}
+use Rattle.pf_statements.specs.declared.written.WrittenType.{WrittenType}
+use Rattle.pf_words.specs.Words.{is_interface_name, is_within, no_flags, flags_with, flags_of, is_reserved, port_of}
+use Rattle.pf_statements.specs.Statements.{Ends, Options, no_options, RuleText, has_types, may_keep, one_port, two_ports, lone_test, colon_parts}
+use Rattle.pf_statements.specs.Grammar.{key, sign, IsSome, One, IsBehind, Missing, Behind, DropWord, ReturnWord, IsAction, PassWord, BlockSaid, IsDirection, NoDirection, InWord, OutWord, IsSaid, Unsaid, Said, NameWord, IsInterface, OnInterface, NotOnInterface, IsFamily, NoFamily, InetWord, Inet6Word, IsProtocol, ProtocolWord, IsAddresses, WholeAddress, CutAddress, AddressRange, IsHost, AnyWord, HostIn, HostNotIn, EqualsSign, NotEqualSign, LessSign, LessEqualSign, GreaterSign, GreaterEqualSign, BetweenSign, OutsideSign, IsPort, PortAlone, PortCompared, PortBounds, IsPart, PartHosts, IsHosts, AllWord, FromToParts, IsFlags, AnyFlags, NoneOf, SomeOf, NoWord, KeepWord, IsTypes, TypeAlone, IsOptions, NoOption, FlagsOption, StateOption, TypesOption, IsRule}
 use Rattle.pf_grammar.specs.Expansion.{host_family, type_family, occurring}
-use Rattle.pf_grammar.specs.Shown.{letters}
+use Rattle.pf_ruleset.specs.Shown.{letters}
 use Rattle.pf_grammar.proofs.Numbers.{lt_is, IsDigit, Digits, BeginsDigit, decimal_digits, decimal_there, protocol_again, port_again, type_again, digit_free, decimal_begins}
-use Rattle.pf_grammar.proofs.Fronts.{rank}
-use Rattle.pf_grammar.proofs.StatementsSpelled.{rule_rank}
+use Rattle.pf_statements.proofs.Fronts.{rank}
+use Rattle.pf_statements.proofs.StatementsSpelled.{rule_rank}
 use Rattle.pf_grammar.proofs.FlagLetters.{flags_again, flags_with_again}
 
 -- ---- what a rule of a ruleset is

@@ -6,15 +6,15 @@ use Rattle.pf_tokens.specs.declared.fault.ReadingFault.TheVariants as reading
 use Rattle.pf_tokens.specs.Lists.{Elements}
 use Rattle.pf_grammar.specs.declared.fault.Cause.{Cause}
 use Rattle.pf_grammar.specs.declared.fault.Cause.TheVariants.{Lexical, Macro, Syntax, Ports, NoCombination, SetHere, TooMany, IcmpType}
-use Rattle.pf_grammar.specs.declared.rule.Policy.{Policy}
-use Rattle.pf_grammar.specs.declared.rule.Rule.{Rule}
-use Rattle.pf_grammar.specs.declared.ruleset.Item.{Item}
-use Rattle.pf_grammar.specs.declared.ruleset.Place.{Place}
-use Rattle.pf_grammar.specs.declared.ruleset.Place.TheVariants.{Main, Anchor}
-use Rattle.pf_grammar.specs.declared.written.Protocol.{Protocol}
-use Rattle.pf_grammar.specs.declared.written.WrittenPort.{WrittenPort}
-use Rattle.pf_grammar.specs.declared.written.WrittenType.{WrittenType}
-use Rattle.pf_grammar.specs.Statements.{Statement, Sets, Rules, Setting, SetPolicy, SetSkip, RuleText, Ends}
+use Rattle.pf_statements.specs.declared.parts.Policy.{Policy}
+use Rattle.pf_ruleset.specs.declared.rule.Rule.{Rule}
+use Rattle.pf_ruleset.specs.declared.ruleset.Item.{Item}
+use Rattle.pf_grammar.specs.declared.place.Place.{Place}
+use Rattle.pf_grammar.specs.declared.place.Place.TheVariants.{Main, Anchor}
+use Rattle.pf_statements.specs.declared.written.Protocol.{Protocol}
+use Rattle.pf_statements.specs.declared.written.WrittenPort.{WrittenPort}
+use Rattle.pf_statements.specs.declared.written.WrittenType.{WrittenType}
+use Rattle.pf_statements.specs.Statements.{Statement, Sets, Rules, Setting, SetPolicy, SetSkip, RuleText, Ends}
 use Rattle.pf_grammar.specs.Expansion.{expanded, combinations}
 
 abbrev pub cause_code : Cause → ℕ

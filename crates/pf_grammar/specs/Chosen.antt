@@ -1,10 +1,10 @@
 -- The combination that the code's choices stand for.
 use Rattle.std.specs.Prelude.{List, [], ◌∷◌, Option}
 use Rattle.std.specs.Option.{option_copied}
-use Rattle.pf_grammar.specs.declared.rule.Family.{Family}
+use Rattle.pf_statements.specs.declared.parts.Family.{Family}
 use Rattle.pf_grammar.specs.declared.expand.Chosen.{Chosen}
 use Rattle.pf_grammar.specs.Expansion.{Combination, host_family}
-use Rattle.pf_grammar.specs.Statements.{RuleText}
+use Rattle.pf_statements.specs.Statements.{RuleText}
 
 abbrev pub combination_of : Chosen → Combination
 combination_of c = record {

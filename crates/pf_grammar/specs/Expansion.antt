@@ -5,28 +5,28 @@ use Rattle.std.specs.List.{flat_map}
 use Rattle.pf_addr.specs.declared.addr.Addr.{Addr}
 use Rattle.pf_addr.specs.declared.addr.Addr.TheVariants.{V4, V6}
 use Rattle.pf_tokens.specs.Lists.{Elements}
-use Rattle.pf_grammar.specs.declared.rule.Action.{Action}
-use Rattle.pf_grammar.specs.declared.rule.Action.TheVariants as act
-use Rattle.pf_grammar.specs.declared.rule.Policy.{Policy}
-use Rattle.pf_grammar.specs.declared.rule.Policy.TheVariants as policy
-use Rattle.pf_grammar.specs.declared.rule.Family.{Family}
-use Rattle.pf_grammar.specs.declared.rule.Family.TheVariants.{Inet, Inet6}
-use Rattle.pf_grammar.specs.declared.rule.Interface.{Interface}
-use Rattle.pf_grammar.specs.declared.rule.Addresses.{Addresses}
-use Rattle.pf_grammar.specs.declared.rule.Addresses.TheVariants.{Prefix, Range}
-use Rattle.pf_grammar.specs.declared.rule.Host.{Host}
-use Rattle.pf_grammar.specs.declared.rule.Host.TheVariants as host
-use Rattle.pf_grammar.specs.declared.rule.PortTest.{PortTest}
-use Rattle.pf_grammar.specs.declared.rule.FlagTest.{FlagTest}
-use Rattle.pf_grammar.specs.declared.rule.FlagTest.TheVariants as flags
-use Rattle.pf_grammar.specs.declared.rule.Rule.{Rule}
-use Rattle.pf_grammar.specs.declared.written.WrittenAction.{WrittenAction}
-use Rattle.pf_grammar.specs.declared.written.WrittenAction.TheVariants.{Pass, Block as Blocks}
-use Rattle.pf_grammar.specs.declared.written.Protocol.{Protocol}
-use Rattle.pf_grammar.specs.declared.written.WrittenPort.{WrittenPort}
-use Rattle.pf_grammar.specs.declared.written.WrittenType.{WrittenType}
-use Rattle.pf_grammar.specs.Words.{no_flags}
-use Rattle.pf_grammar.specs.Statements.{RuleText, Ends, Options}
+use Rattle.pf_ruleset.specs.declared.rule.Action.{Action}
+use Rattle.pf_ruleset.specs.declared.rule.Action.TheVariants as act
+use Rattle.pf_statements.specs.declared.parts.Policy.{Policy}
+use Rattle.pf_statements.specs.declared.parts.Policy.TheVariants as policy
+use Rattle.pf_statements.specs.declared.parts.Family.{Family}
+use Rattle.pf_statements.specs.declared.parts.Family.TheVariants.{Inet, Inet6}
+use Rattle.pf_statements.specs.declared.parts.Interface.{Interface}
+use Rattle.pf_statements.specs.declared.parts.Addresses.{Addresses}
+use Rattle.pf_statements.specs.declared.parts.Addresses.TheVariants.{Prefix, Range}
+use Rattle.pf_statements.specs.declared.parts.Host.{Host}
+use Rattle.pf_statements.specs.declared.parts.Host.TheVariants as host
+use Rattle.pf_statements.specs.declared.parts.PortTest.{PortTest}
+use Rattle.pf_statements.specs.declared.parts.FlagTest.{FlagTest}
+use Rattle.pf_statements.specs.declared.parts.FlagTest.TheVariants as flags
+use Rattle.pf_ruleset.specs.declared.rule.Rule.{Rule}
+use Rattle.pf_statements.specs.declared.written.WrittenAction.{WrittenAction}
+use Rattle.pf_statements.specs.declared.written.WrittenAction.TheVariants.{Pass, Block as Blocks}
+use Rattle.pf_statements.specs.declared.written.Protocol.{Protocol}
+use Rattle.pf_statements.specs.declared.written.WrittenPort.{WrittenPort}
+use Rattle.pf_statements.specs.declared.written.WrittenType.{WrittenType}
+use Rattle.pf_words.specs.Words.{no_flags}
+use Rattle.pf_statements.specs.Statements.{RuleText, Ends, Options}
 
 -- ---- what the lists come to
 

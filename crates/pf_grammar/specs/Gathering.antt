@@ -7,8 +7,8 @@ use Rattle.pf_grammar.specs.declared.fault.Refusal.{Refusal}
 use Rattle.pf_grammar.specs.declared.gathered.Change.{Change}
 use Rattle.pf_grammar.specs.declared.gathered.Change.TheVariants as changes
 use Rattle.pf_grammar.specs.declared.gathered.Gathered.{Gathered}
-use Rattle.pf_grammar.specs.declared.rule.Rule.{Rule}
-use Rattle.pf_grammar.specs.declared.ruleset.Item.TheVariants.{Filter}
+use Rattle.pf_ruleset.specs.declared.rule.Rule.{Rule}
+use Rattle.pf_ruleset.specs.declared.ruleset.Item.TheVariants.{Filter}
 use Rattle.pf_grammar.specs.Reading.{Sofar}
 
 abbrev pub sofar_of : Gathered → Sofar

@@ -1,14 +1,5 @@
-pub mod Names
-pub mod Words
-pub mod Statements
 pub mod Expansion
 pub mod Causes
 pub mod Reading
-pub mod Shown
-pub mod Seen
-pub mod Shorter
 pub mod Chosen
 pub mod Gathering
-pub mod Spaced
-pub mod Grammar
-pub mod Profiles

@@ -4,14 +4,15 @@ ghost use Rattle.std.specs.Prelude.{◌≡◌, ◌++◌, OnOk, IfOk, is_none};
 ghost use Rattle.std.specs.Option.{option_copied};
 ghost use Rattle.pf_grammar.specs.Chosen.{combination_of, host_families};
 ghost use Rattle.pf_grammar.specs.Expansion.{addr_family, addresses_family, host_family, type_family, with_family, occurring, families, resolved, keeps_state, tested_flags, number_in, test_in, type_in, rule_with, rules_of, by_type, by_destination_port, by_destination, by_source_port, by_source, by_protocol, by_interface, expanded};
-ghost use Rattle.pf_grammar.specs.Seen.{text_of};
+ghost use Rattle.pf_statements.specs.Seen.{text_of};
 
-use crate::rule::{
-    Action, Addresses, Conditions, Family, FlagTest, Host, Interface, Policy, PortTest, Rule,
-    TcpFlags,
-};
-use crate::written::{Protocol, WrittenAction, WrittenPort, WrittenRule, WrittenType};
 use pf_addr::Addr;
+use pf_ruleset::{Action, Conditions, Rule};
+use pf_statements::{
+    Addresses, Family, FlagTest, Host, Interface, Policy, PortTest, Protocol, WrittenAction,
+    WrittenPort, WrittenRule, WrittenType,
+};
+use pf_words::TcpFlags;
 use std::alloc::{AllocError, Global};
 
 /// The flags of the packet that begins a connection: of SYN and ACK just SYN.

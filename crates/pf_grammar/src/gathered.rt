@@ -1,14 +1,13 @@
 //! What the statements of a text so far come to, and what one more changes.
 
 ghost use Rattle.std.specs.Prelude.{◌≡◌, ◌++◌, map, OnOk};
-ghost use Rattle.pf_grammar.specs.declared.rule.Rule.{Rule as IRule};
-ghost use Rattle.pf_grammar.specs.declared.ruleset.Item.TheVariants.{Filter};
+ghost use Rattle.pf_ruleset.specs.declared.rule.Rule.{Rule as IRule};
+ghost use Rattle.pf_ruleset.specs.declared.ruleset.Item.TheVariants.{Filter};
 ghost use Rattle.pf_grammar.specs.Reading.{nothing};
 ghost use Rattle.pf_grammar.specs.Gathering.{sofar_of, with_change};
 
-use crate::name::Name;
-use crate::rule::{Policy, Rule};
-use crate::ruleset::Item;
+use pf_ruleset::{Item, Rule};
+use pf_statements::{Name, Policy};
 use pf_tokens::Macro;
 use std::alloc::{AllocError, Global};
 

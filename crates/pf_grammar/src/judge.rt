@@ -4,14 +4,14 @@ ghost use Rattle.std.specs.Prelude.{◌≡◌, ◌≤◌, ◌+◌, ◌*◌, ◌-
 ghost use Rattle.std.specs.List.{list_any, list_all};
 ghost use Rattle.pf_grammar.specs.Causes.{is_bad_port, has_ports, is_bad_type, is_icmp, any_listed, all_listed, is_deep, is_deep_list, says_ports, bad_ports, is_too_wide, has_deep_list, bad_types, lowest, rule_causes, setting_causes};
 ghost use Rattle.pf_grammar.specs.Expansion.{count_of, combinations, expanded};
-ghost use Rattle.pf_grammar.specs.Seen.{list_of, text_of, setting_of};
+ghost use Rattle.pf_statements.specs.Seen.{list_of, text_of, setting_of};
 ghost use Rattle.pf_tokens.specs.Lists.{elements_of};
 
 use crate::expand::expanded;
 use crate::fault::Cause;
-use crate::rule::{Policy, Rule};
-use crate::ruleset::Place;
-use crate::written::{Protocol, Setting, WrittenPort, WrittenRule, WrittenType};
+use crate::place::Place;
+use pf_ruleset::Rule;
+use pf_statements::{Policy, Protocol, Setting, WrittenPort, WrittenRule, WrittenType};
 use pf_tokens::Listed;
 use std::alloc::{AllocError, Global};
 

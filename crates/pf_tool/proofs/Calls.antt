@@ -11,7 +11,7 @@ use Rattle.clap.specs.declared.error.Error.{Error}
 use Rattle.clap.specs.declared.error.kind.ErrorKind.TheVariants.{OutOfMemory}
 use Rattle.pf_tool.specs.declared.status.Status.{Status}
 use Rattle.pf_tool.specs.declared.status.Status.TheVariants as status
-use Rattle.pf_grammar.specs.declared.ruleset.Place.{Place}
+use Rattle.pf_grammar.specs.declared.place.Place.{Place}
 use Rattle.pf_tool.specs.Tool.{pfx_app, Call, Misused, called, unless_faulty, call_of, Ran}
 
 -- a pair of two values of one thing

@@ -1,6 +1,6 @@
 -- A packet text that is no packet ends the lines.
 use Rattle.std.proofs.Common.{◌≡◌, ℕ, ◌+◌, ◌<◌, List, ◌∷◌, None, length, map, drop, get_or, drop-cons, add-one, refl, Bor}
-use Rattle.pf_grammar.specs.Reading.{RulesetValue}
+use Rattle.pf_ruleset.specs.Rulesets.{RulesetValue}
 use Rattle.pf_tool.specs.Tool.{behind, refused_packet, verdict_for, verdict_lines}
 
 pub line_refused : (rules : RulesetValue) (packets : List (Bor (List ℕ))) (i : ℕ) (d : Bor (List ℕ)) (text : List ℕ) → i < length packets

@@ -7,12 +7,13 @@ use Rattle.clap.specs.Kinds.{Kinds}
 use Rattle.clap.specs.declared.builder.action.ArgAction.TheVariants.{Append, SetTrue}
 use Rattle.clap.specs.Lexer.{usize_max}
 use Rattle.pf_grammar.specs.declared.fault.Refusal.{Refusal}
-use Rattle.pf_grammar.specs.declared.ruleset.Place.{Place}
-use Rattle.pf_grammar.specs.declared.ruleset.Place.TheVariants.{Main, Anchor}
-use Rattle.pf_grammar.specs.Profiles.{Two}
+use Rattle.pf_grammar.specs.declared.place.Place.{Place}
+use Rattle.pf_grammar.specs.declared.place.Place.TheVariants.{Main, Anchor}
+use Rattle.pf_words.specs.Profiles.{Two}
 use Rattle.pf_grammar.specs.Causes.{cause_code}
-use Rattle.pf_grammar.specs.Reading.{RulesetValue, reading}
-use Rattle.pf_grammar.specs.Shown.{shown}
+use Rattle.pf_ruleset.specs.Rulesets.{RulesetValue}
+use Rattle.pf_grammar.specs.Reading.{reading}
+use Rattle.pf_ruleset.specs.Shown.{shown}
 use Rattle.pf_eval.specs.Packets.{PacketValue}
 use Rattle.pf_eval.specs.PacketTexts.{packet_of}
 use Rattle.pf_eval.specs.Verdicts.{judgement}

@@ -1,7 +1,7 @@
 //! The word `test`: the verdicts of a text's rules for packets.
 
 ghost use Rattle.std.specs.Prelude.{◌≡◌, ◌++◌, IfOk, OnOk, map, option_map, string_bytes};
-ghost use Rattle.pf_grammar.specs.Reading.{ruleset_of};
+ghost use Rattle.pf_ruleset.specs.Rulesets.{ruleset_of};
 ghost use Rattle.pf_tool.specs.Tool.{line, refusal_line, verdict_for, verdict_lines, test_output};
 ghost use Rattle.pf_tool.specs.Output.{written};
 

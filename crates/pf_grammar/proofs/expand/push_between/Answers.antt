@@ -1,6 +1,6 @@
 use Rattle.std.proofs.Common.{append-nil, sym, ◌∙◌}
 use Rattle.pf_grammar.specs.Chosen.{combination_of}
-use Rattle.pf_grammar.specs.Seen.{text_of}
+use Rattle.pf_statements.specs.Seen.{text_of}
 use Rattle.pf_grammar.proofs.Families.{between_two_families}
 use Rattle.pf_grammar.proofs.expand.push_between.Goals as goal
 

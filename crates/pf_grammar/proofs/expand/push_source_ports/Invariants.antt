@@ -2,7 +2,7 @@ use Rattle.std.proofs.Common.{◌≡◌, ◌++◌, drop, map, Some}
 use Rattle.std.specs.List.{flat_map}
 use Rattle.pf_grammar.specs.Chosen.{combination_of}
 use Rattle.pf_grammar.specs.Expansion.{by_destination, by_source_port}
-use Rattle.pf_grammar.specs.Seen.{text_of}
+use Rattle.pf_statements.specs.Seen.{text_of}
 use Rattle.pf_grammar.proofs.expand.push_source_ports.Given as goal
 
 -- the rules of what is left come behind those so far

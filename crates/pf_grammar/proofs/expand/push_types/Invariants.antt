@@ -2,7 +2,7 @@ use Rattle.std.proofs.Common.{◌≡◌, ◌++◌, drop, map, Some}
 use Rattle.std.specs.List.{flat_map}
 use Rattle.pf_grammar.specs.Chosen.{combination_of}
 use Rattle.pf_grammar.specs.Expansion.{rules_of, by_type}
-use Rattle.pf_grammar.specs.Seen.{text_of}
+use Rattle.pf_statements.specs.Seen.{text_of}
 use Rattle.pf_grammar.proofs.expand.push_types.Given as goal
 
 -- the rules of what is left come behind those so far

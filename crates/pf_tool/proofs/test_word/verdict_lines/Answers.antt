@@ -1,6 +1,6 @@
 use Rattle.std.proofs.Common.{◌∙◌, sym, ap, string_bytes, arith}
 use Rattle.std.specs.Prelude.{option_map}
-use Rattle.pf_grammar.specs.Reading.{ruleset_of}
+use Rattle.pf_ruleset.specs.Rulesets.{ruleset_of}
 use Rattle.pf_tool.proofs.Lines.{line_refused}
 use Rattle.pf_tool.proofs.test_word.verdict_lines.Goals as goal
 

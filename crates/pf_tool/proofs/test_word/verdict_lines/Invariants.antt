@@ -1,5 +1,5 @@
 use Rattle.std.proofs.Common.{◌≡◌, drop, map, string_bytes}
-use Rattle.pf_grammar.specs.Reading.{ruleset_of}
+use Rattle.pf_ruleset.specs.Rulesets.{ruleset_of}
 use Rattle.pf_tool.specs.Tool.{behind, verdict_lines}
 use Rattle.pf_tool.proofs.test_word.verdict_lines.Given as goal
 

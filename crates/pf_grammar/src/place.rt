@@ -1,0 +1,10 @@
+//! Where a text is loaded.
+
+/// Where a text is loaded.
+#[derive(Clone, Copy, Debug, PartialEq, Eq)]
+pub enum Place {
+    /// The main ruleset.
+    Main,
+    /// An anchor, whose text has no `set`.
+    Anchor,
+}

@@ -1,0 +1,3 @@
+pub mod Rulesets
+pub mod Shown
+pub mod Spaced

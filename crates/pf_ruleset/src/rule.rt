@@ -1,0 +1,41 @@
+//! A filter rule, and the conditions under which it matches.
+
+use pf_statements::{Direction, Family, FlagTest, Host, Interface, PortTest};
+
+/// What is done with a packet (pf.conf(5), PACKET FILTERING).
+#[derive(Clone, Copy, Debug, PartialEq, Eq)]
+pub enum Action {
+    /// It passes.
+    Pass,
+    /// It is dropped silently.
+    Drop,
+    /// It is dropped, and the sender is told.
+    Return,
+}
+
+/// What a packet must be for a rule to match. Where nothing is said every packet will do.
+#[derive(Debug, Drop)]
+pub struct Conditions {
+    pub direction: Option<Direction>,
+    pub interface: Option<Interface>,
+    pub family: Option<Family>,
+    /// The number of the protocol.
+    pub protocol: Option<u8>,
+    pub source: Host,
+    pub source_port: Option<PortTest>,
+    pub destination: Host,
+    pub destination_port: Option<PortTest>,
+    pub flags: FlagTest,
+    pub icmp_type: Option<u8>,
+}
+
+/// A filter rule.
+#[derive(Debug, Drop)]
+pub struct Rule {
+    pub action: Action,
+    /// Whether the evaluation ends where the rule matches.
+    pub quick: bool,
+    pub conditions: Conditions,
+    /// Whether a state would be kept of what the rule passes.
+    pub keeps_state: bool,
+}

@@ -1,0 +1,173 @@
+//! Statements that define no macro.
+
+ghost use Rattle.std.specs.Prelude.{◌≡◌};
+ghost use Rattle.pf_tokens.specs.Parsing.{left, later, Reads};
+ghost use Rattle.pf_statements.specs.Statements.{policy_at, action_at, direction_at, may_keep, rule_of, skip_set, setting_of, value_of};
+ghost use Rattle.pf_statements.specs.Seen.{text_of, statement_of, Spells};
+ghost use Rattle.pf_statements.specs.Seen as seen;
+
+use crate::behind::read_behind;
+use crate::ends::read_ends;
+use crate::name::Name;
+use crate::options::read_options;
+use crate::parts::{Direction, Interface, Policy};
+use crate::protocols::read_family;
+use crate::written::{Protocol, Setting, Statement, WrittenAction, WrittenRule};
+use pf_tokens::{Parser, Profile, Stop, some};
+use std::alloc::Global;
+
+/// What a block does, if it is said.
+#[tactic(auto, unfolding(pf_tokens::specs::Productions::option_at, crate::specs::Statements::policy_at))]
+fn read_policy<'t: 's, 's>(parser: &mut Parser<'t, 's>) -> Option<Policy>
+    ensures read { (result, left parser.new) ≡ policy_at (left parser.old) }
+    ensures later { later parser.new ≡ later parser.old }
+{
+    if parser.accept(b"drop") {
+        Some(Policy::Drop)
+    } else if parser.accept(b"return") {
+        Some(Policy::Return)
+    } else {
+        None
+    }
+}
+
+/// What a rule does.
+#[tactic(auto, unfolding(pf_tokens::specs::Productions::option_at, crate::specs::Statements::action_at))]
+fn read_action<'t: 's, 's>(parser: &mut Parser<'t, 's>) -> Option<WrittenAction>
+    ensures read { Reads result (left parser.new) (action_at (left parser.old)) }
+    ensures later { later parser.new ≡ later parser.old }
+{
+    if parser.accept(b"pass") {
+        return Some(WrittenAction::Pass);
+    }
+    if parser.accept(b"block") {
+        let said = read_policy(parser);
+        return Some(WrittenAction::Block(said));
+    }
+    None
+}
+
+/// The direction, if it is said.
+#[tactic(auto, unfolding(pf_tokens::specs::Productions::option_at, crate::specs::Statements::direction_at))]
+fn read_direction<'t: 's, 's>(parser: &mut Parser<'t, 's>) -> Option<Direction>
+    ensures read { (result, left parser.new) ≡ direction_at (left parser.old) }
+    ensures later { later parser.new ≡ later parser.old }
+{
+    if parser.accept(b"in") {
+        Some(Direction::In)
+    } else if parser.accept(b"out") {
+        Some(Direction::Out)
+    } else {
+        None
+    }
+}
+
+/// Whether the rule may say so of its state: a block rule keeps none.
+fn may_keep(action: WrittenAction, state: Option<bool>) -> bool
+    ensures { result ≡ may_keep action state }
+{
+    match (action, state) {
+        (WrittenAction::Block(_), Some(true)) => false,
+        (WrittenAction::Pass, _) | (WrittenAction::Block(_), Some(false) | None) => true,
+    }
+}
+
+/// A filter rule.
+#[tactic(auto, unfolding(crate::specs::Statements::rule_of, crate::specs::Statements::interfaces_at, crate::specs::Statements::protocols_at))]
+fn read_rule<'t: 's, 's>(
+    alloc: Global,
+    profile: Profile,
+    parser: &mut Parser<'t, 's>,
+) -> Result<WrittenRule, Stop>
+    ensures value { Spells text_of result (rule_of profile (left parser.old)) }
+    ensures later { later parser.new ≡ later parser.old }
+{
+    let Some(action) = read_action(parser) else {
+        return Err(Stop::Syntax);
+    };
+    let direction = read_direction(parser);
+    let _log = parser.accept(b"log");
+    let quick = parser.accept(b"quick");
+    let interfaces = read_behind::<Interface>(alloc, profile, b"on", parser)?;
+    let family = read_family(parser);
+    let protocols = read_behind::<Protocol>(alloc, profile, b"proto", parser)?;
+    let (source, destination) = read_ends(alloc, profile, parser)?;
+    let options = read_options(alloc, profile, parser)?;
+    if !may_keep(action, options.state) {
+        return Err(Stop::Syntax);
+    }
+    Ok(WrittenRule {
+        action,
+        direction,
+        quick,
+        interfaces,
+        family,
+        protocols,
+        source,
+        destination,
+        options,
+    })
+}
+
+/// The interfaces of `set skip`.
+#[tactic(auto, unfolding(pf_tokens::specs::Productions::option_at, crate::specs::Statements::skip_set))]
+fn read_skip<'t: 's, 's>(
+    alloc: Global,
+    profile: Profile,
+    parser: &mut Parser<'t, 's>,
+) -> Result<Setting, Stop>
+    ensures value { Spells seen.setting_of result (skip_set profile (left parser.old)) }
+    ensures later { later parser.new ≡ later parser.old }
+{
+    if !parser.accept(b"on") {
+        return Err(Stop::Syntax);
+    }
+    let names = some::<Name>(alloc, profile, parser)?;
+    if !parser.at_end() {
+        return Err(Stop::Syntax);
+    }
+    Ok(Setting::Skip(names))
+}
+
+/// What `set` says, behind that word.
+#[tactic(auto, unfolding(pf_tokens::specs::Productions::option_at, crate::specs::Statements::setting_of))]
+fn read_setting<'t: 's, 's>(
+    alloc: Global,
+    profile: Profile,
+    parser: &mut Parser<'t, 's>,
+) -> Result<Setting, Stop>
+    ensures value { Spells seen.setting_of result (setting_of profile (left parser.old)) }
+    ensures later { later parser.new ≡ later parser.old }
+{
+    if parser.accept(b"block-policy") {
+        let Some(policy) = read_policy(parser) else {
+            return Err(Stop::Syntax);
+        };
+        if !parser.at_end() {
+            return Err(Stop::Syntax);
+        }
+        return Ok(Setting::Policy(policy));
+    }
+    if parser.accept(b"skip") {
+        return read_skip(alloc, profile, parser);
+    }
+    Err(Stop::Syntax)
+}
+
+/// A statement that defines no macro.
+#[tactic(auto, unfolding(pf_tokens::specs::Productions::option_at, crate::specs::Statements::value_of))]
+pub fn read_statement<'t: 's, 's>(
+    alloc: Global,
+    profile: Profile,
+    parser: &mut Parser<'t, 's>,
+) -> Result<Statement, Stop>
+    ensures value { Spells statement_of result (value_of profile (left parser.old)) }
+    ensures later { later parser.new ≡ later parser.old }
+{
+    if parser.accept(b"set") {
+        let setting = read_setting(alloc, profile, parser)?;
+        return Ok(Statement::Sets(setting));
+    }
+    let rule = read_rule(alloc, profile, parser)?;
+    Ok(Statement::Rules(rule))
+}
