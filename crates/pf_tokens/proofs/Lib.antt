@@ -14,3 +14,4 @@ pub mod Collecting
 pub mod Parts
 pub mod Written
 pub mod Spelling
+pub mod MacroSpelling

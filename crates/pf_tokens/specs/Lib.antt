@@ -17,3 +17,4 @@ pub mod Shorter
 pub mod Answers
 pub mod Lines
 pub mod ListGrammar
+pub mod MacroGrammar

@@ -1,12 +1,14 @@
 //! Macro statements.
 
-ghost use Rattle.std.specs.Prelude.{◌≡◌, ◌≤◌, ◌<◌, ◌^◌, OnOk};
+ghost use Rattle.std.specs.Prelude.{◌≡◌, ◌↔◌, ◌≤◌, ◌<◌, ◌^◌, ℕ, Bool, List, Ok, Err, OnOk};
 ghost use Rattle.std.specs.List.{list_all, list_any};
-ghost use Rattle.pf_tokens.specs.Tokens.{is_name_byte};
+ghost use Rattle.pf_tokens.specs.Tokens.{Token, is_name_byte};
 ghost use Rattle.pf_tokens.specs.Lexed.{token_of};
 ghost use Rattle.pf_tokens.specs.Parsing.{definitions, left, later};
 ghost use Rattle.pf_tokens.specs.Defining.{is_refused_byte, is_refused_string, is_macro_name, len_with, appended, definition_at, Defines, Collects};
-ghost use Rattle.pf_tokens.specs.declared.defining.DefinitionFault.TheVariants.{Memory};
+ghost use Rattle.pf_tokens.specs.Macros.{Definition};
+ghost use Rattle.pf_tokens.specs.MacroGrammar.{IsDefinition, HasMacroFault, HasSyntaxFault, TellsReserved};
+ghost use Rattle.pf_tokens.specs.declared.defining.DefinitionFault.TheVariants.{Memory, Macro as MacroFault, Syntax};
 
 use crate::lexeme::{Lexeme, is_name_byte};
 use crate::macros::Macro;
@@ -171,3 +173,13 @@ pub fn definition<'t: 's, 's>(
     let name = name.to_vec(alloc)?;
     Ok(Macro { name, text })
 }
+
+/// A macro statement defines a macro exactly where the grammar spells that macro so and its name, its strings and the
+/// length of its text may be so. Its fault is `Macro` exactly where one of these may not, and `Syntax` exactly where
+/// they may and the grammar spells no macro so. What is read is no more than the relation says, and no less.
+pub fn macros_as_spelled()
+    ensures made { (is_reserved : List ℕ → Bool) (said : Bool) (ds : List Definition) (ts : List Token) → TellsReserved is_reserved ts said → (made : Definition) → (definition_at said ds ts ≡ Ok made) ↔ IsDefinition is_reserved ds ts made }
+    ensures lower { (is_reserved : List ℕ → Bool) (said : Bool) (ds : List Definition) (ts : List Token) → TellsReserved is_reserved ts said → (definition_at said ds ts ≡ Err MacroFault) ↔ HasMacroFault is_reserved ds ts }
+    ensures higher { (is_reserved : List ℕ → Bool) (said : Bool) (ds : List Definition) (ts : List Token) → TellsReserved is_reserved ts said → (definition_at said ds ts ≡ Err Syntax) ↔ HasSyntaxFault is_reserved ds ts }
+    ensures no_other { (said : Bool) (ds : List Definition) (ts : List Token) → definition_at said ds ts ≡ Err Memory → ⊥ }
+{}

@@ -271,6 +271,7 @@ fn limits_of_macros(rt: HostRuntime) -> Result<(), Fail> {
         let found = statements(rt.alloc(), &text)?;
         assert!(rt; found.as_slice() == want.as_bytes(), "{behind} {count}");
     }
+    macros_as_spelled();
     Ok(())
 }
 
