@@ -720,8 +720,8 @@ const SETTINGS_AND_MACROS: [(&str, u8, &str); 51] = [
     ("pass = ,", 1, "refused 11 line 1\n"),
 ];
 
-/// Tokens, continued lines, braces, and the lines that refusals name.
-const TOKENS_AND_LINES: [(&str, u8, &str); 39] = [
+/// Tokens, continued lines, braces, lists in lists, and the lines that refusals name.
+const TOKENS_AND_LINES: [(&str, u8, &str); 47] = [
     ("pa\\\nss", 0, "pass all flags S/SA keep state\n"),
     (
         "a = \"pa\\\nss\"\n$a",
@@ -777,6 +777,46 @@ const TOKENS_AND_LINES: [(&str, u8, &str); 39] = [
         "block from { { { { { { { { { 10/8 } } } } } } } } }",
         1,
         "refused 18 line 1\n",
+    ),
+    (
+        "pass proto { { { { { { { { { tcp } } } } } } } } }",
+        1,
+        "refused 18 line 1\n",
+    ),
+    (
+        "pass to { { { { { { { { { 10/8 } } } } } } } } }",
+        1,
+        "refused 18 line 1\n",
+    ),
+    (
+        "pass proto tcp from port { { { { { { { { { 22 } } } } } } } } }",
+        1,
+        "refused 18 line 1\n",
+    ),
+    (
+        "pass proto tcp to port { { { { { { { { { 22 } } } } } } } } }",
+        1,
+        "refused 18 line 1\n",
+    ),
+    (
+        "pass proto icmp icmp-type { { { { { { { { { 8 } } } } } } } } }",
+        1,
+        "refused 18 line 1\n",
+    ),
+    (
+        "pass proto icmp icmp-type { { { { { { { { { bogus } } } } } } } } }",
+        1,
+        "refused 18 line 1\n",
+    ),
+    (
+        "pass from { { { { { { { { { 10/8 } } } } } } } } } to fe80::1",
+        1,
+        "refused 14 line 1\n",
+    ),
+    (
+        "pass to port { { { { { { { { { 22 } } } } } } } } }",
+        1,
+        "refused 13 line 1\n",
     ),
     (
         "pass on { { { { { { { { { em0 } } } } } } } } }",
