@@ -62,10 +62,7 @@ impl Lexed<'_> {
 fn is_word_byte(b: u8) -> bool
     ensures { result ≡ is_word_byte b }
 {
-    match b {
-        b'.' | b':' | b'_' | b'-' | b'+' | b'*' | b'%' | b'@' => true,
-        _ => b.is_ascii_alphanumeric(),
-    }
+    b.is_ascii_alphanumeric() || matches!(b, b'.' | b':' | b'_' | b'-' | b'+' | b'*' | b'%' | b'@')
 }
 
 /// How many bytes the word at the front has.

@@ -127,14 +127,10 @@ where
         ensures definitions { definitions self.new ≡ definitions self.old }
         ensures braces { self.new.braces ≡ braces }
     {
-        let mut stream = self.stream;
-        stream.advance();
-        stream.pass_newlines(braces);
-        *self = Parser {
-            stream,
-            depth: depth_after(self.depth, token.lexeme),
-            braces,
-        };
+        self.stream.advance();
+        self.stream.pass_newlines(braces);
+        self.depth = depth_after(self.depth, token.lexeme);
+        self.braces = braces;
     }
 
     /// Goes past a token of the statement, if one is left.
