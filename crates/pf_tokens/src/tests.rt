@@ -207,6 +207,7 @@ fn macros_are_replaced(rt: HostRuntime) -> Result<(), Fail> {
         ("a = \"<\"\n$a=", "1;2 < =;"),
         ("a = b\n$a = c", "1;2 b = c;"),
         ("a = \"x = \"\n$a y", "1;2 x = y;"),
+        ("a = \"< 5\"\nb = $a x\n$b", "1;2;3 < 5 x;"),
         ("a-b = c", "1 11;"),
         ("1 = \"c d\"\n$1", "1;2 c d;"),
         ("a = \"b$c\"", "1 11;"),
@@ -218,6 +219,20 @@ fn macros_are_replaced(rt: HostRuntime) -> Result<(), Fail> {
     ] {
         let found = statements(rt.alloc(), text.as_bytes())?;
         assert!(rt; found.as_slice() == want.as_bytes(), "{text}");
+    }
+    Ok(())
+}
+
+#[test]
+fn a_reserved_name_defines_no_macro(rt: HostRuntime) -> Result<(), Fail> {
+    for (reserved, want) in [(true, Err(DefinitionFault::Macro)), (false, Ok(()))] {
+        let text = Text::new(rt.alloc(), b"pass = in")?;
+        let mut parser = Parser::begin(text.lexer(), &[]);
+        let found = match definition(rt.alloc(), &mut parser, reserved) {
+            Ok(_) => Ok(()),
+            Err(fault) => Err(fault),
+        };
+        assert!(rt; found == want);
     }
     Ok(())
 }
@@ -282,6 +297,7 @@ fn lists_in_lists(rt: HostRuntime) -> Result<(), Fail> {
         ("{ yes }", Some((1, 1))),
         ("{ yes no, yes }", Some((3, 1))),
         ("{ { yes } no }", Some((2, 2))),
+        ("{ { { yes } } { no } }", Some((2, 3))),
         ("{ { yes, { no\n\n} }, no\n,\nyes }", Some((4, 3))),
         ("{\nnot\nyes }", Some((1, 1))),
         ("{ }", None),
@@ -290,6 +306,7 @@ fn lists_in_lists(rt: HostRuntime) -> Result<(), Fail> {
         ("{ yes,, no }", None),
         ("{ yes { } }", None),
         ("{ yes", None),
+        ("{ \"yes\" }", None),
         ("yes", Some((1, 0))),
         ("maybe", None),
     ] {
