@@ -1,5 +1,5 @@
 -- Why a statement is refused, and the numbers of the refusals.
-use Rattle.std.specs.Prelude.{ℕ, ◌+◌, ◌==◌, ◌&&◌, ◌||◌, Bool, true, false, List, [], ◌∷◌, ◌++◌, length, Option, Some, None, is_none, is_some, nat_lt, not, if◌then◌else◌}
+use Rattle.std.specs.Prelude.{ℕ, ◌+◌, ◌==◌, ◌&&◌, ◌||◌, Bool, true, false, List, [], ◌∷◌, length, Option, Some, None, is_none, is_some, nat_lt, not, if◌then◌else◌}
 use Rattle.std.specs.List.{list_any, list_all}
 use Rattle.pf_tokens.specs.declared.fault.ReadingFault.{ReadingFault}
 use Rattle.pf_tokens.specs.declared.fault.ReadingFault.TheVariants as reading
@@ -7,14 +7,12 @@ use Rattle.pf_tokens.specs.Lists.{Elements}
 use Rattle.pf_grammar.specs.declared.fault.Cause.{Cause}
 use Rattle.pf_grammar.specs.declared.fault.Cause.TheVariants.{Lexical, Macro, Syntax, Ports, NoCombination, SetHere, TooMany, IcmpType}
 use Rattle.pf_statements.specs.declared.parts.Policy.{Policy}
-use Rattle.pf_ruleset.specs.declared.rule.Rule.{Rule}
-use Rattle.pf_ruleset.specs.declared.ruleset.Item.{Item}
 use Rattle.pf_grammar.specs.declared.place.Place.{Place}
 use Rattle.pf_grammar.specs.declared.place.Place.TheVariants.{Main, Anchor}
 use Rattle.pf_statements.specs.declared.written.Protocol.{Protocol}
 use Rattle.pf_statements.specs.declared.written.WrittenPort.{WrittenPort}
 use Rattle.pf_statements.specs.declared.written.WrittenType.{WrittenType}
-use Rattle.pf_statements.specs.Statements.{Statement, Sets, Rules, Setting, SetPolicy, SetSkip, RuleText, Ends}
+use Rattle.pf_statements.specs.Statements.{Statement, Sets, Rules, Setting, SetPolicy, SetSkip, RuleText}
 use Rattle.pf_grammar.specs.Expansion.{expanded, combinations}
 
 abbrev pub cause_code : Cause → ℕ

@@ -1,6 +1,6 @@
 -- One rule for each combination of what is listed, in the order of the lists, the interface outermost and the type of ICMP
 -- innermost (pf.conf(5), lists).
-use Rattle.std.specs.Prelude.{ℕ, ◌*◌, Bool, true, false, List, [], ◌∷◌, ◌++◌, length, map, Option, Some, None, not, nat_lt, if◌then◌else◌}
+use Rattle.std.specs.Prelude.{ℕ, ◌*◌, Bool, true, false, List, [], ◌∷◌, length, map, Option, Some, None}
 use Rattle.std.specs.List.{flat_map}
 use Rattle.pf_addr.specs.declared.addr.Addr.{Addr}
 use Rattle.pf_addr.specs.declared.addr.Addr.TheVariants.{V4, V6}
@@ -26,7 +26,7 @@ use Rattle.pf_statements.specs.declared.written.Protocol.{Protocol}
 use Rattle.pf_statements.specs.declared.written.WrittenPort.{WrittenPort}
 use Rattle.pf_statements.specs.declared.written.WrittenType.{WrittenType}
 use Rattle.pf_words.specs.Words.{no_flags}
-use Rattle.pf_statements.specs.Statements.{RuleText, Ends, Options}
+use Rattle.pf_statements.specs.Statements.{RuleText}
 
 -- ---- what the lists come to
 

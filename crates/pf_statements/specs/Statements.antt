@@ -1,8 +1,8 @@
 -- What a statement says, production by production (pf.conf(5), GRAMMAR).
-use Rattle.std.specs.Prelude.{ℕ, zero, suc, ◌&&◌, ◌||◌, ◌==◌, Bool, true, false, List, [], ◌∷◌, drop, length, Option, Some, None, is_some, not, codes, if◌then◌else◌}
+use Rattle.std.specs.Prelude.{ℕ, zero, suc, ◌&&◌, ◌==◌, Bool, true, false, List, [], ◌∷◌, drop, length, Option, Some, None, is_some, not, codes, if◌then◌else◌}
 use Rattle.std.specs.List.{list_any}
 use Rattle.std.specs.Result.{result_ok}
-use Rattle.pf_addr.specs.Blocks.{Block, Span, span_of}
+use Rattle.pf_addr.specs.Blocks.{span_of}
 use Rattle.pf_addr.specs.Spelling.{addr_of, block_of, cut_at}
 use Rattle.pf_tokens.specs.declared.profile.Profile.{Profile}
 use Rattle.pf_tokens.specs.declared.profile.Profile.TheVariants.{One, Two}

@@ -1,4 +1,4 @@
-use Rattle.std.proofs.Common.{◌≡◌, ◌∙◌, Some, sym, ap, refl, codes}
+use Rattle.std.proofs.Common.{◌∙◌, sym, ap, refl, codes}
 use Rattle.clap.specs.Words.{found_of, rows_of}
 use Rattle.clap.proofs.WalkLemmas.{first_value-rows}
 use Rattle.pf_tool.specs.Tool.{place_in, place_for}

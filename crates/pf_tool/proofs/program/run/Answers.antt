@@ -1,6 +1,5 @@
-use Rattle.std.proofs.Common.{◌≡◌, ◌∙◌, sym, ap, ap₂, map, refl}
-use Rattle.clap.specs.Words.{subcommand_rows_of}
-use Rattle.pf_tool.specs.Tool.{called_as, place_in}
+use Rattle.std.proofs.Common.{◌∙◌, sym, ap₂, map, refl}
+use Rattle.pf_tool.specs.Tool.{called_as}
 use Rattle.pf_tool.proofs.Calls.{call_entered, call_refused, kinds_of_program, passes_program, rows_of_program}
 use Rattle.pf_tool.proofs.program.run.Goals as goal
 

@@ -1,4 +1,4 @@
-use Rattle.std.proofs.Common.{◌≡◌, ◌<◌, ◌^◌, ◌-◌, ◌+◌, ◌*◌, take, fold}
+use Rattle.std.proofs.Common.{◌≡◌, ◌<◌, ◌^◌, take}
 use Rattle.pf_words.specs.Words.{decimal_value}
 use Rattle.pf_words.proofs.words.decimal_value.Given as goal
 
