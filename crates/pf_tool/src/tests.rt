@@ -3,6 +3,7 @@ mod large;
 mod profiles;
 mod tables;
 mod verdicts;
+mod worked;
 
 use crate::run;
 use std::alloc::Global;
