@@ -299,7 +299,7 @@ const HOSTS: [(&str, u8, &str); 62] = [
     ("pass from 10.0.0.1/", 1, "refused 12 line 1\n"),
     ("pass from 10", 1, "refused 12 line 1\n"),
     ("pass from 1.2.3.256", 1, "refused 12 line 1\n"),
-    ("pass from 01.2.3.4", 1, "refused 12 line 1\n"),
+    ("pass from 010.2.3.4", 1, "refused 12 line 1\n"),
     ("pass from 1::2::3", 1, "refused 12 line 1\n"),
     ("pass from \"10/8\"", 1, "refused 12 line 1\n"),
     ("pass from localhost", 1, "refused 12 line 1\n"),

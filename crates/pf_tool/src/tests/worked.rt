@@ -1,6 +1,7 @@
 //! Worked texts, and what `check` writes of them.
 
 use super::checked;
+use pf_grammar::{Place, Profile, parse, show_items};
 use std::test::Fail;
 
 #[test]
@@ -35,5 +36,16 @@ fn refusals_on_line_one(rt: HostRuntime) -> Result<(), Fail> {
         assert_eq!(rt; out.as_slice(), wanted.as_bytes(), "{text}");
         assert_eq!(rt; status, 1, "{text}");
     }
+    Ok(())
+}
+
+#[test]
+fn rules_alone_are_shown_without_settings(rt: HostRuntime) -> Result<(), Fail> {
+    let text = b"set skip on lo\nblock return\n";
+    let Ok(loaded) = parse(rt.alloc(), text, Place::Main, Profile::Two) else {
+        return Err("the text is refused".into());
+    };
+    let shown = show_items(rt.alloc(), loaded.items.as_slice())?;
+    assert_eq!(rt; shown.as_str(), "block return all\n");
     Ok(())
 }
