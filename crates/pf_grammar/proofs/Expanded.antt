@@ -1,25 +1,28 @@
 -- A shown rule is refused by no cause, and comes to itself.
 use Rattle.std.proofs.Common.{◌≡◌, ℕ, ◌+◌, ◌<◌, ◌==◌, ◌&&◌, ◌||◌, Bool, true, false, List, [], ◌∷◌, Option, Some, None, refl, sym, ap, ◌∙◌, arith}
-use Rattle.std.specs.Prelude.{is_some, not, nat_lt, flat_map}
+use Rattle.std.specs.Prelude.{is_some, not, nat_lt, flat_map, map}
 use Rattle.std.proofs.lemmas.List.{append-nil}
 use Rattle.std.proofs.lemmas.Bool.Decides.{nat_tests}
-use Rattle.pf_tokens.specs.declared.profile.Profile.{Profile}
+use Rattle.pf_words.specs.declared.profile.Profile.{Profile}
 use Rattle.pf_ruleset.specs.declared.rule.Action.{Action}
 use Rattle.pf_ruleset.specs.declared.rule.Action.TheVariants as act
-use Rattle.pf_statements.specs.declared.parts.Policy.{Policy}
-use Rattle.pf_statements.specs.declared.parts.Policy.TheVariants as policy
-use Rattle.pf_statements.specs.declared.parts.Interface.{Interface}
-use Rattle.pf_statements.specs.declared.parts.PortTest.{PortTest}
-use Rattle.pf_statements.specs.declared.parts.FlagTest.{FlagTest}
-use Rattle.pf_statements.specs.declared.parts.FlagTest.TheVariants as flags
+use Rattle.pf_ruleset.specs.declared.parts.Policy.{Policy}
+use Rattle.pf_ruleset.specs.declared.parts.Policy.TheVariants as policy
+use Rattle.pf_ruleset.specs.declared.parts.Interface.{Interface}
+use Rattle.pf_ruleset.specs.declared.parts.PortTest.{PortTest}
+use Rattle.pf_ruleset.specs.declared.parts.FlagTest.{FlagTest}
+use Rattle.pf_ruleset.specs.declared.parts.FlagTest.TheVariants as flags
 use Rattle.pf_ruleset.specs.declared.rule.Rule.{Rule}
+use Rattle.pf_ruleset.specs.declared.rule.Conditions.{Conditions}
 use Rattle.pf_grammar.specs.declared.place.Place.{Place}
-use Rattle.pf_statements.specs.declared.written.WrittenPort.{WrittenPort}
-use Rattle.pf_statements.specs.declared.written.WrittenType.{WrittenType}
+use Rattle.pf_conditions.specs.declared.written.WrittenPort.{WrittenPort}
+use Rattle.pf_conditions.specs.declared.written.WrittenType.{WrittenType}
 use Rattle.pf_statements.specs.Statements.{Rules}
-use Rattle.pf_grammar.specs.Expansion.{choices, type_family, resolved, keeps_state, tested_flags, Combination, nothing_chosen, number_in, test_in, type_in, rule_with, rules_of, by_type, by_destination_port, by_destination, by_source_port, by_source, by_protocol, by_interface, expanded, count_of, combinations}
-use Rattle.pf_grammar.specs.Causes.{any_listed, all_listed, is_deep_list, is_bad_port, has_ports, bad_ports, is_too_wide, has_no_combination, has_deep_list, has_too_many, is_bad_type, is_icmp, bad_types, statement_cause}
-use Rattle.pf_grammar.proofs.Told.{FitsRule, FitsIf, FitsType, FitsState, ported, one_if, written_action, written_flags, written_state, written_protocol, written}
+use Rattle.pf_expansion.specs.Expansion.{choices, type_family, resolved, keeps_state, tested_flags, Combination, nothing_chosen, number_in, test_in, type_in, conditions_with, conditions_at, rule_flags, rule_with, by_type, by_destination_port, by_destination, by_source_port, by_source, by_protocol, by_interface, combined, expanded, count_of, combinations}
+use Rattle.pf_expansion.specs.Causes.{any_listed, all_listed, is_deep_list, is_bad_port, has_ports, bad_ports, is_too_wide, has_no_combination, has_deep_list, has_too_many, is_bad_type, is_icmp, bad_types}
+use Rattle.pf_grammar.specs.Causes.{statement_cause}
+use Rattle.pf_grammar.proofs.Told.{FitsRule, FitsIf, FitsType, FitsState, ported, one_if, written_action, written_flags, written_state, written_protocol, written_conditions, written}
+use Rattle.pf_ruleset.specs.Rulesets.{TableValue}
 
 -- ---- one combination
 
@@ -59,10 +62,10 @@ chosen r = record {
   icmp_type = map_if type_of_number r.conditions.icmp_type;
 }
 
-one_combination : (p : Policy) (r : Rule) → expanded p (written r) ≡ rules_of p (written r) (chosen r)
-unfolding expanded by_interface by_protocol by_source by_source_port by_destination by_destination_port by_type
-one_combination p r =
-    let text = written r in
+one_combination : (test : FlagTest) (r : Rule) → combined test (written_conditions r) ≡ conditions_at test (written_conditions r) (chosen r)
+unfolding combined by_interface by_protocol by_source by_source_port by_destination by_destination_port by_type
+one_combination test r =
+    let text = written_conditions r in
     let q = r.conditions in
     let c1 = record nothing_chosen { interface = map_if same_interface q.interface } in
     let c2 = record c1 { protocol = map_if written_protocol q.protocol } in
@@ -70,13 +73,13 @@ one_combination p r =
     let c4 = record c3 { source_port = map_if port_of_test q.source_port } in
     let c5 = record c4 { destination = q.destination } in
     let c6 = record c5 { destination_port = map_if port_of_test q.destination_port } in
-    flat_one (λ i. by_protocol p text (record nothing_chosen { interface = i })) _ (map_if same_interface q.interface) (choices_one same_interface q.interface)
-    ∙ flat_one (λ n. by_source p text (record c1 { protocol = n })) _ (map_if written_protocol q.protocol) (choices_one written_protocol q.protocol)
-    ∙ flat_one (λ h. by_source_port p text (record c2 { source = h })) _ q.source refl
-    ∙ flat_one (λ port. by_destination p text (record c3 { source_port = port })) _ (map_if port_of_test q.source_port) (choices_one port_of_test q.source_port)
-    ∙ flat_one (λ h. by_destination_port p text (record c4 { destination = h })) _ q.destination refl
-    ∙ flat_one (λ port. by_type p text (record c5 { destination_port = port })) _ (map_if port_of_test q.destination_port) (choices_one port_of_test q.destination_port)
-    ∙ flat_one (λ t. rules_of p text (record c6 { icmp_type = t })) _ (map_if type_of_number q.icmp_type) (choices_one type_of_number q.icmp_type)
+    flat_one (λ i. by_protocol test text (record nothing_chosen { interface = i })) _ (map_if same_interface q.interface) (choices_one same_interface q.interface)
+    ∙ flat_one (λ n. by_source test text (record c1 { protocol = n })) _ (map_if written_protocol q.protocol) (choices_one written_protocol q.protocol)
+    ∙ flat_one (λ h. by_source_port test text (record c2 { source = h })) _ q.source refl
+    ∙ flat_one (λ port. by_destination test text (record c3 { source_port = port })) _ (map_if port_of_test q.source_port) (choices_one port_of_test q.source_port)
+    ∙ flat_one (λ h. by_destination_port test text (record c4 { destination = h })) _ q.destination refl
+    ∙ flat_one (λ port. by_type test text (record c5 { destination_port = port })) _ (map_if port_of_test q.destination_port) (choices_one port_of_test q.destination_port)
+    ∙ flat_one (λ t. conditions_at test text (record c6 { icmp_type = t })) _ (map_if type_of_number q.icmp_type) (choices_one type_of_number q.icmp_type)
 
 -- ---- its rule
 
@@ -120,26 +123,28 @@ flags_again act.Drop keep (flags.Just set of) fits = refl
 flags_again act.Return keep flags.Any fits = rw fits refl
 flags_again act.Return keep (flags.Just set of) fits = refl
 
-rule_again : (profile : Profile) (p : Policy) (r : Rule) → FitsRule profile r → rule_with p (written r) (chosen r) r.conditions.family ≡ r
-rule_again profile p r fits =
+conditions_again : (r : Rule) → conditions_with r.conditions.flags (written_conditions r) (chosen r) r.conditions.family ≡ r.conditions
+conditions_again r =
     let q = r.conditions in
-    rw (
-      action_again p r.action,
-      state_again r.action r.keeps_state fits.state,
-      flags_again r.action r.keeps_state q.flags fits.state,
-      interface_again q.interface,
-      number_again q.protocol,
-      test_again q.source_port,
-      test_again q.destination_port,
-      type_again q.icmp_type,
-    ) refl
+    rw (interface_again q.interface, number_again q.protocol, test_again q.source_port, test_again q.destination_port, type_again q.icmp_type) refl
+
+rule_again : (p : Policy) (r : Rule) → FitsState r.action r.keeps_state → rule_with p (written r) r.conditions ≡ r
+rule_again p r fits = rw (action_again p r.action, state_again r.action r.keeps_state fits) refl
+
+flags_of_rule : (r : Rule) → FitsState r.action r.keeps_state → rule_flags (written r) ≡ r.conditions.flags
+flags_of_rule r fits = ap (λ (keep : Bool). tested_flags keep (written_flags r.action r.conditions.flags)) (state_again r.action r.keeps_state fits) ∙ flags_again r.action r.keeps_state r.conditions.flags fits
+
+-- its lists come to its conditions
+combined_again : (profile : Profile) (r : Rule) → FitsRule profile r → combined (rule_flags (written r)) (written_conditions r) ≡ r.conditions ∷ []
+unfolding conditions_at
+combined_again profile r fits =
+    one_combination (rule_flags (written r)) r
+    ∙ rw (type_family_again r.conditions.icmp_type, fits.conditions.family, flags_of_rule r fits.state) (ap (λ (c : Conditions). c ∷ []) (conditions_again r))
 
 -- a shown rule comes to itself
 pub expanded_again : (profile : Profile) (p : Policy) (r : Rule) → FitsRule profile r → expanded p (written r) ≡ r ∷ []
-unfolding rules_of
-expanded_again profile p r fits =
-    one_combination p r
-    ∙ rw (type_family_again r.conditions.icmp_type, fits.family) (ap (λ (s : Rule). s ∷ []) (rule_again profile p r fits))
+unfolding expanded
+expanded_again profile p r fits = ap (map (rule_with p (written r))) (combined_again profile r fits) ∙ ap (λ (s : Rule). s ∷ []) (rule_again p r fits.state)
 
 -- ---- no cause
 
@@ -159,13 +164,13 @@ all_ported : (o : Option ℕ) → all_listed has_ports (one_if written_protocol 
 all_ported None = refl
 all_ported (Some n) = and_true (n == 6 || n == 17)
 
-no_bad_ports : (profile : Profile) (r : Rule) → FitsRule profile r → bad_ports (written r) ≡ false
+no_bad_ports : (profile : Profile) (r : Rule) → FitsRule profile r → bad_ports (written_conditions r) ≡ false
 unfolding bad_ports
 no_bad_ports profile r fits =
     let q = r.conditions in
-    rw (ports_there q.source_port, ports_there q.destination_port, said_ports q.source_port, said_ports q.destination_port, all_ported q.protocol, fits.ports) refl
+    rw (ports_there q.source_port, ports_there q.destination_port, said_ports q.source_port, said_ports q.destination_port, all_ported q.protocol, fits.conditions.ports) refl
 
-narrow : (r : Rule) → is_too_wide (written r) ≡ false
+narrow : (r : Rule) → is_too_wide (written_conditions r) ≡ false
 unfolding is_too_wide combinations
 narrow r =
     let q = r.conditions in
@@ -175,7 +180,7 @@ shallow : {X Y : Type 0} (f : X → Y) (o : Option X) → is_deep_list (one_if f
 shallow f None = refl
 shallow f (Some x) = refl
 
-no_deep_list : (r : Rule) → has_deep_list (written r) ≡ false
+no_deep_list : (r : Rule) → has_deep_list (written_conditions r) ≡ false
 unfolding has_deep_list
 no_deep_list r =
     let q = r.conditions in
@@ -184,23 +189,23 @@ no_deep_list r =
 room_left : (before : ℕ) → before < 1024 → nat_lt 1024 (before + 1) ≡ false
 room_left before h = grind (arith, nat_tests, h)
 
-not_too_many : (profile : Profile) (p : Policy) (before : ℕ) (r : Rule) → FitsRule profile r → before < 1024 → has_too_many p before (written r) ≡ false
+not_too_many : (profile : Profile) (before : ℕ) (r : Rule) → FitsRule profile r → before < 1024 → has_too_many (rule_flags (written r)) before (written_conditions r) ≡ false
 unfolding has_too_many
-not_too_many profile p before r fits h = rw (narrow r, no_deep_list r, expanded_again profile p r fits) (room_left before h)
+not_too_many profile before r fits h = rw (narrow r, no_deep_list r, combined_again profile r fits) (room_left before h)
 
-some_combination : (profile : Profile) (p : Policy) (r : Rule) → FitsRule profile r → has_no_combination p (written r) ≡ false
+some_combination : (profile : Profile) (r : Rule) → FitsRule profile r → has_no_combination (rule_flags (written r)) (written_conditions r) ≡ false
 unfolding has_no_combination
-some_combination profile p r fits = rw (narrow r, expanded_again profile p r fits) refl
+some_combination profile r fits = rw (narrow r, combined_again profile r fits) refl
 
 types_there : (profile : Profile) (protocol : Option ℕ) (o : Option ℕ) → FitsIf (FitsType profile protocol) o → (any_listed is_bad_type (one_if type_of_number o) || (is_some (one_if type_of_number o) && not (all_listed is_icmp (one_if written_protocol protocol)))) ≡ false
 types_there profile protocol None fits = refl
 types_there profile protocol (Some n) fits = rw fits.2 refl
 
-no_bad_types : (profile : Profile) (r : Rule) → FitsRule profile r → bad_types (written r) ≡ false
+no_bad_types : (profile : Profile) (r : Rule) → FitsRule profile r → bad_types (written_conditions r) ≡ false
 unfolding bad_types
-no_bad_types profile r fits = types_there profile r.conditions.protocol r.conditions.icmp_type fits.types
+no_bad_types profile r fits = types_there profile r.conditions.protocol r.conditions.icmp_type fits.conditions.types
 
 -- no cause refuses a shown rule where there is room for it
-pub no_cause : (place : Place) (profile : Profile) (p : Policy) (before : ℕ) (r : Rule) → FitsRule profile r → before < 1024 → statement_cause place p before (Some (Rules (written r))) ≡ None
-no_cause place profile p before r fits h =
-    rw (no_bad_ports profile r fits, some_combination profile p r fits, not_too_many profile p before r fits h, no_bad_types profile r fits) refl
+pub no_cause : (place : Place) (profile : Profile) (tables : List TableValue) (before : ℕ) (r : Rule) → FitsRule profile r → before < 1024 → statement_cause place tables before (Some (Rules (written r))) ≡ None
+no_cause place profile tables before r fits h =
+    rw (no_bad_ports profile r fits, some_combination profile r fits, not_too_many profile before r fits h, no_bad_types profile r fits) refl

@@ -6,7 +6,7 @@ use Rattle.std.proofs.lemmas.Bool.{false≢true}
 use Rattle.std.proofs.lemmas.Bool.Decides.{nat_tests}
 use Rattle.std.proofs.lemmas.List.{append-nil, length-append}
 use Rattle.pf_addr.specs.Blocks.{width}
-use Rattle.pf_tokens.specs.declared.profile.Profile.{Profile}
+use Rattle.pf_words.specs.declared.profile.Profile.{Profile}
 use Rattle.pf_tokens.specs.declared.symbol.Symbol.{Symbol}
 use Rattle.pf_tokens.specs.declared.symbol.Symbol.TheVariants.{Open, Close, OpenParenthesis, CloseParenthesis, Comma, Slash, Not, NotEqual, Less, LessEqual, Greater, GreaterEqual, Between, Outside, Equals}
 use Rattle.pf_tokens.specs.Tokens.{Token, Word, Quoted, Macro, Mark, Newline, Bad, Placed, is_newline}
@@ -19,77 +19,78 @@ use Rattle.pf_tokens.specs.Reading.{◌>>=◌, judged, with_statement, reading_f
 use Rattle.pf_grammar.specs.declared.fault.Refusal.{Refusal}
 use Rattle.pf_ruleset.specs.declared.rule.Action.{Action}
 use Rattle.pf_ruleset.specs.declared.rule.Action.TheVariants as act
-use Rattle.pf_statements.specs.declared.parts.Direction.{Direction}
-use Rattle.pf_statements.specs.declared.parts.Direction.TheVariants.{In, Out}
-use Rattle.pf_statements.specs.declared.parts.Family.{Family}
-use Rattle.pf_statements.specs.declared.parts.Family.TheVariants.{Inet, Inet6}
-use Rattle.pf_statements.specs.declared.parts.Interface.{Interface}
-use Rattle.pf_statements.specs.declared.parts.Addresses.{Addresses}
-use Rattle.pf_statements.specs.declared.parts.Addresses.TheVariants.{Prefix, Range}
-use Rattle.pf_statements.specs.declared.parts.Host.{Host}
-use Rattle.pf_statements.specs.declared.parts.Host.TheVariants as host
-use Rattle.pf_statements.specs.declared.parts.PortTest.{PortTest}
-use Rattle.pf_statements.specs.declared.parts.PortTest.TheVariants as test
-use Rattle.pf_statements.specs.declared.parts.FlagTest.{FlagTest}
-use Rattle.pf_statements.specs.declared.parts.FlagTest.TheVariants as flags
-use Rattle.pf_statements.specs.declared.parts.Policy.{Policy}
+use Rattle.pf_ruleset.specs.declared.parts.Direction.{Direction}
+use Rattle.pf_ruleset.specs.declared.parts.Direction.TheVariants.{In, Out}
+use Rattle.pf_addr.specs.declared.addr.Family.{Family}
+use Rattle.pf_addr.specs.declared.addr.Family.TheVariants.{Inet, Inet6}
+use Rattle.pf_ruleset.specs.declared.parts.Interface.{Interface}
+use Rattle.pf_ruleset.specs.declared.parts.Addresses.{Addresses}
+use Rattle.pf_ruleset.specs.declared.parts.Addresses.TheVariants.{Prefix, Range, Table}
+use Rattle.pf_ruleset.specs.declared.parts.Host.{Host}
+use Rattle.pf_ruleset.specs.declared.parts.Host.TheVariants as host
+use Rattle.pf_ruleset.specs.declared.parts.PortTest.{PortTest}
+use Rattle.pf_ruleset.specs.declared.parts.PortTest.TheVariants as test
+use Rattle.pf_ruleset.specs.declared.parts.FlagTest.{FlagTest}
+use Rattle.pf_ruleset.specs.declared.parts.FlagTest.TheVariants as flags
+use Rattle.pf_ruleset.specs.declared.parts.Policy.{Policy}
 use Rattle.pf_ruleset.specs.declared.rule.Rule.{Rule}
 use Rattle.pf_ruleset.specs.declared.ruleset.Item.{Item}
 use Rattle.pf_ruleset.specs.declared.ruleset.Item.TheVariants.{Filter}
 use Rattle.pf_grammar.specs.declared.place.Place.{Place}
-use Rattle.pf_statements.specs.Names.{Name}
+use Rattle.pf_ruleset.specs.Names.{Name}
 use Rattle.pf_statements.specs.Statements.{Statement, Rules, value_of}
 use Rattle.pf_grammar.specs.Causes.{statement_cause}
 use Rattle.pf_statements.specs.Grammar.{RuleStatement}
 use Rattle.pf_grammar.specs.Reading.{Sofar, macros_of, judge, meant, answered, unless_fault}
-use Rattle.pf_ruleset.specs.Shown.{shown_items, letters}
-use Rattle.pf_statements.proofs.Fronts.{rank, no_symbol}
+use Rattle.pf_show.specs.Shown.{shown_items, letters}
+use Rattle.pf_conditions.proofs.Fronts.{rank, no_symbol}
 use Rattle.pf_statements.proofs.StatementsSpelled.{statement_reads}
 use Rattle.pf_grammar.proofs.Told.{FitsRule, rule_told, told_rank, written, action_tokens, direction_tokens, quick_tokens, negated_tokens, interface_tokens, family_tokens, protocol_tokens, length_tokens, addresses_tokens, host_tokens, test_tokens, port_tokens, end_tokens, both_tokens, ends_tokens, type_tokens, letters_token, test_of_tokens, flags_tokens, state_tokens, option_tokens, rule_tokens}
 use Rattle.pf_grammar.proofs.Expanded.{expanded_again, no_cause}
 use Rattle.pf_grammar.proofs.Parts.{lexed, at_line}
 use Rattle.pf_grammar.proofs.RuleParts.{more_tokens, rule_line}
+use Rattle.pf_ruleset.specs.Rulesets.{TableValue}
 
 -- ---- tokens of a line
 
 -- a token that ends nothing and refuses nothing
-record Simple (t : Token) : Type 0 where
-  in_line : is_newline t ≡ false
-  good : is_bad t ≡ false
-  known : is_unknown [] t ≡ false
-  level : (d : ℕ) → depth_after d t ≡ d
+pub record Simple (t : Token) : Type 0 where
+  pub in_line : is_newline t ≡ false
+  pub good : is_bad t ≡ false
+  pub known : is_unknown [] t ≡ false
+  pub level : (d : ℕ) → depth_after d t ≡ d
 
-simple_word : (text : List ℕ) → Simple (Word text)
+pub simple_word : (text : List ℕ) → Simple (Word text)
 simple_word text = record { in_line = refl; good = refl; known = refl; level = λ d. refl }
 
-simple_mark : (s : Symbol) → ((d : ℕ) → depth_after d (Mark s) ≡ d) → Simple (Mark s)
+pub simple_mark : (s : Symbol) → ((d : ℕ) → depth_after d (Mark s) ≡ d) → Simple (Mark s)
 simple_mark s level = record { in_line = refl; good = refl; known = refl; level = level }
 
 -- so many tokens of this kind
-record Short (k : ℕ) (ts : List Token) : Type 0 where
-  simple : AllByRecursion Simple ts
-  short : length ts ≤ k
+pub record Short (k : ℕ) (ts : List Token) : Type 0 where
+  pub simple : AllByRecursion Simple ts
+  pub short : length ts ≤ k
 
-all_append : (ts us : List Token) → AllByRecursion Simple ts → AllByRecursion Simple us → AllByRecursion Simple (ts ++ us)
+pub all_append : (ts us : List Token) → AllByRecursion Simple ts → AllByRecursion Simple us → AllByRecursion Simple (ts ++ us)
 all_append [] us p q = q
 all_append (t ∷ ts) us p q = (p.0, all_append ts us p.1 q)
 
-short_append : (j k : ℕ) (ts us : List Token) → Short j ts → Short k us → Short (j + k) (ts ++ us)
+pub short_append : (j k : ℕ) (ts us : List Token) → Short j ts → Short k us → Short (j + k) (ts ++ us)
 short_append j k ts us p q = record { simple = all_append ts us p.simple q.simple; short = (let a = p.short in let b = q.short in let l = length-append ts us in omega (arith, a, b, l)) }
 
-none_short : Short 0 []
+pub none_short : Short 0 []
 none_short = record { simple = tt; short = omega arith }
 
-word_short : (text : List ℕ) → Short 1 (Word text ∷ [])
+pub word_short : (text : List ℕ) → Short 1 (Word text ∷ [])
 word_short text = record { simple = (simple_word text, tt); short = omega arith }
 
-mark_short : (s : Symbol) → ((d : ℕ) → depth_after d (Mark s) ≡ d) → Short 1 (Mark s ∷ [])
+pub mark_short : (s : Symbol) → ((d : ℕ) → depth_after d (Mark s) ≡ d) → Short 1 (Mark s ∷ [])
 mark_short s level = record { simple = (simple_mark s level, tt); short = omega arith }
 
-more_short : (j k : ℕ) (ts : List Token) → j ≤ k → Short j ts → Short k ts
+pub more_short : (j k : ℕ) (ts : List Token) → j ≤ k → Short j ts → Short k ts
 more_short j k ts h p = record { simple = p.simple; short = (let a = p.short in omega (arith, a, h)) }
 
-then_short : (k : ℕ) (t : Token) (ts : List Token) → Simple t → Short k ts → Short (1 + k) (t ∷ ts)
+pub then_short : (k : ℕ) (t : Token) (ts : List Token) → Simple t → Short k ts → Short (1 + k) (t ∷ ts)
 then_short k t ts simple p = record { simple = (simple, p.simple); short = (let a = p.short in omega (arith, a)) }
 
 action_short : (a : Action) → Short 2 (action_tokens a)
@@ -123,11 +124,12 @@ protocol_short : (p : Option ℕ) → Short 2 (protocol_tokens p)
 protocol_short None = more_short 0 2 _ (omega arith) none_short
 protocol_short (Some n) = then_short 1 _ _ (simple_word _) (word_short _)
 
-length_short : (full : Bool) (len : ℕ) → Short 2 (length_tokens full len)
+pub length_short : (full : Bool) (len : ℕ) → Short 2 (length_tokens full len)
 length_short true len = more_short 0 2 _ (omega arith) none_short
 length_short false len = then_short 1 _ _ (simple_mark Slash (λ d. refl)) (word_short _)
 
 addresses_short : (set : Addresses) → Short 3 (addresses_tokens set)
+addresses_short (Table name) = then_short 2 _ _ (simple_mark Less (λ d. refl)) (then_short 1 _ _ (simple_word name) (mark_short Greater (λ d. refl)))
 addresses_short (Prefix block) = then_short 2 _ _ (simple_word _) (length_short (block.len == width block.base) block.len)
 addresses_short (Range span) = then_short 2 _ _ (simple_word _) (then_short 1 _ _ (simple_word _) (word_short _))
 
@@ -216,7 +218,7 @@ rule_short r =
 pub not_full : (count : ℕ) → count < 65536 → nat_le 65536 count ≡ false
 not_full count h = grind (arith, nat_tests, h)
 
-no_fault : (ts : List Token) (count : ℕ) → AllByRecursion Simple ts → count + length ts ≤ 65536 → reading_fault [] count 0 ts ≡ None
+pub no_fault : (ts : List Token) (count : ℕ) → AllByRecursion Simple ts → count + length ts ≤ 65536 → reading_fault [] count 0 ts ≡ None
 no_fault [] count simple h = refl
 no_fault (t ∷ ts) count simple h =
     let s = simple.0 in
@@ -241,8 +243,8 @@ flattened_none [] w = refl
 flattened_none (p ∷ ps) w = ap (λ (qs : List Placed). qs ++ flat_map (replaced [] w) ps) (replaced_none p w) ∙ ap (λ (qs : List Placed). p ∷ qs) (flattened_none ps w)
 
 -- what the statements so far come to, without macros
-abbrev pub so_far : Policy → List Name → List Item → Sofar
-so_far p skip items = record { macros = []; policy = p; skip = skip; items = items }
+abbrev pub so_far : Policy → List Name → List TableValue → List Item → Sofar
+so_far p skip tables items = record { macros = []; policy = p; skip = skip; tables = tables; items = items }
 
 -- what a statement comes to, from its tokens
 abbrev ended : Place → Profile → Sofar → ℕ → List Placed → Result Sofar Refusal
@@ -258,20 +260,20 @@ is_end_there : (d n : ℕ) → d ≡ 0 → ends d (at_line n Newline) ≡ true
 is_end_there d n e = rw e refl
 
 -- a line is a statement
-pub line_read : (place : Place) (profile : Profile) (p : Policy) (skip : List Name) (items : List Item) (n : ℕ) (ts : List Token) (begun rest : List Placed) → AreInLine ts → depth_behind 0 (begun ++ map (at_line n) ts) ≡ 0
-    → reading_from macros_of (judge place profile) (so_far p skip items) begun (map (at_line n) ts ++ (at_line n Newline ∷ rest))
-    ≡ (with_statement macros_of (judge place profile) (so_far p skip items) (begun ++ map (at_line n) ts) >>= λ next. reading_from macros_of (judge place profile) next [] rest)
+pub line_read : (place : Place) (profile : Profile) (p : Policy) (skip : List Name) (tables : List TableValue) (items : List Item) (n : ℕ) (ts : List Token) (begun rest : List Placed) → AreInLine ts → depth_behind 0 (begun ++ map (at_line n) ts) ≡ 0
+    → reading_from macros_of (judge place profile) (so_far p skip tables items) begun (map (at_line n) ts ++ (at_line n Newline ∷ rest))
+    ≡ (with_statement macros_of (judge place profile) (so_far p skip tables items) (begun ++ map (at_line n) ts) >>= λ next. reading_from macros_of (judge place profile) next [] rest)
 unfolding reading_from
-line_read place profile p skip items n [] begun rest in_line level =
+line_read place profile p skip tables items n [] begun rest in_line level =
     let none = flattened_none begun (is_definition begun) in
     let all = append-nil begun in
     let zero : depth_behind 0 (flattened [] begun) ≡ 0 = ap (depth_behind 0) (none ∙ sym all) ∙ level in
-    rw (is_end_there (depth_behind 0 (flattened [] begun)) n zero) (ap (λ (ps : List Placed). with_statement macros_of (judge place profile) (so_far p skip items) ps >>= λ next. reading_from macros_of (judge place profile) next [] rest) (sym all))
-line_read place profile p skip items n (t ∷ ts) begun rest in_line level =
+    rw (is_end_there (depth_behind 0 (flattened [] begun)) n zero) (ap (λ (ps : List Placed). with_statement macros_of (judge place profile) (so_far p skip tables items) ps >>= λ next. reading_from macros_of (judge place profile) next [] rest) (sym all))
+line_read place profile p skip tables items n (t ∷ ts) begun rest in_line level =
     let split : (begun ++ at_line n t ∷ []) ++ map (at_line n) ts ≡ begun ++ map (at_line n) (t ∷ ts) = append_assoc begun (at_line n t ∷ []) (map (at_line n) ts) in
     rw (not_end (depth_behind 0 (flattened [] begun)) n t in_line.0)
-    (line_read place profile p skip items n ts (begun ++ at_line n t ∷ []) rest in_line.1 (ap (depth_behind 0) split ∙ level)
-    ∙ ap (λ (ps : List Placed). with_statement macros_of (judge place profile) (so_far p skip items) ps >>= λ next. reading_from macros_of (judge place profile) next [] rest) split)
+    (line_read place profile p skip tables items n ts (begun ++ at_line n t ∷ []) rest in_line.1 (ap (depth_behind 0) split ∙ level)
+    ∙ ap (λ (ps : List Placed). with_statement macros_of (judge place profile) (so_far p skip tables items) ps >>= λ next. reading_from macros_of (judge place profile) next [] rest) split)
 
 tokens_at : (n : ℕ) (ts : List Token) → tokens_of (map (at_line n) ts) ≡ ts
 tokens_at n [] = refl
@@ -324,57 +326,57 @@ rule_no_definition profile r n fits =
 rule_value : (profile : Profile) (r : Rule) → FitsRule profile r → value_of profile (rule_tokens r) ≡ Some (Rules (written r))
 rule_value profile r fits = statement_reads profile (rule_tokens r) (Rules (written r)) (RuleStatement (rule_tokens r) (written r) (rule_told profile r fits))
 
-abbrev added : Policy → List Name → List Item → Rule → Result Sofar Refusal
-added p skip items r = Ok (so_far p skip (items ++ Filter r ∷ []))
+abbrev added : Policy → List Name → List TableValue → List Item → Rule → Result Sofar Refusal
+added p skip tables items r = Ok (so_far p skip tables (items ++ Filter r ∷ []))
 
-rule_meant : (place : Place) (profile : Profile) (p : Policy) (skip : List Name) (items : List Item) (n : ℕ) (r : Rule) → FitsRule profile r → length items < 1024 → meant place profile (so_far p skip items) n false (rule_tokens r) ≡ added p skip items r
-rule_meant place profile p skip items n r fits room =
-    ap (λ (value : Option Statement). answered n (so_far p skip items) value (statement_cause place p (length items) value)) (rule_value profile r fits)
-    ∙ ap (answered n (so_far p skip items) (Some (Rules (written r)))) (no_cause place profile p (length items) r fits room)
-    ∙ ap (λ (rs : List Rule). let next : Result Sofar Refusal = Ok (so_far p skip (items ++ map (λ (r : Rule). Filter r) rs)) in next) (expanded_again profile p r fits)
+rule_meant : (place : Place) (profile : Profile) (p : Policy) (skip : List Name) (tables : List TableValue) (items : List Item) (n : ℕ) (r : Rule) → FitsRule profile r → length items < 1024 → meant place profile (so_far p skip tables items) n false (rule_tokens r) ≡ added p skip tables items r
+rule_meant place profile p skip tables items n r fits room =
+    ap (λ (value : Option Statement). answered n (so_far p skip tables items) value (statement_cause place tables (length items) value)) (rule_value profile r fits)
+    ∙ ap (answered n (so_far p skip tables items) (Some (Rules (written r)))) (no_cause place profile tables (length items) r fits room)
+    ∙ ap (λ (rs : List Rule). let next : Result Sofar Refusal = Ok (so_far p skip tables (items ++ map (λ (r : Rule). Filter r) rs)) in next) (expanded_again profile p r fits)
 
 judged_some : (place : Place) (profile : Profile) (sofar : Sofar) (n : ℕ) (w : Bool) (t : Token) (ts : List Token) → judged (judge place profile) sofar n w (map (at_line n) (t ∷ ts)) ≡ unless_fault n (reading_fault sofar.macros 0 0 (t ∷ ts)) (meant place profile sofar n w (t ∷ ts))
 judged_some place profile sofar n w t ts = ap (λ (us : List Token). unless_fault n (reading_fault sofar.macros 0 0 (t ∷ us)) (meant place profile sofar n w (t ∷ us))) (tokens_at n ts)
 
-pub line_judged : (place : Place) (profile : Profile) (p : Policy) (skip : List Name) (items : List Item) (n : ℕ) (ts : List Token) → 0 < length ts → is_definition (map (at_line n) ts) ≡ false → reading_fault [] 0 0 ts ≡ None → with_statement macros_of (judge place profile) (so_far p skip items) (map (at_line n) ts) ≡ meant place profile (so_far p skip items) n false ts
-line_judged place profile p skip items n [] some plain good = absurd (omega arith)
-line_judged place profile p skip items n (t ∷ ts) some plain good =
-    ap (λ (w : Bool). judged (judge place profile) (so_far p skip items) n w (flat_map (replaced [] w) (map (at_line n) (t ∷ ts)))) plain
-    ∙ ap (judged (judge place profile) (so_far p skip items) n false) (flattened_none (map (at_line n) (t ∷ ts)) false)
-    ∙ judged_some place profile (so_far p skip items) n false t ts
-    ∙ ap (λ (o : Option ReadingFault). unless_fault n o (meant place profile (so_far p skip items) n false (t ∷ ts))) good
+pub line_judged : (place : Place) (profile : Profile) (p : Policy) (skip : List Name) (tables : List TableValue) (items : List Item) (n : ℕ) (ts : List Token) → 0 < length ts → is_definition (map (at_line n) ts) ≡ false → reading_fault [] 0 0 ts ≡ None → with_statement macros_of (judge place profile) (so_far p skip tables items) (map (at_line n) ts) ≡ meant place profile (so_far p skip tables items) n false ts
+line_judged place profile p skip tables items n [] some plain good = absurd (omega arith)
+line_judged place profile p skip tables items n (t ∷ ts) some plain good =
+    ap (λ (w : Bool). judged (judge place profile) (so_far p skip tables items) n w (flat_map (replaced [] w) (map (at_line n) (t ∷ ts)))) plain
+    ∙ ap (judged (judge place profile) (so_far p skip tables items) n false) (flattened_none (map (at_line n) (t ∷ ts)) false)
+    ∙ judged_some place profile (so_far p skip tables items) n false t ts
+    ∙ ap (λ (o : Option ReadingFault). unless_fault n o (meant place profile (so_far p skip tables items) n false (t ∷ ts))) good
 
 some_action : (a : Action) (ts : List Token) → 0 < length (action_tokens a ++ ts)
 some_action act.Pass ts = omega arith
 some_action act.Drop ts = omega arith
 some_action act.Return ts = omega arith
 
-simple_in_line : (ts : List Token) → AllByRecursion Simple ts → AreInLine ts
+pub simple_in_line : (ts : List Token) → AllByRecursion Simple ts → AreInLine ts
 simple_in_line [] simple = tt
 simple_in_line (t ∷ ts) simple = (simple.0.in_line, simple_in_line ts simple.1)
 
-simple_level : (n d : ℕ) (ts : List Token) → AllByRecursion Simple ts → depth_behind d (map (at_line n) ts) ≡ d
+pub simple_level : (n d : ℕ) (ts : List Token) → AllByRecursion Simple ts → depth_behind d (map (at_line n) ts) ≡ d
 simple_level n d [] simple = refl
 simple_level n d (t ∷ ts) simple = ap (λ (k : ℕ). depth_behind k (map (at_line n) ts)) (simple.0.level d) ∙ simple_level n d ts simple.1
 
-rule_added : (place : Place) (profile : Profile) (p : Policy) (skip : List Name) (items : List Item) (n : ℕ) (r : Rule) → FitsRule profile r → length items < 1024 → with_statement macros_of (judge place profile) (so_far p skip items) (map (at_line n) (rule_tokens r)) ≡ added p skip items r
-rule_added place profile p skip items n r fits room =
+rule_added : (place : Place) (profile : Profile) (p : Policy) (skip : List Name) (tables : List TableValue) (items : List Item) (n : ℕ) (r : Rule) → FitsRule profile r → length items < 1024 → with_statement macros_of (judge place profile) (so_far p skip tables items) (map (at_line n) (rule_tokens r)) ≡ added p skip tables items r
+rule_added place profile p skip tables items n r fits room =
     let short = rule_short r in
-    line_judged place profile p skip items n (rule_tokens r) (some_action r.action _) (rule_no_definition profile r n fits) (no_fault (rule_tokens r) 0 short.simple (let h = short.short in omega (arith, h)))
-    ∙ rule_meant place profile p skip items n r fits room
+    line_judged place profile p skip tables items n (rule_tokens r) (some_action r.action _) (rule_no_definition profile r n fits) (no_fault (rule_tokens r) 0 short.simple (let h = short.short in omega (arith, h)))
+    ∙ rule_meant place profile p skip tables items n r fits room
 
 abbrev pub FitsItem : Profile → Item → Type 0
 FitsItem profile (Filter r) = FitsRule profile r
 
 -- shown rules are read as themselves
-pub items_again : (place : Place) (profile : Profile) (items : List Item) (p : Policy) (skip : List Name) (before : List Item) (n : ℕ) → AllByRecursion (FitsItem profile) items → length before + length items ≤ 1024
-    → reading_from macros_of (judge place profile) (so_far p skip before) [] (lexed n (shown_items items)) ≡ Ok (so_far p skip (before ++ items))
+pub items_again : (place : Place) (profile : Profile) (items : List Item) (p : Policy) (skip : List Name) (tables : List TableValue) (before : List Item) (n : ℕ) → AllByRecursion (FitsItem profile) items → length before + length items ≤ 1024
+    → reading_from macros_of (judge place profile) (so_far p skip tables before) [] (lexed n (shown_items items)) ≡ Ok (so_far p skip tables (before ++ items))
 unfolding reading_from
-items_again place profile [] p skip before n fits room = ap (λ (is : List Item). let next : Result Sofar Refusal = Ok (so_far p skip is) in next) (sym (append-nil before))
-items_again place profile (Filter r ∷ items) p skip before n fits room =
+items_again place profile [] p skip tables before n fits room = ap (λ (is : List Item). let next : Result Sofar Refusal = Ok (so_far p skip tables is) in next) (sym (append-nil before))
+items_again place profile (Filter r ∷ items) p skip tables before n fits room =
     let simple = (rule_short r).simple in
-    ap (reading_from macros_of (judge place profile) (so_far p skip before) []) (rule_line profile r n (shown_items items) fits.0)
-    ∙ line_read place profile p skip before n (rule_tokens r) [] (lexed (n + 1) (shown_items items)) (simple_in_line (rule_tokens r) simple) (simple_level n 0 (rule_tokens r) simple)
-    ∙ ap (λ (o : Result Sofar Refusal). o >>= λ next. reading_from macros_of (judge place profile) next [] (lexed (n + 1) (shown_items items))) (rule_added place profile p skip before n r fits.0 (omega (arith, room)))
-    ∙ items_again place profile items p skip (before ++ Filter r ∷ []) (n + 1) fits.1 (let l = length-append before (Filter r ∷ []) in omega (arith, l, room))
-    ∙ ap (λ (is : List Item). let next : Result Sofar Refusal = Ok (so_far p skip is) in next) (append_assoc before (Filter r ∷ []) items)
+    ap (reading_from macros_of (judge place profile) (so_far p skip tables before) []) (rule_line profile r n (shown_items items) fits.0)
+    ∙ line_read place profile p skip tables before n (rule_tokens r) [] (lexed (n + 1) (shown_items items)) (simple_in_line (rule_tokens r) simple) (simple_level n 0 (rule_tokens r) simple)
+    ∙ ap (λ (o : Result Sofar Refusal). o >>= λ next. reading_from macros_of (judge place profile) next [] (lexed (n + 1) (shown_items items))) (rule_added place profile p skip tables before n r fits.0 (omega (arith, room)))
+    ∙ items_again place profile items p skip tables (before ++ Filter r ∷ []) (n + 1) fits.1 (let l = length-append before (Filter r ∷ []) in omega (arith, l, room))
+    ∙ ap (λ (is : List Item). let next : Result Sofar Refusal = Ok (so_far p skip tables is) in next) (append_assoc before (Filter r ∷ []) items)

@@ -5,25 +5,25 @@ use Rattle.std.specs.List.{list_any, list_all}
 use Rattle.std.proofs.lemmas.Bool.{false≢true, leb-true}
 use Rattle.std.proofs.lemmas.Bool.Decides.{nat_tests}
 use Rattle.pf_addr.specs.declared.addr.Addr.{Addr}
-use Rattle.pf_addr.specs.Blocks.{Span, span_of, is_span, FitsAddr}
+use Rattle.pf_addr.specs.Blocks.{Span, span_of, is_span, FitsAddr, Block}
 use Rattle.pf_addr.specs.Spelling.{cut_at}
-use Rattle.pf_addr.proofs.Made.{block_fits, addr_fits}
-use Rattle.pf_tokens.specs.declared.profile.Profile.{Profile}
+use Rattle.pf_addr.proofs.Made.{block_fits, addr_fits, FitsBlock}
+use Rattle.pf_words.specs.declared.profile.Profile.{Profile}
 use Rattle.pf_tokens.specs.Tokens.{Token}
 use Rattle.pf_tokens.specs.Shorter.{some_is}
-use Rattle.pf_statements.specs.declared.parts.Addresses.{Addresses}
-use Rattle.pf_statements.specs.declared.parts.Host.{Host}
-use Rattle.pf_statements.specs.declared.parts.PortTest.{PortTest}
-use Rattle.pf_statements.specs.declared.parts.PortTest.TheVariants.{Equal, NotEqual, Less, LessEqual, Greater, GreaterEqual, FromTo, Between, Outside}
+use Rattle.pf_ruleset.specs.declared.parts.Addresses.{Addresses}
+use Rattle.pf_ruleset.specs.declared.parts.Host.{Host}
+use Rattle.pf_ruleset.specs.declared.parts.PortTest.{PortTest}
+use Rattle.pf_ruleset.specs.declared.parts.PortTest.TheVariants.{Equal, NotEqual, Less, LessEqual, Greater, GreaterEqual, FromTo, Between, Outside}
 use Rattle.pf_words.specs.declared.flags.TcpFlags.{TcpFlags}
-use Rattle.pf_statements.specs.declared.parts.FlagTest.{FlagTest}
-use Rattle.pf_statements.specs.declared.written.Protocol.{Protocol}
-use Rattle.pf_statements.specs.declared.written.WrittenPort.{WrittenPort}
-use Rattle.pf_statements.specs.declared.written.WrittenType.{WrittenType}
+use Rattle.pf_ruleset.specs.declared.parts.FlagTest.{FlagTest}
+use Rattle.pf_conditions.specs.declared.written.Protocol.{Protocol}
+use Rattle.pf_conditions.specs.declared.written.WrittenPort.{WrittenPort}
+use Rattle.pf_conditions.specs.declared.written.WrittenType.{WrittenType}
 use Rattle.pf_words.specs.Words.{decimal_value, is_decimal, number_of, Named, named, or_else, protocols, protocol_of, services, port_of, icmp_types, icmp_type_of, has, is_letter, are_letters, flags_with, flags_of, no_flags, is_within}
-use Rattle.pf_statements.specs.Statements.{one_port, two_ports, lone_word, lone_test, colon_parts}
-use Rattle.pf_statements.specs.Grammar.{IsProtocol, ProtocolWord, IsAddresses, WholeAddress, CutAddress, AddressRange, IsHost, AnyWord, HostIn, HostNotIn, EqualsSign, NotEqualSign, LessSign, LessEqualSign, GreaterSign, GreaterEqualSign, BetweenSign, OutsideSign, IsPort, PortAlone, PortCompared, PortBounds, IsFlags, AnyFlags, NoneOf, SomeOf, IsType, TypeWord}
-use Rattle.pf_ruleset.specs.Shown.{letter, letters}
+use Rattle.pf_conditions.specs.Conditions.{one_port, two_ports, lone_word, lone_test, colon_parts}
+use Rattle.pf_conditions.specs.Grammar.{IsProtocol, ProtocolWord, IsPrefix, WholeAddress, CutAddress, TableSign, IsSet, PrefixSet, RangeSet, TableSet, IsHost, AnyWord, HostIn, HostNotIn, EqualsSign, NotEqualSign, LessSign, LessEqualSign, GreaterSign, GreaterEqualSign, BetweenSign, OutsideSign, IsPort, PortAlone, PortCompared, PortBounds, IsFlags, AnyFlags, NoneOf, SomeOf, IsType, TypeWord}
+use Rattle.pf_show.specs.Shown.{letter, letters}
 use Rattle.pf_grammar.proofs.Numbers.{lt_is}
 use Rattle.pf_grammar.proofs.Told.{FitsAddresses, FitsHost, FitsTest, FitsIf, FitsFlags}
 
@@ -44,15 +44,19 @@ span_fits a b span p q e = cases (is_span a b) refl e
         subst FitsSpan same (p, q, (rw is refl))
     cases false is e = absurd cc
 
-pub addresses_fit : (ts : List Token) (set : Addresses) → IsAddresses ts set → FitsAddresses set
-addresses_fit _ _ (WholeAddress addr block e) = block_fits addr None block e
-addresses_fit _ _ (CutAddress addr len block e) = block_fits addr (Some len) block e
-addresses_fit _ _ (AddressRange first last a b span e f g) = span_fits a b span (addr_fits first a e) (addr_fits last b f) g
+pub prefix_fits : (ts : List Token) (block : Block) → IsPrefix ts block → FitsBlock block
+prefix_fits _ _ (WholeAddress addr block e) = block_fits addr None block e
+prefix_fits _ _ (CutAddress addr len block e) = block_fits addr (Some len) block e
 
-pub host_fits : (ts : List Token) (h : Host) → IsHost ts h → FitsHost h
-host_fits _ _ AnyWord = tt
-host_fits _ _ (HostIn ts set is) = addresses_fit ts set is
-host_fits _ _ (HostNotIn ts set is) = addresses_fit ts set is
+pub set_fits : (profile : Profile) (ts : List Token) (set : Addresses) → IsSet profile ts set → FitsAddresses profile set
+set_fits profile _ _ (PrefixSet ts block is) = prefix_fits ts block is
+set_fits profile _ _ (RangeSet first last a b span e f g) = span_fits a b span (addr_fits first a e) (addr_fits last b f) g
+set_fits profile _ _ (TableSet _ _ (TableSign name e)) = e
+
+pub host_fits : (profile : Profile) (ts : List Token) (h : Host) → IsHost profile ts h → FitsHost profile h
+host_fits profile _ _ AnyWord = tt
+host_fits profile _ _ (HostIn ts set is) = set_fits profile ts set is
+host_fits profile _ _ (HostNotIn ts set is) = set_fits profile ts set is
 
 -- ---- numbers
 

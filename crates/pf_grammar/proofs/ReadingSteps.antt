@@ -2,7 +2,7 @@
 use Rattle.std.proofs.Common.{◌≡◌, ℕ, ◌+◌, ◌<◌, ◌≤◌, Bool, true, false, List, [], ◌∷◌, ◌++◌, length, map, drop, Option, Some, None, option_map, Result, Ok, Err, refl, sym, ap, ◌∙◌, arith, length-append}
 use Rattle.std.proofs.lemmas.Bool.{false≢true}
 use Rattle.std.proofs.lemmas.List.{map-append, length-map}
-use Rattle.pf_tokens.specs.declared.profile.Profile.{Profile}
+use Rattle.pf_words.specs.declared.profile.Profile.{Profile}
 use Rattle.pf_tokens.specs.declared.defining.DefinitionFault.{DefinitionFault}
 use Rattle.pf_tokens.specs.declared.defining.DefinitionFault.TheVariants as defining
 use Rattle.pf_tokens.specs.declared.fault.ReadingFault.{ReadingFault}
@@ -18,22 +18,26 @@ use Rattle.pf_tokens.proofs.Walking.{reading_begins, later_shorter}
 use Rattle.std.specs.Prelude.{nat_lt}
 use Rattle.std.proofs.lemmas.Bool.{or_parts}
 use Rattle.std.proofs.lemmas.Bool.Decides.{nat_tests}
-use Rattle.pf_grammar.specs.declared.fault.Cause.{Cause}
+use Rattle.pf_expansion.specs.declared.cause.Cause.{Cause}
 use Rattle.pf_grammar.specs.declared.fault.ParseFault.{ParseFault}
 use Rattle.pf_grammar.specs.declared.fault.ParseFault.TheVariants as faults
 use Rattle.pf_grammar.specs.declared.fault.Refusal.{Refusal}
-use Rattle.pf_statements.specs.declared.parts.Policy.{Policy}
+use Rattle.pf_ruleset.specs.declared.parts.Policy.{Policy}
 use Rattle.pf_ruleset.specs.declared.rule.Rule.{Rule}
 use Rattle.pf_ruleset.specs.declared.ruleset.Item.TheVariants.{Filter}
 use Rattle.pf_grammar.specs.declared.place.Place.{Place}
-use Rattle.pf_statements.specs.Statements.{Statement, Sets, Rules, SetPolicy, SetSkip, RuleText}
-use Rattle.pf_grammar.specs.Expansion.{expanded}
-use Rattle.pf_grammar.specs.Causes.{has_too_many, bad_ports, has_no_combination, bad_types, lowest, rule_causes, setting_causes, statement_cause}
+use Rattle.pf_statements.specs.Statements.{Statement, Sets, Rules, SetPolicy, SetSkip, RuleText, Tables}
+use Rattle.pf_expansion.specs.Expansion.{expanded, combined, rule_flags, rule_with}
+use Rattle.pf_expansion.specs.Causes.{has_too_many, bad_ports, has_no_combination, bad_types, lowest, rule_causes}
+use Rattle.pf_grammar.specs.Causes.{setting_causes, statement_cause}
 use Rattle.pf_grammar.specs.Reading.{Sofar, judge, macros_of, answered, taken, defined, meant, unless_fault, nothing, reading, made_if, Fails}
 use Rattle.pf_grammar.specs.Gathering.{Judges}
+use Rattle.pf_ruleset.specs.Rulesets.{table_of}
+use Rattle.pf_ruleset.specs.declared.ruleset.TableDef.{TableDef}
+use Rattle.pf_expansion.specs.Tables.{table_causes}
 
-pub map_push : (ms : List Macro) (m : Macro) → map definition_of (ms ++ m ∷ []) ≡ map definition_of ms ++ definition_of m ∷ []
-map_push ms m = map-append definition_of ms (m ∷ [])
+pub tables_push : (ts : List TableDef) (t : TableDef) → map table_of (ts ++ t ∷ []) ≡ map table_of ts ++ table_of t ∷ []
+tables_push ts t = map-append table_of ts (t ∷ [])
 
 -- ---- one statement
 
@@ -98,16 +102,20 @@ third false false true d p q r s e = absurd (let h = e in cc)
 below : (n : ℕ) → nat_lt 1024 n ≡ false → n ≤ 1024
 below n e = grind (arith, nat_tests, e)
 
-few_rules : (p : Policy) (items : ℕ) (text : RuleText) → lowest (rule_causes p items text) ≡ None → items + length (expanded p text) ≤ 1024
-unfolding has_too_many
-few_rules p items text e = below (items + length (expanded p text)) (or_parts _ _ (third (bad_ports text) (has_no_combination p text) (has_too_many p items text) (bad_types text) _ _ _ _ e)).1
+few_rules : (p : Policy) (items : ℕ) (text : RuleText) → lowest (rule_causes items text) ≡ None → items + length (expanded p text) ≤ 1024
+unfolding has_too_many expanded
+few_rules p items text e =
+    let found = combined (rule_flags text) text.conditions in
+    let small : items + length found ≤ 1024 = below (items + length found) (or_parts _ _ (third (bad_ports text.conditions) (has_no_combination (rule_flags text) text.conditions) (has_too_many (rule_flags text) items text.conditions) (bad_types text.conditions) _ _ _ _ e)).1 in
+    omega (arith, small, length-map found (rule_with p text))
 
-few_taken : (line : ℕ) (place : Place) (sofar next : Sofar) (value : Option Statement) → length sofar.items ≤ 1024 → answered line sofar value (statement_cause place sofar.policy (length sofar.items) value) ≡ Ok next → length next.items ≤ 1024
+few_taken : (line : ℕ) (place : Place) (sofar next : Sofar) (value : Option Statement) → length sofar.items ≤ 1024 → answered line sofar value (statement_cause place sofar.tables (length sofar.items) value) ≡ Ok next → length next.items ≤ 1024
 few_taken line place sofar next None few e = absurd (let h = e in cc)
 few_taken line place sofar next (Some (Sets (SetPolicy policy))) few e = omega (arith, few, ap (λ (s : Sofar). length s.items) (answered_ok line sofar next (Some (Sets (SetPolicy policy))) (lowest (setting_causes place (SetPolicy policy))) e).1)
 few_taken line place sofar next (Some (Sets (SetSkip names))) few e = omega (arith, few, ap (λ (s : Sofar). length s.items) (answered_ok line sofar next (Some (Sets (SetSkip names))) (lowest (setting_causes place (SetSkip names))) e).1)
+few_taken line place sofar next (Some (Tables t)) few e = omega (arith, few, ap (λ (s : Sofar). length s.items) (answered_ok line sofar next (Some (Tables t)) (lowest (table_causes sofar.tables t)) e).1)
 few_taken line place sofar next (Some (Rules text)) few e =
-    let a = answered_ok line sofar next (Some (Rules text)) (lowest (rule_causes sofar.policy (length sofar.items) text)) e in
+    let a = answered_ok line sofar next (Some (Rules text)) (lowest (rule_causes (length sofar.items) text)) e in
     omega (arith, few_rules sofar.policy (length sofar.items) text a.0, ap (λ (s : Sofar). length s.items) a.1, length-append sofar.items (map (λ (r : Rule). Filter r) (expanded sofar.policy text)), length-map (expanded sofar.policy text) (λ (r : Rule). Filter r))
 
 few_defined : (line : ℕ) (sofar next : Sofar) (read : Result Definition DefinitionFault) → length sofar.items ≤ 1024 → defined line sofar read ≡ Ok next → length next.items ≤ 1024

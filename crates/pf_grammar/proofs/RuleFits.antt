@@ -3,29 +3,33 @@ use Rattle.std.proofs.Common.{◌≡◌, ℕ, ◌≤◌, ◌&&◌, ◌||◌, Boo
 use Rattle.std.specs.Prelude.{is_some, is_none, not, flat_map}
 use Rattle.std.specs.List.{AllByRecursion, list_any, list_all}
 use Rattle.std.proofs.lemmas.Bool.{false≢true}
-use Rattle.pf_tokens.specs.declared.profile.Profile.{Profile}
+use Rattle.pf_words.specs.declared.profile.Profile.{Profile}
 use Rattle.pf_tokens.specs.Tokens.{Token}
 use Rattle.pf_tokens.specs.Lists.{Elements}
 use Rattle.pf_tokens.specs.Shorter.{some_is}
-use Rattle.pf_statements.specs.declared.parts.Policy.{Policy}
-use Rattle.pf_statements.specs.declared.parts.Policy.TheVariants as policy
-use Rattle.pf_statements.specs.declared.parts.Family.{Family}
-use Rattle.pf_statements.specs.declared.parts.Family.TheVariants.{Inet, Inet6}
-use Rattle.pf_statements.specs.declared.parts.Interface.{Interface}
-use Rattle.pf_statements.specs.declared.parts.FlagTest.{FlagTest}
+use Rattle.pf_ruleset.specs.declared.parts.Policy.{Policy}
+use Rattle.pf_ruleset.specs.declared.parts.Policy.TheVariants as policy
+use Rattle.pf_addr.specs.declared.addr.Family.{Family}
+use Rattle.pf_addr.specs.declared.addr.Family.TheVariants.{Inet, Inet6}
+use Rattle.pf_ruleset.specs.declared.parts.Interface.{Interface}
+use Rattle.pf_ruleset.specs.declared.parts.FlagTest.{FlagTest}
 use Rattle.pf_statements.specs.declared.written.WrittenAction.{WrittenAction}
 use Rattle.pf_statements.specs.declared.written.WrittenAction.TheVariants.{Pass, Block as Blocks}
-use Rattle.pf_statements.specs.declared.written.Protocol.{Protocol}
-use Rattle.pf_statements.specs.declared.written.WrittenPort.{WrittenPort}
-use Rattle.pf_statements.specs.declared.written.WrittenType.{WrittenType}
+use Rattle.pf_conditions.specs.declared.written.Protocol.{Protocol}
+use Rattle.pf_conditions.specs.declared.written.WrittenPort.{WrittenPort}
+use Rattle.pf_conditions.specs.declared.written.WrittenType.{WrittenType}
 use Rattle.pf_words.specs.Words.{is_interface_name, is_within}
-use Rattle.pf_statements.specs.Statements.{Ends, any_end, Options, no_options, RuleText, has_types}
-use Rattle.pf_statements.specs.Grammar.{IsSome, IsBehind, Missing, Behind, IsPort, IsPart, PartHosts, PartPorts, IsHosts, NoHosts, AllWord, FromPart, ToPart, FromToParts, IsTypes, TypeAlone, TypeList, IsOptions, NoOption, FlagsOption, StateOption, TypesOption, IsRule}
-use Rattle.pf_grammar.specs.Expansion.{choices, host_family, type_family, with_family, occurring, resolved, keeps_state, tested_flags, Combination, nothing_chosen, number_in, test_in, type_in, rule_with, families, rules_if, rules_of, by_type, by_destination_port, by_destination, by_source_port, by_source, by_protocol, by_interface, expanded}
-use Rattle.pf_grammar.specs.Causes.{any_listed, all_listed, is_bad_port, has_ports, says_ports, bad_ports, is_bad_type, is_icmp, bad_types}
+use Rattle.pf_conditions.specs.Conditions.{Ends, any_end}
+use Rattle.pf_statements.specs.Statements.{Options, no_options, RuleText, has_types}
+use Rattle.pf_conditions.specs.Grammar.{IsSome, IsBehind, Missing, Behind, IsPort, IsPart, PartHosts, PartPorts, IsHosts, NoHosts, AllWord, FromPart, ToPart, FromToParts, IsTypes, TypeAlone, TypeList}
+use Rattle.pf_statements.specs.Grammar.{IsOptions, NoOption, FlagsOption, StateOption, TypesOption, IsRule}
+use Rattle.pf_expansion.specs.Expansion.{choices, host_family, type_family, with_family, occurring, resolved, keeps_state, tested_flags, Combination, nothing_chosen, number_in, test_in, type_in, rule_flags, rule_with, conditions_with, families, conditions_if, conditions_at, by_type, by_destination_port, by_destination, by_source_port, by_source, by_protocol, by_interface, combined, expanded}
+use Rattle.pf_expansion.specs.Causes.{any_listed, all_listed, is_bad_port, has_ports, says_ports, bad_ports, is_bad_type, is_icmp, bad_types}
 use Rattle.pf_grammar.proofs.Made.{interface_fits, some_fits, list_fits}
 use Rattle.pf_grammar.proofs.PartsFit.{host_fits, port_fits, protocol_fits, type_fits, type_of_fits, flags_fit}
-use Rattle.pf_grammar.proofs.Told.{FitsHost, FitsTest, FitsIf, FitsFlags, FitsState, FitsType, FitsRule, ported}
+use Rattle.pf_grammar.proofs.Told.{FitsHost, FitsTest, FitsIf, FitsFlags, FitsState, FitsType, FitsConditions, FitsRule, ported}
+use Rattle.pf_ruleset.specs.declared.rule.Conditions.{Conditions}
+use Rattle.pf_conditions.specs.Conditions.{ConditionsText}
 
 -- ---- what a written rule is
 
@@ -41,20 +45,21 @@ FitsNumber t = FitsIf (λ n. n ≤ 255) t.number
 abbrev pub AllFit : {X : Type 0} → (X → Type 0) → Elements X → Type 0
 AllFit Fits list = AllByRecursion Fits list.items
 
-pub record FitsEnd (e : Ends) : Type 0 where
-  pub hosts : AllFit FitsHost e.hosts
+pub record FitsEnd (profile : Profile) (e : Ends) : Type 0 where
+  pub hosts : AllFit (FitsHost profile) e.hosts
   pub ports : FitsIf (AllFit FitsPort) e.ports
 
 pub record FitsOptions (profile : Profile) (o : Options) : Type 0 where
   pub flags : FitsIf FitsFlags o.flags
   pub types : FitsIf (λ list. (has_types profile ≡ true) × AllFit FitsNumber list) o.types
 
-pub record FitsText (profile : Profile) (text : RuleText) : Type 0 where
-  pub interfaces : FitsIf (AllFit (FitsName profile)) text.interfaces
-  pub protocols : FitsIf (AllFit (λ (p : Protocol). p.number ≤ 255)) text.protocols
-  pub source : FitsEnd text.source
-  pub destination : FitsEnd text.destination
-  pub options : FitsOptions profile text.options
+pub record FitsText (profile : Profile) (text : ConditionsText) : Type 0 where
+  pub interfaces : FitsIf (AllFit (FitsName profile)) text.common.interfaces
+  pub protocols : FitsIf (AllFit (λ (p : Protocol). p.number ≤ 255)) text.common.protocols
+  pub source : FitsEnd profile text.common.source
+  pub destination : FitsEnd profile text.common.destination
+  pub flags : FitsIf FitsFlags text.flags
+  pub types : FitsIf (λ list. (has_types profile ≡ true) × AllFit FitsNumber list) text.types
 
 behind_fits : {X : Type 0} {word : List ℕ} {Is : List Token → X → Type 0} (P : X → Type 0) → ((ts : List Token) (x : X) → Is ts x → P x) → (ts : List Token) (o : Option X) → IsBehind word Is ts o → FitsIf P o
 behind_fits P each _ _ Missing = tt
@@ -63,18 +68,18 @@ behind_fits P each _ _ (Behind ts x is) = each ts x is
 ports_fit : (profile : Profile) (ts : List Token) (o : Option (Elements WrittenPort)) (word : List ℕ) → IsBehind word (IsSome (IsPort profile)) ts o → FitsIf (AllFit FitsPort) o
 ports_fit profile ts o word is = behind_fits (AllFit FitsPort) (some_fits FitsPort (port_fits profile)) ts o is
 
-any_fits : FitsEnd any_end
-any_fits = record { hosts = (tt, tt); ports = tt }
+any_fits : (profile : Profile) → FitsEnd profile any_end
+any_fits profile = record { hosts = (tt, tt); ports = tt }
 
-part_fits : (profile : Profile) (ts : List Token) (e : Ends) → IsPart profile ts e → FitsEnd e
-part_fits profile _ _ (PartHosts ts us hosts ports is_h is_p) = record { hosts = some_fits FitsHost host_fits ts hosts is_h; ports = ports_fit profile us ports _ is_p }
+part_fits : (profile : Profile) (ts : List Token) (e : Ends) → IsPart profile ts e → FitsEnd profile e
+part_fits profile _ _ (PartHosts ts us hosts ports is_h is_p) = record { hosts = some_fits (FitsHost profile) (host_fits profile) ts hosts is_h; ports = ports_fit profile us ports _ is_p }
 part_fits profile _ _ (PartPorts ts ports is) = record { hosts = (tt, tt); ports = some_fits FitsPort (port_fits profile) ts ports is }
 
-hosts_fit : (profile : Profile) (ts : List Token) (s d : Ends) → IsHosts profile ts s d → FitsEnd s × FitsEnd d
-hosts_fit profile _ _ _ NoHosts = (any_fits, any_fits)
-hosts_fit profile _ _ _ AllWord = (any_fits, any_fits)
-hosts_fit profile _ _ _ (FromPart ts s is) = (part_fits profile ts s is, any_fits)
-hosts_fit profile _ _ _ (ToPart ts d is) = (any_fits, part_fits profile ts d is)
+hosts_fit : (profile : Profile) (ts : List Token) (s d : Ends) → IsHosts profile ts s d → FitsEnd profile s × FitsEnd profile d
+hosts_fit profile _ _ _ NoHosts = (any_fits profile, any_fits profile)
+hosts_fit profile _ _ _ AllWord = (any_fits profile, any_fits profile)
+hosts_fit profile _ _ _ (FromPart ts s is) = (part_fits profile ts s is, any_fits profile)
+hosts_fit profile _ _ _ (ToPart ts d is) = (any_fits profile, part_fits profile ts d is)
 hosts_fit profile _ _ _ (FromToParts ts us s d is_s is_d) = (part_fits profile ts s is_s, part_fits profile us d is_d)
 
 types_fit : (profile : Profile) (ts : List Token) (list : Elements WrittenType) → IsTypes profile ts list → AllFit FitsNumber list
@@ -88,15 +93,19 @@ options_fit profile _ _ _ (StateOption o all word us keep none is more) fits = o
 options_fit profile _ _ _ (TypesOption o all ts us types has none is more) fits = options_fit profile (record o { types = Some types }) us all more (record { flags = fits.flags; types = (has, types_fit profile ts types is) })
 
 -- a rule of the grammar is such a one
-pub text_fits : (profile : Profile) (ts : List Token) (text : RuleText) → IsRule profile ts text → FitsText profile text
+pub text_fits : (profile : Profile) (ts : List Token) (text : RuleText) → IsRule profile ts text → FitsText profile text.conditions
 text_fits profile ts text is =
-    let hosts = hosts_fit profile is.hosts text.source text.destination is.are_hosts in
+    let common = text.conditions.common in
+    let c = is.is_common in
+    let hosts = hosts_fit profile c.hosts common.source common.destination c.are_hosts in
+    let options = options_fit profile no_options is.options _ is.are_options (record { flags = tt; types = tt }) in
     record {
-      interfaces = behind_fits (AllFit (FitsName profile)) (some_fits (FitsName profile) (interface_fits profile)) is.interfaces text.interfaces is.are_interfaces;
-      protocols = behind_fits (AllFit (λ (p : Protocol). p.number ≤ 255)) (some_fits (λ (p : Protocol). p.number ≤ 255) protocol_fits) is.protocols text.protocols is.are_protocols;
+      interfaces = behind_fits (AllFit (FitsName profile)) (some_fits (FitsName profile) (interface_fits profile)) c.interfaces common.interfaces c.are_interfaces;
+      protocols = behind_fits (AllFit (λ (p : Protocol). p.number ≤ 255)) (some_fits (λ (p : Protocol). p.number ≤ 255) protocol_fits) c.protocols common.protocols c.are_protocols;
       source = hosts.0;
       destination = hosts.1;
-      options = options_fit profile no_options is.options text.options is.are_options (record { flags = tt; types = tt });
+      flags = options.flags;
+      types = options.types;
     }
 
 -- ---- families
@@ -261,23 +270,23 @@ type_family_ok (Some t) some = number t.number some
     number (Some k) e = refl
 
 -- what one chosen in each place is
-pub record FitsChosen (profile : Profile) (text : RuleText) (c : Combination) : Type 0 where
+pub record FitsChosen (profile : Profile) (text : ConditionsText) (c : Combination) : Type 0 where
   pub interface : FitsIf (FitsName profile) c.interface
   pub protocol : FitsIf (λ (p : Protocol). p.number ≤ 255) c.protocol
   pub ported : says_ports text ≡ true → Passes has_ports c.protocol
-  pub pinged : is_some text.options.types ≡ true → Passes is_icmp c.protocol
-  pub source : FitsHost c.source
+  pub pinged : is_some text.types ≡ true → Passes is_icmp c.protocol
+  pub source : FitsHost profile c.source
   pub source_port : FitsIf FitsPort c.source_port
   pub source_said : is_some c.source_port ≡ true → says_ports text ≡ true
-  pub destination : FitsHost c.destination
+  pub destination : FitsHost profile c.destination
   pub destination_port : FitsIf FitsPort c.destination_port
   pub destination_said : is_some c.destination_port ≡ true → says_ports text ≡ true
   pub types : FitsIf (FitsTyped profile) c.icmp_type
-  pub typed : is_some c.icmp_type ≡ true → is_some text.options.types ≡ true
+  pub typed : is_some c.icmp_type ≡ true → is_some text.types ≡ true
   pub good : FitsIf (λ (w : WrittenType). is_some w.number ≡ true) c.icmp_type
 
-pub rule_fits : (profile : Profile) (p : Policy) (text : RuleText) (c : Combination) (family : Option Family) → FitsText profile text → FitsChosen profile text c → occurring (families text c) ≡ Some family → FitsRule profile (rule_with p text c family)
-rule_fits profile p text c family text_fits fits e = record {
+conditions_fit : (profile : Profile) (test : FlagTest) (text : ConditionsText) (c : Combination) (family : Option Family) → FitsFlags test → FitsChosen profile text c → occurring (families text c) ≡ Some family → FitsConditions profile (conditions_with test text c family)
+conditions_fit profile test text c family test_fits fits e = record {
   interface = fits.interface;
   protocol = protocol_ok c.protocol fits.protocol;
   source = fits.source;
@@ -286,20 +295,19 @@ rule_fits profile p text c family text_fits fits e = record {
   destination_port = port_ok c.destination_port fits.destination_port;
   family =
       ap (λ (t : Option Family). occurring (family ∷ host_family c.source ∷ host_family c.destination ∷ t ∷ [])) (type_family_ok c.icmp_type fits.good)
-      ∙ family_again text.family (occurring (host_family c.source ∷ host_family c.destination ∷ type_family c.icmp_type ∷ [])) family e;
+      ∙ family_again text.common.family (occurring (host_family c.source ∷ host_family c.destination ∷ type_family c.icmp_type ∷ [])) family e;
   ports = ports_ok c.source_port c.destination_port c.protocol (says_ports text) fits.source_said fits.destination_said fits.ported;
   types = type_ok profile c.protocol c.icmp_type fits.types (λ h. fits.pinged (fits.typed h));
-  flags = flags_ok (keeps_state text.action text.options.state) text.options.flags text_fits.options.flags;
-  state = state_ok p text.action text.options.state;
+  flags = test_fits;
 }
 
-rules_fit : (profile : Profile) (p : Policy) (text : RuleText) (c : Combination) → FitsText profile text → FitsChosen profile text c → AllByRecursion (FitsRule profile) (rules_of p text c)
-unfolding rules_of
-rules_fit profile p text c text_fits fits = cases (occurring (families text c)) refl
+chosen_fit : (profile : Profile) (test : FlagTest) (text : ConditionsText) (c : Combination) → FitsFlags test → FitsChosen profile text c → AllByRecursion (FitsConditions profile) (conditions_at test text c)
+unfolding conditions_at
+chosen_fit profile test text c test_fits fits = cases (occurring (families text c)) refl
   where
-    cases : (o : Option (Option Family)) → occurring (families text c) ≡ o → AllByRecursion (FitsRule profile) (rules_if p text c o)
+    cases : (o : Option (Option Family)) → occurring (families text c) ≡ o → AllByRecursion (FitsConditions profile) (conditions_if test text c o)
     cases None e = tt
-    cases (Some family) e = (rule_fits profile p text c family text_fits fits e, tt)
+    cases (Some family) e = (conditions_fit profile test text c family test_fits fits e, tt)
 
 or_false : (a b : Bool) → (a || b) ≡ false → (a ≡ false) × (b ≡ false)
 or_false true b e = absurd (false≢true (sym e))
@@ -327,36 +335,46 @@ said_second : (a b : Bool) (c : Bool) → (c ≡ true → b ≡ true) → c ≡ 
 said_second true b c h e = refl
 said_second false b c h e = h e
 
--- each rule that a statement comes to
-pub expanded_fit : (profile : Profile) (p : Policy) (text : RuleText) → FitsText profile text → bad_ports text ≡ false → bad_types text ≡ false → AllByRecursion (FitsRule profile) (expanded p text)
-unfolding expanded by_interface by_protocol by_source by_source_port by_destination by_destination_port by_type bad_ports bad_types
-expanded_fit profile p text fits no_bad_ports no_bad_types =
-    let ports = (or_false (any_listed is_bad_port text.source.ports || any_listed is_bad_port text.destination.ports) (says_ports text && not (all_listed has_ports text.protocols)) no_bad_ports).1 in
-    let types = or_false (any_listed is_bad_type text.options.types) (is_some text.options.types && not (all_listed is_icmp text.protocols)) no_bad_types in
-    let P = FitsRule profile in
-    let ns = all_both _ _ (choices text.protocols) (choices_fit (λ (n : Protocol). n.number ≤ 255) text.protocols fits.protocols) (all_both _ _ (choices text.protocols) (choices_if (says_ports text) has_ports text.protocols ports) (choices_if (is_some text.options.types) is_icmp text.protocols types.1)) in
-    let sps = all_both _ _ (choices text.source.ports) (choices_fit FitsPort text.source.ports fits.source.ports) (choices_said text.source.ports) in
-    let dps = all_both _ _ (choices text.destination.ports) (choices_fit FitsPort text.destination.ports fits.destination.ports) (choices_said text.destination.ports) in
-    let ts = all_both _ _ (choices text.options.types) (choices_fit (FitsTyped profile) text.options.types (types_typed profile text.options.types fits.options.types)) (all_both _ _ (choices text.options.types) (choices_said text.options.types) (none_bad text.options.types types.0)) in
-    all_flat P _ (λ i. by_protocol p text (record nothing_chosen { interface = i })) (choices text.interfaces) (choices_fit (FitsName profile) text.interfaces fits.interfaces) (λ i qi.
-    all_flat P _ (λ n. by_source p text (record nothing_chosen { interface = i; protocol = n })) (choices text.protocols) ns (λ n qn.
-    all_flat P _ (λ s. by_source_port p text (record nothing_chosen { interface = i; protocol = n; source = s })) text.source.hosts.items fits.source.hosts (λ s qs.
-    all_flat P _ (λ sp. by_destination p text (record nothing_chosen { interface = i; protocol = n; source = s; source_port = sp })) (choices text.source.ports) sps (λ sp qsp.
-    all_flat P _ (λ d. by_destination_port p text (record nothing_chosen { interface = i; protocol = n; source = s; source_port = sp; destination = d })) text.destination.hosts.items fits.destination.hosts (λ d qd.
-    all_flat P _ (λ dp. by_type p text (record nothing_chosen { interface = i; protocol = n; source = s; source_port = sp; destination = d; destination_port = dp })) (choices text.destination.ports) dps (λ dp qdp.
-    all_flat P _ (λ t. rules_of p text (record nothing_chosen { interface = i; protocol = n; source = s; source_port = sp; destination = d; destination_port = dp; icmp_type = t })) (choices text.options.types) ts (λ t qt.
-    rules_fit profile p text (record { interface = i; protocol = n; source = s; source_port = sp; destination = d; destination_port = dp; icmp_type = t }) fits (record {
+-- the conditions of each combination
+combined_fit : (profile : Profile) (test : FlagTest) (text : ConditionsText) → FitsFlags test → FitsText profile text → bad_ports text ≡ false → bad_types text ≡ false → AllByRecursion (FitsConditions profile) (combined test text)
+unfolding combined by_interface by_protocol by_source by_source_port by_destination by_destination_port by_type bad_ports bad_types
+combined_fit profile test text test_fits fits no_bad_ports no_bad_types =
+    let ports = (or_false (any_listed is_bad_port text.common.source.ports || any_listed is_bad_port text.common.destination.ports) (says_ports text && not (all_listed has_ports text.common.protocols)) no_bad_ports).1 in
+    let types = or_false (any_listed is_bad_type text.types) (is_some text.types && not (all_listed is_icmp text.common.protocols)) no_bad_types in
+    let P = FitsConditions profile in
+    let ns = all_both _ _ (choices text.common.protocols) (choices_fit (λ (n : Protocol). n.number ≤ 255) text.common.protocols fits.protocols) (all_both _ _ (choices text.common.protocols) (choices_if (says_ports text) has_ports text.common.protocols ports) (choices_if (is_some text.types) is_icmp text.common.protocols types.1)) in
+    let sps = all_both _ _ (choices text.common.source.ports) (choices_fit FitsPort text.common.source.ports fits.source.ports) (choices_said text.common.source.ports) in
+    let dps = all_both _ _ (choices text.common.destination.ports) (choices_fit FitsPort text.common.destination.ports fits.destination.ports) (choices_said text.common.destination.ports) in
+    let ts = all_both _ _ (choices text.types) (choices_fit (FitsTyped profile) text.types (types_typed profile text.types fits.types)) (all_both _ _ (choices text.types) (choices_said text.types) (none_bad text.types types.0)) in
+    all_flat P _ (λ i. by_protocol test text (record nothing_chosen { interface = i })) (choices text.common.interfaces) (choices_fit (FitsName profile) text.common.interfaces fits.interfaces) (λ i qi.
+    all_flat P _ (λ n. by_source test text (record nothing_chosen { interface = i; protocol = n })) (choices text.common.protocols) ns (λ n qn.
+    all_flat P _ (λ s. by_source_port test text (record nothing_chosen { interface = i; protocol = n; source = s })) text.common.source.hosts.items fits.source.hosts (λ s qs.
+    all_flat P _ (λ sp. by_destination test text (record nothing_chosen { interface = i; protocol = n; source = s; source_port = sp })) (choices text.common.source.ports) sps (λ sp qsp.
+    all_flat P _ (λ d. by_destination_port test text (record nothing_chosen { interface = i; protocol = n; source = s; source_port = sp; destination = d })) text.common.destination.hosts.items fits.destination.hosts (λ d qd.
+    all_flat P _ (λ dp. by_type test text (record nothing_chosen { interface = i; protocol = n; source = s; source_port = sp; destination = d; destination_port = dp })) (choices text.common.destination.ports) dps (λ dp qdp.
+    all_flat P _ (λ t. conditions_at test text (record nothing_chosen { interface = i; protocol = n; source = s; source_port = sp; destination = d; destination_port = dp; icmp_type = t })) (choices text.types) ts (λ t qt.
+    chosen_fit profile test text (record { interface = i; protocol = n; source = s; source_port = sp; destination = d; destination_port = dp; icmp_type = t }) test_fits (record {
       interface = qi;
       protocol = qn.0;
       ported = qn.1.0;
       pinged = qn.1.1;
       source = qs;
       source_port = qsp.0;
-      source_said = said_first (is_some text.source.ports) (is_some text.destination.ports) (is_some sp) qsp.1;
+      source_said = said_first (is_some text.common.source.ports) (is_some text.common.destination.ports) (is_some sp) qsp.1;
       destination = qd;
       destination_port = qdp.0;
-      destination_said = said_second (is_some text.source.ports) (is_some text.destination.ports) (is_some dp) qdp.1;
+      destination_said = said_second (is_some text.common.source.ports) (is_some text.common.destination.ports) (is_some dp) qdp.1;
       types = qt.0;
       typed = qt.1.0;
       good = qt.1.1;
     }))))))))
+
+with_state : (profile : Profile) (p : Policy) (text : RuleText) (cs : List Conditions) → AllByRecursion (FitsConditions profile) cs → AllByRecursion (FitsRule profile) (map (rule_with p text) cs)
+with_state profile p text [] all = tt
+with_state profile p text (c ∷ cs) all = (record { conditions = all.0; state = state_ok p text.action text.state }, with_state profile p text cs all.1)
+
+-- each rule that a statement comes to
+pub expanded_fit : (profile : Profile) (p : Policy) (text : RuleText) → FitsText profile text.conditions → bad_ports text.conditions ≡ false → bad_types text.conditions ≡ false → AllByRecursion (FitsRule profile) (expanded p text)
+unfolding expanded
+expanded_fit profile p text fits no_bad_ports no_bad_types =
+    with_state profile p text _ (combined_fit profile (rule_flags text) text.conditions (flags_ok (keeps_state text.action text.state) text.conditions.flags fits.flags) fits no_bad_ports no_bad_types)

@@ -1,5 +1,5 @@
 -- The parts of a shown rule are its tokens.
-use Rattle.std.proofs.Common.{◌≡◌, ℕ, ◌<◌, ◌≤◌, ◌==◌, ◌&&◌, ◌||◌, ◌⊎◌, inl, inr, Bool, true, false, cond, List, [], ◌∷◌, ◌++◌, length, Option, Some, None, refl, sym, ap, subst, append_assoc, arith, eqb-true}
+use Rattle.std.proofs.Common.{◌≡◌, ℕ, ◌<◌, ◌≤◌, ◌==◌, ◌&&◌, ◌||◌, ◌⊎◌, inl, inr, Bool, true, false, cond, List, [], ◌∷◌, ◌++◌, length, Option, Some, None, refl, sym, ap, subst, append_assoc, arith, eqb-true, ◌∙◌}
 use Rattle.std.specs.Prelude.{decimal, codes, nat_lt}
 use Rattle.std.specs.List.{AllByRecursion, list_all}
 use Rattle.std.specs.Char.{is_ascii_alphanumeric}
@@ -12,32 +12,32 @@ use Rattle.pf_addr.specs.Blocks.{Block, width, FitsAddr, IsBlock}
 use Rattle.pf_addr.specs.Shown.{shown_addr, shown_prefix}
 use Rattle.pf_addr.proofs.Made.{FitsBlock}
 use Rattle.pf_addr.proofs.Plain.{IsAddressByte, address_plain, address_some}
-use Rattle.pf_tokens.specs.declared.profile.Profile.{Profile}
+use Rattle.pf_words.specs.declared.profile.Profile.{Profile}
 use Rattle.pf_tokens.specs.declared.symbol.Symbol.TheVariants as mark
-use Rattle.pf_tokens.specs.Tokens.{Token, Mark, is_word_byte}
+use Rattle.pf_tokens.specs.Tokens.{Token, Mark, is_word_byte, Placed, Word}
 use Rattle.pf_ruleset.specs.declared.rule.Action.{Action}
 use Rattle.pf_ruleset.specs.declared.rule.Action.TheVariants as act
-use Rattle.pf_statements.specs.declared.parts.Direction.{Direction}
-use Rattle.pf_statements.specs.declared.parts.Direction.TheVariants.{In, Out}
-use Rattle.pf_statements.specs.declared.parts.Family.{Family}
-use Rattle.pf_statements.specs.declared.parts.Family.TheVariants.{Inet, Inet6}
-use Rattle.pf_statements.specs.declared.parts.Interface.{Interface}
-use Rattle.pf_statements.specs.declared.parts.Addresses.{Addresses}
-use Rattle.pf_statements.specs.declared.parts.Addresses.TheVariants.{Prefix, Range}
-use Rattle.pf_statements.specs.declared.parts.Host.{Host}
-use Rattle.pf_statements.specs.declared.parts.Host.TheVariants as host
-use Rattle.pf_statements.specs.declared.parts.PortTest.{PortTest}
-use Rattle.pf_statements.specs.declared.parts.PortTest.TheVariants.{Equal, NotEqual, Less, LessEqual, Greater, GreaterEqual, FromTo, Between, Outside}
+use Rattle.pf_ruleset.specs.declared.parts.Direction.{Direction}
+use Rattle.pf_ruleset.specs.declared.parts.Direction.TheVariants.{In, Out}
+use Rattle.pf_addr.specs.declared.addr.Family.{Family}
+use Rattle.pf_addr.specs.declared.addr.Family.TheVariants.{Inet, Inet6}
+use Rattle.pf_ruleset.specs.declared.parts.Interface.{Interface}
+use Rattle.pf_ruleset.specs.declared.parts.Addresses.{Addresses}
+use Rattle.pf_ruleset.specs.declared.parts.Addresses.TheVariants.{Prefix, Range, Table}
+use Rattle.pf_ruleset.specs.declared.parts.Host.{Host}
+use Rattle.pf_ruleset.specs.declared.parts.Host.TheVariants as host
+use Rattle.pf_ruleset.specs.declared.parts.PortTest.{PortTest}
+use Rattle.pf_ruleset.specs.declared.parts.PortTest.TheVariants.{Equal, NotEqual, Less, LessEqual, Greater, GreaterEqual, FromTo, Between, Outside}
 use Rattle.pf_words.specs.declared.flags.TcpFlags.{TcpFlags}
-use Rattle.pf_statements.specs.declared.parts.FlagTest.{FlagTest}
-use Rattle.pf_statements.specs.declared.parts.FlagTest.TheVariants as flags
+use Rattle.pf_ruleset.specs.declared.parts.FlagTest.{FlagTest}
+use Rattle.pf_ruleset.specs.declared.parts.FlagTest.TheVariants as flags
 use Rattle.pf_ruleset.specs.declared.rule.Rule.{Rule}
-use Rattle.pf_words.specs.Words.{is_interface_name, is_interface_byte, begins_with_letter}
-use Rattle.pf_statements.specs.Grammar.{key, sign}
-use Rattle.pf_ruleset.specs.Shown.{action_parts, direction_parts, quick_parts, negated_part, negated_parts, interface_parts, family_parts, protocol_parts, addresses_parts, host_parts, test_parts, port_parts, end_parts, ends_parts, type_parts, letter, letters, flags_text, flags_parts, state_parts, condition_parts, rule_parts, line as shown_line}
+use Rattle.pf_words.specs.Words.{is_interface_text, is_interface_name, is_table_text, is_table_name, is_table_byte, is_anchor_byte, begins_with_letter}
+use Rattle.pf_conditions.specs.Grammar.{key, sign}
+use Rattle.pf_show.specs.Shown.{action_parts, direction_parts, quick_parts, negated_part, negated_parts, interface_parts, family_parts, protocol_parts, addresses_parts, host_parts, test_parts, port_parts, end_parts, ends_parts, type_parts, letter, letters, flags_text, flags_parts, state_parts, condition_parts, rule_parts, line as shown_line}
 use Rattle.pf_grammar.proofs.Numbers.{IsDigit, Digits, decimal_digits, decimal_there}
-use Rattle.pf_grammar.proofs.Told.{FitsAddresses, FitsHost, FitsTest, FitsIf, FitsFlags, FitsType, FitsRule, action_tokens, direction_tokens, quick_tokens, negated_tokens, interface_tokens, family_tokens, protocol_tokens, length_tokens, addresses_tokens, host_tokens, test_tokens, port_tokens, end_tokens, both_tokens, ends_tokens, type_tokens, letters_token, test_of_tokens, flags_tokens, state_tokens, option_tokens, rule_tokens}
-use Rattle.pf_grammar.proofs.Parts.{lexed, IsPart, word_part, not_part, slash_part, slash_first, equals_part, less_part, greater_part, not_equal_part, less_equal_part, greater_equal_part, between_part, outside_part, AreParts, NoPart, OnePart, parts_append, with_newline, line_lexes}
+use Rattle.pf_grammar.proofs.Told.{FitsAddresses, FitsHost, FitsTest, FitsIf, FitsFlags, FitsType, FitsRule, action_tokens, direction_tokens, quick_tokens, negated_tokens, interface_tokens, family_tokens, protocol_tokens, length_tokens, addresses_tokens, host_tokens, test_tokens, port_tokens, end_tokens, both_tokens, ends_tokens, type_tokens, letters_token, test_of_tokens, flags_tokens, state_tokens, option_tokens, rule_tokens, prefix_tokens, table_tokens}
+use Rattle.pf_grammar.proofs.Parts.{lexed, IsPart, word_part, not_part, slash_part, slash_first, equals_part, less_part, greater_part, not_equal_part, less_equal_part, greater_equal_part, between_part, outside_part, AreParts, NoPart, OnePart, parts_append, with_newline, line_lexes, less_lexes, not_less_lexes, word_lexes, at_line}
 
 -- ---- bytes of words
 
@@ -91,20 +91,20 @@ or_parts false b e = inr e
 alphanumeric_word : (b : ℕ) → is_ascii_alphanumeric b ≡ true → is_word_byte b ≡ true
 alphanumeric_word b e = rw e refl
 
-interface_word : (b : ℕ) → is_interface_byte b ≡ true → is_word_byte b ≡ true
-interface_word b e =
-    elim (or_parts (is_ascii_alphanumeric b) (b == 95 || (b == 45 || b == 46)) e) [
+table_word : (b : ℕ) → is_table_byte b ≡ true → is_word_byte b ≡ true
+table_word b e =
+    elim (or_parts (is_ascii_alphanumeric b) (b == 95 || b == 45) e) [
       | inl letter ↦ alphanumeric_word b letter
-      | inr mark ↦ elim (or_parts (b == 95) (b == 45 || b == 46) mark) [
-        | inl under ↦ ap is_word_byte (eqb-true b 95 under)
-        | inr other ↦ elim (or_parts (b == 45) (b == 46) other) [ inl hyphen ↦ ap is_word_byte (eqb-true b 45 hyphen) | inr dot ↦ ap is_word_byte (eqb-true b 46 dot) ]
-      ]
+      | inr mark ↦ elim (or_parts (b == 95) (b == 45) mark) [ inl under ↦ ap is_word_byte (eqb-true b 95 under) | inr hyphen ↦ ap is_word_byte (eqb-true b 45 hyphen) ]
     ]
 
-interface_words : (text : List ℕ) → list_all is_interface_byte text ≡ true → Words text
+interface_word : (b : ℕ) → is_anchor_byte b ≡ true → is_word_byte b ≡ true
+interface_word b e = elim (or_parts (is_table_byte b) (b == 46) e) [ inl common ↦ table_word b common | inr dot ↦ ap is_word_byte (eqb-true b 46 dot) ]
+
+interface_words : (text : List ℕ) → list_all is_anchor_byte text ≡ true → Words text
 interface_words [] all = refl
 interface_words (b ∷ text) all =
-    let h = and_parts (is_interface_byte b) (list_all is_interface_byte text) all in
+    let h = and_parts (is_anchor_byte b) (list_all is_anchor_byte text) all in
     rw (interface_word b h.0, interface_words text h.1) refl
 
 -- a name is a word
@@ -117,12 +117,49 @@ letter_some [] e = absurd (false≢true e)
 letter_some (b ∷ name) e = omega arith
 
 pub name_word : (profile : Profile) (name : List ℕ) → is_interface_name profile name ≡ true → IsNameWord name
-unfolding is_interface_name
+unfolding is_interface_name is_interface_text
 name_word profile name e =
     let a = and_parts _ _ e in
     let b = and_parts _ _ a.0 in
     let d = and_parts _ _ b.0 in
     record { some = letter_some name d.0; words = interface_words name b.1 }
+
+table_words : (text : List ℕ) → list_all is_table_byte text ≡ true → Words text
+table_words [] all = refl
+table_words (b ∷ text) all =
+    let h = and_parts (is_table_byte b) (list_all is_table_byte text) all in
+    rw (table_word b h.0, table_words text h.1) refl
+
+counted : (text : List ℕ) → nat_lt 0 (length text) ≡ true → 0 < length text
+counted [] e = absurd (false≢true e)
+counted (b ∷ text) e = omega arith
+
+pub table_name_word : (profile : Profile) (name : List ℕ) → is_table_name profile name ≡ true → IsNameWord name
+unfolding is_table_name is_table_text
+table_name_word profile name e =
+    let a = and_parts _ _ e in
+    let b = and_parts _ _ a.0 in
+    let d = and_parts _ _ b.0 in
+    record { some = counted name d.0; words = table_words name b.1 }
+
+-- a name between < and >
+word_table : (name : List ℕ) → 0 < length name → Words name → IsPart (60 ∷ (name ++ 62 ∷ [])) (table_tokens name)
+word_table [] some all = absurd (omega arith)
+word_table (b ∷ name) some all = record {
+  lexes = λ n c rest blank.
+      let first = (and_parts (is_word_byte b) (list_all is_word_byte name) all).0 in
+      less_lexes n b ((name ++ 62 ∷ []) ++ c ∷ rest) first
+      ∙ ap (λ (ps : List Placed). at_line n (Mark mark.Less) ∷ ps) (
+      ap (lexed n) (append_assoc (b ∷ name) (62 ∷ []) (c ∷ rest))
+      ∙ word_lexes n b name (62 ∷ c ∷ rest) all (refl, refl)
+      ∙ ap (λ (ps : List Placed). at_line n (Word (b ∷ name)) ∷ ps) (greater_part.lexes n c rest blank));
+}
+
+pub table_part : (name : List ℕ) → IsNameWord name → IsPart (60 ∷ (name ++ 62 ∷ [])) (table_tokens name)
+table_part name is = word_table name is.some is.words
+
+pub not_table_part : (name : List ℕ) → IsNameWord name → IsPart (33 ∷ 60 ∷ (name ++ 62 ∷ [])) (Mark mark.Not ∷ table_tokens name)
+not_table_part name is = record { lexes = λ n c rest blank. not_less_lexes n ((name ++ 62 ∷ []) ++ c ∷ rest) ∙ ap (λ (ps : List Placed). at_line n (Mark mark.Not) ∷ ps) ((table_part name is).lexes n c rest blank) }
 
 -- ---- the parts
 
@@ -192,26 +229,31 @@ prefix_part : (a : Addr) (len : ℕ) (full : Bool) → FitsAddr a → IsBlock a 
 prefix_part a len true fits block = subst (λ (text : List ℕ). IsPart text (key (shown_addr a))) (sym (append-nil (shown_addr a))) (address_part a fits)
 prefix_part a len false fits block = word_slash (shown_addr a) (decimal len) (key (decimal len)) (address_some a fits) (address_some_word a fits) (decimal_part len (length_small a len block))
 
-prefix_parts : (block : Block) → FitsBlock block → IsPart (shown_prefix block) (addresses_tokens (Prefix block))
+pub prefix_parts : (block : Block) → FitsBlock block → IsPart (shown_prefix block) (prefix_tokens block)
 prefix_parts block fits = prefix_part block.base block.len (block.len == width block.base) fits.fits fits.block
 
-addresses_are : (set : Addresses) → FitsAddresses set → AreParts (addresses_parts set) (addresses_tokens set)
-addresses_are (Prefix block) fits = one_part _ _ (prefix_parts block fits)
-addresses_are (Range span) fits = OnePart _ _ _ _ (address_part span.first fits.0) (behind_key 45 [] _ _ refl (one_part _ _ (address_part span.last fits.1)))
+addresses_are : (profile : Profile) (set : Addresses) → FitsAddresses profile set → AreParts (addresses_parts set) (addresses_tokens set)
+addresses_are profile (Prefix block) fits = one_part _ _ (prefix_parts block fits)
+addresses_are profile (Table name) fits = one_part _ _ (table_part name (table_name_word profile name fits))
+addresses_are profile (Range span) fits = OnePart _ _ _ _ (address_part span.first fits.0) (behind_key 45 [] _ _ refl (one_part _ _ (address_part span.last fits.1)))
 
 -- `!` before a part that begins with a word
 negated_first : (word more : List ℕ) (ts : List Token) → 0 < length word → Words word → IsPart (word ++ more) ts → IsPart (33 ∷ (word ++ more)) (Mark mark.Not ∷ ts)
 negated_first [] more ts some all is = absurd (omega arith)
 negated_first (b ∷ word) more ts some all is = not_part b (word ++ more) ts (and_parts (is_word_byte b) (list_all is_word_byte word) all).0 is
 
-negated_are : (set : Addresses) → FitsAddresses set → AreParts (negated_parts (addresses_parts set)) (Mark mark.Not ∷ addresses_tokens set)
-negated_are (Prefix block) fits = one_part _ _ (negated_first (shown_addr block.base) _ _ (address_some block.base fits.fits) (address_some_word block.base fits.fits) (prefix_parts block fits))
-negated_are (Range span) fits = OnePart _ _ (Mark mark.Not ∷ key (shown_addr span.first)) _ (negated_word (shown_addr span.first) (address_some span.first fits.0) (address_some_word span.first fits.0)) (behind_key 45 [] _ _ refl (one_part _ _ (address_part span.last fits.1)))
+pub negated_prefix : (block : Block) → FitsBlock block → IsPart (33 ∷ shown_prefix block) (Mark mark.Not ∷ prefix_tokens block)
+negated_prefix block fits = negated_first (shown_addr block.base) _ _ (address_some block.base fits.fits) (address_some_word block.base fits.fits) (prefix_parts block fits)
 
-host_are : (h : Host) → FitsHost h → AreParts (host_parts h) (host_tokens h)
-host_are host.Any fits = key_parts 97 (110 ∷ 121 ∷ []) refl
-host_are (host.In set) fits = addresses_are set fits
-host_are (host.NotIn set) fits = negated_are set fits
+negated_are : (profile : Profile) (set : Addresses) → FitsAddresses profile set → AreParts (negated_parts (addresses_parts set)) (Mark mark.Not ∷ addresses_tokens set)
+negated_are profile (Prefix block) fits = one_part _ _ (negated_prefix block fits)
+negated_are profile (Table name) fits = one_part _ _ (not_table_part name (table_name_word profile name fits))
+negated_are profile (Range span) fits = OnePart _ _ (Mark mark.Not ∷ key (shown_addr span.first)) _ (negated_word (shown_addr span.first) (address_some span.first fits.0) (address_some_word span.first fits.0)) (behind_key 45 [] _ _ refl (one_part _ _ (address_part span.last fits.1)))
+
+host_are : (profile : Profile) (h : Host) → FitsHost profile h → AreParts (host_parts h) (host_tokens h)
+host_are profile host.Any fits = key_parts 97 (110 ∷ 121 ∷ []) refl
+host_are profile (host.In set) fits = addresses_are profile set fits
+host_are profile (host.NotIn set) fits = negated_are profile set fits
 
 -- ---- ports
 
@@ -244,21 +286,21 @@ port_are : (port : Option PortTest) → FitsIf FitsTest port → AreParts (port_
 port_are None fits = NoPart
 port_are (Some test) fits = behind_key 112 (111 ∷ 114 ∷ 116 ∷ []) _ _ refl (test_are test fits)
 
-end_are : (b : ℕ) (word : List ℕ) (h : Host) (port : Option PortTest) → Words (b ∷ word) → FitsHost h → FitsIf FitsTest port → AreParts (end_parts (b ∷ word) h port) (key (b ∷ word) ++ end_tokens h port)
-end_are b word h port all fits_h fits_p = behind_key b word _ _ all (parts_append (host_parts h) (port_parts port) (host_tokens h) (port_tokens port) (host_are h fits_h) (port_are port fits_p))
+end_are : (profile : Profile) (b : ℕ) (word : List ℕ) (h : Host) (port : Option PortTest) → Words (b ∷ word) → FitsHost profile h → FitsIf FitsTest port → AreParts (end_parts (b ∷ word) h port) (key (b ∷ word) ++ end_tokens h port)
+end_are profile b word h port all fits_h fits_p = behind_key b word _ _ all (parts_append (host_parts h) (port_parts port) (host_tokens h) (port_tokens port) (host_are profile h fits_h) (port_are port fits_p))
 
-both_are : (s : Host) (sp : Option PortTest) (d : Host) (dp : Option PortTest) → FitsHost s → FitsIf FitsTest sp → FitsHost d → FitsIf FitsTest dp → AreParts (end_parts (codes "from") s sp ++ end_parts (codes "to") d dp) (both_tokens s sp d dp)
-both_are s sp d dp a b c e =
-    parts_append (end_parts (codes "from") s sp) (end_parts (codes "to") d dp) (key (codes "from") ++ end_tokens s sp) (key (codes "to") ++ end_tokens d dp) (end_are 102 (114 ∷ 111 ∷ 109 ∷ []) s sp refl a b) (end_are 116 (111 ∷ []) d dp refl c e)
+both_are : (profile : Profile) (s : Host) (sp : Option PortTest) (d : Host) (dp : Option PortTest) → FitsHost profile s → FitsIf FitsTest sp → FitsHost profile d → FitsIf FitsTest dp → AreParts (end_parts (codes "from") s sp ++ end_parts (codes "to") d dp) (both_tokens s sp d dp)
+both_are profile s sp d dp a b c e =
+    parts_append (end_parts (codes "from") s sp) (end_parts (codes "to") d dp) (key (codes "from") ++ end_tokens s sp) (key (codes "to") ++ end_tokens d dp) (end_are profile 102 (114 ∷ 111 ∷ 109 ∷ []) s sp refl a b) (end_are profile 116 (111 ∷ []) d dp refl c e)
 
-ends_are : (s : Host) (sp : Option PortTest) (d : Host) (dp : Option PortTest) → FitsHost s → FitsIf FitsTest sp → FitsHost d → FitsIf FitsTest dp → AreParts (ends_parts s sp d dp) (ends_tokens s sp d dp)
-ends_are host.Any None host.Any None a b c d = key_parts 97 (108 ∷ 108 ∷ []) refl
-ends_are host.Any None host.Any (Some t) a b c d = both_are host.Any None host.Any (Some t) a b c d
-ends_are host.Any None (host.In set) dp a b c d = both_are host.Any None (host.In set) dp a b c d
-ends_are host.Any None (host.NotIn set) dp a b c d = both_are host.Any None (host.NotIn set) dp a b c d
-ends_are host.Any (Some t) e dp a b c d = both_are host.Any (Some t) e dp a b c d
-ends_are (host.In set) sp e dp a b c d = both_are (host.In set) sp e dp a b c d
-ends_are (host.NotIn set) sp e dp a b c d = both_are (host.NotIn set) sp e dp a b c d
+ends_are : (profile : Profile) (s : Host) (sp : Option PortTest) (d : Host) (dp : Option PortTest) → FitsHost profile s → FitsIf FitsTest sp → FitsHost profile d → FitsIf FitsTest dp → AreParts (ends_parts s sp d dp) (ends_tokens s sp d dp)
+ends_are profile host.Any None host.Any None a b c d = key_parts 97 (108 ∷ 108 ∷ []) refl
+ends_are profile host.Any None host.Any (Some t) a b c d = both_are profile host.Any None host.Any (Some t) a b c d
+ends_are profile host.Any None (host.In set) dp a b c d = both_are profile host.Any None (host.In set) dp a b c d
+ends_are profile host.Any None (host.NotIn set) dp a b c d = both_are profile host.Any None (host.NotIn set) dp a b c d
+ends_are profile host.Any (Some t) e dp a b c d = both_are profile host.Any (Some t) e dp a b c d
+ends_are profile (host.In set) sp e dp a b c d = both_are profile (host.In set) sp e dp a b c d
+ends_are profile (host.NotIn set) sp e dp a b c d = both_are profile (host.NotIn set) sp e dp a b c d
 
 -- ---- options
 
@@ -323,11 +365,11 @@ condition_are : (profile : Profile) (r : Rule) → FitsRule profile r → ArePar
 unfolding condition_parts
 condition_are profile r fits =
     let c = r.conditions in
-    parts_append (interface_parts c.interface) _ (interface_tokens c.interface) _ (interface_are profile c.interface fits.interface)
+    parts_append (interface_parts c.interface) _ (interface_tokens c.interface) _ (interface_are profile c.interface fits.conditions.interface)
     (parts_append (family_parts c.family) _ (family_tokens c.family) _ (family_are c.family)
-    (parts_append (protocol_parts c.protocol) _ (protocol_tokens c.protocol) _ (protocol_are c.protocol fits.protocol)
-    (parts_append (ends_parts c.source c.source_port c.destination c.destination_port) _ (ends_tokens c.source c.source_port c.destination c.destination_port) _ (ends_are c.source c.source_port c.destination c.destination_port fits.source fits.source_port fits.destination fits.destination_port)
-    (type_are profile c.protocol c.icmp_type fits.types))))
+    (parts_append (protocol_parts c.protocol) _ (protocol_tokens c.protocol) _ (protocol_are c.protocol fits.conditions.protocol)
+    (parts_append (ends_parts c.source c.source_port c.destination c.destination_port) _ (ends_tokens c.source c.source_port c.destination c.destination_port) _ (ends_are profile c.source c.source_port c.destination c.destination_port fits.conditions.source fits.conditions.source_port fits.conditions.destination fits.conditions.destination_port)
+    (type_are profile c.protocol c.icmp_type fits.conditions.types))))
 
 -- the options stand behind the type
 rest_tokens : (a b c d e f : List Token) → (a ++ (b ++ (c ++ (d ++ e)))) ++ f ≡ a ++ (b ++ (c ++ (d ++ (e ++ f))))
@@ -336,7 +378,7 @@ rest_tokens a b c d e f = simp append_assoc refl
 more_are : (profile : Profile) (r : Rule) → FitsRule profile r → AreParts (direction_parts r.conditions.direction ++ (quick_parts r.quick ++ (condition_parts r.conditions ++ (flags_parts r.action r.conditions.flags ++ state_parts r.action r.keeps_state)))) (more_tokens r)
 more_are profile r fits =
     let c = r.conditions in
-    let last = parts_append (flags_parts r.action c.flags) (state_parts r.action r.keeps_state) (flags_tokens r.action c.flags) (state_tokens r.action r.keeps_state) (flags_are r.action c.flags fits.flags) (state_are r.action r.keeps_state) in
+    let last = parts_append (flags_parts r.action c.flags) (state_parts r.action r.keeps_state) (flags_tokens r.action c.flags) (state_tokens r.action r.keeps_state) (flags_are r.action c.flags fits.conditions.flags) (state_are r.action r.keeps_state) in
     let both = parts_append (condition_parts c) (flags_parts r.action c.flags ++ state_parts r.action r.keeps_state) (front_tokens r) (flags_tokens r.action c.flags ++ state_tokens r.action r.keeps_state) (condition_are profile r fits) last in
     let moved = subst (λ (ts : List Token). AreParts (condition_parts c ++ (flags_parts r.action c.flags ++ state_parts r.action r.keeps_state)) ts) (rest_tokens (interface_tokens c.interface) (family_tokens c.family) (protocol_tokens c.protocol) (ends_tokens c.source c.source_port c.destination c.destination_port) (type_tokens c.icmp_type) (flags_tokens r.action c.flags ++ state_tokens r.action r.keeps_state)) both in
     parts_append (direction_parts c.direction) _ (direction_tokens c.direction) _ (direction_are c.direction) (parts_append (quick_parts r.quick) _ (quick_tokens r.quick) _ (quick_are r.quick) moved)

@@ -2,7 +2,7 @@
 use Rattle.std.proofs.Common.{◌≡◌, ℕ, ◌+◌, ◌<◌, ◌≤◌, true, false, List, [], ◌∷◌, ◌++◌, length, map, Option, Some, None, Result, Ok, refl, ap, ◌∙◌, arith}
 use Rattle.std.specs.Prelude.{codes}
 use Rattle.std.specs.List.{AllByRecursion}
-use Rattle.pf_tokens.specs.declared.profile.Profile.{Profile}
+use Rattle.pf_words.specs.declared.profile.Profile.{Profile}
 use Rattle.pf_tokens.specs.declared.symbol.Symbol.TheVariants.{Open, Close}
 use Rattle.pf_tokens.specs.Tokens.{Token, Word, Mark}
 use Rattle.pf_tokens.specs.Macros.{depth_behind}
@@ -11,15 +11,16 @@ use Rattle.pf_tokens.specs.Faults.{reading_fault}
 use Rattle.pf_tokens.specs.Lists.{Elements}
 use Rattle.pf_tokens.specs.Reading.{◌>>=◌, reading_from}
 use Rattle.pf_grammar.specs.declared.fault.Refusal.{Refusal}
-use Rattle.pf_statements.specs.declared.parts.Policy.{Policy}
+use Rattle.pf_ruleset.specs.declared.parts.Policy.{Policy}
 use Rattle.pf_grammar.specs.declared.place.Place.TheVariants.{Main}
-use Rattle.pf_statements.specs.Names.{Name}
+use Rattle.pf_ruleset.specs.Names.{Name}
 use Rattle.pf_words.specs.Words.{is_interface_name}
 use Rattle.pf_statements.specs.Statements.{SetSkip, Statement, Sets, value_of}
 use Rattle.pf_grammar.specs.Causes.{statement_cause}
-use Rattle.pf_statements.specs.Grammar.{IsElements, LastOne, OneMore, NoComma, Braces, Listed, IsInterfaceName, NameWord, SkipSetting, SetStatement}
+use Rattle.pf_conditions.specs.Grammar.{IsElements, LastOne, OneMore, NoComma, Braces, Listed, IsInterfaceName, NameWord}
+use Rattle.pf_statements.specs.Grammar.{SkipSetting, SetStatement}
 use Rattle.pf_grammar.specs.Reading.{Sofar, macros_of, judge, meant, answered}
-use Rattle.pf_ruleset.specs.Shown.{skip_line}
+use Rattle.pf_show.specs.Shown.{skip_line}
 use Rattle.pf_statements.proofs.StatementsSpelled.{statement_reads}
 use Rattle.pf_grammar.proofs.Parts.{lexed, at_line, with_newline, AreParts, OnePart, word_part, open_part, close_part, line_lexes}
 use Rattle.pf_grammar.proofs.RuleParts.{name_word, some_word, one_part, behind_key}
@@ -81,18 +82,18 @@ skip_value profile name names fits =
     (SetStatement _ (SetSkip (listed (name ∷ names))) (SkipSetting _ (listed (name ∷ names)) (Listed _ (listed (name ∷ names)) (Braces (words (name ∷ names)) (words (name ∷ names)) (name ∷ names) 0 (closed_blanked (name ∷ names)) (names_elements profile name names fits)))))
 
 abbrev skipping : Policy → List Name → Result Sofar Refusal
-skipping p names = Ok (so_far p names [])
+skipping p names = Ok (so_far p names [] [])
 
-skip_meant : (profile : Profile) (p : Policy) (name : Name) (names : List Name) (n : ℕ) → AreNames profile (name ∷ names) → meant Main profile (so_far p [] []) n false (skip_tokens (name ∷ names)) ≡ skipping p (name ∷ names)
+skip_meant : (profile : Profile) (p : Policy) (name : Name) (names : List Name) (n : ℕ) → AreNames profile (name ∷ names) → meant Main profile (so_far p [] [] []) n false (skip_tokens (name ∷ names)) ≡ skipping p (name ∷ names)
 skip_meant profile p name names n fits =
-    ap (λ (value : Option Statement). answered n (so_far p [] []) value (statement_cause Main p 0 value)) (skip_value profile name names fits)
+    ap (λ (value : Option Statement). answered n (so_far p [] [] []) value (statement_cause Main [] 0 value)) (skip_value profile name names fits)
 
 -- with at most 65,531 names the line sets them
 pub skip_again : (profile : Profile) (p : Policy) (name : Name) (names : List Name) (rest : List ℕ) → AreNames profile (name ∷ names) → length (name ∷ names) ≤ 65531
-    → reading_from macros_of (judge Main profile) (so_far p [] []) [] (lexed 1 (skip_line (name ∷ names) ++ rest)) ≡ reading_from macros_of (judge Main profile) (so_far p (name ∷ names) []) [] (lexed 2 rest)
+    → reading_from macros_of (judge Main profile) (so_far p [] [] []) [] (lexed 1 (skip_line (name ∷ names) ++ rest)) ≡ reading_from macros_of (judge Main profile) (so_far p (name ∷ names) [] []) [] (lexed 2 rest)
 skip_again profile p name names rest fits few =
     let ts = skip_tokens (name ∷ names) in
     let fault : reading_fault [] 0 0 ts ≡ None = closed_fault (name ∷ names) 4 (omega (arith, few)) in
-    ap (reading_from macros_of (judge Main profile) (so_far p [] []) []) (skip_lexes profile name names 1 rest fits)
-    ∙ line_read Main profile p [] [] 1 ts [] (lexed 2 rest) (refl, (refl, (refl, (refl, closed_in_line (name ∷ names))))) (closed_level 1 (name ∷ names))
-    ∙ ap (λ (o : Result Sofar Refusal). o >>= λ next. reading_from macros_of (judge Main profile) next [] (lexed 2 rest)) (line_judged Main profile p [] [] 1 ts (omega arith) (not_definition 1 (Word (codes "set")) (Word (codes "skip") ∷ Word (codes "on") ∷ Mark Open ∷ closed (name ∷ names)) refl) fault ∙ skip_meant profile p name names 1 fits)
+    ap (reading_from macros_of (judge Main profile) (so_far p [] [] []) []) (skip_lexes profile name names 1 rest fits)
+    ∙ line_read Main profile p [] [] [] 1 ts [] (lexed 2 rest) (refl, (refl, (refl, (refl, closed_in_line (name ∷ names))))) (closed_level 1 (name ∷ names))
+    ∙ ap (λ (o : Result Sofar Refusal). o >>= λ next. reading_from macros_of (judge Main profile) next [] (lexed 2 rest)) (line_judged Main profile p [] [] [] 1 ts (omega arith) (not_definition 1 (Word (codes "set")) (Word (codes "skip") ∷ Word (codes "on") ∷ Mark Open ∷ closed (name ∷ names)) refl) fault ∙ skip_meant profile p name names 1 fits)

@@ -8,53 +8,60 @@ use Rattle.pf_addr.specs.Spelling.{cut_at, before_front}
 use Rattle.pf_addr.specs.Shown.{shown_addr}
 use Rattle.pf_addr.proofs.Again.{addr_again, block_again}
 use Rattle.pf_addr.proofs.Made.{FitsBlock}
-use Rattle.pf_tokens.specs.declared.profile.Profile.{Profile}
+use Rattle.pf_words.specs.declared.profile.Profile.{Profile}
 use Rattle.pf_tokens.specs.declared.symbol.Symbol.TheVariants as mark
 use Rattle.pf_tokens.specs.Tokens.{Token}
 use Rattle.pf_tokens.specs.Lists.{Elements}
 use Rattle.pf_ruleset.specs.declared.rule.Action.{Action}
 use Rattle.pf_ruleset.specs.declared.rule.Action.TheVariants as act
-use Rattle.pf_statements.specs.declared.parts.Policy.TheVariants as policy
-use Rattle.pf_statements.specs.declared.parts.Direction.{Direction}
-use Rattle.pf_statements.specs.declared.parts.Direction.TheVariants.{In, Out}
-use Rattle.pf_statements.specs.declared.parts.Family.{Family}
-use Rattle.pf_statements.specs.declared.parts.Family.TheVariants.{Inet, Inet6}
-use Rattle.pf_statements.specs.declared.parts.Interface.{Interface}
-use Rattle.pf_statements.specs.declared.parts.Addresses.{Addresses}
-use Rattle.pf_statements.specs.declared.parts.Addresses.TheVariants.{Prefix, Range}
-use Rattle.pf_statements.specs.declared.parts.Host.{Host}
-use Rattle.pf_statements.specs.declared.parts.Host.TheVariants as host
-use Rattle.pf_statements.specs.declared.parts.PortTest.{PortTest}
-use Rattle.pf_statements.specs.declared.parts.PortTest.TheVariants.{Equal, NotEqual, Less, LessEqual, Greater, GreaterEqual, FromTo, Between, Outside}
+use Rattle.pf_ruleset.specs.declared.parts.Policy.TheVariants as policy
+use Rattle.pf_ruleset.specs.declared.parts.Direction.{Direction}
+use Rattle.pf_ruleset.specs.declared.parts.Direction.TheVariants.{In, Out}
+use Rattle.pf_addr.specs.declared.addr.Family.{Family}
+use Rattle.pf_addr.specs.declared.addr.Family.TheVariants.{Inet, Inet6}
+use Rattle.pf_ruleset.specs.declared.parts.Interface.{Interface}
+use Rattle.pf_ruleset.specs.declared.parts.Addresses.{Addresses}
+use Rattle.pf_ruleset.specs.declared.parts.Addresses.TheVariants.{Prefix, Range, Table}
+use Rattle.pf_ruleset.specs.declared.parts.Host.{Host}
+use Rattle.pf_ruleset.specs.declared.parts.Host.TheVariants as host
+use Rattle.pf_ruleset.specs.declared.parts.PortTest.{PortTest}
+use Rattle.pf_ruleset.specs.declared.parts.PortTest.TheVariants.{Equal, NotEqual, Less, LessEqual, Greater, GreaterEqual, FromTo, Between, Outside}
 use Rattle.pf_words.specs.declared.flags.TcpFlags.{TcpFlags}
-use Rattle.pf_statements.specs.declared.parts.FlagTest.{FlagTest}
-use Rattle.pf_statements.specs.declared.parts.FlagTest.TheVariants as flags
+use Rattle.pf_ruleset.specs.declared.parts.FlagTest.{FlagTest}
+use Rattle.pf_ruleset.specs.declared.parts.FlagTest.TheVariants as flags
 use Rattle.pf_ruleset.specs.declared.rule.Rule.{Rule}
 use Rattle.pf_statements.specs.declared.written.WrittenAction.{WrittenAction}
 use Rattle.pf_statements.specs.declared.written.WrittenAction.TheVariants.{Pass, Block as Blocks}
-use Rattle.pf_statements.specs.declared.written.Protocol.{Protocol}
-use Rattle.pf_statements.specs.declared.written.WrittenPort.{WrittenPort}
-use Rattle.pf_statements.specs.declared.written.WrittenType.{WrittenType}
-use Rattle.pf_words.specs.Words.{is_interface_name, is_within, no_flags, flags_with, flags_of, is_reserved, port_of}
-use Rattle.pf_statements.specs.Statements.{Ends, Options, no_options, RuleText, has_types, may_keep, one_port, two_ports, lone_test, colon_parts}
-use Rattle.pf_statements.specs.Grammar.{key, sign, IsSome, One, IsBehind, Missing, Behind, DropWord, ReturnWord, IsAction, PassWord, BlockSaid, IsDirection, NoDirection, InWord, OutWord, IsSaid, Unsaid, Said, NameWord, IsInterface, OnInterface, NotOnInterface, IsFamily, NoFamily, InetWord, Inet6Word, IsProtocol, ProtocolWord, IsAddresses, WholeAddress, CutAddress, AddressRange, IsHost, AnyWord, HostIn, HostNotIn, EqualsSign, NotEqualSign, LessSign, LessEqualSign, GreaterSign, GreaterEqualSign, BetweenSign, OutsideSign, IsPort, PortAlone, PortCompared, PortBounds, IsPart, PartHosts, IsHosts, AllWord, FromToParts, IsFlags, AnyFlags, NoneOf, SomeOf, NoWord, KeepWord, IsTypes, TypeAlone, IsOptions, NoOption, FlagsOption, StateOption, TypesOption, IsRule}
-use Rattle.pf_grammar.specs.Expansion.{host_family, type_family, occurring}
-use Rattle.pf_ruleset.specs.Shown.{letters}
+use Rattle.pf_conditions.specs.declared.written.Protocol.{Protocol}
+use Rattle.pf_conditions.specs.declared.written.WrittenPort.{WrittenPort}
+use Rattle.pf_conditions.specs.declared.written.WrittenType.{WrittenType}
+use Rattle.pf_words.specs.Words.{is_interface_name, is_table_name, is_within, no_flags, flags_with, flags_of, is_reserved, port_of}
+use Rattle.pf_conditions.specs.Conditions.{Ends, one_port, two_ports, lone_test, colon_parts}
+use Rattle.pf_statements.specs.Statements.{Options, no_options, RuleText, has_types, may_keep}
+use Rattle.pf_conditions.specs.Grammar.{key, sign, IsSome, One, IsBehind, Missing, Behind, NameWord, IsInterface, OnInterface, NotOnInterface, IsFamily, NoFamily, InetWord, Inet6Word, IsProtocol, ProtocolWord, IsPrefix, WholeAddress, CutAddress, TableSign, IsSet, PrefixSet, RangeSet, TableSet, IsHost, AnyWord, HostIn, HostNotIn, EqualsSign, NotEqualSign, LessSign, LessEqualSign, GreaterSign, GreaterEqualSign, BetweenSign, OutsideSign, IsPort, PortAlone, PortCompared, PortBounds, IsPart, PartHosts, IsHosts, AllWord, FromToParts, IsFlags, AnyFlags, NoneOf, SomeOf, IsTypes, TypeAlone}
+use Rattle.pf_statements.specs.Grammar.{DropWord, ReturnWord, IsAction, PassWord, BlockSaid, IsDirection, NoDirection, InWord, OutWord, IsSaid, Unsaid, Said, NoWord, KeepWord, IsOptions, NoOption, FlagsOption, StateOption, TypesOption, IsRule}
+use Rattle.pf_expansion.specs.Expansion.{host_family, type_family, occurring}
+use Rattle.pf_show.specs.Shown.{letters}
 use Rattle.pf_grammar.proofs.Numbers.{lt_is, IsDigit, Digits, BeginsDigit, decimal_digits, decimal_there, protocol_again, port_again, type_again, digit_free, decimal_begins}
-use Rattle.pf_statements.proofs.Fronts.{rank}
+use Rattle.pf_conditions.proofs.Fronts.{rank}
 use Rattle.pf_statements.proofs.StatementsSpelled.{rule_rank}
 use Rattle.pf_grammar.proofs.FlagLetters.{flags_again, flags_with_again}
+use Rattle.pf_ruleset.specs.declared.rule.Conditions.{Conditions}
+use Rattle.pf_conditions.specs.Conditions.{CommonText, ConditionsText}
+use Rattle.pf_conditions.specs.Grammar.{IsCommon}
+use Rattle.pf_conditions.proofs.CommonSpelled.{four_parts}
 
 -- ---- what a rule of a ruleset is
 
-abbrev pub FitsAddresses : Addresses → Type 0
-FitsAddresses (Prefix block) = FitsBlock block
-FitsAddresses (Range span) = FitsAddr span.first × FitsAddr span.last × (span_of span.first span.last ≡ Some span)
+abbrev pub FitsAddresses : Profile → Addresses → Type 0
+FitsAddresses profile (Prefix block) = FitsBlock block
+FitsAddresses profile (Table name) = is_table_name profile name ≡ true
+FitsAddresses profile (Range span) = FitsAddr span.first × FitsAddr span.last × (span_of span.first span.last ≡ Some span)
 
-abbrev pub FitsHost : Host → Type 0
-FitsHost host.Any = Unit {0}
-FitsHost (host.In set) = FitsAddresses set
-FitsHost (host.NotIn set) = FitsAddresses set
+abbrev pub FitsHost : Profile → Host → Type 0
+FitsHost profile host.Any = Unit {0}
+FitsHost profile (host.In set) = FitsAddresses profile set
+FitsHost profile (host.NotIn set) = FitsAddresses profile set
 
 abbrev pub FitsTest : PortTest → Type 0
 FitsTest (Equal a) = a ≤ 65535
@@ -90,17 +97,20 @@ ported (Some n) = n == 6 || n == 17
 abbrev pub FitsType : Profile → Option ℕ → ℕ → Type 0
 FitsType profile protocol n = (has_types profile ≡ true) × (n ≤ 255) × (protocol ≡ Some 1)
 
+pub record FitsConditions (profile : Profile) (c : Conditions) : Type 0 where
+  pub interface : FitsIf (λ (i : Interface). is_interface_name profile i.name ≡ true) c.interface
+  pub protocol : FitsIf (λ n. n ≤ 255) c.protocol
+  pub source : FitsHost profile c.source
+  pub source_port : FitsIf FitsTest c.source_port
+  pub destination : FitsHost profile c.destination
+  pub destination_port : FitsIf FitsTest c.destination_port
+  pub family : occurring (c.family ∷ host_family c.source ∷ host_family c.destination ∷ type_family c.icmp_type ∷ []) ≡ Some c.family
+  pub ports : ((is_some c.source_port || is_some c.destination_port) && not (ported c.protocol)) ≡ false
+  pub types : FitsIf (FitsType profile c.protocol) c.icmp_type
+  pub flags : FitsFlags c.flags
+
 pub record FitsRule (profile : Profile) (r : Rule) : Type 0 where
-  pub interface : FitsIf (λ (i : Interface). is_interface_name profile i.name ≡ true) r.conditions.interface
-  pub protocol : FitsIf (λ n. n ≤ 255) r.conditions.protocol
-  pub source : FitsHost r.conditions.source
-  pub source_port : FitsIf FitsTest r.conditions.source_port
-  pub destination : FitsHost r.conditions.destination
-  pub destination_port : FitsIf FitsTest r.conditions.destination_port
-  pub family : occurring (r.conditions.family ∷ host_family r.conditions.source ∷ host_family r.conditions.destination ∷ type_family r.conditions.icmp_type ∷ []) ≡ Some r.conditions.family
-  pub ports : ((is_some r.conditions.source_port || is_some r.conditions.destination_port) && not (ported r.conditions.protocol)) ≡ false
-  pub types : FitsIf (FitsType profile r.conditions.protocol) r.conditions.icmp_type
-  pub flags : FitsFlags r.conditions.flags
+  pub conditions : FitsConditions profile r.conditions
   pub state : FitsState r.action r.keeps_state
 
 -- ---- the tokens of a shown rule
@@ -139,8 +149,15 @@ protocol_tokens (Some n) = key (codes "proto") ++ key (decimal n)
 abbrev pub length_tokens : Bool → ℕ → List Token
 length_tokens full len = cond full [] (sign mark.Slash ++ key (decimal len))
 
+abbrev pub prefix_tokens : Block → List Token
+prefix_tokens block = key (shown_addr block.base) ++ length_tokens (block.len == width block.base) block.len
+
+abbrev pub table_tokens : List ℕ → List Token
+table_tokens name = sign mark.Less ++ (key name ++ sign mark.Greater)
+
 abbrev pub addresses_tokens : Addresses → List Token
-addresses_tokens (Prefix block) = key (shown_addr block.base) ++ length_tokens (block.len == width block.base) block.len
+addresses_tokens (Prefix block) = prefix_tokens block
+addresses_tokens (Table name) = table_tokens name
 addresses_tokens (Range span) = key (shown_addr span.first) ++ (key (codes "-") ++ key (shown_addr span.last))
 
 abbrev pub host_tokens : Host → List Token
@@ -245,18 +262,25 @@ written_options r = record { flags = written_flags r.action r.conditions.flags; 
 abbrev pub written_protocol : ℕ → Protocol
 written_protocol n = record { number = n }
 
-abbrev pub written : Rule → RuleText
-written r = record {
-  action = written_action r.action;
-  direction = r.conditions.direction;
-  quick = r.quick;
-  interfaces = one_if (λ (i : Interface). i) r.conditions.interface;
-  family = r.conditions.family;
-  protocols = one_if written_protocol r.conditions.protocol;
-  source = written_end r.conditions.source r.conditions.source_port;
-  destination = written_end r.conditions.destination r.conditions.destination_port;
-  options = written_options r;
+abbrev pub written_common : Conditions → CommonText
+written_common c = record {
+  interfaces = one_if (λ (i : Interface). i) c.interface;
+  family = c.family;
+  protocols = one_if written_protocol c.protocol;
+  source = written_end c.source c.source_port;
+  destination = written_end c.destination c.destination_port;
 }
+
+abbrev pub written_conditions : Rule → ConditionsText
+written_conditions r = record {
+  direction = r.conditions.direction;
+  common = written_common r.conditions;
+  flags = written_flags r.action r.conditions.flags;
+  types = written_types r.conditions.icmp_type;
+}
+
+abbrev pub written : Rule → RuleText
+written r = record { action = written_action r.action; quick = r.quick; conditions = written_conditions r; state = written_state r.action r.keeps_state }
 
 -- ---- the tokens spell it
 
@@ -291,18 +315,22 @@ protocol_told : (p : Option ℕ) → FitsIf (λ n. n ≤ 255) p → IsBehind (co
 protocol_told None fits = Missing
 protocol_told (Some n) fits = Behind _ (one (written_protocol n)) (One _ (written_protocol n) (ProtocolWord (decimal n) n (protocol_again n fits)))
 
-prefix_told : (block : Block) (full : Bool) → (block.len == width block.base) ≡ full → FitsBlock block → IsAddresses (key (shown_addr block.base) ++ length_tokens full block.len) (Prefix block)
+prefix_told : (block : Block) (full : Bool) → (block.len == width block.base) ≡ full → FitsBlock block → IsPrefix (key (shown_addr block.base) ++ length_tokens full block.len) block
 prefix_told block true is_full fits = WholeAddress (shown_addr block.base) block (let again = block_again block.base block.len fits.fits fits.block in rw is_full at again)
 prefix_told block false is_full fits = CutAddress (shown_addr block.base) (decimal block.len) block (let again = block_again block.base block.len fits.fits fits.block in rw is_full at again)
 
-addresses_told : (set : Addresses) → FitsAddresses set → IsAddresses (addresses_tokens set) set
-addresses_told (Prefix block) fits = prefix_told block (block.len == width block.base) refl fits
-addresses_told (Range span) fits = AddressRange (shown_addr span.first) (shown_addr span.last) span.first span.last span (addr_again span.first fits.0) (addr_again span.last fits.1) fits.2
+pub block_told : (block : Block) → FitsBlock block → IsPrefix (prefix_tokens block) block
+block_told block fits = prefix_told block (block.len == width block.base) refl fits
 
-host_told : (h : Host) → FitsHost h → IsHost (host_tokens h) h
-host_told host.Any fits = AnyWord
-host_told (host.In set) fits = HostIn _ set (addresses_told set fits)
-host_told (host.NotIn set) fits = HostNotIn _ set (addresses_told set fits)
+addresses_told : (profile : Profile) (set : Addresses) → FitsAddresses profile set → IsSet profile (addresses_tokens set) set
+addresses_told profile (Prefix block) fits = PrefixSet _ block (block_told block fits)
+addresses_told profile (Table name) fits = TableSet _ name (TableSign name fits)
+addresses_told profile (Range span) fits = RangeSet (shown_addr span.first) (shown_addr span.last) span.first span.last span (addr_again span.first fits.0) (addr_again span.last fits.1) fits.2
+
+host_told : (profile : Profile) (h : Host) → FitsHost profile h → IsHost profile (host_tokens h) h
+host_told profile host.Any fits = AnyWord
+host_told profile (host.In set) fits = HostIn _ set (addresses_told profile set fits)
+host_told profile (host.NotIn set) fits = HostNotIn _ set (addresses_told profile set fits)
 
 abbrev written_test : Option PortTest → WrittenPort
 written_test test = record { test = test }
@@ -371,14 +399,14 @@ port_told : (profile : Profile) (port : Option PortTest) → FitsIf FitsTest por
 port_told profile None fits = Missing
 port_told profile (Some test) fits = Behind _ (one (written_test (Some test))) (One _ (written_test (Some test)) (test_told profile test fits))
 
-end_told : (profile : Profile) (h : Host) (port : Option PortTest) → FitsHost h → FitsIf FitsTest port → IsPart profile (end_tokens h port) (written_end h port)
-end_told profile h port fits_h fits_p = PartHosts (host_tokens h) (port_tokens port) (one h) _ (One (host_tokens h) h (host_told h fits_h)) (port_told profile port fits_p)
+end_told : (profile : Profile) (h : Host) (port : Option PortTest) → FitsHost profile h → FitsIf FitsTest port → IsPart profile (end_tokens h port) (written_end h port)
+end_told profile h port fits_h fits_p = PartHosts (host_tokens h) (port_tokens port) (one h) _ (One (host_tokens h) h (host_told profile h fits_h)) (port_told profile port fits_p)
 
-both_told : (profile : Profile) (s : Host) (sp : Option PortTest) (d : Host) (dp : Option PortTest) → FitsHost s → FitsIf FitsTest sp → FitsHost d → FitsIf FitsTest dp → IsHosts profile (both_tokens s sp d dp) (written_end s sp) (written_end d dp)
+both_told : (profile : Profile) (s : Host) (sp : Option PortTest) (d : Host) (dp : Option PortTest) → FitsHost profile s → FitsIf FitsTest sp → FitsHost profile d → FitsIf FitsTest dp → IsHosts profile (both_tokens s sp d dp) (written_end s sp) (written_end d dp)
 both_told profile s sp d dp fits_s fits_sp fits_d fits_dp = FromToParts (end_tokens s sp) (end_tokens d dp) (written_end s sp) (written_end d dp) (end_told profile s sp fits_s fits_sp) (end_told profile d dp fits_d fits_dp)
 
 -- whether `all` says it
-ends_told : (profile : Profile) (s : Host) (sp : Option PortTest) (d : Host) (dp : Option PortTest) → FitsHost s → FitsIf FitsTest sp → FitsHost d → FitsIf FitsTest dp → IsHosts profile (ends_tokens s sp d dp) (written_end s sp) (written_end d dp)
+ends_told : (profile : Profile) (s : Host) (sp : Option PortTest) (d : Host) (dp : Option PortTest) → FitsHost profile s → FitsIf FitsTest sp → FitsHost profile d → FitsIf FitsTest dp → IsHosts profile (ends_tokens s sp d dp) (written_end s sp) (written_end d dp)
 ends_told profile host.Any None host.Any None a b c d = AllWord
 ends_told profile host.Any None host.Any (Some t) a b c d = both_told profile host.Any None host.Any (Some t) a b c d
 ends_told profile host.Any None (host.In set) dp a b c d = both_told profile host.Any None (host.In set) dp a b c d
@@ -438,6 +466,29 @@ may_told act.Pass keep = refl
 may_told act.Drop keep = refl
 may_told act.Return keep = refl
 
+abbrev pub common_tokens : Conditions → List Token
+common_tokens c = interface_tokens c.interface ++ (family_tokens c.family ++ (protocol_tokens c.protocol ++ ends_tokens c.source c.source_port c.destination c.destination_port))
+
+common_told : (profile : Profile) (c : Conditions) → FitsConditions profile c → IsCommon profile (common_tokens c) (written_common c)
+common_told profile c fits = record {
+  interfaces = interface_tokens c.interface;
+  family = family_tokens c.family;
+  protocols = protocol_tokens c.protocol;
+  hosts = ends_tokens c.source c.source_port c.destination c.destination_port;
+  whole = refl;
+  are_interfaces = interface_told profile c.interface fits.interface;
+  is_family = family_told c.family;
+  are_protocols = protocol_told c.protocol fits.protocol;
+  are_hosts = ends_told profile c.source c.source_port c.destination c.destination_port fits.source fits.source_port fits.destination fits.destination_port;
+}
+
+-- its tokens, those of its conditions together
+common_split : (r : Rule) → common_tokens r.conditions ++ option_tokens r ≡ interface_tokens r.conditions.interface ++ (family_tokens r.conditions.family ++ (protocol_tokens r.conditions.protocol
+    ++ (ends_tokens r.conditions.source r.conditions.source_port r.conditions.destination r.conditions.destination_port ++ option_tokens r)))
+common_split r =
+    let c = r.conditions in
+    four_parts (interface_tokens c.interface) (family_tokens c.family) (protocol_tokens c.protocol) (ends_tokens c.source c.source_port c.destination c.destination_port) (option_tokens r)
+
 -- a shown rule is one of the grammar
 pub rule_told : (profile : Profile) (r : Rule) → FitsRule profile r → IsRule profile (rule_tokens r) (written r)
 rule_told profile r fits = record {
@@ -446,21 +497,15 @@ rule_told profile r fits = record {
   log = [];
   logs = false;
   quick = quick_tokens r.quick;
-  interfaces = interface_tokens r.conditions.interface;
-  family = family_tokens r.conditions.family;
-  protocols = protocol_tokens r.conditions.protocol;
-  hosts = ends_tokens r.conditions.source r.conditions.source_port r.conditions.destination r.conditions.destination_port;
+  common = common_tokens r.conditions;
   options = option_tokens r;
-  whole = refl;
+  whole = ap (λ (us : List Token). action_tokens r.action ++ (direction_tokens r.conditions.direction ++ ([] ++ (quick_tokens r.quick ++ us)))) (sym (common_split r));
   is_action = action_told r.action;
   is_direction = direction_told r.conditions.direction;
   is_log = Unsaid;
   is_quick = quick_told r.quick;
-  are_interfaces = interface_told profile r.conditions.interface fits.interface;
-  is_family = family_told r.conditions.family;
-  are_protocols = protocol_told r.conditions.protocol fits.protocol;
-  are_hosts = ends_told profile r.conditions.source r.conditions.source_port r.conditions.destination r.conditions.destination_port fits.source fits.source_port fits.destination fits.destination_port;
-  are_options = options_told profile r.conditions.protocol r.conditions.icmp_type r.action r.keeps_state r.conditions.flags fits.types fits.flags;
+  is_common = common_told profile r.conditions fits.conditions;
+  are_options = options_told profile r.conditions.protocol r.conditions.icmp_type r.action r.keeps_state r.conditions.flags fits.conditions.types fits.conditions.flags;
   keeps = may_told r.action r.keeps_state;
 }
 
@@ -472,4 +517,5 @@ behind_action r =
 
 pub told_rank : (profile : Profile) (r : Rule) → FitsRule profile r → 1 < rank (behind_action r)
 unfolding rule_told
-told_rank profile r fits = rule_rank profile (rule_tokens r) (written r) (rule_told profile r fits)
+told_rank profile r fits =
+    subst (λ (us : List Token). 1 < rank (direction_tokens r.conditions.direction ++ ([] ++ (quick_tokens r.quick ++ us)))) (common_split r) (rule_rank profile (rule_tokens r) (written r) (rule_told profile r fits))

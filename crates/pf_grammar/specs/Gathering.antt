@@ -1,6 +1,7 @@
 -- What the code keeps of the statements so far, and what one more changes.
 use Rattle.std.specs.Prelude.{◌≡◌, [], ◌∷◌, ◌++◌, map, Result, Ok, Err}
 use Rattle.pf_tokens.specs.Defined.{definition_of}
+use Rattle.pf_tokens.specs.Known.{definitions_of}
 use Rattle.pf_grammar.specs.declared.fault.ParseFault.{ParseFault}
 use Rattle.pf_grammar.specs.declared.fault.ParseFault.TheVariants as faults
 use Rattle.pf_grammar.specs.declared.fault.Refusal.{Refusal}
@@ -10,14 +11,22 @@ use Rattle.pf_grammar.specs.declared.gathered.Gathered.{Gathered}
 use Rattle.pf_ruleset.specs.declared.rule.Rule.{Rule}
 use Rattle.pf_ruleset.specs.declared.ruleset.Item.TheVariants.{Filter}
 use Rattle.pf_grammar.specs.Reading.{Sofar}
+use Rattle.pf_ruleset.specs.Rulesets.{table_of}
 
 abbrev pub sofar_of : Gathered → Sofar
-sofar_of g = record { macros = map definition_of g.macros.items; policy = g.policy; skip = g.skip.items; items = g.items.items }
+sofar_of g = record {
+  macros = definitions_of g.macros;
+  policy = g.policy;
+  skip = g.skip.items;
+  tables = map table_of g.tables.items;
+  items = g.items.items;
+}
 
 abbrev pub with_change : Sofar → Change → Sofar
 with_change sofar (changes.Defines made) = record sofar { macros = sofar.macros ++ definition_of made ∷ [] }
 with_change sofar (changes.Sets said) = record sofar { policy = said }
 with_change sofar (changes.Skips names) = record sofar { skip = sofar.skip ++ names.items }
+with_change sofar (changes.Tables table) = record sofar { tables = sofar.tables ++ table_of table ∷ [] }
 with_change sofar (changes.Adds rules) = record sofar { items = sofar.items ++ map (λ (r : Rule). Filter r) rules.items }
 
 -- what the statement changes, or its refusal; unless memory ran out

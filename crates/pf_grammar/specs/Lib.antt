@@ -1,5 +1,3 @@
-pub mod Expansion
 pub mod Causes
-pub mod Reading
-pub mod Chosen
 pub mod Gathering
+pub mod Reading

@@ -6,18 +6,18 @@ ghost use Rattle.pf_ruleset.specs.declared.ruleset.Item.TheVariants.{Filter};
 ghost use Rattle.pf_grammar.specs.Reading.{nothing};
 ghost use Rattle.pf_grammar.specs.Gathering.{sofar_of, with_change};
 
-use pf_ruleset::{Item, Rule};
-use pf_statements::{Name, Policy};
-use pf_tokens::Macro;
+use pf_ruleset::{InterfaceName, Item, Policy, Rule, TableDef};
+use pf_tokens::{Macro, Macros};
 use std::alloc::{AllocError, Global};
 
 /// What the statements so far come to.
 #[derive(Debug, Drop)]
 pub(crate) struct Gathered {
-    pub(crate) macros: Vec<Macro>,
+    pub(crate) macros: Macros,
     /// What a plain `block` does.
     pub(crate) policy: Policy,
-    pub(crate) skip: Vec<Name>,
+    pub(crate) skip: Vec<InterfaceName>,
+    pub(crate) tables: Vec<TableDef>,
     pub(crate) items: Vec<Item>,
 }
 
@@ -29,13 +29,15 @@ pub(crate) enum Change {
     /// It says what a plain `block` does from here on.
     Sets(Policy),
     /// It names interfaces whose packets aren't filtered.
-    Skips(Vec<Name>),
+    Skips(Vec<InterfaceName>),
+    /// It defines a table.
+    Tables(TableDef),
     /// It comes to these rules.
     Adds(Vec<Rule>),
 }
 
 /// Appends the names.
-fn push_names(skip: &mut Vec<Name>, names: Vec<Name>) -> Result<(), AllocError>
+fn push_names(skip: &mut Vec<InterfaceName>, names: Vec<InterfaceName>) -> Result<(), AllocError>
     ensures { OnOk result (skip.new.items ≡ skip.old.items ++ names.items) }
 {
     for name in names {
@@ -60,22 +62,24 @@ impl Gathered {
         ensures { sofar_of result ≡ nothing }
     {
         Gathered {
-            macros: Vec::new(alloc),
+            macros: Macros::new(alloc),
             policy: Policy::Drop,
             skip: Vec::new(alloc),
+            tables: Vec::new(alloc),
             items: Vec::new(alloc),
         }
     }
 
     /// With one statement more.
-    #[tactic(auto, using(crate::proofs::ReadingSteps::map_push))]
-    pub(crate) fn add(&mut self, change: Change) -> Result<(), AllocError>
+    #[tactic(auto, using(crate::proofs::ReadingSteps::tables_push))]
+    pub(crate) fn add(&mut self, alloc: Global, change: Change) -> Result<(), AllocError>
         ensures { OnOk result (sofar_of self.new ≡ with_change (sofar_of self.old) change) }
     {
         match change {
-            Change::Defines(made) => self.macros.push(made)?,
+            Change::Defines(made) => self.macros.push(alloc, made)?,
             Change::Sets(policy) => self.policy = policy,
             Change::Skips(names) => push_names(&mut self.skip, names)?,
+            Change::Tables(table) => self.tables.push(table)?,
             Change::Adds(rules) => push_rules(&mut self.items, rules)?,
         }
         Ok(())

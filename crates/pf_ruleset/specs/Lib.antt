@@ -1,3 +1,3 @@
+pub mod Names
 pub mod Rulesets
-pub mod Shown
-pub mod Spaced
+pub mod Items

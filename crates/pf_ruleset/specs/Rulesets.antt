@@ -1,15 +1,26 @@
 -- Rulesets as values.
-use Rattle.std.specs.Prelude.{List, map}
-use Rattle.pf_statements.specs.Names.{Name}
+use Rattle.std.specs.Prelude.{Bool, List, map, Option, option_map}
+use Rattle.pf_ruleset.specs.Names.{Name}
 use Rattle.pf_ruleset.specs.declared.ruleset.Item.{Item}
 use Rattle.pf_ruleset.specs.declared.ruleset.Ruleset.{Ruleset}
 use Rattle.pf_ruleset.specs.declared.ruleset.TableDef.{TableDef}
+use Rattle.pf_ruleset.specs.declared.ruleset.TableEntry.{TableEntry}
+
+-- what a text says of a table: its flags, and its entries where they are listed
+pub record TableValue : Type 0 where
+  pub name : Name
+  pub persist : Bool
+  pub is_const : Bool
+  pub entries : Option (List TableEntry)
 
 -- a ruleset without where it lies in memory
 pub record RulesetValue : Type 0 where
   pub skip : List Name
-  pub tables : List Name
+  pub tables : List TableValue
   pub items : List Item
 
+abbrev pub table_of : TableDef → TableValue
+table_of t = record { name = t.name; persist = t.persist; is_const = t.is_const; entries = option_map (λ v. v.items) t.entries }
+
 abbrev pub ruleset_of : Ruleset → RulesetValue
-ruleset_of r = record { skip = r.skip.items; tables = map (λ (t : TableDef). t.name) r.tables.items; items = r.items.items }
+ruleset_of r = record { skip = r.skip.items; tables = map table_of r.tables.items; items = r.items.items }

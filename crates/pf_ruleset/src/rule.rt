@@ -1,6 +1,7 @@
 //! A filter rule, and the conditions under which it matches.
 
-use pf_statements::{Direction, Family, FlagTest, Host, Interface, PortTest};
+use crate::parts::{Direction, FlagTest, Host, Interface, PortTest};
+use pf_addr::Family;
 
 /// What is done with a packet (pf.conf(5), PACKET FILTERING).
 #[derive(Clone, Copy, Debug, PartialEq, Eq)]

@@ -2,13 +2,32 @@
 
 ghost use Rattle.std.specs.Prelude.{◌≤◌, length};
 
+use crate::interface_name::InterfaceName;
 use crate::rule::Rule;
-use pf_statements::Name;
+use crate::table_name::TableName;
+use pf_addr::Prefix;
 
-/// A table that a text defines.
+/// A prefix that a table holds, or where it is negated one that it leaves out (pf.conf(5), TABLES).
+#[derive(Clone, Copy, Debug, PartialEq, Eq)]
+pub struct TableEntry {
+    /// Whether `!` stands before it.
+    pub negated: bool,
+    /// The prefix.
+    pub prefix: Prefix,
+}
+
+/// A table that a text defines (pf.conf(5), TABLES).
 #[derive(Debug, Drop)]
 pub struct TableDef {
-    pub name: Name,
+    /// Its name.
+    pub name: TableName,
+    /// Whether it stays where no rule refers to it.
+    pub persist: bool,
+    /// Whether commands may not change its entries.
+    pub is_const: bool,
+    /// Its entries, the first of each prefix, in the order of the text; none where the text has no list, and the contents stay
+    /// as they are.
+    pub entries: Option<Vec<TableEntry>>,
 }
 
 /// What is evaluated in its turn.
@@ -21,7 +40,7 @@ pub enum Item {
 #[derive(Debug, Drop)]
 pub struct Ruleset {
     /// The interfaces and groups whose packets aren't filtered, in the order of the text, as often as written.
-    pub skip: Vec<Name>,
+    pub skip: Vec<InterfaceName>,
     /// The tables that the text defines.
     pub tables: Vec<TableDef>,
     /// The rules in their expanded order, 1,024 at most.

@@ -1,6 +1,6 @@
 pub mod OptionSteps
-pub mod Fronts
-pub mod ListsSpelled
-pub mod PiecesSpelled
+pub mod Steps
+pub mod TableSteps
+pub mod TablesSpelled
 pub mod RulesSpelled
 pub mod StatementsSpelled

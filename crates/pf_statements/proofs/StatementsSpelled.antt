@@ -5,156 +5,28 @@ use Rattle.std.specs.List.{AllByRecursion}
 use Rattle.std.proofs.lemmas.Bool.{false≢true}
 use Rattle.std.proofs.lemmas.List.{append-nil, length-append}
 use Rattle.std.proofs.lemmas.Slice.Eq.{bytes_eq-Decides}
-use Rattle.pf_tokens.specs.declared.profile.Profile.{Profile}
-use Rattle.pf_tokens.specs.declared.symbol.Symbol.TheVariants as mark
-use Rattle.pf_tokens.specs.Tokens.{Token, Word, Mark}
-use Rattle.pf_tokens.specs.Productions.{Read, ◌>>=◌, begins, begins_symbol, is_end, option_at, word_at}
-use Rattle.pf_tokens.specs.Lists.{Elements, some_at, list_at}
+use Rattle.pf_words.specs.declared.profile.Profile.{Profile}
+use Rattle.pf_tokens.specs.Tokens.{Token, Word}
+use Rattle.pf_tokens.specs.Productions.{Read, ◌>>=◌, begins, is_end, option_at}
+use Rattle.pf_tokens.specs.Lists.{Elements, some_at}
 use Rattle.pf_tokens.specs.Shorter.{bind_some, some_is}
-use Rattle.pf_statements.specs.declared.parts.Policy.{Policy}
-use Rattle.pf_statements.specs.declared.parts.Interface.{Interface}
-use Rattle.pf_words.specs.declared.flags.TcpFlags.{TcpFlags}
-use Rattle.pf_statements.specs.declared.parts.FlagTest.{FlagTest}
-use Rattle.pf_statements.specs.declared.parts.FlagTest.TheVariants as flags
+use Rattle.pf_ruleset.specs.declared.parts.Policy.{Policy}
+use Rattle.pf_ruleset.specs.declared.parts.FlagTest.{FlagTest}
 use Rattle.pf_statements.specs.declared.written.WrittenAction.{WrittenAction}
-use Rattle.pf_statements.specs.declared.written.Protocol.{Protocol}
-use Rattle.pf_statements.specs.declared.written.WrittenType.{WrittenType}
-use Rattle.pf_words.specs.Words.{icmp_type_of, flags_of, is_letter, no_flags, is_within}
-use Rattle.pf_statements.specs.Statements.{if_so, interfaces_at, interface_name_at, interface_at, family_at, protocols_at, protocol_at, ends_at, letters_at, just_within, flags_at, type_at, types_at, port_word_at, Options, no_options, flags_option, state_option, types_option, has_types, option_with, options_at, policy_at, action_at, direction_at, RuleText, may_keep, rule_of, Setting, SetPolicy, SetSkip, all_read, policy_set, skip_set, setting_of, Statement, Sets, Rules, as_setting, as_rule, value_of}
-use Rattle.pf_statements.specs.Grammar.{key, IsSome, Braces, IsBehind, IsAction, PassWord, BlockWord, BlockSaid, IsInterfaceName, IsInterface, IsProtocol, IsFlags, AnyFlags, NoneOf, SomeOf, IsKeep, NoWord, KeepWord, IsType, TypeWord, IsTypes, TypeAlone, TypeList, IsOptions, NoOption, FlagsOption, StateOption, TypesOption, IsRule, IsSetting, PolicySetting, SkipSetting, IsStatement, SetStatement, RuleStatement}
-use Rattle.pf_statements.proofs.Fronts.{Took, begins_is, symbol_is, word_is, rank, not_begun}
-use Rattle.pf_statements.proofs.ListsSpelled.{Heads, IsPlain, Readable, Spells, some_spells, list_took, list_reads, behind_took, behind_reads}
-use Rattle.pf_statements.proofs.RulesSpelled.{action_took, action_reads, direction_took, direction_reads, direction_rank, said_took, said_reads, log_rank, quick_rank, on_rank, family_took, family_reads, family_rank, proto_rank, hosts_took, hosts_read, hosts_rank, PolicyTook, policy_took, policy_reads}
-use Rattle.pf_statements.proofs.PiecesSpelled.{if_so_is, Anything, names_readable, interfaces_readable, protocols_readable, port_word_took, port_word_reads}
-
--- ---- flags
-
-record SlashTook (set : TcpFlags) (us : List Token) (x : FlagTest × List Token) : Type 0 where
-  text : List ℕ
-  of : TcpFlags
-  whole : us ≡ Mark mark.Slash ∷ Word text ∷ x.1
-  is : flags_of text ≡ Some of
-  within : is_within set of ≡ true
-  value : flags.Just set of ≡ x.0
-
-abbrev behind_set : TcpFlags × List Token → Read FlagTest
-behind_set set = if_so (begins_symbol mark.Slash set.1) (drop 1 set.1) >>= λ slash. word_at slash >>= λ word. flags_of word.0 >>= λ of. just_within set.0 of >>= λ test. Some (test, word.1)
-
-slash_took : (set : TcpFlags) (us : List Token) (x : FlagTest × List Token) → behind_set (set, us) ≡ Some x → SlashTook set us x
-slash_took set us x e =
-    let a = bind_some (if_so (begins_symbol mark.Slash us) (drop 1 us)) (λ slash. word_at slash >>= λ word. flags_of word.0 >>= λ of. just_within set of >>= λ test. Some (test, word.1)) x e in
-    let s = if_so_is (begins_symbol mark.Slash us) (drop 1 us) a.0 a.1 in
-    let w = bind_some (word_at a.0) (λ (word : List ℕ × List Token). flags_of word.0 >>= λ of. just_within set of >>= λ test. Some (test, word.1)) x a.2 in
-    let f = bind_some (flags_of w.0.0) (λ of. just_within set of >>= λ test. Some (test, w.0.1)) x w.2 in
-    let j = bind_some (just_within set f.0) (λ test. Some (test, w.0.1)) x f.2 in
-    let k = if_so_is (is_within set f.0) (flags.Just set f.0) j.0 j.1 in
-    let same = some_is (j.0, w.0.1) x j.2 in
-    record {
-      text = w.0.0;
-      of = f.0;
-      whole = symbol_is mark.Slash us s.0 ∙ ap (λ (vs : List Token). Mark mark.Slash ∷ vs) (s.1 ∙ word_is a.0 w.0 w.1 ∙ ap (λ (z : FlagTest × List Token). Word w.0.0 ∷ z.1) same);
-      is = f.1;
-      within = k.0;
-      value = k.1 ∙ ap (λ (z : FlagTest × List Token). z.0) same;
-    }
-
-none_took : (ts : List Token) (x : FlagTest × List Token) → SlashTook no_flags ts x → Took IsFlags ts x
-none_took ts x t = record { piece = Mark mark.Slash ∷ Word t.text ∷ []; whole = t.whole; is = subst (λ (test : FlagTest). IsFlags (Mark mark.Slash ∷ Word t.text ∷ []) test) t.value (NoneOf t.text t.of t.is) }
-
-some_took : (ts : List Token) (y : List ℕ × List Token) (set : TcpFlags) (x : FlagTest × List Token) → ts ≡ Word y.0 ∷ y.1 → flags_of y.0 ≡ Some set → SlashTook set y.1 x → Took IsFlags ts x
-some_took ts y set x e_ts e t = record { piece = Word y.0 ∷ Mark mark.Slash ∷ Word t.text ∷ []; whole = e_ts ∙ ap (λ (us : List Token). Word y.0 ∷ us) t.whole; is = subst (λ (test : FlagTest). IsFlags (Word y.0 ∷ Mark mark.Slash ∷ Word t.text ∷ []) test) t.value (SomeOf y.0 t.text set t.of e t.is t.within) }
-
-flags_took : (ts : List Token) (x : FlagTest × List Token) → flags_at ts ≡ Some x → Took IsFlags ts x
-unfolding flags_at letters_at
-flags_took ts x e = cases (begins (codes "any") ts) refl (begins_symbol mark.Slash ts) refl e
-  where
-    cases : (b : Bool) → begins (codes "any") ts ≡ b → (k : Bool) → begins_symbol mark.Slash ts ≡ k → cond b (Some (flags.Any, drop 1 ts)) (cond k (Some (no_flags, ts)) (word_at ts >>= λ word. flags_of word.0 >>= λ set. Some (set, word.1)) >>= behind_set) ≡ Some x → Took IsFlags ts x
-    cases true any k slash e = subst (λ (z : FlagTest × List Token). Took IsFlags ts z) (some_is (flags.Any, drop 1 ts) x e) (record { piece = key (codes "any"); whole = begins_is (codes "any") ts any; is = AnyFlags })
-    cases false any true slash e = none_took ts x (slash_took no_flags ts x e)
-    cases false any false slash e =
-        let a = bind_some (word_at ts >>= λ word. flags_of word.0 >>= λ set. Some (set, word.1)) behind_set x e in
-        let w = bind_some (word_at ts) (λ (word : List ℕ × List Token). flags_of word.0 >>= λ set. Some (set, word.1)) a.0 a.1 in
-        let f = bind_some (flags_of w.0.0) (λ set. Some (set, w.0.1)) a.0 w.2 in
-        let e' : behind_set (f.0, w.0.1) ≡ Some x = ap behind_set (some_is (f.0, w.0.1) a.0 f.2) ∙ a.2 in
-        some_took ts w.0 f.0 x (word_is ts w.0 w.1) f.1 (slash_took f.0 w.0.1 x e')
-
-any_no_flags : (set : TcpFlags) → flags_of (codes "any") ≡ Some set → ⊥
-unfolding flags_of is_letter
-any_no_flags set e = cc
-
-not_any : (said : List ℕ) (set : TcpFlags) → flags_of said ≡ Some set → bytes_eq said (codes "any") ≡ false
-not_any said set e = cases (bytes_eq said (codes "any")) refl
-  where
-    cases : (b : Bool) → bytes_eq said (codes "any") ≡ b → b ≡ false
-    cases true same = absurd (any_no_flags set (ap flags_of (sym ((bytes_eq-Decides said (codes "any")).0 same)) ∙ e))
-    cases false same = refl
-
-none_within : (of : TcpFlags) → is_within no_flags of ≡ true
-unfolding is_within
-none_within of = refl
-
-flags_reads : (ts rest : List Token) (x : FlagTest) → IsFlags ts x → flags_at (ts ++ rest) ≡ Some (x, rest)
-unfolding flags_at letters_at
-flags_reads _ rest _ AnyFlags = refl
-flags_reads _ rest _ (NoneOf text of e) = rw (e, none_within of) refl
-flags_reads _ rest _ (SomeOf said text set of e f g) = rw (not_any said set e, e, f, g) refl
-
--- ---- types
-
-type_took : (profile : Profile) (ts : List Token) (x : WrittenType × List Token) → type_at profile ts ≡ Some x → Took IsType ts x
-unfolding type_at
-type_took profile ts x e =
-    let w = bind_some (word_at ts) (λ (word : List ℕ × List Token). Some (record { number = icmp_type_of word.0 }, word.1)) x e in
-    subst (λ (z : WrittenType × List Token). Took IsType ts z) (some_is _ x w.2) (record { piece = Word w.0.0 ∷ []; whole = word_is ts w.0 w.1; is = TypeWord w.0.0 })
-
-type_reads : (profile : Profile) (ts rest : List Token) (x : WrittenType) → IsType ts x → Anything rest → type_at profile (ts ++ rest) ≡ Some (x, rest)
-unfolding type_at
-type_reads profile _ rest _ (TypeWord word) ends = refl
-
-type_heads : (ts rest : List Token) (x : WrittenType) → IsType ts x → Heads Anything (ts ++ rest)
-type_heads _ rest _ (TypeWord word) = record { ends = tt; not_open = refl; not_comma = refl; not_close = refl }
-
-type_plain : (ts : List Token) (x : WrittenType) → IsType ts x → AllByRecursion IsPlain ts
-type_plain _ _ (TypeWord word) = ((refl, refl), tt)
-
-type_some : (ts : List Token) (x : WrittenType) → IsType ts x → 0 < length ts
-type_some _ _ (TypeWord word) = omega arith
-
-types_readable : (profile : Profile) → Readable (type_at profile) IsType Anything
-types_readable profile = record {
-  took = type_took profile;
-  reads = type_reads profile;
-  heads = type_heads;
-  open_ends = λ rest. tt;
-  comma_ends = λ rest. tt;
-  close_ends = λ rest. tt;
-  plain = type_plain;
-  some = type_some;
-}
-
-opened_list : (profile : Profile) (ts : List Token) → begins_symbol mark.Open ts ≡ true → some_at (type_at profile) ts ≡ list_at (type_at profile) ts
-unfolding some_at
-opened_list profile ts opens = rw opens refl
-
-types_took : (profile : Profile) (ts : List Token) (x : Elements WrittenType × List Token) → types_at profile ts ≡ Some x → Took (IsTypes profile) ts x
-unfolding types_at
-types_took profile ts x e = cases (begins_symbol mark.Open ts) refl e
-  where
-    cases : (b : Bool) → begins_symbol mark.Open ts ≡ b → cond b (some_at (type_at profile) ts) (port_word_at profile ts >>= λ word. Some (record { items = record { number = icmp_type_of word.0 } ∷ []; deepest = 0 }, word.1)) ≡ Some x → Took (IsTypes profile) ts x
-    cases true opens e =
-        let t = list_took (types_readable profile) ts x (sym (opened_list profile ts opens) ∙ e) in
-        record { piece = t.piece; whole = t.whole; is = TypeList t.piece x.0 t.is }
-    cases false opens e =
-        let w = bind_some (port_word_at profile ts) (λ (word : List ℕ × List Token). Some (record { items = record { number = icmp_type_of word.0 } ∷ []; deepest = 0 }, word.1)) x e in
-        let p = port_word_took profile ts w.0 w.1 in
-        subst (λ (z : Elements WrittenType × List Token). Took (IsTypes profile) ts z) (some_is _ x w.2) (record { piece = Word w.0.0 ∷ []; whole = p.0; is = TypeAlone w.0.0 p.1 })
-
-types_reads : (profile : Profile) (ts rest : List Token) (x : Elements WrittenType) → IsTypes profile ts x → types_at profile (ts ++ rest) ≡ Some (x, rest)
-unfolding types_at
-types_reads profile _ rest _ (TypeAlone word free) = rw (port_word_reads profile word rest free) refl
-types_reads profile _ rest _ (TypeList _ _ (Braces within ts xs d e is)) =
-    let whole = Mark mark.Open ∷ (within ++ (Mark mark.Close ∷ [])) in
-    opened_list profile (whole ++ rest) refl ∙ list_reads (types_readable profile) whole rest (record { items = xs; deepest = d + 1 }) (Braces within ts xs d e is)
+use Rattle.pf_conditions.specs.declared.written.WrittenType.{WrittenType}
+use Rattle.pf_conditions.specs.Conditions.{if_so, interface_name_at, flags_at, types_at, common_at}
+use Rattle.pf_statements.specs.Statements.{Options, no_options, flags_option, state_option, types_option, has_types, option_with, options_at, policy_at, action_at, direction_at, RuleText, may_keep, rule_of, Setting, SetPolicy, SetSkip, all_read, policy_set, skip_set, setting_of, Statement, Sets, Rules, as_setting, as_rule, value_of, Tables, as_table}
+use Rattle.pf_conditions.specs.Grammar.{IsSome, IsInterfaceName, IsFlags, IsTypes}
+use Rattle.pf_statements.specs.Grammar.{IsAction, PassWord, BlockWord, BlockSaid, IsKeep, NoWord, KeepWord, IsOptions, NoOption, FlagsOption, StateOption, TypesOption, IsRule, IsSetting, PolicySetting, SkipSetting, IsStatement, SetStatement, RuleStatement, TableStatement}
+use Rattle.pf_conditions.proofs.Fronts.{begins_is, rank, not_begun}
+use Rattle.pf_conditions.proofs.ListsSpelled.{Spells, some_spells}
+use Rattle.pf_statements.proofs.RulesSpelled.{action_took, action_reads, direction_took, direction_reads, direction_rank, said_took, said_reads, log_rank, quick_rank, PolicyTook, policy_took, policy_reads}
+use Rattle.pf_conditions.proofs.CommonSpelled.{common_rank, common_reads, common_took}
+use Rattle.pf_conditions.proofs.PiecesSpelled.{if_so_is, Anything, names_readable}
+use Rattle.pf_conditions.proofs.FlagsSpelled.{flags_took, flags_reads, types_took, types_reads}
+use Rattle.pf_statements.specs.Options.{to_end}
+use Rattle.pf_statements.specs.Tables.{TableText, table_of}
+use Rattle.pf_statements.proofs.TablesSpelled.{table_took, table_reads}
 
 -- ---- options
 
@@ -224,7 +96,7 @@ end_is [] e = refl
 end_is (t ∷ ts) e = absurd (false≢true e)
 
 options_step : (n : ℕ) (profile : Profile) (o all : Options) (ts : List Token) → ((p : Options) (us : List Token) → options_at n profile p us ≡ Some all → IsOptions profile p us all) → options_at (suc n) profile o ts ≡ Some all → IsOptions profile o ts all
-unfolding options_at
+unfolding to_end
 options_step n profile o all ts ih e = cases (is_end ts) refl e
   where
     cases : (b : Bool) → is_end ts ≡ b → cond b (Some o) (option_with profile o ts >>= λ r. options_at n profile r.0 r.1) ≡ Some all → IsOptions profile o ts all
@@ -234,7 +106,7 @@ options_step n profile o all ts ih e = cases (is_end ts) refl e
         option_goes profile o all ts a.0 a.1 (ih a.0.0 a.0.1 a.2)
 
 options_took : (n : ℕ) (profile : Profile) (o all : Options) (ts : List Token) → options_at n profile o ts ≡ Some all → IsOptions profile o ts all
-unfolding options_at
+unfolding to_end
 options_took zero profile o all ts e = absurd cc
 options_took (suc n) profile o all ts e = options_step n profile o all ts (λ p us. options_took n profile p all us) e
 
@@ -242,23 +114,23 @@ abbrev OptionsRead : Profile → Options → List Token → Options → Type 0
 OptionsRead profile o ts all = (n : ℕ) → length ts < n → options_at n profile o ts ≡ Some all
 
 read_none : (profile : Profile) (o : Options) → OptionsRead profile o [] o
-unfolding options_at
+unfolding to_end
 read_none profile o zero h = absurd (omega (arith, h))
 read_none profile o (suc n) h = refl
 
 read_flags : (profile : Profile) (o all : Options) (ts us : List Token) (test : FlagTest) → o.flags ≡ None → IsFlags ts test → OptionsRead profile (record o { flags = Some test }) us all → OptionsRead profile o (Word (codes "flags") ∷ (ts ++ us)) all
-unfolding options_at option_with flags_option
+unfolding to_end option_with flags_option
 read_flags profile o all ts us test none is more zero h = absurd (omega (arith, h))
 read_flags profile o all ts us test none is more (suc n) h = rw (none, flags_reads ts us test is) (more n (let l = length-append ts us in omega (arith, h, l)))
 
 read_state : (profile : Profile) (o all : Options) (word : List ℕ) (us : List Token) (keep : Bool) → o.state ≡ None → IsKeep word keep → OptionsRead profile (record o { state = Some keep }) us all → OptionsRead profile o (Word word ∷ (Word (codes "state") ∷ us)) all
-unfolding options_at option_with state_option
+unfolding to_end option_with state_option
 read_state profile o all _ us _ none is more zero h = absurd (omega (arith, h))
 read_state profile o all _ us _ none NoWord more (suc n) h = rw none (more n (omega (arith, h)))
 read_state profile o all _ us _ none KeepWord more (suc n) h = rw none (more n (omega (arith, h)))
 
 read_types : (profile : Profile) (o all : Options) (ts us : List Token) (types : Elements WrittenType) → has_types profile ≡ true → o.types ≡ None → IsTypes profile ts types → OptionsRead profile (record o { types = Some types }) us all → OptionsRead profile o (Word (codes "icmp-type") ∷ (ts ++ us)) all
-unfolding options_at option_with types_option
+unfolding to_end option_with types_option
 read_types profile o all ts us types has none is more zero h = absurd (omega (arith, h))
 read_types profile o all ts us types has none is more (suc n) h = rw (has, none, types_reads profile ts us types is) (more n (let l = length-append ts us in omega (arith, h, l)))
 
@@ -277,82 +149,45 @@ options_rank profile _ _ _ (TypesOption o all ts us types has none is more) = om
 
 -- ---- rules
 
-interfaces_spell : (profile : Profile) → Spells (some_at (interface_at profile)) (IsSome (IsInterface profile)) Anything
-interfaces_spell profile = some_spells (interfaces_readable profile)
-
-protocols_spell : (profile : Profile) → Spells (some_at (protocol_at profile)) (IsSome IsProtocol) Anything
-protocols_spell profile = some_spells (protocols_readable profile)
-
 names_spell : (profile : Profile) → Spells (some_at (interface_name_at profile)) (IsSome (IsInterfaceName profile)) Anything
 names_spell profile = some_spells (names_readable profile)
-
-interfaces_took : (profile : Profile) (ts : List Token) (x : Option (Elements Interface) × List Token) → interfaces_at profile ts ≡ Some x → Took (IsBehind (codes "on") (IsSome (IsInterface profile))) ts x
-unfolding interfaces_at
-interfaces_took profile ts x e = behind_took (codes "on") (interfaces_spell profile) ts x e
-
-interfaces_read : (profile : Profile) (ts rest : List Token) (x : Option (Elements Interface)) → IsBehind (codes "on") (IsSome (IsInterface profile)) ts x → 5 < rank rest → interfaces_at profile (ts ++ rest) ≡ Some (x, rest)
-unfolding interfaces_at
-interfaces_read profile ts rest x is h = behind_reads (codes "on") (interfaces_spell profile) ts rest x is (not_begun (codes "on") rest h) tt
-
-protocols_took : (profile : Profile) (ts : List Token) (x : Option (Elements Protocol) × List Token) → protocols_at profile ts ≡ Some x → Took (IsBehind (codes "proto") (IsSome IsProtocol)) ts x
-unfolding protocols_at
-protocols_took profile ts x e = behind_took (codes "proto") (protocols_spell profile) ts x e
-
-protocols_read : (profile : Profile) (ts rest : List Token) (x : Option (Elements Protocol)) → IsBehind (codes "proto") (IsSome IsProtocol) ts x → 7 < rank rest → protocols_at profile (ts ++ rest) ≡ Some (x, rest)
-unfolding protocols_at
-protocols_read profile ts rest x is h = behind_reads (codes "proto") (protocols_spell profile) ts rest x is (not_begun (codes "proto") rest h) tt
 
 rule_reads : (profile : Profile) (ts : List Token) (r : RuleText) → IsRule profile ts r → rule_of profile ts ≡ Some r
 unfolding rule_of
 rule_reads profile ts r is =
-    let t8 = is.options in
-    let t7 = is.hosts ++ t8 in
-    let t6 = is.protocols ++ t7 in
-    let t5 = is.family ++ t6 in
-    let t4 = is.interfaces ++ t5 in
+    let t5 = is.options in
+    let t4 = is.common ++ t5 in
     let t3 = is.quick ++ t4 in
     let t2 = is.log ++ t3 in
     let t1 = is.direction ++ t2 in
-    let r8 = options_rank profile no_options is.options r.options is.are_options in
-    let r7 = hosts_rank profile is.hosts t8 r.source r.destination is.are_hosts r8 in
-    let r6 = proto_rank is.protocols t7 r.protocols is.are_protocols r7 in
-    let r5 = family_rank is.family t6 r.family is.is_family r6 in
-    let r4 = on_rank is.interfaces t5 r.interfaces is.are_interfaces r5 in
+    let r5 = options_rank profile no_options is.options _ is.are_options in
+    let r4 = common_rank profile is.common t5 r.conditions.common is.is_common r5 in
     let r3 = quick_rank is.quick t4 r.quick is.is_quick r4 in
     let r2 = log_rank is.log t3 is.logs is.is_log r3 in
-    let r1 = direction_rank is.direction t2 r.direction is.is_direction r2 in
+    let r1 = direction_rank is.direction t2 r.conditions.direction is.is_direction r2 in
     rw (
       is.whole,
       action_reads is.action t1 r.action is.is_action r1,
-      direction_reads is.direction t2 r.direction is.is_direction r2,
+      direction_reads is.direction t2 r.conditions.direction is.is_direction r2,
       said_reads (codes "log") is.log t3 is.logs is.is_log (not_begun (codes "log") t3 r3),
       said_reads (codes "quick") is.quick t4 r.quick is.is_quick (not_begun (codes "quick") t4 r4),
-      interfaces_read profile is.interfaces t5 r.interfaces is.are_interfaces r5,
-      family_reads is.family t6 r.family is.is_family r6,
-      protocols_read profile is.protocols t7 r.protocols is.are_protocols r7,
-      hosts_read profile is.hosts t8 r.source r.destination is.are_hosts r8,
-      options_read profile no_options is.options r.options is.are_options (suc (length is.options)) (omega arith),
+      common_reads profile is.common t5 r.conditions.common is.is_common r5,
+      options_read profile no_options is.options (record { flags = r.conditions.flags; state = r.state; types = r.conditions.types }) is.are_options (suc (length is.options)) (omega arith),
       is.keeps,
     ) refl
 
 -- what stands behind the action
-pub rule_rank : (profile : Profile) (ts : List Token) (r : RuleText) (is : IsRule profile ts r) → 1 < rank (is.direction ++ (is.log ++ (is.quick ++ (is.interfaces ++ (is.family ++ (is.protocols ++ (is.hosts ++ is.options)))))))
+pub rule_rank : (profile : Profile) (ts : List Token) (r : RuleText) (is : IsRule profile ts r) → 1 < rank (is.direction ++ (is.log ++ (is.quick ++ (is.common ++ is.options))))
 rule_rank profile ts r is =
-    let t8 = is.options in
-    let t7 = is.hosts ++ t8 in
-    let t6 = is.protocols ++ t7 in
-    let t5 = is.family ++ t6 in
-    let t4 = is.interfaces ++ t5 in
+    let t5 = is.options in
+    let t4 = is.common ++ t5 in
     let t3 = is.quick ++ t4 in
     let t2 = is.log ++ t3 in
-    let r8 = options_rank profile no_options is.options r.options is.are_options in
-    let r7 = hosts_rank profile is.hosts t8 r.source r.destination is.are_hosts r8 in
-    let r6 = proto_rank is.protocols t7 r.protocols is.are_protocols r7 in
-    let r5 = family_rank is.family t6 r.family is.is_family r6 in
-    let r4 = on_rank is.interfaces t5 r.interfaces is.are_interfaces r5 in
+    let r5 = options_rank profile no_options is.options _ is.are_options in
+    let r4 = common_rank profile is.common t5 r.conditions.common is.is_common r5 in
     let r3 = quick_rank is.quick t4 r.quick is.is_quick r4 in
     let r2 = log_rank is.log t3 is.logs is.is_log r3 in
-    direction_rank is.direction t2 r.direction is.is_direction r2
+    direction_rank is.direction t2 r.conditions.direction is.is_direction r2
 
 rule_took : (profile : Profile) (ts : List Token) (r : RuleText) → rule_of profile ts ≡ Some r → IsRule profile ts r
 unfolding rule_of
@@ -362,15 +197,10 @@ rule_took profile ts r e =
     let direction = direction_took a.0.1 in
     let log = said_took (codes "log") (direction_at a.0.1).1 in
     let quick = said_took (codes "quick") (option_at (codes "log") (direction_at a.0.1).1).1 in
-    let i = bind_some (interfaces_at profile (option_at (codes "quick") (option_at (codes "log") (direction_at a.0.1).1).1).1) _ r a.2 in
-    let interfaces = interfaces_took profile _ i.0 i.1 in
-    let family = family_took i.0.1 in
-    let p = bind_some (protocols_at profile (family_at i.0.1).1) _ r i.2 in
-    let protocols = protocols_took profile _ p.0 p.1 in
-    let h = bind_some (ends_at profile p.0.1) _ r p.2 in
-    let hosts = hosts_took profile p.0.1 h.0 h.1 in
-    let o = bind_some (options_at (suc (length h.0.1)) profile no_options h.0.1) _ r h.2 in
-    let options = options_took (suc (length h.0.1)) profile no_options o.0 h.0.1 o.1 in
+    let c = bind_some (common_at profile (option_at (codes "quick") (option_at (codes "log") (direction_at a.0.1).1).1).1) _ r a.2 in
+    let common = common_took profile _ c.0 c.1 in
+    let o = bind_some (options_at (suc (length c.0.1)) profile no_options c.0.1) _ r c.2 in
+    let options = options_took (suc (length c.0.1)) profile no_options o.0 c.0.1 o.1 in
     let k = if_so_is (may_keep a.0.0 o.0.state) _ r o.2 in
     subst (IsRule profile ts) k.1 (record {
       action = action.piece;
@@ -378,20 +208,14 @@ rule_took profile ts r e =
       log = log.piece;
       logs = (option_at (codes "log") (direction_at a.0.1).1).0;
       quick = quick.piece;
-      interfaces = interfaces.piece;
-      family = family.piece;
-      protocols = protocols.piece;
-      hosts = hosts.piece;
-      options = h.0.1;
-      whole = action.whole ∙ ap (λ (us : List Token). action.piece ++ us) (direction.whole ∙ ap (λ (us : List Token). direction.piece ++ us) (log.whole ∙ ap (λ (us : List Token). log.piece ++ us) (quick.whole ∙ ap (λ (us : List Token). quick.piece ++ us) (interfaces.whole ∙ ap (λ (us : List Token). interfaces.piece ++ us) (family.whole ∙ ap (λ (us : List Token). family.piece ++ us) (protocols.whole ∙ ap (λ (us : List Token). protocols.piece ++ us) hosts.whole))))));
+      common = common.piece;
+      options = c.0.1;
+      whole = action.whole ∙ ap (λ (us : List Token). action.piece ++ us) (direction.whole ∙ ap (λ (us : List Token). direction.piece ++ us) (log.whole ∙ ap (λ (us : List Token). log.piece ++ us) (quick.whole ∙ ap (λ (us : List Token). quick.piece ++ us) common.whole)));
       is_action = action.is;
       is_direction = direction.is;
       is_log = log.is;
       is_quick = quick.is;
-      are_interfaces = interfaces.is;
-      is_family = family.is;
-      are_protocols = protocols.is;
-      are_hosts = hosts.is;
+      is_common = common.is;
       are_options = options;
       keeps = k.0;
     })
@@ -452,27 +276,35 @@ as_rule_is : (o : Option RuleText) (s : Statement) → as_rule o ≡ Some s → 
 as_rule_is None s e = absurd cc
 as_rule_is (Some rule) s e = (rule, refl, some_is (Rules rule) s e)
 
+as_table_is : (o : Option TableText) (s : Statement) → as_table o ≡ Some s → (table : TableText) × (o ≡ Some table) × (Tables table ≡ s)
+as_table_is None s e = absurd cc
+as_table_is (Some table) s e = (table, refl, some_is (Tables table) s e)
+
 pub statement_took : (profile : Profile) (ts : List Token) (s : Statement) → value_of profile ts ≡ Some s → IsStatement profile ts s
 unfolding value_of
-statement_took profile ts s e = cases (begins (codes "set") ts) refl e
+statement_took profile ts s e = cases (begins (codes "set") ts) refl (begins (codes "table") ts) refl e
   where
-    cases : (b : Bool) → begins (codes "set") ts ≡ b → cond b (as_setting (setting_of profile (drop 1 ts))) (as_rule (rule_of profile ts)) ≡ Some s → IsStatement profile ts s
-    cases true begun e =
+    cases : (b : Bool) → begins (codes "set") ts ≡ b → (c : Bool) → begins (codes "table") ts ≡ c → cond b (as_setting (setting_of profile (drop 1 ts))) (cond c (as_table (table_of profile (drop 1 ts))) (as_rule (rule_of profile ts))) ≡ Some s → IsStatement profile ts s
+    cases true begun c table e =
         let a = as_setting_is (setting_of profile (drop 1 ts)) s e in
         subst (λ (v : Statement). IsStatement profile ts v) a.2 (subst (λ (us : List Token). IsStatement profile us (Sets a.0)) (sym (begins_is (codes "set") ts begun)) (SetStatement (drop 1 ts) a.0 (setting_took profile (drop 1 ts) a.0 a.1)))
-    cases false begun e =
+    cases false begun true table e =
+        let a = as_table_is (table_of profile (drop 1 ts)) s e in
+        subst (λ (v : Statement). IsStatement profile ts v) a.2 (subst (λ (us : List Token). IsStatement profile us (Tables a.0)) (sym (begins_is (codes "table") ts table)) (TableStatement (drop 1 ts) a.0 (table_took profile (drop 1 ts) a.0 a.1)))
+    cases false begun false table e =
         let a = as_rule_is (rule_of profile ts) s e in
         subst (λ (v : Statement). IsStatement profile ts v) a.2 (RuleStatement ts a.0 (rule_took profile ts a.0 a.1))
 
-action_not_set : (ts rest : List Token) (x : WrittenAction) → IsAction ts x → begins (codes "set") (ts ++ rest) ≡ false
-action_not_set _ rest _ PassWord = refl
-action_not_set _ rest _ BlockWord = refl
-action_not_set _ rest _ (BlockSaid ts said is) = refl
+action_not : (word : List ℕ) → bytes_eq (codes "pass") word ≡ false → bytes_eq (codes "block") word ≡ false → (ts rest : List Token) (x : WrittenAction) → IsAction ts x → begins word (ts ++ rest) ≡ false
+action_not word pass block _ rest _ PassWord = pass
+action_not word pass block _ rest _ BlockWord = block
+action_not word pass block _ rest _ (BlockSaid ts said is) = block
 
-rule_not_set : (profile : Profile) (ts : List Token) (r : RuleText) → IsRule profile ts r → begins (codes "set") ts ≡ false
-rule_not_set profile ts r is = ap (begins (codes "set")) is.whole ∙ action_not_set is.action _ r.action is.is_action
+rule_not : (word : List ℕ) → bytes_eq (codes "pass") word ≡ false → bytes_eq (codes "block") word ≡ false → (profile : Profile) (ts : List Token) (r : RuleText) → IsRule profile ts r → begins word ts ≡ false
+rule_not word pass block profile ts r is = ap (begins word) is.whole ∙ action_not word pass block is.action _ r.action is.is_action
 
 pub statement_reads : (profile : Profile) (ts : List Token) (s : Statement) → IsStatement profile ts s → value_of profile ts ≡ Some s
 unfolding value_of
 statement_reads profile _ _ (SetStatement ts setting is) = ap as_setting (setting_reads profile ts setting is)
-statement_reads profile _ _ (RuleStatement ts rule is) = rw (rule_not_set profile ts rule is) (ap as_rule (rule_reads profile ts rule is))
+statement_reads profile _ _ (TableStatement ts table is) = ap as_table (table_reads profile ts table is)
+statement_reads profile _ _ (RuleStatement ts rule is) = rw (rule_not (codes "set") refl refl profile ts rule is, rule_not (codes "table") refl refl profile ts rule is) (ap as_rule (rule_reads profile ts rule is))

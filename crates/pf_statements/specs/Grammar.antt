@@ -1,76 +1,24 @@
 -- The grammar of a statement, production by production (pf.conf(5), GRAMMAR): which tokens spell which value. It knows
 -- nothing of how a text is read.
 use Rattle.std.specs.Prelude.{◌≡◌, ℕ, ◌+◌, Bool, true, false, List, [], ◌∷◌, ◌++◌, Option, Some, None, Ok, max, codes}
-use Rattle.pf_addr.specs.Blocks.{Block, Span, span_of}
-use Rattle.pf_addr.specs.declared.addr.Addr.{Addr}
-use Rattle.pf_addr.specs.Spelling.{addr_of, block_of}
-use Rattle.pf_tokens.specs.declared.profile.Profile.{Profile}
-use Rattle.pf_tokens.specs.declared.symbol.Symbol.{Symbol}
-use Rattle.pf_tokens.specs.declared.symbol.Symbol.TheVariants as mark
-use Rattle.pf_tokens.specs.Tokens.{Token, Word, Quoted, Mark}
-use Rattle.pf_tokens.specs.Blanks.{blanked}
+use Rattle.pf_words.specs.declared.profile.Profile.{Profile}
+use Rattle.pf_tokens.specs.Tokens.{Token, Newline}
 use Rattle.pf_tokens.specs.Lists.{Elements}
-use Rattle.pf_statements.specs.declared.parts.Policy.{Policy}
-use Rattle.pf_statements.specs.declared.parts.Policy.TheVariants as policy
-use Rattle.pf_statements.specs.declared.parts.Direction.{Direction}
-use Rattle.pf_statements.specs.declared.parts.Direction.TheVariants.{In, Out}
-use Rattle.pf_statements.specs.declared.parts.Family.{Family}
-use Rattle.pf_statements.specs.declared.parts.Family.TheVariants.{Inet, Inet6}
-use Rattle.pf_statements.specs.declared.parts.Interface.{Interface}
-use Rattle.pf_statements.specs.declared.parts.Addresses.{Addresses}
-use Rattle.pf_statements.specs.declared.parts.Addresses.TheVariants.{Prefix, Range}
-use Rattle.pf_statements.specs.declared.parts.Host.{Host}
-use Rattle.pf_statements.specs.declared.parts.Host.TheVariants as host
-use Rattle.pf_statements.specs.declared.parts.PortTest.{PortTest}
-use Rattle.pf_statements.specs.declared.parts.PortTest.TheVariants.{Equal, NotEqual, Less, LessEqual, Greater, GreaterEqual, Between, Outside}
-use Rattle.pf_words.specs.declared.flags.TcpFlags.{TcpFlags}
-use Rattle.pf_statements.specs.declared.parts.FlagTest.{FlagTest}
-use Rattle.pf_statements.specs.declared.parts.FlagTest.TheVariants as flags
+use Rattle.pf_ruleset.specs.declared.parts.Policy.{Policy}
+use Rattle.pf_ruleset.specs.declared.parts.Policy.TheVariants as policy
+use Rattle.pf_ruleset.specs.declared.parts.Direction.{Direction}
+use Rattle.pf_ruleset.specs.declared.parts.Direction.TheVariants.{In, Out}
+use Rattle.pf_ruleset.specs.declared.parts.FlagTest.{FlagTest}
 use Rattle.pf_statements.specs.declared.written.WrittenAction.{WrittenAction}
 use Rattle.pf_statements.specs.declared.written.WrittenAction.TheVariants.{Pass, Block as Blocks}
-use Rattle.pf_statements.specs.declared.written.Protocol.{Protocol}
-use Rattle.pf_statements.specs.declared.written.WrittenPort.{WrittenPort}
-use Rattle.pf_statements.specs.declared.written.WrittenType.{WrittenType}
-use Rattle.pf_statements.specs.Names.{Name}
-use Rattle.pf_words.specs.Words.{is_reserved, is_interface_name, protocol_of, port_of, icmp_type_of, flags_of, no_flags, is_within}
-use Rattle.pf_statements.specs.Statements.{one_port, two_ports, lone_test, Ends, any_end, any_host, Options, no_options, has_types, may_keep, RuleText, Setting, SetPolicy, SetSkip, Statement, Sets, Rules}
-
--- a word that stands for itself
-abbrev pub key : List ℕ → List Token
-key word = Word word ∷ []
-
--- a symbol that stands for itself
-abbrev pub sign : Symbol → List Token
-sign symbol = Mark symbol ∷ []
-
--- ---- lists
-
--- [","]
-pub data IsComma : List Token → Type 0 where
-  NoComma : IsComma []
-  CommaSign : IsComma (sign mark.Comma)
-
--- elem {[","] elem}   elem = x | list(x)   with the elements, those of the lists in it among them, and how many lists stand
--- in one another at the deepest
-pub data IsElements {X : Type 0} (Is : List Token → X → Type 0) : List Token → List X → ℕ → Type 0 where
-  LastOne : (ts : List Token) (x : X) → Is ts x → IsElements Is ts (x ∷ []) 0
-  LastList : (ts : List Token) (xs : List X) (d : ℕ) → IsElements Is ts xs d → IsElements Is (sign mark.Open ++ (ts ++ sign mark.Close)) xs (d + 1)
-  OneMore : (ts comma us : List Token) (x : X) (ys : List X) (e : ℕ) → Is ts x → IsComma comma → IsElements Is us ys e → IsElements Is (ts ++ (comma ++ us)) (x ∷ ys) e
-  ListMore : (ts comma us : List Token) (xs ys : List X) (d e : ℕ) → IsElements Is ts xs d → IsComma comma → IsElements Is us ys e → IsElements Is (sign mark.Open ++ (ts ++ (sign mark.Close ++ (comma ++ us)))) (xs ++ ys) (max (d + 1) e)
-
--- list(x) = "{" elem {[","] elem} "}"   where a newline is a blank: the tokens up to the closing brace, and these without newlines
-pub data IsList {X : Type 0} (Is : List Token → X → Type 0) : List Token → Elements X → Type 0 where
-  Braces : (within ts : List Token) (xs : List X) (d : ℕ) → blanked 1 (within ++ sign mark.Close) ≡ ts ++ sign mark.Close → IsElements Is ts xs d → IsList Is (sign mark.Open ++ (within ++ sign mark.Close)) (record { items = xs; deepest = d + 1 })
-
--- x | list(x)
-pub data IsSome {X : Type 0} (Is : List Token → X → Type 0) : List Token → Elements X → Type 0 where
-  One : (ts : List Token) (x : X) → Is ts x → IsSome Is ts (record { items = x ∷ []; deepest = 0 })
-  Listed : (ts : List Token) (list : Elements X) → IsList Is ts list → IsSome Is ts list
-
--- [word x]
-pub data IsBehind {X : Type 0} (word : List ℕ) (Is : List Token → X → Type 0) : List Token → Option X → Type 0 where
-  Missing : IsBehind word Is [] None
-  Behind : (ts : List Token) (x : X) → Is ts x → IsBehind word Is (key word ++ ts) (Some x)
+use Rattle.pf_conditions.specs.declared.written.WrittenType.{WrittenType}
+use Rattle.pf_ruleset.specs.Names.{Name}
+use Rattle.pf_statements.specs.Statements.{Options, no_options, has_types, may_keep, RuleText, Setting, SetPolicy, SetSkip, Statement, Sets, Rules, Tables}
+use Rattle.pf_conditions.specs.Grammar.{key, sign, IsSome, IsInterfaceName, IsFlags, IsTypes, IsCommon, IsList, IsPrefix, IsTable}
+use Rattle.pf_statements.specs.Tables.{TableText, new_table, no_entries}
+use Rattle.pf_ruleset.specs.declared.ruleset.TableEntry.{TableEntry}
+use Rattle.pf_addr.specs.Blocks.{Block}
+use Rattle.pf_tokens.specs.declared.symbol.Symbol.TheVariants as mark
 
 -- ---- the words at the front of a rule
 
@@ -96,100 +44,12 @@ pub data IsSaid (word : List ℕ) : List Token → Bool → Type 0 where
   Unsaid : IsSaid word [] false
   Said : IsSaid word (key word) true
 
--- ---- interfaces, family, protocols
-
--- IFNAME: a WORD or a STRING
-pub data IsInterfaceName (profile : Profile) : List Token → Name → Type 0 where
-  NameWord : (name : List ℕ) → is_interface_name profile name ≡ true → IsInterfaceName profile (Word name ∷ []) name
-  NameString : (name : List ℕ) → is_interface_name profile name ≡ true → IsInterfaceName profile (Quoted name ∷ []) name
-
--- ["!"] IFNAME
-pub data IsInterface (profile : Profile) : List Token → Interface → Type 0 where
-  OnInterface : (ts : List Token) (name : Name) → IsInterfaceName profile ts name → IsInterface profile ts (record { negated = false; name = name })
-  NotOnInterface : (ts : List Token) (name : Name) → IsInterfaceName profile ts name → IsInterface profile (sign mark.Not ++ ts) (record { negated = true; name = name })
-
--- ["inet" | "inet6"]
-pub data IsFamily : List Token → Option Family → Type 0 where
-  NoFamily : IsFamily [] None
-  InetWord : IsFamily (key (codes "inet")) (Some Inet)
-  Inet6Word : IsFamily (key (codes "inet6")) (Some Inet6)
-
--- PROTO
-pub data IsProtocol : List Token → Protocol → Type 0 where
-  ProtocolWord : (word : List ℕ) (n : ℕ) → protocol_of word ≡ Some n → IsProtocol (key word) (record { number = n })
-
--- ---- hosts
-
--- prefix | WORD "-" WORD, prefix = WORD ["/" WORD]
-pub data IsAddresses : List Token → Addresses → Type 0 where
-  WholeAddress : (addr : List ℕ) (block : Block) → block_of (addr, None) ≡ Ok block → IsAddresses (key addr) (Prefix block)
-  CutAddress : (addr len : List ℕ) (block : Block) → block_of (addr, Some len) ≡ Ok block → IsAddresses (key addr ++ (sign mark.Slash ++ key len)) (Prefix block)
-  AddressRange : (first last : List ℕ) (a b : Addr) (span : Span) → addr_of first ≡ Ok a → addr_of last ≡ Ok b → span_of a b ≡ Some span → IsAddresses (key first ++ (key (codes "-") ++ key last)) (Range span)
-
--- member = "any" | ["!"] host
-pub data IsHost : List Token → Host → Type 0 where
-  AnyWord : IsHost (key (codes "any")) host.Any
-  HostIn : (ts : List Token) (set : Addresses) → IsAddresses ts set → IsHost ts (host.In set)
-  HostNotIn : (ts : List Token) (set : Addresses) → IsAddresses ts set → IsHost (sign mark.Not ++ ts) (host.NotIn set)
-
--- ---- ports
-
--- "=" | "!=" | "<" | "<=" | ">" | ">="
-pub data IsOperator : Symbol → (ℕ → PortTest) → Type 0 where
-  EqualsSign : IsOperator mark.Equals Equal
-  NotEqualSign : IsOperator mark.NotEqual NotEqual
-  LessSign : IsOperator mark.Less Less
-  LessEqualSign : IsOperator mark.LessEqual LessEqual
-  GreaterSign : IsOperator mark.Greater Greater
-  GreaterEqualSign : IsOperator mark.GreaterEqual GreaterEqual
-
--- "><" | "<>"
-pub data IsBounds : Symbol → (ℕ → ℕ → PortTest) → Type 0 where
-  BetweenSign : IsBounds mark.Between Between
-  OutsideSign : IsBounds mark.Outside Outside
-
--- port = ["=" | "!=" | "<" | "<=" | ">" | ">="] PORT | RANGE | PORT ("><" | "<>") PORT
-pub data IsPort (profile : Profile) : List Token → WrittenPort → Type 0 where
-  PortAlone : (word : List ℕ) → is_reserved profile word ≡ false → IsPort profile (key word) (record { test = lone_test word })
-  PortCompared : (symbol : Symbol) (test : ℕ → PortTest) (word : List ℕ) → IsOperator symbol test → is_reserved profile word ≡ false → IsPort profile (sign symbol ++ key word) (record { test = one_port test (port_of word) })
-  PortBounds : (symbol : Symbol) (test : ℕ → ℕ → PortTest) (first second : List ℕ) → IsBounds symbol test → is_reserved profile first ≡ false → is_reserved profile second ≡ false → IsPort profile (key first ++ (sign symbol ++ key second)) (record { test = two_ports test (port_of first) (port_of second) })
-
--- ---- the two ends
-
--- part = spec ["port" ports] | "port" ports; a missing host is any
-pub data IsPart (profile : Profile) : List Token → Ends → Type 0 where
-  PartHosts : (ts us : List Token) (hosts : Elements Host) (ports : Option (Elements WrittenPort)) → IsSome IsHost ts hosts → IsBehind (codes "port") (IsSome (IsPort profile)) us ports → IsPart profile (ts ++ us) (record { hosts = hosts; ports = ports })
-  PartPorts : (ts : List Token) (ports : Elements WrittenPort) → IsSome (IsPort profile) ts ports → IsPart profile (key (codes "port") ++ ts) (record { hosts = any_host; ports = Some ports })
-
--- hosts = "all" | "from" part ["to" part] | "to" part, or nothing; a missing part is any
-pub data IsHosts (profile : Profile) : List Token → Ends → Ends → Type 0 where
-  NoHosts : IsHosts profile [] any_end any_end
-  AllWord : IsHosts profile (key (codes "all")) any_end any_end
-  FromPart : (ts : List Token) (source : Ends) → IsPart profile ts source → IsHosts profile (key (codes "from") ++ ts) source any_end
-  ToPart : (ts : List Token) (destination : Ends) → IsPart profile ts destination → IsHosts profile (key (codes "to") ++ ts) any_end destination
-  FromToParts : (ts us : List Token) (source destination : Ends) → IsPart profile ts source → IsPart profile us destination → IsHosts profile (key (codes "from") ++ (ts ++ (key (codes "to") ++ us))) source destination
-
 -- ---- options
-
--- "any" | [LETTERS] "/" LETTERS, where each letter before the slash is one behind it
-pub data IsFlags : List Token → FlagTest → Type 0 where
-  AnyFlags : IsFlags (key (codes "any")) flags.Any
-  NoneOf : (text : List ℕ) (of : TcpFlags) → flags_of text ≡ Some of → IsFlags (sign mark.Slash ++ key text) (flags.Just no_flags of)
-  SomeOf : (said text : List ℕ) (set of : TcpFlags) → flags_of said ≡ Some set → flags_of text ≡ Some of → is_within set of ≡ true → IsFlags (key said ++ (sign mark.Slash ++ key text)) (flags.Just set of)
 
 -- "no" | "keep"
 pub data IsKeep : List ℕ → Bool → Type 0 where
   NoWord : IsKeep (codes "no") false
   KeepWord : IsKeep (codes "keep") true
-
--- TYPE
-pub data IsType : List Token → WrittenType → Type 0 where
-  TypeWord : (word : List ℕ) → IsType (key word) (record { number = icmp_type_of word })
-
--- TYPE | list(TYPE); a type that stands alone isn't a reserved word
-pub data IsTypes (profile : Profile) : List Token → Elements WrittenType → Type 0 where
-  TypeAlone : (word : List ℕ) → is_reserved profile word ≡ false → IsTypes profile (key word) (record { items = record { number = icmp_type_of word } ∷ []; deepest = 0 })
-  TypeList : (ts : List Token) (list : Elements WrittenType) → IsList IsType ts list → IsTypes profile ts list
 
 -- {option}, each once at most, in any order, from the options that are said before to all that are said
 -- option = "flags" flags | "no" "state" | "keep" "state" | "icmp-type" types, the last in profile Two alone
@@ -201,30 +61,52 @@ pub data IsOptions (profile : Profile) : Options → List Token → Options → 
 
 -- ---- rules
 
--- rule = action [way] ["log"] ["quick"] ["on" ifs] ["inet" | "inet6"] ["proto" protos] [hosts] {option}, where a block rule
--- keeps no state
+-- rule = action [way] ["log"] ["quick"] common {option}, where a block rule keeps no state
 pub record IsRule (profile : Profile) (tokens : List Token) (r : RuleText) : Type 0 where
   pub action : List Token
   pub direction : List Token
   pub log : List Token
   pub logs : Bool
   pub quick : List Token
-  pub interfaces : List Token
-  pub family : List Token
-  pub protocols : List Token
-  pub hosts : List Token
+  pub common : List Token
   pub options : List Token
-  pub whole : tokens ≡ action ++ (direction ++ (log ++ (quick ++ (interfaces ++ (family ++ (protocols ++ (hosts ++ options)))))))
+  pub whole : tokens ≡ action ++ (direction ++ (log ++ (quick ++ (common ++ options))))
   pub is_action : IsAction action r.action
-  pub is_direction : IsDirection direction r.direction
+  pub is_direction : IsDirection direction r.conditions.direction
   pub is_log : IsSaid (codes "log") log logs
   pub is_quick : IsSaid (codes "quick") quick r.quick
-  pub are_interfaces : IsBehind (codes "on") (IsSome (IsInterface profile)) interfaces r.interfaces
-  pub is_family : IsFamily family r.family
-  pub are_protocols : IsBehind (codes "proto") (IsSome IsProtocol) protocols r.protocols
-  pub are_hosts : IsHosts profile hosts r.source r.destination
-  pub are_options : IsOptions profile no_options options r.options
-  pub keeps : may_keep r.action r.options.state ≡ true
+  pub is_common : IsCommon profile common r.conditions.common
+  pub are_options : IsOptions profile no_options options (record { flags = r.conditions.flags; state = r.state; types = r.conditions.types })
+  pub keeps : may_keep r.action r.state ≡ true
+
+-- ---- tables
+
+-- ["!"] prefix
+pub data IsEntry : List Token → TableEntry → Type 0 where
+  EntryIn : (ts : List Token) (block : Block) → IsPrefix ts block → IsEntry ts (record { negated = false; prefix = block })
+  EntryOut : (ts : List Token) (block : Block) → IsPrefix ts block → IsEntry (sign mark.Not ++ ts) (record { negated = true; prefix = block })
+
+-- {NL}
+pub data AreNewlines : List Token → Type 0 where
+  NoNewline : AreNewlines []
+  MoreNewlines : (ts : List Token) → AreNewlines ts → AreNewlines (Newline ∷ ts)
+
+-- "{" "}" | list(["!"] prefix), where a newline is a blank
+pub data AreEntries : List Token → Elements TableEntry → Type 0 where
+  NoEntries : (within : List Token) → AreNewlines within → AreEntries (sign mark.Open ++ (within ++ sign mark.Close)) no_entries
+  SomeEntries : (ts : List Token) (list : Elements TableEntry) → IsList IsEntry ts list → AreEntries ts list
+
+-- {"persist" | "const" | "counters" | "{" "}" | list(["!"] prefix)}, the entries once at most, from what is said before
+pub data AreTableOptions : TableText → List Token → TableText → Type 0 where
+  NoTableOption : (said : TableText) → AreTableOptions said [] said
+  PersistOption : (said all : TableText) (us : List Token) → AreTableOptions (record said { persist = true }) us all → AreTableOptions said (key (codes "persist") ++ us) all
+  ConstOption : (said all : TableText) (us : List Token) → AreTableOptions (record said { is_const = true }) us all → AreTableOptions said (key (codes "const") ++ us) all
+  CountersOption : (said all : TableText) (us : List Token) → AreTableOptions said us all → AreTableOptions said (key (codes "counters") ++ us) all
+  EntriesOption : (said all : TableText) (ts us : List Token) (list : Elements TableEntry) → said.entries ≡ None → AreEntries ts list → AreTableOptions (record said { entries = Some list }) us all → AreTableOptions said (ts ++ us) all
+
+-- "<" TNAME ">" and its options
+pub data IsTableText (profile : Profile) : List Token → TableText → Type 0 where
+  TableOptions : (ts us : List Token) (name : Name) (all : TableText) → IsTable profile ts name → AreTableOptions (new_table name) us all → IsTableText profile (ts ++ us) all
 
 -- ---- statements
 
@@ -233,7 +115,8 @@ pub data IsSetting (profile : Profile) : List Token → Setting → Type 0 where
   PolicySetting : (ts : List Token) (said : Policy) → IsPolicy ts said → IsSetting profile (key (codes "block-policy") ++ ts) (SetPolicy said)
   SkipSetting : (ts : List Token) (names : Elements Name) → IsSome (IsInterfaceName profile) ts names → IsSetting profile (key (codes "skip") ++ (key (codes "on") ++ ts)) (SetSkip names)
 
--- statement = "set" setting | rule
+-- statement = "set" setting | "table" table | rule
 pub data IsStatement (profile : Profile) : List Token → Statement → Type 0 where
   SetStatement : (ts : List Token) (setting : Setting) → IsSetting profile ts setting → IsStatement profile (key (codes "set") ++ ts) (Sets setting)
+  TableStatement : (ts : List Token) (table : TableText) → IsTableText profile ts table → IsStatement profile (key (codes "table") ++ ts) (Tables table)
   RuleStatement : (ts : List Token) (rule : RuleText) → IsRule profile ts rule → IsStatement profile ts (Rules rule)

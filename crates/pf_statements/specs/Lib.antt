@@ -1,5 +1,6 @@
-pub mod Names
+pub mod Options
+pub mod Tables
+pub mod TableShorter
 pub mod Statements
 pub mod Seen
-pub mod Shorter
 pub mod Grammar

@@ -2,29 +2,17 @@
 //!
 //! # Organization
 //!
-//! - [`read_statement`] reads a statement at a parser of `pf_tokens`: a [`Statement`], which sets something or is a [`WrittenRule`].
-//! - [`Host`], [`PortTest`], [`FlagTest`], [`Interface`] and others: the parts of which rules are made; [`Name`].
+//! - [`read_statement`] reads a statement at a parser of `pf_tokens`: a [`Statement`], which sets something, or is a
+//!   [`WrittenTable`] or a [`WrittenRule`].
 //! - [`reads_the_grammar`]: a statement is read exactly as the grammar spells it.
 #![tactic(auto)]
 
-mod behind;
-mod ends;
-mod hosts;
-mod interfaces;
 mod laws;
-mod name;
 mod options;
-mod parts;
-mod ports;
-mod protocols;
 mod statements;
+mod tables;
 mod written;
 
 pub use laws::reads_the_grammar;
-pub use name::Name;
-pub use parts::{Addresses, Direction, Family, FlagTest, Host, Interface, Policy, PortTest};
 pub use statements::read_statement;
-pub use written::{
-    End, Protocol, RuleOptions, Setting, Statement, WrittenAction, WrittenPort, WrittenRule,
-    WrittenType,
-};
+pub use written::{RuleOptions, Setting, Statement, WrittenAction, WrittenRule, WrittenTable};

@@ -6,14 +6,13 @@ ghost use Rattle.pf_statements.specs.Statements.{policy_at, action_at, direction
 ghost use Rattle.pf_statements.specs.Seen.{text_of, statement_of, Spells};
 ghost use Rattle.pf_statements.specs.Seen as seen;
 
-use crate::behind::read_behind;
-use crate::ends::read_ends;
-use crate::name::Name;
 use crate::options::read_options;
-use crate::parts::{Direction, Interface, Policy};
-use crate::protocols::read_family;
-use crate::written::{Protocol, Setting, Statement, WrittenAction, WrittenRule};
-use pf_tokens::{Parser, Profile, Stop, some};
+use crate::tables::read_table_text;
+use crate::written::{RuleOptions, Setting, Statement, WrittenAction, WrittenRule};
+use pf_conditions::{InterfaceNameProduction, WrittenConditions, read_common};
+use pf_ruleset::{Direction, Policy};
+use pf_tokens::{Parser, Stop, some};
+use pf_words::Profile;
 use std::alloc::Global;
 
 /// What a block does, if it is said.
@@ -73,7 +72,7 @@ fn may_keep(action: WrittenAction, state: Option<bool>) -> bool
 }
 
 /// A filter rule.
-#[tactic(auto, unfolding(crate::specs::Statements::rule_of, crate::specs::Statements::interfaces_at, crate::specs::Statements::protocols_at))]
+#[tactic(auto, unfolding(crate::specs::Statements::rule_of))]
 fn read_rule<'t: 's, 's>(
     alloc: Global,
     profile: Profile,
@@ -88,24 +87,25 @@ fn read_rule<'t: 's, 's>(
     let direction = read_direction(parser);
     let _log = parser.accept(b"log");
     let quick = parser.accept(b"quick");
-    let interfaces = read_behind::<Interface>(alloc, profile, b"on", parser)?;
-    let family = read_family(parser);
-    let protocols = read_behind::<Protocol>(alloc, profile, b"proto", parser)?;
-    let (source, destination) = read_ends(alloc, profile, parser)?;
-    let options = read_options(alloc, profile, parser)?;
-    if !may_keep(action, options.state) {
+    let common = read_common(alloc, profile, parser)?;
+    let RuleOptions {
+        flags,
+        state,
+        types,
+    } = read_options(alloc, profile, parser)?;
+    if !may_keep(action, state) {
         return Err(Stop::Syntax);
     }
     Ok(WrittenRule {
         action,
-        direction,
         quick,
-        interfaces,
-        family,
-        protocols,
-        source,
-        destination,
-        options,
+        conditions: WrittenConditions {
+            direction,
+            common,
+            flags,
+            types,
+        },
+        state,
     })
 }
 
@@ -122,7 +122,7 @@ fn read_skip<'t: 's, 's>(
     if !parser.accept(b"on") {
         return Err(Stop::Syntax);
     }
-    let names = some::<Name>(alloc, profile, parser)?;
+    let names = some::<InterfaceNameProduction>(alloc, profile, parser)?;
     if !parser.at_end() {
         return Err(Stop::Syntax);
     }
@@ -167,6 +167,10 @@ pub fn read_statement<'t: 's, 's>(
     if parser.accept(b"set") {
         let setting = read_setting(alloc, profile, parser)?;
         return Ok(Statement::Sets(setting));
+    }
+    if parser.accept(b"table") {
+        let table = read_table_text(alloc, profile, parser)?;
+        return Ok(Statement::Tables(table));
     }
     let rule = read_rule(alloc, profile, parser)?;
     Ok(Statement::Rules(rule))

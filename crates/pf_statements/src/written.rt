@@ -1,7 +1,7 @@
-//! A rule as it is written, before its lists are expanded.
+//! Statements as they are written, before lists are expanded.
 
-use crate::name::Name;
-use crate::parts::{Direction, Family, FlagTest, Host, Interface, Policy, PortTest};
+use pf_conditions::{WrittenConditions, WrittenType};
+use pf_ruleset::{FlagTest, InterfaceName, Policy, TableEntry, TableName};
 use pf_tokens::Listed;
 
 /// What a rule does, as written.
@@ -11,47 +11,6 @@ pub enum WrittenAction {
     Pass,
     /// `block`, with what it does, if that is said.
     Block(Option<Policy>),
-}
-
-/// A protocol.
-#[derive(Clone, Copy, Debug, PartialEq, Eq)]
-pub struct Protocol {
-    /// Its number, as IP has it (RFC 791, 3.1).
-    pub number: u8,
-}
-
-/// An operator before a port (pf.conf(5), `port`).
-#[derive(Clone, Copy, Debug, PartialEq, Eq)]
-pub(crate) enum Comparison {
-    Equal,
-    NotEqual,
-    Less,
-    LessEqual,
-    Greater,
-    GreaterEqual,
-}
-
-/// A test on ports, none where a port is neither number nor name.
-#[derive(Clone, Copy, Debug, PartialEq, Eq)]
-pub struct WrittenPort {
-    /// The test, if the port is one.
-    pub test: Option<PortTest>,
-}
-
-/// A type of ICMP, none where it is neither number nor name.
-#[derive(Clone, Copy, Debug, PartialEq, Eq)]
-pub struct WrittenType {
-    /// The type's number, if it is one.
-    pub number: Option<u8>,
-}
-
-/// The hosts and the ports at one end.
-#[derive(Debug, Drop)]
-pub struct End {
-    /// The hosts; `any` where none are written.
-    pub hosts: Listed<Host>,
-    /// The ports, if they are written.
-    pub ports: Option<Listed<WrittenPort>>,
 }
 
 /// The options behind a rule's hosts.
@@ -70,22 +29,25 @@ pub struct RuleOptions {
 pub struct WrittenRule {
     /// What it does.
     pub action: WrittenAction,
-    /// The direction, if it is said.
-    pub direction: Option<Direction>,
     /// Whether `quick` is said.
     pub quick: bool,
-    /// The interfaces, if they are written.
-    pub interfaces: Option<Listed<Interface>>,
-    /// The family, if it is said.
-    pub family: Option<Family>,
-    /// The protocols, if they are written.
-    pub protocols: Option<Listed<Protocol>>,
-    /// Where a packet comes from.
-    pub source: End,
-    /// Where it goes.
-    pub destination: End,
-    /// The options behind the hosts.
-    pub options: RuleOptions,
+    /// What it says of packets.
+    pub conditions: WrittenConditions,
+    /// Whether a state is kept, if it is said: `keep state` or `no state`.
+    pub state: Option<bool>,
+}
+
+/// A table statement as it is written (pf.conf(5), TABLES).
+#[derive(Debug, Drop)]
+pub struct WrittenTable {
+    /// The table's name.
+    pub name: TableName,
+    /// Whether `persist` is said.
+    pub persist: bool,
+    /// Whether `const` is said.
+    pub is_const: bool,
+    /// The entries, if they are listed.
+    pub entries: Option<Listed<TableEntry>>,
 }
 
 /// What `set` says.
@@ -94,7 +56,7 @@ pub enum Setting {
     /// `set block-policy`.
     Policy(Policy),
     /// `set skip on`.
-    Skip(Listed<Name>),
+    Skip(Listed<InterfaceName>),
 }
 
 /// A statement that defines no macro.
@@ -102,6 +64,8 @@ pub enum Setting {
 pub enum Statement {
     /// `set`.
     Sets(Setting),
+    /// `table`.
+    Tables(WrittenTable),
     /// A filter rule.
     Rules(WrittenRule),
 }

@@ -115,6 +115,12 @@ module _ (ds : List Definition) (defining : Bool) (p : Placed) (inside text : Li
         ∙ sym (newline_ending depth (omega (arith, some, within)));
   }
 
+  pub newline_tokens : (depth : ℕ) (new : List Placed × List Placed) → 0 < depth → new ≡ pulled ds defining inside text → tokens_of (statement_left ds defining depth (p ∷ inside) text) ≡ Newline ∷ tokens_of (statement_left ds defining depth new.0 new.1)
+  newline_tokens depth new some e =
+      ap (λ (ps : List Placed). tokens_of ps) (newline_left depth some)
+      ∙ ap (λ (t : Token). t ∷ tokens_of (statement_left ds defining depth inside text)) (newline_is p.token newline)
+      ∙ sym (ap (λ (ps : List Placed). Newline ∷ tokens_of ps) (ap (λ (q : List Placed × List Placed). statement_left ds defining depth q.0 q.1) e ∙ (pulled_keeps ds defining inside text).statement depth))
+
   pub newline_shorter : (new : List Placed × List Placed) → new ≡ pulled ds defining inside text → length (statement_left ds defining 1 new.0 new.1) < length (statement_left ds defining 1 (p ∷ inside) text)
   newline_shorter new e =
       let same : statement_left ds defining 1 new.0 new.1 ≡ statement_left ds defining 1 inside text = ap (λ (q : List Placed × List Placed). statement_left ds defining 1 q.0 q.1) e ∙ (pulled_keeps ds defining inside text).statement 1 in

@@ -2,6 +2,7 @@ pub mod Lexing
 pub mod Joining
 pub mod Flowing
 pub mod Pulling
+pub mod Indexing
 pub mod Beginning
 pub mod Blanking
 pub mod Newlines
@@ -15,3 +16,4 @@ pub mod Parts
 pub mod Written
 pub mod Spelling
 pub mod MacroSpelling
+pub mod Table

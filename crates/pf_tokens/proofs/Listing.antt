@@ -175,4 +175,5 @@ eq_false n other = grind (arith, nat_tests, other)
 -- what stops an element stops the list
 pub stopped : {X Y Z : Type 0} (view : Y → Z) (stop : Stop) (here there : List Token) (read : Read X) (total : Read Z) → Parses (λ (x : X). x) (Err stop) here read → (read ≡ None → total ≡ None) → Parses view (Err stop) there total
 stopped view stops.Memory here there read total e refused = tt
+stopped view stops.TooMany here there read total e refused = tt
 stopped view stops.Syntax here there read total e refused = refused e

@@ -13,7 +13,9 @@ use Rattle.pf_tokens.specs.Macros.{Definition, or_else, text_of}
 use Rattle.pf_tokens.specs.Productions.{symbol_at}
 use Rattle.pf_tokens.specs.Shorter.{some, some_is}
 use Rattle.pf_tokens.specs.Defining.{item_of, is_refused_byte, is_refused_string, with_item, joined_items, text_len, are_items, is_too_long, spelled, defined_as, definition_at}
-use Rattle.pf_tokens.specs.MacroGrammar.{IsAmong, Here, There, HasText, LastOne, Later, IsItem, WordItem, StringItem, MacroItem, AreItems, OneItem, MoreItems, IsMacro, Spelled, IsRefusedByte, Dollar, Hash, IsRefusedString, Refused, IsDefinition, HasItems, NoToken, TheItem, NoItem, HasMacroFault, ReservedName, OtherByte, BadString, LongText, HasSyntaxFault, TellsReserved}
+use Rattle.pf_words.specs.declared.profile.Profile.{Profile}
+use Rattle.pf_words.specs.Words.{is_reserved}
+use Rattle.pf_tokens.specs.MacroGrammar.{IsAmong, Here, There, HasText, LastOne, Later, IsItem, WordItem, StringItem, MacroItem, AreItems, OneItem, MoreItems, IsMacro, Spelled, IsRefusedByte, Dollar, Hash, IsRefusedString, Refused, IsDefinition, HasItems, NoToken, TheItem, NoItem, HasMacroFault, ReservedName, OtherByte, BadString, LongText, HasSyntaxFault}
 
 -- ---- what stands among others
 
@@ -196,12 +198,12 @@ refused_string _ (Refused text b refused among) = there_any is_refused_byte b te
 
 data Shape : List Token → Type 0 where
   Begun : (name : List ℕ) (ts : List Token) → Shape (Word name ∷ Mark Equals ∷ ts)
-  Another : (ts : List Token) → ((name : List ℕ) (us : List Token) → ts ≡ Word name ∷ Mark Equals ∷ us → ⊥) → ((said : Bool) (ds : List Definition) → definition_at said ds ts ≡ Err faults.Syntax) → Shape ts
+  Another : (ts : List Token) → ((name : List ℕ) (us : List Token) → ts ≡ Word name ∷ Mark Equals ∷ us → ⊥) → ((profile : Profile) (ds : List Definition) → definition_at profile ds ts ≡ Err faults.Syntax) → Shape ts
 
 shape : (ts : List Token) → Shape ts
 unfolding definition_at symbol_at
 shape (Word name ∷ Mark Equals ∷ ts) = Begun name ts
-shape ts = Another ts (λ name us e. cc) (λ said ds. refl)
+shape ts = Another ts (λ name us e. cc) (λ profile ds. refl)
 
 -- ---- what a macro statement has
 
@@ -213,11 +215,11 @@ record Begins (ts : List Token) : Type 0 where
 macro_begins : (ds : List Definition) (ts : List Token) (made : Definition) → IsMacro ds ts made → Begins ts
 macro_begins ds _ _ (Spelled name text items are) = record { name = name; behind = items; whole = refl }
 
-fault_begins : (is_reserved : List ℕ → Bool) (ds : List Definition) (ts : List Token) → HasMacroFault is_reserved ds ts → Begins ts
-fault_begins is_reserved ds _ (ReservedName name ts e) = record { name = name; behind = ts; whole = refl }
-fault_begins is_reserved ds _ (OtherByte name ts b among e) = record { name = name; behind = ts; whole = refl }
-fault_begins is_reserved ds _ (BadString name ts t among refused) = record { name = name; behind = ts; whole = refl }
-fault_begins is_reserved ds _ (LongText name ts items text has are long) = record { name = name; behind = ts; whole = refl }
+fault_begins : (profile : Profile) (ds : List Definition) (ts : List Token) → HasMacroFault profile ds ts → Begins ts
+fault_begins profile ds _ (ReservedName name ts e) = record { name = name; behind = ts; whole = refl }
+fault_begins profile ds _ (OtherByte name ts b among e) = record { name = name; behind = ts; whole = refl }
+fault_begins profile ds _ (BadString name ts t among refused) = record { name = name; behind = ts; whole = refl }
+fault_begins profile ds _ (LongText name ts items text has are long) = record { name = name; behind = ts; whole = refl }
 
 -- its name, and the text of what stands behind =
 record Parts (ds : List Definition) (name : List ℕ) (ts : List Token) (made : Definition) : Type 0 where
@@ -256,24 +258,24 @@ long_apart : (ds : List Definition) (name : List ℕ) (ts items : List Token) (t
 long_apart ds name ts items text made has are parts =
     some_is text made.text (sym (are_joined ds items text are None) ∙ sym (has_joined ds ts items has None) ∙ text_joined ds name ts made parts)
 
-fault_apart : (is_reserved : List ℕ → Bool) (ds : List Definition) (ts : List Token) (made : Definition) → IsDefinition is_reserved ds ts made → HasMacroFault is_reserved ds ts → ⊥
-fault_apart is_reserved ds _ made d (ReservedName name ts e) =
+fault_apart : (profile : Profile) (ds : List Definition) (ts : List Token) (made : Definition) → IsDefinition profile ds ts made → HasMacroFault profile ds ts → ⊥
+fault_apart profile ds _ made d (ReservedName name ts e) =
     let parts = macro_parts ds _ made d.spelled name ts refl in
-    false≢true (sym d.free ∙ ap is_reserved parts.named ∙ e)
-fault_apart is_reserved ds _ made d (OtherByte name ts b among e) =
+    false≢true (sym d.free ∙ ap (is_reserved profile) parts.named ∙ e)
+fault_apart profile ds _ made d (OtherByte name ts b among e) =
     let parts = macro_parts ds _ made d.spelled name ts refl in
     false≢true (sym e ∙ d.name b (rw parts.named among))
-fault_apart is_reserved ds _ made d (BadString name ts t among refused) = d.strings t (There (Word name) (Mark Equals ∷ ts) (There (Mark Equals) ts among)) refused
-fault_apart is_reserved ds _ made d (LongText name ts items text has are long) =
+fault_apart profile ds _ made d (BadString name ts t among refused) = d.strings t (There (Word name) (Mark Equals ∷ ts) (There (Mark Equals) ts among)) refused
+fault_apart profile ds _ made d (LongText name ts items text has are long) =
     let parts = macro_parts ds _ made d.spelled name ts refl in
     absurd (omega (arith, long, d.short, ap (λ (bytes : List ℕ). length bytes) (long_apart ds name ts items text made has are parts)))
 
 -- ---- what is read of a macro statement
 
-data Outcome (is_reserved : List ℕ → Bool) (ds : List Definition) (ts : List Token) (read : Result Definition DefinitionFault) : Type 0 where
-  Made : (made : Definition) → read ≡ Ok made → IsDefinition is_reserved ds ts made → Outcome is_reserved ds ts read
-  Wrong : read ≡ Err faults.Macro → HasMacroFault is_reserved ds ts → Outcome is_reserved ds ts read
-  Unspelled : read ≡ Err faults.Syntax → HasSyntaxFault is_reserved ds ts → Outcome is_reserved ds ts read
+data Outcome (profile : Profile) (ds : List Definition) (ts : List Token) (read : Result Definition DefinitionFault) : Type 0 where
+  Made : (made : Definition) → read ≡ Ok made → IsDefinition profile ds ts made → Outcome profile ds ts read
+  Wrong : read ≡ Err faults.Macro → HasMacroFault profile ds ts → Outcome profile ds ts read
+  Unspelled : read ≡ Err faults.Syntax → HasSyntaxFault profile ds ts → Outcome profile ds ts read
 
 -- no string among the tokens of the statement is refused
 no_string : (name : List ℕ) (ts : List Token) → list_any is_refused_string ts ≡ false → (t : Token) → IsAmong t (Word name ∷ Mark Equals ∷ ts) → IsRefusedString t → ⊥
@@ -289,48 +291,48 @@ too_long : (ds : List Definition) (ts : List Token) (o : Option (List ℕ)) (b :
 too_long ds ts o b is e = ap (λ (p : Option (List ℕ)). nat_lt 4096 (text_len p)) (sym is) ∙ e
 
 -- none of the lower faults holds
-no_fault : (is_reserved : List ℕ → Bool) (ds : List Definition) (name : List ℕ) (ts : List Token) → is_reserved name ≡ false → list_all is_name_byte name ≡ true → list_any is_refused_string ts ≡ false → is_too_long (joined_items ds None ts) ≡ false
-    → (us : List Token) → HasMacroFault is_reserved ds us → us ≡ Word name ∷ Mark Equals ∷ ts → ⊥
-no_fault is_reserved ds name ts free bytes strings short _ (ReservedName other us e) same =
+no_fault : (profile : Profile) (ds : List Definition) (name : List ℕ) (ts : List Token) → is_reserved profile name ≡ false → list_all is_name_byte name ≡ true → list_any is_refused_string ts ≡ false → is_too_long (joined_items ds None ts) ≡ false
+    → (us : List Token) → HasMacroFault profile ds us → us ≡ Word name ∷ Mark Equals ∷ ts → ⊥
+no_fault profile ds name ts free bytes strings short _ (ReservedName other us e) same =
     let named : other ≡ name = let h = same in cc in
-    false≢true (sym free ∙ ap is_reserved (sym named) ∙ e)
-no_fault is_reserved ds name ts free bytes strings short _ (OtherByte other us b among e) same =
+    false≢true (sym free ∙ ap (is_reserved profile) (sym named) ∙ e)
+no_fault profile ds name ts free bytes strings short _ (OtherByte other us b among e) same =
     let named : other ≡ name = let h = same in cc in
     false≢true (sym e ∙ all_there is_name_byte b name (rw (sym named) among) bytes)
-no_fault is_reserved ds name ts free bytes strings short _ (BadString other us t among refused) same =
+no_fault profile ds name ts free bytes strings short _ (BadString other us t among refused) same =
     let rest : us ≡ ts = let h = same in cc in
     false≢true (sym strings ∙ there_any is_refused_string t ts (rw (sym rest) among) (refused_string t refused))
-no_fault is_reserved ds name ts free bytes strings short _ (LongText other us items text has are long) same =
+no_fault profile ds name ts free bytes strings short _ (LongText other us items text has are long) same =
     let rest : us ≡ ts = let h = same in cc in
     let all : joined_items ds None ts ≡ Some text = ap (λ (vs : List Token). joined_items ds None vs) (sym rest) ∙ has_joined ds us items has None ∙ are_joined ds items text are None in
     absurd (omega (arith, long, short_text (length text) (too_long ds ts (Some text) false all short)))
 
-by_tests : (is_reserved : List ℕ → Bool) (said : Bool) (ds : List Definition) (name : List ℕ) (ts : List Token) → said ≡ is_reserved name → Outcome is_reserved ds (Word name ∷ Mark Equals ∷ ts) (defined_as said ds name ts)
-by_tests is_reserved said ds name ts told = cases said (list_all is_name_byte name) (list_any is_refused_string ts) (is_too_long (joined_items ds None ts)) (are_items ds ts) (sym told) refl refl refl refl
+by_tests : (profile : Profile) (ds : List Definition) (name : List ℕ) (ts : List Token) → Outcome profile ds (Word name ∷ Mark Equals ∷ ts) (defined_as profile ds name ts)
+by_tests profile ds name ts = cases (is_reserved profile name) (list_all is_name_byte name) (list_any is_refused_string ts) (is_too_long (joined_items ds None ts)) (are_items ds ts) refl refl refl refl refl
   where
-    long : is_too_long (joined_items ds None ts) ≡ true → HasMacroFault is_reserved ds (Word name ∷ Mark Equals ∷ ts)
+    long : is_too_long (joined_items ds None ts) ≡ true → HasMacroFault profile ds (Word name ∷ Mark Equals ∷ ts)
     long e = from (collected ds ts)
       where
-        from : Collected ds ts → HasMacroFault is_reserved ds (Word name ∷ Mark Equals ∷ ts)
+        from : Collected ds ts → HasMacroFault profile ds (Word name ∷ Mark Equals ∷ ts)
         from (Nothing has f) = absurd (false≢true (too_long ds ts None true (f None) e))
         from (Something items text has are f) = LongText name ts items text has are (long_text (length text) (too_long ds ts (Some text) true (f None) e))
 
-    cases : (r n s l a : Bool) → is_reserved name ≡ r → list_all is_name_byte name ≡ n → list_any is_refused_string ts ≡ s → is_too_long (joined_items ds None ts) ≡ l → are_items ds ts ≡ a
-        → Outcome is_reserved ds (Word name ∷ Mark Equals ∷ ts) (cond {A = Result Definition DefinitionFault} (not (not r && n) || s || l) (Err faults.Macro) (cond a (spelled name (joined_items ds None ts)) (Err faults.Syntax)))
+    cases : (r n s l a : Bool) → is_reserved profile name ≡ r → list_all is_name_byte name ≡ n → list_any is_refused_string ts ≡ s → is_too_long (joined_items ds None ts) ≡ l → are_items ds ts ≡ a
+        → Outcome profile ds (Word name ∷ Mark Equals ∷ ts) (cond {A = Result Definition DefinitionFault} (not (not r && n) || s || l) (Err faults.Macro) (cond a (spelled name (joined_items ds None ts)) (Err faults.Syntax)))
     cases true n s l a free bytes strings short all = Wrong refl (ReservedName name ts free)
     cases false false s l a free bytes strings short all = let b = not_all is_name_byte name bytes in Wrong refl (OtherByte name ts b.one b.among b.answer)
     cases false true true l a free bytes strings short all = let t = any_there is_refused_string ts strings in Wrong refl (BadString name ts t.one t.among (string_refused t.one t.answer))
     cases false true false true a free bytes strings short all = Wrong refl (long short)
     cases false true false false false free bytes strings short all = Unspelled refl (record {
       no_macro = λ made is. false≢true (sym all ∙ items_all ds ts made.text (macro_parts ds _ made is name ts refl).are);
-      no_lower = λ fault. no_fault is_reserved ds name ts free bytes strings short _ fault refl;
+      no_lower = λ fault. no_fault profile ds name ts free bytes strings short _ fault refl;
     })
     cases false true false false true free bytes strings short all = from (collected ds ts)
       where
-        from : Collected ds ts → Outcome is_reserved ds (Word name ∷ Mark Equals ∷ ts) (spelled name (joined_items ds None ts))
+        from : Collected ds ts → Outcome profile ds (Word name ∷ Mark Equals ∷ ts) (spelled name (joined_items ds None ts))
         from (Nothing has f) = Unspelled (ap (spelled name) (f None)) (record {
           no_macro = λ made is. let e = sym (f None) ∙ text_joined ds name ts made (macro_parts ds _ made is name ts refl) in cc;
-          no_lower = λ fault. no_fault is_reserved ds name ts free bytes strings short _ fault refl;
+          no_lower = λ fault. no_fault profile ds name ts free bytes strings short _ fault refl;
         })
         from (Something items text has are f) = Made (record { name = name; text = text }) (ap (spelled name) (f None)) (record {
           spelled = Spelled name text ts (rw (all_items ds ts items has all) at are);
@@ -340,63 +342,63 @@ by_tests is_reserved said ds name ts told = cases said (list_all is_name_byte na
           short = short_text (length text) (too_long ds ts (Some text) false (f None) short);
         })
 
-outcome : (is_reserved : List ℕ → Bool) (said : Bool) (ds : List Definition) (ts : List Token) → TellsReserved is_reserved ts said → Outcome is_reserved ds ts (definition_at said ds ts)
+outcome : (profile : Profile) (ds : List Definition) (ts : List Token) → Outcome profile ds ts (definition_at profile ds ts)
 unfolding definition_at symbol_at
-outcome is_reserved said ds ts tells = cases ts (shape ts) tells
+outcome profile ds ts = cases ts (shape ts)
   where
-    cases : (ts : List Token) → Shape ts → TellsReserved is_reserved ts said → Outcome is_reserved ds ts (definition_at said ds ts)
-    cases _ (Begun name ts) tells = by_tests is_reserved said ds name ts (tells name (Mark Equals ∷ ts) refl)
-    cases _ (Another ts none e) tells = Unspelled (e said ds) (record {
+    cases : (ts : List Token) → Shape ts → Outcome profile ds ts (definition_at profile ds ts)
+    cases _ (Begun name ts) = by_tests profile ds name ts
+    cases _ (Another ts none e) = Unspelled (e profile ds) (record {
       no_macro = λ made is. let begins = macro_begins ds ts made is in none begins.name begins.behind begins.whole;
-      no_lower = λ fault. let begins = fault_begins is_reserved ds ts fault in none begins.name begins.behind begins.whole;
+      no_lower = λ fault. let begins = fault_begins profile ds ts fault in none begins.name begins.behind begins.whole;
     })
 
 -- ---- the laws
 
-module _ (is_reserved : List ℕ → Bool) (said : Bool) (ds : List Definition) (ts : List Token) (tells : TellsReserved is_reserved ts said) where
-  pub made_as_spelled : (made : Definition) → (definition_at said ds ts ≡ Ok made) ↔ IsDefinition is_reserved ds ts made
-  made_as_spelled made = (there (outcome is_reserved said ds ts tells), back (outcome is_reserved said ds ts tells))
+module _ (profile : Profile) (ds : List Definition) (ts : List Token) where
+  pub made_as_spelled : (made : Definition) → (definition_at profile ds ts ≡ Ok made) ↔ IsDefinition profile ds ts made
+  made_as_spelled made = (there (outcome profile ds ts), back (outcome profile ds ts))
     where
-      there : Outcome is_reserved ds ts (definition_at said ds ts) → definition_at said ds ts ≡ Ok made → IsDefinition is_reserved ds ts made
+      there : Outcome profile ds ts (definition_at profile ds ts) → definition_at profile ds ts ≡ Ok made → IsDefinition profile ds ts made
       there (Made found e is) f = let same : found ≡ made = let h = sym e ∙ f in cc in rw (sym same) is
       there (Wrong e fault) f = let h = sym e ∙ f in absurd cc
       there (Unspelled e fault) f = let h = sym e ∙ f in absurd cc
 
-      back : Outcome is_reserved ds ts (definition_at said ds ts) → IsDefinition is_reserved ds ts made → definition_at said ds ts ≡ Ok made
+      back : Outcome profile ds ts (definition_at profile ds ts) → IsDefinition profile ds ts made → definition_at profile ds ts ≡ Ok made
       back (Made found e is) it = let same = one_macro ds ts found made is.spelled it.spelled in rw same at e
-      back (Wrong e fault) it = absurd (fault_apart is_reserved ds ts made it fault)
+      back (Wrong e fault) it = absurd (fault_apart profile ds ts made it fault)
       back (Unspelled e fault) it = absurd (fault.no_macro made it.spelled)
 
-  pub refused_as_told : (definition_at said ds ts ≡ Err faults.Macro) ↔ HasMacroFault is_reserved ds ts
-  refused_as_told = (there (outcome is_reserved said ds ts tells), back (outcome is_reserved said ds ts tells))
+  pub refused_as_spelled : (definition_at profile ds ts ≡ Err faults.Macro) ↔ HasMacroFault profile ds ts
+  refused_as_spelled = (there (outcome profile ds ts), back (outcome profile ds ts))
     where
-      there : Outcome is_reserved ds ts (definition_at said ds ts) → definition_at said ds ts ≡ Err faults.Macro → HasMacroFault is_reserved ds ts
+      there : Outcome profile ds ts (definition_at profile ds ts) → definition_at profile ds ts ≡ Err faults.Macro → HasMacroFault profile ds ts
       there (Made found e is) f = let h = sym e ∙ f in absurd cc
       there (Wrong e fault) f = fault
       there (Unspelled e fault) f = let h = sym e ∙ f in absurd cc
 
-      back : Outcome is_reserved ds ts (definition_at said ds ts) → HasMacroFault is_reserved ds ts → definition_at said ds ts ≡ Err faults.Macro
-      back (Made found e is) it = absurd (fault_apart is_reserved ds ts found is it)
+      back : Outcome profile ds ts (definition_at profile ds ts) → HasMacroFault profile ds ts → definition_at profile ds ts ≡ Err faults.Macro
+      back (Made found e is) it = absurd (fault_apart profile ds ts found is it)
       back (Wrong e fault) it = e
       back (Unspelled e fault) it = absurd (fault.no_lower it)
 
-  pub unspelled_as_told : (definition_at said ds ts ≡ Err faults.Syntax) ↔ HasSyntaxFault is_reserved ds ts
-  unspelled_as_told = (there (outcome is_reserved said ds ts tells), back (outcome is_reserved said ds ts tells))
+  pub unspelled_as_spelled : (definition_at profile ds ts ≡ Err faults.Syntax) ↔ HasSyntaxFault profile ds ts
+  unspelled_as_spelled = (there (outcome profile ds ts), back (outcome profile ds ts))
     where
-      there : Outcome is_reserved ds ts (definition_at said ds ts) → definition_at said ds ts ≡ Err faults.Syntax → HasSyntaxFault is_reserved ds ts
+      there : Outcome profile ds ts (definition_at profile ds ts) → definition_at profile ds ts ≡ Err faults.Syntax → HasSyntaxFault profile ds ts
       there (Made found e is) f = let h = sym e ∙ f in absurd cc
       there (Wrong e fault) f = let h = sym e ∙ f in absurd cc
       there (Unspelled e fault) f = fault
 
-      back : Outcome is_reserved ds ts (definition_at said ds ts) → HasSyntaxFault is_reserved ds ts → definition_at said ds ts ≡ Err faults.Syntax
+      back : Outcome profile ds ts (definition_at profile ds ts) → HasSyntaxFault profile ds ts → definition_at profile ds ts ≡ Err faults.Syntax
       back (Made found e is) it = absurd (it.no_macro found is.spelled)
       back (Wrong e fault) it = absurd (it.no_lower fault)
       back (Unspelled e fault) it = e
 
-  pub never_memory : definition_at said ds ts ≡ Err faults.Memory → ⊥
-  never_memory f = from (outcome is_reserved said ds ts tells)
+  pub never_memory : definition_at profile ds ts ≡ Err faults.Memory → ⊥
+  never_memory f = from (outcome profile ds ts)
     where
-      from : Outcome is_reserved ds ts (definition_at said ds ts) → ⊥
+      from : Outcome profile ds ts (definition_at profile ds ts) → ⊥
       from (Made found e is) = let h = sym e ∙ f in cc
       from (Wrong e fault) = let h = sym e ∙ f in cc
       from (Unspelled e fault) = let h = sym e ∙ f in cc

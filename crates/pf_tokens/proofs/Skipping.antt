@@ -1,6 +1,7 @@
 -- What is left of a statement behind its next token.
 use Rattle.std.proofs.Common.{◌≡◌, ℕ, zero, suc, ◌≤◌, Bool, true, false, List, [], ◌∷◌, drop, map, Option, Some, None, refl, sym, ap, ◌∙◌, arith}
 use Rattle.std.specs.Prelude.{is_some}
+use Rattle.std.specs.Option.{option_or}
 use Rattle.pf_tokens.specs.declared.lexeme.Lexed.{Lexed}
 use Rattle.pf_tokens.specs.declared.stream.Stream.{Stream}
 use Rattle.pf_tokens.specs.declared.parser.Parser.{Parser}
@@ -10,8 +11,12 @@ use Rattle.pf_tokens.specs.Left.{tokens_left}
 use Rattle.pf_tokens.specs.Macros.{Definition, unwritten, depth_after, ends}
 use Rattle.pf_tokens.specs.Blanks.{blanked, open_after}
 use Rattle.pf_tokens.specs.Flow.{statement_left, ending_left, pulled}
-use Rattle.pf_tokens.specs.Pending.{behind, unless_none, pending, known, at_newline, Stays, Blanks}
-use Rattle.pf_tokens.specs.Parsing.{tokens_of, definitions, placed_left, left, later}
+use Rattle.pf_tokens.specs.Pending.{behind, unless_none, pending, known, at_newline, statement_tokens, Stays, Blanks}
+use Rattle.pf_tokens.specs.declared.fault.ReadingFault.{ReadingFault}
+use Rattle.pf_tokens.specs.declared.passed.Passed.{Passed}
+use Rattle.pf_tokens.specs.Faults.{reading_fault}
+use Rattle.pf_tokens.specs.Carried.{carried}
+use Rattle.pf_tokens.specs.Parsing.{tokens_of, definitions, placed_left, left, Later, later}
 use Rattle.pf_tokens.proofs.Blanking.{blanked_there}
 use Rattle.pf_tokens.proofs.Flowing.{pulled_keeps}
 use Rattle.pf_tokens.proofs.Pulling.{pending_some}
@@ -80,7 +85,7 @@ module _ (parser : Parser) (l : Lexed) (at_hand : parser.stream.next ≡ Some l)
       ∙ ap (λ (ts : List Placed). placed_of l ∷ statement_left (definitions parser) parser.stream.defining (depth_after parser.depth (token_of l.lexeme)) ts (tokens_left parser.stream.text)) (sym behind_it.0)
       ∙ ap (λ (raw : List Placed). placed_of l ∷ statement_left (definitions parser) parser.stream.defining (depth_after parser.depth (token_of l.lexeme)) (drop 1 (pending parser.stream).0) raw) (sym behind_it.1)
 
-  pub later_is : later parser ≡ ending_left (definitions parser) parser.stream.defining (depth_after parser.depth (token_of l.lexeme)) (drop 1 (pending parser.stream).0) (pending parser.stream).1
+  pub later_is : (later parser).behind ≡ ending_left (definitions parser) parser.stream.defining (depth_after parser.depth (token_of l.lexeme)) (drop 1 (pending parser.stream).0) (pending parser.stream).1
   unfolding pending later
   later_is =
       ending_token (definitions parser) parser.stream.defining parser.stream.line parser.depth (tokens_left parser.stream.inside) (tokens_left parser.stream.text) parser.stream.next l at_hand inner
@@ -118,7 +123,7 @@ module _ (parser : Parser) (l : Lexed) (at_hand : parser.stream.next ≡ Some l)
         ∙ (pulled_keeps (definitions parser) parser.stream.defining (drop 1 (pending parser.stream).0) (pending parser.stream).1).statement depth
         ∙ sym (ap (λ (ps : List Placed). drop 1 ps) placed_is)
 
-    mid_later : ending_left (known mid) mid.defining depth (pending mid).0 (pending mid).1 ≡ later parser
+    mid_later : ending_left (known mid) mid.defining depth (pending mid).0 (pending mid).1 ≡ (later parser).behind
     mid_later =
         ap (λ (ds : List Definition). ending_left ds mid.defining depth (pending mid).0 (pending mid).1) stays.known
         ∙ ap (λ (w : Bool). ending_left (definitions parser) w depth (pending mid).0 (pending mid).1) stays.defining
@@ -150,29 +155,86 @@ module _ (parser : Parser) (l : Lexed) (at_hand : parser.stream.next ≡ Some l)
           ∙ ap (λ (ps : List Placed). blanked new.braces (tokens_of ps)) mid_left
           ∙ ap (blanked new.braces) (tokens_drop (placed_left parser))
 
-      pub taken_later : later new ≡ later parser
+      taken_behind : (later new).behind ≡ (later parser).behind
       unfolding later
-      taken_later =
+      taken_behind =
           ap (λ (ds : List Definition). ending_left ds new.stream.defining new.depth (pending new.stream).0 (pending new.stream).1) moved.known
           ∙ ap (λ (w : Bool). ending_left (known mid) w new.depth (pending new.stream).0 (pending new.stream).1) moved.defining
           ∙ ap (λ (d : ℕ). ending_left (known mid) mid.defining d (pending new.stream).0 (pending new.stream).1) deeper
           ∙ blanks.ending depth within
           ∙ mid_later
 
+      -- the token has been counted, and the newlines behind it
+      module _ (passed : Passed) (counted : (ts : List Token) → carried (definitions parser) passed depth ts ≡ carried (definitions parser) parser.passed parser.depth (token_of l.lexeme ∷ ts)) (blank : carried (known mid) new.passed new.depth (statement_tokens (known mid) mid.defining new.depth (pending new.stream)) ≡ carried (known mid) passed new.depth (statement_tokens (known mid) mid.defining new.depth (pending mid))) where
+        first_is : tokens_of (placed_left parser) ≡ token_of l.lexeme ∷ tokens_of (drop 1 (placed_left parser))
+        first_is = ap (λ (ps : List Placed). tokens_of ps) placed_is ∙ sym (ap (λ (ps : List Placed). token_of l.lexeme ∷ tokens_of (drop 1 ps)) placed_is)
+
+        blank_there : carried (known mid) new.passed depth (statement_tokens (known mid) mid.defining depth (pending new.stream)) ≡ carried (known mid) passed depth (statement_tokens (known mid) mid.defining depth (pending mid))
+        blank_there = rw deeper at blank
+
+        taken_fault : carried (definitions new) new.passed new.depth (tokens_of (placed_left new)) ≡ carried (definitions parser) parser.passed parser.depth (tokens_of (placed_left parser))
+        taken_fault =
+            ap (λ (ds : List Definition). carried ds new.passed new.depth (tokens_of (placed_left new))) moved.known
+            ∙ ap (λ (ps : List Placed). carried (known mid) new.passed new.depth (tokens_of ps)) same_left
+            ∙ ap (λ (d : ℕ). carried (known mid) new.passed d (statement_tokens (known mid) mid.defining depth (pending new.stream))) deeper
+            ∙ blank_there
+            ∙ ap (λ (ps : List Placed). carried (known mid) passed depth (tokens_of ps)) mid_left
+            ∙ ap (λ (ds : List Definition). carried ds passed depth (tokens_of (drop 1 (placed_left parser)))) stays.known
+            ∙ counted (tokens_of (drop 1 (placed_left parser)))
+            ∙ ap (λ (ts : List Token). carried (definitions parser) parser.passed parser.depth ts) (sym first_is)
+
+        fault_same : (later new).fault ≡ (later parser).fault
+        unfolding later
+        fault_same = taken_fault
+
+        pub taken_later : later new ≡ later parser
+        taken_later = both (later new) (later parser) taken_behind fault_same
+          where
+            both : (a b : Later) → a.behind ≡ b.behind → a.fault ≡ b.fault → a ≡ b
+            both a b e f = ap (λ (ps : List Placed). made ps a.fault) e ∙ ap (λ (o : Option ReadingFault). made b.behind o) f
+              where
+                made : List Placed → Option ReadingFault → Later
+                made ps o = record { behind = ps; fault = o }
+
 -- ---- at the end
 
-pub later_none : (parser : Parser) → parser.stream.next ≡ None → later parser ≡ []
+pub later_none : (parser : Parser) → parser.stream.next ≡ None → (later parser).behind ≡ []
 unfolding pending later
 later_none parser e = ending_none (definitions parser) parser.stream.defining parser.stream.line parser.depth (tokens_left parser.stream.inside) (tokens_left parser.stream.text) parser.stream.next e
 
-later_end : (parser : Parser) (l : Lexed) → parser.stream.next ≡ Some l → ends parser.depth (placed_of l) ≡ true → later parser ≡ placed_of l ∷ tokens_left parser.stream.text
+later_end : (parser : Parser) (l : Lexed) → parser.stream.next ≡ Some l → ends parser.depth (placed_of l) ≡ true → (later parser).behind ≡ placed_of l ∷ tokens_left parser.stream.text
 unfolding pending later
 later_end parser l e ended = ending_end (definitions parser) parser.stream.defining parser.stream.line parser.depth (tokens_left parser.stream.inside) (tokens_left parser.stream.text) parser.stream.next l e ended
 
 -- where the statement has ended, the token at hand ends it
-pub later_behind : (parser : Parser) (l : Lexed) → parser.stream.next ≡ Some l → left parser ≡ [] → drop 1 (later parser) ≡ tokens_left parser.stream.text
+pub later_behind : (parser : Parser) (l : Lexed) → parser.stream.next ≡ Some l → left parser ≡ [] → drop 1 (later parser).behind ≡ tokens_left parser.stream.text
 later_behind parser l e nothing = cases (ends parser.depth (placed_of l)) refl
   where
-    cases : (b : Bool) → ends parser.depth (placed_of l) ≡ b → drop 1 (later parser) ≡ tokens_left parser.stream.text
+    cases : (b : Bool) → ends parser.depth (placed_of l) ≡ b → drop 1 (later parser).behind ≡ tokens_left parser.stream.text
     cases true ended = ap (λ (ps : List Placed). drop 1 ps) (later_end parser l e ended)
     cases false inner = absurd (let h = sym (left_token parser l e inner) ∙ ap (λ (ts : List Token). first ts) nothing in cc)
+
+-- ---- the fault of a statement
+
+nothing_placed : (parser : Parser) → left parser ≡ [] → placed_left parser ≡ []
+nothing_placed parser nothing = cases parser.stream.next refl
+  where
+    ended : (l : Lexed) → parser.stream.next ≡ Some l → (b : Bool) → ends parser.depth (placed_of l) ≡ b → placed_left parser ≡ []
+    ended l e true ends = placed_end parser l e ends
+    ended l e false inner = absurd (let h = sym (left_token parser l e inner) ∙ ap (λ (ts : List Token). first ts) nothing in cc)
+
+    cases : (o : Option Lexed) → parser.stream.next ≡ o → placed_left parser ≡ []
+    cases None e = placed_none parser e
+    cases (Some l) e = ended l e (ends parser.depth (placed_of l)) refl
+
+-- once one was found, or nothing is left, it is known
+pub fault_told : (parser : Parser) → (is_some parser.passed.fault ≡ false → left parser ≡ []) → parser.passed.fault ≡ (later parser).fault
+unfolding later
+fault_told parser none = cases parser.passed.fault refl
+  where
+    rest : List Token → Option ReadingFault
+    rest ts = reading_fault (definitions parser) parser.passed.count parser.depth ts
+
+    cases : (o : Option ReadingFault) → parser.passed.fault ≡ o → o ≡ option_or o (rest (tokens_of (placed_left parser)))
+    cases (Some fault) e = refl
+    cases None e = sym (ap (λ (ps : List Placed). rest (tokens_of ps)) (nothing_placed parser (none (ap is_some e))))

@@ -8,6 +8,8 @@ use Rattle.pf_tokens.specs.declared.macros.Macro as macros
 use Rattle.pf_tokens.specs.declared.symbol.Symbol.TheVariants.{Equals}
 use Rattle.pf_tokens.specs.Tokens.{Token, Word, Quoted, Macro, Mark, Newline, Bad, is_name_byte}
 use Rattle.pf_tokens.specs.Macros.{Definition, text_of}
+use Rattle.pf_words.specs.declared.profile.Profile.{Profile}
+use Rattle.pf_words.specs.Words.{is_reserved}
 use Rattle.pf_tokens.specs.Defined.{definition_of}
 use Rattle.pf_tokens.specs.Productions.{Read, word_at, symbol_at}
 
@@ -56,27 +58,27 @@ abbrev pub is_too_long : Option (List ℕ) → Bool
 is_too_long text = nat_lt 4096 (text_len text)
 
 -- letters, digits and _, and no reserved word
-abbrev pub is_macro_name : Bool → List ℕ → Bool
-is_macro_name reserved name = not reserved && list_all is_name_byte name
+abbrev pub is_macro_name : Profile → List ℕ → Bool
+is_macro_name profile name = not (is_reserved profile name) && list_all is_name_byte name
 
 abbrev pub spelled : List ℕ → Option (List ℕ) → Result Definition DefinitionFault
 spelled name None = Err faults.Syntax
 spelled name (Some text) = Ok (record { name = name; text = text })
 
 -- the lower cause comes first
-abbrev pub defined_as : Bool → List Definition → List ℕ → List Token → Result Definition DefinitionFault
-defined_as reserved ds name items =
-    if not (is_macro_name reserved name) || list_any is_refused_string items || is_too_long (joined_items ds None items) then Err faults.Macro
+abbrev pub defined_as : Profile → List Definition → List ℕ → List Token → Result Definition DefinitionFault
+defined_as profile ds name items =
+    if not (is_macro_name profile name) || list_any is_refused_string items || is_too_long (joined_items ds None items) then Err faults.Macro
     else (if are_items ds items then spelled name (joined_items ds None items) else Err faults.Syntax)
 
-abbrev pub behind_name : Bool → List Definition → Read (List ℕ) → Result Definition DefinitionFault
-behind_name reserved ds None = Err faults.Syntax
-behind_name reserved ds (Some (name, ts)) =
-    let equals = symbol_at Equals ts in if equals.0 then defined_as reserved ds name equals.1 else Err faults.Syntax
+abbrev pub behind_name : Profile → List Definition → Read (List ℕ) → Result Definition DefinitionFault
+behind_name profile ds None = Err faults.Syntax
+behind_name profile ds (Some (name, ts)) =
+    let equals = symbol_at Equals ts in if equals.0 then defined_as profile ds name equals.1 else Err faults.Syntax
 
 -- macro = WORD "=" item {item}
-unfoldable pub definition_at : Bool → List Definition → List Token → Result Definition DefinitionFault
-definition_at reserved ds ts = behind_name reserved ds (word_at ts)
+unfoldable pub definition_at : Profile → List Definition → List Token → Result Definition DefinitionFault
+definition_at profile ds ts = behind_name profile ds (word_at ts)
 
 -- the definition was read, or its fault; unless memory ran out
 abbrev pub Defines : Result macros.Macro DefinitionFault → Result Definition DefinitionFault → Type 0

@@ -4,6 +4,8 @@ pub mod Lexed
 pub mod Left
 pub mod Macros
 pub mod Defined
+pub mod Indexed
+pub mod Known
 pub mod Blanks
 pub mod Flow
 pub mod Pending
@@ -11,6 +13,7 @@ pub mod Productions
 pub mod Defining
 pub mod Parsing
 pub mod Faults
+pub mod Carried
 pub mod Lists
 pub mod Reading
 pub mod Shorter

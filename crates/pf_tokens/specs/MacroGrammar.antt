@@ -4,6 +4,8 @@ use Rattle.std.specs.Prelude.{◌≡◌, ◌<◌, ◌≤◌, ℕ, Bool, true, fa
 use Rattle.pf_tokens.specs.declared.symbol.Symbol.TheVariants.{Equals}
 use Rattle.pf_tokens.specs.Tokens.{Token, Word, Quoted, Macro, Mark, is_name_byte}
 use Rattle.pf_tokens.specs.Macros.{Definition}
+use Rattle.pf_words.specs.declared.profile.Profile.{Profile}
+use Rattle.pf_words.specs.Words.{is_reserved}
 
 -- it stands among these
 pub data IsAmong {X : Type 0} (x : X) : List X → Type 0 where
@@ -45,9 +47,9 @@ pub data IsRefusedString : Token → Type 0 where
 
 -- A macro statement that defines a macro: its name is no reserved word and has letters, digits and _ alone, no string has
 -- a dollar sign or #, and the text has at most 4,096 bytes.
-pub record IsDefinition (is_reserved : List ℕ → Bool) (ds : List Definition) (tokens : List Token) (made : Definition) : Type 0 where
+pub record IsDefinition (profile : Profile) (ds : List Definition) (tokens : List Token) (made : Definition) : Type 0 where
   pub spelled : IsMacro ds tokens made
-  pub free : is_reserved made.name ≡ false
+  pub free : is_reserved profile made.name ≡ false
   pub name : (b : ℕ) → IsAmong b made.name → is_name_byte b ≡ true
   pub strings : (t : Token) → IsAmong t tokens → IsRefusedString t → ⊥
   pub short : length made.text ≤ 4096
@@ -62,17 +64,17 @@ pub data HasItems (ds : List Definition) : List Token → List Token → Type 0 
 
 -- WORD "=" and any tokens, where the name is reserved or has another byte than letters, digits and _, a string has a
 -- dollar sign or #, or the text of the items that there are has more than 4,096 bytes
-pub data HasMacroFault (is_reserved : List ℕ → Bool) (ds : List Definition) : List Token → Type 0 where
-  ReservedName : (name : List ℕ) (ts : List Token) → is_reserved name ≡ true → HasMacroFault is_reserved ds (Word name ∷ Mark Equals ∷ ts)
-  OtherByte : (name : List ℕ) (ts : List Token) (b : ℕ) → IsAmong b name → is_name_byte b ≡ false → HasMacroFault is_reserved ds (Word name ∷ Mark Equals ∷ ts)
-  BadString : (name : List ℕ) (ts : List Token) (t : Token) → IsAmong t ts → IsRefusedString t → HasMacroFault is_reserved ds (Word name ∷ Mark Equals ∷ ts)
-  LongText : (name : List ℕ) (ts items : List Token) (text : List ℕ) → HasItems ds ts items → AreItems ds items text → 4096 < length text → HasMacroFault is_reserved ds (Word name ∷ Mark Equals ∷ ts)
+pub data HasMacroFault (profile : Profile) (ds : List Definition) : List Token → Type 0 where
+  ReservedName : (name : List ℕ) (ts : List Token) → is_reserved profile name ≡ true → HasMacroFault profile ds (Word name ∷ Mark Equals ∷ ts)
+  OtherByte : (name : List ℕ) (ts : List Token) (b : ℕ) → IsAmong b name → is_name_byte b ≡ false → HasMacroFault profile ds (Word name ∷ Mark Equals ∷ ts)
+  BadString : (name : List ℕ) (ts : List Token) (t : Token) → IsAmong t ts → IsRefusedString t → HasMacroFault profile ds (Word name ∷ Mark Equals ∷ ts)
+  LongText : (name : List ℕ) (ts items : List Token) (text : List ℕ) → HasItems ds ts items → AreItems ds items text → 4096 < length text → HasMacroFault profile ds (Word name ∷ Mark Equals ∷ ts)
 
 -- not spelled as a macro, and without those faults
-pub record HasSyntaxFault (is_reserved : List ℕ → Bool) (ds : List Definition) (tokens : List Token) : Type 0 where
+pub record HasSyntaxFault (profile : Profile) (ds : List Definition) (tokens : List Token) : Type 0 where
   pub no_macro : (made : Definition) → IsMacro ds tokens made → ⊥
-  pub no_lower : HasMacroFault is_reserved ds tokens → ⊥
+  pub no_lower : HasMacroFault profile ds tokens → ⊥
 
--- it is said of the word at the front whether it is reserved
-abbrev pub TellsReserved : (List ℕ → Bool) → List Token → Bool → Type 0
-TellsReserved is_reserved tokens said = (name : List ℕ) (behind : List Token) → tokens ≡ Word name ∷ behind → said ≡ is_reserved name
+-- in each profile, of any macros before and any tokens
+abbrev pub AllRead : (Profile → List Definition → List Token → Type 0) → Type 0
+AllRead Says = (profile : Profile) (ds : List Definition) (ts : List Token) → Says profile ds ts

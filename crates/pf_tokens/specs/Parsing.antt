@@ -1,6 +1,7 @@
 -- What a parser has left: of its statement, and from the end of the statement on.
 use Rattle.std.specs.Prelude.{◌≡◌, Bool, List, map, Option, Some, None, Result, Ok, Err}
 use Rattle.pf_tokens.specs.declared.parser.Parser.{Parser}
+use Rattle.pf_tokens.specs.declared.fault.ReadingFault.{ReadingFault}
 use Rattle.pf_tokens.specs.declared.stop.Stop.{Stop}
 use Rattle.pf_tokens.specs.declared.stop.Stop.TheVariants as stops
 use Rattle.pf_tokens.specs.Tokens.{Token, Placed}
@@ -8,6 +9,7 @@ use Rattle.pf_tokens.specs.Macros.{Definition}
 use Rattle.pf_tokens.specs.Blanks.{blanked}
 use Rattle.pf_tokens.specs.Flow.{statement_left, ending_left}
 use Rattle.pf_tokens.specs.Pending.{pending, known}
+use Rattle.pf_tokens.specs.Carried.{carried}
 
 abbrev pub tokens_of : List Placed → List Token
 tokens_of ps = map (λ (p : Placed). p.token) ps
@@ -28,17 +30,26 @@ placed_left parser = statement_left (definitions parser) parser.stream.defining 
 unfoldable pub left : Parser → List Token
 left parser = blanked parser.braces (tokens_of (placed_left parser))
 
--- those of the text from the statement's end on
-unfoldable pub later : Parser → List Placed
-later parser = ending_left (definitions parser) parser.stream.defining parser.depth (pending parser.stream).0 (pending parser.stream).1
+-- what stays the same while a statement is read: the tokens of the text from its end on, and the first fault of the whole
+-- statement, among what was passed and what is left
+pub record Later : Type 0 where
+  pub behind : List Placed
+  pub fault : Option ReadingFault
+
+unfoldable pub later : Parser → Later
+later parser = record {
+  behind = ending_left (definitions parser) parser.stream.defining parser.depth (pending parser.stream).0 (pending parser.stream).1;
+  fault = carried (definitions parser) parser.passed parser.depth (tokens_of (placed_left parser));
+}
 
 -- a value was read, and these tokens are left, or none was
 abbrev pub Reads : {X : Type 0} → Option X → List Token → Option (X × List Token) → Type 0
 Reads None ts read = read ≡ None
 Reads (Some x) ts read = read ≡ Some (x, ts)
 
--- the same where memory may run out
+-- the same where memory may run out, or a list has more elements than a statement may have tokens
 abbrev pub Parses : {X Y : Type 0} → (X → Y) → Result X Stop → List Token → Option (Y × List Token) → Type 0
 Parses view (Ok x) ts read = read ≡ Some (view x, ts)
 Parses view (Err stops.Memory) ts read = Unit {0}
+Parses view (Err stops.TooMany) ts read = Unit {0}
 Parses view (Err stops.Syntax) ts read = read ≡ None

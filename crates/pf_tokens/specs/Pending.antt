@@ -2,11 +2,11 @@
 use Rattle.std.specs.Prelude.{◌≡◌, ◌≤◌, ℕ, Bool, false, List, [], ◌∷◌, map, Option, Some, None}
 use Rattle.pf_tokens.specs.declared.lexeme.Lexed.{Lexed}
 use Rattle.pf_tokens.specs.declared.stream.Stream.{Stream}
-use Rattle.pf_tokens.specs.Tokens.{Placed, is_newline}
+use Rattle.pf_tokens.specs.Tokens.{Token, Placed, is_newline}
 use Rattle.pf_tokens.specs.Lexed.{placed_of, token_of}
 use Rattle.pf_tokens.specs.Left.{tokens_left}
 use Rattle.pf_tokens.specs.Macros.{Definition, unwritten}
-use Rattle.pf_tokens.specs.Defined.{definition_of}
+use Rattle.pf_tokens.specs.Known.{definitions_of}
 use Rattle.pf_tokens.specs.Blanks.{blanked}
 use Rattle.pf_tokens.specs.Flow.{statement_left, ending_left}
 
@@ -24,12 +24,16 @@ pending stream = (behind stream.next (map (unwritten stream.line) (tokens_left s
 
 -- the macros that are known
 abbrev pub known : Stream → List Definition
-known stream = map definition_of stream.macros.now
+known stream = definitions_of stream.macros.now
 
 -- whether a newline is at hand
 abbrev pub at_newline : Option Lexed → Bool
 at_newline None = false
 at_newline (Some t) = is_newline (token_of t.lexeme)
+
+-- the tokens of the statement, where these are pending and so many braces are open
+abbrev pub statement_tokens : List Definition → Bool → ℕ → List Placed × List Placed → List Token
+statement_tokens ds defining depth p = map (λ (t : Placed). t.token) (statement_left ds defining depth p.0 p.1)
 
 -- what a step leaves as it is
 pub record Stays (old new : Stream) : Type 0 where

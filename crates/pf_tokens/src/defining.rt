@@ -7,13 +7,14 @@ ghost use Rattle.pf_tokens.specs.Lexed.{token_of};
 ghost use Rattle.pf_tokens.specs.Parsing.{definitions, left, later};
 ghost use Rattle.pf_tokens.specs.Defining.{is_refused_byte, is_refused_string, is_macro_name, len_with, appended, definition_at, Defines, Collects};
 ghost use Rattle.pf_tokens.specs.Macros.{Definition};
-ghost use Rattle.pf_tokens.specs.MacroGrammar.{IsDefinition, HasMacroFault, HasSyntaxFault, TellsReserved};
+ghost use Rattle.pf_tokens.specs.MacroGrammar.{AllRead, IsDefinition, HasMacroFault, HasSyntaxFault};
 ghost use Rattle.pf_tokens.specs.declared.defining.DefinitionFault.TheVariants.{Memory, Macro as MacroFault, Syntax};
 
 use crate::lexeme::{Lexeme, is_name_byte};
 use crate::macros::Macro;
 use crate::parser::Parser;
 use crate::symbol::Symbol;
+use pf_words::{Profile, is_reserved};
 use std::alloc::{AllocError, AllocFailed, Global};
 
 /// How many bytes the text of a macro has at most.
@@ -66,10 +67,10 @@ fn are_name_bytes(name: &[u8]) -> bool
 }
 
 /// Whether the name is no reserved word and has letters, digits and `_` alone.
-fn is_macro_name(reserved: bool, name: &[u8]) -> bool
-    ensures { result ≡ is_macro_name reserved name.now }
+fn is_macro_name(profile: Profile, name: &[u8]) -> bool
+    ensures { result ≡ is_macro_name profile name.now }
 {
-    !reserved && are_name_bytes(name)
+    !is_reserved(profile, name) && are_name_bytes(name)
 }
 
 /// Whether the byte may not stand in a string of a macro statement.
@@ -147,14 +148,14 @@ fn collect_items<'t: 's, 's>(
 }
 
 /// The macro that the statement defines (`pf.conf(5)`, MACROS): `WORD "=" item {item}`, each item a word, a string or
-/// a macro, whose texts are joined by a blank. Whether the statement's first word is reserved is told by the caller.
+/// a macro, whose texts are joined by a blank. The profile says which names are reserved.
 #[tactic(auto, unfolding(crate::specs::Defining::definition_at, crate::specs::Productions::symbol_at))]
 pub fn definition<'t: 's, 's>(
     alloc: Global,
+    profile: Profile,
     parser: &mut Parser<'t, 's>,
-    reserved: bool,
 ) -> Result<Macro, DefinitionFault>
-    ensures value { Defines result (definition_at reserved (definitions parser.old) (left parser.old)) }
+    ensures value { Defines result (definition_at profile (definitions parser.old) (left parser.old)) }
     ensures later { later parser.new ≡ later parser.old }
 {
     let Some(name) = parser.word() else {
@@ -163,7 +164,7 @@ pub fn definition<'t: 's, 's>(
     if !parser.accept_symbol(Symbol::Equals) {
         return Err(DefinitionFault::Syntax);
     }
-    if !is_macro_name(reserved, name) {
+    if !is_macro_name(profile, name) {
         return Err(DefinitionFault::Macro);
     }
     let Items { some, text, all } = collect_items(alloc, parser)?;
@@ -178,8 +179,8 @@ pub fn definition<'t: 's, 's>(
 /// length of its text may be so. Its fault is `Macro` exactly where one of these may not, and `Syntax` exactly where
 /// they may and the grammar spells no macro so. What is read is no more than the relation says, and no less.
 pub fn macros_as_spelled()
-    ensures made { (is_reserved : List ℕ → Bool) (said : Bool) (ds : List Definition) (ts : List Token) → TellsReserved is_reserved ts said → (made : Definition) → (definition_at said ds ts ≡ Ok made) ↔ IsDefinition is_reserved ds ts made }
-    ensures lower { (is_reserved : List ℕ → Bool) (said : Bool) (ds : List Definition) (ts : List Token) → TellsReserved is_reserved ts said → (definition_at said ds ts ≡ Err MacroFault) ↔ HasMacroFault is_reserved ds ts }
-    ensures higher { (is_reserved : List ℕ → Bool) (said : Bool) (ds : List Definition) (ts : List Token) → TellsReserved is_reserved ts said → (definition_at said ds ts ≡ Err Syntax) ↔ HasSyntaxFault is_reserved ds ts }
-    ensures no_other { (said : Bool) (ds : List Definition) (ts : List Token) → definition_at said ds ts ≡ Err Memory → ⊥ }
+    ensures made { AllRead (λ p ds ts. (made : Definition) → (definition_at p ds ts ≡ Ok made) ↔ IsDefinition p ds ts made) }
+    ensures lower { AllRead (λ p ds ts. (definition_at p ds ts ≡ Err MacroFault) ↔ HasMacroFault p ds ts) }
+    ensures higher { AllRead (λ p ds ts. (definition_at p ds ts ≡ Err Syntax) ↔ HasSyntaxFault p ds ts) }
+    ensures no_other { AllRead (λ p ds ts. definition_at p ds ts ≡ Err Memory → ⊥) }
 {}

@@ -27,7 +27,8 @@ pub struct Lexer<'a> {
 }
 
 impl<'a> Lexer<'a> {
-    ghost use Rattle.std.specs.Prelude.{◌≡◌, ◌+◌, ◌<◌, ◌^◌, ◌++◌, length, option_map, drop, List, ℕ};
+    ghost use Rattle.std.specs.Prelude.{◌≡◌, ◌+◌, ◌<◌, ◌^◌, ◌++◌, length, option_map, drop, List, [], ℕ};
+    ghost use Rattle.std.specs.Bool.{OnTrue};
     ghost use Rattle.std.specs.Option.{option_to_list};
     ghost use Rattle.pf_tokens.specs.Tokens.{Placed, tokens_behind, plain_tokens, first};
     ghost use Rattle.pf_tokens.specs.Reading.{past_newlines};
@@ -113,6 +114,14 @@ impl<'a> Lexer<'a> {
             *self = ahead;
         }
         None
+    }
+
+    /// Whether no byte is left.
+    #[tactic(auto, unfolding(crate::specs::Left::tokens_left))]
+    pub(crate) fn is_empty(&self) -> bool
+        ensures { OnTrue result (tokens_left self.now ≡ []) }
+    {
+        self.rest.is_empty()
     }
 
     /// The next token.

@@ -1,7 +1,7 @@
 //! Lists in braces.
 
 ghost use Rattle.std.specs.Prelude.{◌≡◌, ◌↔◌, ◌<◌, Some, List, length};
-ghost use Rattle.pf_tokens.specs.declared.profile.Profile.{Profile};
+ghost use Rattle.pf_words.specs.declared.profile.Profile.{Profile};
 ghost use Rattle.pf_tokens.specs.Tokens.{Token};
 ghost use Rattle.pf_tokens.specs.Productions.{Read};
 ghost use Rattle.pf_tokens.specs.Lists.{Elements, list_at, some_at, elements_of};
@@ -9,27 +9,33 @@ ghost use Rattle.pf_tokens.specs.ListGrammar.{IsElement, IsList};
 ghost use Rattle.pf_tokens.specs.Parsing.{left, later, Parses};
 
 use crate::parser::Parser;
-use crate::profile::Profile;
 use crate::stop::Stop;
 use crate::symbol::Symbol;
+use pf_words::Profile;
 use std::alloc::Global;
 
-/// What may stand in a list.
-pub trait Element: Sized + Drop {
+/// How many elements are kept at most: a statement has no more tokens.
+const ELEMENTS_MAX: usize = 65_536;
+
+/// A production whose values may stand in a list. It is a type of its own where the values stand in a crate below.
+pub trait Element {
+    /// What is read.
+    type Value: Drop;
+
     /// How it is read from the front of the tokens, in a profile.
-    ghost read: { Profile → List Token → Read Self };
+    ghost read: { Profile → List Token → Read Self.Value };
 
     /// Reads one. `Syntax` where the tokens don't spell it, `Memory` where a growth is refused.
     fn read<'t: 's, 's>(
         alloc: Global,
         profile: Profile,
         parser: &mut Parser<'t, 's>,
-    ) -> Result<Self, Stop>
+    ) -> Result<Self::Value, Stop>
         ensures read { Parses (λ x. x) result (left parser.new) (read profile (left parser.old)) }
         ensures later { later parser.new ≡ later parser.old };
 
     /// It takes a token at least.
-    ghost shorter: { (profile : Profile) (ts rest : List Token) (x : Self) → read profile ts ≡ Some (x, rest) → length rest < length ts };
+    ghost shorter: { (profile : Profile) (ts rest : List Token) (x : Self.Value) → read profile ts ≡ Some (x, rest) → length rest < length ts };
 }
 
 /// What a list has.
@@ -46,7 +52,7 @@ pub fn list<'t: 's, 's, E: Element>(
     alloc: Global,
     profile: Profile,
     parser: &mut Parser<'t, 's>,
-) -> Result<Listed<E>, Stop>
+) -> Result<Listed<E::Value>, Stop>
     ensures read { Parses elements_of result (left parser.new) (list_at (E.read profile) (left parser.old)) }
     ensures later { later parser.new ≡ later parser.old }
 {
@@ -80,6 +86,9 @@ pub fn list<'t: 's, 's, E: Element>(
             }
             depth -= 1;
         } else {
+            if items.len() >= ELEMENTS_MAX {
+                return Err(Stop::TooMany);
+            }
             let item = E::read(alloc, profile, parser)?;
             items.push(item)?;
             wanted = false;
@@ -93,7 +102,7 @@ pub fn some<'t: 's, 's, E: Element>(
     alloc: Global,
     profile: Profile,
     parser: &mut Parser<'t, 's>,
-) -> Result<Listed<E>, Stop>
+) -> Result<Listed<E::Value>, Stop>
     ensures read { Parses elements_of result (left parser.new) (some_at (E.read profile) (left parser.old)) }
     ensures later { later parser.new ≡ later parser.old }
 {
@@ -108,5 +117,5 @@ pub fn some<'t: 's, 's, E: Element>(
 
 /// A list is read exactly where the grammar spells it so: what is read is no more than the relation says, and no less.
 pub fn lists_as_spelled<E: Element>()
-    ensures { (profile : Profile) → IsElement (E.read profile) → ((ts rest : List Token) (l : Elements E) → ((list_at (E.read profile) ts ≡ Some (l, rest)) ↔ IsList (E.read profile) ts l rest)) }
+    ensures { (profile : Profile) → IsElement (E.read profile) → ((ts rest : List Token) (l : Elements E.Value) → ((list_at (E.read profile) ts ≡ Some (l, rest)) ↔ IsList (E.read profile) ts l rest)) }
 {}

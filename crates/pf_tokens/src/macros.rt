@@ -1,9 +1,11 @@
 //! Macros.
 
 ghost use Rattle.std.specs.Prelude.{◌≡◌, map};
-ghost use Rattle.std.specs.Option.{option_copied};
-ghost use Rattle.pf_tokens.specs.Macros.{text_of};
 ghost use Rattle.pf_tokens.specs.Defined.{definition_of};
+ghost use Rattle.pf_tokens.specs.Indexed.{IsIndex, IsWithin};
+
+use std::alloc::{AllocError, Global};
+use std::collections::BTreeMap;
 
 /// A macro and its text (`pf.conf(5)`, MACROS).
 #[derive(Debug, Drop)]
@@ -12,15 +14,55 @@ pub struct Macro {
     pub(crate) text: Vec<u8>,
 }
 
-/// The text of the last macro of that name.
-pub(crate) fn text_of<'a>(macros: &'a [Macro], name: &[u8]) -> Option<&'a [u8]>
-    ensures { option_copied result ≡ text_of (map definition_of macros.now) name.now }
-{
-    let mut found = None;
-    for one in macros {
-        if one.name.as_slice() == name {
-            found = Some(one.text.as_slice());
+/// The macros that are known, in the order of their definitions.
+#[derive(Debug, Drop)]
+pub struct Macros {
+    all: Vec<Macro>,
+    /// Where the last definition of each name stands.
+    last: BTreeMap<Vec<u8>, usize>,
+    ghost found: { IsIndex (map definition_of all.items) last },
+    ghost within: { IsWithin (map definition_of all.items) last },
+}
+
+impl Macros {
+    ghost use Rattle.std.specs.Prelude.{◌≡◌, ◌++◌, ◌∷◌, [], OnOk};
+    ghost use Rattle.std.specs.Option.{option_copied};
+    ghost use Rattle.pf_tokens.specs.Macros.{text_of};
+    ghost use Rattle.pf_tokens.specs.Defined.{definition_of};
+    ghost use Rattle.pf_tokens.specs.Known.{definitions_of};
+
+    /// None.
+    pub fn new(alloc: Global) -> Macros
+        ensures { definitions_of result ≡ [] }
+    {
+        Macros {
+            all: Vec::new(alloc),
+            last: BTreeMap::new(alloc),
         }
     }
-    found
+
+    /// With one definition more. An error is want of memory.
+    pub fn push(&mut self, alloc: Global, made: Macro) -> Result<(), AllocError>
+        ensures { OnOk result (definitions_of self.new ≡ definitions_of self.old ++ definition_of made ∷ []) }
+    {
+        let name = made.name.to_vec(alloc)?;
+        let at = self.all.len();
+        self.all.push(made)?;
+        match self.last.insert(name, at) {
+            Ok(_) => Ok(()),
+            Err(_) => {
+                self.all.pop();
+                Err(AllocError)
+            }
+        }
+    }
+
+    /// The text of the last macro of that name.
+    pub(crate) fn text_of(&self, name: &[u8]) -> Option<&[u8]>
+        ensures { option_copied result ≡ text_of (definitions_of self.now) name.now }
+    {
+        let at = self.last.get(name)?;
+        let one = self.all.get(*at)?;
+        Some(one.text.as_slice())
+    }
 }

@@ -9,15 +9,10 @@ ghost use Rattle.pf_tokens.specs.Blanks.{open_after};
 use crate::fault::ReadingFault;
 use crate::lexeme::{Lexed, Lexeme};
 use crate::lexer::Lexer;
-use crate::macros::{Macro, text_of};
+use crate::macros::Macros;
+use crate::passed::{Passed, depth_after};
 use crate::stream::Stream;
 use crate::symbol::Symbol;
-
-/// How many tokens a statement has at most.
-const TOKENS_MAX: u32 = 65536;
-
-/// How many braces are open at once at most.
-const OPEN_MAX: u8 = 64;
 
 /// The tokens of one statement, in which macros are replaced.
 ///
@@ -26,6 +21,8 @@ const OPEN_MAX: u8 = 64;
 #[derive(Clone, Copy, Debug)]
 pub struct Parser<'t, 's> {
     stream: Stream<'t, 's>,
+    /// What was passed of the statement, with the newlines that are blanks.
+    passed: Passed,
     /// How many braces are open; no more than 65 are told apart.
     depth: u8,
     /// How many of them belong to the list that is being read, in which newlines are blanks.
@@ -46,7 +43,7 @@ where
     ghost use Rattle.pf_tokens.specs.Macros.{is_definition, depth_after, ends};
     ghost use Rattle.pf_tokens.specs.Blanks.{blanked, open_after};
     ghost use Rattle.pf_tokens.specs.Flow.{statement_raw, ending_raw};
-    ghost use Rattle.pf_tokens.specs.Defined.{definition_of};
+    ghost use Rattle.pf_tokens.specs.Known.{definitions_of};
     ghost use Rattle.pf_tokens.specs.Faults.{reading_fault};
     ghost use Rattle.pf_tokens.specs.Defining.{item_of};
     ghost use Rattle.pf_tokens.specs.Productions.{begins, begins_symbol, option_at, symbol_at, word_at, name_at, is_end, taken_if, list_opened};
@@ -54,15 +51,17 @@ where
 
     /// At the start of a statement, where these macros are known.
     #[tactic(auto, using(crate::proofs::Beginning::begins_there, crate::proofs::Beginning::begins_later), unfolding(crate::specs::Parsing::placed_left, crate::specs::Parsing::left, crate::specs::Parsing::later))]
-    pub fn begin(text: Lexer<'t>, macros: &'s [Macro]) -> Parser<'t, 's>
-        ensures placed { placed_left result ≡ statement_raw (map definition_of macros.now) (is_definition (tokens_left text.entry)) 0 (tokens_left text.entry) }
+    pub fn begin(text: Lexer<'t>, macros: &'s Macros) -> Parser<'t, 's>
+        ensures placed { placed_left result ≡ statement_raw (definitions_of macros.now) (is_definition (tokens_left text.entry)) 0 (tokens_left text.entry) }
         ensures left { left result ≡ tokens_of (placed_left result) }
-        ensures later { later result ≡ ending_raw (map definition_of macros.now) (is_definition (tokens_left text.entry)) 0 (tokens_left text.entry) }
-        ensures definitions { definitions result ≡ map definition_of macros.now }
+        ensures later { (later result).behind ≡ ending_raw (definitions_of macros.now) (is_definition (tokens_left text.entry)) 0 (tokens_left text.entry) }
+        ensures fault { (later result).fault ≡ reading_fault (definitions result) 0 0 (left result) }
+        ensures definitions { definitions result ≡ definitions_of macros.now }
         ensures defining { is_defining result ≡ is_definition (tokens_left text.entry) }
     {
         Parser {
             stream: Stream::begin(text, macros),
+            passed: Passed::nothing(),
             depth: 0,
             braces: 0,
         }
@@ -75,29 +74,15 @@ where
         self.stream.defining
     }
 
-    /// The first fault among the tokens of the statement.
+    /// The first fault among the tokens of the statement, those that were passed and those that are left.
     pub fn fault(self) -> Option<ReadingFault>
-        ensures { result ≡ reading_fault (definitions self.entry) 0 0 (left self.entry) }
+        ensures { result ≡ (later self.entry).fault }
     {
         let mut parser = self;
-        let mut count = 0u32;
-        let mut depth = 0;
-        while let Some(lexeme) = parser.peek() {
-            depth = depth_after(depth, lexeme);
-            match lexeme {
-                Lexeme::Bad => return Some(ReadingFault::Lexical),
-                Lexeme::Macro(name) if text_of(parser.stream.macros, name).is_none() => {
-                    return Some(ReadingFault::UnknownMacro);
-                }
-                _ => {}
-            }
-            if count >= TOKENS_MAX || depth > OPEN_MAX {
-                return Some(ReadingFault::TooMany);
-            }
-            count += 1;
+        while parser.passed.fault.is_none() && !parser.at_end() {
             parser.skip();
         }
-        None
+        parser.passed.fault
     }
 
     /// The next token of the statement.
@@ -127,9 +112,13 @@ where
         ensures definitions { definitions self.new ≡ definitions self.old }
         ensures braces { self.new.braces ≡ braces }
     {
+        let depth = depth_after(self.depth, token.lexeme);
+        let passed = self
+            .passed
+            .with(self.stream.macros, self.depth, token.lexeme);
         self.stream.advance();
-        self.stream.pass_newlines(braces);
-        self.depth = depth_after(self.depth, token.lexeme);
+        self.passed = self.stream.pass_newlines(braces, depth, passed);
+        self.depth = depth;
         self.braces = braces;
     }
 
@@ -240,7 +229,7 @@ where
     {
         match lexeme {
             Lexeme::Word(text) | Lexeme::Quoted(text) => Some(text),
-            Lexeme::Macro(name) => text_of(self.stream.macros, name),
+            Lexeme::Macro(name) => self.stream.macros.text_of(name),
             Lexeme::Mark(_) | Lexeme::Newline | Lexeme::Bad => None,
         }
     }
@@ -274,7 +263,7 @@ where
 
     /// The tokens of the text behind the statement, and behind the newline that ends it.
     pub fn finish(self) -> Lexer<'t>
-        ensures { tokens_left result ≡ drop 1 (later self.entry) }
+        ensures { tokens_left result ≡ drop 1 (later self.entry).behind }
     {
         let mut parser = self;
         while !parser.at_end() {
@@ -292,17 +281,6 @@ fn ends(depth: u8, token: Lexed<'_>) -> bool
     ensures { result ≡ ends depth (placed_of token.entry) }
 {
     token.written && token.lexeme.is_newline() && depth == 0
-}
-
-/// How many braces are open behind the token; no more than 65 are told apart.
-fn depth_after(depth: u8, lexeme: Lexeme<'_>) -> u8
-    ensures { result ≡ depth_after depth (token_of lexeme.entry) }
-{
-    match lexeme {
-        Lexeme::Mark(Symbol::Open) => { if depth < 65 { depth + 1 } else { depth } }
-        Lexeme::Mark(Symbol::Close) => depth.saturating_sub(1),
-        _ => depth,
-    }
 }
 
 /// How many braces of a list are open behind the token.

@@ -1,18 +1,20 @@
 //! The tokens of a statement, in which macros are replaced.
 
-ghost use Rattle.std.specs.Prelude.{◌≡◌, ◌<◌, [], drop, map, length, false, true};
+ghost use Rattle.std.specs.Prelude.{◌≡◌, ◌<◌, ◌≤◌, [], drop, map, length, false, true};
 ghost use Rattle.std.specs.Bool.{OnTrue, OnFalse};
 ghost use Rattle.std.specs.Option.{option_copied};
 ghost use Rattle.pf_tokens.specs.Lexed.{placed_of};
 ghost use Rattle.pf_tokens.specs.Left.{tokens_left};
 ghost use Rattle.pf_tokens.specs.Macros.{unwritten, text_tokens, replaced, is_definition};
 ghost use Rattle.pf_tokens.specs.Flow.{pulled, pulled_raw};
-ghost use Rattle.pf_tokens.specs.Defined.{definition_of};
-ghost use Rattle.pf_tokens.specs.Pending.{pending, known, at_newline, Stays, Blanks};
+ghost use Rattle.pf_tokens.specs.Known.{definitions_of};
+ghost use Rattle.pf_tokens.specs.Pending.{pending, known, at_newline, statement_tokens, Stays, Blanks};
+ghost use Rattle.pf_tokens.specs.Carried.{carried};
 
 use crate::lexeme::{Lexed, Lexeme};
 use crate::lexer::Lexer;
-use crate::macros::{Macro, text_of};
+use crate::macros::Macros;
+use crate::passed::Passed;
 use crate::symbol::Symbol;
 
 /// The tokens of a text from the start of a statement on, in which macros are replaced, with one of them at hand.
@@ -23,7 +25,7 @@ pub(crate) struct Stream<'t, 's> {
     line: u64,
     inside: Lexer<'s>,
     pub text: Lexer<'t>,
-    pub macros: &'s [Macro],
+    pub macros: &'s Macros,
     /// Whether the statement defines a macro.
     pub defining: bool,
 }
@@ -34,9 +36,9 @@ where
 {
     /// At the start of a statement.
     #[tactic(auto, unfolding(crate::specs::Left::tokens_left))]
-    pub(crate) fn begin(text: Lexer<'t>, macros: &'s [Macro]) -> Stream<'t, 's>
-        ensures pulled { pending result ≡ pulled_raw (map definition_of macros.now) (is_definition (tokens_left text.entry)) (tokens_left text.entry) }
-        ensures known { known result ≡ map definition_of macros.now }
+    pub(crate) fn begin(text: Lexer<'t>, macros: &'s Macros) -> Stream<'t, 's>
+        ensures pulled { pending result ≡ pulled_raw (definitions_of macros.now) (is_definition (tokens_left text.entry)) (tokens_left text.entry) }
+        ensures known { known result ≡ definitions_of macros.now }
         ensures defining { result.defining ≡ is_definition (tokens_left text.entry) }
     {
         let mut stream = Stream {
@@ -56,7 +58,7 @@ where
         ensures { text_tokens (placed_of token.entry) (option_copied result) ≡ replaced (known self.now) self.now.defining (placed_of token.entry) }
     {
         match token.lexeme {
-            Lexeme::Macro(name) if !self.defining => text_of(self.macros, name),
+            Lexeme::Macro(name) if !self.defining => self.macros.text_of(name),
             _ => None,
         }
     }
@@ -70,6 +72,9 @@ where
         ensures text { self.new.text ≡ self.old.text }
         ensures stays { Stays self.old self.new }
     {
+        if self.inside.is_empty() {
+            return false;
+        }
         match self.inside.next_token() {
             None => false,
             Some(token) => {
@@ -120,15 +125,20 @@ where
         }
     }
 
-    /// Goes past newlines where braces of a list are open.
-    pub(crate) fn pass_newlines(&mut self, braces: u8)
+    /// Goes past newlines where braces of a list are open, so many braces being open in all.
+    pub(crate) fn pass_newlines(&mut self, braces: u8, depth: u8, passed: Passed) -> Passed
+        requires { braces ≤ depth }
         ensures blanks { Blanks braces (known self.old) self.old.defining (pending self.old) (pending self.new) }
         ensures passed { 0 < braces → at_newline self.new.next ≡ false }
+        ensures fault { carried (known self.old) result depth (statement_tokens (known self.old) self.old.defining depth (pending self.new)) ≡ carried (known self.old) passed depth (statement_tokens (known self.old) self.old.defining depth (pending self.old)) }
         ensures stays { Stays self.old self.new }
     {
+        let mut passed = passed;
         while braces > 0 && self.at_newline() {
+            passed = passed.with(self.macros, depth, Lexeme::Newline);
             self.advance();
         }
+        passed
     }
 
     /// Whether a newline is at hand.

@@ -1,10 +1,16 @@
 ghost use Rattle.pf_tokens.specs.Answers.{negated_at, negated_shorter};
 
 use super::*;
+use pf_words::Profile;
 use std::alloc::Global;
 use std::test::Fail;
 
-impl Element for bool {
+/// Yes or no, which may be negated.
+struct Answer;
+
+impl Element for Answer {
+    type Value = bool;
+
     ghost read = { λ profile. negated_at };
 
     #[tactic(auto, unfolding(crate::specs::Productions::option_at, crate::specs::Answers::answer_at, crate::specs::Answers::negated_at))]
@@ -95,7 +101,7 @@ fn push_statement<'t: 's, 's>(
                 push_tokens(out, parser)?;
                 return Ok(None);
             }
-            match definition(alloc, &mut parser, false) {
+            match definition(alloc, Profile::One, &mut parser) {
                 Ok(made) => return Ok(Some(made)),
                 Err(DefinitionFault::Macro) => out.extend_from_slice(b" 11")?,
                 Err(DefinitionFault::Syntax) => out.extend_from_slice(b" 12")?,
@@ -109,21 +115,21 @@ fn push_statement<'t: 's, 's>(
 /// The statements of a text, each with its line and a semicolon.
 fn statements(alloc: Global, text: &[u8]) -> Result<Vec<u8>, Fail> {
     let mut out = Vec::new(alloc);
-    let mut macros = Vec::new(alloc);
+    let mut macros = Macros::new(alloc);
     let text = Text::new(alloc, text)?;
     let mut lexer = text.lexer();
     for _ in 0..100 {
         let Some(line) = lexer.next_statement() else {
             break;
         };
-        let parser = Parser::begin(lexer, macros.as_slice());
+        let parser = Parser::begin(lexer, &macros);
         lexer = parser.finish();
         if parser.at_end() {
             continue;
         }
         out.push(b'0' + (line % 10) as u8)?;
         if let Some(made) = push_statement(alloc, &mut out, parser)? {
-            macros.push(made)?;
+            macros.push(alloc, made)?;
         }
         out.push(b';')?;
     }
@@ -225,10 +231,16 @@ fn macros_are_replaced(rt: HostRuntime) -> Result<(), Fail> {
 
 #[test]
 fn a_reserved_name_defines_no_macro(rt: HostRuntime) -> Result<(), Fail> {
-    for (reserved, want) in [(true, Err(DefinitionFault::Macro)), (false, Ok(()))] {
-        let text = Text::new(rt.alloc(), b"pass = in")?;
-        let mut parser = Parser::begin(text.lexer(), &[]);
-        let found = match definition(rt.alloc(), &mut parser, reserved) {
+    for (profile, text, want) in [
+        (Profile::One, "passed = in", Ok(())),
+        (Profile::Two, "passed = in", Ok(())),
+        (Profile::One, "pass = in", Err(DefinitionFault::Macro)),
+        (Profile::Two, "pass = in", Err(DefinitionFault::Macro)),
+    ] {
+        let text = Text::new(rt.alloc(), text.as_bytes())?;
+        let macros = Macros::new(rt.alloc());
+        let mut parser = Parser::begin(text.lexer(), &macros);
+        let found = match definition(rt.alloc(), profile, &mut parser) {
             Ok(_) => Ok(()),
             Err(fault) => Err(fault),
         };
@@ -266,7 +278,8 @@ fn limits_while_reading(rt: HostRuntime) -> Result<(), Fail> {
     ] {
         let given = repeated(rt.alloc(), b"", part.as_bytes(), count, b"")?;
         let text = Text::new(rt.alloc(), &given)?;
-        let parser = Parser::begin(text.lexer(), &[]);
+        let macros = Macros::new(rt.alloc());
+        let parser = Parser::begin(text.lexer(), &macros);
         assert!(rt; parser.fault() == fault, "{part} {count}");
     }
     Ok(())
@@ -311,30 +324,33 @@ fn lists_in_lists(rt: HostRuntime) -> Result<(), Fail> {
         ("maybe", None),
     ] {
         let text = Text::new(rt.alloc(), text.as_bytes())?;
-        let mut parser = Parser::begin(text.lexer(), &[]);
-        let found = match some::<bool>(rt.alloc(), Profile::Two, &mut parser) {
+        let macros = Macros::new(rt.alloc());
+        let mut parser = Parser::begin(text.lexer(), &macros);
+        let found = match some::<Answer>(rt.alloc(), Profile::Two, &mut parser) {
             Ok(listed) => Some((listed.items.len(), listed.deepest)),
             Err(_) => None,
         };
         assert!(rt; found == want);
     }
     let text = Text::new(rt.alloc(), b"{ yes\nno } \n yes")?;
-    let mut parser = Parser::begin(text.lexer(), &[]);
-    let listed = list::<bool>(rt.alloc(), Profile::Two, &mut parser)
+    let macros = Macros::new(rt.alloc());
+    let mut parser = Parser::begin(text.lexer(), &macros);
+    let listed = list::<Answer>(rt.alloc(), Profile::Two, &mut parser)
         .ok()
         .ok_or("a list")?;
     assert!(rt; listed.items.as_slice() == [true, false].as_slice());
     assert!(rt; parser.at_end());
     let mut lexer = parser.finish();
     assert!(rt; lexer.next_statement() == Some(3));
-    lists_as_spelled::<bool>();
+    lists_as_spelled::<Answer>();
     Ok(())
 }
 
 #[test]
 fn tokens_are_taken_one_by_one(rt: HostRuntime) -> Result<(), Fail> {
     let text = Text::new(rt.alloc(), b"set { lo0\n } \"a b\" != em0 em1\npass")?;
-    let mut parser = Parser::begin(text.lexer(), &[]);
+    let macros = Macros::new(rt.alloc());
+    let mut parser = Parser::begin(text.lexer(), &macros);
     assert!(rt; parser.begins(b"set"));
     assert!(rt; parser.accept(b"set"));
     assert!(rt; !parser.accept(b"set"));

@@ -30,6 +30,9 @@ fn continues(b: u8, others: &[u8]) -> bool
 fn is_continued(text: &[u8]) -> bool
     ensures { result ≡ is_continued text.now }
 {
+    if !text.contains(&b'\\') {
+        return false;
+    }
     let mut rest = text;
     while let Some((first, others)) = rest.split_first() {
         if continues(*first, others) {

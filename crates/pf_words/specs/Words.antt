@@ -3,8 +3,8 @@ use Rattle.std.specs.Prelude.{ℕ, ◌+◌, ◌*◌, ◌-◌, ◌&&◌, ◌||◌
 use Rattle.std.specs.List.{list_all, list_any}
 use Rattle.std.specs.Char.{is_ascii_digit, is_ascii_alphabetic, is_ascii_alphanumeric}
 use Rattle.pf_words.specs.declared.flags.TcpFlags.{TcpFlags}
-use Rattle.pf_tokens.specs.declared.profile.Profile.{Profile}
-use Rattle.pf_tokens.specs.declared.profile.Profile.TheVariants.{One, Two}
+use Rattle.pf_words.specs.declared.profile.Profile.{Profile}
+use Rattle.pf_words.specs.declared.profile.Profile.TheVariants.{One, Two}
 
 -- ---- numbers
 
@@ -111,18 +111,39 @@ unfoldable pub is_reserved : Profile → List ℕ → Bool
 is_reserved One text = is_among common_reserved text
 is_reserved Two text = is_among common_reserved text || bytes_eq text (codes "icmp-type")
 
+-- letters, digits, and _ -
+abbrev pub is_table_byte : ℕ → Bool
+is_table_byte b = is_ascii_alphanumeric b || (b == 95 || b == 45)
+
 -- letters, digits, and _ - .
-abbrev pub is_interface_byte : ℕ → Bool
-is_interface_byte b = is_ascii_alphanumeric b || (b == 95 || (b == 45 || b == 46))
+abbrev pub is_anchor_byte : ℕ → Bool
+is_anchor_byte b = is_table_byte b || b == 46
 
 abbrev pub begins_with_letter : List ℕ → Bool
 begins_with_letter [] = false
 begins_with_letter (b ∷ bytes) = is_ascii_alphabetic b
 
--- IFNAME: a letter, and up to 14 letters, digits, _ - .; not a reserved word
+-- a letter, and up to 14 letters, digits, _ - .
+unfoldable pub is_interface_text : List ℕ → Bool
+is_interface_text text = begins_with_letter text && nat_le (length text) 15 && list_all is_anchor_byte text
+
+-- IFNAME: of that form, and not a reserved word
 unfoldable pub is_interface_name : Profile → List ℕ → Bool
-is_interface_name profile text =
-    begins_with_letter text && nat_le (length text) 15 && list_all is_interface_byte text && not (is_reserved profile text)
+is_interface_name profile text = is_interface_text text && not (is_reserved profile text)
+
+-- 1 to 31 letters, digits, _ -
+unfoldable pub is_table_text : List ℕ → Bool
+is_table_text text = nat_lt 0 (length text) && nat_le (length text) 31 && list_all is_table_byte text
+
+-- TNAME: of that form, and not a reserved word
+unfoldable pub is_table_name : Profile → List ℕ → Bool
+is_table_name profile text = is_table_text text && not (is_reserved profile text)
+
+-- a name of an anchor's path: 1 to 63 letters, digits, _ - . but not . and ..
+unfoldable pub is_anchor_text : List ℕ → Bool
+is_anchor_text text =
+    nat_lt 0 (length text) && nat_le (length text) 63 && list_all is_anchor_byte text
+    && not (bytes_eq text (codes ".")) && not (bytes_eq text (codes ".."))
 
 -- no flag is set
 abbrev pub no_flags : TcpFlags

@@ -4,15 +4,20 @@
 //!
 //! - [`parse_protocol`], [`parse_port`], [`parse_icmp_type`] and [`parse_decimal`] read numbers, or names that stand for them.
 //! - [`parse_flags`] reads the letters of [`TcpFlags`].
-//! - [`is_reserved`] and [`is_interface_name`] tell the words of the grammar from names.
+//! - [`is_reserved`] tells the words of the grammar from names; [`is_interface_name`], [`is_table_name`] and
+//!   [`is_anchor_text`] say what forms names have.
 #![tactic(auto)]
 
 mod flags;
+mod names;
+mod profile;
 mod words;
 
 pub use flags::TcpFlags;
-pub use pf_tokens::Profile;
+pub use names::{
+    is_anchor_text, is_interface_name, is_interface_text, is_table_name, is_table_text,
+};
+pub use profile::Profile;
 pub use words::{
-    is_interface_name, is_reserved, parse_decimal, parse_flags, parse_icmp_type, parse_port,
-    parse_protocol,
+    is_reserved, parse_decimal, parse_flags, parse_icmp_type, parse_port, parse_protocol,
 };

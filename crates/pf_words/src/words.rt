@@ -3,10 +3,10 @@
 ghost use Rattle.std.specs.Prelude.{◌≡◌, ◌≤◌, codes, length, map, true, IfSome};
 ghost use Rattle.std.specs.List.{list_all};
 ghost use Rattle.std.specs.Char.{is_ascii_digit};
-ghost use Rattle.pf_words.specs.Words.{number_of, decimal_value, named, protocol_of, port_of, icmp_type_of, is_letter, are_letters, flags_of, is_among, is_reserved, is_interface_byte, begins_with_letter, is_interface_name};
+ghost use Rattle.pf_words.specs.Words.{number_of, decimal_value, named, protocol_of, port_of, icmp_type_of, is_letter, are_letters, flags_of, is_among, is_reserved};
 
 use crate::flags::TcpFlags;
-use pf_tokens::Profile;
+use crate::profile::Profile;
 
 /// Protocols that have a name (protocols(5)).
 const PROTOCOLS: [(&str, u8); 11] = [
@@ -243,40 +243,4 @@ pub fn is_reserved(profile: Profile, text: &[u8]) -> bool
         Profile::One => is_among(&RESERVED, text),
         Profile::Two => is_among(&RESERVED, text) || text == b"icmp-type".as_slice(),
     }
-}
-
-/// Whether the byte may stand in the name of an interface.
-fn is_interface_byte(b: u8) -> bool
-    ensures { result ≡ is_interface_byte b }
-{
-    b.is_ascii_alphanumeric() || b == b'_' || b == b'-' || b == b'.'
-}
-
-/// Whether each byte may stand in the name of an interface.
-fn are_interface_bytes(text: &[u8]) -> bool
-    ensures { result ≡ list_all is_interface_byte text.now }
-{
-    text.iter().all(|b| is_interface_byte(*b))
-}
-
-/// Whether a letter stands at the front.
-fn begins_with_letter(text: &[u8]) -> bool
-    ensures { result ≡ begins_with_letter text.now }
-{
-    match text {
-        [first, ..] => first.is_ascii_alphabetic(),
-        [] => false,
-    }
-}
-
-/// Whether the text may name an interface: a letter and up to 14 letters, digits, `_`, `-` and `.`, and no
-/// reserved word.
-#[tactic(auto, unfolding(crate::specs::Words::is_interface_name))]
-pub fn is_interface_name(profile: Profile, text: &[u8]) -> bool
-    ensures { result ≡ is_interface_name profile text.now }
-{
-    begins_with_letter(text)
-        && text.len() <= 15
-        && are_interface_bytes(text)
-        && !is_reserved(profile, text)
 }

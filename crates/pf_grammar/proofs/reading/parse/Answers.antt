@@ -2,7 +2,7 @@ use Rattle.std.proofs.Common.{◌≡◌, ◌∙◌, List, length, arith, drop, O
 use Rattle.std.proofs.lemmas.Result.{err_from_is_err_and}
 use Rattle.pf_tokens.specs.Tokens.{Placed, tokens}
 use Rattle.pf_tokens.specs.Left.{tokens_left}
-use Rattle.pf_tokens.specs.Parsing.{tokens_of, placed_left, later, is_defining}
+use Rattle.pf_tokens.specs.Parsing.{tokens_of, placed_left, Later, later, is_defining}
 use Rattle.pf_tokens.specs.Productions.{is_end}
 use Rattle.pf_tokens.proofs.Walking.{reading_ends}
 use Rattle.pf_grammar.specs.declared.fault.Refusal.{Refusal}
@@ -31,8 +31,8 @@ statements-smaller-then-at_end c =
       is_past = c.next_statement.ensures.left;
       is_line = c.in-Some.ensures.line;
       is_defines = c.begin-parser.ensures.defining;
-      is_statement = rw c.as_slice.ensures.value at c.begin-parser.ensures.placed;
-      is_rest = c.finish-lexer.ensures ∙ ap (λ (us : List Placed). drop 1 us) (rw c.as_slice.ensures.value at c.begin-parser.ensures.later);
+      is_statement = c.begin-parser.ensures.placed;
+      is_rest = c.finish-lexer.ensures ∙ ap (λ (us : List Placed). drop 1 us) c.begin-parser.ensures.later;
     } in
     rest_shorter sofar c.in-Some.line (tokens_left c.statements.lexer) (tokens_left c.next_statement.new.self) (is_defining c.begin-parser.result) statement rest begun
 
@@ -45,8 +45,8 @@ statements-preserved-then-at_end c =
       is_past = c.next_statement.ensures.left;
       is_line = c.in-Some.ensures.line;
       is_defines = c.begin-parser.ensures.defining;
-      is_statement = rw c.as_slice.ensures.value at c.begin-parser.ensures.placed;
-      is_rest = c.finish-lexer.ensures ∙ ap (λ (us : List Placed). drop 1 us) (rw c.as_slice.ensures.value at c.begin-parser.ensures.later);
+      is_statement = c.begin-parser.ensures.placed;
+      is_rest = c.finish-lexer.ensures ∙ ap (λ (us : List Placed). drop 1 us) c.begin-parser.ensures.later;
     } in
     let ended : is_end (tokens_of statement) ≡ true = ap is_end (sym c.begin-parser.ensures.left) ∙ sym c.at_end.ensures ∙ c.if-at_end.true in
     record {
@@ -63,8 +63,8 @@ statements-smaller c =
       is_past = c.next_statement.ensures.left;
       is_line = c.in-Some.ensures.line;
       is_defines = c.begin-parser.ensures.defining;
-      is_statement = rw c.as_slice.ensures.value at c.begin-parser.ensures.placed;
-      is_rest = c.finish-lexer-in-Some.ensures ∙ ap (λ (us : List Placed). drop 1 us) (c.in_ok-change.ensures.later ∙ (rw c.as_slice.ensures.value at c.begin-parser.ensures.later));
+      is_statement = c.begin-parser.ensures.placed;
+      is_rest = c.finish-lexer-in-Some.ensures ∙ ap (λ (us : List Placed). drop 1 us) (ap (λ (l : Later). l.behind) c.in_ok-change.ensures.later ∙ c.begin-parser.ensures.later);
     } in
     rest_shorter sofar c.in-Some.line (tokens_left c.statements.lexer) (tokens_left c.next_statement.new.self) (is_defining c.begin-parser.result) statement rest begun
 
@@ -78,8 +78,8 @@ statements-preserved c =
       is_past = c.next_statement.ensures.left;
       is_line = c.in-Some.ensures.line;
       is_defines = c.begin-parser.ensures.defining;
-      is_statement = rw c.as_slice.ensures.value at c.begin-parser.ensures.placed;
-      is_rest = c.finish-lexer-in-Some.ensures ∙ ap (λ (us : List Placed). drop 1 us) (c.in_ok-change.ensures.later ∙ (rw c.as_slice.ensures.value at c.begin-parser.ensures.later));
+      is_statement = c.begin-parser.ensures.placed;
+      is_rest = c.finish-lexer-in-Some.ensures ∙ ap (λ (us : List Placed). drop 1 us) (ap (λ (l : Later). l.behind) c.in_ok-change.ensures.later ∙ c.begin-parser.ensures.later);
     } in
     let more : is_end (tokens_of statement) ≡ false = ap is_end (sym c.begin-parser.ensures.left) ∙ sym c.at_end.ensures ∙ c.if-at_end.false in
     let next = sofar_of c.add.new.self in
@@ -93,13 +93,13 @@ pub returns-in_err-change : goal.returns-in_err-change
 returns-in_err-change c =
     let sofar = sofar_of c.statements.gathered in
     let statement = placed_left c.begin-parser.result in
-    let rest = drop 1 (later c.begin-parser.result) in
+    let rest = drop 1 (later c.begin-parser.result).behind in
     let begun : Begun sofar c.in-Some.line (tokens_left c.statements.lexer) (tokens_left c.next_statement.new.self) (is_defining c.begin-parser.result) statement rest = record {
       is_past = c.next_statement.ensures.left;
       is_line = c.in-Some.ensures.line;
       is_defines = c.begin-parser.ensures.defining;
-      is_statement = rw c.as_slice.ensures.value at c.begin-parser.ensures.placed;
-      is_rest = ap (λ (us : List Placed). drop 1 us) (rw c.as_slice.ensures.value at c.begin-parser.ensures.later);
+      is_statement = c.begin-parser.ensures.placed;
+      is_rest = ap (λ (us : List Placed). drop 1 us) c.begin-parser.ensures.later;
     } in
     let more : is_end (tokens_of statement) ≡ false = ap is_end (sym c.begin-parser.ensures.left) ∙ sym c.at_end.ensures ∙ c.if-at_end.false in
     let passed = err_from_is_err_and c.from_residual-in_err-change.result c.from_residual-in_err-change.ensures.1 in
@@ -107,4 +107,4 @@ returns-in_err-change c =
 
 pub returns : goal.returns
 unfolding reading
-returns c = rw c.new-2.ensures.items (ap made_if (sym c.statements.invariant.same ∙ reading_ends macros_of (judge c.args.place c.args.profile) (sofar_of c.statements.gathered) (tokens_left c.statements.lexer) (sym c.in_default.ensures.line)))
+returns c = ap made_if (sym c.statements.invariant.same ∙ reading_ends macros_of (judge c.args.place c.args.profile) (sofar_of c.statements.gathered) (tokens_left c.statements.lexer) (sym c.in_default.ensures.line))

@@ -1,13 +1,13 @@
 use Rattle.std.proofs.Common.{◌≡◌, suc, length}
 use Rattle.pf_tokens.specs.Parsing.{left, later}
-use Rattle.pf_statements.specs.Statements.{no_options, options_at}
+use Rattle.pf_statements.specs.Statements.{no_options, option_with, options_at}
 use Rattle.pf_statements.specs.Seen.{options_of}
-use Rattle.pf_statements.proofs.OptionSteps.{Going}
+use Rattle.pf_statements.proofs.Steps.{Going}
 use Rattle.pf_statements.proofs.options.read_options.Given as goal
 
 abbrev pub invariant-options : goal.invariant-options
 invariant-options l = record {
-  going : Going l.fn.profile (options_at (suc (length (left l.fn.parser))) l.fn.profile no_options (left l.fn.parser)) (options_of l.options) (left l.parser);
+  going : Going (option_with l.fn.profile) (options_at (suc (length (left l.fn.parser))) l.fn.profile no_options (left l.fn.parser)) (options_of l.options) (left l.parser);
   later : later l.parser ≡ later l.fn.parser;
 }
 

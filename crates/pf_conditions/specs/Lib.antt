@@ -1,0 +1,4 @@
+pub mod Conditions
+pub mod Seen
+pub mod Shorter
+pub mod Grammar

@@ -1,0 +1,28 @@
+//! What rules say of packets, as it is written (pf.conf(5), GRAMMAR).
+//!
+//! # Organization
+//!
+//! - [`WrittenConditions`]: what a rule or an anchor rule says of packets, with [`Common`], [`End`], [`Protocol`],
+//!   [`WrittenPort`] and [`WrittenType`].
+//! - [`read_common`], [`read_flags`] and [`read_types`] read its parts at a parser of `pf_tokens`; [`read_prefix`] and
+//!   [`read_table`], prefixes and names of tables.
+//! - [`InterfaceNameProduction`], the name of an interface, which may stand in a list.
+#![tactic(auto)]
+
+mod behind;
+mod common;
+mod ends;
+mod flags;
+mod hosts;
+mod interfaces;
+mod ports;
+mod protocols;
+mod types;
+mod written;
+
+pub use common::read_common;
+pub use flags::read_flags;
+pub use hosts::{read_prefix, read_table};
+pub use interfaces::InterfaceNameProduction;
+pub use types::read_types;
+pub use written::{Common, End, Protocol, WrittenConditions, WrittenPort, WrittenType};

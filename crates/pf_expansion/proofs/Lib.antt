@@ -1,0 +1,4 @@
+mod Counting
+mod Families
+mod Keeping
+mod Products

@@ -1,0 +1,4 @@
+pub mod Expansion
+pub mod Chosen
+pub mod Causes
+pub mod Tables

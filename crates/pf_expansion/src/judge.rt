@@ -1,0 +1,249 @@
+//! Why a written rule is refused, the lowest cause first.
+
+ghost use Rattle.std.specs.Prelude.{◌≡◌, ◌≤◌, ◌+◌, ◌*◌, ◌-◌, ◌^◌, length, min, IfOk, IfErr, None, Some};
+ghost use Rattle.std.specs.List.{list_any, list_all};
+ghost use Rattle.pf_expansion.specs.Causes.{is_bad_port, has_ports, is_bad_type, is_icmp, any_listed, all_listed, is_deep, is_deep_list, says_ports, bad_ports, is_too_wide, has_deep_list, bad_types, lowest, condition_causes};
+ghost use Rattle.pf_expansion.specs.Expansion.{count_of, combinations, combined};
+ghost use Rattle.pf_conditions.specs.Seen.{list_of, conditions_of};
+ghost use Rattle.pf_tokens.specs.Lists.{elements_of};
+
+use crate::cause::Cause;
+use crate::expand::combined;
+use pf_conditions::{Protocol, WrittenConditions, WrittenPort, WrittenType};
+use pf_ruleset::{Conditions, FlagTest};
+use pf_tokens::Listed;
+use std::alloc::{AllocError, Global};
+
+/// The most combinations that the lists of one rule may have, before families are compared.
+const MOST_COMBINATIONS: usize = 65_536;
+
+/// The most lists that may stand in one another.
+const MOST_NESTED: u64 = 8;
+
+/// The most rules that a text may come to.
+const MOST_RULES: usize = 1_024;
+
+/// The number of tcp.
+const TCP: u8 = 6;
+
+/// The number of udp.
+const UDP: u8 = 17;
+
+/// The number of icmp.
+const ICMP: u8 = 1;
+
+/// Whether the port is neither number nor name.
+fn is_bad_port(port: &WrittenPort) -> bool
+    ensures { result ≡ is_bad_port port.now }
+{
+    port.test.is_none()
+}
+
+/// Whether one of the ports is neither number nor name.
+fn any_bad_port(ports: &[WrittenPort]) -> bool
+    ensures { result ≡ list_any is_bad_port ports.now }
+{
+    ports.iter().any(|port| is_bad_port(port))
+}
+
+/// Whether a port in the list is neither number nor name.
+fn has_bad_port(ports: &Option<Listed<WrittenPort>>) -> bool
+    ensures { result ≡ any_listed is_bad_port (list_of ports.now) }
+{
+    match ports {
+        Some(list) => any_bad_port(&list.items),
+        None => false,
+    }
+}
+
+/// Whether the protocol has ports.
+fn has_ports(protocol: &Protocol) -> bool
+    ensures { result ≡ has_ports protocol.now }
+{
+    protocol.number == TCP || protocol.number == UDP
+}
+
+/// Whether each of the protocols has ports.
+fn each_has_ports(protocols: &[Protocol]) -> bool
+    ensures { result ≡ list_all has_ports protocols.now }
+{
+    protocols.iter().all(|protocol| has_ports(protocol))
+}
+
+/// Whether there is a list of protocols, and all have ports.
+fn all_have_ports(protocols: &Option<Listed<Protocol>>) -> bool
+    ensures { result ≡ all_listed has_ports (list_of protocols.now) }
+{
+    match protocols {
+        Some(list) => each_has_ports(&list.items),
+        None => false,
+    }
+}
+
+/// Whether ports are written at either end.
+fn says_ports(text: &WrittenConditions) -> bool
+    ensures { result ≡ says_ports (conditions_of text.now) }
+{
+    text.common.source.ports.is_some() || text.common.destination.ports.is_some()
+}
+
+/// Whether a port is neither number nor name, or the protocols don't all have ports.
+#[tactic(auto, unfolding(crate::specs::Causes::bad_ports))]
+fn bad_ports(text: &WrittenConditions) -> bool
+    ensures { result ≡ bad_ports (conditions_of text.now) }
+{
+    has_bad_port(&text.common.source.ports)
+        || has_bad_port(&text.common.destination.ports)
+        || (says_ports(text) && !all_have_ports(&text.common.protocols))
+}
+
+/// How many elements are to be combined: one where there is no list.
+fn count_of<E: Drop>(list: &Option<Listed<E>>) -> usize
+    ensures { result ≡ count_of (list_of list.now) }
+{
+    match list {
+        Some(list) => list.items.len(),
+        None => 1,
+    }
+}
+
+/// How many combinations there are, the greatest number of the type where they are more.
+#[tactic(auto, using(crate::proofs::Products::capped), unfolding(crate::specs::Expansion::combinations))]
+fn combinations(text: &WrittenConditions) -> usize
+    ensures { result ≡ min (combinations (conditions_of text.now)) (2 ^ 64 - 1) }
+{
+    count_of(&text.common.interfaces)
+        .saturating_mul(count_of(&text.common.protocols))
+        .saturating_mul(text.common.source.hosts.items.len())
+        .saturating_mul(count_of(&text.common.source.ports))
+        .saturating_mul(text.common.destination.hosts.items.len())
+        .saturating_mul(count_of(&text.common.destination.ports))
+        .saturating_mul(count_of(&text.types))
+}
+
+/// Whether the lists have more combinations than there may be.
+#[tactic(auto, using(crate::proofs::Products::below_cap), unfolding(crate::specs::Causes::is_too_wide))]
+fn is_too_wide(text: &WrittenConditions) -> bool
+    ensures { result ≡ is_too_wide (conditions_of text.now) }
+{
+    combinations(text) > MOST_COMBINATIONS
+}
+
+/// Whether too many lists stand in one another.
+pub fn is_deep<E: Drop>(list: &Listed<E>) -> bool
+    ensures { result ≡ is_deep (elements_of list.now) }
+{
+    list.deepest > MOST_NESTED
+}
+
+/// Whether there is a list in which too many stand in one another.
+fn is_deep_list<E: Drop>(list: &Option<Listed<E>>) -> bool
+    ensures { result ≡ is_deep_list (list_of list.now) }
+{
+    match list {
+        Some(list) => is_deep(list),
+        None => false,
+    }
+}
+
+/// Whether too many lists stand in one another anywhere in the rule.
+#[tactic(auto, unfolding(crate::specs::Causes::has_deep_list))]
+fn has_deep_list(text: &WrittenConditions) -> bool
+    ensures { result ≡ has_deep_list (conditions_of text.now) }
+{
+    is_deep_list(&text.common.interfaces)
+        || is_deep_list(&text.common.protocols)
+        || is_deep(&text.common.source.hosts)
+        || is_deep_list(&text.common.source.ports)
+        || is_deep(&text.common.destination.hosts)
+        || is_deep_list(&text.common.destination.ports)
+        || is_deep_list(&text.types)
+}
+
+/// Whether the type is neither number nor name.
+fn is_bad_type(icmp_type: &WrittenType) -> bool
+    ensures { result ≡ is_bad_type icmp_type.now }
+{
+    icmp_type.number.is_none()
+}
+
+/// Whether one of the types is neither number nor name.
+fn any_bad_type(types: &[WrittenType]) -> bool
+    ensures { result ≡ list_any is_bad_type types.now }
+{
+    types.iter().any(|icmp_type| is_bad_type(icmp_type))
+}
+
+/// Whether a type in the list is neither number nor name.
+fn has_bad_type(types: &Option<Listed<WrittenType>>) -> bool
+    ensures { result ≡ any_listed is_bad_type (list_of types.now) }
+{
+    match types {
+        Some(list) => any_bad_type(&list.items),
+        None => false,
+    }
+}
+
+/// Whether the protocol is icmp.
+fn is_icmp(protocol: &Protocol) -> bool
+    ensures { result ≡ is_icmp protocol.now }
+{
+    protocol.number == ICMP
+}
+
+/// Whether each of the protocols is icmp.
+fn each_is_icmp(protocols: &[Protocol]) -> bool
+    ensures { result ≡ list_all is_icmp protocols.now }
+{
+    protocols.iter().all(|protocol| is_icmp(protocol))
+}
+
+/// Whether there is a list of protocols, and all are icmp.
+fn all_are_icmp(protocols: &Option<Listed<Protocol>>) -> bool
+    ensures { result ≡ all_listed is_icmp (list_of protocols.now) }
+{
+    match protocols {
+        Some(list) => each_is_icmp(&list.items),
+        None => false,
+    }
+}
+
+/// Whether a type is neither number nor name, or the protocols aren't all icmp.
+#[tactic(auto, unfolding(crate::specs::Causes::bad_types))]
+fn bad_types(text: &WrittenConditions) -> bool
+    ensures { result ≡ bad_types (conditions_of text.now) }
+{
+    has_bad_type(&text.types) || (text.types.is_some() && !all_are_icmp(&text.common.protocols))
+}
+
+/// The conditions of all combinations behind so many rules, or the lowest cause that refuses them.
+#[tactic(auto, unfolding(crate::specs::Causes::has_no_combination, crate::specs::Causes::has_too_many))]
+pub(crate) fn judge_conditions(
+    alloc: Global,
+    test: FlagTest,
+    before: usize,
+    text: &WrittenConditions,
+) -> Result<Result<Vec<Conditions>, Cause>, AllocError>
+    ensures allowed { IfOk result (λ judged. IfOk judged (λ found. lowest (condition_causes test before (conditions_of text.now)) ≡ None)) }
+    ensures found { IfOk result (λ judged. IfOk judged (λ found. found.items ≡ combined test (conditions_of text.now))) }
+    ensures few { IfOk result (λ judged. IfOk judged (λ found. before + length found.items ≤ 1024)) }
+    ensures refused { IfOk result (λ judged. IfErr judged (λ cause. lowest (condition_causes test before (conditions_of text.now)) ≡ Some cause)) }
+{
+    if bad_ports(text) {
+        return Ok(Err(Cause::Ports));
+    }
+    if is_too_wide(text) {
+        return Ok(Err(Cause::TooMany));
+    }
+    let found = combined(alloc, test, text)?;
+    if found.is_empty() {
+        return Ok(Err(Cause::NoCombination));
+    }
+    if has_deep_list(text) || before.saturating_add(found.len()) > MOST_RULES {
+        return Ok(Err(Cause::TooMany));
+    }
+    if bad_types(text) {
+        return Ok(Err(Cause::IcmpType));
+    }
+    Ok(Ok(found))
+}

@@ -1,0 +1,19 @@
+//! What written rules come to (pf.conf(5), lists), and why one is refused.
+//!
+//! # Organization
+//!
+//! - [`judge_rule`]: one [`Rule`](pf_ruleset::Rule) for each combination of what a rule lists, or the lowest [`Cause`] that refuses it.
+//! - [`judge_table`]: the table that a table statement defines, or the lowest cause that refuses it.
+//! - [`is_deep`]: whether too many lists stand in one another.
+#![tactic(auto)]
+
+mod cause;
+mod expand;
+mod judge;
+mod rules;
+mod tables;
+
+pub use cause::Cause;
+pub use judge::is_deep;
+pub use rules::judge_rule;
+pub use tables::judge_table;

@@ -1,0 +1,127 @@
+//! Rules of their conditions.
+
+ghost use Rattle.std.specs.Prelude.{◌≡◌, map, IfOk, IfErr, ◌+◌, ◌≤◌, length, None, Some};
+ghost use Rattle.pf_expansion.specs.Causes.{lowest, rule_causes};
+ghost use Rattle.pf_expansion.specs.Expansion.{resolved, keeps_state, tested_flags, rule_flags, rule_with, expanded};
+ghost use Rattle.pf_statements.specs.Seen.{text_of};
+
+use crate::cause::Cause;
+use crate::judge::judge_conditions;
+use pf_ruleset::{Action, Conditions, FlagTest, Policy, Rule};
+use pf_statements::{WrittenAction, WrittenRule};
+use pf_words::TcpFlags;
+use std::alloc::{AllocError, Global};
+
+/// The flags of the packet that begins a connection: of SYN and ACK just SYN.
+const SYN_OF_SYN_ACK: FlagTest = FlagTest::Just {
+    set: TcpFlags {
+        fin: false,
+        syn: true,
+        rst: false,
+        psh: false,
+        ack: false,
+        urg: false,
+        ece: false,
+        cwr: false,
+    },
+    of: TcpFlags {
+        fin: false,
+        syn: true,
+        rst: false,
+        psh: false,
+        ack: true,
+        urg: false,
+        ece: false,
+        cwr: false,
+    },
+};
+
+/// What the rule does: a plain `block` follows the policy.
+fn resolved(policy: Policy, action: WrittenAction) -> Action
+    ensures { result ≡ resolved policy action }
+{
+    match (policy, action) {
+        (_, WrittenAction::Pass) => Action::Pass,
+        (Policy::Drop, WrittenAction::Block(None)) => Action::Drop,
+        (Policy::Return, WrittenAction::Block(None)) => Action::Return,
+        (_, WrittenAction::Block(Some(Policy::Drop))) => Action::Drop,
+        (_, WrittenAction::Block(Some(Policy::Return))) => Action::Return,
+    }
+}
+
+/// Whether a state would be kept.
+fn keeps_state(action: WrittenAction, state: Option<bool>) -> bool
+    ensures { result ≡ keeps_state action state }
+{
+    match (action, state) {
+        (WrittenAction::Block(_), _) => false,
+        (WrittenAction::Pass, None) => true,
+        (WrittenAction::Pass, Some(keep)) => keep,
+    }
+}
+
+/// The flags that are asked for.
+fn tested_flags(keep: bool, written: Option<FlagTest>) -> FlagTest
+    ensures { result ≡ tested_flags keep written }
+{
+    match written {
+        Some(test) => test,
+        None if keep => SYN_OF_SYN_ACK,
+        None => FlagTest::Any,
+    }
+}
+
+/// What is asked of the flags in a rule.
+fn rule_flags(text: &WrittenRule) -> FlagTest
+    ensures { result ≡ rule_flags (text_of text.now) }
+{
+    tested_flags(keeps_state(text.action, text.state), text.conditions.flags)
+}
+
+/// The rule with these conditions.
+fn rule_with(policy: Policy, text: &WrittenRule, conditions: Conditions) -> Rule
+    ensures { result ≡ rule_with policy (text_of text.now) conditions }
+{
+    Rule {
+        action: resolved(policy, text.action),
+        quick: text.quick,
+        conditions,
+        keeps_state: keeps_state(text.action, text.state),
+    }
+}
+
+/// The rules with these conditions.
+fn rules_with(
+    alloc: Global,
+    policy: Policy,
+    text: &WrittenRule,
+    found: Vec<Conditions>,
+) -> Result<Vec<Rule>, AllocError>
+    ensures { IfOk result (λ rules. rules.items ≡ map (rule_with policy (text_of text.now)) found.items) }
+{
+    let mut rules = Vec::new(alloc);
+    for conditions in found {
+        rules.push(rule_with(policy, text, conditions))?;
+    }
+    Ok(rules)
+}
+
+/// The rules of a written rule behind so many others, one for each combination of what it lists (pf.conf(5), lists), or
+/// the lowest cause that refuses it. A growth that is refused is the error.
+#[tactic(auto, unfolding(crate::specs::Expansion::expanded), using(crate::proofs::Counting::as_many))]
+pub fn judge_rule(
+    alloc: Global,
+    policy: Policy,
+    before: usize,
+    text: &WrittenRule,
+) -> Result<Result<Vec<Rule>, Cause>, AllocError>
+    ensures allowed { IfOk result (λ judged. IfOk judged (λ rules. lowest (rule_causes before (text_of text.now)) ≡ None)) }
+    ensures rules { IfOk result (λ judged. IfOk judged (λ rules. rules.items ≡ expanded policy (text_of text.now))) }
+    ensures few { IfOk result (λ judged. IfOk judged (λ rules. before + length rules.items ≤ 1024)) }
+    ensures refused { IfOk result (λ judged. IfErr judged (λ cause. lowest (rule_causes before (text_of text.now)) ≡ Some cause)) }
+{
+    match judge_conditions(alloc, rule_flags(text), before, &text.conditions)? {
+        Ok(found) => Ok(Ok(rules_with(alloc, policy, text, found)?)),
+        Err(cause) => Ok(Err(cause)),
+    }
+}

@@ -1,0 +1,2 @@
+mod Spacing
+mod TableSpacing

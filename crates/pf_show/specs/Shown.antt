@@ -1,0 +1,199 @@
+-- How a ruleset is shown: a line for each part, its words between single blanks.
+use Rattle.std.specs.Prelude.{ℕ, Bool, true, false, List, [], ◌∷◌, ◌++◌, Option, Some, None, codes, decimal, map}
+use Rattle.pf_addr.specs.Shown.{shown_addr, shown_prefix}
+use Rattle.pf_ruleset.specs.declared.rule.Action.{Action}
+use Rattle.pf_ruleset.specs.declared.rule.Action.TheVariants.{Pass, Drop, Return}
+use Rattle.pf_ruleset.specs.declared.parts.Direction.{Direction}
+use Rattle.pf_ruleset.specs.declared.parts.Direction.TheVariants.{In, Out}
+use Rattle.pf_addr.specs.declared.addr.Family.{Family}
+use Rattle.pf_addr.specs.declared.addr.Family.TheVariants.{Inet, Inet6}
+use Rattle.pf_ruleset.specs.declared.parts.Interface.{Interface}
+use Rattle.pf_ruleset.specs.declared.parts.Addresses.{Addresses}
+use Rattle.pf_ruleset.specs.declared.parts.Addresses.TheVariants.{Prefix, Range, Table}
+use Rattle.pf_ruleset.specs.declared.parts.Host.{Host}
+use Rattle.pf_ruleset.specs.declared.parts.Host.TheVariants as host
+use Rattle.pf_ruleset.specs.declared.parts.PortTest.{PortTest}
+use Rattle.pf_ruleset.specs.declared.parts.PortTest.TheVariants.{Equal, NotEqual, Less, LessEqual, Greater, GreaterEqual, FromTo, Between, Outside}
+use Rattle.pf_words.specs.declared.flags.TcpFlags.{TcpFlags}
+use Rattle.pf_ruleset.specs.declared.parts.FlagTest.{FlagTest}
+use Rattle.pf_ruleset.specs.declared.parts.FlagTest.TheVariants as flags
+use Rattle.pf_ruleset.specs.declared.rule.Conditions.{Conditions}
+use Rattle.pf_ruleset.specs.declared.rule.Rule.{Rule}
+use Rattle.pf_ruleset.specs.declared.ruleset.Item.{Item}
+use Rattle.pf_ruleset.specs.declared.ruleset.Item.TheVariants.{Filter}
+use Rattle.pf_ruleset.specs.Names.{Name}
+use Rattle.pf_ruleset.specs.Rulesets.{RulesetValue, TableValue}
+use Rattle.pf_ruleset.specs.declared.ruleset.TableEntry.{TableEntry}
+
+abbrev pub Part : Type 0
+Part = List ℕ
+
+-- ---- the parts of a rule
+
+abbrev pub action_parts : Action → List Part
+action_parts Pass = codes "pass" ∷ []
+action_parts Drop = codes "block" ∷ codes "drop" ∷ []
+action_parts Return = codes "block" ∷ codes "return" ∷ []
+
+abbrev pub direction_parts : Option Direction → List Part
+direction_parts None = []
+direction_parts (Some In) = codes "in" ∷ []
+direction_parts (Some Out) = codes "out" ∷ []
+
+abbrev pub quick_parts : Bool → List Part
+quick_parts true = codes "quick" ∷ []
+quick_parts false = []
+
+-- `!` directly before what is negated
+abbrev pub negated_part : Bool → Part → Part
+negated_part true part = 33 ∷ part
+negated_part false part = part
+
+-- the part whose first byte gets `!`
+abbrev pub negated_parts : List Part → List Part
+negated_parts [] = []
+negated_parts (part ∷ parts) = (33 ∷ part) ∷ parts
+
+abbrev pub interface_parts : Option Interface → List Part
+interface_parts None = []
+interface_parts (Some i) = codes "on" ∷ negated_part i.negated i.name ∷ []
+
+abbrev pub family_parts : Option Family → List Part
+family_parts None = []
+family_parts (Some Inet) = codes "inet" ∷ []
+family_parts (Some Inet6) = codes "inet6" ∷ []
+
+abbrev pub protocol_parts : Option ℕ → List Part
+protocol_parts None = []
+protocol_parts (Some n) = codes "proto" ∷ decimal n ∷ []
+
+-- <t>
+abbrev pub table_sign : Name → Part
+table_sign name = 60 ∷ (name ++ 62 ∷ [])
+
+-- a prefix, a - b, or <t>
+abbrev pub addresses_parts : Addresses → List Part
+addresses_parts (Prefix block) = shown_prefix block ∷ []
+addresses_parts (Table name) = table_sign name ∷ []
+addresses_parts (Range span) = shown_addr span.first ∷ codes "-" ∷ shown_addr span.last ∷ []
+
+abbrev pub host_parts : Host → List Part
+host_parts host.Any = codes "any" ∷ []
+host_parts (host.In set) = addresses_parts set
+host_parts (host.NotIn set) = negated_parts (addresses_parts set)
+
+abbrev pub test_parts : PortTest → List Part
+test_parts (Equal n) = codes "=" ∷ decimal n ∷ []
+test_parts (NotEqual n) = codes "!=" ∷ decimal n ∷ []
+test_parts (Less n) = codes "<" ∷ decimal n ∷ []
+test_parts (LessEqual n) = codes "<=" ∷ decimal n ∷ []
+test_parts (Greater n) = codes ">" ∷ decimal n ∷ []
+test_parts (GreaterEqual n) = codes ">=" ∷ decimal n ∷ []
+test_parts (FromTo a b) = (decimal a ++ 58 ∷ decimal b) ∷ []
+test_parts (Between a b) = decimal a ∷ codes "><" ∷ decimal b ∷ []
+test_parts (Outside a b) = decimal a ∷ codes "<>" ∷ decimal b ∷ []
+
+abbrev pub port_parts : Option PortTest → List Part
+port_parts None = []
+port_parts (Some test) = codes "port" ∷ test_parts test
+
+abbrev pub end_parts : List ℕ → Host → Option PortTest → List Part
+end_parts word h port = word ∷ (host_parts h ++ port_parts port)
+
+-- `all` where both hosts are any, without ports
+abbrev pub ends_parts : Host → Option PortTest → Host → Option PortTest → List Part
+ends_parts host.Any None host.Any None = codes "all" ∷ []
+ends_parts source source_port destination destination_port =
+    end_parts (codes "from") source source_port ++ end_parts (codes "to") destination destination_port
+
+abbrev pub type_parts : Option ℕ → List Part
+type_parts None = []
+type_parts (Some n) = codes "icmp-type" ∷ decimal n ∷ []
+
+abbrev pub letter : Bool → ℕ → List ℕ
+letter true b = b ∷ []
+letter false b = []
+
+-- the letters of the flags that are set, in the order FSRPAUEW
+abbrev pub letters : TcpFlags → List ℕ
+letters f =
+    letter f.fin 70 ++ (letter f.syn 83 ++ (letter f.rst 82 ++ (letter f.psh 80
+    ++ (letter f.ack 65 ++ (letter f.urg 85 ++ (letter f.ece 69 ++ letter f.cwr 87))))))
+
+abbrev pub flags_text : FlagTest → List ℕ
+flags_text flags.Any = codes "any"
+flags_text (flags.Just set of) = letters set ++ 47 ∷ letters of
+
+-- a pass rule always shows its flags, another one only where something is checked
+abbrev pub flags_parts : Action → FlagTest → List Part
+flags_parts Pass test = codes "flags" ∷ flags_text test ∷ []
+flags_parts Drop flags.Any = []
+flags_parts Drop (flags.Just set of) = codes "flags" ∷ flags_text (flags.Just set of) ∷ []
+flags_parts Return flags.Any = []
+flags_parts Return (flags.Just set of) = codes "flags" ∷ flags_text (flags.Just set of) ∷ []
+
+abbrev pub state_parts : Action → Bool → List Part
+state_parts Pass true = codes "keep" ∷ codes "state" ∷ []
+state_parts Pass false = codes "no" ∷ codes "state" ∷ []
+state_parts Drop keep = []
+state_parts Return keep = []
+
+unfoldable pub condition_parts : Conditions → List Part
+condition_parts c =
+    interface_parts c.interface ++ (family_parts c.family ++ (protocol_parts c.protocol
+    ++ (ends_parts c.source c.source_port c.destination c.destination_port ++ type_parts c.icmp_type)))
+
+unfoldable pub rule_parts : Rule → List Part
+rule_parts r =
+    action_parts r.action ++ (direction_parts r.conditions.direction ++ (quick_parts r.quick
+    ++ (condition_parts r.conditions ++ (flags_parts r.action r.conditions.flags ++ state_parts r.action r.keeps_state))))
+
+-- ---- lines
+
+-- each part behind a blank, and a newline
+abbrev pub more_parts : List Part → List ℕ
+more_parts [] = 10 ∷ []
+more_parts (part ∷ parts) = 32 ∷ (part ++ more_parts parts)
+
+-- parts between blanks, and a newline
+abbrev pub line : List Part → List ℕ
+line [] = 10 ∷ []
+line (part ∷ parts) = part ++ more_parts parts
+
+abbrev pub shown_items : List Item → List ℕ
+shown_items [] = []
+shown_items (Filter r ∷ items) = line (rule_parts r) ++ shown_items items
+
+-- set skip on { a b }, unless there is nothing to skip
+abbrev pub skip_line : List Name → List ℕ
+skip_line [] = []
+skip_line (name ∷ names) = line (codes "set" ∷ codes "skip" ∷ codes "on" ∷ codes "{" ∷ ((name ∷ names) ++ codes "}" ∷ []))
+
+-- ---- tables
+
+-- `!` directly before what is negated
+abbrev pub entry_part : TableEntry → Part
+entry_part e = negated_part e.negated (shown_prefix e.prefix)
+
+-- { e e }, where there is a list
+abbrev pub entries_parts : Option (List TableEntry) → List Part
+entries_parts None = []
+entries_parts (Some entries) = codes "{" ∷ (map entry_part entries ++ codes "}" ∷ [])
+
+-- the word, if it is said
+abbrev pub word_parts : Bool → List ℕ → List Part
+word_parts true word = word ∷ []
+word_parts false word = []
+
+unfoldable pub table_parts : TableValue → List Part
+table_parts t = codes "table" ∷ table_sign t.name ∷ (word_parts t.persist (codes "persist") ++ (word_parts t.is_const (codes "const") ++ entries_parts t.entries))
+
+abbrev pub table_lines : List TableValue → List ℕ
+table_lines [] = []
+table_lines (t ∷ tables) = line (table_parts t) ++ table_lines tables
+
+-- ---- rulesets
+
+-- a ruleset
+unfoldable pub shown : RulesetValue → List ℕ
+shown r = skip_line r.skip ++ (table_lines r.tables ++ shown_items r.items)

@@ -1,0 +1,45 @@
+-- Parts as they stand in a line, one behind another.
+use Rattle.std.specs.Prelude.{ℕ, Bool, true, false, List, [], ◌∷◌, ◌++◌, Option, Some, None}
+use Rattle.pf_ruleset.specs.declared.parts.Host.{Host}
+use Rattle.pf_ruleset.specs.declared.parts.Host.TheVariants as host
+use Rattle.pf_ruleset.specs.declared.parts.PortTest.{PortTest}
+use Rattle.pf_ruleset.specs.declared.ruleset.Item.{Item}
+use Rattle.pf_ruleset.specs.declared.ruleset.Item.TheVariants.{Filter}
+use Rattle.pf_show.specs.Shown.{Part, rule_parts, line, entry_part, table_parts}
+use Rattle.pf_ruleset.specs.declared.ruleset.TableEntry.{TableEntry}
+use Rattle.pf_ruleset.specs.declared.ruleset.TableDef.{TableDef}
+use Rattle.pf_ruleset.specs.Rulesets.{table_of}
+
+-- each part behind a blank
+abbrev pub spaced : List Part → List ℕ
+spaced [] = []
+spaced (part ∷ parts) = 32 ∷ (part ++ spaced parts)
+
+-- parts between blanks
+abbrev pub joined : List Part → List ℕ
+joined [] = []
+joined (part ∷ parts) = part ++ spaced parts
+
+-- the text, if it is wanted
+abbrev pub text_if : Bool → List ℕ → List ℕ
+text_if true text = text
+text_if false text = []
+
+-- any host, at any port
+abbrev pub is_any_end : Host → Option PortTest → Bool
+is_any_end host.Any None = true
+is_any_end host.Any (Some test) = false
+is_any_end (host.In set) port = false
+is_any_end (host.NotIn set) port = false
+
+-- the line of an item
+abbrev pub item_line : Item → List ℕ
+item_line (Filter r) = line (rule_parts r)
+
+-- an entry behind a blank
+abbrev pub spaced_entry : TableEntry → List ℕ
+spaced_entry e = 32 ∷ entry_part e
+
+-- the line of a table
+abbrev pub table_line : TableDef → List ℕ
+table_line t = line (table_parts (table_of t))

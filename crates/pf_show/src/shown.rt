@@ -1,0 +1,487 @@
+//! A ruleset as text: a line for each part, its words between single blanks.
+
+ghost use Rattle.std.specs.Prelude.{◌≡◌, Some, IfOk, string_bytes};
+ghost use Rattle.pf_ruleset.specs.Rulesets.{ruleset_of};
+ghost use Rattle.pf_show.specs.Shown.{direction_parts, quick_parts, action_parts, interface_parts, family_parts, protocol_parts, host_parts, test_parts, port_parts, end_parts, ends_parts, type_parts, letters, flags_text, flags_parts, state_parts, condition_parts, rule_parts, line, skip_line, shown_items, shown};
+ghost use Rattle.pf_show.specs.Spaced.{spaced, joined, text_if, is_any_end, item_line};
+
+use crate::tables::TableLines;
+use pf_addr::Family;
+use pf_ruleset::{
+    Action, Addresses, Conditions, Direction, FlagTest, Host, Interface, InterfaceName, Item,
+    PortTest, Rule, Ruleset,
+};
+use pf_words::TcpFlags;
+use std::alloc::{AllocError, Global};
+use std::fmt;
+
+/// What a rule does.
+#[derive(Clone, Copy)]
+struct ActionWords(Action);
+
+impl fmt::Display for ActionWords {
+    ghost output = { λ a. Some (joined (action_parts a.0)) };
+
+    fn fmt<W: fmt::Write>(&self, f: &mut fmt::Formatter<W>) -> fmt::Result {
+        match self.0 {
+            Action::Pass => write!(f, "pass"),
+            Action::Drop => write!(f, "block drop"),
+            Action::Return => write!(f, "block return"),
+        }
+    }
+}
+
+/// A direction behind a blank, if there is one.
+#[derive(Clone, Copy)]
+struct DirectionPart(Option<Direction>);
+
+impl fmt::Display for DirectionPart {
+    ghost output = { λ d. Some (spaced (direction_parts d.0)) };
+
+    fn fmt<W: fmt::Write>(&self, f: &mut fmt::Formatter<W>) -> fmt::Result {
+        match self.0 {
+            Some(Direction::In) => write!(f, " in"),
+            Some(Direction::Out) => write!(f, " out"),
+            None => Ok(()),
+        }
+    }
+}
+
+/// `quick` behind a blank, if it is said.
+#[derive(Clone, Copy)]
+struct QuickPart(bool);
+
+impl fmt::Display for QuickPart {
+    ghost output = { λ q. Some (spaced (quick_parts q.0)) };
+
+    fn fmt<W: fmt::Write>(&self, f: &mut fmt::Formatter<W>) -> fmt::Result {
+        if self.0 { write!(f, " quick") } else { Ok(()) }
+    }
+}
+
+/// An interface behind its word, if there is one.
+#[derive(Clone, Copy)]
+struct InterfaceParts<'a>(&'a Option<Interface>);
+
+impl fmt::Display for InterfaceParts<'_> {
+    ghost output = { λ i. Some (spaced (interface_parts i.0.now)) };
+
+    fn fmt<W: fmt::Write>(&self, f: &mut fmt::Formatter<W>) -> fmt::Result {
+        let Some(interface) = self.0 else {
+            return Ok(());
+        };
+        let name = interface.name.as_str();
+        if interface.negated {
+            write!(f, " on !{name}")
+        } else {
+            write!(f, " on {name}")
+        }
+    }
+}
+
+/// A family behind a blank, if there is one.
+#[derive(Clone, Copy)]
+struct FamilyPart(Option<Family>);
+
+impl fmt::Display for FamilyPart {
+    ghost output = { λ x. Some (spaced (family_parts x.0)) };
+
+    fn fmt<W: fmt::Write>(&self, f: &mut fmt::Formatter<W>) -> fmt::Result {
+        match self.0 {
+            Some(Family::Inet) => write!(f, " inet"),
+            Some(Family::Inet6) => write!(f, " inet6"),
+            None => Ok(()),
+        }
+    }
+}
+
+/// The number of a protocol behind its word, if there is one.
+#[derive(Clone, Copy)]
+struct ProtocolParts(Option<u8>);
+
+impl fmt::Display for ProtocolParts {
+    ghost output = { λ p. Some (spaced (protocol_parts p.0)) };
+
+    fn fmt<W: fmt::Write>(&self, f: &mut fmt::Formatter<W>) -> fmt::Result {
+        match self.0 {
+            Some(number) => write!(f, " proto {number}"),
+            None => Ok(()),
+        }
+    }
+}
+
+/// A host behind a blank.
+#[derive(Clone, Copy)]
+struct HostParts<'a>(&'a Host);
+
+impl fmt::Display for HostParts<'_> {
+    ghost output = { λ h. Some (spaced (host_parts h.0.now)) };
+
+    fn fmt<W: fmt::Write>(&self, f: &mut fmt::Formatter<W>) -> fmt::Result {
+        match self.0 {
+            Host::Any => write!(f, " any"),
+            Host::In(Addresses::Prefix(prefix)) => write!(f, " {prefix}"),
+            Host::In(Addresses::Range(range)) => write!(f, " {range}"),
+            Host::In(Addresses::Table(name)) => write!(f, " <{}>", name.as_str()),
+            Host::NotIn(Addresses::Prefix(prefix)) => write!(f, " !{prefix}"),
+            Host::NotIn(Addresses::Range(range)) => write!(f, " !{range}"),
+            Host::NotIn(Addresses::Table(name)) => write!(f, " !<{}>", name.as_str()),
+        }
+    }
+}
+
+/// A test on ports behind a blank.
+#[derive(Clone, Copy)]
+struct TestParts(PortTest);
+
+impl fmt::Display for TestParts {
+    ghost output = { λ t. Some (spaced (test_parts t.0)) };
+
+    fn fmt<W: fmt::Write>(&self, f: &mut fmt::Formatter<W>) -> fmt::Result {
+        match self.0 {
+            PortTest::Equal(n) => write!(f, " = {n}"),
+            PortTest::NotEqual(n) => write!(f, " != {n}"),
+            PortTest::Less(n) => write!(f, " < {n}"),
+            PortTest::LessEqual(n) => write!(f, " <= {n}"),
+            PortTest::Greater(n) => write!(f, " > {n}"),
+            PortTest::GreaterEqual(n) => write!(f, " >= {n}"),
+            PortTest::FromTo(a, b) => write!(f, " {a}:{b}"),
+            PortTest::Between(a, b) => write!(f, " {a} >< {b}"),
+            PortTest::Outside(a, b) => write!(f, " {a} <> {b}"),
+        }
+    }
+}
+
+/// A test on ports behind its word, if there is one.
+#[derive(Clone, Copy)]
+struct PortParts(Option<PortTest>);
+
+impl fmt::Display for PortParts {
+    ghost output = { λ p. Some (spaced (port_parts p.0)) };
+
+    fn fmt<W: fmt::Write>(&self, f: &mut fmt::Formatter<W>) -> fmt::Result {
+        match self.0 {
+            Some(test) => write!(f, " port{}", TestParts(test)),
+            None => Ok(()),
+        }
+    }
+}
+
+/// One end of a rule.
+#[derive(Clone, Copy)]
+struct End<'a> {
+    host: &'a Host,
+    port: Option<PortTest>,
+}
+
+/// Whether it is any host, at any port.
+fn is_any(end: End<'_>) -> bool
+    ensures { result ≡ is_any_end end.entry.host.now end.entry.port }
+{
+    match (end.host, end.port) {
+        (Host::Any, None) => true,
+        (Host::Any, Some(_)) => false,
+        (Host::In(_) | Host::NotIn(_), _) => false,
+    }
+}
+
+/// One end of a rule behind its word.
+#[derive(Clone, Copy)]
+struct SourceParts<'a>(End<'a>);
+
+impl fmt::Display for SourceParts<'_> {
+    ghost use Rattle.std.specs.Prelude.{codes};
+
+    ghost output = { λ e. Some (spaced (end_parts (codes "from") e.0.host.now e.0.port)) };
+
+    fn fmt<W: fmt::Write>(&self, f: &mut fmt::Formatter<W>) -> fmt::Result {
+        write!(
+            f,
+            " from{}{}",
+            HostParts(self.0.host),
+            PortParts(self.0.port)
+        )
+    }
+}
+
+/// The other end of a rule behind its word.
+#[derive(Clone, Copy)]
+struct DestinationParts<'a>(End<'a>);
+
+impl fmt::Display for DestinationParts<'_> {
+    ghost use Rattle.std.specs.Prelude.{codes};
+
+    ghost output = { λ e. Some (spaced (end_parts (codes "to") e.0.host.now e.0.port)) };
+
+    fn fmt<W: fmt::Write>(&self, f: &mut fmt::Formatter<W>) -> fmt::Result {
+        write!(f, " to{}{}", HostParts(self.0.host), PortParts(self.0.port))
+    }
+}
+
+/// Both ends of a rule, `all` where they are any.
+#[derive(Clone, Copy)]
+struct EndsParts<'a> {
+    source: End<'a>,
+    destination: End<'a>,
+}
+
+impl fmt::Display for EndsParts<'_> {
+    ghost output = { λ e. Some (spaced (ends_parts e.source.host.now e.source.port e.destination.host.now e.destination.port)) };
+
+    #[tactic(auto, using(crate::proofs::Spacing::ends_are, crate::proofs::Spacing::spaced_append))]
+    fn fmt<W: fmt::Write>(&self, f: &mut fmt::Formatter<W>) -> fmt::Result {
+        let source = SourceParts(self.source);
+        let destination = DestinationParts(self.destination);
+        if is_any(self.source) && is_any(self.destination) {
+            write!(f, " all")
+        } else {
+            write!(f, "{source}{destination}")
+        }
+    }
+}
+
+/// The number of a type of ICMP behind its word, if there is one.
+#[derive(Clone, Copy)]
+struct TypeParts(Option<u8>);
+
+impl fmt::Display for TypeParts {
+    ghost output = { λ t. Some (spaced (type_parts t.0)) };
+
+    fn fmt<W: fmt::Write>(&self, f: &mut fmt::Formatter<W>) -> fmt::Result {
+        match self.0 {
+            Some(number) => write!(f, " icmp-type {number}"),
+            None => Ok(()),
+        }
+    }
+}
+
+/// The conditions that stand from the interface to the type of ICMP.
+#[derive(Clone, Copy)]
+struct ConditionParts<'a>(&'a Conditions);
+
+impl fmt::Display for ConditionParts<'_> {
+    ghost output = { λ c. Some (spaced (condition_parts c.0.now)) };
+
+    #[tactic(auto, using(crate::proofs::Spacing::spaced_append), unfolding(crate::specs::Shown::condition_parts))]
+    fn fmt<W: fmt::Write>(&self, f: &mut fmt::Formatter<W>) -> fmt::Result {
+        let interface = InterfaceParts(&self.0.interface);
+        let family = FamilyPart(self.0.family);
+        let protocol = ProtocolParts(self.0.protocol);
+        let ends = EndsParts {
+            source: End {
+                host: &self.0.source,
+                port: self.0.source_port,
+            },
+            destination: End {
+                host: &self.0.destination,
+                port: self.0.destination_port,
+            },
+        };
+        let icmp_type = TypeParts(self.0.icmp_type);
+        write!(f, "{interface}{family}{protocol}{ends}{icmp_type}")
+    }
+}
+
+/// The text, if it is wanted.
+fn text_if(wanted: bool, text: &str) -> &str
+    ensures { result.now ≡ text_if wanted text.now }
+{
+    if wanted { text } else { "" }
+}
+
+/// The letters of the flags that are set.
+#[derive(Clone, Copy)]
+struct Letters(TcpFlags);
+
+impl fmt::Display for Letters {
+    ghost output = { λ x. Some (letters x.0) };
+
+    #[tactic(auto, using(crate::proofs::Spacing::letter_is))]
+    fn fmt<W: fmt::Write>(&self, f: &mut fmt::Formatter<W>) -> fmt::Result {
+        let fin = text_if(self.0.fin, "F");
+        let syn = text_if(self.0.syn, "S");
+        let rst = text_if(self.0.rst, "R");
+        let psh = text_if(self.0.psh, "P");
+        let ack = text_if(self.0.ack, "A");
+        let urg = text_if(self.0.urg, "U");
+        let ece = text_if(self.0.ece, "E");
+        let cwr = text_if(self.0.cwr, "W");
+        write!(f, "{fin}{syn}{rst}{psh}{ack}{urg}{ece}{cwr}")
+    }
+}
+
+/// What is asked of the flags.
+#[derive(Clone, Copy)]
+struct FlagsText(FlagTest);
+
+impl fmt::Display for FlagsText {
+    ghost output = { λ t. Some (flags_text t.0) };
+
+    fn fmt<W: fmt::Write>(&self, f: &mut fmt::Formatter<W>) -> fmt::Result {
+        match self.0 {
+            FlagTest::Any => write!(f, "any"),
+            FlagTest::Just { set, of } => write!(f, "{}/{}", Letters(set), Letters(of)),
+        }
+    }
+}
+
+/// What is asked of the flags behind its word: always of a rule that passes, else where something is asked.
+#[derive(Clone, Copy)]
+struct FlagsParts {
+    action: Action,
+    test: FlagTest,
+}
+
+impl fmt::Display for FlagsParts {
+    ghost output = { λ x. Some (spaced (flags_parts x.action x.test)) };
+
+    fn fmt<W: fmt::Write>(&self, f: &mut fmt::Formatter<W>) -> fmt::Result {
+        let test = self.test;
+        match (self.action, test) {
+            (Action::Pass, _) => write!(f, " flags {}", FlagsText(test)),
+            (_, FlagTest::Any) => Ok(()),
+            (_, FlagTest::Just { .. }) => write!(f, " flags {}", FlagsText(test)),
+        }
+    }
+}
+
+/// Whether a state would be kept, said of a rule that passes.
+#[derive(Clone, Copy)]
+struct StateParts {
+    action: Action,
+    keeps: bool,
+}
+
+impl fmt::Display for StateParts {
+    ghost output = { λ s. Some (spaced (state_parts s.action s.keeps)) };
+
+    fn fmt<W: fmt::Write>(&self, f: &mut fmt::Formatter<W>) -> fmt::Result {
+        match self.action {
+            Action::Pass if self.keeps => write!(f, " keep state"),
+            Action::Pass => write!(f, " no state"),
+            Action::Drop | Action::Return => Ok(()),
+        }
+    }
+}
+
+/// The line of a rule.
+#[derive(Clone, Copy)]
+struct RuleLine<'a>(&'a Rule);
+
+impl fmt::Display for RuleLine<'_> {
+    ghost output = { λ r. Some (line (rule_parts r.0.now)) };
+
+    #[tactic(auto, using(crate::proofs::Spacing::rule_line), unfolding(crate::specs::Shown::rule_parts))]
+    fn fmt<W: fmt::Write>(&self, f: &mut fmt::Formatter<W>) -> fmt::Result {
+        let action = ActionWords(self.0.action);
+        let direction = DirectionPart(self.0.conditions.direction);
+        let quick = QuickPart(self.0.quick);
+        let conditions = ConditionParts(&self.0.conditions);
+        let flags = FlagsParts {
+            action: self.0.action,
+            test: self.0.conditions.flags,
+        };
+        let state = StateParts {
+            action: self.0.action,
+            keeps: self.0.keeps_state,
+        };
+        writeln!(f, "{action}{direction}{quick}{conditions}{flags}{state}")
+    }
+}
+
+/// The line of an item.
+#[derive(Clone, Copy)]
+struct ItemLine<'a>(&'a Item);
+
+impl fmt::Display for ItemLine<'_> {
+    ghost output = { λ i. Some (item_line i.0.now) };
+
+    fn fmt<W: fmt::Write>(&self, f: &mut fmt::Formatter<W>) -> fmt::Result {
+        match self.0 {
+            Item::Filter(rule) => write!(f, "{}", RuleLine(rule)),
+        }
+    }
+}
+
+/// The lines of items.
+#[derive(Clone, Copy)]
+struct ItemLines<'a>(&'a [Item]);
+
+impl fmt::Display for ItemLines<'_> {
+    ghost use Rattle.std.specs.List.{flat_map};
+
+    ghost output = { λ i. Some (flat_map item_line i.0.now) };
+
+    fn fmt<W: fmt::Write>(&self, f: &mut fmt::Formatter<W>) -> fmt::Result {
+        for item in self.0 {
+            write!(f, "{}", ItemLine(item))?;
+        }
+        Ok(())
+    }
+}
+
+/// Names, each behind a blank.
+#[derive(Clone, Copy)]
+struct Names<'a>(&'a [InterfaceName]);
+
+impl fmt::Display for Names<'_> {
+    ghost use Rattle.std.specs.Prelude.{◌∷◌};
+    ghost use Rattle.std.specs.List.{flat_map};
+
+    ghost output = { λ n. Some (flat_map (λ name. 32 ∷ name) n.0.now) };
+
+    fn fmt<W: fmt::Write>(&self, f: &mut fmt::Formatter<W>) -> fmt::Result {
+        for name in self.0 {
+            write!(f, " {}", name.as_str())?;
+        }
+        Ok(())
+    }
+}
+
+/// The line of what is skipped, if anything is.
+#[derive(Clone, Copy)]
+struct SkipLine<'a>(&'a [InterfaceName]);
+
+impl fmt::Display for SkipLine<'_> {
+    ghost output = { λ n. Some (skip_line n.0.now) };
+
+    #[tactic(auto, using(crate::proofs::Spacing::skip_is))]
+    fn fmt<W: fmt::Write>(&self, f: &mut fmt::Formatter<W>) -> fmt::Result {
+        match self.0 {
+            [] => Ok(()),
+            [_, ..] => writeln!(f, "set skip on {{{} }}", Names(self.0)),
+        }
+    }
+}
+
+/// The lines of a ruleset.
+#[derive(Clone, Copy)]
+struct RulesetLines<'a>(&'a Ruleset);
+
+impl fmt::Display for RulesetLines<'_> {
+    ghost output = { λ r. Some (shown (ruleset_of r.0.now)) };
+
+    #[tactic(auto, using(crate::proofs::Spacing::items_are, crate::proofs::TableSpacing::tables_are), unfolding(crate::specs::Shown::shown))]
+    fn fmt<W: fmt::Write>(&self, f: &mut fmt::Formatter<W>) -> fmt::Result {
+        let skip = SkipLine(&self.0.skip);
+        let tables = TableLines(&self.0.tables);
+        let items = ItemLines(&self.0.items);
+        write!(f, "{skip}{tables}{items}")
+    }
+}
+
+/// The ruleset as text: a line `set skip on { .. }` if anything is skipped, a line for each table, and a line for each
+/// rule (pfctl(8), `-s rules`). A growth that is refused is the error.
+pub fn show(alloc: Global, rules: &Ruleset) -> Result<String, AllocError>
+    ensures { IfOk result (λ text. string_bytes text ≡ shown (ruleset_of rules.now)) }
+{
+    format!(in alloc; "{}", RulesetLines(rules))
+}
+
+/// The items as text, a line for each rule (pfctl(8), `-s rules`). A growth that is refused is the error.
+#[tactic(auto, using(crate::proofs::Spacing::items_are))]
+pub fn show_items(alloc: Global, items: &[Item]) -> Result<String, AllocError>
+    ensures { IfOk result (λ text. string_bytes text ≡ shown_items items.now) }
+{
+    format!(in alloc; "{}", ItemLines(items))
+}
