@@ -1,5 +1,7 @@
 pub mod Digits
 pub mod Words
-pub mod Ascii
+pub mod Forms
 pub mod Groups
 pub mod Later
+pub mod Spaces
+pub mod PacketSpelled

@@ -4,3 +4,4 @@ pub mod Cursors
 pub mod Matching
 pub mod Verdicts
 pub mod Seen
+pub mod PacketGrammar

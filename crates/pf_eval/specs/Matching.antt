@@ -5,21 +5,23 @@ use Rattle.std.specs.Str.{bytes_eq}
 use Rattle.pf_addr.specs.declared.addr.Addr.{Addr}
 use Rattle.pf_addr.specs.declared.addr.Addr.TheVariants.{V4, V6}
 use Rattle.pf_addr.specs.Blocks.{in_prefix, in_range}
-use Rattle.pf_statements.specs.declared.parts.Direction.{Direction}
-use Rattle.pf_statements.specs.declared.parts.Direction.TheVariants.{In, Out}
-use Rattle.pf_statements.specs.declared.parts.Family.{Family}
-use Rattle.pf_statements.specs.declared.parts.Family.TheVariants.{Inet, Inet6}
-use Rattle.pf_statements.specs.declared.parts.Interface.{Interface}
-use Rattle.pf_statements.specs.declared.parts.Addresses.{Addresses}
-use Rattle.pf_statements.specs.declared.parts.Addresses.TheVariants.{Prefix, Range}
-use Rattle.pf_statements.specs.declared.parts.Host.{Host}
-use Rattle.pf_statements.specs.declared.parts.Host.TheVariants as host
-use Rattle.pf_statements.specs.declared.parts.PortTest.{PortTest}
-use Rattle.pf_statements.specs.declared.parts.PortTest.TheVariants.{Equal, NotEqual, Less, LessEqual, Greater, GreaterEqual, FromTo, Between, Outside}
+use Rattle.pf_ruleset.specs.declared.parts.Direction.{Direction}
+use Rattle.pf_ruleset.specs.declared.parts.Direction.TheVariants.{In, Out}
+use Rattle.pf_addr.specs.declared.addr.Family.{Family}
+use Rattle.pf_addr.specs.declared.addr.Family.TheVariants.{Inet, Inet6}
+use Rattle.pf_ruleset.specs.declared.parts.Interface.{Interface}
+use Rattle.pf_ruleset.specs.declared.parts.Addresses.{Addresses}
+use Rattle.pf_ruleset.specs.declared.parts.Addresses.TheVariants.{Prefix, Range, Table}
+use Rattle.pf_ruleset.specs.declared.parts.Host.{Host}
+use Rattle.pf_ruleset.specs.declared.parts.Host.TheVariants as host
+use Rattle.pf_ruleset.specs.declared.parts.PortTest.{PortTest}
+use Rattle.pf_ruleset.specs.declared.parts.PortTest.TheVariants.{Equal, NotEqual, Less, LessEqual, Greater, GreaterEqual, FromTo, Between, Outside}
 use Rattle.pf_words.specs.declared.flags.TcpFlags.{TcpFlags}
-use Rattle.pf_statements.specs.declared.parts.FlagTest.{FlagTest}
-use Rattle.pf_statements.specs.declared.parts.FlagTest.TheVariants as flags
+use Rattle.pf_ruleset.specs.declared.parts.FlagTest.{FlagTest}
+use Rattle.pf_ruleset.specs.declared.parts.FlagTest.TheVariants as flags
 use Rattle.pf_ruleset.specs.declared.rule.Conditions.{Conditions}
+use Rattle.pf_ruleset.specs.Names.{Name}
+use Rattle.pf_table.specs.Tables.{TableValue, in_table}
 use Rattle.pf_eval.specs.Packets.{PacketValue, interfaces}
 
 abbrev pub direction_eq : Direction → Direction → Bool
@@ -48,15 +50,25 @@ of_family (V4 bits) Inet6 = false
 of_family (V6 bits) Inet = false
 of_family (V6 bits) Inet6 = true
 
-unfoldable pub in_addresses : Addr → Addresses → Bool
-in_addresses a (Prefix block) = in_prefix a block
-in_addresses a (Range span) = in_range a span.first span.last
+-- the tables that a rule may name, by their names
+abbrev pub Tables : Type 0
+Tables = Name → Option TableValue
 
--- negation turns the answer round, also for an address of the other family
-abbrev pub at_host : Addr → Host → Bool
-at_host a host.Any = true
-at_host a (host.In set) = in_addresses a set
-at_host a (host.NotIn set) = not (in_addresses a set)
+-- where there is no table, no address is in it
+abbrev pub in_some : Addr → Option TableValue → Bool
+in_some a None = false
+in_some a (Some t) = in_table a t.entries
+
+unfoldable pub in_addresses : Tables → Addr → Addresses → Bool
+in_addresses tables a (Prefix block) = in_prefix a block
+in_addresses tables a (Range span) = in_range a span.first span.last
+in_addresses tables a (Table name) = in_some a (tables name)
+
+-- negation turns the answer round, also for an address of the other family, and where there is no table
+abbrev pub at_host : Tables → Addr → Host → Bool
+at_host tables a host.Any = true
+at_host tables a (host.In set) = in_addresses tables a set
+at_host tables a (host.NotIn set) = not (in_addresses tables a set)
 
 unfoldable pub port_passes : PortTest → ℕ → Bool
 port_passes (Equal n) port = port == n
@@ -97,13 +109,13 @@ is_such r k =
     && if_set (λ n. if_there (λ m. m == n) k.icmp_type) r.icmp_type
 
 -- what is asked of its two ends
-unfoldable pub is_between : Conditions → PacketValue → Bool
-is_between r k =
-    at_host k.source r.source
+unfoldable pub is_between : Tables → Conditions → PacketValue → Bool
+is_between tables r k =
+    at_host tables k.source r.source
     && if_set (λ t. if_there (port_passes t) k.source_port) r.source_port
-    && at_host k.destination r.destination
+    && at_host tables k.destination r.destination
     && if_set (λ t. if_there (port_passes t) k.destination_port) r.destination_port
 
 -- each condition holds
-unfoldable pub matches : Conditions → PacketValue → Bool
-matches r k = is_such r k && is_between r k
+unfoldable pub matches : Tables → Conditions → PacketValue → Bool
+matches tables r k = is_such r k && is_between tables r k

@@ -1,34 +1,53 @@
 -- What a verdict of the code stands for, and how it is shown.
-use Rattle.std.specs.Prelude.{ℕ, List, ◌∷◌, ◌++◌, Option, Some, None, codes, decimal}
+use Rattle.std.specs.Prelude.{ℕ, List, [], ◌∷◌, ◌++◌, Option, Some, None, codes, decimal}
+use Rattle.std.specs.Borrow.{Bor}
+use Rattle.std.specs.List.{flat_map}
 use Rattle.pf_ruleset.specs.declared.rule.Action.{Action}
 use Rattle.pf_ruleset.specs.declared.rule.Action.TheVariants as act
-use Rattle.pf_eval.specs.declared.answer.Spot.{Spot}
+use Rattle.pf_ruleset.specs.Names.{Name}
+use Rattle.pf_config.specs.Map.{Configuration, Path, table_for}
+use Rattle.pf_eval.specs.declared.answer.Spot as code
 use Rattle.pf_eval.specs.declared.answer.Verdict.{Verdict}
 use Rattle.pf_eval.specs.declared.answer.Verdict.TheVariants as verdict
-use Rattle.pf_eval.specs.Verdicts.{Judgement, Skipped, Decided, Hit}
+use Rattle.pf_eval.specs.declared.scope.Scope.{Scope}
+use Rattle.pf_eval.specs.Matching.{Tables}
+use Rattle.pf_eval.specs.Verdicts.{Judgement, Skipped, Decided, Spot}
 
--- a hit without its stop mark
-abbrev pub decided : Action → Spot → Verdict
-decided act.Pass s = verdict.Pass s
-decided act.Drop s = verdict.Drop s
-decided act.Return s = verdict.Return s
+abbrev pub spot_of : Action → code.Spot → Spot
+spot_of action s = record { path = s.names.now; index = s.index; action = action }
 
-abbrev pub of_hit : Option Hit → Verdict
-of_hit None = verdict.Default
-of_hit (Some h) = decided h.action (record { index = h.index })
+-- what a verdict says
+abbrev pub judgement_of : Verdict → Judgement
+judgement_of verdict.Skip = Skipped
+judgement_of verdict.Default = Decided None
+judgement_of (verdict.Pass s) = Decided (Some (spot_of act.Pass s))
+judgement_of (verdict.Drop s) = Decided (Some (spot_of act.Drop s))
+judgement_of (verdict.Return s) = Decided (Some (spot_of act.Return s))
 
--- the verdict that the judgement comes to
-abbrev pub verdict_of : Judgement → Verdict
-verdict_of Skipped = verdict.Skip
-verdict_of (Decided hit) = of_hit hit
+-- the tables that rules at a path may name, where there is a configuration
+abbrev pub tables_at : Option (Bor Configuration) → Path → Tables
+tables_at None p name = None
+tables_at (Some c) p name = table_for c.now p name
 
--- a blank, main's path, which has no name, @, and the rule's place
+-- the tables that the rules of a scope may name
+unfoldable pub tables_of : Scope → Tables
+tables_of s name = tables_at s.config s.path.now name
+
+-- a path's names, with / between them
+abbrev pub path_text : List Name → List ℕ
+path_text [] = []
+path_text (name ∷ names) = name ++ flat_map (λ n. 47 ∷ n) names
+
+-- a blank, the path of the rule's anchor, @, and the rule's place
 abbrev pub shown_spot : Spot → List ℕ
-shown_spot s = 32 ∷ 64 ∷ decimal s.index
+shown_spot s = 32 ∷ (path_text s.path ++ 64 ∷ decimal s.index)
 
-abbrev pub verdict_text : Verdict → List ℕ
-verdict_text verdict.Skip = codes "pass skip"
-verdict_text verdict.Default = codes "pass default"
-verdict_text (verdict.Pass s) = codes "pass" ++ shown_spot s
-verdict_text (verdict.Drop s) = codes "block drop" ++ shown_spot s
-verdict_text (verdict.Return s) = codes "block return" ++ shown_spot s
+abbrev pub action_text : Action → List ℕ
+action_text act.Pass = codes "pass"
+action_text act.Drop = codes "block drop"
+action_text act.Return = codes "block return"
+
+abbrev pub verdict_text : Judgement → List ℕ
+verdict_text Skipped = codes "pass skip"
+verdict_text (Decided None) = codes "pass default"
+verdict_text (Decided (Some s)) = action_text s.action ++ shown_spot s

@@ -1,22 +1,28 @@
 //! What is answered about a packet.
 
-/// Where the deciding rule stands: its place among the rules in their expanded order, from 0.
-#[derive(Clone, Copy, Debug, PartialEq, Eq)]
-pub struct Spot {
+use pf_ruleset::Name;
+
+/// Where the deciding rule stands: the path of its anchor, which has no name where that is the main ruleset, and the rule's
+/// place among the anchor's rules in their expanded order, from 0.
+#[derive(Clone, Copy, Debug)]
+pub struct Spot<'c> {
+    /// The path of its anchor.
+    pub names: &'c [Name],
+    /// Its place.
     pub index: u32,
 }
 
 /// What is done with a packet, and why.
-#[derive(Clone, Copy, Debug, PartialEq, Eq)]
-pub enum Verdict {
+#[derive(Clone, Copy, Debug)]
+pub enum Verdict<'c> {
     /// It passes, since its interface is skipped (pf.conf(5), `set skip`).
     Skip,
     /// It passes, since no rule matches.
     Default,
     /// A pass rule decides.
-    Pass(Spot),
+    Pass(Spot<'c>),
     /// A block rule decides, and the packet is dropped silently.
-    Drop(Spot),
+    Drop(Spot<'c>),
     /// A block rule decides, and the sender is told.
-    Return(Spot),
+    Return(Spot<'c>),
 }

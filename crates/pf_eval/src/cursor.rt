@@ -1,14 +1,15 @@
 //! The words of a packet text, read from the front.
 
-ghost use Rattle.std.specs.Prelude.{◌≡◌, Some, ◌<◌, drop, length, IsSome, IfSome, IsAscii, map, option_map, codes};
+ghost use Rattle.std.specs.Prelude.{◌≡◌, Some, ◌<◌, drop, length, IsSome, IfSome, IfOk, IfErr, true, map, option_map, codes};
 ghost use Rattle.std.specs.Option.{option_copied};
 ghost use Rattle.pf_eval.specs.PacketTexts.{is_empty, begins, word_at, word_after, value, keyed, optional, direction_of, name_of, address_of, port_number_of, type_number_of, groups_at, end_at};
-ghost use Rattle.pf_words.specs.Words.{protocol_of, flags_of};
+ghost use Rattle.pf_words.specs.Words.{protocol_of, flags_of, is_interface_text};
+ghost use Rattle.pf_eval.specs.declared.fault.PacketFault.TheVariants.{Memory};
 ghost use Rattle.pf_eval.specs.Cursors.{left, end_of, Reads, ReadsAll};
 
 use crate::fault::PacketFault;
 use pf_addr::{Addr, parse_bytes};
-use pf_statements::{Direction, Name};
+use pf_ruleset::{Direction, InterfaceName};
 use pf_words::{Profile, TcpFlags, is_interface_name, parse_decimal, parse_flags, parse_protocol};
 use std::alloc::Global;
 
@@ -17,6 +18,18 @@ use std::alloc::Global;
 pub(crate) struct End {
     pub(crate) addr: Addr,
     pub(crate) port: Option<u16>,
+}
+
+/// The name of an interface, which has the form of one. The only error is want of memory.
+pub(crate) fn interface_name(alloc: Global, text: &[u8]) -> Result<InterfaceName, PacketFault>
+    requires { is_interface_text text.now ≡ true }
+    ensures name { IfOk result (λ name. name ≡ text.now) }
+    ensures error { IfErr result (λ e. e ≡ Memory) }
+{
+    match InterfaceName::new(alloc, text)? {
+        Some(name) => Ok(name),
+        None => Err(PacketFault::Memory),
+    }
 }
 
 /// The words that are left to read.
@@ -105,10 +118,10 @@ where
     }
 
     /// The name of an interface behind this word.
-    #[tactic(auto, using(crate::proofs::Ascii::interface_name_ascii), unfolding(crate::specs::PacketTexts::keyed))]
+    #[tactic(auto, using(crate::proofs::Forms::interface_name_form), unfolding(crate::specs::PacketTexts::keyed))]
     pub(crate) fn name_after(&mut self, key: &[u8]) -> Option<&'t [u8]>
         ensures read { Reads (option_copied result) (left self.new) (keyed key.now name_of (left self.old)) }
-        ensures ascii { IfSome result (λ name. IsAscii name.now) }
+        ensures form { IfSome result (λ name. is_interface_text name.now ≡ true) }
         ensures taken { IsSome result → length (left self.new) < length (left self.old) }
     {
         let word = self.word_after(key)?;
@@ -121,7 +134,7 @@ where
 
     /// The groups of the interface.
     #[tactic(auto, using(crate::proofs::Groups::groups_stop, crate::proofs::Groups::groups_step, crate::proofs::Groups::prepend_more, crate::proofs::Groups::prepend_none))]
-    pub(crate) fn groups(&mut self, alloc: Global) -> Result<Vec<Name>, PacketFault>
+    pub(crate) fn groups(&mut self, alloc: Global) -> Result<Vec<InterfaceName>, PacketFault>
         ensures { ReadsAll (λ v. v.items) result (left self.new) (groups_at (left self.old)) }
     {
         let mut groups = Vec::new(alloc);
@@ -129,7 +142,7 @@ where
             let Some(name) = self.name_after(b"group") else {
                 return Err(PacketFault::BadPacket);
             };
-            groups.push(Name::from_bytes(alloc, name)?)?;
+            groups.push(interface_name(alloc, name)?)?;
         }
         Ok(groups)
     }

@@ -2,8 +2,8 @@
 //!
 //! # Organization
 //!
-//! - `Packet` and `parse_packet`: a packet as a record, and its text.
-//! - `verdict_flat`: the verdict of one ruleset alone.
+//! - `Packet` and `parse_packet`: a packet as a record, and its text; `packets_as_spelled`: which texts spell one.
+//! - `verdict`: the verdict of a configuration; `verdict_flat`: that of one ruleset alone.
 //! - `show_verdict`: a verdict as text.
 #![tactic(auto)]
 
@@ -11,15 +11,18 @@ mod answer;
 mod cursor;
 mod decide;
 mod fault;
+mod laws;
 mod matching;
 mod packet;
 mod reading;
+mod scope;
 mod show;
 mod word;
 
 pub use answer::{Spot, Verdict};
-pub use decide::verdict_flat;
+pub use decide::{verdict, verdict_flat};
 pub use fault::PacketFault;
+pub use laws::packets_as_spelled;
 pub use packet::Packet;
 pub use reading::parse_packet;
 pub use show::show_verdict;

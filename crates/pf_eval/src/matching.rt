@@ -1,20 +1,23 @@
 //! Whether a rule matches a packet.
 
 ghost use Rattle.std.specs.Prelude.{◌≡◌, ◌==◌};
-ghost use Rattle.pf_eval.specs.Matching.{direction_eq, on_interface, of_family, in_addresses, at_host, port_passes, flag_passes, just, flags_pass, matches, is_such, is_between, if_set, if_there};
+ghost use Rattle.pf_eval.specs.Seen.{tables_of};
+ghost use Rattle.pf_eval.specs.Matching.{direction_eq, on_interface, of_family, in_some, in_addresses, at_host, port_passes, flag_passes, just, flags_pass, matches, is_such, is_between, if_set, if_there};
 
 use crate::packet::Packet;
-use pf_addr::Addr;
-use pf_ruleset::Conditions;
-use pf_statements::{Addresses, Direction, Family, FlagTest, Host, Interface, PortTest};
+use crate::scope::Scope;
+use pf_addr::{Addr, Family};
+use pf_ruleset::{
+    Addresses, Conditions, Direction, FlagTest, Host, Interface, PortTest, TableName,
+};
 use pf_words::TcpFlags;
 
 /// Whether each condition holds of the packet.
 #[tactic(auto, unfolding(crate::specs::Matching::matches))]
-pub(crate) fn matches(rule: &Conditions, packet: &Packet) -> bool
-    ensures { result ≡ matches rule.now packet.now }
+pub(crate) fn matches(scope: Scope<'_>, rule: &Conditions, packet: &Packet) -> bool
+    ensures { result ≡ matches (tables_of scope.entry) rule.now packet.now }
 {
-    is_such(rule, packet) && is_between(rule, packet)
+    is_such(rule, packet) && is_between(scope, rule, packet)
 }
 
 #[tactic(auto, unfolding(crate::specs::Matching::is_such))]
@@ -30,12 +33,12 @@ fn is_such(rule: &Conditions, packet: &Packet) -> bool
 }
 
 #[tactic(auto, unfolding(crate::specs::Matching::is_between))]
-fn is_between(rule: &Conditions, packet: &Packet) -> bool
-    ensures { result ≡ is_between rule.now packet.now }
+fn is_between(scope: Scope<'_>, rule: &Conditions, packet: &Packet) -> bool
+    ensures { result ≡ is_between (tables_of scope.entry) rule.now packet.now }
 {
-    at_host(packet.source, &rule.source)
+    at_host(scope, packet.source, &rule.source)
         && is_port(rule.source_port, packet.source_port)
-        && at_host(packet.destination, &rule.destination)
+        && at_host(scope, packet.destination, &rule.destination)
         && is_port(rule.destination_port, packet.destination_port)
 }
 
@@ -80,23 +83,38 @@ fn is_number(wanted: Option<u8>, number: u8) -> bool
     }
 }
 
-fn at_host(addr: Addr, host: &Host) -> bool
-    ensures { result ≡ at_host addr host.now }
+fn at_host(scope: Scope<'_>, addr: Addr, host: &Host) -> bool
+    ensures { result ≡ at_host (tables_of scope.entry) addr host.now }
 {
     match host {
         Host::Any => true,
-        Host::In(set) => in_addresses(addr, set),
-        Host::NotIn(set) => !in_addresses(addr, set),
+        Host::In(set) => in_addresses(scope, addr, set),
+        Host::NotIn(set) => !in_addresses(scope, addr, set),
     }
 }
 
 #[tactic(auto, unfolding(crate::specs::Matching::in_addresses))]
-fn in_addresses(addr: Addr, set: &Addresses) -> bool
-    ensures { result ≡ in_addresses addr set.now }
+fn in_addresses(scope: Scope<'_>, addr: Addr, set: &Addresses) -> bool
+    ensures { result ≡ in_addresses (tables_of scope.entry) addr set.now }
 {
     match set {
         Addresses::Prefix(prefix) => prefix.contains(addr),
         Addresses::Range(range) => range.contains(addr),
+        Addresses::Table(name) => in_table(scope, name, addr),
+    }
+}
+
+/// Whether the address is in the table of that name; in none where there is no such table.
+#[tactic(auto, unfolding(crate::specs::Seen::tables_of))]
+fn in_table(scope: Scope<'_>, name: &TableName, addr: Addr) -> bool
+    ensures { result ≡ in_some addr (tables_of scope.entry name.now) }
+{
+    let Some(config) = scope.config else {
+        return false;
+    };
+    match config.table_for(scope.path, name.as_str()) {
+        None => false,
+        Some(table) => table.holds(addr),
     }
 }
 

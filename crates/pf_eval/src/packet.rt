@@ -6,7 +6,7 @@ ghost use Rattle.std.specs.Str.{bytes_eq};
 ghost use Rattle.pf_eval.specs.Packets.{without_digits, interfaces};
 
 use pf_addr::Addr;
-use pf_statements::{Direction, Name};
+use pf_ruleset::{Direction, InterfaceName};
 use pf_words::TcpFlags;
 use std::marker::Model;
 
@@ -14,8 +14,8 @@ use std::marker::Model;
 #[derive(Drop)]
 pub struct Packet {
     pub(crate) direction: Direction,
-    pub(crate) interface: Name,
-    pub(crate) groups: Vec<Name>,
+    pub(crate) interface: InterfaceName,
+    pub(crate) groups: Vec<InterfaceName>,
     pub(crate) protocol: u8,
     pub(crate) source: Addr,
     pub(crate) source_port: Option<u16>,
@@ -44,7 +44,7 @@ impl Packet {
 }
 
 /// Whether the name is among these.
-fn is_among(names: &[Name], name: &[u8]) -> bool
+fn is_among(names: &[InterfaceName], name: &[u8]) -> bool
     ensures { result ≡ list_any (λ n. bytes_eq n name.now) names.now }
 {
     for other in names {

@@ -4,12 +4,12 @@ ghost use Rattle.std.specs.Prelude.{◌≡◌, ◌&&◌, map};
 ghost use Rattle.pf_eval.specs.PacketTexts.{same_family, has_ports, is_there_if, only_if, agrees, said_flags, packet_at, packet_of};
 ghost use Rattle.pf_eval.specs.Cursors.{Answers, end_of};
 
-use crate::cursor::{Cursor, End};
+use crate::cursor::{Cursor, End, interface_name};
 use crate::fault::PacketFault;
 use crate::packet::Packet;
 use crate::word::{has_outer_blank, words};
 use pf_addr::Addr;
-use pf_statements::Name;
+use pf_ruleset::InterfaceName;
 use pf_words::TcpFlags;
 use std::alloc::Global;
 
@@ -52,7 +52,7 @@ fn said_flags(flags: Option<TcpFlags>) -> TcpFlags
 /// Whether the parts of a packet go together.
 #[tactic(auto, unfolding(crate::specs::PacketTexts::agrees))]
 fn agrees(
-    groups: &[Name],
+    groups: &[InterfaceName],
     protocol: u8,
     source: End,
     destination: End,
@@ -101,7 +101,7 @@ fn packet(alloc: Global, words: &[&[u8]]) -> Result<Packet, PacketFault>
     }
     Ok(Packet {
         direction,
-        interface: Name::from_bytes(alloc, interface)?,
+        interface: interface_name(alloc, interface)?,
         groups,
         protocol,
         source: source.addr,

@@ -1,30 +1,78 @@
 //! Verdicts as text.
 
 ghost use Rattle.std.specs.Prelude.{◌≡◌, IfOk, Some, string_bytes};
-ghost use Rattle.pf_eval.specs.Seen.{verdict_text};
+ghost use Rattle.pf_eval.specs.Seen.{judgement_of, path_text, shown_spot, spot_of, verdict_text};
 
-use crate::answer::Verdict;
+use crate::answer::{Spot, Verdict};
+use pf_ruleset::Name;
 use std::alloc::{AllocError, Global};
 use std::fmt;
 
-impl fmt::Display for Verdict {
-    ghost output = { λ v. Some (verdict_text v) };
+/// Names, each behind a slash.
+#[derive(Clone, Copy)]
+struct MoreNames<'a>(&'a [Name]);
+
+impl fmt::Display for MoreNames<'_> {
+    ghost use Rattle.std.specs.Prelude.{◌∷◌};
+    ghost use Rattle.std.specs.List.{flat_map};
+
+    ghost output = { λ n. Some (flat_map (λ name. 47 ∷ name) n.0.now) };
+
+    fn fmt<W: fmt::Write>(&self, f: &mut fmt::Formatter<W>) -> fmt::Result {
+        for name in self.0 {
+            write!(f, "/{}", name.as_str())?;
+        }
+        Ok(())
+    }
+}
+
+/// A path, a slash between its names.
+#[derive(Clone, Copy)]
+struct PathText<'a>(&'a [Name]);
+
+impl fmt::Display for PathText<'_> {
+    ghost output = { λ p. Some (path_text p.0.now) };
+
+    fn fmt<W: fmt::Write>(&self, f: &mut fmt::Formatter<W>) -> fmt::Result {
+        match self.0 {
+            [] => Ok(()),
+            [first, others @ ..] => write!(f, "{}{}", first.as_str(), MoreNames(others)),
+        }
+    }
+}
+
+/// The place of a rule, behind a blank.
+#[derive(Clone, Copy)]
+struct Place<'a>(Spot<'a>);
+
+impl fmt::Display for Place<'_> {
+    ghost use Rattle.pf_ruleset.specs.declared.rule.Action.TheVariants.{Pass};
+
+    ghost output = { λ p. Some (shown_spot (spot_of Pass p.0)) };
+
+    fn fmt<W: fmt::Write>(&self, f: &mut fmt::Formatter<W>) -> fmt::Result {
+        write!(f, " {}@{}", PathText(self.0.names), self.0.index)
+    }
+}
+
+impl fmt::Display for Verdict<'_> {
+    ghost output = { λ v. Some (verdict_text (judgement_of v)) };
 
     fn fmt<W: fmt::Write>(&self, f: &mut fmt::Formatter<W>) -> fmt::Result {
         match *self {
             Verdict::Skip => write!(f, "pass skip"),
             Verdict::Default => write!(f, "pass default"),
-            Verdict::Pass(spot) => write!(f, "pass @{}", spot.index),
-            Verdict::Drop(spot) => write!(f, "block drop @{}", spot.index),
-            Verdict::Return(spot) => write!(f, "block return @{}", spot.index),
+            Verdict::Pass(spot) => write!(f, "pass{}", Place(spot)),
+            Verdict::Drop(spot) => write!(f, "block drop{}", Place(spot)),
+            Verdict::Return(spot) => write!(f, "block return{}", Place(spot)),
         }
     }
 }
 
 /// A verdict as text: `pass skip`, `pass default`, or what is done, a blank, the path of the deciding rule's anchor,
-/// `@`, and the rule's place. Main's path is empty.
-pub fn show_verdict(alloc: Global, verdict: &Verdict) -> Result<String, AllocError>
-    ensures { IfOk result (λ text. string_bytes text ≡ verdict_text verdict.now) }
+/// `@`, and the rule's place. Main's path is empty. A growth that is refused is the error.
+pub fn show_verdict(alloc: Global, verdict: &Verdict<'_>) -> Result<String, AllocError>
+    ensures { IfOk result (λ text. string_bytes text ≡ verdict_text (judgement_of verdict.now)) }
 {
     format!(in alloc; "{verdict}")
 }

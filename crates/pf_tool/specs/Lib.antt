@@ -1,3 +1,4 @@
 pub mod Status
 pub mod Tool
 pub mod Output
+pub mod Calls

@@ -9,15 +9,19 @@ use Rattle.clap.specs.Lexer.{usize_max}
 use Rattle.pf_grammar.specs.declared.fault.Refusal.{Refusal}
 use Rattle.pf_grammar.specs.declared.place.Place.{Place}
 use Rattle.pf_grammar.specs.declared.place.Place.TheVariants.{Main, Anchor}
-use Rattle.pf_words.specs.Profiles.{Two}
-use Rattle.pf_grammar.specs.Causes.{cause_code}
+use Rattle.pf_words.specs.declared.profile.Profile.TheVariants.{Two}
+use Rattle.pf_expansion.specs.Causes.{cause_code}
 use Rattle.pf_ruleset.specs.Rulesets.{RulesetValue}
 use Rattle.pf_grammar.specs.Reading.{reading}
-use Rattle.pf_ruleset.specs.Shown.{shown}
+use Rattle.pf_show.specs.Shown.{shown}
 use Rattle.pf_eval.specs.Packets.{PacketValue}
 use Rattle.pf_eval.specs.PacketTexts.{packet_of}
+use Rattle.pf_config.specs.declared.fault.ConfigFault.{ConfigFault}
+use Rattle.pf_config.specs.Map.{Configuration}
+use Rattle.pf_config.specs.Changes.{load_ruleset}
+use Rattle.pf_config.specs.Codes.{fault_code}
 use Rattle.pf_eval.specs.Verdicts.{judgement}
-use Rattle.pf_eval.specs.Seen.{verdict_of, verdict_text}
+use Rattle.pf_eval.specs.Seen.{verdict_text}
 use Rattle.pf_tool.specs.declared.output.Ending.{Ending}
 use Rattle.pf_tool.specs.declared.output.Ending.TheVariants.{Done, Refused}
 use Rattle.pf_tool.specs.declared.status.Status.{Status}
@@ -39,11 +43,10 @@ pfx_app =
     let named = with_subcommand (with_subcommand (new_app (codes "pfx")) check_app.top) test_app.top in
     record named { top = record named.top { subcommand_required = true } }
 
--- what is asked for: verdicts for packet texts, what a text comes to at a place, or nothing that the program knows
-pub data Call : Type 0 where
-  Test : (packets : List Text) → Call
-  Check : (place : Place) → Call
-  Misused : Call
+-- what is asked for: verdicts for packet texts, or what a text comes to at a place
+pub data CallValue : Type 0 where
+  Test : (packets : List Text) → CallValue
+  Check : (place : Place) → CallValue
 
 -- the packet words of test, if that is the word
 abbrev pub packets_in : Option (Text × List Row) → Option (List Text)
@@ -60,20 +63,21 @@ abbrev pub place_in : Option (Text × List Row) → Option Place
 place_in None = None
 place_in (Some (name, rows)) = if bytes_eq name (codes "check") then Some (place_for (first_of (codes "anchor") rows)) else None
 
-abbrev pub called_as : Option (List Text) → Option Place → Call
-called_as (Some packets) place = Test packets
-called_as None (Some place) = Check place
-called_as None None = Misused
+-- what packet words ask for, or else a place
+abbrev pub called_as : Option (List Text) → Option Place → Option CallValue
+called_as (Some packets) place = Some (Test packets)
+called_as None (Some place) = Some (Check place)
+called_as None None = None
 
-abbrev pub called : Option (Text × List Row) → Call
+abbrev pub called : Option (Text × List Row) → Option CallValue
 called word = called_as (packets_in word) (place_in word)
 
-abbrev pub unless_faulty : Kinds → Call → Call
+abbrev pub unless_faulty : Kinds → Option CallValue → Option CallValue
 unless_faulty [] call = call
-unless_faulty (k ∷ ks) call = Misused
+unless_faulty (k ∷ ks) call = None
 
--- the words after the program's name
-unfoldable pub call_of : List Text → Call
+-- what the words after the program's name ask for, none where they aren't understood
+unfoldable pub call_of : List Text → Option CallValue
 call_of words = unless_faulty (fault_of pfx_app words) (called (subcommand_of pfx_app words))
 
 -- ---- what is written
@@ -93,8 +97,8 @@ abbrev pub refused_packet : Written
 refused_packet = record { text = line (codes "refused 30"); ending = Refused }
 
 -- the verdict for a packet text, none where it is no packet
-unfoldable pub verdict_for : RulesetValue → Text → Option (List ℕ)
-verdict_for rules packet = option_map (λ (k : PacketValue). verdict_text (verdict_of (judgement rules.skip rules.items k))) (packet_of packet)
+unfoldable pub verdict_for : Configuration → Text → Option (List ℕ)
+verdict_for c packet = option_map (λ (k : PacketValue). verdict_text (judgement c k)) (packet_of packet)
 
 -- the verdict line before what follows; a text that is no packet ends it
 abbrev pub put_verdict : Option (List ℕ) → Written → Written
@@ -102,16 +106,30 @@ put_verdict None later = refused_packet
 put_verdict (Some verdict) later = behind (line verdict) later
 
 -- a line for each packet text in turn
-abbrev pub verdict_lines : RulesetValue → List Text → Written
-verdict_lines rules [] = record { text = []; ending = Done }
-verdict_lines rules (packet ∷ packets) = put_verdict (verdict_for rules packet) (verdict_lines rules packets)
+abbrev pub verdict_lines : Configuration → List Text → Written
+verdict_lines c [] = record { text = []; ending = Done }
+verdict_lines c (packet ∷ packets) = put_verdict (verdict_for c packet) (verdict_lines c packets)
 
 abbrev pub refusal_line : Refusal → List ℕ
 refusal_line r = line (codes "refused " ++ decimal (cause_code r.cause) ++ codes " line " ++ decimal r.line)
 
+-- a load that is refused
+abbrev pub refused_load : Option ℕ → Written
+refused_load None = record { text = []; ending = Refused }
+refused_load (Some code) = record { text = line (codes "refused " ++ decimal code); ending = Refused }
+
+abbrev pub tested_over : List Text → Result Configuration ConfigFault → Written
+tested_over packets (Err fault) = refused_load (fault_code fault)
+tested_over packets (Ok c) = verdict_lines c packets
+
+-- nothing is loaded
+abbrev pub nothing_loaded : Configuration
+nothing_loaded = record { skip = []; anchors = [] }
+
+-- the text's ruleset is loaded as the main one
 abbrev pub tested : List Text → Result RulesetValue Refusal → Written
 tested packets (Err refusal) = record { text = refusal_line refusal; ending = Refused }
-tested packets (Ok rules) = verdict_lines rules packets
+tested packets (Ok rules) = tested_over packets (load_ruleset nothing_loaded [] rules)
 
 -- test PACKET.. over this input
 unfoldable pub test_output : List Text → List ℕ → Written
@@ -129,14 +147,18 @@ abbrev pub status_of : Ending → Status
 status_of Done = status.Done
 status_of Refused = status.Refused
 
+-- what is asked for, over this input
+abbrev pub answered : CallValue → List ℕ → Written
+answered (Test packets) input = test_output packets input
+answered (Check place) input = check_output place input
+
 abbrev pub Writes : Option (List ℕ) → Option (List ℕ) → Status → Written → Type 0
 Writes old new ending written = Appends old new written.text × (ending ≡ status_of written.ending)
 
 -- What a run has done that ended so, over this input. Where memory ran out it wrote that alone; of a read or a write that
 -- failed, and of the text for words that aren't understood, nothing is said.
-abbrev pub Ran : Status → Call → Option (List ℕ) → Option (List ℕ) → Option (List ℕ) → Type 0
+abbrev pub Ran : Status → Option CallValue → Option (List ℕ) → Option (List ℕ) → Option (List ℕ) → Type 0
 Ran status.Memory call input old new = Appends old new (line (codes "memory"))
 Ran status.Failed call input old new = Unit {0}
-Ran ending (Test packets) input old new = IfSome input (λ bytes. Writes old new ending (test_output packets bytes))
-Ran ending (Check place) input old new = IfSome input (λ bytes. Writes old new ending (check_output place bytes))
-Ran ending Misused input old new = ending ≡ status.Usage
+Ran ending (Some call) input old new = IfSome input (λ bytes. Writes old new ending (answered call bytes))
+Ran ending None input old new = ending ≡ status.Usage

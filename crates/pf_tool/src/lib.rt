@@ -4,17 +4,21 @@
 //!
 //! - `run`: the words of the program, over any reader and writer.
 //! - `Status`: how a run ends, and the exit status.
+//!
+//! Within: `words` has the words as `clap` reads them, `call` what they ask for, `checking` and `testing` what each word writes,
+//! `input` and `output` what a run reads and writes, `running` one run from the words to the status.
 #![tactic(auto)]
 
-mod check_word;
-mod command;
+mod call;
+mod checking;
 mod input;
 mod output;
-mod program;
+mod running;
 mod status;
-mod test_word;
+mod testing;
+mod words;
 
-pub use program::{out_of_memory, run};
+pub use running::{out_of_memory, run};
 pub use status::Status;
 
 #[cfg(test)]

@@ -1,7 +1,6 @@
 mod endings;
 mod large;
 mod profiles;
-mod tables;
 mod verdicts;
 mod worked;
 

@@ -1,0 +1,235 @@
+-- Names in byte order.
+use Rattle.std.proofs.Common.{◌≡◌, ℕ, ◌+◌, ◌<◌, ◌≤◌, Bool, true, false, ◌&&◌, cond, List, [], ◌∷◌, ◌++◌, length, take, drop, Option, Some, None, Ordering, refl, sym, subst, ap, ◌∙◌, arith, rules}
+use Rattle.std.specs.declared.cmp.Ordering.TheVariants.{Less, Equal, Greater}
+use Rattle.std.specs.Prelude.{not, if◌then◌else◌, find, filter, fold, IfSome, option_map}
+use Rattle.std.specs.List.{list_all, filter_map}
+use Rattle.std.specs.Ordering.{is_lt, nat_cmp, ordering_reverse}
+use Rattle.std.specs.Cmp.{IsTotalOrder}
+use Rattle.std.specs.Cmp.Lexicographic.{slice_cmp}
+use Rattle.std.proofs.lemmas.Cmp.{nat_list_cmp_total, tied_itself}
+use Rattle.std.proofs.lemmas.Map.Lookups.{exact_bytes}
+use Rattle.pf_ruleset.specs.Names.{Name, is_before}
+use Rattle.std.specs.List.{starts_with}
+use Rattle.std.specs.Str.{bytes_eq}
+use Rattle.pf_ruleset.specs.Items.{AnyRule}
+use Rattle.pf_table.specs.Tables.{TableValue}
+use Rattle.pf_config.specs.Changes.{is_empty}
+use Rattle.pf_config.specs.Trees.{AnchorTree, below, own_entry, last_name, IsKid, AreKids, part_below, passes, kid_names}
+use Rattle.pf_config.proofs.Treed.{begins, kid_begins, bytes_same, same_bytes, not_longer}
+use Rattle.pf_config.specs.Map.{Configuration, AnchorValue, Path, name_after, names_after, put_name, kids, is_above, followed_by, NextIs}
+
+is_less : (o : Ordering) → is_lt o ≡ true → o ≡ Less
+is_less Less h = refl
+is_less Equal h = cc
+is_less Greater h = cc
+
+neither : (o : Ordering) → is_lt o ≡ false → is_lt (ordering_reverse o) ≡ false → o ≡ Equal
+neither Less h k = cc
+neither Equal h k = refl
+neither Greater h k = cc
+
+never : (x : Name) → is_before x x ≡ false
+never x = ap is_lt (tied_itself nat_list_cmp_total x)
+
+chain : (x y z : Name) → is_before x y ≡ true → is_before y z ≡ true → is_before x z ≡ true
+chain x y z h k = ap is_lt (nat_list_cmp_total.trans x y z (is_less _ h) (is_less _ k))
+
+same : (x y : Name) → is_before x y ≡ false → is_before y x ≡ false → x ≡ y
+same x y h k = exact_bytes x y (neither _ h (ap is_lt (sym (nat_list_cmp_total.antisymm y x)) ∙ k))
+
+back : (x y : Name) → is_before x y ≡ true → is_before y x ≡ false
+back x y h = elim (is_before y x) as (λ b. is_before y x ≡ b → b ≡ false) [ true ↦ λ k. sym (chain x y x h k) ∙ never x | false ↦ λ k. refl ] refl
+
+-- each name is before those behind it
+abbrev Sorted : List Name → Type 0
+Sorted [] = Unit {0}
+Sorted (x ∷ xs) = (list_all (is_before x) xs ≡ true) × Sorted xs
+
+both_true : (a b : Bool) → (a && b) ≡ true → (a ≡ true) × (b ≡ true)
+both_true true true h = (refl, refl)
+both_true true false h = cc
+both_true false b h = cc
+
+all_put : (x n : Name) (ms : List Name) → is_before x n ≡ true → list_all (is_before x) ms ≡ true → list_all (is_before x) (put_name ms n) ≡ true
+all_put x n [] h k = rw h refl
+all_put x n (m ∷ ms) h k =
+    let both = both_true (is_before x m) (list_all (is_before x) ms) k in
+    elim (is_before n m) as (λ b. list_all (is_before x) (if b then n ∷ m ∷ ms else (if is_before m n then m ∷ put_name ms n else m ∷ ms)) ≡ true) [
+      | true ↦ (let go : (is_before x n && list_all (is_before x) (m ∷ ms)) ≡ true = rw h k in go)
+      | false ↦ elim (is_before m n) as (λ b. list_all (is_before x) (if b then m ∷ put_name ms n else m ∷ ms) ≡ true) [ true ↦ (let first : is_before x m ≡ true = both.0 in rw first (all_put x n ms h both.1)) | false ↦ k ]
+    ]
+
+-- what is before a name is before those behind that name
+all_chain : (x y : Name) (ms : List Name) → is_before x y ≡ true → list_all (is_before y) ms ≡ true → list_all (is_before x) ms ≡ true
+all_chain x y [] h k = refl
+all_chain x y (m ∷ ms) h k = let both = both_true _ _ k in rw (chain x y m h both.0) (all_chain x y ms h both.1)
+
+sorted_put : (n : Name) (ms : List Name) → Sorted ms → Sorted (put_name ms n)
+sorted_put n [] s = (refl, tt)
+sorted_put n (m ∷ ms) s =
+    (elim (is_before n m) as (λ b. is_before n m ≡ b → Sorted (if b then n ∷ m ∷ ms else (if is_before m n then m ∷ put_name ms n else m ∷ ms))) [
+      | true ↦ λ h. (rw h (all_chain n m ms h s.0), s)
+      | false ↦ λ h. (elim (is_before m n) as (λ b. is_before m n ≡ b → Sorted (if b then m ∷ put_name ms n else m ∷ ms)) [
+        | true ↦ λ k. (all_put m n ms k s.0, sorted_put n ms s.1)
+        | false ↦ λ k. s
+      ]) refl
+    ]) refl
+
+sorted_all : (ns acc : List Name) → Sorted acc → Sorted (fold put_name acc ns)
+sorted_all [] acc s = s
+sorted_all (n ∷ ns) acc s = sorted_all ns (put_name acc n) (sorted_put n acc s)
+
+-- ---- one kid after another
+
+all_pass : (test : Name → Bool) (k : Name) (ks : List Name) → ((x : Name) → is_before k x ≡ true → test x ≡ true) → list_all (is_before k) ks ≡ true → filter test ks ≡ ks
+all_pass test k [] h s = refl
+all_pass test k (x ∷ ks) h s = let both = both_true _ _ s in rw (h x both.0) (ap (λ (r : List Name). x ∷ r) (all_pass test k ks h both.1))
+
+above_chain : (after : Option Name) (x y : Name) → is_before x y ≡ true → is_above after x ≡ true → is_above after y ≡ true
+above_chain None x y h k = refl
+above_chain (Some m) x y h k = chain m x y k h
+
+found_before : (test : Name → Bool) (k n : Name) (ks : List Name) → list_all (is_before k) ks ≡ true → find test ks ≡ Some n → is_before k n ≡ true
+found_before test k n [] s e = cc
+found_before test k n (x ∷ ks) s e =
+    let both = both_true _ _ s in
+    (elim (test x) as (λ b. cond b (Some x) (find test ks) ≡ Some n → is_before k n ≡ true) [
+      | true ↦ λ f. let same_name : x ≡ n = cc in rw (← same_name) both.0
+      | false ↦ λ f. found_before test k n ks both.1 f
+    ]) e
+
+-- those above the first that is above a name are the others above that name
+sorted_above : (after : Option Name) (n : Name) (ks : List Name) → Sorted ks → find (is_above after) ks ≡ Some n → filter (is_above after) ks ≡ n ∷ filter (is_above (Some n)) ks
+sorted_above after n [] s e = cc
+sorted_above after n (k ∷ ks) s e =
+    (elim (is_above after k) as (λ b. is_above after k ≡ b → cond b (Some k) (find (is_above after) ks) ≡ Some n → cond b (k ∷ filter (is_above after) ks) (filter (is_above after) ks) ≡ n ∷ filter (is_above (Some n)) (k ∷ ks)) [
+      | true ↦ λ h f.
+          let same_name : k ≡ n = cc in
+          let here : filter (is_above after) ks ≡ ks = all_pass (is_above after) k ks (λ x l. above_chain after k x l h) s.0 in
+          let there : filter (is_above (Some k)) (k ∷ ks) ≡ ks = rw (never k) (all_pass (is_before k) k ks (λ x l. l) s.0) in
+          let Goal : Name → Type 0 = λ m. k ∷ filter (is_above after) ks ≡ m ∷ filter (is_above (Some m)) (k ∷ ks) in
+          subst Goal same_name (ap (λ (r : List Name). k ∷ r) (here ∙ sym there))
+      | false ↦ λ h f. rw (back k n (found_before (is_above after) k n ks s.0 f)) (sorted_above after n ks s.1 f)
+    ]) refl e
+
+pub kids_above : (after : Option Name) (n : Name) (c : Configuration) (p : Path) → find (is_above after) (kids c p) ≡ Some n → filter (is_above after) (kids c p) ≡ n ∷ filter (is_above (Some n)) (kids c p)
+unfolding kids
+kids_above after n c p e = sorted_above after n (kids c p) (sorted_all (names_after p c.anchors) [] tt) e
+
+none_above : (test : Name → Bool) (ks : List Name) → find test ks ≡ None → filter test ks ≡ []
+none_above test [] e = refl
+none_above test (k ∷ ks) e = (elim (test k) as (λ b. cond b (Some k) (find test ks) ≡ None → cond b (k ∷ filter test ks) (filter test ks) ≡ []) [ true ↦ λ f. cc | false ↦ λ f. none_above test ks f ]) e
+
+pub no_kids_above : (after : Option Name) (c : Configuration) (p : Path) → find (is_above after) (kids c p) ≡ None → filter (is_above after) (kids c p) ≡ []
+no_kids_above after c p e = none_above (is_above after) (kids c p) e
+
+pub next_is : (after : Option Name) (c : Configuration) (p : Path) → IfSome (find (is_above after) (kids c p)) (NextIs after (kids c p))
+next_is after c p = (elim (find (is_above after) (kids c p)) as (λ r. find (is_above after) (kids c p) ≡ r → IfSome r (NextIs after (kids c p))) [ None ↦ λ e. tt | Some n ↦ λ e. kids_above after n c p e ]) refl
+
+-- ---- the kids of an anchor are its paths' next names
+
+after_is : (p : Path) (m : Name) (q : Path) → starts_with bytes_eq q (p ++ m ∷ []) ≡ true → name_after p q ≡ Some m
+after_is [] m [] h = cc
+after_is [] m (x ∷ q) h = ap Some (sym (bytes_same m x (both_true (bytes_eq m x) true h).0))
+after_is (l ∷ p) m [] h = cc
+after_is (l ∷ p) m (x ∷ q) h = let both = both_true (bytes_eq l x) (starts_with bytes_eq q (p ++ m ∷ [])) h in rw both.0 (after_is p m q both.1)
+
+after_own : (p : Path) → name_after p p ≡ None
+after_own [] = refl
+after_own (l ∷ p) = rw (same_bytes l) (after_own p)
+
+copies : Name → List AnchorValue → List Name
+copies m [] = []
+copies m (a ∷ es) = m ∷ copies m es
+
+names_copies : (p : Path) (m : Name) (es fs : List AnchorValue) → begins (p ++ m ∷ []) es ≡ true → names_after p (es ++ fs) ≡ copies m es ++ names_after p fs
+unfolding copies
+names_copies p m [] fs h = refl
+names_copies p m (a ∷ es) fs h =
+    let both = both_true (starts_with bytes_eq a.path (p ++ m ∷ [])) (begins (p ++ m ∷ []) es) h in
+    rw (after_is p m a.path both.0) (ap (λ (r : List Name). m ∷ r) (names_copies p m es fs both.1))
+
+names_own : (p : Path) (rules : List AnyRule) (tables : List (Name × TableValue)) (fs : List AnchorValue) → names_after p (own_entry p rules tables ++ fs) ≡ names_after p fs
+names_own p rules tables fs = elim (is_empty rules && is_empty tables) as (λ b. names_after p ((if b then [] else record { path = p; rules = rules; tables = tables } ∷ []) ++ fs) ≡ names_after p fs) [ true ↦ refl | false ↦ rw (after_own p) refl ]
+
+abbrev all_before : List Name → Name → Bool
+all_before acc m = list_all (λ x. is_before x m) acc
+
+put_last : (acc : List Name) (m : Name) → all_before acc m ≡ true → put_name acc m ≡ acc ++ m ∷ []
+put_last [] m h = refl
+put_last (x ∷ acc) m h = let both = both_true (is_before x m) (all_before acc m) h in rw (back x m both.0, both.0) (ap (λ (r : List Name). x ∷ r) (put_last acc m both.1))
+
+put_again : (acc : List Name) (m : Name) → all_before acc m ≡ true → put_name (acc ++ m ∷ []) m ≡ acc ++ m ∷ []
+put_again [] m h = rw (never m) refl
+put_again (x ∷ acc) m h = let both = both_true (is_before x m) (all_before acc m) h in rw (back x m both.0, both.0) (ap (λ (r : List Name). x ∷ r) (put_again acc m both.1))
+
+put_copies : (acc : List Name) (m : Name) (es : List AnchorValue) (ns : List Name) → all_before acc m ≡ true → fold put_name (acc ++ m ∷ []) (copies m es ++ ns) ≡ fold put_name (acc ++ m ∷ []) ns
+unfolding copies
+put_copies acc m [] ns h = refl
+put_copies acc m (a ∷ es) ns h = ap (λ r. fold put_name r (copies m es ++ ns)) (put_again acc m h) ∙ put_copies acc m es ns h
+
+put_some : (acc : List Name) (m : Name) (es : List AnchorValue) (ns : List Name) → is_empty es ≡ false → all_before acc m ≡ true → fold put_name acc (copies m es ++ ns) ≡ fold put_name (acc ++ m ∷ []) ns
+unfolding copies
+put_some acc m [] ns e h = cc
+put_some acc m (a ∷ es) ns e h = ap (λ r. fold put_name r (copies m es ++ ns)) (put_last acc m h) ∙ put_copies acc m es ns h
+
+abbrev pub child_names : List AnchorTree → List Name
+child_names [] = []
+child_names (k ∷ ks) = last_name k.names ∷ child_names ks
+
+abbrev HeadBehind : List Name → List AnchorTree → Type 0
+HeadBehind acc [] = Unit {0}
+HeadBehind acc (k ∷ ks) = all_before acc (last_name k.names) ≡ true
+
+before_chain : (acc : List Name) (m n : Name) → is_before m n ≡ true → all_before acc m ≡ true → all_before (acc ++ m ∷ []) n ≡ true
+before_chain [] m n h k = rw h refl
+before_chain (x ∷ acc) m n h k = let both = both_true (is_before x m) (all_before acc m) k in rw (chain x m n both.0 h) (before_chain acc m n h both.1)
+
+head_next : (acc : List Name) (m : Name) (ks : List AnchorTree) → all_before acc m ≡ true → list_all (λ (j : AnchorTree). is_before m (last_name j.names)) ks ≡ true → HeadBehind (acc ++ m ∷ []) ks
+head_next acc m [] h k = tt
+head_next acc m (j ∷ ks) h k = before_chain acc m (last_name j.names) (both_true (is_before m (last_name j.names)) (list_all (λ (i : AnchorTree). is_before m (last_name i.names)) ks) k).0 h
+
+append_one : (acc : List Name) (m : Name) (ns : List Name) → (acc ++ m ∷ []) ++ ns ≡ acc ++ m ∷ ns
+append_one [] m ns = refl
+append_one (x ∷ acc) m ns = ap (λ (r : List Name). x ∷ r) (append_one acc m ns)
+
+no_more : (acc : List Name) → acc ++ [] ≡ acc
+no_more [] = refl
+no_more (x ∷ acc) = ap (λ (r : List Name). x ∷ r) (no_more acc)
+
+kids_from : (p : Path) (acc : List Name) (ks : List AnchorTree) → AreKids p ks → HeadBehind acc ks → fold put_name acc (names_after p (below ks)) ≡ acc ++ child_names ks
+kids_from p acc [] h a = sym (no_more acc)
+kids_from p acc (k ∷ ks) h a =
+    let m = last_name k.names in
+    ap (fold put_name acc) (names_copies p m k.anchors (below ks) (kid_begins p k h.0))
+    ∙ put_some acc m k.anchors (names_after p (below ks)) h.0.1 a
+    ∙ kids_from p (acc ++ m ∷ []) ks h.2 (head_next acc m ks a h.1)
+    ∙ append_one acc m (child_names ks)
+
+pub kids_are : (p : Path) (rules : List AnyRule) (tables : List (Name × TableValue)) (ks : List AnchorTree) → AreKids p ks → fold put_name [] (names_after p (own_entry p rules tables ++ below ks)) ≡ child_names ks
+kids_are p rules tables ks h = ap (fold put_name []) (names_own p rules tables (below ks)) ∙ kids_from p [] ks h (head p ks h)
+  where
+    head : (p : Path) (ks : List AnchorTree) → AreKids p ks → HeadBehind [] ks
+    head p [] h = tt
+    head p (k ∷ ks) h = refl
+
+-- the names of the first kid that passes
+pub find_kid : (p : Path) (test : Name → Bool) (ks : List AnchorTree) → AreKids p ks → kid_names (find (λ (k : AnchorTree). test (last_name k.names)) ks) ≡ option_map (followed_by p) (find test (child_names ks))
+find_kid p test [] h = refl
+find_kid p test (k ∷ ks) h = elim (test (last_name k.names)) as (λ b. kid_names (cond b (Some k) (find (λ (j : AnchorTree). test (last_name j.names)) ks)) ≡ option_map (followed_by p) (cond b (Some (last_name k.names)) (find test (child_names ks)))) [ true ↦ ap Some h.0.0 | false ↦ find_kid p test ks h.2 ]
+
+-- names after a path are those in the part below it
+pub names_part : (p : Path) (es : List AnchorValue) → names_after p (part_below p es) ≡ names_after p es
+names_part p [] = refl
+names_part p (a ∷ es) =
+    (elim (starts_with bytes_eq a.path p) as (λ b. starts_with bytes_eq a.path p ≡ b → names_after p (cond b (a ∷ part_below p es) (part_below p es)) ≡ filter_map (λ (x : AnchorValue). name_after p x.path) (a ∷ es)) [
+      | true ↦ λ h. go (names_part p es) (name_after p a.path) refl
+      | false ↦ λ h. rw h (names_part p es)
+    ]) refl
+  where
+    go : names_after p (part_below p es) ≡ names_after p es → (r : Option Name) → name_after p a.path ≡ r → names_after p (a ∷ part_below p es) ≡ names_after p (a ∷ es)
+    go rest None e = rw e rest
+    go rest (Some n) e = rw e (ap (λ (r : List Name). n ∷ r) rest)
+
+pub kid_above_is : (p : Path) (test : Name → Bool) (rules : List AnyRule) (tables : List (Name × TableValue)) (ks : List AnchorTree) → AreKids p ks → kid_names (find (passes test) ks) ≡ option_map (followed_by p) (find test (fold put_name [] (names_after p (own_entry p rules tables ++ below ks))))
+kid_above_is p test rules tables ks h = find_kid p test ks h ∙ ap (λ ns. option_map (followed_by p) (find test ns)) (sym (kids_are p rules tables ks h))

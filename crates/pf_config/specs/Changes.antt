@@ -1,0 +1,231 @@
+-- The changes of a configuration.
+use Rattle.std.specs.Prelude.{◌≡◌, ℕ, Bool, true, false, ◌+◌, ◌&&◌, ◌||◌, List, [], ◌∷◌, ◌++◌, length, map, filter, fold, not, nat_lt, Option, Some, None, Result, Ok, Err, if◌then◌else◌, option_map, unwrap_or}
+use Rattle.std.specs.List.{list_any}
+use Rattle.std.specs.Str.{bytes_eq}
+use Rattle.std.specs.Ordering.{is_lt, nat_cmp}
+use Rattle.std.specs.Cmp.Lexicographic.{slice_cmp}
+use Rattle.pf_ruleset.specs.declared.parts.Addresses.{Addresses}
+use Rattle.pf_ruleset.specs.declared.parts.Addresses.TheVariants.{Prefix, Range, Table}
+use Rattle.pf_ruleset.specs.declared.parts.Host.{Host}
+use Rattle.pf_ruleset.specs.declared.parts.Host.TheVariants.{Any, In, NotIn}
+use Rattle.pf_ruleset.specs.declared.rule.Conditions.{Conditions}
+use Rattle.pf_ruleset.specs.declared.ruleset.TableEntry.{TableEntry}
+use Rattle.pf_ruleset.specs.Names.{Name, begins_below, is_before}
+use Rattle.pf_ruleset.specs.Items.{AnyRule, conditions_of, rule_of}
+use Rattle.pf_ruleset.specs.Rulesets as rulesets
+use Rattle.pf_config.specs.declared.fault.ConfigFault.{ConfigFault}
+use Rattle.pf_config.specs.declared.fault.ConfigFault.TheVariants.{NoTable, ConstTable, TableFull, AnchorsFull, BadPath, Memory}
+use Rattle.pf_table.specs.Tables.{TableValue}
+use Rattle.pf_table.specs.Contents.{with_entries, contents_of, without_entries}
+use Rattle.pf_config.specs.Map.{Configuration, AnchorValue, Path, path_eq, anchor_at, rules_in, tables_in, named, table_at, tables_at, name_after}
+
+-- ---- one entry of the map
+
+abbrev pub is_empty : {X : Type 0} → List X → Bool
+is_empty [] = true
+is_empty (x ∷ xs) = false
+
+abbrev pub is_nothing : AnchorValue → Bool
+is_nothing a = is_empty a.rules && is_empty a.tables
+
+-- an entry with both parts empty is none
+abbrev pub unless_nothing : AnchorValue → List AnchorValue
+unless_nothing a = if is_nothing a then [] else a ∷ []
+
+abbrev pub is_path_before : Path → Path → Bool
+is_path_before p q = is_lt (slice_cmp (slice_cmp nat_cmp) p q)
+
+abbrev pub anchors_before : Path → List AnchorValue → List AnchorValue
+anchors_before p anchors = filter (λ (a : AnchorValue). is_path_before a.path p) anchors
+
+abbrev pub anchors_behind : Path → List AnchorValue → List AnchorValue
+anchors_behind p anchors = filter (λ (a : AnchorValue). is_path_before p a.path) anchors
+
+-- the map with this at its path
+unfoldable pub with_anchor : AnchorValue → List AnchorValue → List AnchorValue
+with_anchor a anchors = anchors_before a.path anchors ++ unless_nothing a ++ anchors_behind a.path anchors
+
+abbrev pub with_rules : Path → List AnyRule → List AnchorValue → List AnchorValue
+with_rules p rules anchors = with_anchor (record { path = p; rules = rules; tables = tables_in (anchor_at p anchors) }) anchors
+
+abbrev pub with_tables : Path → List (Name × TableValue) → List AnchorValue → List AnchorValue
+with_tables p tables anchors = with_anchor (record { path = p; rules = rules_in (anchor_at p anchors); tables = tables }) anchors
+
+-- ---- unnamed blocks
+
+abbrev pub is_some_unnamed : Option Name → Bool
+is_some_unnamed None = false
+is_some_unnamed (Some n) = begins_below n
+
+-- every path that begins with p and an unnamed name goes
+unfoldable pub without_unnamed : Path → List AnchorValue → List AnchorValue
+without_unnamed p anchors = filter (λ (a : AnchorValue). not (is_some_unnamed (name_after p a.path))) anchors
+
+-- ---- tables that no rule refers to
+
+abbrev pub is_at_table : Name → Host → Bool
+is_at_table name Any = false
+is_at_table name (In (Prefix block)) = false
+is_at_table name (In (Range range)) = false
+is_at_table name (In (Table own)) = bytes_eq own name
+is_at_table name (NotIn (Prefix block)) = false
+is_at_table name (NotIn (Range range)) = false
+is_at_table name (NotIn (Table own)) = bytes_eq own name
+
+abbrev pub conditions_refer : Name → Conditions → Bool
+conditions_refer name r = is_at_table name r.source || is_at_table name r.destination
+
+abbrev pub refers : Name → AnyRule → Bool
+refers name r = conditions_refer name (conditions_of r)
+
+abbrev pub refer : Name → AnchorValue → Bool
+refer name a = list_any (refers name) a.rules
+
+-- any rule refers to main's table, a rule of its own anchor to another
+abbrev pub is_used : List AnchorValue → AnchorValue → Name → Bool
+is_used anchors a name = if is_empty a.path then list_any (refer name) anchors else refer name a
+
+abbrev pub used_tables : List AnchorValue → AnchorValue → List (Name × TableValue) → List (Name × TableValue)
+used_tables anchors a tables = filter (λ (t : Name × TableValue). t.1.persist || is_used anchors a t.0) tables
+
+abbrev pub used_alone : List AnchorValue → AnchorValue → AnchorValue
+used_alone anchors a = record { path = a.path; rules = a.rules; tables = used_tables anchors a a.tables }
+
+abbrev pub tidied_of : List AnchorValue → List AnchorValue → List AnchorValue
+tidied_of all anchors = filter (λ (a : AnchorValue). not (is_nothing a)) (map (used_alone all) anchors)
+
+-- every table without persist that no rule refers to goes
+unfoldable pub tidied : List AnchorValue → List AnchorValue
+tidied anchors = tidied_of anchors anchors
+
+-- ---- loads
+
+-- a table as a text defines it: without a list the contents stay
+abbrev pub Definition : Type 0
+Definition = rulesets.TableValue
+
+abbrev pub tables_before : Name → List (Name × TableValue) → List (Name × TableValue)
+tables_before name tables = filter (λ (t : Name × TableValue). is_before t.0 name) tables
+
+abbrev pub tables_behind : Name → List (Name × TableValue) → List (Name × TableValue)
+tables_behind name tables = filter (λ (t : Name × TableValue). is_before name t.0) tables
+
+abbrev pub with_table : List (Name × TableValue) → Name → TableValue → List (Name × TableValue)
+with_table tables name t = tables_before name tables ++ (name, t) ∷ tables_behind name tables
+
+abbrev pub entries_in : Option TableValue → List TableEntry
+entries_in None = []
+entries_in (Some t) = t.entries
+
+abbrev pub listed : Option (List TableEntry) → List TableEntry → List TableEntry
+listed None old = old
+listed (Some list) old = contents_of list
+
+abbrev pub defined_table : List (Name × TableValue) → Definition → TableValue
+defined_table tables d = record { persist = d.persist; is_const = d.is_const; entries = listed d.entries (entries_in (named d.name tables)) }
+
+abbrev pub defined : List (Name × TableValue) → Definition → List (Name × TableValue)
+defined tables d = with_table tables d.name (defined_table tables d)
+
+-- the rules of a path, as a text or a block of it gives them
+pub record Block : Type 0 where
+  pub path : Path
+  pub rules : List AnyRule
+
+abbrev pub placed : List AnchorValue → Block → List AnchorValue
+placed anchors b = with_rules b.path b.rules (without_unnamed b.path anchors)
+
+abbrev pub loaded : Block → List Definition → List Block → List AnchorValue → List AnchorValue
+loaded own definitions blocks anchors =
+    let first = placed anchors own in
+    let tables = fold defined (tables_in (anchor_at own.path first)) definitions in
+    tidied (fold placed (with_tables own.path tables first) blocks)
+
+-- 23 asks about the map that the command would leave
+abbrev pub unless_full : List Name → List AnchorValue → Result Configuration ConfigFault
+unless_full skip anchors = if nat_lt 1024 (length anchors) then Err AnchorsFull else Ok (record { skip = skip; anchors = anchors })
+
+abbrev pub is_too_deep : Block → Bool
+is_too_deep b = nat_lt 8 (length b.path)
+
+-- a text's own rules and definitions at a path, and its blocks in their order, outer ones first
+unfoldable pub load : Configuration → List Name → Block → List Definition → List Block → Result Configuration ConfigFault
+load c skip own definitions blocks =
+    if list_any is_too_deep (own ∷ blocks) then Err BadPath
+    else unless_full (if is_empty own.path then skip else c.skip) (loaded own definitions blocks c.anchors)
+
+-- a ruleset is loaded at a path
+abbrev pub load_ruleset : Configuration → Path → rulesets.RulesetValue → Result Configuration ConfigFault
+load_ruleset c p r = load c r.skip (record { path = p; rules = map rule_of r.items }) r.tables []
+
+unfoldable pub flush_rules : Configuration → Path → Configuration
+flush_rules c p = record { skip = c.skip; anchors = tidied (placed c.anchors (record { path = p; rules = [] })) }
+
+unfoldable pub flush_tables : Configuration → Path → Configuration
+flush_tables c p = record { skip = c.skip; anchors = with_tables p [] c.anchors }
+
+-- ---- what a call does: it changes the configuration as defined, or is refused so; a refused one changes nothing
+
+abbrev pub Refuses : ConfigFault → Configuration → Configuration → Result Configuration ConfigFault → Type 0
+Refuses Memory old new r = new ≡ old
+Refuses NoTable old new r = (r ≡ Err NoTable) × (new ≡ old)
+Refuses ConstTable old new r = (r ≡ Err ConstTable) × (new ≡ old)
+Refuses TableFull old new r = (r ≡ Err TableFull) × (new ≡ old)
+Refuses AnchorsFull old new r = (r ≡ Err AnchorsFull) × (new ≡ old)
+Refuses BadPath old new r = (r ≡ Err BadPath) × (new ≡ old)
+
+abbrev pub Changes : {A : Type 0} → Result A ConfigFault → Configuration → Configuration → Result Configuration ConfigFault → Type 0
+Changes (Ok x) old new r = r ≡ Ok new
+Changes (Err fault) old new r = Refuses fault old new r
+
+-- ---- the commands on one table
+
+abbrev pub new_table : TableValue
+new_table = record { persist = true; is_const = false; entries = [] }
+
+abbrev pub with_contents : TableValue → List TableEntry → TableValue
+with_contents t entries = record { persist = t.persist; is_const = t.is_const; entries = entries }
+
+-- the configuration with this table at a path
+abbrev pub set_table : Configuration → Path → Name → TableValue → Result Configuration ConfigFault
+set_table c p name t = unless_full c.skip (with_tables p (with_table (tables_at c p) name t) c.anchors)
+
+-- 21, then 22
+abbrev pub filled : TableValue → List TableEntry → Result TableValue ConfigFault
+filled t entries =
+    if t.is_const then Err ConstTable
+    else (if nat_lt 4096 (length entries) then Err TableFull else Ok (with_contents t entries))
+
+-- the configuration with a table at a path, unless the table is refused
+abbrev pub set_filled : Configuration → Path → Name → Result TableValue ConfigFault → Result Configuration ConfigFault
+set_filled c p name (Ok t) = set_table c p name t
+set_filled c p name (Err fault) = Err fault
+
+abbrev pub fill : Configuration → Path → Name → TableValue → List TableEntry → Result Configuration ConfigFault
+fill c p name t entries = set_filled c p name (filled t entries)
+
+-- a call fails for want of memory, or with the fault that is defined
+abbrev pub FailsWith : {A : Type 0} → ConfigFault → Result A ConfigFault → Type 0
+FailsWith Memory r = Unit {0}
+FailsWith NoTable r = r ≡ Err NoTable
+FailsWith ConstTable r = r ≡ Err ConstTable
+FailsWith TableFull r = r ≡ Err TableFull
+FailsWith AnchorsFull r = r ≡ Err AnchorsFull
+FailsWith BadPath r = r ≡ Err BadPath
+
+unfoldable pub add : Configuration → Path → Name → List TableEntry → Result Configuration ConfigFault
+add c p name list = let t = unwrap_or (table_at c p name) new_table in fill c p name t (with_entries t.entries list)
+
+unfoldable pub replace : Configuration → Path → Name → List TableEntry → Result Configuration ConfigFault
+replace c p name list = fill c p name (unwrap_or (table_at c p name) new_table) (contents_of list)
+
+-- 20, then 21
+abbrev pub drain : Configuration → Path → Name → Option TableValue → (List TableEntry → List TableEntry) → Result Configuration ConfigFault
+drain c p name None change = Err NoTable
+drain c p name (Some t) change = if t.is_const then Err ConstTable else set_table c p name (with_contents t (change t.entries))
+
+unfoldable pub delete : Configuration → Path → Name → List TableEntry → Result Configuration ConfigFault
+delete c p name list = drain c p name (table_at c p name) (λ entries. without_entries entries list)
+
+unfoldable pub flush_table : Configuration → Path → Name → Result Configuration ConfigFault
+flush_table c p name = drain c p name (table_at c p name) (λ entries. [])

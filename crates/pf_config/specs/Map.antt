@@ -1,0 +1,99 @@
+-- A configuration: a skip list, and a map from paths to rules and tables.
+use Rattle.std.specs.Prelude.{◌≡◌, ℕ, Bool, true, false, ◌&&◌, List, [], ◌∷◌, ◌++◌, length, map, fold, filter, Option, Some, None, if◌then◌else◌, slice_get, find}
+use Rattle.std.specs.List.{list_any, starts_with, filter_map}
+use Rattle.std.specs.Str.{bytes_eq}
+use Rattle.std.specs.Map.{lookup}
+use Rattle.std.specs.Cmp.Lexicographic.{pointwise}
+use Rattle.pf_ruleset.specs.Names.{Name, is_before}
+use Rattle.pf_ruleset.specs.Items.{AnyRule}
+use Rattle.pf_table.specs.Tables.{TableValue}
+
+-- main is the empty path
+abbrev pub Path : Type 0
+Path = List Name
+
+-- what the map has at a path, not both parts empty
+pub record AnchorValue : Type 0 where
+  pub path : Path
+  pub rules : List AnyRule
+  pub tables : List (Name × TableValue)
+
+-- the entries of the map stand in byte order of their paths, each path once
+pub record Configuration : Type 0 where
+  pub skip : List Name
+  pub anchors : List AnchorValue
+
+abbrev pub path_eq : Path → Path → Bool
+path_eq p q = pointwise bytes_eq p q
+
+-- ---- what is at a path
+
+abbrev pub anchor_at : Path → List AnchorValue → Option AnchorValue
+anchor_at p anchors = find (λ (a : AnchorValue). path_eq a.path p) anchors
+
+abbrev pub rules_in : Option AnchorValue → List AnyRule
+rules_in None = []
+rules_in (Some a) = a.rules
+
+abbrev pub tables_in : Option AnchorValue → List (Name × TableValue)
+tables_in None = []
+tables_in (Some a) = a.tables
+
+-- the rules at a path: none where the map has no such path
+unfoldable pub rules_at : Configuration → Path → List AnyRule
+rules_at c p = rules_in (anchor_at p c.anchors)
+
+unfoldable pub tables_at : Configuration → Path → List (Name × TableValue)
+tables_at c p = tables_in (anchor_at p c.anchors)
+
+abbrev pub named : Name → List (Name × TableValue) → Option TableValue
+named name tables = lookup (λ n. bytes_eq n name) tables
+
+abbrev pub or_else : {X : Type 0} → Option X → Option X → Option X
+or_else None other = other
+or_else (Some x) other = Some x
+
+abbrev pub table_at : Configuration → Path → Name → Option TableValue
+table_at c p name = named name (tables_at c p)
+
+-- the path's own table, else main's
+abbrev pub table_for : Configuration → Path → Name → Option TableValue
+table_for c p name = or_else (table_at c p name) (table_at c [] name)
+
+-- ---- paths below a path
+
+abbrev pub any_begins : List AnchorValue → Path → Bool
+any_begins anchors p = list_any (λ (a : AnchorValue). starts_with bytes_eq a.path p) anchors
+
+-- the path is the front of a path of the map
+unfoldable pub begins_some : Configuration → Path → Bool
+begins_some c p = any_begins c.anchors p
+
+-- the name that follows p in the path, if p is its front and not all of it
+abbrev pub name_after : Path → Path → Option Name
+name_after p q = if starts_with bytes_eq q p then slice_get q (length p) else None
+
+-- a name at its place in byte order, unless it is there
+abbrev pub put_name : List Name → Name → List Name
+put_name [] n = n ∷ []
+put_name (m ∷ ms) n = if is_before n m then n ∷ m ∷ ms else (if is_before m n then m ∷ put_name ms n else m ∷ ms)
+
+abbrev pub names_after : Path → List AnchorValue → List Name
+names_after p anchors = filter_map (λ (a : AnchorValue). name_after p a.path) anchors
+
+-- the names n, in byte order, such that p followed by n begins some path of the map
+unfoldable pub kids : Configuration → Path → List Name
+kids c p = fold put_name [] (names_after p c.anchors)
+
+-- any name is above none
+abbrev pub is_above : Option Name → Name → Bool
+is_above None n = true
+is_above (Some m) n = is_before m n
+
+-- a path and one name more
+abbrev pub followed_by : Path → Name → Path
+followed_by p n = p ++ n ∷ []
+
+-- those above a name are this one and those above it
+abbrev pub NextIs : Option Name → List Name → Name → Type 0
+NextIs after names n = filter (is_above after) names ≡ n ∷ filter (is_above (Some n)) names

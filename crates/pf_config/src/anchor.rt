@@ -1,0 +1,477 @@
+//! An anchor, with all that stands below it.
+
+ghost use Rattle.std.specs.Prelude.{◌≡◌, ◌≤◌, ◌&&◌, ◌++◌, ◌∷◌, [], true, IfOk, OnOk, map, find, fold, option_map, length};
+ghost use Rattle.std.specs.List.{list_all, list_any, starts_with};
+ghost use Rattle.std.specs.Option.{option_copied};
+ghost use Rattle.std.specs.Str.{bytes_eq};
+ghost use Rattle.pf_ruleset.specs.Items.{rule_of};
+ghost use Rattle.pf_ruleset.specs.Names.{is_before};
+ghost use Rattle.pf_config.specs.Map.{AnchorValue, anchor_at, rules_in, tables_in, named, is_above, put_name, name_after, names_after, followed_by};
+ghost use Rattle.pf_config.specs.Changes.{is_empty, is_some_unnamed, without_unnamed, refer, tidied_of};
+ghost use Rattle.pf_config.specs.Trees.{child_at, last_name, is_named, kids_before, kids_behind, some_kid, anchors_of, placed_in, TakesPlace, passes, kid_names, room_after, own_count};
+
+use crate::paths::{copied_path, followed_by};
+use crate::tables::{copied_tables, named};
+use crate::unused::{items_refer, used_tables};
+use pf_ruleset::{Item, Name, TableName};
+use pf_table::Table;
+use std::alloc::{AllocError, Global};
+use std::cmp::Ordering;
+use std::marker::Model;
+use std::rc::Rc;
+
+/// An anchor: its full names, the rules and tables at its path, and the anchors below it.
+#[derive(Drop)]
+pub struct Anchor {
+    names: Vec<Name>,
+    items: Rc<Vec<Item>>,
+    tables: Vec<(TableName, Table)>,
+    kids: Vec<Anchor>,
+}
+
+impl Model for Anchor {
+    ghost use Rattle.std.specs.Prelude.{map, length, ◌≤◌, ◌++◌};
+    ghost use Rattle.pf_ruleset.specs.Items.{rule_of};
+    ghost use Rattle.pf_config.specs.Trees.{AnchorTree, own_entry, below, AreKids, weight};
+    ghost use Rattle.std.proofs.Common.{arith};
+    ghost use Rattle.pf_config.specs.TreeFalls.{kids_lighter};
+
+    ghost Value = { AnchorTree };
+
+    ghost view = { λ a. record { names = a.names.items; anchors = own_entry a.names.items (map rule_of a.items.value.items) a.tables.items ++ below a.kids.items } };
+
+    ghost invariant = { λ a. (length a.items.value.items ≤ 1024) × AreKids a.names.items a.kids.items };
+
+    ghost size = { λ t. weight (length t.names) t.anchors };
+
+    ghost size_decreases = { λ a h. omega (arith, kids_lighter a.names.items (own_entry a.names.items (map rule_of a.items.value.items) a.tables.items) a.kids.items h.1) };
+}
+
+impl Anchor {
+    /// Its full names.
+    pub fn names(&self) -> &[Name]
+        ensures { result.now ≡ self.now.names }
+    {
+        &self.names
+    }
+
+    /// The rules at its path.
+    #[tactic(auto, using(crate::proofs::Treed::own_rules))]
+    pub fn items(&self) -> &[Item]
+        ensures rules { map rule_of result.now ≡ rules_in (anchor_at self.now.names self.now.anchors) }
+        ensures few { length result.now ≤ 1024 }
+    {
+        &self.items
+    }
+
+    /// The tables at its path.
+    #[tactic(auto, using(crate::proofs::Treed::own_tables))]
+    pub(crate) fn tables(&self) -> &[(TableName, Table)]
+        ensures { result.now ≡ tables_in (anchor_at self.now.names self.now.anchors) }
+    {
+        &self.tables
+    }
+
+    /// The table of that name at its path.
+    pub fn table(&self, name: &str) -> Option<&Table>
+        ensures { option_copied result ≡ named name.now (tables_in (anchor_at self.now.names self.now.anchors)) }
+    {
+        named(self.tables(), name)
+    }
+
+    /// Whether its last name is this one.
+    fn is_named(&self, name: &str) -> bool
+        ensures { result ≡ is_named name.now self.now }
+    {
+        last_name(&self.names) == name.as_bytes()
+    }
+
+    /// Whether its last name is before this one.
+    fn is_before(&self, name: &Name) -> bool
+        ensures { result ≡ is_before (last_name self.now.names) name.now }
+    {
+        last_name(&self.names).cmp(name.as_bytes()) == Ordering::Less
+    }
+
+    /// Whether its last name is behind this one.
+    fn is_behind(&self, name: &Name) -> bool
+        ensures { result ≡ is_before name.now (last_name self.now.names) }
+    {
+        name.as_bytes().cmp(last_name(&self.names)) == Ordering::Less
+    }
+
+    /// Whether it holds nothing.
+    #[tactic(auto, using(crate::proofs::Treed::nothing_is))]
+    pub(crate) fn is_nothing(&self) -> bool
+        ensures { result ≡ is_empty self.now.anchors }
+    {
+        are_empty(&self.items, &self.tables, &self.kids)
+    }
+
+    /// The anchor of that name directly below. None where no path of the configuration begins with its names.
+    pub fn child(&self, name: &str) -> Option<&Anchor>
+        ensures { option_copied result ≡ child_at self.now name.now }
+    {
+        kid_named(&self.kids, name)
+    }
+
+    /// The full names of the first anchor directly below, of those with names above this one if one is given.
+    pub(crate) fn kid_above(&self, after: Option<&Name>) -> Option<&[Name]>
+        ensures { option_copied result ≡ option_map (followed_by self.now.names) (find (is_above (option_copied after.entry)) (fold put_name [] (names_after self.now.names self.now.anchors))) }
+    {
+        first_names(&self.kids, after)
+    }
+
+    /// How much room is left once its entries have theirs. None where there isn't room for all.
+    pub(crate) fn room_after(&self, room: usize) -> Option<usize>
+        ensures { result ≡ room_after room (length self.now.anchors) }
+    {
+        let Some(first) = own_room(&self.items, &self.tables, room) else {
+            return None;
+        };
+        let mut left = first;
+        for kid in &self.kids {
+            let Some(less) = kid.room_after(left) else {
+                return None;
+            };
+            left = less;
+        }
+        Some(left)
+    }
+
+    /// The same without the paths that begin with this one and an unnamed name.
+    pub(crate) fn without_unnamed(&self, alloc: Global, path: &[Name]) -> Result<Anchor, AllocError>
+        ensures { IfOk result (λ a. a ≡ record { names = self.now.names; anchors = without_unnamed path.now self.now.anchors }) }
+    {
+        let names = copied_path(alloc, &self.names)?;
+        if is_unnamed_below(&names, path) {
+            let none = Anchor::empty(alloc, names)?;
+            return Ok(none);
+        }
+        let items = self.items.clone()?;
+        let tables = copied_tables(alloc, &self.tables)?;
+        let mut kids = Vec::new(alloc);
+        for kid in &self.kids {
+            let own = kid.without_unnamed(alloc, path)?;
+            push_some(&mut kids, own)?;
+        }
+        Ok(Anchor {
+            names,
+            items,
+            tables,
+            kids,
+        })
+    }
+
+    /// Whether a rule here or below refers to the table of that name.
+    pub(crate) fn refers(&self, name: &TableName) -> bool
+        ensures { result ≡ list_any (refer name.now) self.now.anchors }
+    {
+        if items_refer(name, &self.items) {
+            return true;
+        }
+        for kid in &self.kids {
+            if kid.refers(name) {
+                return true;
+            }
+        }
+        false
+    }
+
+    /// The same without the tables that no rule of the whole configuration refers to.
+    pub(crate) fn tidied(&self, alloc: Global, main: &Anchor) -> Result<Anchor, AllocError>
+        ensures { IfOk result (λ a. a ≡ record { names = self.now.names; anchors = tidied_of main.now.anchors self.now.anchors }) }
+    {
+        let names = copied_path(alloc, &self.names)?;
+        let items = self.items.clone()?;
+        let tables = used_tables(alloc, main, &self.names, &self.items, &self.tables)?;
+        let mut kids = Vec::new(alloc);
+        for kid in &self.kids {
+            let own = kid.tidied(alloc, main)?;
+            push_some(&mut kids, own)?;
+        }
+        Ok(Anchor {
+            names,
+            items,
+            tables,
+            kids,
+        })
+    }
+
+    /// An anchor with nothing in it.
+    pub(crate) fn empty(alloc: Global, names: Vec<Name>) -> Result<Anchor, AllocError>
+        ensures { IfOk result (λ a. a ≡ record { names = names.items; anchors = [] }) }
+    {
+        let items = Rc::new(alloc, Vec::new(alloc))?;
+        Ok(Anchor {
+            names,
+            items,
+            tables: Vec::new(alloc),
+            kids: Vec::new(alloc),
+        })
+    }
+
+    /// The rules at its path, shared.
+    #[tactic(auto, using(crate::proofs::Treed::own_rules))]
+    pub(crate) fn shared_items(&self) -> Result<Rc<Vec<Item>>, AllocError>
+        ensures rules { IfOk result (λ rc. map rule_of rc.value.items ≡ rules_in (anchor_at self.now.names self.now.anchors)) }
+        ensures few { IfOk result (λ rc. length rc.value.items ≤ 1024) }
+    {
+        let items = self.items.clone()?;
+        Ok(items)
+    }
+
+    /// The same once more, which shares its rules and the entries of its tables.
+    pub(crate) fn copied(&self, alloc: Global) -> Result<Anchor, AllocError>
+        ensures { IfOk result (λ a. a ≡ self.now) }
+    {
+        let names = copied_path(alloc, &self.names)?;
+        let items = self.items.clone()?;
+        let tables = copied_tables(alloc, &self.tables)?;
+        let mut kids = Vec::new(alloc);
+        for kid in &self.kids {
+            kids.push(kid.copied(alloc)?)?;
+        }
+        Ok(Anchor {
+            names,
+            items,
+            tables,
+            kids,
+        })
+    }
+
+    /// The same with these rules and tables at its path.
+    fn with_own(
+        &self,
+        alloc: Global,
+        items: Rc<Vec<Item>>,
+        tables: Vec<(TableName, Table)>,
+    ) -> Result<Anchor, AllocError>
+        requires { length items.value.items ≤ 1024 }
+        ensures { IfOk result (λ a. a ≡ placed_in self.now [] (map rule_of items.value.items) tables.items) }
+    {
+        let names = copied_path(alloc, &self.names)?;
+        let mut kids = Vec::new(alloc);
+        for kid in &self.kids {
+            kids.push(kid.copied(alloc)?)?;
+        }
+        Ok(Anchor {
+            names,
+            items,
+            tables,
+            kids,
+        })
+    }
+
+    /// The same with this anchor in the place of the one of that name directly below, or without it where the anchor
+    /// holds nothing.
+    fn with_kid(&self, alloc: Global, name: &Name, kid: Anchor) -> Result<Anchor, AllocError>
+        requires names { kid.names ≡ self.now.names ++ name.now ∷ [] }
+        requires below { list_all (λ (a : AnchorValue). starts_with bytes_eq a.path kid.names) kid.anchors ≡ true }
+        ensures { IfOk result (λ t. TakesPlace self.now name.now kid t) }
+    {
+        let names = copied_path(alloc, &self.names)?;
+        let items = self.items.clone()?;
+        let tables = copied_tables(alloc, &self.tables)?;
+        let kids = kids_with(alloc, &self.kids, name, kid)?;
+        Ok(Anchor {
+            names,
+            items,
+            tables,
+            kids,
+        })
+    }
+}
+
+/// Whether the anchor's last name is above this one, if there is one.
+fn is_above(after: Option<&Name>, kid: &Anchor) -> bool
+    ensures { result ≡ is_above (option_copied after.entry) (last_name kid.now.names) }
+{
+    match after {
+        None => true,
+        Some(name) => kid.is_behind(name),
+    }
+}
+
+/// The first of the anchors with a name above this one.
+fn first_above<'c>(kids: &'c [Anchor], after: Option<&Name>) -> Option<&'c Anchor>
+    ensures { option_copied result ≡ find (passes (is_above (option_copied after.entry))) kids.now }
+{
+    for kid in kids {
+        if is_above(after, kid) {
+            return Some(kid);
+        }
+    }
+    None
+}
+
+/// The full names of the first of the anchors with a name above this one.
+fn first_names<'c>(kids: &'c [Anchor], after: Option<&Name>) -> Option<&'c [Name]>
+    ensures { option_copied result ≡ kid_names (find (passes (is_above (option_copied after.entry))) kids.now) }
+{
+    match first_above(kids, after) {
+        Some(kid) => Some(kid.names()),
+        None => None,
+    }
+}
+
+/// The room that is left once the anchor's own entry has its place.
+#[tactic(auto, using(crate::proofs::Treed::empty_len, crate::proofs::Treed::empty_map))]
+fn own_room(items: &[Item], tables: &[(TableName, Table)], room: usize) -> Option<usize>
+    ensures { result ≡ room_after room (own_count (map rule_of items.now) tables.now) }
+{
+    if items.is_empty() && tables.is_empty() {
+        Some(room)
+    } else if room == 0 {
+        None
+    } else {
+        Some(room - 1)
+    }
+}
+
+/// Whether the path begins with the other and an unnamed name.
+fn is_unnamed_below(own: &[Name], path: &[Name]) -> bool
+    ensures { result ≡ is_some_unnamed (name_after path.now own.now) }
+{
+    if !own.starts_with(path) {
+        return false;
+    }
+    match own.get(path.len()) {
+        Some(name) => name.is_unnamed(),
+        None => false,
+    }
+}
+
+/// The last of the names.
+fn last_name(names: &[Name]) -> &[u8]
+    ensures { result.now ≡ last_name names.now }
+{
+    match names.last() {
+        Some(own) => own.as_bytes(),
+        None => &[],
+    }
+}
+
+/// Whether there is none of all these.
+#[tactic(auto, using(crate::proofs::Treed::empty_len, crate::proofs::Treed::empty_map))]
+fn are_empty(items: &[Item], tables: &[(TableName, Table)], kids: &[Anchor]) -> bool
+    ensures { result ≡ (is_empty (map rule_of items.now) && (is_empty tables.now && is_empty kids.now)) }
+{
+    items.is_empty() && tables.is_empty() && kids.is_empty()
+}
+
+/// Appends the anchors with names before this one.
+fn push_before(
+    alloc: Global,
+    next: &mut Vec<Anchor>,
+    kids: &[Anchor],
+    name: &Name,
+) -> Result<(), AllocError>
+    ensures { OnOk result (next.new.items ≡ next.old.items ++ kids_before name.now kids.now) }
+{
+    for kid in kids {
+        if kid.is_before(name) {
+            next.push(kid.copied(alloc)?)?;
+        }
+    }
+    Ok(())
+}
+
+/// Appends the anchors with names behind this one.
+fn push_behind(
+    alloc: Global,
+    next: &mut Vec<Anchor>,
+    kids: &[Anchor],
+    name: &Name,
+) -> Result<(), AllocError>
+    ensures { OnOk result (next.new.items ≡ next.old.items ++ kids_behind name.now kids.now) }
+{
+    for kid in kids {
+        if kid.is_behind(name) {
+            next.push(kid.copied(alloc)?)?;
+        }
+    }
+    Ok(())
+}
+
+/// Appends the anchor, unless it holds nothing.
+fn push_some(next: &mut Vec<Anchor>, kid: Anchor) -> Result<(), AllocError>
+    ensures { OnOk result (next.new.items ≡ next.old.items ++ some_kid kid) }
+{
+    if !kid.is_nothing() {
+        next.push(kid)?;
+    }
+    Ok(())
+}
+
+/// The anchors with this one in the place of the one of that name, or without it where it holds nothing.
+fn kids_with(
+    alloc: Global,
+    kids: &[Anchor],
+    name: &Name,
+    kid: Anchor,
+) -> Result<Vec<Anchor>, AllocError>
+    ensures { IfOk result (λ v. v.items ≡ kids_before name.now kids.now ++ (some_kid kid ++ kids_behind name.now kids.now)) }
+{
+    let mut next = Vec::new(alloc);
+    push_before(alloc, &mut next, kids, name)?;
+    push_some(&mut next, kid)?;
+    push_behind(alloc, &mut next, kids, name)?;
+    Ok(next)
+}
+
+/// The anchor with these rules and tables at a path below it.
+#[cycle(entry)]
+pub(crate) fn with_entry(
+    alloc: Global,
+    anchor: &Anchor,
+    rest: &[Name],
+    items: Rc<Vec<Item>>,
+    tables: Vec<(TableName, Table)>,
+) -> Result<Anchor, AllocError>
+    requires { length items.value.items ≤ 1024 }
+    ensures { IfOk result (λ a. a ≡ placed_in anchor.now rest.now (map rule_of items.value.items) tables.items) }
+{
+    match rest {
+        [] => anchor.with_own(alloc, items, tables),
+        [name, more @ ..] => {
+            let kid = kid_with_entry(alloc, anchor, name, more, items, tables)?;
+            let whole = anchor.with_kid(alloc, name, kid)?;
+            Ok(whole)
+        }
+    }
+}
+
+/// The anchor of that name directly below with these rules and tables at a path below it.
+#[cycle(entry)]
+fn kid_with_entry(
+    alloc: Global,
+    anchor: &Anchor,
+    name: &Name,
+    more: &[Name],
+    items: Rc<Vec<Item>>,
+    tables: Vec<(TableName, Table)>,
+) -> Result<Anchor, AllocError>
+    requires { length items.value.items ≤ 1024 }
+    ensures { IfOk result (λ a. a ≡ placed_in (record { names = anchor.now.names ++ name.now ∷ []; anchors = anchors_of (child_at anchor.now name.now) }) more.now (map rule_of items.value.items) tables.items) }
+{
+    match anchor.child(name.as_str()) {
+        Some(kid) => with_entry(alloc, kid, more, items, tables),
+        None => {
+            let kid = Anchor::empty(alloc, followed_by(alloc, anchor.names(), name)?)?;
+            with_entry(alloc, &kid, more, items, tables)
+        }
+    }
+}
+
+/// The anchor of that name.
+fn kid_named<'c>(kids: &'c [Anchor], name: &str) -> Option<&'c Anchor>
+    ensures { option_copied result ≡ find (is_named name.now) kids.now }
+{
+    for kid in kids {
+        if kid.is_named(name) {
+            return Some(kid);
+        }
+    }
+    None
+}

@@ -1,0 +1,103 @@
+//! Changed maps: each function makes a new tree, which shares rules and entries of tables with the old one, so that a
+//! refused growth changes nothing.
+
+ghost use Rattle.std.specs.Prelude.{◌≡◌, ◌≤◌, [], IfOk, map, length};
+ghost use Rattle.pf_ruleset.specs.Items.{rule_of};
+ghost use Rattle.pf_config.specs.Map.{anchor_at, rules_in, tables_in};
+ghost use Rattle.pf_config.specs.Changes.{with_tables, with_rules, placed};
+
+use crate::anchor::{Anchor, with_entry};
+use crate::tables::copied_tables;
+use crate::walk::descend;
+use pf_ruleset::{Item, Name, TableName};
+use pf_table::Table;
+use std::alloc::{AllocError, Global};
+use std::rc::Rc;
+
+/// The rules at a path, shared.
+#[tactic(auto, using(crate::proofs::Descents::main_down, crate::proofs::Descents::found_rules, crate::proofs::Descents::no_rules_found))]
+fn items_at(alloc: Global, main: &Anchor, path: &[Name]) -> Result<Rc<Vec<Item>>, AllocError>
+    requires { main.now.names ≡ [] }
+    ensures rules { IfOk result (λ rc. map rule_of rc.value.items ≡ rules_in (anchor_at path.now main.now.anchors)) }
+    ensures few { IfOk result (λ rc. length rc.value.items ≤ 1024) }
+{
+    match descend(main, path) {
+        Some(anchor) => {
+            let items = anchor.shared_items()?;
+            Ok(items)
+        }
+        None => {
+            let items = Rc::new(alloc, Vec::new(alloc))?;
+            Ok(items)
+        }
+    }
+}
+
+/// The tables at a path, which share their entries.
+#[tactic(auto, using(crate::proofs::Descents::main_down, crate::proofs::Descents::found_tables, crate::proofs::Descents::no_tables_found))]
+pub(crate) fn tables_at(
+    alloc: Global,
+    main: &Anchor,
+    path: &[Name],
+) -> Result<Vec<(TableName, Table)>, AllocError>
+    requires { main.now.names ≡ [] }
+    ensures { IfOk result (λ v. v.items ≡ tables_in (anchor_at path.now main.now.anchors)) }
+{
+    match descend(main, path) {
+        Some(anchor) => {
+            let tables = copied_tables(alloc, anchor.tables())?;
+            Ok(tables)
+        }
+        None => Ok(Vec::new(alloc)),
+    }
+}
+
+/// The map with these tables at a path.
+pub(crate) fn with_tables(
+    alloc: Global,
+    main: &Anchor,
+    path: &[Name],
+    tables: Vec<(TableName, Table)>,
+) -> Result<Anchor, AllocError>
+    requires { main.now.names ≡ [] }
+    ensures names { IfOk result (λ a. a.names ≡ []) }
+    ensures map { IfOk result (λ a. a.anchors ≡ with_tables path.now tables.items main.now.anchors) }
+{
+    let items = items_at(alloc, main, path)?;
+    let next = with_entry(alloc, main, path, items, tables)?;
+    Ok(next)
+}
+
+/// The map with these rules at a path.
+pub(crate) fn with_rules(
+    alloc: Global,
+    main: &Anchor,
+    path: &[Name],
+    items: Rc<Vec<Item>>,
+) -> Result<Anchor, AllocError>
+    requires names { main.now.names ≡ [] }
+    requires few { length items.value.items ≤ 1024 }
+    ensures names { IfOk result (λ a. a.names ≡ []) }
+    ensures map { IfOk result (λ a. a.anchors ≡ with_rules path.now (map rule_of items.value.items) main.now.anchors) }
+{
+    let tables = tables_at(alloc, main, path)?;
+    let next = with_entry(alloc, main, path, items, tables)?;
+    Ok(next)
+}
+
+/// The map with these rules at a path, and no unnamed blocks below it.
+pub(crate) fn placed(
+    alloc: Global,
+    main: &Anchor,
+    path: &[Name],
+    items: Rc<Vec<Item>>,
+) -> Result<Anchor, AllocError>
+    requires names { main.now.names ≡ [] }
+    requires few { length items.value.items ≤ 1024 }
+    ensures names { IfOk result (λ a. a.names ≡ []) }
+    ensures map { IfOk result (λ a. a.anchors ≡ placed main.now.anchors (record { path = path.now; rules = map rule_of items.value.items })) }
+{
+    let left = main.without_unnamed(alloc, path)?;
+    let next = with_rules(alloc, &left, path, items)?;
+    Ok(next)
+}

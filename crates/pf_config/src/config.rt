@@ -1,0 +1,373 @@
+//! The configuration: anchors with their rules and tables.
+
+ghost use Rattle.std.specs.Prelude.{◌≡◌, ◌≤◌, ◌++◌, map, length, not, nat_lt, Some, None, if◌then◌else◌, option_map, IfSome, IfNone, filter, [], IfOk, MatchResult, unwrap_or, Ok, false};
+ghost use Rattle.std.specs.Option.{option_copied};
+ghost use Rattle.std.specs.List as std;
+ghost use Rattle.pf_ruleset.specs.Items.{rule_of};
+ghost use Rattle.pf_config.specs.Map.{rules_at, tables_at, table_at, table_for, begins_some, kids, is_above, followed_by, NextIs};
+ghost use Rattle.pf_table.specs.Contents.{with_entries, contents_of};
+ghost use Rattle.pf_config.specs.Changes.{Changes, FailsWith, load, flush_rules, flush_tables, add, replace, delete, flush_table, set_table, filled, new_table, load_ruleset};
+ghost use Rattle.pf_ruleset.specs.Rulesets.{ruleset_of};
+ghost use Rattle.pf_config.specs.Texts.{definition_of};
+ghost use Rattle.pf_config.specs.Trees.{anchor_in, and_then, tree_at, names_of, first_kid};
+
+use crate::anchor::Anchor;
+use crate::changed::{placed, with_tables};
+use crate::fault::ConfigFault;
+use crate::loading::{any_too_deep, is_too_deep, loaded};
+use crate::paths::copied_path;
+use crate::placing::Placing;
+use crate::tables::{named, with_table};
+use crate::walk::descend;
+use pf_ruleset::{InterfaceName, Item, Name, Path, Ruleset, TableDef, TableEntry, TableName};
+use pf_table::Table;
+use std::alloc::{AllocError, Global};
+use std::marker::Model;
+use std::rc::Rc;
+
+/// How many paths a configuration has at most.
+const ANCHORS_MAX: usize = 1024;
+
+/// How many entries a table has at most.
+const ENTRIES_MAX: usize = 4096;
+
+/// Anchors with their rules and tables, and the interfaces that are skipped.
+#[derive(Drop)]
+pub struct Config {
+    alloc: Global,
+    skip: Vec<InterfaceName>,
+    main: Anchor,
+}
+
+impl Model for Config {
+    ghost use Rattle.std.specs.Prelude.{◌≡◌, []};
+    ghost use Rattle.pf_config.specs.Map.{Configuration};
+
+    ghost Value = { Configuration };
+
+    ghost view = { λ c. record { skip = c.skip.items; anchors = c.main.anchors } };
+
+    ghost invariant = { λ c. c.main.names ≡ [] };
+}
+
+impl Config {
+    /// A configuration with nothing in it.
+    pub fn new(alloc: Global) -> Result<Config, AllocError>
+        ensures { IfOk result (λ c. c ≡ record { skip = []; anchors = [] }) }
+    {
+        let main = Anchor::empty(alloc, Vec::new(alloc))?;
+        Ok(Config {
+            alloc,
+            skip: Vec::new(alloc),
+            main,
+        })
+    }
+
+    /// The interfaces that are skipped.
+    pub fn skip(&self) -> &[InterfaceName]
+        ensures { result.now ≡ self.now.skip }
+    {
+        &self.skip
+    }
+
+    /// The anchor at a path: main always, another one exactly where a path of the configuration begins with it.
+    #[tactic(auto, using(crate::proofs::Descents::main_down))]
+    pub fn anchor(&self, path: &[Name]) -> Option<&Anchor>
+        ensures { option_copied result ≡ anchor_in self.now.anchors path.now }
+    {
+        descend(&self.main, path)
+    }
+
+    /// The rules at a path.
+    #[tactic(auto, using(crate::proofs::Descents::found_rules, crate::proofs::Descents::no_rules_found), unfolding(crate::specs::Map::rules_at))]
+    pub fn items(&self, path: &[Name]) -> &[Item]
+        ensures rules { map rule_of result.now ≡ rules_at self.now path.now }
+        ensures few { length result.now ≤ 1024 }
+    {
+        match self.anchor(path) {
+            Some(anchor) => anchor.items(),
+            None => &[],
+        }
+    }
+
+    /// The tables at a path.
+    #[tactic(auto, using(crate::proofs::Descents::found_tables, crate::proofs::Descents::no_tables_found), unfolding(crate::specs::Map::tables_at))]
+    fn tables(&self, path: &[Name]) -> &[(TableName, Table)]
+        ensures { result.now ≡ tables_at self.now path.now }
+    {
+        match self.anchor(path) {
+            Some(anchor) => anchor.tables(),
+            None => &[],
+        }
+    }
+
+    /// The table of that name at the path.
+    pub fn table(&self, path: &[Name], name: &str) -> Option<&Table>
+        ensures { option_copied result ≡ table_at self.now path.now name.now }
+    {
+        named(self.tables(path), name)
+    }
+
+    /// The table that a rule at the path names: its own anchor's, else main's.
+    pub fn table_for(&self, path: &[Name], name: &str) -> Option<&Table>
+        ensures { option_copied result ≡ table_for self.now path.now name.now }
+    {
+        if let Some(table) = self.table(path, name) {
+            return Some(table);
+        }
+        self.table(&[], name)
+    }
+
+    /// The path followed by the rest. None where no path of the configuration begins with it.
+    #[tactic(auto, using(crate::proofs::Descents::find_is, crate::proofs::PathFronts::no_rules, crate::proofs::PathFronts::no_kids), unfolding(crate::specs::Map::begins_some))]
+    pub fn find(&self, path: &[Name], rest: &[Name]) -> Option<&[Name]>
+        ensures no_rules { IfNone result (rules_at self.now (path.now ++ rest.now) ≡ []) }
+        ensures no_kids { IfNone result (kids self.now (path.now ++ rest.now) ≡ []) }
+        ensures value { option_copied result ≡ (if begins_some self.now (path.now ++ rest.now) then Some (path.now ++ rest.now) else None) }
+    {
+        match found(self.anchor(path), rest) {
+            Some(names) => Some(names),
+            None => None,
+        }
+    }
+
+    /// The path of the first anchor directly attached to the path, in byte order, of those above a name if one is
+    /// given.
+    #[tactic(auto, using(crate::proofs::Descents::kid_is, crate::proofs::Kids::next_is, crate::proofs::Kids::no_kids_above), unfolding(crate::specs::Map::kids))]
+    pub fn kid(&self, path: &[Name], after: Option<&Name>) -> Option<&[Name]>
+        ensures first { option_copied result ≡ option_map (followed_by path.now) (std.find (is_above (option_copied after.entry)) (kids self.now path.now)) }
+        ensures next { IfSome (std.find (is_above (option_copied after.entry)) (kids self.now path.now)) (NextIs (option_copied after.entry) (kids self.now path.now)) }
+        ensures end { IfNone result (filter (is_above (option_copied after.entry)) (kids self.now path.now) ≡ []) }
+    {
+        match kid_at(self.anchor(path), after) {
+            Some(names) => Some(names),
+            None => None,
+        }
+    }
+
+    /// Removes all tables of a path.
+    #[tactic(auto, unfolding(crate::specs::Changes::flush_tables))]
+    pub fn flush_tables(&mut self, path: &[Name]) -> Result<(), ConfigFault>
+        ensures { Changes result self.old self.new (Ok (flush_tables self.old path.now)) }
+    {
+        let next = with_tables(self.alloc, &self.main, path, Vec::new(self.alloc))?;
+        self.main = next;
+        Ok(())
+    }
+
+    /// Loads a ruleset at a path: its rules take the place of those there, each of its tables gets the flags that it says and, where
+    /// it lists entries, these, and tables that no rule refers to any more go unless they persist. At the main ruleset's path
+    /// the skip list becomes the ruleset's (pfctl(8), `-f`).
+    ///
+    /// Refused are 24 a block that is deeper than 8 names, and 23 a configuration of more than 1,024 paths. A refused load leaves
+    /// the configuration as it was.
+    pub fn load(&mut self, path: &Path, rules: Ruleset) -> Result<(), ConfigFault>
+        ensures { Changes result self.old self.new (load_ruleset self.old path.now (ruleset_of rules)) }
+    {
+        let Ruleset {
+            skip,
+            tables,
+            items,
+        } = rules;
+        let names = copied_path(self.alloc, path.names())?;
+        let items = Rc::new(self.alloc, items)?;
+        let own = Placing::new(names, items);
+        self.load_placed(skip, &own, &tables, &[])
+    }
+
+    /// Loads a text's rules and tables at a path, and its blocks below it. The skip list is taken where the path is
+    /// main.
+    #[tactic(auto, unfolding(crate::specs::Changes::load))]
+    fn load_placed(
+        &mut self,
+        skip: Vec<InterfaceName>,
+        own: &Placing,
+        definitions: &[TableDef],
+        blocks: &[Placing],
+    ) -> Result<(), ConfigFault>
+        ensures { Changes result self.old self.new (load self.old skip.items own.now (map definition_of definitions.now) blocks.now) }
+    {
+        if is_too_deep(own) || any_too_deep(blocks) {
+            return Err(ConfigFault::BadPath);
+        }
+        let next = loaded(self.alloc, &self.main, own, definitions, blocks)?;
+        if !has_room(&next) {
+            return Err(ConfigFault::AnchorsFull);
+        }
+        if own.path().is_empty() {
+            self.skip = skip;
+        }
+        self.main = next;
+        Ok(())
+    }
+
+    /// Removes the rules of a path, its unnamed blocks, and the tables that no rule refers to any more.
+    #[tactic(auto, unfolding(crate::specs::Changes::flush_rules, crate::specs::Changes::tidied))]
+    pub fn flush_rules(&mut self, path: &[Name]) -> Result<(), ConfigFault>
+        ensures { Changes result self.old self.new (Ok (flush_rules self.old path.now)) }
+    {
+        let items = Rc::new(self.alloc, Vec::new(self.alloc))?;
+        let left = placed(self.alloc, &self.main, path, items)?;
+        let next = left.tidied(self.alloc, &left)?;
+        self.main = next;
+        Ok(())
+    }
+
+    /// Puts entries into a table, which is created if it is missing.
+    #[tactic(auto, unfolding(crate::specs::Changes::add))]
+    pub fn add(
+        &mut self,
+        path: &[Name],
+        name: &TableName,
+        list: &[TableEntry],
+    ) -> Result<(), ConfigFault>
+        ensures { Changes result self.old self.new (add self.old path.now name.now list.now) }
+    {
+        let table = added(self.alloc, self.table(path, name.as_str()), list)?;
+        self.set_table(path, name, &table)
+    }
+
+    /// Makes the list the contents of a table, which is created if it is missing.
+    #[tactic(auto, unfolding(crate::specs::Changes::replace))]
+    pub fn replace(
+        &mut self,
+        path: &[Name],
+        name: &TableName,
+        list: &[TableEntry],
+    ) -> Result<(), ConfigFault>
+        ensures { Changes result self.old self.new (replace self.old path.now name.now list.now) }
+    {
+        let table = replaced(self.alloc, self.table(path, name.as_str()), list)?;
+        self.set_table(path, name, &table)
+    }
+
+    /// Takes the listed entries out of a table.
+    #[tactic(auto, unfolding(crate::specs::Changes::delete))]
+    pub fn delete(
+        &mut self,
+        path: &[Name],
+        name: &TableName,
+        list: &[TableEntry],
+    ) -> Result<(), ConfigFault>
+        ensures { Changes result self.old self.new (delete self.old path.now name.now list.now) }
+    {
+        let Some(old) = self.table(path, name.as_str()) else {
+            return Err(ConfigFault::NoTable);
+        };
+        if old.is_const() {
+            return Err(ConfigFault::ConstTable);
+        }
+        let table = old.without_entries(self.alloc, list)?;
+        self.set_table(path, name, &table)
+    }
+
+    /// Takes all entries out of a table.
+    #[tactic(auto, unfolding(crate::specs::Changes::flush_table))]
+    pub fn flush_table(&mut self, path: &[Name], name: &TableName) -> Result<(), ConfigFault>
+        ensures { Changes result self.old self.new (flush_table self.old path.now name.now) }
+    {
+        let Some(old) = self.table(path, name.as_str()) else {
+            return Err(ConfigFault::NoTable);
+        };
+        if old.is_const() {
+            return Err(ConfigFault::ConstTable);
+        }
+        let table = Table::new(self.alloc, old.persist(), false)?;
+        self.set_table(path, name, &table)
+    }
+
+    /// Puts a table in its place.
+    fn set_table(
+        &mut self,
+        path: &[Name],
+        name: &TableName,
+        table: &Table,
+    ) -> Result<(), ConfigFault>
+        ensures { Changes result self.old self.new (set_table self.old path.now name.now table.now) }
+    {
+        let tables = with_table(self.alloc, self.tables(path), name, table)?;
+        let next = with_tables(self.alloc, &self.main, path, tables)?;
+        if !has_room(&next) {
+            return Err(ConfigFault::AnchorsFull);
+        }
+        self.main = next;
+        Ok(())
+    }
+}
+
+/// The names of the anchor at a path below this one, if it holds something.
+fn found<'c>(anchor: Option<&'c Anchor>, rest: &[Name]) -> Option<&'c [Name]>
+    ensures { option_copied result ≡ names_of (and_then (option_copied anchor.entry) (λ t. tree_at t rest.now)) }
+{
+    let at = descend(anchor?, rest)?;
+    if at.is_nothing() {
+        return None;
+    }
+    Some(at.names())
+}
+
+/// The names of the first anchor directly below this one, of those with names above this one.
+fn kid_at<'c>(anchor: Option<&'c Anchor>, after: Option<&Name>) -> Option<&'c [Name]>
+    ensures { option_copied result ≡ and_then (option_copied anchor.entry) (first_kid (is_above (option_copied after.entry))) }
+{
+    anchor?.kid_above(after)
+}
+
+/// Whether the map has no more entries than it may.
+fn has_room(main: &Anchor) -> bool
+    ensures { result ≡ not (nat_lt 1024 (length main.now.anchors)) }
+{
+    match main.room_after(ANCHORS_MAX) {
+        Some(_) => true,
+        None => false,
+    }
+}
+
+/// The table with entries put in, a new one if there is none.
+fn added(alloc: Global, old: Option<&Table>, list: &[TableEntry]) -> Result<Table, ConfigFault>
+    ensures { MatchResult result (λ t. filled (unwrap_or (option_copied old.entry) new_table) (with_entries (unwrap_or (option_copied old.entry) new_table).entries list.now) ≡ Ok t) (λ e. FailsWith e (filled (unwrap_or (option_copied old.entry) new_table) (with_entries (unwrap_or (option_copied old.entry) new_table).entries list.now))) }
+{
+    match old {
+        None => {
+            let table = Table::of(alloc, true, false, list)?;
+            few_enough(table)
+        }
+        Some(old) => {
+            if old.is_const() {
+                return Err(ConfigFault::ConstTable);
+            }
+            let table = old.with_entries(alloc, list)?;
+            few_enough(table)
+        }
+    }
+}
+
+/// The table with the list as its contents, a new one if there is none.
+fn replaced(alloc: Global, old: Option<&Table>, list: &[TableEntry]) -> Result<Table, ConfigFault>
+    ensures { MatchResult result (λ t. filled (unwrap_or (option_copied old.entry) new_table) (contents_of list.now) ≡ Ok t) (λ e. FailsWith e (filled (unwrap_or (option_copied old.entry) new_table) (contents_of list.now))) }
+{
+    match old {
+        None => {
+            let table = Table::of(alloc, true, false, list)?;
+            few_enough(table)
+        }
+        Some(old) => {
+            if old.is_const() {
+                return Err(ConfigFault::ConstTable);
+            }
+            let table = Table::of(alloc, old.persist(), false, list)?;
+            few_enough(table)
+        }
+    }
+}
+
+/// The table, if its entries are few enough.
+fn few_enough(table: Table) -> Result<Table, ConfigFault>
+    requires { table.is_const ≡ false }
+    ensures { MatchResult result (λ t. filled table table.entries ≡ Ok t) (λ e. FailsWith e (filled table table.entries)) }
+{
+    if table.entry_count() > ENTRIES_MAX {
+        return Err(ConfigFault::TableFull);
+    }
+    Ok(table)
+}

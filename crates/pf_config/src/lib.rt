@@ -1,0 +1,25 @@
+//! The configuration of a packet filter: anchors with their rules and tables (pf.conf(5), ANCHORS and TABLES).
+//!
+//! # Organization
+//!
+//! - [`Config`]: a skip list, and the anchors from the main ruleset down. Each change is made whole, or refused and leaves all as
+//!   it was.
+//! - [`Anchor`]: what stands at a path and below it.
+//! - [`Table`], of the crate below.
+#![tactic(auto)]
+
+mod anchor;
+mod changed;
+mod config;
+mod fault;
+mod loading;
+mod paths;
+mod placing;
+mod tables;
+mod unused;
+mod walk;
+
+pub use anchor::Anchor;
+pub use config::Config;
+pub use fault::ConfigFault;
+pub use pf_table::Table;

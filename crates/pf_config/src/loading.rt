@@ -1,0 +1,106 @@
+//! A load: the rules, tables and blocks of a text take their places.
+
+ghost use Rattle.std.specs.Prelude.{◌≡◌, [], IfOk, fold, map};
+ghost use Rattle.std.specs.List.{list_any};
+ghost use Rattle.pf_config.specs.Changes.{placed, defined, defined_table, is_too_deep, loaded};
+ghost use Rattle.pf_config.specs.Texts.{definition_of};
+
+use crate::anchor::Anchor;
+use crate::changed::{placed, tables_at, with_tables};
+use crate::placing::Placing;
+use crate::tables::{named, with_table};
+use pf_ruleset::{TableDef, TableName};
+use pf_table::Table;
+use std::alloc::{AllocError, Global};
+
+/// How deep a path may be.
+const DEEPEST: usize = 8;
+
+/// Whether one of the blocks is too deep.
+pub(crate) fn any_too_deep(blocks: &[Placing]) -> bool
+    ensures { result ≡ list_any is_too_deep blocks.now }
+{
+    for block in blocks {
+        if is_too_deep(block) {
+            return true;
+        }
+    }
+    false
+}
+
+/// Whether a block is too deep.
+pub(crate) fn is_too_deep(block: &Placing) -> bool
+    ensures { result ≡ is_too_deep block.now }
+{
+    block.path().len() > DEEPEST
+}
+
+/// The map with each block in its place.
+fn with_blocks(alloc: Global, main: Anchor, blocks: &[Placing]) -> Result<Anchor, AllocError>
+    requires { main.names ≡ [] }
+    ensures names { IfOk result (λ a. a.names ≡ []) }
+    ensures map { IfOk result (λ a. a.anchors ≡ fold placed main.anchors blocks.now) }
+{
+    let mut next = main;
+    for block in blocks {
+        let items = block.items()?;
+        next = placed(alloc, &next, block.path(), items)?;
+    }
+    Ok(next)
+}
+
+/// The table as it is defined, of which there may be one already.
+fn defined_table(
+    alloc: Global,
+    definition: &TableDef,
+    tables: &[(TableName, Table)],
+) -> Result<Table, AllocError>
+    ensures { IfOk result (λ t. t ≡ defined_table tables.now (definition_of definition.now)) }
+{
+    match &definition.entries {
+        Some(list) => Table::of(alloc, definition.persist, definition.is_const, list),
+        None => match named(tables, definition.name.as_str()) {
+            Some(table) => table.flagged(definition.persist, definition.is_const),
+            None => Table::new(alloc, definition.persist, definition.is_const),
+        },
+    }
+}
+
+/// The tables with each definition in its turn.
+fn with_definitions(
+    alloc: Global,
+    tables: Vec<(TableName, Table)>,
+    definitions: &[TableDef],
+) -> Result<Vec<(TableName, Table)>, AllocError>
+    ensures { IfOk result (λ v. v.items ≡ fold defined tables.items (map definition_of definitions.now)) }
+{
+    let mut next = tables;
+    for definition in definitions {
+        let table = defined_table(alloc, definition, &next)?;
+        next = with_table(alloc, &next, &definition.name, &table)?;
+    }
+    Ok(next)
+}
+
+/// The map after a load.
+#[tactic(auto, unfolding(crate::specs::Changes::tidied))]
+pub(crate) fn loaded(
+    alloc: Global,
+    main: &Anchor,
+    own: &Placing,
+    definitions: &[TableDef],
+    blocks: &[Placing],
+) -> Result<Anchor, AllocError>
+    requires { main.now.names ≡ [] }
+    ensures names { IfOk result (λ a. a.names ≡ []) }
+    ensures map { IfOk result (λ a. a.anchors ≡ loaded own.now (map definition_of definitions.now) blocks.now main.now.anchors) }
+{
+    let items = own.items()?;
+    let first = placed(alloc, main, own.path(), items)?;
+    let old = tables_at(alloc, &first, own.path())?;
+    let tables = with_definitions(alloc, old, definitions)?;
+    let next = with_tables(alloc, &first, own.path(), tables)?;
+    let all = with_blocks(alloc, next, blocks)?;
+    let tidy = all.tidied(alloc, &all)?;
+    Ok(tidy)
+}

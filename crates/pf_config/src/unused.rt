@@ -1,0 +1,82 @@
+//! Tables that no rule refers to.
+
+ghost use Rattle.std.specs.Prelude.{◌≡◌, [], IfOk, map};
+ghost use Rattle.std.specs.List.{list_any};
+ghost use Rattle.pf_ruleset.specs.Items.{rule_of};
+ghost use Rattle.pf_config.specs.Changes.{is_at_table, conditions_refer, refers, is_used, used_tables};
+
+use crate::anchor::Anchor;
+use crate::tables::copied_table;
+use pf_ruleset::{Addresses, Conditions, Host, Item, Name, TableName};
+use pf_table::Table;
+use std::alloc::{AllocError, Global};
+
+/// Whether the host is the table of that name.
+fn is_at_table(name: &TableName, host: &Host) -> bool
+    ensures { result ≡ is_at_table name.now host.now }
+{
+    match host {
+        Host::In(Addresses::Table(own)) | Host::NotIn(Addresses::Table(own)) => own.as_bytes()
+            == name.as_bytes(),
+        _ => false,
+    }
+}
+
+fn conditions_refer(name: &TableName, conditions: &Conditions) -> bool
+    ensures { result ≡ conditions_refer name.now conditions.now }
+{
+    is_at_table(name, &conditions.source) || is_at_table(name, &conditions.destination)
+}
+
+/// Whether the rule refers to the table of that name.
+fn refers(name: &TableName, item: &Item) -> bool
+    ensures { result ≡ refers name.now (rule_of item.now) }
+{
+    match item {
+        Item::Filter(rule) => conditions_refer(name, &rule.conditions),
+    }
+}
+
+/// Whether one of the rules refers to the table of that name.
+pub(crate) fn items_refer(name: &TableName, items: &[Item]) -> bool
+    ensures { result ≡ list_any (refers name.now) (map rule_of items.now) }
+{
+    for item in items {
+        if refers(name, item) {
+            return true;
+        }
+    }
+    false
+}
+
+/// Whether a table of that name at the path stays: any rule refers to main's, a rule of its own anchor to another.
+fn is_used(main: &Anchor, path: &[Name], items: &[Item], name: &TableName) -> bool
+    ensures { result ≡ is_used main.now.anchors (record { path = path.now; rules = map rule_of items.now; tables = [] }) name.now }
+{
+    if path.is_empty() {
+        main.refers(name)
+    } else {
+        items_refer(name, items)
+    }
+}
+
+/// The tables at a path that persist or are used.
+pub(crate) fn used_tables(
+    alloc: Global,
+    main: &Anchor,
+    path: &[Name],
+    items: &[Item],
+    tables: &[(TableName, Table)],
+) -> Result<Vec<(TableName, Table)>, AllocError>
+    ensures { IfOk result (λ v. v.items ≡ used_tables main.now.anchors (record { path = path.now; rules = map rule_of items.now; tables = [] }) tables.now) }
+{
+    let mut next = Vec::new(alloc);
+    for entry in tables {
+        if entry.1.persist() || is_used(main, path, items, &entry.0) {
+            let name = entry.0.copied(alloc)?;
+            let table = copied_table(&entry.1)?;
+            next.push((name, table))?;
+        }
+    }
+    Ok(next)
+}

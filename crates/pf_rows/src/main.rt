@@ -1,0 +1,37 @@
+//! Short texts and what `pfx` writes of each: the stored input has the texts, the stored output what is to be written.
+//!
+//! A row of the input is a line `== WORD..`, its words between tabs, and the text up to the newline before the next such line.
+//! What stands before the first one is passed over. Of each row the output has the same line, what the run writes, and a line
+//! `-- STATUS`.
+#![tactic(auto)]
+
+use pf_tool::run;
+use std::alloc::Global;
+use std::io;
+
+/// The words of a run, the program's name first.
+fn words_of(alloc: Global, line: &str) -> io::Result<Vec<&str>> {
+    let mut words = Vec::new(alloc);
+    words.push("pfx")?;
+    for word in line.split('\t') {
+        words.push(word)?;
+    }
+    Ok(words)
+}
+
+fn main(rt: HostRuntime) -> io::Result<()> {
+    let alloc = rt.alloc();
+    let input = io::read_to_string(alloc, rt.reader())?;
+    let mut writer = io::writer(&rt);
+    for row in input.split("\n== ").skip(1) {
+        let (line, text) = match row.split_once('\n') {
+            Some((line, text)) => (line, text),
+            None => (row, ""),
+        };
+        println!(rt; "== {line}")?;
+        let words = words_of(alloc, line)?;
+        let status = run(alloc, words.as_slice(), &mut text.as_bytes(), &mut writer);
+        println!(rt; "-- {}", status.code())?;
+    }
+    Ok(())
+}

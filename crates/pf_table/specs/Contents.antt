@@ -1,0 +1,55 @@
+-- How the contents of a table change.
+use Rattle.std.specs.Prelude.{ℕ, Bool, false, ◌&&◌, List, [], ◌∷◌, ◌++◌, length, filter, fold, not, find, Option, Some, None, if◌then◌else◌}
+use Rattle.std.specs.List.{list_any}
+use Rattle.std.specs.Ordering.{is_lt, is_eq}
+use Rattle.pf_addr.specs.Blocks.{Block}
+use Rattle.pf_ruleset.specs.declared.ruleset.TableEntry.{TableEntry}
+use Rattle.pf_addr.specs.Order.{prefix_cmp}
+use Rattle.pf_table.specs.Tables.{bool_eq}
+
+abbrev pub is_prefix : Block → TableEntry → Bool
+is_prefix p e = is_eq (prefix_cmp e.prefix p)
+
+-- the entry of that prefix, if there is one
+abbrev pub entry_at : Block → List TableEntry → Option TableEntry
+entry_at p entries = find (is_prefix p) entries
+
+-- ---- entries put in
+
+abbrev pub entries_before : Block → List TableEntry → List TableEntry
+entries_before p entries = filter (λ (e : TableEntry). is_lt (prefix_cmp e.prefix p)) entries
+
+abbrev pub entries_behind : Block → List TableEntry → List TableEntry
+entries_behind p entries = filter (λ (e : TableEntry). is_lt (prefix_cmp p e.prefix)) entries
+
+-- an entry is put in, unless its prefix is there
+abbrev pub put_entry : List TableEntry → TableEntry → List TableEntry
+put_entry entries e = if list_any (is_prefix e.prefix) entries then entries else entries_before e.prefix entries ++ e ∷ entries_behind e.prefix entries
+
+-- entries are put in, one after another, so the first of each prefix counts
+abbrev pub with_entries : List TableEntry → List TableEntry → List TableEntry
+with_entries entries more = fold put_entry entries more
+
+abbrev pub contents_of : List TableEntry → List TableEntry
+contents_of entries = with_entries [] entries
+
+-- ---- entries taken out
+
+abbrev pub same_entry : TableEntry → TableEntry → Bool
+same_entry e f = is_prefix e.prefix f && bool_eq e.negated f.negated
+
+-- the entry is there and has the sign
+abbrev pub has_sign : Bool → Option TableEntry → Bool
+has_sign negated None = false
+has_sign negated (Some f) = bool_eq negated f.negated
+
+abbrev pub unlisted : List TableEntry → List TableEntry → List TableEntry
+unlisted entries listed = filter (λ (e : TableEntry). not (list_any (same_entry e) listed)) entries
+
+-- each entry that is listed with its sign goes
+abbrev pub without_entries : List TableEntry → List TableEntry → List TableEntry
+without_entries entries less = unlisted entries (contents_of less)
+
+-- how many entries, with their signs, the first has that the second lacks
+abbrev pub count_without : List TableEntry → List TableEntry → ℕ
+count_without entries other = length (unlisted entries other)

@@ -1,8 +1,0 @@
-use Rattle.std.proofs.Common.{◌≡◌, drop, map, string_bytes}
-use Rattle.pf_ruleset.specs.Rulesets.{ruleset_of}
-use Rattle.pf_tool.specs.Tool.{behind, verdict_lines}
-use Rattle.pf_tool.proofs.test_word.verdict_lines.Given as goal
-
--- the lines so far, and those of the packets that are left
-abbrev pub invariant-loop-packet : goal.invariant-loop-packet
-invariant-loop-packet l = behind (string_bytes l.text) (verdict_lines (ruleset_of l.loaded) (map (λ p. p.now) (drop l.packet-index l.packets))) ≡ verdict_lines (ruleset_of l.loaded) (map (λ p. p.now) l.packets)

@@ -1,0 +1,124 @@
+//! The word `test`: the verdicts of a text's rules for packets.
+
+ghost use Rattle.std.specs.Prelude.{◌≡◌, ◌++◌, [], Some, IfOk, OnOk, map, option_map, string_bytes};
+ghost use Rattle.pf_ruleset.specs.Rulesets.{ruleset_of};
+ghost use Rattle.pf_tool.specs.Tool.{line, refusal_line, verdict_for, verdict_lines, tested_over, nothing_loaded, refused_load, test_output};
+ghost use Rattle.pf_config.specs.Changes.{load_ruleset};
+ghost use Rattle.pf_tool.specs.Output.{written};
+
+use crate::output::{Ending, Output};
+use pf_config::Config;
+use pf_eval::{PacketFault, parse_packet, show_verdict, verdict};
+use pf_grammar::{ParseFault, Place, Profile, Refusal, parse};
+use pf_ruleset::{Path, Ruleset};
+use std::alloc::{AllocError, Global};
+
+/// The line of a refused text.
+pub(crate) fn refusal_line(alloc: Global, refusal: Refusal) -> Result<String, AllocError>
+    ensures { IfOk result (λ text. string_bytes text ≡ refusal_line refusal) }
+{
+    let mut text = String::new(alloc);
+    text.push_str("refused ")?;
+    text.push_str(refusal.cause.code().to_string(alloc)?.as_str())?;
+    text.push_str(" line ")?;
+    text.push_str(refusal.line.to_string(alloc)?.as_str())?;
+    text.push('\n')?;
+    Ok(text)
+}
+
+/// Puts a line behind the text.
+fn push_line(text: &mut String, shown: &str) -> Result<(), AllocError>
+    ensures { OnOk result (string_bytes text.new ≡ string_bytes text.old ++ line shown.now) }
+{
+    text.push_str(shown)?;
+    text.push('\n')
+}
+
+/// The verdict for a packet text, none where it is no packet.
+#[tactic(auto, unfolding(crate::specs::Tool::verdict_for))]
+fn verdict_for(alloc: Global, config: &Config, packet: &str) -> Result<Option<String>, AllocError>
+    ensures { IfOk result (λ found. option_map string_bytes found ≡ verdict_for config.now packet.now) }
+{
+    match parse_packet(alloc, packet) {
+        Ok(packet) => {
+            let found = verdict(config, &packet);
+            let shown = show_verdict(alloc, &found)?;
+            Ok(Some(shown))
+        }
+        Err(PacketFault::Memory) => Err(AllocError),
+        Err(PacketFault::BadPacket) => Ok(None),
+    }
+}
+
+/// A verdict line for each packet text in turn, up to the first that is no packet.
+fn verdict_lines(alloc: Global, config: &Config, packets: &[&str]) -> Result<Output, AllocError>
+    ensures { IfOk result (λ o. written o ≡ verdict_lines config.now (map (λ p. p.now) packets.now)) }
+{
+    let mut text = String::new(alloc);
+    for packet in packets {
+        match verdict_for(alloc, config, packet)? {
+            Some(shown) => push_line(&mut text, shown.as_str())?,
+            None => {
+                push_line(&mut text, "refused 30")?;
+                return Ok(Output {
+                    text,
+                    ending: Ending::Refused,
+                });
+            }
+        }
+    }
+    Ok(Output {
+        text,
+        ending: Ending::Done,
+    })
+}
+
+/// The line of a load that is refused.
+fn refused_load(alloc: Global, code: u8) -> Result<Output, AllocError>
+    ensures { IfOk result (λ o. written o ≡ refused_load (Some code)) }
+{
+    let mut text = String::new(alloc);
+    text.push_str("refused ")?;
+    text.push_str(code.to_string(alloc)?.as_str())?;
+    text.push('\n')?;
+    Ok(Output {
+        text,
+        ending: Ending::Refused,
+    })
+}
+
+/// The ruleset is loaded as the main one of an empty configuration, which then answers.
+fn tested_over(alloc: Global, rules: Ruleset, packets: &[&str]) -> Result<Output, AllocError>
+    ensures { IfOk result (λ o. written o ≡ tested_over (map (λ p. p.now) packets.now) (load_ruleset nothing_loaded [] (ruleset_of rules))) }
+{
+    let mut config = Config::new(alloc)?;
+    match config.load(&Path::main(alloc), rules) {
+        Ok(()) => verdict_lines(alloc, &config, packets),
+        Err(fault) => match fault.code() {
+            Some(code) => refused_load(alloc, code),
+            None => Err(AllocError),
+        },
+    }
+}
+
+/// What `test PACKET..` writes over this input.
+#[tactic(auto, unfolding(crate::specs::Tool::test_output))]
+pub(crate) fn test_output(
+    alloc: Global,
+    packets: &[&str],
+    input: &[u8],
+) -> Result<Output, AllocError>
+    ensures { IfOk result (λ o. written o ≡ test_output (map (λ p. p.now) packets.now) input.now) }
+{
+    match parse(alloc, input, Place::Main, Profile::Two) {
+        Ok(rules) => tested_over(alloc, rules, packets),
+        Err(ParseFault::Memory) => Err(AllocError),
+        Err(ParseFault::Refused(refusal)) => {
+            let text = refusal_line(alloc, refusal)?;
+            Ok(Output {
+                text,
+                ending: Ending::Refused,
+            })
+        }
+    }
+}

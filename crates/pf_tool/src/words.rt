@@ -1,0 +1,44 @@
+//! The words of the program, as `clap` reads them.
+
+ghost use Rattle.std.specs.Prelude.{◌≡◌, IfOk, false};
+ghost use Rattle.clap.specs.Words.{app_of};
+ghost use Rattle.clap.specs.declared.builder.command.Command.TheViews.{out-Command};
+ghost use Rattle.pf_tool.specs.Tool.{check_app, test_app, pfx_app};
+
+use clap::{Arg, ArgAction, Command};
+use std::alloc::{AllocError, Global};
+
+/// `test PACKET..`
+fn test_command<'a>(alloc: Global) -> Result<Command<'a>, AllocError>
+    ensures app { IfOk result (λ c. app_of c ≡ test_app) }
+    ensures local { IfOk result (λ c. (out-Command c).has_globals ≡ false) }
+{
+    let packet = Arg::new(alloc, "packet")
+        .action(ArgAction::Append)
+        .required(true)
+        .num_args(1..);
+    Command::new(alloc, "test").arg(packet)
+}
+
+/// `check [--anchor]`
+fn check_command<'a>(alloc: Global) -> Result<Command<'a>, AllocError>
+    ensures app { IfOk result (λ c. app_of c ≡ check_app) }
+    ensures local { IfOk result (λ c. (out-Command c).has_globals ≡ false) }
+{
+    let anchor = Arg::new(alloc, "anchor")
+        .long("anchor")
+        .action(ArgAction::SetTrue);
+    Command::new(alloc, "check").arg(anchor)
+}
+
+/// All words of the program.
+pub(crate) fn command<'a>(alloc: Global) -> Result<Command<'a>, AllocError>
+    ensures { IfOk result (λ c. app_of c ≡ pfx_app) }
+{
+    let check = check_command(alloc)?;
+    let test = test_command(alloc)?;
+    let command = Command::new(alloc, "pfx")
+        .subcommand(check)?
+        .subcommand(test)?;
+    Ok(command.subcommand_required(true))
+}

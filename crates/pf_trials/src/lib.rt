@@ -1,0 +1,5 @@
+//! Tests of rules, tables and configurations together, as a caller of the crates below sees them.
+#![tactic(auto)]
+
+#[cfg(test)]
+mod tables;
