@@ -1,6 +1,6 @@
-pub mod Node
-pub mod Step
-pub mod World
-pub mod Law
-pub mod Worked
-pub mod Cases
+pub mod Logs
+pub mod Cells
+pub mod Views
+pub mod Planning
+pub mod Fitting
+pub mod OneStep

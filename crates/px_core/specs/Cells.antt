@@ -1,0 +1,20 @@
+-- What the kept votes stand for: a ballot for each position and member.
+use Rattle.std.specs.Prelude.{ℕ, ◌+◌, ◌*◌, ◌%◌, Bool, ◌&&◌, List, if◌then◌else◌, nat_le, nat_lt, nat_eq, slice_index_or}
+use Rattle.px_core.specs.declared.votes.Cell.{Cell}
+
+abbrev pub empty_cell : Cell
+empty_cell = record { position = 0; ballot = 0 }
+
+abbrev pub cell_at : List Cell → ℕ → ℕ → Cell
+cell_at cells p m = slice_index_or cells (p % 64 * 15 + m) empty_cell
+
+-- a cell counts where it is for this position, which isn't below the front
+abbrev pub counts : ℕ → ℕ → ℕ → Cell → Bool
+counts front p m cell = (nat_le front p && nat_lt m 15) && nat_eq cell.position p
+
+unfoldable pub kept_in : (front : ℕ) → List Cell → (position member : ℕ) → ℕ
+kept_in front cells p m = if counts front p m (cell_at cells p m) then (cell_at cells p m).ballot else 0
+
+-- the same below a new front forgotten
+abbrev pub forgotten_below : (front : ℕ) → ((position member : ℕ) → ℕ) → (position member : ℕ) → ℕ
+forgotten_below front kept p m = if nat_lt p front then 0 else kept p m

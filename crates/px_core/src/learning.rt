@@ -1,0 +1,172 @@
+//! The learner (Paxos Made Simple, 2.3): votes are counted, and what was missed is told.
+ghost use Rattle.std.specs.Prelude.{◌≡◌, ℕ, ◌+◌, ◌<◌, ◌≤◌, IfOk, OnOk, is_none, ◌&&◌, length, Some, None, option_map, true, nat_eq};
+ghost use Rattle.std.specs.Cmp.Lexicographic.{pointwise};
+ghost use Rattle.px_model.specs.Node.{Volatile, Log};
+ghost use Rattle.px_model.specs.Step.{on_vote, with_vote, on_learned, on_need, learn, idle, in_window, front, put, positions};
+ghost use Rattle.px_model.specs.Spelling.{Bytes};
+ghost use Rattle.px_core.specs.Cells.{kept_in};
+ghost use Rattle.px_model.specs.Entries.{entry_of, view_of};
+ghost use Rattle.px_core.specs.Logs.{learned_in};
+ghost use Rattle.px_core.specs.Planning.{IsFor};
+ghost use Rattle.px_core.specs.Views.{plan_of, made, volatile_in, log_in, RoomAt};
+
+use crate::limits::{POSITIONS, WINDOW};
+use crate::plan::{Next, Plan, Sends};
+use crate::proposing::idle_plan;
+use crate::state::{Core, Learner};
+use px_model::{Change, Entry, EntryView, Message};
+use std::alloc::AllocError;
+
+/// What is learned at the position.
+#[tactic(auto, unfolding(crate::specs::Logs::learned_in))]
+pub(crate) fn learned_at(learned: &[Option<Entry>], position: u32) -> Option<&Entry>
+    ensures { option_map (λ e. entry_of e.now) result ≡ learned_in learned.now position }
+{
+    match learned.get(position as usize) {
+        Some(Some(entry)) => Some(entry),
+        _ => None,
+    }
+}
+
+impl Learner {
+    /// The least position not learned.
+    #[tactic(auto, using(px_model::proofs::Plans::front_within))]
+    pub(crate) fn front(&self) -> u32
+        ensures front { result ≡ front (learned_in self.now.learned.items) }
+        ensures votes { result ≡ self.now.votes.front }
+        ensures within { result ≤ positions }
+    {
+        self.votes.front
+    }
+
+    /// Whether votes are kept at the position.
+    pub(crate) fn is_in_window(&self, position: u32) -> bool
+        ensures { result ≡ in_window self.now.votes.front position }
+    {
+        let front = self.votes.front;
+        front <= position && position - front < WINDOW && position < POSITIONS
+    }
+
+    /// Whether the position is in the window, and nothing is learned there.
+    pub(crate) fn is_open(&self, position: u32) -> bool
+        ensures { result ≡
+            (is_none (learned_in self.now.learned.items position) && in_window self.now.votes.front position) }
+    {
+        learned_at(&self.learned, position).is_none() && self.is_in_window(position)
+    }
+
+    /// Makes room for a learned entry at the position, which changes nothing of what is learned.
+    #[tactic(auto, using(crate::proofs::Front::learned_push))]
+    pub(crate) fn make_room(&mut self, position: u32) -> Result<(), AllocError>
+        ensures room { OnOk result (position < length self.new.learned.items) }
+        ensures learned { learned_in self.new.learned.items ≡ learned_in self.old.learned.items }
+        ensures votes { self.new.votes ≡ self.old.votes }
+    {
+        while self.learned.len() <= position as usize {
+            self.learned.push(None)?;
+        }
+        Ok(())
+    }
+}
+
+impl Core {
+    /// A vote of a member.
+    #[tactic(auto, unfolding(px_model::specs::Step::on_vote, px_model::specs::Step::with_vote, px_model::specs::Step::learn))]
+    pub(crate) fn vote(
+        &self,
+        from: u8,
+        ballot: u64,
+        position: u32,
+        entry: &EntryView,
+    ) -> Result<Plan, AllocError>
+        requires from { from < self.now.members }
+        requires room { RoomAt position self.now }
+        ensures room { IfOk result (λ plan. IsFor plan self.now) }
+        ensures step { IfOk result (λ plan.
+            made self.now plan ≡
+            on_vote (pointwise nat_eq) self.now.members (log_in self.now) (volatile_in self.now) from ballot position
+            (view_of entry.now)) }
+    {
+        if !self.learner.is_open(position) {
+            return Ok(idle_plan());
+        }
+        let agree = self
+            .learner
+            .votes
+            .would_agree(self.members, position, from, ballot);
+        if !agree {
+            return Ok(Plan {
+                change: None,
+                sends: Sends::Nothing,
+                next: Next::Keeps {
+                    position,
+                    member: from,
+                    ballot,
+                },
+            });
+        }
+        let entry = Entry::from_view(self.alloc, entry)?;
+        let recorded = entry.share()?;
+        Ok(Plan {
+            change: Some(Change::Learned {
+                position,
+                entry: recorded,
+            }),
+            sends: Sends::Nothing,
+            next: Next::KeepsLearns {
+                position,
+                member: from,
+                ballot,
+                entry,
+            },
+        })
+    }
+
+    /// Told that an entry was chosen.
+    #[tactic(auto, unfolding(px_model::specs::Step::on_learned, px_model::specs::Step::learn))]
+    pub(crate) fn learned_from(&self, position: u32, entry: &EntryView) -> Result<Plan, AllocError>
+        requires room { RoomAt position self.now }
+        ensures room { IfOk result (λ plan. IsFor plan self.now) }
+        ensures step { IfOk result (λ plan.
+            made self.now plan ≡
+            on_learned (pointwise nat_eq) (log_in self.now) (volatile_in self.now) position (view_of entry.now)) }
+    {
+        if !self.learner.is_open(position) {
+            return Ok(idle_plan());
+        }
+        let entry = Entry::from_view(self.alloc, entry)?;
+        let recorded = entry.share()?;
+        Ok(Plan {
+            change: Some(Change::Learned {
+                position,
+                entry: recorded,
+            }),
+            sends: Sends::Nothing,
+            next: Next::Learns { position, entry },
+        })
+    }
+
+    /// Asked for what is learned at the position.
+    #[tactic(auto, unfolding(px_model::specs::Step::on_need))]
+    pub(crate) fn need(&self, from: u8, position: u32) -> Result<Plan, AllocError>
+        ensures step { IfOk result (λ plan. (v : Volatile Bytes) →
+            plan_of self.now.members self.now.me (log_in self.now) v plan ≡
+            on_need self.now.me (log_in self.now) v from position) }
+        ensures room { IfOk result (λ plan. IsFor plan self.now) }
+    {
+        match learned_at(&self.learner.learned, position) {
+            Some(entry) => {
+                let entry = entry.share()?;
+                Ok(Plan {
+                    change: None,
+                    sends: Sends::One {
+                        to: from,
+                        message: Message::Learned { position, entry },
+                    },
+                    next: Next::Same,
+                })
+            }
+            None => Ok(idle_plan()),
+        }
+    }
+}

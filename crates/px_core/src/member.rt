@@ -1,0 +1,181 @@
+//! A core at its beginning, what a restart brings back and takes, and what is asked of a core.
+ghost use Rattle.std.specs.Prelude.{◌≡◌, ◌≤◌, ◌<◌, IfOk, OnOk, OnErr, IsTrue, ◌↔◌, option_map, Some, None, [], Bool};
+ghost use Rattle.px_model.specs.Step.{nothing_volatile, front, put, positions};
+ghost use Rattle.px_model.specs.Entries.{entry_of};
+ghost use Rattle.px_core.specs.Cells.{kept_in};
+ghost use Rattle.px_core.specs.Logs.{learned_in};
+ghost use Rattle.px_model.specs.Fits.{Passes, EntryFits};
+ghost use Rattle.px_model.specs.Spelling.{Bytes};
+ghost use Rattle.px_core.specs.Fitting.{CoreFits};
+ghost use Rattle.px_core.specs.Planning.{state_of, empty_state, MayCome, MayComeFrom};
+
+use crate::learning::learned_at;
+use crate::limits::{POSITIONS, WAITING};
+use crate::state::{Core, Learner, Proposer};
+use crate::votes::Votes;
+use px_model::{Entry, EntryView, Event, Message};
+use std::alloc::{AllocError, Global};
+
+impl Proposer {
+    /// Nothing waits; there is room for 64 entries.
+    fn new(alloc: Global) -> Result<Proposer, AllocError>
+        ensures waiting { IfOk result (λ p. p.waiting.items ≡ []) }
+        ensures attempt { IfOk result (λ p. p.attempt ≡ None) }
+        ensures lead { IfOk result (λ p. p.lead ≡ None) }
+        ensures seen { IfOk result (λ p. p.seen ≡ 0) }
+    {
+        let waiting = Vec::with_capacity(alloc, WAITING)?;
+        Ok(Proposer {
+            waiting,
+            attempt: None,
+            lead: None,
+            seen: 0,
+        })
+    }
+
+    /// All is let go; the room stays.
+    fn forget(&mut self)
+        ensures waiting { self.new.waiting.items ≡ [] }
+        ensures attempt { self.new.attempt ≡ None }
+        ensures lead { self.new.lead ≡ None }
+        ensures seen { self.new.seen ≡ 0 }
+    {
+        self.waiting.clear();
+        self.attempt = None;
+        self.lead = None;
+        self.seen = 0;
+    }
+}
+
+impl Learner {
+    /// Nothing is learned, and no vote is kept.
+    #[tactic(auto, using(crate::proofs::Front::front_nothing, crate::proofs::Front::learned_nothing))]
+    fn new(alloc: Global) -> Result<Learner, AllocError>
+        ensures learned { IfOk result (λ l. learned_in l.learned.items ≡ (λ p. None)) }
+        ensures kept { IfOk result (λ l. kept_in l.votes.front l.votes.cells.items ≡ (λ p m. 0)) }
+    {
+        let votes = Votes::new(alloc)?;
+        Ok(Learner {
+            votes,
+            learned: Vec::new(alloc),
+        })
+    }
+}
+
+impl Core {
+    /// The member `me` of a cluster, as it starts with an empty record. There are 1 to 15 members. Fails for want of
+    /// memory alone.
+    #[tactic(auto, unfolding(crate::specs::Planning::state_of))]
+    pub fn new(alloc: Global, members: u8, me: u8) -> Result<Core, AllocError>
+        requires some { 1 ≤ members }
+        requires few { members ≤ 15 }
+        requires member { me < members }
+        ensures state { IfOk result (λ core. state_of core ≡ empty_state members me) }
+        ensures fits { (test : Bytes → Bool) → IfOk result (λ core. CoreFits test (state_of core)) }
+    {
+        let proposer = Proposer::new(alloc)?;
+        let learner = Learner::new(alloc)?;
+        Ok(Core {
+            alloc,
+            members,
+            me,
+            proposer,
+            learner,
+        })
+    }
+
+    /// As a member starts: its record has this entry as learned at the position. Want of memory leaves all as it was.
+    #[tactic(auto, unfolding(crate::specs::Planning::state_of))]
+    pub fn remember(&mut self, position: u32, entry: Entry) -> Result<(), AllocError>
+        requires position { position < positions }
+        requires nothing { (state_of self.old).volatile ≡ nothing_volatile }
+        ensures ok { OnOk result (state_of self.new ≡
+            record (state_of self.old) { learned = put (state_of self.old).learned position (Some (entry_of entry)) }) }
+        ensures err { OnErr result (state_of self.new ≡ state_of self.old) }
+        ensures fits { (test : Bytes → Bool) → CoreFits test (state_of self.old) →
+            EntryFits (Passes test) (state_of self.old).members (entry_of entry) → CoreFits test (state_of self.new) }
+    {
+        self.learner.make_room(position)?;
+        self.learner.learn(position, entry);
+        Ok(())
+    }
+
+    /// A restart in place: all is let go but what is learned. Takes no memory.
+    #[tactic(auto, unfolding(crate::specs::Planning::state_of))]
+    pub fn forget(&mut self)
+        ensures state { state_of self.new ≡ record (state_of self.old) { volatile = nothing_volatile } }
+        ensures fits { (test : Bytes → Bool) → CoreFits test (state_of self.old) → CoreFits test (state_of self.new) }
+    {
+        self.proposer.forget();
+        self.learner.votes.forget();
+    }
+
+    /// The least position not learned, 1,000,000 if there is none.
+    #[tactic(auto, unfolding(crate::specs::Planning::state_of))]
+    pub fn front(&self) -> u32
+        ensures front { result ≡ front (state_of self.now).learned }
+        ensures within { result ≤ positions }
+    {
+        self.learner.front()
+    }
+
+    /// The entry learned at the position.
+    #[tactic(auto, unfolding(crate::specs::Planning::state_of))]
+    pub fn learned(&self, position: u32) -> Option<&Entry>
+        ensures { option_map (λ e. entry_of e.now) result ≡ (state_of self.now).learned position }
+    {
+        learned_at(&self.learner.learned, position)
+    }
+
+    /// How many members there are, 1 to 15.
+    #[tactic(auto, unfolding(crate::specs::Planning::state_of))]
+    pub fn members(&self) -> u8
+        ensures members { result ≡ (state_of self.now).members }
+        ensures some { 1 ≤ result }
+        ensures few { result ≤ 15 }
+    {
+        self.members
+    }
+
+    /// The member's number.
+    #[tactic(auto, unfolding(crate::specs::Planning::state_of))]
+    pub fn me(&self) -> u8
+        ensures me { result ≡ (state_of self.now).me }
+        ensures member { result < (state_of self.now).members }
+    {
+        self.me
+    }
+
+    /// Whether `plan` takes the event: promises and votes come from members, and promises are for positions that there
+    /// are. What a datagram to this member spells is always such an event.
+    #[tactic(auto, unfolding(crate::specs::Planning::state_of))]
+    pub fn takes(&self, event: &Event) -> bool
+        ensures { IsTrue result ↔ MayCome (state_of self.now).members event.now }
+    {
+        match event {
+            Event::Asks { .. } => true,
+            Event::Ticks => true,
+            Event::Comes { sender, message } => may_come_from(self.members, *sender, message),
+        }
+    }
+}
+
+/// Whether the message may come from this sender.
+fn may_come_from(members: u8, sender: u8, message: &Message<EntryView>) -> bool
+    ensures { IsTrue result ↔ MayComeFrom members sender message.now }
+{
+    match message {
+        Message::PromiseAll { position, .. } => sender < members && *position < POSITIONS,
+        Message::Vote { .. } => sender < members,
+        Message::Ask { .. } => true,
+        Message::Prepare { .. } => true,
+        Message::Promise { .. } => true,
+        Message::PrepareAll { .. } => true,
+        Message::Accept { .. } => true,
+        Message::Nack { .. } => true,
+        Message::Need { .. } => true,
+        Message::Learned { .. } => true,
+        Message::Asked { .. } => true,
+        Message::AskRefused { .. } => true,
+    }
+}

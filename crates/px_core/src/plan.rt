@@ -1,0 +1,122 @@
+//! What a step comes to, before any of it is done.
+use px_model::{Change, Entry, Message, Proposal};
+use thiserror::Error;
+
+/// Phase 1: who promised, the greatest top told, the reported proposal of highest ballot. Phase 2: the entry proposed.
+///
+/// Source: Paxos Made Simple, 2.2.
+#[derive(Drop)]
+pub enum Phase {
+    Preparing {
+        counted: [bool; 15],
+        top: u32,
+        best: Option<Proposal<Entry>>,
+    },
+    Accepting {
+        entry: Entry,
+    },
+}
+
+/// A proposer's attempt to have an entry chosen at a position.
+#[derive(Drop)]
+pub struct Attempt {
+    pub position: u32,
+    pub ballot: u64,
+    pub phase: Phase,
+}
+
+/// A ballot that a majority promised at all positions, and the first position that it may be used at.
+#[derive(Clone, Copy)]
+pub struct Lead {
+    pub ballot: u64,
+    pub from: u32,
+}
+
+/// What a plan makes of the volatile part, and of what is learned.
+#[derive(Drop)]
+pub enum Next {
+    Same,
+    /// An entry waits behind the others.
+    Waits {
+        entry: Entry,
+    },
+    /// A promise is counted.
+    Counts {
+        attempt: Attempt,
+    },
+    /// Attempt and lead are these.
+    Leads {
+        attempt: Option<Attempt>,
+        lead: Option<Lead>,
+    },
+    /// Attempt and lead are dropped where it says so, and this is the highest round heard of.
+    Drops {
+        attempt: bool,
+        lead: bool,
+        seen: u64,
+    },
+    /// A vote is kept.
+    Keeps {
+        position: u32,
+        member: u8,
+        ballot: u64,
+    },
+    /// An entry is learned.
+    Learns {
+        position: u32,
+        entry: Entry,
+    },
+    /// A vote is kept, and by it an entry is learned.
+    KeepsLearns {
+        position: u32,
+        member: u8,
+        ballot: u64,
+        entry: Entry,
+    },
+}
+
+/// What is sent.
+#[derive(Drop)]
+pub enum Sends {
+    /// Nothing.
+    Nothing,
+    /// A message to one.
+    One {
+        /// The member, or 255 for whoever asks from outside.
+        to: u8,
+        /// The message.
+        message: Message<Entry>,
+    },
+    /// One message to every member, in the order of their numbers, the sender among them.
+    All {
+        /// The message.
+        message: Message<Entry>,
+    },
+}
+
+/// What a member does: it commits the change, if there is one, settles, and only then sends.
+#[derive(Drop)]
+pub struct Plan {
+    /// The change of the record.
+    pub change: Option<Change>,
+    /// What is sent.
+    pub sends: Sends,
+    pub(crate) next: Next,
+}
+
+/// Why there is no plan. All is as it was. What is shown of a refusal is its number.
+#[derive(Debug, Drop, Error)]
+pub enum CoreFault {
+    /// 64 entries wait.
+    #[error("60")]
+    Full,
+    /// Every round is used.
+    #[error("61")]
+    BallotsSpent,
+    /// Every position is learned, or every number is used.
+    #[error("62")]
+    PositionsSpent,
+    /// No memory. Only an event that isn't refused can meet it.
+    #[error("memory")]
+    Memory,
+}

@@ -1,0 +1,154 @@
+//! One step of a member: what it comes to, before any of it is done.
+ghost use Rattle.std.specs.Prelude.{◌≡◌, ◌<◌, IfOk, OnOk, MatchResult, length, nat_eq, Bool};
+ghost use Rattle.std.specs.Cmp.Lexicographic.{pointwise};
+ghost use Rattle.px_model.specs.Node.Answer.{Planned};
+ghost use Rattle.px_model.specs.Step.{on_message};
+ghost use Rattle.px_model.specs.Spelling.{Bytes};
+ghost use Rattle.px_model.specs.Views.{meta_of, slot_of, come_of};
+ghost use Rattle.px_core.specs.Planning.{state_in, state_of, planned, step_with, IsFor, IsRefusal, MayCome, MayComeFrom};
+ghost use Rattle.px_core.specs.Fitting.{CoreFits, HandedFits, PlanFits};
+ghost use Rattle.px_core.specs.Views.{made, volatile_in, log_in, RoomToLearn};
+
+use crate::accepting::Acceptor;
+use crate::plan::{CoreFault, Plan};
+use crate::proposing::idle_plan;
+use crate::state::Core;
+use px_model::{EntryView, Event, Message, Meta, Slot};
+use std::alloc::AllocError;
+
+impl Core {
+    /// Makes room for an entry that the message may have learned. What the core stands for stays.
+    fn make_room(&mut self, message: &Message<EntryView>) -> Result<(), AllocError>
+        ensures room { OnOk result (RoomToLearn message.now self.new) }
+        ensures volatile { volatile_in self.new ≡ volatile_in self.old }
+        ensures learned { log_in self.new ≡ log_in self.old }
+        ensures members { (self.new.members ≡ self.old.members) × (self.new.me ≡ self.old.me) }
+    {
+        match message {
+            Message::Vote { position, .. } | Message::Learned { position, .. } => {
+                if self.learner.is_in_window(*position) {
+                    return self.learner.make_room(*position);
+                }
+                Ok(())
+            }
+            _ => Ok(()),
+        }
+    }
+
+    /// What a message comes to.
+    fn plan_message(
+        &self,
+        meta: &Meta,
+        slot: &Slot,
+        top: u32,
+        from: u8,
+        message: &Message<EntryView>,
+    ) -> Result<Plan, AllocError>
+        requires may_come { MayComeFrom self.now.members from message.now }
+        requires room { RoomToLearn message.now self.now }
+        ensures room { IfOk result (λ plan. IsFor plan self.now) }
+        ensures step { IfOk result (λ plan.
+            made self.now plan ≡
+            on_message (pointwise nat_eq) self.now.members self.now.me (meta_of meta.now) (slot_of slot.now) top
+            (log_in self.now) (volatile_in self.now) from (come_of message.now)) }
+    {
+        let acceptor = Acceptor { meta, slot };
+        match message {
+            Message::Prepare { ballot, position } => acceptor.prepare(from, *ballot, *position),
+            Message::PrepareAll { ballot, position } => {
+                acceptor.prepare_all(top, from, *ballot, *position)
+            }
+            Message::Accept {
+                ballot,
+                position,
+                entry,
+            } => acceptor.accept(self.alloc, from, *ballot, *position, entry),
+            Message::PromiseAll {
+                ballot,
+                position,
+                top,
+                accepted,
+            } => self.promise_all(from, *ballot, *position, *top, accepted),
+            Message::Nack {
+                ballot,
+                position,
+                promised,
+            } => Ok(self.proposer.nack(*ballot, *position, *promised)),
+            Message::Vote {
+                ballot,
+                position,
+                entry,
+            } => self.vote(from, *ballot, *position, entry),
+            Message::Learned { position, entry } => self.learned_from(*position, entry),
+            Message::Need { position } => self.need(from, *position),
+            Message::Ask { entry } => self.ask_from(meta, entry),
+            Message::Promise { .. } | Message::Asked { .. } | Message::AskRefused { .. } => {
+                Ok(idle_plan())
+            }
+        }
+    }
+
+    /// What the event comes to, by its kind.
+    #[tactic(auto, unfolding(px_model::specs::Step::step))]
+    fn plan_event(
+        &mut self,
+        meta: &Meta,
+        slot: &Slot,
+        top: u32,
+        event: &Event,
+    ) -> Result<Plan, CoreFault>
+        requires { MayCome self.old.members event.now }
+        ensures step { MatchResult result
+            (λ plan. step_with (state_in self.old) meta.now slot.now top event.now ≡ Planned (made self.new plan))
+            (λ fault. IsRefusal fault (step_with (state_in self.old) meta.now slot.now top event.now)) }
+        ensures room { IfOk result (λ plan. IsFor plan self.new) }
+        ensures state { state_in self.new ≡ state_in self.old }
+    {
+        match event {
+            Event::Asks { entry } => self.ask(meta, entry),
+            Event::Ticks => self.tick(meta),
+            Event::Comes { sender, message } => {
+                if self.make_room(message).is_err() {
+                    return Err(CoreFault::Memory);
+                }
+                match self.plan_message(meta, slot, top, *sender, message) {
+                    Ok(plan) => Ok(plan),
+                    Err(_) => Err(CoreFault::Memory),
+                }
+            }
+        }
+    }
+
+    /// What the member does on this event: the change to commit, and what is sent then. The slot is that of the event's
+    /// position and the top that of the whole record, where `Event::reads` says that they are read; elsewhere any will
+    /// do.
+    ///
+    /// Whatever is answered, the core stays what it stands for. A command is refused with `Full` where 64 entries wait,
+    /// else with `PositionsSpent` where every position is learned or every number used; a tick with `BallotsSpent`
+    /// where it needs a round and every one is used. Nothing else fails but for want of memory. All growths that
+    /// `settle` will need are made.
+    ///
+    /// What is sent can be spelled as a datagram, where what the core keeps and what it is handed can.
+    ///
+    /// Source: Paxos Made Simple, 2.2, 2.3 and 3.
+    #[tactic(auto, unfolding(crate::specs::Planning::state_of, crate::specs::Planning::volatile_after))]
+    pub fn plan(
+        &mut self,
+        meta: &Meta,
+        slot: &Slot,
+        top: u32,
+        event: &Event,
+    ) -> Result<Plan, CoreFault>
+        requires { MayCome (state_of self.old).members event.now }
+        ensures step { MatchResult result
+            (λ plan. step_with (state_of self.old) meta.now slot.now top event.now ≡ Planned (planned self.new plan))
+            (λ fault. IsRefusal fault (step_with (state_of self.old) meta.now slot.now top event.now)) }
+        ensures room { IfOk result (λ plan. IsFor plan self.new) }
+        ensures state { state_of self.new ≡ state_of self.old }
+        ensures fits { (test : Bytes → Bool) → CoreFits test (state_of self.old) →
+            HandedFits test (state_of self.old) meta.now slot.now top event.now →
+            IfOk result (λ plan. PlanFits test (state_of self.new) (planned self.new plan)) }
+    {
+        self.plan_event(meta, slot, top, event)
+    }
+}

@@ -1,0 +1,301 @@
+//! The proposer goes on: promises are counted, and at a majority its accept requests go out (Paxos Made Simple, 2.2,
+//! phase 2a).
+ghost use Rattle.std.specs.Prelude.{◌≡◌, ℕ, ◌+◌, ◌<◌, ◌≤◌, IfOk, option_map, map, true, max, Some, None, if◌then◌else◌};
+ghost use Rattle.px_model.specs.Node.{Volatile, Log};
+ghost use Rattle.px_model.specs.Step.{on_promise_all, on_nack, gathered, phase_two, idle, put, better, choice, is_majority, drop_attempt, drop_lead, positions};
+ghost use Rattle.px_model.specs.Spelling.{Bytes};
+ghost use Rattle.px_model.specs.Entries.{entry_of, view_of};
+ghost use Rattle.px_core.specs.Logs.{learned_in};
+ghost use Rattle.px_core.specs.declared.state.Core.{Core};
+ghost use Rattle.px_model.specs.Views.{proposal_of, report_of};
+ghost use Rattle.px_core.specs.Planning.{IsFor};
+ghost use Rattle.px_core.specs.Views.{counted_of, plan_of, made, volatile_in, log_in, attempt_of, lead_of};
+
+use crate::accepting::share_proposal;
+use crate::plan::{Attempt, Lead, Next, Phase, Plan, Sends};
+use crate::state::{Core, Proposer};
+use px_model::{Entry, EntryView, Message, Proposal};
+use std::alloc::{AllocError, Global};
+
+/// Nothing is done.
+pub(crate) fn idle_plan() -> Plan
+    ensures step { (n me : ℕ) (log : Log Bytes) (v : Volatile Bytes) → plan_of n me log v result ≡ idle v }
+    ensures room { (core : Core) → IsFor result core }
+{
+    Plan {
+        change: None,
+        sends: Sends::Nothing,
+        next: Next::Same,
+    }
+}
+
+/// Whether more than half of the members are marked.
+#[tactic(auto, unfolding(crate::specs::Views::counted_of))]
+fn majority(members: u8, counted: &[bool; 15]) -> bool
+    requires { members ≤ 15 }
+    ensures { result ≡ is_majority members (counted_of counted.now) }
+{
+    let mut votes: usize = 0;
+    for member in 0..members {
+        if counted[member as usize] {
+            votes += 1;
+        }
+    }
+    (members as usize) < 2 * votes
+}
+
+/// The members with one more.
+#[tactic(auto, using(crate::proofs::Counted::counted_set))]
+fn marked(counted: &[bool; 15], member: u8) -> [bool; 15]
+    requires { member < 15 }
+    ensures { counted_of result ≡ put (counted_of counted.now) member true }
+{
+    let mut next = *counted;
+    next[member as usize] = true;
+    next
+}
+
+/// The greatest top told, with this one; a member's counts once.
+#[tactic(auto, unfolding(crate::specs::Views::counted_of))]
+fn greatest_top(counted: &[bool; 15], member: u8, highest: u32, top: u32) -> u32
+    requires { member < 15 }
+    ensures { result ≡ (if counted_of counted.now member then highest else max highest top) }
+{
+    if counted[member as usize] || top <= highest {
+        highest
+    } else {
+        top
+    }
+}
+
+/// A copy of what a promise reports.
+fn reported(
+    alloc: Global,
+    report: &Option<Proposal<EntryView>>,
+) -> Result<Option<Proposal<Entry>>, AllocError>
+    ensures { IfOk result (λ x. option_map proposal_of x ≡ option_map report_of report.now) }
+{
+    match report {
+        None => Ok(None),
+        Some(proposal) => {
+            let entry = Entry::from_view(alloc, &proposal.entry)?;
+            Ok(Some(Proposal {
+                ballot: proposal.ballot,
+                entry,
+            }))
+        }
+    }
+}
+
+/// The proposal of the higher ballot, the first of two equal ones.
+fn better_of(
+    alloc: Global,
+    best: &Option<Proposal<Entry>>,
+    report: &Option<Proposal<EntryView>>,
+) -> Result<Option<Proposal<Entry>>, AllocError>
+    ensures { IfOk result (λ x.
+        option_map proposal_of x ≡
+        better (option_map proposal_of best.now) (option_map report_of report.now)) }
+{
+    match (best, report) {
+        (_, None) => share_proposal(best),
+        (None, Some(_)) => reported(alloc, report),
+        (Some(x), Some(y)) => {
+            if x.ballot < y.ballot {
+                reported(alloc, report)
+            } else {
+                share_proposal(best)
+            }
+        }
+    }
+}
+
+/// The entry of the best proposal reported, else the first that waits.
+fn first_choice(
+    best: &Option<Proposal<Entry>>,
+    waiting: &[Entry],
+) -> Result<Option<Entry>, AllocError>
+    ensures { IfOk result (λ x.
+        option_map entry_of x ≡ choice (option_map proposal_of best.now) (map entry_of waiting.now)) }
+{
+    match best {
+        Some(x) => {
+            let entry = x.entry.share()?;
+            Ok(Some(entry))
+        }
+        None => match waiting {
+            [] => Ok(None),
+            [first, ..] => {
+                let entry = first.share()?;
+                Ok(Some(entry))
+            }
+        },
+    }
+}
+
+/// Phase 2 with this entry, or with none the attempt ends. The ballot may be used from `from` on.
+fn phase_two_plan(
+    ballot: u64,
+    position: u32,
+    from: u32,
+    entry: Option<Entry>,
+) -> Result<Plan, AllocError>
+    ensures room { IfOk result (λ plan. (core : Core) → IsFor plan core) }
+    ensures step { IfOk result (λ plan. (n me : ℕ) (log : Log Bytes) (v : Volatile Bytes) →
+        plan_of n me log v plan ≡
+        phase_two n me v ballot position from (option_map entry_of entry)) }
+{
+    let lead = Some(Lead { ballot, from });
+    match entry {
+        None => Ok(Plan {
+            change: None,
+            sends: Sends::Nothing,
+            next: Next::Leads {
+                attempt: None,
+                lead,
+            },
+        }),
+        Some(entry) => {
+            let told = entry.share()?;
+            let attempt = Some(Attempt {
+                position,
+                ballot,
+                phase: Phase::Accepting { entry },
+            });
+            Ok(Plan {
+                change: None,
+                sends: Sends::All {
+                    message: Message::Accept {
+                        ballot,
+                        position,
+                        entry: told,
+                    },
+                },
+                next: Next::Leads { attempt, lead },
+            })
+        }
+    }
+}
+
+impl Core {
+    /// With these members counted, this greatest top and this best report: phase 2 at a majority.
+    #[tactic(auto, unfolding(px_model::specs::Step::gathered))]
+    fn gather(
+        &self,
+        ballot: u64,
+        position: u32,
+        counted: [bool; 15],
+        top: u32,
+        best: Option<Proposal<Entry>>,
+    ) -> Result<Plan, AllocError>
+        requires position { position < positions }
+        ensures room { IfOk result (λ plan. IsFor plan self.now) }
+        ensures step { IfOk result (λ plan.
+            made self.now plan ≡
+            gathered self.now.members self.now.me (volatile_in self.now) ballot position (counted_of counted) top
+            (option_map proposal_of best)) }
+    {
+        if !majority(self.members, &counted) {
+            let attempt = Attempt {
+                position,
+                ballot,
+                phase: Phase::Preparing { counted, top, best },
+            };
+            return Ok(Plan {
+                change: None,
+                sends: Sends::Nothing,
+                next: Next::Counts { attempt },
+            });
+        }
+        let from = if position + 1 < top {
+            top
+        } else {
+            position + 1
+        };
+        let entry = first_choice(&best, &self.proposer.waiting)?;
+        phase_two_plan(ballot, position, from, entry)
+    }
+
+    /// A promise for all positions.
+    #[tactic(auto, unfolding(px_model::specs::Step::on_promise_all))]
+    pub(crate) fn promise_all(
+        &self,
+        from: u8,
+        ballot: u64,
+        position: u32,
+        top: u32,
+        report: &Option<Proposal<EntryView>>,
+    ) -> Result<Plan, AllocError>
+        requires from { from < self.now.members }
+        requires position { position < positions }
+        ensures room { IfOk result (λ plan. IsFor plan self.now) }
+        ensures step { IfOk result (λ plan.
+            made self.now plan ≡
+            on_promise_all self.now.members self.now.me (volatile_in self.now) from ballot position top
+            (option_map report_of report.now)) }
+    {
+        let Some(attempt) = &self.proposer.attempt else {
+            return Ok(idle_plan());
+        };
+        if attempt.ballot != ballot || attempt.position != position {
+            return Ok(idle_plan());
+        }
+        match &attempt.phase {
+            Phase::Accepting { entry: _ } => Ok(idle_plan()),
+            Phase::Preparing {
+                counted,
+                top: highest,
+                best,
+            } => {
+                let top = greatest_top(counted, from, *highest, top);
+                let best = better_of(self.alloc, best, report)?;
+                self.gather(ballot, position, marked(counted, from), top, best)
+            }
+        }
+    }
+}
+
+impl Proposer {
+    /// Whether the attempt is the refused one.
+    fn is_refused(&self, ballot: u64, position: u32) -> bool
+        ensures { (if result then None else option_map attempt_of self.now.attempt) ≡
+            drop_attempt ballot position (option_map attempt_of self.now.attempt) }
+    {
+        match &self.attempt {
+            None => false,
+            Some(x) => x.ballot == ballot && x.position == position,
+        }
+    }
+
+    /// Whether the lead is of the refused ballot.
+    fn leads_by(&self, ballot: u64) -> bool
+        ensures { (if result then None else option_map lead_of self.now.lead) ≡
+            drop_lead ballot (option_map lead_of self.now.lead) }
+    {
+        match self.lead {
+            None => false,
+            Some(x) => x.ballot == ballot,
+        }
+    }
+
+    /// A refusal, with the ballot that was promised.
+    #[tactic(auto, unfolding(px_model::specs::Step::on_nack))]
+    pub(crate) fn nack(&self, ballot: u64, position: u32, promised: u64) -> Plan
+        ensures room { (core : Core) → IsFor result core }
+        ensures step { (n me : ℕ) (log : Log Bytes) (v : Volatile Bytes) →
+            v.attempt ≡ option_map attempt_of self.now.attempt → v.lead ≡ option_map lead_of self.now.lead →
+            v.seen ≡ self.now.seen → plan_of n me log v result ≡ on_nack v ballot position promised }
+    {
+        let round = promised / 256;
+        let seen = if self.seen < round { round } else { self.seen };
+        Plan {
+            change: None,
+            sends: Sends::Nothing,
+            next: Next::Drops {
+                attempt: self.is_refused(ballot, position),
+                lead: self.leads_by(ballot),
+                seen,
+            },
+        }
+    }
+}

@@ -1,0 +1,15 @@
+pub mod Node
+pub mod Step
+pub mod World
+pub mod Law
+pub mod Worked
+pub mod Cases
+pub mod Reach
+pub mod Fits
+pub mod FitsCases
+pub mod MoreCases
+pub mod Spelling
+pub mod Entries
+pub mod Views
+pub mod Bounds
+pub mod Rising

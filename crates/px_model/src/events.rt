@@ -1,0 +1,142 @@
+//! Messages lent as they come, and what an event reads of the record.
+ghost use Rattle.std.specs.Prelude.{◌≡◌, option_map};
+ghost use Rattle.px_model.specs.Views.{message_of, come_of, input_of, proposal_of, report_of, message_reads, reads_of};
+
+use crate::entry::{Entry, EntryView};
+use crate::message::{Event, Message, Reads};
+use crate::record::Proposal;
+
+/// The proposal with its entry lent.
+fn lent(accepted: &Option<Proposal<Entry>>) -> Option<Proposal<EntryView<'_>>>
+    ensures { option_map report_of result ≡ option_map proposal_of accepted.now }
+{
+    match accepted {
+        None => None,
+        Some(proposal) => Some(Proposal {
+            ballot: proposal.ballot,
+            entry: proposal.entry.view(),
+        }),
+    }
+}
+
+impl Message<Entry> {
+    /// The message as it comes to whoever it is sent to, its entry lent.
+    pub fn view(&self) -> Message<EntryView<'_>>
+        ensures { come_of result ≡ message_of self.now }
+    {
+        match self {
+            Message::Prepare { ballot, position } => Message::Prepare {
+                ballot: *ballot,
+                position: *position,
+            },
+            Message::Promise {
+                ballot,
+                position,
+                accepted,
+            } => Message::Promise {
+                ballot: *ballot,
+                position: *position,
+                accepted: lent(accepted),
+            },
+            Message::PrepareAll { ballot, position } => Message::PrepareAll {
+                ballot: *ballot,
+                position: *position,
+            },
+            Message::PromiseAll {
+                ballot,
+                position,
+                top,
+                accepted,
+            } => Message::PromiseAll {
+                ballot: *ballot,
+                position: *position,
+                top: *top,
+                accepted: lent(accepted),
+            },
+            Message::Accept {
+                ballot,
+                position,
+                entry,
+            } => Message::Accept {
+                ballot: *ballot,
+                position: *position,
+                entry: entry.view(),
+            },
+            Message::Vote {
+                ballot,
+                position,
+                entry,
+            } => Message::Vote {
+                ballot: *ballot,
+                position: *position,
+                entry: entry.view(),
+            },
+            Message::Nack {
+                ballot,
+                position,
+                promised,
+            } => Message::Nack {
+                ballot: *ballot,
+                position: *position,
+                promised: *promised,
+            },
+            Message::Need { position } => Message::Need {
+                position: *position,
+            },
+            Message::Learned { position, entry } => Message::Learned {
+                position: *position,
+                entry: entry.view(),
+            },
+            Message::Ask { entry } => Message::Ask {
+                entry: entry.view(),
+            },
+            Message::Asked { token, number } => Message::Asked {
+                token: *token,
+                number: *number,
+            },
+            Message::AskRefused { token, code } => Message::AskRefused {
+                token: *token,
+                code: *code,
+            },
+        }
+    }
+}
+
+impl Message<EntryView<'_>> {
+    /// What a step on this message reads.
+    fn reads(&self) -> Reads
+        ensures { result ≡ message_reads (come_of self.now) }
+    {
+        match self {
+            Message::Prepare { position, .. } | Message::Accept { position, .. } => Reads::Slot {
+                position: *position,
+            },
+            Message::PrepareAll { position, .. } => Reads::SlotAndTop {
+                position: *position,
+            },
+            Message::Promise { .. } => Reads::Nothing,
+            Message::PromiseAll { .. } => Reads::Nothing,
+            Message::Vote { .. } => Reads::Nothing,
+            Message::Nack { .. } => Reads::Nothing,
+            Message::Need { .. } => Reads::Nothing,
+            Message::Learned { .. } => Reads::Nothing,
+            Message::Ask { .. } => Reads::Nothing,
+            Message::Asked { .. } => Reads::Nothing,
+            Message::AskRefused { .. } => Reads::Nothing,
+        }
+    }
+}
+
+impl Event<'_> {
+    /// What a step on this event reads of the record beside its numbers. What it doesn't read may be anything
+    /// ([`laws::reads_suffice`](crate::laws::reads_suffice)).
+    pub fn reads(&self) -> Reads
+        ensures { result ≡ reads_of (input_of self.now) }
+    {
+        match self {
+            Event::Asks { .. } => Reads::Nothing,
+            Event::Ticks => Reads::Nothing,
+            Event::Comes { message, .. } => message.reads(),
+        }
+    }
+}

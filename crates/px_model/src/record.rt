@@ -1,0 +1,78 @@
+//! What a member keeps in stable storage, as far as a step reads and changes it.
+use crate::entry::Entry;
+
+/// The numbers of a record.
+#[derive(Clone, Copy)]
+pub struct Meta {
+    /// The highest round that the member used, 0 for none.
+    pub round: u64,
+    /// The number of its next request, 2^48 where all are used.
+    pub number: u64,
+    /// The ballot promised at all positions, 0 for none.
+    pub floor: u64,
+}
+
+/// A ballot and the entry that it carries. A ballot is `round * 256 + member`, and compared as that number.
+///
+/// Source: Paxos Made Simple, 2.2.
+#[derive(Drop)]
+pub struct Proposal<E> {
+    /// The ballot, from 256 on.
+    pub ballot: u64,
+    /// The entry.
+    pub entry: E,
+}
+
+/// The acceptor at one position.
+///
+/// Source: Paxos Made Simple, 2.2 and 3.
+#[derive(Drop)]
+pub struct Slot {
+    /// The ballot promised there, 0 for none. That promised at all positions stands in [`Meta`].
+    pub promised: u64,
+    /// The accepted proposal of highest ballot.
+    pub accepted: Option<Proposal<Entry>>,
+}
+
+/// One change of the record. It is committed before anything that rests on it is sent.
+#[derive(Drop)]
+pub enum Change {
+    /// The round is used.
+    Round {
+        /// The highest round used from now on.
+        round: u64,
+    },
+    /// A number is used.
+    Number {
+        /// The number of the next request.
+        number: u64,
+    },
+    /// A ballot is promised at all positions.
+    Floor {
+        /// The ballot.
+        ballot: u64,
+    },
+    /// A ballot is promised at one position.
+    Promised {
+        /// The position, below 1,000,000.
+        position: u32,
+        /// The ballot.
+        ballot: u64,
+    },
+    /// A ballot is promised and its proposal accepted at one position.
+    Accepted {
+        /// The position, below 1,000,000.
+        position: u32,
+        /// The ballot.
+        ballot: u64,
+        /// The entry that it carries.
+        entry: Entry,
+    },
+    /// An entry is learned.
+    Learned {
+        /// The position, below 1,000,000.
+        position: u32,
+        /// The entry chosen there.
+        entry: Entry,
+    },
+}

@@ -1,0 +1,161 @@
+//! A member with a plain record.
+use px_core::{Core, CoreFault, Sends};
+use px_model::{Change, EntryView, Event, Meta, Proposal, Reads, Slot};
+use std::alloc::Global;
+use std::test::Fail;
+
+/// As much of a member's record as the first four positions need.
+#[derive(Drop)]
+pub(crate) struct Stored {
+    pub(crate) meta: Meta,
+    slots: Vec<Slot>,
+    empty: Slot,
+}
+
+/// A member with its record.
+#[derive(Drop)]
+pub(crate) struct Member {
+    pub(crate) core: Core,
+    pub(crate) stored: Stored,
+}
+
+/// The spelling of an entry: a format, who asked, its number, then the command.
+pub(crate) fn spelling(origin: u8, number: u8, command: u8) -> [u8; 11] {
+    [1, origin, 0, 0, 0, 0, 0, 0, 0, number, command]
+}
+
+pub(crate) fn entry(bytes: &[u8]) -> Result<EntryView<'_>, Fail> {
+    let Some(entry) = EntryView::read(bytes) else {
+        return Err(Fail::new("no entry"));
+    };
+    Ok(entry)
+}
+
+fn nothing_there() -> Slot {
+    Slot {
+        promised: 0,
+        accepted: None,
+    }
+}
+
+/// The slot that an event reads, or the empty one where it reads none.
+fn slot_at<'a>(slots: &'a [Slot], empty: &'a Slot, reads: Reads) -> Option<&'a Slot> {
+    match reads {
+        Reads::Nothing => Some(empty),
+        Reads::Slot { position } => slots.get(position as usize),
+        Reads::SlotAndTop { position } => slots.get(position as usize),
+    }
+}
+
+pub(crate) fn asked(bytes: &[u8]) -> Result<Event<'_>, Fail> {
+    let entry = entry(bytes)?;
+    Ok(Event::Asks { entry })
+}
+
+impl Member {
+    pub(crate) fn new(alloc: Global, members: u8, me: u8) -> Result<Member, Fail> {
+        if members == 0 || members > 15 || me >= members {
+            return Err(Fail::new("no such member"));
+        }
+        let core = Core::new(alloc, members, me)?;
+        let mut slots = Vec::new(alloc);
+        for _ in 0..4 {
+            slots.push(nothing_there())?;
+        }
+        let stored = Stored {
+            meta: Meta {
+                round: 0,
+                number: 0,
+                floor: 0,
+            },
+            slots,
+            empty: nothing_there(),
+        };
+        Ok(Member { core, stored })
+    }
+
+    /// One step, whole: planned, committed, settled; or the refusal.
+    pub(crate) fn take(&mut self, event: &Event) -> Result<Result<Sends, CoreFault>, Fail> {
+        if !self.core.takes(event) {
+            return Err(Fail::new("no such event"));
+        }
+        let reads = event.reads();
+        let top = self.stored.top_for(reads);
+        let Some(slot) = slot_at(&self.stored.slots, &self.stored.empty, reads) else {
+            return Err(Fail::new("no such slot"));
+        };
+        match self.core.plan(&self.stored.meta, slot, top, event) {
+            Ok(plan) => {
+                self.stored.commit(&plan.change)?;
+                Ok(Ok(self.core.settle(plan)))
+            }
+            Err(fault) => Ok(Err(fault)),
+        }
+    }
+
+    pub(crate) fn step(&mut self, event: &Event) -> Result<Sends, Fail> {
+        match self.take(event)? {
+            Ok(sends) => Ok(sends),
+            Err(_) => Err(Fail::new("refused")),
+        }
+    }
+}
+
+impl Stored {
+    pub(crate) fn slot(&mut self, position: u32) -> Result<&mut Slot, Fail> {
+        let Some(slot) = self.slots.get_mut(position as usize) else {
+            return Err(Fail::new("no such slot"));
+        };
+        Ok(slot)
+    }
+
+    fn commit(&mut self, change: &Option<Change>) -> Result<(), Fail> {
+        match change {
+            None => {}
+            Some(Change::Round { round }) => self.meta.round = *round,
+            Some(Change::Number { number }) => self.meta.number = *number,
+            Some(Change::Floor { ballot }) => self.meta.floor = *ballot,
+            Some(Change::Promised { position, ballot }) => {
+                self.slot(*position)?.promised = *ballot;
+            }
+            Some(
+                Change::Accepted {
+                    position,
+                    ballot,
+                    entry,
+                },
+            ) => {
+                let entry = entry.share()?;
+                *self.slot(*position)? = Slot {
+                    promised: *ballot,
+                    accepted: Some(Proposal {
+                        ballot: *ballot,
+                        entry,
+                    }),
+                };
+            }
+            Some(Change::Learned { .. }) => {}
+        }
+        Ok(())
+    }
+
+    /// The top, where it is read.
+    fn top_for(&self, reads: Reads) -> u32 {
+        match reads {
+            Reads::SlotAndTop { .. } => self.top(),
+            _ => 0,
+        }
+    }
+
+    /// One more than the last position with an accepted proposal.
+    fn top(&self) -> u32 {
+        let (mut top, mut next) = (0, 0u32);
+        for slot in &self.slots {
+            next = next.saturating_add(1);
+            if slot.accepted.is_some() {
+                top = next;
+            }
+        }
+        top
+    }
+}
