@@ -1,0 +1,91 @@
+//! Commands and entries that own what they name.
+
+ghost use Rattle.std.specs.Prelude.{◌<◌, ◌^◌, IsTrue, length};
+ghost use Rattle.pf_entry.specs.Entry.{is_origin};
+
+use pf_ruleset::{Path, TableEntry, TableName};
+use pf_words::Profile;
+
+/// One address or more.
+#[derive(Debug, Drop)]
+pub struct SomeAddresses {
+    /// The addresses, in the order given.
+    pub items: Vec<TableEntry>,
+    pub ghost some: { 0 < length items.items },
+}
+
+/// A change of the configuration, with the path of the anchor that it changes.
+#[derive(Debug, Drop)]
+pub enum Command {
+    /// Reads a text by a profile, and makes it the anchor's rules and tables.
+    Load {
+        /// The anchor.
+        path: Path,
+        /// How the text is read.
+        profile: Profile,
+        /// The text, any bytes.
+        text: Vec<u8>,
+    },
+    /// Takes the anchor's rules away.
+    FlushRules {
+        /// The anchor.
+        path: Path,
+    },
+    /// Takes the anchor's tables away.
+    FlushTables {
+        /// The anchor.
+        path: Path,
+    },
+    /// Takes both away.
+    FlushAll {
+        /// The anchor.
+        path: Path,
+    },
+    /// Adds addresses to a table.
+    Add {
+        /// The anchor.
+        path: Path,
+        /// The table.
+        table: TableName,
+        /// What is added.
+        addresses: SomeAddresses,
+    },
+    /// Takes addresses from a table.
+    Delete {
+        /// The anchor.
+        path: Path,
+        /// The table.
+        table: TableName,
+        /// What is taken.
+        addresses: SomeAddresses,
+    },
+    /// Makes a table of these addresses alone.
+    Replace {
+        /// The anchor.
+        path: Path,
+        /// The table.
+        table: TableName,
+        /// What the table has then.
+        addresses: Vec<TableEntry>,
+    },
+    /// Empties a table.
+    FlushTable {
+        /// The anchor.
+        path: Path,
+        /// The table.
+        table: TableName,
+    },
+}
+
+/// A command, who asked for it (a member, or 255), and its number there, below 2^48.
+#[derive(Debug, Drop)]
+pub struct Entry {
+    /// Who was asked: a member, 0 to 14, or 255 where the command comes from outside.
+    pub origin: u8,
+    /// Its number there, below 2^48; from outside, the asker's token.
+    pub number: u64,
+    /// The command.
+    pub command: Command,
+    pub ghost asked: { IsTrue (is_origin origin) },
+    pub ghost numbered: { number < 2 ^ 48 },
+}

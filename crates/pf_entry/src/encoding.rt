@@ -1,0 +1,29 @@
+//! The bytes of an entry.
+
+ghost use Rattle.std.specs.Prelude.{◌≡◌, ◌≤◌, ◌<◌, IfOk, OnOk, IsErrOf, length, false, IsTrue, ◌||◌, nat_lt};
+ghost use Rattle.pf_entry.specs.Entry.{spelling, EntryBytes};
+ghost use Rattle.pf_entry.specs.Owned.{command_value, entry_value, is_long, is_over};
+ghost use Rattle.pf_entry.specs.declared.fault.EncodeFault.TheVariants.{TooLong};
+
+use crate::command::Entry;
+use crate::fault::EncodeFault;
+use crate::limits::ENTRY_BYTES;
+use crate::writing::{is_long, put_entry};
+use std::alloc::Global;
+
+/// The one spelling of the entry. `TooLong` where it would have more than 32,768 bytes or 4,096 addresses.
+pub fn encode(alloc: Global, entry: &Entry) -> Result<Vec<u8>, EncodeFault>
+    ensures spelled { IfOk result (λ v. EntryBytes (entry_value entry.now) v.items) }
+    ensures few { OnOk result (is_long (command_value entry.now.command) ≡ false) }
+    ensures too_long { IsErrOf result TooLong → IsTrue (is_over (entry_value entry.now)) }
+{
+    if is_long(&entry.command) {
+        return Err(EncodeFault::TooLong);
+    }
+    let mut out = Vec::new(alloc);
+    put_entry(&mut out, entry)?;
+    if out.len() > ENTRY_BYTES {
+        return Err(EncodeFault::TooLong);
+    }
+    Ok(out)
+}

@@ -1,0 +1,157 @@
+//! The entry that a view shows, with memory of its own.
+
+ghost use Rattle.std.specs.Prelude.{◌≡◌, ◌≤◌, length, true, IfOk};
+ghost use Rattle.pf_entry.specs.Entry.{is_name, is_table, are_names, path_of, rest_fits, Fits};
+ghost use Rattle.pf_entry.specs.Views.{names_of, addresses_of, command_of, entry_of};
+ghost use Rattle.pf_entry.specs.Owned.{addresses_value, command_value, entry_value};
+
+use crate::command::{Command, Entry, SomeAddresses};
+use crate::view::{Addresses, CommandView, EntryView, Names};
+use pf_ruleset::{Name, Path, TableEntry, TableName};
+use std::alloc::{AllocError, Global};
+
+fn name_owned(alloc: Global, bytes: &[u8]) -> Result<Name, AllocError>
+    requires { is_name bytes.now ≡ true }
+    ensures { IfOk result (λ name. name ≡ bytes.now) }
+{
+    match Name::new(alloc, bytes)? {
+        Some(name) => Ok(name),
+        None => unreachable!(),
+    }
+}
+
+fn table_owned(alloc: Global, bytes: &[u8]) -> Result<TableName, AllocError>
+    requires { is_table bytes.now ≡ true }
+    ensures { IfOk result (λ name. name ≡ bytes.now) }
+{
+    match TableName::new(alloc, bytes)? {
+        Some(name) => Ok(name),
+        None => unreachable!(),
+    }
+}
+
+fn names_owned(alloc: Global, names: &Names) -> Result<Vec<Name>, AllocError>
+    requires { are_names (names_of names.now) ≡ true }
+    ensures { IfOk result (λ v. v.items ≡ names_of names.now) }
+{
+    let mut owned = Vec::new(alloc);
+    for bytes in *names {
+        let name = name_owned(alloc, bytes)?;
+        owned.push(name)?;
+    }
+    Ok(owned)
+}
+
+fn path_owned(alloc: Global, names: &Names) -> Result<Path, AllocError>
+    requires { are_names (names_of names.now) ≡ true }
+    ensures { IfOk result (λ path. path ≡ names_of names.now) }
+{
+    let owned = names_owned(alloc, names)?;
+    match Path::new(owned) {
+        Some(path) => Ok(path),
+        None => unreachable!(),
+    }
+}
+
+fn addresses_owned(alloc: Global, list: &Addresses) -> Result<Vec<TableEntry>, AllocError>
+    ensures { IfOk result (λ v. addresses_value v.items ≡ addresses_of list.now) }
+{
+    let mut owned = Vec::new(alloc);
+    for address in *list {
+        owned.push(address)?;
+    }
+    Ok(owned)
+}
+
+fn command_owned(alloc: Global, command: &CommandView) -> Result<Command, AllocError>
+    requires names { are_names (path_of (command_of command.now)) ≡ true }
+    requires rest { rest_fits (command_of command.now) ≡ true }
+    ensures { IfOk result (λ c. command_value c ≡ command_of command.now) }
+{
+    match command {
+        CommandView::Load {
+            path,
+            profile,
+            text,
+        } => {
+            let path = path_owned(alloc, path)?;
+            let text = Vec::from_slice(alloc, text)?;
+            Ok(Command::Load {
+                path,
+                profile: *profile,
+                text,
+            })
+        }
+        CommandView::FlushRules { path } => Ok(Command::FlushRules {
+            path: path_owned(alloc, path)?,
+        }),
+        CommandView::FlushTables { path } => Ok(Command::FlushTables {
+            path: path_owned(alloc, path)?,
+        }),
+        CommandView::FlushAll { path } => Ok(Command::FlushAll {
+            path: path_owned(alloc, path)?,
+        }),
+        CommandView::Add {
+            path,
+            table,
+            addresses,
+        } => {
+            let path = path_owned(alloc, path)?;
+            let table = table_owned(alloc, table)?;
+            let items = addresses_owned(alloc, addresses)?;
+            Ok(Command::Add {
+                path,
+                table,
+                addresses: SomeAddresses { items },
+            })
+        }
+        CommandView::Delete {
+            path,
+            table,
+            addresses,
+        } => {
+            let path = path_owned(alloc, path)?;
+            let table = table_owned(alloc, table)?;
+            let items = addresses_owned(alloc, addresses)?;
+            Ok(Command::Delete {
+                path,
+                table,
+                addresses: SomeAddresses { items },
+            })
+        }
+        CommandView::Replace {
+            path,
+            table,
+            addresses,
+        } => {
+            let path = path_owned(alloc, path)?;
+            let table = table_owned(alloc, table)?;
+            let addresses = addresses_owned(alloc, addresses)?;
+            Ok(Command::Replace {
+                path,
+                table,
+                addresses,
+            })
+        }
+        CommandView::FlushTable { path, table } => {
+            let path = path_owned(alloc, path)?;
+            let table = table_owned(alloc, table)?;
+            Ok(Command::FlushTable { path, table })
+        }
+    }
+}
+
+impl EntryView<'_> {
+    /// The entry that the view shows, as `decode` gives it: it has a spelling.
+    pub fn to_entry(&self, alloc: Global) -> Result<Entry, AllocError>
+        requires { Fits (entry_of self.now) }
+        ensures { IfOk result (λ e. entry_value e ≡ entry_of self.now) }
+    {
+        let command = command_owned(alloc, &self.command)?;
+        Ok(Entry {
+            origin: self.origin,
+            number: self.number,
+            command,
+        })
+    }
+}

@@ -1,0 +1,12 @@
+pub mod Lengths
+pub mod Joined
+pub mod Slices
+pub mod Lending
+pub mod Bodies
+pub mod Datagrams
+pub mod Again
+pub mod Fronts
+pub mod Commands
+pub mod Sent
+pub mod Addressed
+pub mod Members

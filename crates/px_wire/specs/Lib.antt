@@ -1,0 +1,5 @@
+pub mod Message
+pub mod Fields
+pub mod Views
+pub mod Sent
+pub mod Members

@@ -1,0 +1,57 @@
+-- What a message in code shows, and what a reader of fields answers.
+use Rattle.std.specs.Prelude.{◌≡◌, ℕ, List, Option, Some, None, Result, Ok, Err}
+use Rattle.px_model.specs.Spelling.{spelled}
+use Rattle.px_model.specs.Entries.{view_of}
+use Rattle.px_model.specs.declared.entry.EntryView.{EntryView}
+use Rattle.px_model.specs.declared.record.Proposal.{Proposal}
+use Rattle.px_model.specs.declared.message.Message as declared
+use Rattle.px_model.specs.declared.message.Message.TheVariants as views
+use Rattle.px_wire.specs.declared.fault.WireFault.{WireFault}
+use Rattle.px_wire.specs.Message.{Lent, Message, prepare, promise, accept, vote, nack, need, learned, ask, asked, ask_refused, prepare_all, promise_all}
+use Rattle.px_wire.specs.Fields.{Field, fault_of, first_fault}
+
+-- an entry with the bytes that spell it
+abbrev pub lent_of : EntryView → Lent
+lent_of e = record { origin = (view_of e).origin; number = (view_of e).number; bytes = spelled (view_of e) }
+
+abbrev pub accepted_of : Option (Proposal EntryView) → Option (ℕ × Lent)
+accepted_of None = None
+accepted_of (Some a) = Some (a.ballot, lent_of a.entry)
+
+abbrev pub message_of : declared.Message EntryView → Message
+message_of (views.Prepare b p) = prepare b p
+message_of (views.Promise b p a) = promise b p (accepted_of a)
+message_of (views.PrepareAll b p) = prepare_all b p
+message_of (views.PromiseAll b p top a) = promise_all b p top (accepted_of a)
+message_of (views.Accept b p e) = accept b p (lent_of e)
+message_of (views.Vote b p e) = vote b p (lent_of e)
+message_of (views.Nack b p q) = nack b p q
+message_of (views.Need p) = need p
+message_of (views.Learned p e) = learned p (lent_of e)
+message_of (views.Ask e) = ask (lent_of e)
+message_of (views.Asked t n) = asked t n
+message_of (views.AskRefused t c) = ask_refused t c
+
+-- a function answers the value where the fields have no fault, and else the first fault
+abbrev pub Answers : {X Y : Type 0} → (X → Y) → Result X WireFault → Option WireFault → Y → Type 0
+Answers view (Ok x) fault value = (fault ≡ None) × (view x ≡ value)
+Answers view (Err e) fault value = fault ≡ Some e
+
+-- the value of one field of the bytes, or its fault
+abbrev pub ReadsField : {X : Type 0} → List ℕ → Result X WireFault → Field → X → Type 0
+ReadsField bytes result f value = Answers (λ x. x) result (fault_of f bytes) value
+
+-- the entry that ends the bytes, after these fields from an offset on
+abbrev pub ReadsEntry : List ℕ → Result EntryView WireFault → List Field → ℕ → Option Lent → Type 0
+ReadsEntry bytes result fs at value = Answers (λ e. Some (lent_of e)) result (first_fault fs at bytes) value
+
+-- the message of the fields after byte 12
+abbrev pub ReadsBody :
+    List ℕ → Result (declared.Message EntryView) WireFault → List Field → Option Message → Type 0
+ReadsBody bytes result fs value = Answers (λ v. Some (message_of v)) result (first_fault fs 13 bytes) value
+
+-- the sender and the message of a whole datagram
+abbrev pub ReadsDatagram :
+    List ℕ → Result (ℕ × declared.Message EntryView) WireFault →
+    List Field → Option (ℕ × Message) → Type 0
+ReadsDatagram bytes result fs value = Answers (λ x. Some (x.0, message_of x.1)) result (first_fault fs 0 bytes) value

@@ -1,0 +1,67 @@
+//! Messages as datagrams: each message of the replicated log has one spelling from one party to another.
+//!
+//! # Organization
+//!
+//! - [`decode`] gives the sender and the message of bytes that came, or their first fault. It takes no memory.
+//! - [`encode`] and [`encode_sent`] give the bytes of a message, and [`address`] turns them to another member, so what
+//!   goes to all is encoded once.
+//! - [`laws`]: what one encodes the other decodes, one message has one spelling, what a member sends has one.
+//! - `specs/Message` is what is to be believed of what is spelled, `specs/Fields` of faults: a table of fields for each
+//!   kind. `specs/Members` joins both with the log's own messages.
+//!
+//! # The bytes of a datagram
+//!
+//! Numbers are unsigned, the highest byte first. Nothing stands after the last field.
+//!
+//! | Offset | Bytes | What | Refused as |
+//! |---|---|---|---|
+//! | 0 | 4 | `PFXR`, 50 46 58 52 | 51 |
+//! | 4 | 1 | version 1 | 52 |
+//! | 5 | 4 | the cluster's number | 53 |
+//! | 9 | 1 | how many members it has, 1 to 15 | 54 |
+//! | 10 | 1 | from: a member, or 255 for whoever asks from outside | 54 |
+//! | 11 | 1 | to: a member, or 255 | 54 |
+//! | 12 | 1 | kind, 1 to 12. Only 8 is from 255, only 9 and 10 are to 255 | 55 |
+//! | 13 | | the kind's fields | 57 |
+//!
+//! | Kind | Fields, each with its offset |
+//! |---|---|
+//! | 1 Prepare, 11 PrepareAll | ballot of `from` 13, position 21 |
+//! | 2 Promise | ballot of `to` 13, position 21, accepted 25 |
+//! | 3 Accept | ballot of `from` 13, position 21, length 25, entry 29 |
+//! | 4 Vote | ballot 13, position 21, length 25, entry 29 |
+//! | 5 Nack | ballot of `to` 13, position 21, promised 25 |
+//! | 6 Need | position 13 |
+//! | 7 Learned | position 13, length 17, entry 21 |
+//! | 8 Ask | length 13, entry 17 |
+//! | 9 Asked | token 13, number 21 |
+//! | 10 AskRefused | token 13, code 21 |
+//! | 12 PromiseAll | ballot of `to` 13, position 21, top 25, accepted 29 |
+//!
+//! A ballot has eight bytes: `round * 256 + member`, the round 1 to 2^48-1. A position has four bytes and is at most
+//! 999,999, a top at most 1,000,000. Accepted is a ballot of 0 for none, else one below the promise's with a length and
+//! an entry behind it. Promised is a ballot not below the first. A length has four bytes and is 1 to 32,768, and so many
+//! bytes spell an entry ([`pf_entry`]): asked of a member, but in an Ask, where its origin is 255 and its number the
+//! asker's token. Tokens and numbers have eight bytes and are below 2^48. A code is one byte, 60 or 62.
+//!
+//! Fields are read in this order. A field whose bytes aren't all there is 50 at its offset, a value that isn't allowed
+//! is refused at its offset, and 56 is at the first byte after the last field.
+#![tactic(auto)]
+
+mod addressing;
+mod ballot;
+mod decoding;
+mod encoding;
+mod fault;
+pub mod laws;
+mod limits;
+mod membership;
+mod reading;
+
+pub use addressing::address;
+pub use ballot::Ballot;
+pub use decoding::decode;
+pub use encoding::{encode, encode_sent};
+pub use fault::WireFault;
+pub use membership::Membership;
+pub use px_model::{Entry, EntryView, Message, Proposal};

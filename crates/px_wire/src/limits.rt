@@ -1,0 +1,24 @@
+//! The numbers of the format.
+
+/// The first four bytes, `PFXR`.
+pub(crate) const MAGIC: u32 = 0x5046_5852;
+/// The version that follows them.
+pub(crate) const VERSION: u8 = 1;
+/// Where the addressee stands.
+pub(crate) const ADDRESSEE: usize = 11;
+/// The most members of a cluster.
+pub(crate) const MEMBERS: u8 = 15;
+/// Who is no member: whoever asks from outside.
+pub(crate) const ASKER: u8 = 255;
+/// Rounds, tokens and the numbers of entries are below this: they have six bytes.
+pub(crate) const NUMBERS: u64 = 0x1_0000_0000_0000;
+/// The first ballot: round 1 of member 0.
+pub(crate) const FIRST_BALLOT: u64 = 256;
+/// Ballots are below this: a round of six bytes, and a member.
+pub(crate) const BALLOTS: u64 = 0x100_0000_0000_0000;
+/// The last position.
+pub(crate) const LAST_POSITION: u32 = 999_999;
+/// The greatest top that a promise tells: nothing is accepted from there on.
+pub(crate) const LAST_TOP: u32 = 1_000_000;
+/// The most bytes of an entry.
+pub(crate) const ENTRY_BYTES: u32 = 32_768;

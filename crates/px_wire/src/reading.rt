@@ -1,0 +1,508 @@
+//! Reading the fields of a datagram, from left to right.
+
+ghost use Rattle.std.specs.Prelude.{◌≡◌, ◌<◌, ◌+◌, ◌^◌, ◌==◌, Bool, [], ◌∷◌, true, ◌≤◌, option_map, is_some, Some, None, IfOk, take, drop, if◌then◌else◌};
+ghost use Rattle.px_wire.specs.Message.{group, is_member, is_asker, is_party, is_kind, is_ballot, is_ballot_of, is_position, is_top, is_number, is_refusal, is_accepted};
+ghost use Rattle.px_wire.specs.Fields.{field, fault_of, first_fault, u8, u32, u64, ballot, any_ballot, position, token, len, entry, lent_in, any_entry, entry_value, accepted, accepted_value, promised, body, value, fields, datagram};
+ghost use Rattle.px_wire.specs.Fields.{prepare_fields, prepare_value, promise_fields, promise_value, accept_fields, accept_value, vote_fields, vote_value, nack_fields, nack_value, need_fields, need_value, learned_fields, learned_value, ask_fields, ask_value, asked_fields, asked_value, ask_refused_fields, ask_refused_value, prepare_all_fields, prepare_all_value, promise_all_fields, promise_all_value};
+ghost use Rattle.px_wire.specs.Views.{Answers, ReadsField, ReadsEntry, ReadsBody, ReadsDatagram, lent_of, accepted_of};
+
+use crate::fault::WireFault;
+use crate::limits::{
+    ASKER, BALLOTS, ENTRY_BYTES, FIRST_BALLOT, LAST_POSITION, LAST_TOP, MAGIC, NUMBERS, VERSION,
+};
+use crate::membership::Membership;
+use px_model::{EntryView, Message, Proposal};
+
+type MessageView<'a> = Message<EntryView<'a>>;
+
+fn fault(code: u8, offset: usize) -> WireFault
+    ensures { result ≡ record { code = code; offset = offset } }
+{
+    WireFault { code, offset }
+}
+
+#[tactic(auto, unfolding(crate::specs::Fields::fault_of, crate::specs::Fields::number))]
+fn u8_at(bytes: &[u8], at: usize) -> Result<u8, WireFault>
+    requires { at < 64 }
+    ensures { ReadsField bytes.now result (field at 1 0 true) (u8 at bytes.now) }
+{
+    if bytes.len() < at + 1 {
+        return Err(fault(50, at));
+    }
+    let (_, rest) = bytes.split_at(at);
+    Ok(rest[0])
+}
+
+#[tactic(auto, unfolding(crate::specs::Fields::fault_of, crate::specs::Fields::number))]
+fn u32_at(bytes: &[u8], at: usize) -> Result<u32, WireFault>
+    requires { at < 64 }
+    ensures { ReadsField bytes.now result (field at 4 0 true) (u32 at bytes.now) }
+{
+    if bytes.len() < at + 4 {
+        return Err(fault(50, at));
+    }
+    let (_, rest) = bytes.split_at(at);
+    let (front, _) = rest.split_at(4);
+    Ok(u32::from_be_bytes([front[0], front[1], front[2], front[3]]))
+}
+
+#[tactic(auto, unfolding(crate::specs::Fields::fault_of, crate::specs::Fields::number))]
+fn u64_at(bytes: &[u8], at: usize) -> Result<u64, WireFault>
+    requires { at < 64 }
+    ensures { ReadsField bytes.now result (field at 8 0 true) (u64 at bytes.now) }
+{
+    if bytes.len() < at + 8 {
+        return Err(fault(50, at));
+    }
+    let (_, rest) = bytes.split_at(at);
+    let (front, _) = rest.split_at(8);
+    Ok(u64::from_be_bytes([
+        front[0], front[1], front[2], front[3], front[4], front[5], front[6], front[7],
+    ]))
+}
+
+/// Whether the number is a ballot of one of the members: a round from 1 to 2^48-1, and the member.
+fn is_ballot(m: &Membership, number: u64) -> bool
+    ensures { result ≡ is_ballot (group m.now) number }
+{
+    number >= FIRST_BALLOT && number < BALLOTS && number % 256 < u64::from(m.members())
+}
+
+/// A ballot of one of the members.
+#[tactic(auto, unfolding(crate::specs::Fields::fault_of))]
+fn any_ballot_at(m: &Membership, bytes: &[u8], at: usize) -> Result<u64, WireFault>
+    requires { at < 64 }
+    ensures { ReadsField bytes.now result (any_ballot m.now at bytes.now) (u64 at bytes.now) }
+{
+    let number = u64_at(bytes, at)?;
+    if !is_ballot(m, number) {
+        return Err(fault(57, at));
+    }
+    Ok(number)
+}
+
+#[tactic(auto, unfolding(crate::specs::Fields::fault_of))]
+fn position_at(bytes: &[u8], at: usize) -> Result<u32, WireFault>
+    requires { at < 64 }
+    ensures { ReadsField bytes.now result (position at bytes.now) (u32 at bytes.now) }
+{
+    let number = u32_at(bytes, at)?;
+    if number > LAST_POSITION {
+        return Err(fault(57, at));
+    }
+    Ok(number)
+}
+
+/// No byte stands past the last field.
+fn end_at(bytes: &[u8], end: usize) -> Result<(), WireFault>
+    ensures { Answers (λ x. x) result (first_fault [] end bytes.now) tt }
+{
+    if bytes.len() > end {
+        return Err(fault(56, end));
+    }
+    Ok(())
+}
+
+/// A ballot of this node, a member.
+#[tactic(auto, unfolding(crate::specs::Fields::fault_of))]
+fn ballot_at(m: &Membership, node: u8, bytes: &[u8], at: usize) -> Result<u64, WireFault>
+    requires { at < 64 }
+    ensures { ReadsField bytes.now result (ballot m.now node at bytes.now) (u64 at bytes.now) }
+{
+    let found = any_ballot_at(m, bytes, at)?;
+    if found % 256 != u64::from(node) {
+        return Err(fault(57, at));
+    }
+    Ok(found)
+}
+
+#[tactic(auto, unfolding(crate::specs::Fields::fault_of))]
+fn token_at(bytes: &[u8], at: usize) -> Result<u64, WireFault>
+    requires { at < 64 }
+    ensures { ReadsField bytes.now result (token at bytes.now) (u64 at bytes.now) }
+{
+    let number = u64_at(bytes, at)?;
+    if number >= NUMBERS {
+        return Err(fault(57, at));
+    }
+    Ok(number)
+}
+
+#[tactic(auto, unfolding(crate::specs::Fields::fault_of))]
+fn refusal_at(bytes: &[u8], at: usize) -> Result<u8, WireFault>
+    requires { at < 64 }
+    ensures { ReadsField bytes.now result (field at 1 57 (is_refusal (u8 at bytes.now))) (u8 at bytes.now) }
+{
+    let code = u8_at(bytes, at)?;
+    if code != 60 && code != 62 {
+        return Err(fault(57, at));
+    }
+    Ok(code)
+}
+
+#[tactic(auto, unfolding(crate::specs::Fields::fault_of))]
+fn top_at(bytes: &[u8], at: usize) -> Result<u32, WireFault>
+    requires { at < 64 }
+    ensures { ReadsField bytes.now result (field at 4 57 (is_top (u32 at bytes.now))) (u32 at bytes.now) }
+{
+    let top = u32_at(bytes, at)?;
+    if top > LAST_TOP {
+        return Err(fault(57, at));
+    }
+    Ok(top)
+}
+
+/// The length of an entry.
+#[tactic(auto, unfolding(crate::specs::Fields::fault_of))]
+fn len_at(bytes: &[u8], at: usize) -> Result<usize, WireFault>
+    requires { at < 64 }
+    ensures value { ReadsField bytes.now result (len at bytes.now) (u32 at bytes.now) }
+    ensures small { IfOk result (λ n. n ≤ 32768) }
+{
+    let number = u32_at(bytes, at)?;
+    if number == 0 || number > ENTRY_BYTES {
+        return Err(fault(57, at));
+    }
+    Ok(number as usize)
+}
+
+/// The entry that all of the bytes spell.
+fn entry_in(bytes: &[u8]) -> Option<EntryView<'_>>
+    ensures { option_map lent_of result ≡ lent_in bytes.now }
+{
+    match pf_entry::decode(bytes) {
+        Ok(_) => EntryView::read(bytes),
+        Err(_) => None,
+    }
+}
+
+/// An entry of so many bytes, of whatever origin.
+#[tactic(auto, unfolding(crate::specs::Fields::fault_of))]
+fn entry_of_len(bytes: &[u8], at: usize, len: usize) -> Result<EntryView<'_>, WireFault>
+    requires at { at < 128 }
+    requires len { len ≤ 32768 }
+    ensures { Answers (λ e. Some (lent_of e)) result (fault_of (any_entry at len bytes.now) bytes.now)
+        (lent_in (take len (drop at bytes.now))) }
+{
+    if bytes.len() < at + len {
+        return Err(fault(50, at));
+    }
+    let (_, rest) = bytes.split_at(at);
+    let (front, _) = rest.split_at(len);
+    match entry_in(front) {
+        Some(entry) => Ok(entry),
+        None => Err(fault(57, at)),
+    }
+}
+
+/// The length and the entry that end a datagram, asked by a member.
+#[tactic(auto, unfolding(crate::specs::Fields::fault_of))]
+fn members_entry_at<'a>(
+    m: &Membership,
+    bytes: &'a [u8],
+    at: usize,
+) -> Result<EntryView<'a>, WireFault>
+    requires { at < 64 }
+    ensures { ReadsEntry bytes.now result (entry (is_member (group m.now)) at bytes.now) at (entry_value at bytes.now) }
+{
+    let len = len_at(bytes, at)?;
+    let entry = entry_of_len(bytes, at + 4, len)?;
+    if entry.origin() >= m.members() {
+        return Err(fault(57, at + 4));
+    }
+    end_at(bytes, at + 4 + len)?;
+    Ok(entry)
+}
+
+/// The length and the entry that end a datagram, asked by one who is no member.
+#[tactic(auto, unfolding(crate::specs::Fields::fault_of))]
+fn askers_entry_at(bytes: &[u8], at: usize) -> Result<EntryView<'_>, WireFault>
+    requires { at < 64 }
+    ensures { ReadsEntry bytes.now result (entry is_asker at bytes.now) at (entry_value at bytes.now) }
+{
+    let len = len_at(bytes, at)?;
+    let entry = entry_of_len(bytes, at + 4, len)?;
+    if entry.origin() != ASKER {
+        return Err(fault(57, at + 4));
+    }
+    end_at(bytes, at + 4 + len)?;
+    Ok(entry)
+}
+
+type Accepted<'a> = Option<Proposal<EntryView<'a>>>;
+
+/// What a promise reports: 0, or a ballot below that of the promise, and an entry. It ends the datagram.
+#[tactic(auto, unfolding(crate::specs::Fields::fault_of))]
+fn accepted_at<'a>(
+    m: &Membership,
+    below: u64,
+    bytes: &'a [u8],
+    at: usize,
+) -> Result<Accepted<'a>, WireFault>
+    requires { at < 32 }
+    ensures { Answers (λ a. Some (accepted_of a)) result
+        (first_fault (accepted m.now below at bytes.now) at bytes.now) (accepted_value at bytes.now) }
+{
+    let number = u64_at(bytes, at)?;
+    if number == 0 {
+        end_at(bytes, at + 8)?;
+        return Ok(None);
+    }
+    let ballot = any_ballot_at(m, bytes, at)?;
+    if ballot >= below {
+        return Err(fault(57, at));
+    }
+    let entry = members_entry_at(m, bytes, at + 8)?;
+    Ok(Some(Proposal { ballot, entry }))
+}
+
+/// The ballot that a member has promised, not below the one refused.
+#[tactic(auto, unfolding(crate::specs::Fields::fault_of))]
+fn promised_at(m: &Membership, least: u64, bytes: &[u8], at: usize) -> Result<u64, WireFault>
+    requires { at < 64 }
+    ensures { ReadsField bytes.now result (promised m.now least at bytes.now) (u64 at bytes.now) }
+{
+    let found = any_ballot_at(m, bytes, at)?;
+    if found < least {
+        return Err(fault(57, at));
+    }
+    Ok(found)
+}
+
+fn prepare_at<'a>(m: &Membership, from: u8, bytes: &'a [u8]) -> Result<MessageView<'a>, WireFault>
+    ensures { ReadsBody bytes.now result (prepare_fields m.now from bytes.now) (prepare_value bytes.now) }
+{
+    let ballot = ballot_at(m, from, bytes, 13)?;
+    let position = position_at(bytes, 21)?;
+    end_at(bytes, 25)?;
+    Ok(Message::Prepare { ballot, position })
+}
+
+fn promise_at<'a>(m: &Membership, bytes: &'a [u8]) -> Result<MessageView<'a>, WireFault>
+    ensures { ReadsBody bytes.now result (promise_fields m.now bytes.now) (promise_value bytes.now) }
+{
+    let ballot = ballot_at(m, m.me(), bytes, 13)?;
+    let position = position_at(bytes, 21)?;
+    let accepted = accepted_at(m, ballot, bytes, 25)?;
+    Ok(Message::Promise {
+        ballot,
+        position,
+        accepted,
+    })
+}
+
+fn accept_at<'a>(m: &Membership, from: u8, bytes: &'a [u8]) -> Result<MessageView<'a>, WireFault>
+    ensures { ReadsBody bytes.now result (accept_fields m.now from bytes.now) (accept_value bytes.now) }
+{
+    let ballot = ballot_at(m, from, bytes, 13)?;
+    let position = position_at(bytes, 21)?;
+    let entry = members_entry_at(m, bytes, 25)?;
+    Ok(Message::Accept {
+        ballot,
+        position,
+        entry,
+    })
+}
+
+fn vote_at<'a>(m: &Membership, bytes: &'a [u8]) -> Result<MessageView<'a>, WireFault>
+    ensures { ReadsBody bytes.now result (vote_fields m.now bytes.now) (vote_value bytes.now) }
+{
+    let ballot = any_ballot_at(m, bytes, 13)?;
+    let position = position_at(bytes, 21)?;
+    let entry = members_entry_at(m, bytes, 25)?;
+    Ok(Message::Vote {
+        ballot,
+        position,
+        entry,
+    })
+}
+
+fn nack_at<'a>(m: &Membership, bytes: &'a [u8]) -> Result<MessageView<'a>, WireFault>
+    ensures { ReadsBody bytes.now result (nack_fields m.now bytes.now) (nack_value bytes.now) }
+{
+    let ballot = ballot_at(m, m.me(), bytes, 13)?;
+    let position = position_at(bytes, 21)?;
+    let promised = promised_at(m, ballot, bytes, 25)?;
+    end_at(bytes, 33)?;
+    Ok(Message::Nack {
+        ballot,
+        position,
+        promised,
+    })
+}
+
+fn need_at(bytes: &[u8]) -> Result<MessageView<'_>, WireFault>
+    ensures { ReadsBody bytes.now result (need_fields bytes.now) (need_value bytes.now) }
+{
+    let position = position_at(bytes, 13)?;
+    end_at(bytes, 17)?;
+    Ok(Message::Need { position })
+}
+
+fn learned_at<'a>(m: &Membership, bytes: &'a [u8]) -> Result<MessageView<'a>, WireFault>
+    ensures { ReadsBody bytes.now result (learned_fields m.now bytes.now) (learned_value bytes.now) }
+{
+    let position = position_at(bytes, 13)?;
+    let entry = members_entry_at(m, bytes, 17)?;
+    Ok(Message::Learned { position, entry })
+}
+
+fn ask_at(bytes: &[u8]) -> Result<MessageView<'_>, WireFault>
+    ensures { ReadsBody bytes.now result (ask_fields bytes.now) (ask_value bytes.now) }
+{
+    let entry = askers_entry_at(bytes, 13)?;
+    Ok(Message::Ask { entry })
+}
+
+fn asked_at(bytes: &[u8]) -> Result<MessageView<'_>, WireFault>
+    ensures { ReadsBody bytes.now result (asked_fields bytes.now) (asked_value bytes.now) }
+{
+    let token = token_at(bytes, 13)?;
+    let number = token_at(bytes, 21)?;
+    end_at(bytes, 29)?;
+    Ok(Message::Asked { token, number })
+}
+
+fn ask_refused_at(bytes: &[u8]) -> Result<MessageView<'_>, WireFault>
+    ensures { ReadsBody bytes.now result (ask_refused_fields bytes.now) (ask_refused_value bytes.now) }
+{
+    let token = token_at(bytes, 13)?;
+    let code = refusal_at(bytes, 21)?;
+    end_at(bytes, 22)?;
+    Ok(Message::AskRefused { token, code })
+}
+
+fn prepare_all_at<'a>(
+    m: &Membership,
+    from: u8,
+    bytes: &'a [u8],
+) -> Result<MessageView<'a>, WireFault>
+    ensures { ReadsBody bytes.now result (prepare_all_fields m.now from bytes.now) (prepare_all_value bytes.now) }
+{
+    let ballot = ballot_at(m, from, bytes, 13)?;
+    let position = position_at(bytes, 21)?;
+    end_at(bytes, 25)?;
+    Ok(Message::PrepareAll { ballot, position })
+}
+
+fn promise_all_at<'a>(m: &Membership, bytes: &'a [u8]) -> Result<MessageView<'a>, WireFault>
+    ensures { ReadsBody bytes.now result (promise_all_fields m.now bytes.now) (promise_all_value bytes.now) }
+{
+    let ballot = ballot_at(m, m.me(), bytes, 13)?;
+    let position = position_at(bytes, 21)?;
+    let top = top_at(bytes, 25)?;
+    let accepted = accepted_at(m, ballot, bytes, 29)?;
+    Ok(Message::PromiseAll {
+        ballot,
+        position,
+        top,
+        accepted,
+    })
+}
+
+/// The body of a datagram of that kind.
+fn body_at<'a>(
+    m: &Membership,
+    from: u8,
+    kind: u8,
+    bytes: &'a [u8],
+) -> Result<MessageView<'a>, WireFault>
+    ensures { ReadsBody bytes.now result (body m.now from kind bytes.now) (value kind bytes.now) }
+{
+    match kind {
+        1 => prepare_at(m, from, bytes),
+        2 => promise_at(m, bytes),
+        3 => accept_at(m, from, bytes),
+        4 => vote_at(m, bytes),
+        5 => nack_at(m, bytes),
+        6 => need_at(bytes),
+        7 => learned_at(m, bytes),
+        8 => ask_at(bytes),
+        9 => asked_at(bytes),
+        10 => ask_refused_at(bytes),
+        11 => prepare_all_at(m, from, bytes),
+        _ => promise_all_at(m, bytes),
+    }
+}
+
+/// A byte that has to be this one.
+#[tactic(auto, unfolding(crate::specs::Fields::fault_of))]
+fn want_u8(bytes: &[u8], at: usize, code: u8, want: u8) -> Result<(), WireFault>
+    requires { at < 64 }
+    ensures { ReadsField bytes.now result (field at 1 code (u8 at bytes.now == want)) tt }
+{
+    if u8_at(bytes, at)? == want {
+        Ok(())
+    } else {
+        Err(fault(code, at))
+    }
+}
+
+/// A number that has to be this one.
+#[tactic(auto, unfolding(crate::specs::Fields::fault_of))]
+fn want_u32(bytes: &[u8], at: usize, code: u8, want: u32) -> Result<(), WireFault>
+    requires { at < 64 }
+    ensures { ReadsField bytes.now result (field at 4 code (u32 at bytes.now == want)) tt }
+{
+    if u32_at(bytes, at)? == want {
+        Ok(())
+    } else {
+        Err(fault(code, at))
+    }
+}
+
+/// A member, or 255.
+#[tactic(auto, unfolding(crate::specs::Fields::fault_of))]
+fn sender_at(m: &Membership, bytes: &[u8], at: usize) -> Result<u8, WireFault>
+    requires { at < 64 }
+    ensures { ReadsField bytes.now result (field at 1 54 (is_party (group m.now) (u8 at bytes.now))) (u8 at bytes.now) }
+{
+    let from = u8_at(bytes, at)?;
+    if from >= m.members() && from != ASKER {
+        return Err(fault(54, at));
+    }
+    Ok(from)
+}
+
+/// Only an ask is from one who is no member, and only its answers are to one.
+fn is_kind(from: u8, to: u8, kind: u8) -> bool
+    ensures { result ≡ is_kind from to kind }
+{
+    match kind {
+        8 => from == ASKER && to != ASKER,
+        9 | 10 => from != ASKER && to == ASKER,
+        1..=12 => from != ASKER && to != ASKER,
+        _ => false,
+    }
+}
+
+#[tactic(auto, unfolding(crate::specs::Fields::fault_of))]
+fn kind_at(from: u8, to: u8, bytes: &[u8], at: usize) -> Result<u8, WireFault>
+    requires { at < 64 }
+    ensures { ReadsField bytes.now result (field at 1 55 (is_kind from to (u8 at bytes.now))) (u8 at bytes.now) }
+{
+    let kind = u8_at(bytes, at)?;
+    if is_kind(from, to, kind) {
+        Ok(kind)
+    } else {
+        Err(fault(55, at))
+    }
+}
+
+/// The sender and the message of a datagram.
+pub(crate) fn datagram_of<'a>(
+    m: &Membership,
+    bytes: &'a [u8],
+) -> Result<(u8, MessageView<'a>), WireFault>
+    ensures { ReadsDatagram bytes.now result (fields m.now bytes.now) (datagram bytes.now) }
+{
+    want_u32(bytes, 0, 51, MAGIC)?;
+    want_u8(bytes, 4, 52, VERSION)?;
+    want_u32(bytes, 5, 53, m.cluster())?;
+    want_u8(bytes, 9, 54, m.members())?;
+    let from = sender_at(m, bytes, 10)?;
+    want_u8(bytes, 11, 54, m.me())?;
+    let kind = kind_at(from, m.me(), bytes, 12)?;
+    let message = body_at(m, from, kind, bytes)?;
+    Ok((from, message))
+}
