@@ -1,0 +1,4 @@
+pub mod Records
+pub mod Memory
+pub mod Faulty
+pub mod Props

@@ -1,0 +1,18 @@
+//! The record of a node, and two keepers of it.
+//!
+//! # Organization
+//!
+//! - [`Records`]: what a node asks of whoever keeps its record over a restart, in `specs/Records.antt`'s words.
+//! - [`MemoryRecords`]: a record in memory, which never fails.
+//! - [`FaultyRecords`]: any record, with one commit that fails, for tests of what a failure leaves.
+//!
+//! A keeper over SQLite is px_sql's.
+#![tactic(auto)]
+
+mod faulty;
+mod memory;
+mod records;
+
+pub use faulty::{FaultyRecords, When};
+pub use memory::MemoryRecords;
+pub use records::{Records, StoreFault};

@@ -1,0 +1,14 @@
+mod Texts
+mod Rows
+mod Puts
+mod Above
+mod Gets
+mod Kept
+mod Tops
+mod Stored
+mod Promises
+mod Spelled
+mod Ends
+mod Highest
+mod Makes
+mod Adopts

@@ -1,0 +1,63 @@
+-- What a call does to a connection.
+use Rattle.std.specs.Prelude.{◌≡◌, ◌≢◌, ◌⊎◌, ℕ, false, IsTrue, List, [], ◌∷◌, length, ◌≤◌}
+use Rattle.sqlite_value.specs.Order.{Row}
+use Rattle.sqlite.specs.Tree.{Trees}
+use Rattle.sqlite.specs.State.{State}
+use Rattle.px_sql.specs.Tables.{schema_3}
+use Rattle.px_sql.specs.Seen.{rows_at, seen, IsKeyed}
+
+-- outside a transaction, over the four tables
+pub record IsIdle (s : State) : Type 0 where
+  pub schema : s.now.schema ≡ schema_3
+  pub auto : s.in_transaction ≡ false
+
+-- Under this key the tree shows this row, and nothing else differs, where the key had one row of its own or none.
+pub record Puts (tree p : ℕ) (columns : List ℕ) (row : Row) (old new : Trees) : Type 0 where
+  pub put : seen columns (new tree) p ≡ row ∷ []
+  pub others : IsKeyed p (seen columns (old tree) p) → (q : ℕ) → q ≢ p → rows_at (new tree) q ≡ rows_at (old tree) q
+  pub trees : (t : ℕ) → t ≢ tree → new t ≡ old t
+
+-- committed and open, over the four tables
+pub record IsSettled (new : State) : Type 0 where
+  pub committed : new.committed ≡ new.now
+  pub schema : new.now.schema ≡ schema_3
+  pub auto : new.in_transaction ≡ false
+  pub is_open : IsTrue new.is_open
+
+-- the rows are as they were, or the connection is shut
+pub record Stays (old new : State) : Type 0 where
+  pub now : IsTrue new.is_open → new.now ≡ old.committed
+  pub committed : IsTrue new.is_open → new.committed ≡ old.committed
+  pub auto : new.in_transaction ≡ false
+  pub was_open : IsTrue new.is_open → IsTrue old.is_open
+
+-- what an open after a crash may find is what it could find before, or has the row
+abbrev pub LeavesOne : (tree p : ℕ) (columns : List ℕ) → Row → State → State → Type 0
+LeavesOne tree p columns row old new =
+    (db : Trees) → new.may_leave db → old.may_leave db ⊎ Puts tree p columns row old.now.trees db
+
+-- what a stop leaves is what it left before
+abbrev pub LeavesOld : State → State → Type 0
+LeavesOld old new = (db : Trees) → new.may_leave db → old.may_leave db
+
+-- what a stop leaves is what it left before, or this, whole
+abbrev pub LeavesWhole : Trees → State → State → Type 0
+LeavesWhole whole old new = (db : Trees) → new.may_leave db → old.may_leave db ⊎ (db ≡ whole)
+
+-- Beside what a stop left before it may leave one thing more, whole: of two that it may leave, one was left before, or
+-- they are the same.
+abbrev pub LeavesOneMore : State → State → Type 0
+LeavesOneMore old new = (a b : Trees) → new.may_leave a → new.may_leave b → old.may_leave a ⊎ (old.may_leave b ⊎
+    (a ≡ b))
+
+-- the connection is open, and shows what it showed
+pub record Serves (old new : State) : Type 0 where
+  pub was_open : IsTrue old.is_open
+  pub is_open : IsTrue new.is_open
+  pub now : new.now ≡ old.now
+  pub committed : new.committed ≡ old.committed
+  pub auto : new.in_transaction ≡ old.in_transaction
+
+-- the rows that a query answers are these in some order: the same where they are fewer than two
+abbrev pub IsAlike : List Row → List Row → Type 0
+IsAlike rows answer = (rows ≡ answer) ⊎ ((2 ≤ length rows) × (2 ≤ length answer))

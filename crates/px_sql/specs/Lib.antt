@@ -1,0 +1,11 @@
+pub mod Entries
+pub mod Tables
+pub mod Seen
+pub mod Effect
+pub mod Store
+pub mod Ready
+pub mod Bytes
+pub mod View
+pub mod Formats
+pub mod Making
+pub mod Adopting

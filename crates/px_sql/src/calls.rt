@@ -1,0 +1,487 @@
+//! The statements, one function each.
+
+ghost use Rattle.std.specs.Prelude.{◌≡◌, ◌<◌, ◌≤◌, ◌^◌, ℕ, pos, true, false, [], Err, OnOk, OnErr, IfOk, IfErr, IsTrue};
+ghost use Rattle.std.specs.List.Sorted.{IsPermutation};
+ghost use Rattle.sqlite.specs.Held.{state};
+ghost use Rattle.sqlite.specs.Tree.{Trees};
+ghost use Rattle.sqlite.specs.State.{HasCleanDisk, Survives, Executes, CommitsBy, Shown, FailsToQuery, CommitsShowing};
+ghost use Rattle.px_sql.specs.Tables.{put_meta, put_slot, put_floor, put_learned, get_slot, get_learned, get_top};
+ghost use Rattle.px_sql.specs.Tables.{get_end, get_meta, get_floor, key_params, meta_params, slot_params};
+ghost use Rattle.px_sql.specs.Tables.{floor_params, learned_params};
+ghost use Rattle.px_sql.specs.Seen.{seen, IsKeyed, slot_columns, slot_row, learned_columns, learned_row};
+ghost use Rattle.px_sql.specs.Seen.{meta_columns, meta_row, has_ballot, any_row, IsLast, floor_columns, floor_row};
+ghost use Rattle.px_sql.specs.Effect.{IsIdle, Puts, IsSettled, Stays, LeavesOne, LeavesOld, Serves, IsAlike};
+
+use sqlite::{Alter, Connection, Error, ErrorCode, Row, params};
+
+/// Whom a store belongs to.
+#[derive(Clone, Copy, Debug, PartialEq, Eq)]
+pub struct Identity {
+    pub cluster: u32,
+    pub members: u8,
+    pub node: u8,
+}
+
+/// Why a statement was not run: for want of memory, with nothing changed, or else.
+#[derive(Clone, Copy, Debug, PartialEq, Eq)]
+pub(crate) enum Trouble {
+    Memory,
+    Failed,
+}
+
+pub(crate) fn signed(n: u64) -> i64
+    requires { n < 2 ^ 63 }
+    ensures { result ≡ pos n }
+{
+    n as i64
+}
+
+fn is_memory(error: &Error) -> bool {
+    matches!(error, Error::SqliteFailure(ErrorCode::OutOfMemory))
+}
+
+/// Whether memory was wanting and the connection still serves: it reads an empty text.
+pub(crate) fn cause_of<S: Alter>(conn: &mut Connection<S>, error: Error) -> Trouble
+    ensures serves { HasCleanDisk (state S.Store conn.new) → result ≡ Trouble.Memory →
+        Serves (state S.Store conn.old) (state S.Store conn.new) }
+    ensures clean { HasCleanDisk (state S.Store conn.new) → HasCleanDisk (state S.Store conn.old) }
+    ensures crash { HasCleanDisk (state S.Store conn.new) →
+        LeavesOld (state S.Store conn.old) (state S.Store conn.new) }
+{
+    if !is_memory(&error) {
+        return Trouble::Failed;
+    }
+    match conn.prepare("") {
+        Ok(_probe) => Trouble::Memory,
+        Err(_) => Trouble::Failed,
+    }
+}
+
+fn run_meta<S: Alter>(
+    conn: &mut Connection<S>,
+    identity: Identity,
+    round: u64,
+    number: u64,
+) -> Result<usize, Error>
+    requires round { round < 2 ^ 63 }
+    requires number { number < 2 ^ 63 }
+    ensures runs { HasCleanDisk (state S.Store conn.new) →
+        Executes put_meta (meta_params identity.cluster identity.members identity.node round number)
+        (state S.Store conn.old) (state S.Store conn.new) result }
+    ensures survives { Survives (state S.Store conn.old) (state S.Store conn.new) (CommitsBy put_meta
+        (meta_params identity.cluster identity.members identity.node round number) (state S.Store conn.old)) }
+{
+    let round = signed(round);
+    let number = signed(number);
+    conn.execute(
+        "INSERT OR REPLACE INTO meta VALUES (1, 3, ?1, ?2, ?3, ?4, ?5)",
+        params![
+            identity.cluster,
+            u32::from(identity.members),
+            u32::from(identity.node),
+            round,
+            number
+        ],
+    )
+}
+
+pub(crate) fn put_meta<S: Alter>(
+    conn: &mut Connection<S>,
+    identity: Identity,
+    round: u64,
+    number: u64,
+) -> Result<(), Trouble>
+    requires round { round < 2 ^ 63 }
+    requires number { number < 2 ^ 63 }
+    ensures ok { HasCleanDisk (state S.Store conn.new) → IsIdle (state S.Store conn.old) →
+        OnOk result (Puts 0 1 meta_columns (meta_row 3 identity.cluster identity.members identity.node round number)
+        (state S.Store conn.old).now.trees (state S.Store conn.new).now.trees) }
+    ensures settled { HasCleanDisk (state S.Store conn.new) → IsIdle (state S.Store conn.old) →
+        OnOk result (IsSettled (state S.Store conn.new)) }
+    ensures memory { HasCleanDisk (state S.Store conn.new) → IsIdle (state S.Store conn.old) →
+        result ≡ Err Trouble.Memory → IsSettled (state S.Store conn.new) }
+    ensures same { HasCleanDisk (state S.Store conn.new) → IsIdle (state S.Store conn.old) →
+        result ≡ Err Trouble.Memory → (state S.Store conn.new).now ≡ (state S.Store conn.old).now }
+    ensures start { IsIdle (state S.Store conn.old) → IsTrue (state S.Store conn.old).is_open →
+        (state S.Store conn.old).now ≡ (state S.Store conn.old).committed }
+    ensures clean { HasCleanDisk (state S.Store conn.new) → HasCleanDisk (state S.Store conn.old) }
+    ensures crash { HasCleanDisk (state S.Store conn.new) → IsIdle (state S.Store conn.old) →
+        LeavesOne 0 1 meta_columns (meta_row 3 identity.cluster identity.members identity.node round number)
+        (state S.Store conn.old) (state S.Store conn.new) }
+{
+    let _settled = conn.is_autocommit();
+    match run_meta(conn, identity, round, number) {
+        Ok(_) => Ok(()),
+        Err(error) => Err(cause_of(conn, error)),
+    }
+}
+
+fn run_slot<S: Alter>(
+    conn: &mut Connection<S>,
+    position: u32,
+    promised: u64,
+    ballot: u64,
+    entry: &[u8],
+) -> Result<usize, Error>
+    requires promised { promised < 2 ^ 63 }
+    requires ballot { ballot < 2 ^ 63 }
+    ensures runs { HasCleanDisk (state S.Store conn.new) →
+        Executes put_slot (slot_params position promised ballot entry.now) (state S.Store conn.old)
+        (state S.Store conn.new) result }
+    ensures survives { Survives (state S.Store conn.old) (state S.Store conn.new) (CommitsBy put_slot
+        (slot_params position promised ballot entry.now) (state S.Store conn.old)) }
+{
+    let promised = signed(promised);
+    let ballot = signed(ballot);
+    conn.execute(
+        "INSERT OR REPLACE INTO slots VALUES (?1, ?2, ?3, ?4)",
+        params![position, promised, ballot, entry],
+    )
+}
+
+pub(crate) fn put_slot<S: Alter>(
+    conn: &mut Connection<S>,
+    position: u32,
+    promised: u64,
+    ballot: u64,
+    entry: &[u8],
+) -> Result<(), Trouble>
+    requires promised { promised < 2 ^ 63 }
+    requires ballot { ballot < 2 ^ 63 }
+    ensures ok { HasCleanDisk (state S.Store conn.new) → IsIdle (state S.Store conn.old) →
+        OnOk result (Puts 1 position slot_columns (slot_row position promised ballot entry.now)
+        (state S.Store conn.old).now.trees (state S.Store conn.new).now.trees) }
+    ensures settled { HasCleanDisk (state S.Store conn.new) → IsIdle (state S.Store conn.old) →
+        OnOk result (IsSettled (state S.Store conn.new)) }
+    ensures memory { HasCleanDisk (state S.Store conn.new) → IsIdle (state S.Store conn.old) →
+        result ≡ Err Trouble.Memory → IsSettled (state S.Store conn.new) }
+    ensures same { HasCleanDisk (state S.Store conn.new) → IsIdle (state S.Store conn.old) →
+        result ≡ Err Trouble.Memory → (state S.Store conn.new).now ≡ (state S.Store conn.old).now }
+    ensures start { IsIdle (state S.Store conn.old) → IsTrue (state S.Store conn.old).is_open →
+        (state S.Store conn.old).now ≡ (state S.Store conn.old).committed }
+    ensures clean { HasCleanDisk (state S.Store conn.new) → HasCleanDisk (state S.Store conn.old) }
+    ensures crash { HasCleanDisk (state S.Store conn.new) → IsIdle (state S.Store conn.old) →
+        LeavesOne 1 position slot_columns (slot_row position promised ballot entry.now) (state S.Store conn.old)
+        (state S.Store conn.new) }
+{
+    let _settled = conn.is_autocommit();
+    match run_slot(conn, position, promised, ballot, entry) {
+        Ok(_) => Ok(()),
+        Err(error) => Err(cause_of(conn, error)),
+    }
+}
+
+fn run_floor<S: Alter>(conn: &mut Connection<S>, ballot: u64) -> Result<usize, Error>
+    requires ballot { ballot < 2 ^ 63 }
+    ensures runs { HasCleanDisk (state S.Store conn.new) → Executes put_floor (floor_params ballot)
+        (state S.Store conn.old) (state S.Store conn.new) result }
+    ensures survives { Survives (state S.Store conn.old) (state S.Store conn.new) (CommitsBy put_floor
+        (floor_params ballot) (state S.Store conn.old)) }
+{
+    let ballot = signed(ballot);
+    conn.execute(
+        "INSERT OR REPLACE INTO floor VALUES (1, ?1)",
+        params![ballot],
+    )
+}
+
+pub(crate) fn put_floor<S: Alter>(conn: &mut Connection<S>, ballot: u64) -> Result<(), Trouble>
+    requires ballot { ballot < 2 ^ 63 }
+    ensures ok { HasCleanDisk (state S.Store conn.new) → IsIdle (state S.Store conn.old) →
+        OnOk result (Puts 2 1 floor_columns (floor_row ballot) (state S.Store conn.old).now.trees
+        (state S.Store conn.new).now.trees) }
+    ensures settled { HasCleanDisk (state S.Store conn.new) → IsIdle (state S.Store conn.old) →
+        OnOk result (IsSettled (state S.Store conn.new)) }
+    ensures memory { HasCleanDisk (state S.Store conn.new) → IsIdle (state S.Store conn.old) →
+        result ≡ Err Trouble.Memory → IsSettled (state S.Store conn.new) }
+    ensures same { HasCleanDisk (state S.Store conn.new) → IsIdle (state S.Store conn.old) →
+        result ≡ Err Trouble.Memory → (state S.Store conn.new).now ≡ (state S.Store conn.old).now }
+    ensures start { IsIdle (state S.Store conn.old) → IsTrue (state S.Store conn.old).is_open →
+        (state S.Store conn.old).now ≡ (state S.Store conn.old).committed }
+    ensures clean { HasCleanDisk (state S.Store conn.new) → HasCleanDisk (state S.Store conn.old) }
+    ensures crash { HasCleanDisk (state S.Store conn.new) → IsIdle (state S.Store conn.old) →
+        LeavesOne 2 1 floor_columns (floor_row ballot) (state S.Store conn.old) (state S.Store conn.new) }
+{
+    let _settled = conn.is_autocommit();
+    match run_floor(conn, ballot) {
+        Ok(_) => Ok(()),
+        Err(error) => Err(cause_of(conn, error)),
+    }
+}
+
+fn run_learned<S: Alter>(
+    conn: &mut Connection<S>,
+    position: u32,
+    entry: &[u8],
+) -> Result<usize, Error>
+    ensures runs { HasCleanDisk (state S.Store conn.new) → Executes put_learned (learned_params position entry.now)
+        (state S.Store conn.old) (state S.Store conn.new) result }
+    ensures survives { Survives (state S.Store conn.old) (state S.Store conn.new) (CommitsBy put_learned
+        (learned_params position entry.now) (state S.Store conn.old)) }
+{
+    conn.execute(
+        "INSERT OR REPLACE INTO learned VALUES (?1, ?2)",
+        params![position, entry],
+    )
+}
+
+pub(crate) fn put_learned<S: Alter>(
+    conn: &mut Connection<S>,
+    position: u32,
+    entry: &[u8],
+) -> Result<(), Trouble>
+    ensures ok { HasCleanDisk (state S.Store conn.new) → IsIdle (state S.Store conn.old) →
+        OnOk result (Puts 3 position learned_columns (learned_row position entry.now)
+        (state S.Store conn.old).now.trees (state S.Store conn.new).now.trees) }
+    ensures settled { HasCleanDisk (state S.Store conn.new) → IsIdle (state S.Store conn.old) →
+        OnOk result (IsSettled (state S.Store conn.new)) }
+    ensures memory { HasCleanDisk (state S.Store conn.new) → IsIdle (state S.Store conn.old) →
+        result ≡ Err Trouble.Memory → IsSettled (state S.Store conn.new) }
+    ensures same { HasCleanDisk (state S.Store conn.new) → IsIdle (state S.Store conn.old) →
+        result ≡ Err Trouble.Memory → (state S.Store conn.new).now ≡ (state S.Store conn.old).now }
+    ensures start { IsIdle (state S.Store conn.old) → IsTrue (state S.Store conn.old).is_open →
+        (state S.Store conn.old).now ≡ (state S.Store conn.old).committed }
+    ensures clean { HasCleanDisk (state S.Store conn.new) → HasCleanDisk (state S.Store conn.old) }
+    ensures crash { HasCleanDisk (state S.Store conn.new) → IsIdle (state S.Store conn.old) →
+        LeavesOne 3 position learned_columns (learned_row position entry.now) (state S.Store conn.old)
+        (state S.Store conn.new) }
+{
+    let _settled = conn.is_autocommit();
+    match run_learned(conn, position, entry) {
+        Ok(_) => Ok(()),
+        Err(error) => Err(cause_of(conn, error)),
+    }
+}
+
+fn ask_slot<S: Alter>(conn: &mut Connection<S>, position: u32) -> Result<Vec<Row>, Error>
+    ensures ok { HasCleanDisk (state S.Store conn.new) → IfOk result (λ rows. Shown get_slot (key_params position)
+        (state S.Store conn.old) (state S.Store conn.new) rows.items) }
+    ensures err { HasCleanDisk (state S.Store conn.new) → IfErr result (FailsToQuery get_slot (key_params position)
+        (state S.Store conn.old) (state S.Store conn.new)) }
+    ensures survives { Survives (state S.Store conn.old) (state S.Store conn.new) (CommitsShowing get_slot
+        (key_params position) (state S.Store conn.old)) }
+{
+    conn.query_all(
+        "SELECT position, promised, ballot, entry FROM slots WHERE position = ?1",
+        params![position],
+    )
+}
+
+pub(crate) fn get_slot<S: Alter>(
+    conn: &mut Connection<S>,
+    position: u32,
+) -> Result<Vec<Row>, Trouble>
+    ensures rows { HasCleanDisk (state S.Store conn.new) → IsIdle (state S.Store conn.old) →
+        IfOk result (λ rows. IsAlike (seen slot_columns ((state S.Store conn.old).now.trees 1) position) rows.items) }
+    ensures settled { HasCleanDisk (state S.Store conn.new) → IsIdle (state S.Store conn.old) →
+        OnOk result (IsSettled (state S.Store conn.new)) }
+    ensures stays { HasCleanDisk (state S.Store conn.new) → IsIdle (state S.Store conn.old) →
+        OnOk result ((state S.Store conn.new).now ≡ (state S.Store conn.old).now) }
+    ensures memory { HasCleanDisk (state S.Store conn.new) → IsIdle (state S.Store conn.old) →
+        result ≡ Err Trouble.Memory → IsSettled (state S.Store conn.new) }
+    ensures same { HasCleanDisk (state S.Store conn.new) → IsIdle (state S.Store conn.old) →
+        result ≡ Err Trouble.Memory → (state S.Store conn.new).now ≡ (state S.Store conn.old).now }
+    ensures start { IsIdle (state S.Store conn.old) → IsTrue (state S.Store conn.old).is_open →
+        (state S.Store conn.old).now ≡ (state S.Store conn.old).committed }
+    ensures clean { HasCleanDisk (state S.Store conn.new) → HasCleanDisk (state S.Store conn.old) }
+    ensures crash { HasCleanDisk (state S.Store conn.new) → IsIdle (state S.Store conn.old) →
+        LeavesOld (state S.Store conn.old) (state S.Store conn.new) }
+{
+    let _settled = conn.is_autocommit();
+    match ask_slot(conn, position) {
+        Ok(rows) => Ok(rows),
+        Err(error) => Err(cause_of(conn, error)),
+    }
+}
+
+fn ask_learned<S: Alter>(conn: &mut Connection<S>, position: u32) -> Result<Vec<Row>, Error>
+    ensures ok { HasCleanDisk (state S.Store conn.new) → IfOk result (λ rows. Shown get_learned (key_params position)
+        (state S.Store conn.old) (state S.Store conn.new) rows.items) }
+    ensures err { HasCleanDisk (state S.Store conn.new) →
+        IfErr result (FailsToQuery get_learned (key_params position) (state S.Store conn.old)
+        (state S.Store conn.new)) }
+    ensures survives { Survives (state S.Store conn.old) (state S.Store conn.new) (CommitsShowing get_learned
+        (key_params position) (state S.Store conn.old)) }
+{
+    conn.query_all(
+        "SELECT position, entry FROM learned WHERE position = ?1",
+        params![position],
+    )
+}
+
+pub(crate) fn get_learned<S: Alter>(
+    conn: &mut Connection<S>,
+    position: u32,
+) -> Result<Vec<Row>, Trouble>
+    ensures rows { HasCleanDisk (state S.Store conn.new) → IsIdle (state S.Store conn.old) →
+        IfOk result (λ rows. IsAlike (seen learned_columns
+        ((state S.Store conn.old).now.trees 3) position) rows.items) }
+    ensures settled { HasCleanDisk (state S.Store conn.new) → IsIdle (state S.Store conn.old) →
+        OnOk result (IsSettled (state S.Store conn.new)) }
+    ensures stays { HasCleanDisk (state S.Store conn.new) → IsIdle (state S.Store conn.old) →
+        OnOk result ((state S.Store conn.new).now ≡ (state S.Store conn.old).now) }
+    ensures memory { HasCleanDisk (state S.Store conn.new) → IsIdle (state S.Store conn.old) →
+        result ≡ Err Trouble.Memory → IsSettled (state S.Store conn.new) }
+    ensures same { HasCleanDisk (state S.Store conn.new) → IsIdle (state S.Store conn.old) →
+        result ≡ Err Trouble.Memory → (state S.Store conn.new).now ≡ (state S.Store conn.old).now }
+    ensures start { IsIdle (state S.Store conn.old) → IsTrue (state S.Store conn.old).is_open →
+        (state S.Store conn.old).now ≡ (state S.Store conn.old).committed }
+    ensures clean { HasCleanDisk (state S.Store conn.new) → HasCleanDisk (state S.Store conn.old) }
+    ensures crash { HasCleanDisk (state S.Store conn.new) → IsIdle (state S.Store conn.old) →
+        LeavesOld (state S.Store conn.old) (state S.Store conn.new) }
+{
+    let _settled = conn.is_autocommit();
+    match ask_learned(conn, position) {
+        Ok(rows) => Ok(rows),
+        Err(error) => Err(cause_of(conn, error)),
+    }
+}
+
+fn ask_meta<S: Alter>(conn: &mut Connection<S>) -> Result<Vec<Row>, Error>
+    ensures ok { HasCleanDisk (state S.Store conn.new) → IfOk result (λ rows. Shown get_meta (key_params 1)
+        (state S.Store conn.old) (state S.Store conn.new) rows.items) }
+    ensures err { HasCleanDisk (state S.Store conn.new) → IfErr result (FailsToQuery get_meta (key_params 1)
+        (state S.Store conn.old) (state S.Store conn.new)) }
+    ensures survives { Survives (state S.Store conn.old) (state S.Store conn.new) (CommitsShowing get_meta
+        (key_params 1) (state S.Store conn.old)) }
+{
+    conn.query_all(
+        "SELECT id, format, cluster, members, node, round, number FROM meta WHERE id = ?1",
+        params![1u32],
+    )
+}
+
+pub(crate) fn get_meta<S: Alter>(conn: &mut Connection<S>) -> Result<Vec<Row>, Trouble>
+    ensures rows { HasCleanDisk (state S.Store conn.new) → IsIdle (state S.Store conn.old) →
+        IfOk result (λ rows. IsAlike (seen meta_columns ((state S.Store conn.old).now.trees 0) 1) rows.items) }
+    ensures settled { HasCleanDisk (state S.Store conn.new) → IsIdle (state S.Store conn.old) →
+        OnOk result (IsSettled (state S.Store conn.new)) }
+    ensures stays { HasCleanDisk (state S.Store conn.new) → IsIdle (state S.Store conn.old) →
+        OnOk result ((state S.Store conn.new).now ≡ (state S.Store conn.old).now) }
+    ensures memory { HasCleanDisk (state S.Store conn.new) → IsIdle (state S.Store conn.old) →
+        result ≡ Err Trouble.Memory → IsSettled (state S.Store conn.new) }
+    ensures same { HasCleanDisk (state S.Store conn.new) → IsIdle (state S.Store conn.old) →
+        result ≡ Err Trouble.Memory → (state S.Store conn.new).now ≡ (state S.Store conn.old).now }
+    ensures start { IsIdle (state S.Store conn.old) → IsTrue (state S.Store conn.old).is_open →
+        (state S.Store conn.old).now ≡ (state S.Store conn.old).committed }
+    ensures clean { HasCleanDisk (state S.Store conn.new) → HasCleanDisk (state S.Store conn.old) }
+    ensures crash { HasCleanDisk (state S.Store conn.new) → IsIdle (state S.Store conn.old) →
+        LeavesOld (state S.Store conn.old) (state S.Store conn.new) }
+{
+    let _settled = conn.is_autocommit();
+    match ask_meta(conn) {
+        Ok(rows) => Ok(rows),
+        Err(error) => Err(cause_of(conn, error)),
+    }
+}
+
+fn ask_floor<S: Alter>(conn: &mut Connection<S>) -> Result<Vec<Row>, Error>
+    ensures ok { HasCleanDisk (state S.Store conn.new) → IfOk result (λ rows. Shown get_floor (key_params 1)
+        (state S.Store conn.old) (state S.Store conn.new) rows.items) }
+    ensures err { HasCleanDisk (state S.Store conn.new) → IfErr result (FailsToQuery get_floor (key_params 1)
+        (state S.Store conn.old) (state S.Store conn.new)) }
+    ensures survives { Survives (state S.Store conn.old) (state S.Store conn.new) (CommitsShowing get_floor
+        (key_params 1) (state S.Store conn.old)) }
+{
+    conn.query_all("SELECT id, ballot FROM floor WHERE id = ?1", params![1u32])
+}
+
+pub(crate) fn get_floor<S: Alter>(conn: &mut Connection<S>) -> Result<Vec<Row>, Trouble>
+    ensures rows { HasCleanDisk (state S.Store conn.new) → IsIdle (state S.Store conn.old) →
+        IfOk result (λ rows. IsAlike (seen floor_columns ((state S.Store conn.old).now.trees 2) 1) rows.items) }
+    ensures settled { HasCleanDisk (state S.Store conn.new) → IsIdle (state S.Store conn.old) →
+        OnOk result (IsSettled (state S.Store conn.new)) }
+    ensures stays { HasCleanDisk (state S.Store conn.new) → IsIdle (state S.Store conn.old) →
+        OnOk result ((state S.Store conn.new).now ≡ (state S.Store conn.old).now) }
+    ensures memory { HasCleanDisk (state S.Store conn.new) → IsIdle (state S.Store conn.old) →
+        result ≡ Err Trouble.Memory → IsSettled (state S.Store conn.new) }
+    ensures same { HasCleanDisk (state S.Store conn.new) → IsIdle (state S.Store conn.old) →
+        result ≡ Err Trouble.Memory → (state S.Store conn.new).now ≡ (state S.Store conn.old).now }
+    ensures start { IsIdle (state S.Store conn.old) → IsTrue (state S.Store conn.old).is_open →
+        (state S.Store conn.old).now ≡ (state S.Store conn.old).committed }
+    ensures clean { HasCleanDisk (state S.Store conn.new) → HasCleanDisk (state S.Store conn.old) }
+    ensures crash { HasCleanDisk (state S.Store conn.new) → IsIdle (state S.Store conn.old) →
+        LeavesOld (state S.Store conn.old) (state S.Store conn.new) }
+{
+    let _settled = conn.is_autocommit();
+    match ask_floor(conn) {
+        Ok(rows) => Ok(rows),
+        Err(error) => Err(cause_of(conn, error)),
+    }
+}
+
+fn ask_top<S: Alter>(conn: &mut Connection<S>) -> Result<Vec<Row>, Error>
+    ensures ok { HasCleanDisk (state S.Store conn.new) → IfOk result (λ rows. Shown get_top []
+        (state S.Store conn.old) (state S.Store conn.new) rows.items) }
+    ensures err { HasCleanDisk (state S.Store conn.new) → IfErr result (FailsToQuery get_top []
+        (state S.Store conn.old) (state S.Store conn.new)) }
+    ensures survives { Survives (state S.Store conn.old) (state S.Store conn.new) (CommitsShowing get_top []
+        (state S.Store conn.old)) }
+{
+    conn.query_all(
+        "SELECT position FROM slots WHERE ballot > 0 ORDER BY position DESC LIMIT 1",
+        &[],
+    )
+}
+
+pub(crate) fn get_top<S: Alter>(conn: &mut Connection<S>) -> Result<Vec<Row>, Trouble>
+    ensures rows { HasCleanDisk (state S.Store conn.new) → IsIdle (state S.Store conn.old) →
+        IfOk result (λ rows. IsLast has_ballot ((state S.Store conn.old).now.trees 1) rows.items) }
+    ensures settled { HasCleanDisk (state S.Store conn.new) → IsIdle (state S.Store conn.old) →
+        OnOk result (IsSettled (state S.Store conn.new)) }
+    ensures stays { HasCleanDisk (state S.Store conn.new) → IsIdle (state S.Store conn.old) →
+        OnOk result ((state S.Store conn.new).now ≡ (state S.Store conn.old).now) }
+    ensures memory { HasCleanDisk (state S.Store conn.new) → IsIdle (state S.Store conn.old) →
+        result ≡ Err Trouble.Memory → IsSettled (state S.Store conn.new) }
+    ensures same { HasCleanDisk (state S.Store conn.new) → IsIdle (state S.Store conn.old) →
+        result ≡ Err Trouble.Memory → (state S.Store conn.new).now ≡ (state S.Store conn.old).now }
+    ensures start { IsIdle (state S.Store conn.old) → IsTrue (state S.Store conn.old).is_open →
+        (state S.Store conn.old).now ≡ (state S.Store conn.old).committed }
+    ensures clean { HasCleanDisk (state S.Store conn.new) → HasCleanDisk (state S.Store conn.old) }
+    ensures crash { HasCleanDisk (state S.Store conn.new) → IsIdle (state S.Store conn.old) →
+        LeavesOld (state S.Store conn.old) (state S.Store conn.new) }
+{
+    let _settled = conn.is_autocommit();
+    match ask_top(conn) {
+        Ok(rows) => Ok(rows),
+        Err(error) => Err(cause_of(conn, error)),
+    }
+}
+
+fn ask_end<S: Alter>(conn: &mut Connection<S>) -> Result<Vec<Row>, Error>
+    ensures ok { HasCleanDisk (state S.Store conn.new) → IfOk result (λ rows. Shown get_end []
+        (state S.Store conn.old) (state S.Store conn.new) rows.items) }
+    ensures err { HasCleanDisk (state S.Store conn.new) → IfErr result (FailsToQuery get_end []
+        (state S.Store conn.old) (state S.Store conn.new)) }
+    ensures survives { Survives (state S.Store conn.old) (state S.Store conn.new) (CommitsShowing get_end []
+        (state S.Store conn.old)) }
+{
+    conn.query_all(
+        "SELECT position FROM learned ORDER BY position DESC LIMIT 1",
+        &[],
+    )
+}
+
+pub(crate) fn get_end<S: Alter>(conn: &mut Connection<S>) -> Result<Vec<Row>, Trouble>
+    ensures rows { HasCleanDisk (state S.Store conn.new) → IsIdle (state S.Store conn.old) →
+        IfOk result (λ rows. IsLast any_row ((state S.Store conn.old).now.trees 3) rows.items) }
+    ensures settled { HasCleanDisk (state S.Store conn.new) → IsIdle (state S.Store conn.old) →
+        OnOk result (IsSettled (state S.Store conn.new)) }
+    ensures stays { HasCleanDisk (state S.Store conn.new) → IsIdle (state S.Store conn.old) →
+        OnOk result ((state S.Store conn.new).now ≡ (state S.Store conn.old).now) }
+    ensures memory { HasCleanDisk (state S.Store conn.new) → IsIdle (state S.Store conn.old) →
+        result ≡ Err Trouble.Memory → IsSettled (state S.Store conn.new) }
+    ensures same { HasCleanDisk (state S.Store conn.new) → IsIdle (state S.Store conn.old) →
+        result ≡ Err Trouble.Memory → (state S.Store conn.new).now ≡ (state S.Store conn.old).now }
+    ensures start { IsIdle (state S.Store conn.old) → IsTrue (state S.Store conn.old).is_open →
+        (state S.Store conn.old).now ≡ (state S.Store conn.old).committed }
+    ensures clean { HasCleanDisk (state S.Store conn.new) → HasCleanDisk (state S.Store conn.old) }
+    ensures crash { HasCleanDisk (state S.Store conn.new) → IsIdle (state S.Store conn.old) →
+        LeavesOld (state S.Store conn.old) (state S.Store conn.new) }
+{
+    let _settled = conn.is_autocommit();
+    match ask_end(conn) {
+        Ok(rows) => Ok(rows),
+        Err(error) => Err(cause_of(conn, error)),
+    }
+}

@@ -1,0 +1,107 @@
+//! What a store of format 3 shows as it is opened.
+ghost use Rattle.std.specs.Prelude.{◌≡◌, ◌<◌, ◌≤◌, ◌^◌, ◌⊎◌, Err, IfOk, OnOk, OnErr, true, [], ◌∷◌};
+ghost use Rattle.sqlite.specs.Held.{state};
+ghost use Rattle.sqlite.specs.State.{HasCleanDisk};
+ghost use Rattle.px_sql.specs.Tables.{schema_3};
+ghost use Rattle.px_sql.specs.Seen.{seen, meta_columns, meta_row, floor_columns, floor_rows, is_none_or_ballot};
+ghost use Rattle.px_sql.specs.Effect.{IsIdle, IsSettled, LeavesOld};
+ghost use Rattle.px_sql.specs.Ready.{IsReady, AreBounded};
+
+use crate::calls::{Identity, Trouble, get_floor, get_meta};
+use crate::fault::AdoptFault;
+use crate::reading::{Numbers, ReadFault, floor_in_rows, meta_in_rows};
+use px_model::Meta;
+use sqlite::{Alter, Connection};
+use sqlite_schema::schema::Schema;
+use std::alloc::Global;
+
+/// What a store of format 3 shows as it is opened: its tables, and the numbers of its rows.
+#[derive(Drop)]
+pub(crate) struct Opened {
+    pub(crate) tables: Schema,
+    pub(crate) meta: Meta,
+}
+
+fn meta_of<S: Alter>(conn: &mut Connection<S>, identity: Identity) -> Result<Numbers, AdoptFault>
+    ensures why { OnErr result ((result ≡ Err AdoptFault.Memory) ⊎ (result ≡ Err AdoptFault.Failed)) }
+    ensures rows { HasCleanDisk (state S.Store conn.new) → IsIdle (state S.Store conn.old) →
+        IfOk result (λ m. seen meta_columns
+        ((state S.Store conn.old).now.trees 0) 1 ≡ meta_row 3 identity.cluster identity.members identity.node m.round m.number ∷ []) }
+    ensures settled { HasCleanDisk (state S.Store conn.new) → IsIdle (state S.Store conn.old) →
+        OnOk result (IsSettled (state S.Store conn.new)) }
+    ensures stays { HasCleanDisk (state S.Store conn.new) → IsIdle (state S.Store conn.old) →
+        OnOk result ((state S.Store conn.new).now ≡ (state S.Store conn.old).now) }
+    ensures round { IfOk result (λ m. m.round < 2 ^ 48) }
+    ensures number { IfOk result (λ m. m.number ≤ 2 ^ 48) }
+    ensures clean { HasCleanDisk (state S.Store conn.new) → HasCleanDisk (state S.Store conn.old) }
+    ensures crash { HasCleanDisk (state S.Store conn.new) → IsIdle (state S.Store conn.old) →
+        LeavesOld (state S.Store conn.old) (state S.Store conn.new) }
+{
+    match get_meta(conn) {
+        Ok(rows) => match meta_in_rows(rows.as_slice(), identity) {
+            Ok(numbers) => Ok(numbers),
+            Err(ReadFault::Memory) => Err(AdoptFault::Memory),
+            Err(ReadFault::Bad) => Err(AdoptFault::Failed),
+        },
+        Err(Trouble::Memory) => Err(AdoptFault::Memory),
+        Err(Trouble::Failed) => Err(AdoptFault::Failed),
+    }
+}
+
+fn ballot_of<S: Alter>(conn: &mut Connection<S>, members: u8) -> Result<u64, AdoptFault>
+    ensures why { OnErr result ((result ≡ Err AdoptFault.Memory) ⊎ (result ≡ Err AdoptFault.Failed)) }
+    ensures fits { IfOk result (λ b. is_none_or_ballot members b ≡ true) }
+    ensures rows { HasCleanDisk (state S.Store conn.new) → IsIdle (state S.Store conn.old) →
+        IfOk result (λ b. seen floor_columns ((state S.Store conn.old).now.trees 2) 1 ≡ floor_rows b) }
+    ensures settled { HasCleanDisk (state S.Store conn.new) → IsIdle (state S.Store conn.old) →
+        OnOk result (IsSettled (state S.Store conn.new)) }
+    ensures stays { HasCleanDisk (state S.Store conn.new) → IsIdle (state S.Store conn.old) →
+        OnOk result ((state S.Store conn.new).now ≡ (state S.Store conn.old).now) }
+    ensures clean { HasCleanDisk (state S.Store conn.new) → HasCleanDisk (state S.Store conn.old) }
+    ensures crash { HasCleanDisk (state S.Store conn.new) → IsIdle (state S.Store conn.old) →
+        LeavesOld (state S.Store conn.old) (state S.Store conn.new) }
+{
+    match get_floor(conn) {
+        Ok(rows) => match floor_in_rows(rows.as_slice(), members) {
+            Ok(ballot) => Ok(ballot),
+            Err(ReadFault::Memory) => Err(AdoptFault::Memory),
+            Err(ReadFault::Bad) => Err(AdoptFault::Failed),
+        },
+        Err(Trouble::Memory) => Err(AdoptFault::Memory),
+        Err(Trouble::Failed) => Err(AdoptFault::Failed),
+    }
+}
+
+/// Reads the rows for the whole node, and what the tables are.
+pub(crate) fn read_again<S: Alter>(
+    alloc: Global,
+    conn: &mut Connection<S>,
+    identity: Identity,
+) -> Result<Opened, AdoptFault>
+    ensures why { OnErr result ((result ≡ Err AdoptFault.Memory) ⊎ (result ≡ Err AdoptFault.Failed)) }
+    ensures ready { IfOk result (λ o. IsReady 0 o.tables identity o.meta (state S.Store conn.new)) }
+    ensures bounds { IfOk result (λ o. AreBounded identity o.meta) }
+    ensures tables { IfOk result (λ o. o.tables ≡ (state S.Store conn.old).now.schema) }
+    ensures clean { HasCleanDisk (state S.Store conn.new) → HasCleanDisk (state S.Store conn.old) }
+    ensures stays { HasCleanDisk (state S.Store conn.new) → (state S.Store conn.old).now.schema ≡ schema_3 →
+        OnOk result ((state S.Store conn.new).committed ≡ (state S.Store conn.old).now) }
+    ensures crash { HasCleanDisk (state S.Store conn.new) → IfOk result (λ o. o.tables ≡ schema_3 →
+        LeavesOld (state S.Store conn.old) (state S.Store conn.new)) }
+{
+    if !conn.is_autocommit() {
+        return Err(AdoptFault::Failed);
+    }
+    let Ok(tables) = conn.schema().copy(alloc) else {
+        return Err(AdoptFault::Memory);
+    };
+    let numbers = meta_of(conn, identity)?;
+    let floor = ballot_of(conn, identity.members)?;
+    Ok(Opened {
+        tables,
+        meta: Meta {
+            round: numbers.round,
+            number: numbers.number,
+            floor,
+        },
+    })
+}

@@ -1,0 +1,94 @@
+//! The keeper's calls.
+ghost use Rattle.std.specs.Prelude.{◌≡◌};
+ghost use Rattle.std.proofs.Common.{◌∙◌, ap};
+ghost use Rattle.sqlite.specs.Held.{state};
+ghost use Rattle.sqlite.specs.Tree.{Trees};
+ghost use Rattle.px_sql.specs.Seen.{record_in};
+ghost use Rattle.px_sql.specs.Ready.{IsHonest, MayLeave, is_good};
+
+use crate::keeper::SqlRecords;
+use crate::reading::{entry_from, slot_from};
+use crate::writing::told;
+use px_model::{Change, Entry, Meta, Slot};
+use px_records::{Records, StoreFault};
+use sqlite::Alter;
+
+impl<S: Alter> Records for SqlRecords<S> {
+    ghost is_honest = { λ r. IsHonest r.opened (state S.Store r.conn) };
+
+    ghost stored = { λ r. record_in (state S.Store r.conn).committed.trees };
+
+    ghost members = { λ r. r.identity.members };
+
+    ghost may_leave = { λ r. MayLeave (state S.Store r.conn) };
+
+    ghost failed = { λ r. r.failures };
+
+    ghost may_fail = { λ r. Unit {0} };
+
+    ghost is_good = { λ r. is_good r.identity.members (state S.Store r.conn).committed.trees };
+
+    ghost settled = { λ r honest none d left. left.2 ∙ ap (λ (t : Trees). record_in t)
+        (S.Store.settled r.conn.store left.0 (r.ready none honest.0 honest.1).1.1.0 left.1) };
+
+    fn failures(&self) -> u64 {
+        self.failures
+    }
+
+    #[tactic(auto, using(crate::proofs::Stored::numbers_are))]
+    fn read_meta(&mut self) -> Result<Meta, StoreFault> {
+        if self.failures > 0 {
+            return Err(StoreFault::Failed);
+        }
+        Ok(self.meta)
+    }
+
+    fn read_slot(&mut self, position: u32) -> Result<Slot, StoreFault> {
+        let slot = self.slot_at(position)?;
+        slot_from(self.alloc, &slot, self.identity.members)
+    }
+
+    fn read_top(&mut self) -> Result<u32, StoreFault> {
+        let top = self.top_at()?;
+        if top == 0 {
+            return Ok(0);
+        }
+        let _slot = self.slot_at(top - 1)?;
+        Ok(top)
+    }
+
+    fn read_learned(&mut self, position: u32) -> Result<Option<Entry>, StoreFault> {
+        let Some(bytes) = self.entry_at(position)? else {
+            return Ok(None);
+        };
+        let entry = entry_from(self.alloc, bytes.as_slice(), self.identity.members)?;
+        Ok(Some(entry))
+    }
+
+    fn read_learned_end(&mut self) -> Result<u32, StoreFault> {
+        let end = self.end_at()?;
+        if end == 0 {
+            return Ok(0);
+        }
+        let _entry = self.entry_at(end - 1)?;
+        Ok(end)
+    }
+
+    fn commit(&mut self, change: &Change) -> Result<(), StoreFault> {
+        if self.failures > 0 {
+            return Err(StoreFault::Failed);
+        }
+        match change {
+            Change::Round { round } => told(self.keep_meta(*round, self.meta.number)),
+            Change::Number { number } => told(self.keep_meta(self.meta.round, *number)),
+            Change::Floor { ballot } => told(self.keep_floor(*ballot)),
+            Change::Promised { position, ballot } => self.promise(*position, *ballot),
+            Change::Accepted {
+                position,
+                ballot,
+                entry,
+            } => self.accept(*position, *ballot, entry.bytes()),
+            Change::Learned { position, entry } => self.learn(*position, entry.bytes()),
+        }
+    }
+}

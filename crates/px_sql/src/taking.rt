@@ -1,0 +1,76 @@
+//! Taking a store, and giving it back.
+ghost use Rattle.std.specs.Prelude.{◌≡◌, false, IfOk, IfErr};
+ghost use Rattle.sqlite.specs.Held.{state};
+ghost use Rattle.sqlite.specs.State.{HasCleanDisk};
+ghost use Rattle.px_model.specs.World.{nothing_stored};
+ghost use Rattle.px_sql.specs.Tables.{no_schema};
+ghost use Rattle.px_sql.specs.Formats.{Format, schema_at, record_at};
+ghost use Rattle.px_sql.specs.Adopting.{IsVerdict, IsKnown, IsSame};
+ghost use Rattle.px_sql.specs.View.{connection_of, IsOpened};
+
+use crate::adopt::bring;
+use crate::calls::Identity;
+use crate::fault::AdoptFault;
+use crate::keeper::SqlRecords;
+use crate::opening::read_again;
+use px_records::Records;
+use sqlite::{Alter, Connection};
+use std::alloc::Global;
+
+impl<S: Alter> SqlRecords<S> {
+    /// The record in a store: of a store without tables the empty record, of one whose tables are those of format 1, 2
+    /// or 3 the record of its rows, brought to format 3 in one transaction. What an older format lacks is 0, or nothing
+    /// learned.
+    ///
+    /// A refusal gives the connection back. A store refused with 71, 72 or 73 isn't written to.
+    pub fn adopt(
+        alloc: Global,
+        mut conn: Connection<S>,
+        identity: Identity,
+    ) -> Result<SqlRecords<S>, (AdoptFault, Connection<S>)>
+        ensures begins { IfOk result (λ r. ⟦<SqlRecords<S> as Records>⟧.failed r ≡ 0) }
+        ensures members { IfOk result (λ r. ⟦<SqlRecords<S> as Records>⟧.members r ≡ identity.members) }
+        ensures clean { IfOk result (λ r. HasCleanDisk (state S.Store (connection_of r)) →
+            HasCleanDisk (state S.Store conn)) }
+        ensures refused { IfErr result (λ e. HasCleanDisk (state S.Store e.1) → HasCleanDisk (state S.Store conn)) }
+        ensures as_it_was { IfErr result (λ e. HasCleanDisk (state S.Store e.1) →
+            IsKnown (state S.Store conn).now.schema → (state S.Store conn).in_transaction ≡ false →
+            IsVerdict e.0 → IsSame (state S.Store conn) (state S.Store e.1)) }
+        ensures empty { IfOk result (λ r. HasCleanDisk (state S.Store (connection_of r)) →
+            (state S.Store conn).now.schema ≡ no_schema → (state S.Store conn).in_transaction ≡ false →
+            IsOpened S.Store r nothing_stored) }
+        ensures rows { IfOk result (λ r. HasCleanDisk (state S.Store (connection_of r)) → (f : Format) →
+            (state S.Store conn).now.schema ≡ schema_at f → (state S.Store conn).in_transaction ≡ false →
+            IsOpened S.Store r (record_at f (state S.Store conn).now.trees)) }
+    {
+        if let Err(fault) = bring(&mut conn, identity) {
+            return Err((fault, conn));
+        }
+        match read_again(alloc, &mut conn, identity) {
+            Ok(found) => Ok(SqlRecords {
+                conn,
+                opened: found.tables,
+                identity,
+                meta: found.meta,
+                failures: 0,
+                alloc,
+            }),
+            Err(fault) => Err((fault, conn)),
+        }
+    }
+
+    /// Gives the connection back, to be closed or taken again. It takes no memory, and may be called after a failure.
+    pub fn release(self) -> Connection<S>
+        ensures { result ≡ connection_of self }
+    {
+        let SqlRecords {
+            conn,
+            opened: _,
+            identity: _,
+            meta: _,
+            failures: _,
+            alloc: _,
+        } = self;
+        conn
+    }
+}

@@ -1,0 +1,11 @@
+//! Trials of the record: what no contract says of its keepers, that calls succeed, and what stands in the tables.
+//!
+//! The tests stand in a crate of their own, since they cross the keepers.
+#![tactic(auto)]
+
+#[cfg(test)]
+mod keepers;
+#[cfg(test)]
+mod making;
+#[cfg(test)]
+mod stores;
