@@ -7,19 +7,16 @@ ghost use Rattle.px_wire.specs.Message.{group, DatagramBytes};
 ghost use Rattle.px_wire.specs.Members.{Comes};
 ghost use Rattle.px_wire.specs.Views.{ReadsDatagram, message_of};
 
+use crate::MessageView;
 use crate::fault::WireFault;
 use crate::membership::Membership;
 use crate::reading::datagram_of;
-use px_model::{EntryView, Message};
 
 /// The sender and the message that the datagram spells for this member, or its first fault. Takes no memory: the
 /// message's entry lies in the bytes.
 ///
 /// Errors are 50 to 57, the fields in order, and 56 at the first byte past the last field ([`WireFault`]).
-pub fn decode<'a>(
-    m: &Membership,
-    bytes: &'a [u8],
-) -> Result<(u8, Message<EntryView<'a>>), WireFault>
+pub fn decode<'a>(m: &Membership, bytes: &'a [u8]) -> Result<(u8, MessageView<'a>), WireFault>
     // What is answered is what the bytes spell.
     ensures found { IfOk result (λ x. DatagramBytes (group m.now) x.0 m.now.me (message_of x.1) bytes.now) }
     // What the bytes spell is answered.

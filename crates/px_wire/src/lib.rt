@@ -65,3 +65,6 @@ pub use encoding::{encode, encode_sent};
 pub use fault::WireFault;
 pub use membership::Membership;
 pub use px_model::{Entry, EntryView, Message, Proposal};
+
+/// A message as it is decoded: its entry lies in the datagram's bytes.
+pub type MessageView<'a> = Message<EntryView<'a>>;

@@ -6,14 +6,13 @@ ghost use Rattle.px_wire.specs.Fields.{field, fault_of, first_fault, u8, u32, u6
 ghost use Rattle.px_wire.specs.Fields.{prepare_fields, prepare_value, promise_fields, promise_value, accept_fields, accept_value, vote_fields, vote_value, nack_fields, nack_value, need_fields, need_value, learned_fields, learned_value, ask_fields, ask_value, asked_fields, asked_value, ask_refused_fields, ask_refused_value, prepare_all_fields, prepare_all_value, promise_all_fields, promise_all_value};
 ghost use Rattle.px_wire.specs.Views.{Answers, ReadsField, ReadsEntry, ReadsBody, ReadsDatagram, lent_of, accepted_of};
 
+use crate::MessageView;
 use crate::fault::WireFault;
 use crate::limits::{
     ASKER, BALLOTS, ENTRY_BYTES, FIRST_BALLOT, LAST_POSITION, LAST_TOP, MAGIC, NUMBERS, VERSION,
 };
 use crate::membership::Membership;
 use px_model::{EntryView, Message, Proposal};
-
-type MessageView<'a> = Message<EntryView<'a>>;
 
 fn fault(code: u8, offset: usize) -> WireFault
     ensures { result ≡ record { code = code; offset = offset } }
