@@ -1,5 +1,6 @@
 -- What a rule says of packets, production by production (pf.conf(5), GRAMMAR).
-use Rattle.std.specs.Prelude.{ℕ, zero, suc, ◌&&◌, ◌==◌, Bool, true, false, List, [], ◌∷◌, drop, length, Option, Some, None, is_some, not, codes, if◌then◌else◌}
+use Rattle.std.specs.Prelude.{ℕ, zero, suc, ◌&&◌, ◌==◌, Bool, true, false, List, [], ◌∷◌, drop, length}
+use Rattle.std.specs.Prelude.{Option, Some, None, is_some, not, codes, if◌then◌else◌}
 use Rattle.std.specs.List.{list_any}
 use Rattle.std.specs.Result.{result_ok}
 use Rattle.pf_addr.specs.Blocks.{Block, span_of}
@@ -19,7 +20,8 @@ use Rattle.pf_ruleset.specs.declared.parts.Addresses.TheVariants.{Prefix, Range,
 use Rattle.pf_ruleset.specs.declared.parts.Host.{Host}
 use Rattle.pf_ruleset.specs.declared.parts.Host.TheVariants as host
 use Rattle.pf_ruleset.specs.declared.parts.PortTest.{PortTest}
-use Rattle.pf_ruleset.specs.declared.parts.PortTest.TheVariants.{Equal, NotEqual, Less, LessEqual, Greater, GreaterEqual, FromTo, Between, Outside}
+use Rattle.pf_ruleset.specs.declared.parts.PortTest.TheVariants.{Equal, NotEqual, Less, LessEqual, Greater}
+use Rattle.pf_ruleset.specs.declared.parts.PortTest.TheVariants.{GreaterEqual, FromTo, Between, Outside}
 use Rattle.pf_words.specs.declared.flags.TcpFlags.{TcpFlags}
 use Rattle.pf_ruleset.specs.declared.parts.FlagTest.{FlagTest}
 use Rattle.pf_ruleset.specs.declared.parts.FlagTest.TheVariants as flags
@@ -27,7 +29,8 @@ use Rattle.pf_conditions.specs.declared.written.Protocol.{Protocol}
 use Rattle.pf_conditions.specs.declared.written.WrittenPort.{WrittenPort}
 use Rattle.pf_conditions.specs.declared.written.WrittenType.{WrittenType}
 use Rattle.pf_ruleset.specs.Names.{Name}
-use Rattle.pf_words.specs.Words.{is_reserved, is_interface_name, is_table_name, protocol_of, port_of, icmp_type_of, flags_of, no_flags, is_within}
+use Rattle.pf_words.specs.Words.{is_reserved, is_interface_name, is_table_name, protocol_of, port_of, icmp_type_of}
+use Rattle.pf_words.specs.Words.{flags_of, no_flags, is_within}
 
 -- a value if the test holds
 abbrev pub if_so : {X : Type 0} → Bool → X → Option X
@@ -59,7 +62,8 @@ interfaces_at profile ts = behind_word (codes "on") (some_at (interface_at profi
 
 -- ["inet" | "inet6"]
 unfoldable pub family_at : List Token → Option Family × List Token
-family_at ts = if begins (codes "inet") ts then (Some Inet, drop 1 ts) else (if begins (codes "inet6") ts then (Some Inet6, drop 1 ts) else (None, ts))
+family_at ts = if begins (codes "inet") ts then (Some Inet, drop 1 ts)
+    else (if begins (codes "inet6") ts then (Some Inet6, drop 1 ts) else (None, ts))
 
 -- PROTO
 unfoldable pub protocol_at : Profile → List Token → Read Protocol
@@ -76,7 +80,8 @@ protocols_at profile ts = behind_word (codes "proto") (some_at (protocol_at prof
 
 -- ["/" WORD]
 unfoldable pub length_at : List Token → Read (Option (List ℕ))
-length_at ts = if begins_symbol mark.Slash ts then (word_at (drop 1 ts) >>= λ w. Some (Some w.0, w.1)) else Some (None, ts)
+length_at ts = if begins_symbol mark.Slash ts then (word_at (drop 1 ts) >>= λ w. Some (Some w.0, w.1))
+    else Some (None, ts)
 
 -- the rest of a prefix behind its first WORD
 unfoldable pub prefix_behind : List ℕ → List Token → Read Block
@@ -117,7 +122,8 @@ table_at profile ts = do
 
 -- host = prefix | WORD "-" WORD | "<" TNAME ">"
 unfoldable pub set_at : Profile → List Token → Read Addresses
-set_at profile ts = if begins_symbol mark.Less ts then (table_at profile ts >>= λ name. Some (Table name.0, name.1)) else addresses_at ts
+set_at profile ts = if begins_symbol mark.Less ts then (table_at profile ts >>= λ name. Some (Table name.0, name.1))
+    else addresses_at ts
 
 abbrev pub in_or_not : Bool → Addresses → Host
 in_or_not true set = host.NotIn set
@@ -139,7 +145,8 @@ abbrev pub colon_parts : (List ℕ × Option (List ℕ)) → Option (List ℕ ×
 colon_parts ([], more) = None
 colon_parts (b ∷ bytes, None) = None
 colon_parts (b ∷ bytes, Some []) = None
-colon_parts (b ∷ bytes, Some (c ∷ more)) = if list_any (λ d. d == 58) (c ∷ more) then None else Some (b ∷ bytes, c ∷ more)
+colon_parts (b ∷ bytes, Some (c ∷ more)) = if list_any (λ d. d == 58) (c ∷ more) then None
+    else Some (b ∷ bytes, c ∷ more)
 
 abbrev pub two_ports : (ℕ → ℕ → PortTest) → Option ℕ → Option ℕ → Option PortTest
 two_ports test None b = None
@@ -171,7 +178,8 @@ compared_at profile test ts = port_word_at profile ts >>= λ word. tested (one_p
 
 -- PORT operator PORT, behind the first PORT and the operator
 abbrev pub second_at : Profile → (ℕ → ℕ → PortTest) → List ℕ → List Token → Read WrittenPort
-second_at profile test first ts = port_word_at profile ts >>= λ word. tested (two_ports test (port_of first) (port_of word.0)) word.1
+second_at profile test first ts = port_word_at profile ts >>= λ word.
+    tested (two_ports test (port_of first) (port_of word.0)) word.1
 
 -- PORT | RANGE | PORT ("><" | "<>") PORT
 unfoldable pub port_behind : Profile → List ℕ → List Token → Read WrittenPort
@@ -268,7 +276,13 @@ type_at profile ts = word_at ts >>= λ word. Some (record { number = icmp_type_o
 unfoldable pub types_at : Profile → List Token → Read (Elements WrittenType)
 types_at profile ts =
     if begins_symbol mark.Open ts then some_at (type_at profile) ts
-    else (port_word_at profile ts >>= λ word. Some (record { items = record { number = icmp_type_of word.0 } ∷ []; deepest = 0 }, word.1))
+    else (port_word_at profile ts >>= λ word. Some (
+      record {
+        items = record { number = icmp_type_of word.0 } ∷ [];
+        deepest = 0;
+      },
+      word.1,
+    ))
 
 -- ---- what rules and anchor rules have in common
 
@@ -287,7 +301,16 @@ common_at profile ts = do
   let family = family_at interfaces.1
   protocols ← protocols_at profile family.1
   ends ← ends_at profile protocols.1
-  Some (record { interfaces = interfaces.0; family = family.0; protocols = protocols.0; source = ends.0.0; destination = ends.0.1 }, ends.1)
+  Some (
+    record {
+      interfaces = interfaces.0;
+      family = family.0;
+      protocols = protocols.0;
+      source = ends.0.0;
+      destination = ends.0.1;
+    },
+    ends.1,
+  )
 
 -- all that a rule or an anchor rule says of the packets that it matches
 pub record ConditionsText : Type 0 where

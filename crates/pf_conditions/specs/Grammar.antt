@@ -1,6 +1,7 @@
 -- The grammar of what a rule says of packets, production by production (pf.conf(5), GRAMMAR): which tokens spell which
 -- value. It knows nothing of how a text is read.
-use Rattle.std.specs.Prelude.{◌≡◌, ℕ, ◌+◌, Bool, true, false, List, [], ◌∷◌, ◌++◌, Option, Some, None, Ok, max, codes}
+use Rattle.std.specs.Prelude.{◌≡◌, ℕ, ◌+◌, Bool, true, false, List, [], ◌∷◌, ◌++◌, Option, Some}
+use Rattle.std.specs.Prelude.{None, Ok, max, codes}
 use Rattle.pf_addr.specs.Blocks.{Block, Span, span_of}
 use Rattle.pf_addr.specs.declared.addr.Addr.{Addr}
 use Rattle.pf_addr.specs.Spelling.{addr_of, block_of}
@@ -19,7 +20,8 @@ use Rattle.pf_ruleset.specs.declared.parts.Addresses.TheVariants.{Prefix, Range,
 use Rattle.pf_ruleset.specs.declared.parts.Host.{Host}
 use Rattle.pf_ruleset.specs.declared.parts.Host.TheVariants as host
 use Rattle.pf_ruleset.specs.declared.parts.PortTest.{PortTest}
-use Rattle.pf_ruleset.specs.declared.parts.PortTest.TheVariants.{Equal, NotEqual, Less, LessEqual, Greater, GreaterEqual, Between, Outside}
+use Rattle.pf_ruleset.specs.declared.parts.PortTest.TheVariants.{Equal, NotEqual, Less, LessEqual, Greater}
+use Rattle.pf_ruleset.specs.declared.parts.PortTest.TheVariants.{GreaterEqual, Between, Outside}
 use Rattle.pf_words.specs.declared.flags.TcpFlags.{TcpFlags}
 use Rattle.pf_ruleset.specs.declared.parts.FlagTest.{FlagTest}
 use Rattle.pf_ruleset.specs.declared.parts.FlagTest.TheVariants as flags
@@ -27,7 +29,8 @@ use Rattle.pf_conditions.specs.declared.written.Protocol.{Protocol}
 use Rattle.pf_conditions.specs.declared.written.WrittenPort.{WrittenPort}
 use Rattle.pf_conditions.specs.declared.written.WrittenType.{WrittenType}
 use Rattle.pf_ruleset.specs.Names.{Name}
-use Rattle.pf_words.specs.Words.{is_reserved, is_interface_name, is_table_name, protocol_of, port_of, icmp_type_of, flags_of, no_flags, is_within}
+use Rattle.pf_words.specs.Words.{is_reserved, is_interface_name, is_table_name, protocol_of, port_of, icmp_type_of}
+use Rattle.pf_words.specs.Words.{flags_of, no_flags, is_within}
 use Rattle.pf_conditions.specs.Conditions.{one_port, two_ports, lone_test, Ends, any_end, any_host, CommonText}
 
 -- a word that stands for itself
@@ -45,17 +48,24 @@ pub data IsComma : List Token → Type 0 where
   NoComma : IsComma []
   CommaSign : IsComma (sign mark.Comma)
 
--- elem {[","] elem}   elem = x | list(x)   with the elements, those of the lists in it among them, and how many lists stand
--- in one another at the deepest
+-- elem {[","] elem}   elem = x | list(x)   with the elements, those of the lists in it among them, and how many lists
+-- stand in one another at the deepest
 pub data IsElements {X : Type 0} (Is : List Token → X → Type 0) : List Token → List X → ℕ → Type 0 where
   LastOne : (ts : List Token) (x : X) → Is ts x → IsElements Is ts (x ∷ []) 0
-  LastList : (ts : List Token) (xs : List X) (d : ℕ) → IsElements Is ts xs d → IsElements Is (sign mark.Open ++ (ts ++ sign mark.Close)) xs (d + 1)
-  OneMore : (ts comma us : List Token) (x : X) (ys : List X) (e : ℕ) → Is ts x → IsComma comma → IsElements Is us ys e → IsElements Is (ts ++ (comma ++ us)) (x ∷ ys) e
-  ListMore : (ts comma us : List Token) (xs ys : List X) (d e : ℕ) → IsElements Is ts xs d → IsComma comma → IsElements Is us ys e → IsElements Is (sign mark.Open ++ (ts ++ (sign mark.Close ++ (comma ++ us)))) (xs ++ ys) (max (d + 1) e)
+  LastList : (ts : List Token) (xs : List X) (d : ℕ) → IsElements Is ts xs d →
+      IsElements Is (sign mark.Open ++ (ts ++ sign mark.Close)) xs (d + 1)
+  OneMore : (ts comma us : List Token) (x : X) (ys : List X) (e : ℕ) → Is ts x → IsComma comma →
+      IsElements Is us ys e → IsElements Is (ts ++ (comma ++ us)) (x ∷ ys) e
+  ListMore : (ts comma us : List Token) (xs ys : List X) (d e : ℕ) → IsElements Is ts xs d → IsComma comma →
+      IsElements Is us ys e → IsElements Is (sign mark.Open ++ (ts ++ (sign mark.Close ++ (comma ++ us)))) (xs ++ ys)
+      (max (d + 1) e)
 
--- list(x) = "{" elem {[","] elem} "}"   where a newline is a blank: the tokens up to the closing brace, and these without newlines
+-- list(x) = "{" elem {[","] elem} "}"   where a newline is a blank: the tokens up to the closing brace, and these
+-- without newlines
 pub data IsList {X : Type 0} (Is : List Token → X → Type 0) : List Token → Elements X → Type 0 where
-  Braces : (within ts : List Token) (xs : List X) (d : ℕ) → blanked 1 (within ++ sign mark.Close) ≡ ts ++ sign mark.Close → IsElements Is ts xs d → IsList Is (sign mark.Open ++ (within ++ sign mark.Close)) (record { items = xs; deepest = d + 1 })
+  Braces : (within ts : List Token) (xs : List X) (d : ℕ) → blanked 1 (within ++ sign mark.Close) ≡
+      ts ++ sign mark.Close → IsElements Is ts xs d → IsList Is (sign mark.Open ++ (within ++ sign mark.Close))
+      (record { items = xs; deepest = d + 1 })
 
 -- x | list(x)
 pub data IsSome {X : Type 0} (Is : List Token → X → Type 0) : List Token → Elements X → Type 0 where
@@ -63,7 +73,8 @@ pub data IsSome {X : Type 0} (Is : List Token → X → Type 0) : List Token →
   Listed : (ts : List Token) (list : Elements X) → IsList Is ts list → IsSome Is ts list
 
 -- [word x]
-pub data IsBehind {X : Type 0} (word : List ℕ) (Is : List Token → X → Type 0) : List Token → Option X → Type 0 where
+pub data IsBehind {X : Type 0} (word : List ℕ) (Is : List Token → X → Type 0) : List Token → Option X →
+    Type 0 where
   Missing : IsBehind word Is [] None
   Behind : (ts : List Token) (x : X) → Is ts x → IsBehind word Is (key word ++ ts) (Some x)
 
@@ -71,13 +82,17 @@ pub data IsBehind {X : Type 0} (word : List ℕ) (Is : List Token → X → Type
 
 -- IFNAME: a WORD or a STRING
 pub data IsInterfaceName (profile : Profile) : List Token → Name → Type 0 where
-  NameWord : (name : List ℕ) → is_interface_name profile name ≡ true → IsInterfaceName profile (Word name ∷ []) name
-  NameString : (name : List ℕ) → is_interface_name profile name ≡ true → IsInterfaceName profile (Quoted name ∷ []) name
+  NameWord : (name : List ℕ) → is_interface_name profile name ≡ true →
+      IsInterfaceName profile (Word name ∷ []) name
+  NameString : (name : List ℕ) → is_interface_name profile name ≡ true →
+      IsInterfaceName profile (Quoted name ∷ []) name
 
 -- ["!"] IFNAME
 pub data IsInterface (profile : Profile) : List Token → Interface → Type 0 where
-  OnInterface : (ts : List Token) (name : Name) → IsInterfaceName profile ts name → IsInterface profile ts (record { negated = false; name = name })
-  NotOnInterface : (ts : List Token) (name : Name) → IsInterfaceName profile ts name → IsInterface profile (sign mark.Not ++ ts) (record { negated = true; name = name })
+  OnInterface : (ts : List Token) (name : Name) → IsInterfaceName profile ts name →
+      IsInterface profile ts (record { negated = false; name = name })
+  NotOnInterface : (ts : List Token) (name : Name) → IsInterfaceName profile ts name →
+      IsInterface profile (sign mark.Not ++ ts) (record { negated = true; name = name })
 
 -- ["inet" | "inet6"]
 pub data IsFamily : List Token → Option Family → Type 0 where
@@ -87,30 +102,35 @@ pub data IsFamily : List Token → Option Family → Type 0 where
 
 -- PROTO
 pub data IsProtocol : List Token → Protocol → Type 0 where
-  ProtocolWord : (word : List ℕ) (n : ℕ) → protocol_of word ≡ Some n → IsProtocol (key word) (record { number = n })
+  ProtocolWord : (word : List ℕ) (n : ℕ) → protocol_of word ≡ Some n →
+      IsProtocol (key word) (record { number = n })
 
 -- ---- hosts
 
 -- prefix = WORD ["/" WORD]
 pub data IsPrefix : List Token → Block → Type 0 where
   WholeAddress : (addr : List ℕ) (block : Block) → block_of (addr, None) ≡ Ok block → IsPrefix (key addr) block
-  CutAddress : (addr len : List ℕ) (block : Block) → block_of (addr, Some len) ≡ Ok block → IsPrefix (key addr ++ (sign mark.Slash ++ key len)) block
+  CutAddress : (addr len : List ℕ) (block : Block) → block_of (addr, Some len) ≡ Ok block →
+      IsPrefix (key addr ++ (sign mark.Slash ++ key len)) block
 
 -- "<" TNAME ">"
 pub data IsTable (profile : Profile) : List Token → Name → Type 0 where
-  TableSign : (name : List ℕ) → is_table_name profile name ≡ true → IsTable profile (sign mark.Less ++ (key name ++ sign mark.Greater)) name
+  TableSign : (name : List ℕ) → is_table_name profile name ≡ true →
+      IsTable profile (sign mark.Less ++ (key name ++ sign mark.Greater)) name
 
 -- host = prefix | WORD "-" WORD | "<" TNAME ">"
 pub data IsSet (profile : Profile) : List Token → Addresses → Type 0 where
   PrefixSet : (ts : List Token) (block : Block) → IsPrefix ts block → IsSet profile ts (Prefix block)
-  RangeSet : (first last : List ℕ) (a b : Addr) (span : Span) → addr_of first ≡ Ok a → addr_of last ≡ Ok b → span_of a b ≡ Some span → IsSet profile (key first ++ (key (codes "-") ++ key last)) (Range span)
+  RangeSet : (first last : List ℕ) (a b : Addr) (span : Span) → addr_of first ≡ Ok a → addr_of last ≡ Ok b →
+      span_of a b ≡ Some span → IsSet profile (key first ++ (key (codes "-") ++ key last)) (Range span)
   TableSet : (ts : List Token) (name : Name) → IsTable profile ts name → IsSet profile ts (Table name)
 
 -- member = "any" | ["!"] host
 pub data IsHost (profile : Profile) : List Token → Host → Type 0 where
   AnyWord : IsHost profile (key (codes "any")) host.Any
   HostIn : (ts : List Token) (set : Addresses) → IsSet profile ts set → IsHost profile ts (host.In set)
-  HostNotIn : (ts : List Token) (set : Addresses) → IsSet profile ts set → IsHost profile (sign mark.Not ++ ts) (host.NotIn set)
+  HostNotIn : (ts : List Token) (set : Addresses) → IsSet profile ts set →
+      IsHost profile (sign mark.Not ++ ts) (host.NotIn set)
 
 -- ---- ports
 
@@ -130,32 +150,47 @@ pub data IsBounds : Symbol → (ℕ → ℕ → PortTest) → Type 0 where
 
 -- port = ["=" | "!=" | "<" | "<=" | ">" | ">="] PORT | RANGE | PORT ("><" | "<>") PORT
 pub data IsPort (profile : Profile) : List Token → WrittenPort → Type 0 where
-  PortAlone : (word : List ℕ) → is_reserved profile word ≡ false → IsPort profile (key word) (record { test = lone_test word })
-  PortCompared : (symbol : Symbol) (test : ℕ → PortTest) (word : List ℕ) → IsOperator symbol test → is_reserved profile word ≡ false → IsPort profile (sign symbol ++ key word) (record { test = one_port test (port_of word) })
-  PortBounds : (symbol : Symbol) (test : ℕ → ℕ → PortTest) (first second : List ℕ) → IsBounds symbol test → is_reserved profile first ≡ false → is_reserved profile second ≡ false → IsPort profile (key first ++ (sign symbol ++ key second)) (record { test = two_ports test (port_of first) (port_of second) })
+  PortAlone : (word : List ℕ) → is_reserved profile word ≡ false →
+      IsPort profile (key word) (record { test = lone_test word })
+  PortCompared : (symbol : Symbol) (test : ℕ → PortTest) (word : List ℕ) → IsOperator symbol test →
+      is_reserved profile word ≡ false →
+      IsPort profile (sign symbol ++ key word) (record { test = one_port test (port_of word) })
+  PortBounds : (symbol : Symbol) (test : ℕ → ℕ → PortTest) (first second : List ℕ) →
+      IsBounds symbol test → is_reserved profile first ≡ false → is_reserved profile second ≡ false →
+      IsPort profile (key first ++ (sign symbol ++ key second))
+      (record { test = two_ports test (port_of first) (port_of second) })
 
 -- ---- the two ends
 
 -- part = spec ["port" ports] | "port" ports; a missing host is any
 pub data IsPart (profile : Profile) : List Token → Ends → Type 0 where
-  PartHosts : (ts us : List Token) (hosts : Elements Host) (ports : Option (Elements WrittenPort)) → IsSome (IsHost profile) ts hosts → IsBehind (codes "port") (IsSome (IsPort profile)) us ports → IsPart profile (ts ++ us) (record { hosts = hosts; ports = ports })
-  PartPorts : (ts : List Token) (ports : Elements WrittenPort) → IsSome (IsPort profile) ts ports → IsPart profile (key (codes "port") ++ ts) (record { hosts = any_host; ports = Some ports })
+  PartHosts : (ts us : List Token) (hosts : Elements Host) (ports : Option (Elements WrittenPort)) →
+      IsSome (IsHost profile) ts hosts → IsBehind (codes "port") (IsSome (IsPort profile)) us ports →
+      IsPart profile (ts ++ us) (record { hosts = hosts; ports = ports })
+  PartPorts : (ts : List Token) (ports : Elements WrittenPort) → IsSome (IsPort profile) ts ports →
+      IsPart profile (key (codes "port") ++ ts) (record { hosts = any_host; ports = Some ports })
 
 -- hosts = "all" | "from" part ["to" part] | "to" part, or nothing; a missing part is any
 pub data IsHosts (profile : Profile) : List Token → Ends → Ends → Type 0 where
   NoHosts : IsHosts profile [] any_end any_end
   AllWord : IsHosts profile (key (codes "all")) any_end any_end
-  FromPart : (ts : List Token) (source : Ends) → IsPart profile ts source → IsHosts profile (key (codes "from") ++ ts) source any_end
-  ToPart : (ts : List Token) (destination : Ends) → IsPart profile ts destination → IsHosts profile (key (codes "to") ++ ts) any_end destination
-  FromToParts : (ts us : List Token) (source destination : Ends) → IsPart profile ts source → IsPart profile us destination → IsHosts profile (key (codes "from") ++ (ts ++ (key (codes "to") ++ us))) source destination
+  FromPart : (ts : List Token) (source : Ends) → IsPart profile ts source →
+      IsHosts profile (key (codes "from") ++ ts) source any_end
+  ToPart : (ts : List Token) (destination : Ends) → IsPart profile ts destination →
+      IsHosts profile (key (codes "to") ++ ts) any_end destination
+  FromToParts : (ts us : List Token) (source destination : Ends) → IsPart profile ts source →
+      IsPart profile us destination → IsHosts profile (key (codes "from") ++ (ts ++ (key (codes "to") ++ us))) source
+      destination
 
 -- ---- options
 
 -- "any" | [LETTERS] "/" LETTERS, where each letter before the slash is one behind it
 pub data IsFlags : List Token → FlagTest → Type 0 where
   AnyFlags : IsFlags (key (codes "any")) flags.Any
-  NoneOf : (text : List ℕ) (of : TcpFlags) → flags_of text ≡ Some of → IsFlags (sign mark.Slash ++ key text) (flags.Just no_flags of)
-  SomeOf : (said text : List ℕ) (set of : TcpFlags) → flags_of said ≡ Some set → flags_of text ≡ Some of → is_within set of ≡ true → IsFlags (key said ++ (sign mark.Slash ++ key text)) (flags.Just set of)
+  NoneOf : (text : List ℕ) (of : TcpFlags) → flags_of text ≡ Some of →
+      IsFlags (sign mark.Slash ++ key text) (flags.Just no_flags of)
+  SomeOf : (said text : List ℕ) (set of : TcpFlags) → flags_of said ≡ Some set → flags_of text ≡ Some of →
+      is_within set of ≡ true → IsFlags (key said ++ (sign mark.Slash ++ key text)) (flags.Just set of)
 
 -- TYPE
 pub data IsType : List Token → WrittenType → Type 0 where
@@ -163,7 +198,8 @@ pub data IsType : List Token → WrittenType → Type 0 where
 
 -- TYPE | list(TYPE); a type that stands alone isn't a reserved word
 pub data IsTypes (profile : Profile) : List Token → Elements WrittenType → Type 0 where
-  TypeAlone : (word : List ℕ) → is_reserved profile word ≡ false → IsTypes profile (key word) (record { items = record { number = icmp_type_of word } ∷ []; deepest = 0 })
+  TypeAlone : (word : List ℕ) → is_reserved profile word ≡ false →
+      IsTypes profile (key word) (record { items = record { number = icmp_type_of word } ∷ []; deepest = 0 })
   TypeList : (ts : List Token) (list : Elements WrittenType) → IsList IsType ts list → IsTypes profile ts list
 
 -- ---- what rules and anchor rules have in common

@@ -31,7 +31,18 @@ abbrev pub pair_of : (written.End × written.End) → Ends × Ends
 pair_of ends = (ends_of ends.0, ends_of ends.1)
 
 abbrev pub common_of : common.Common → CommonText
-common_of c = record { interfaces = list_of c.interfaces; family = c.family; protocols = list_of c.protocols; source = ends_of c.source; destination = ends_of c.destination }
+common_of c = record {
+  interfaces = list_of c.interfaces;
+  family = c.family;
+  protocols = list_of c.protocols;
+  source = ends_of c.source;
+  destination = ends_of c.destination;
+}
 
 abbrev pub conditions_of : WrittenConditions → ConditionsText
-conditions_of c = record { direction = c.direction; common = common_of c.common; flags = c.flags; types = list_of c.types }
+conditions_of c = record {
+  direction = c.direction;
+  common = common_of c.common;
+  flags = c.flags;
+  types = list_of c.types;
+}

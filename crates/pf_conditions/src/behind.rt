@@ -18,7 +18,8 @@ pub(crate) fn read_behind<'t: 's, 's, E: Element>(
     word: &[u8],
     parser: &mut Parser<'t, 's>,
 ) -> Result<Option<Listed<E::Value>>, Stop>
-    ensures read { Parses list_of result (left parser.new) (behind_word word.now (some_at (E.read profile)) (left parser.old)) }
+    ensures read { Parses list_of result (left parser.new) (behind_word word.now (some_at (E.read profile))
+        (left parser.old)) }
     ensures later { later parser.new ≡ later parser.old }
 {
     if !parser.accept(word) {

@@ -1,5 +1,7 @@
 -- The changes of a configuration.
-use Rattle.std.specs.Prelude.{◌≡◌, ℕ, Bool, true, false, ◌+◌, ◌&&◌, ◌||◌, List, [], ◌∷◌, ◌++◌, length, map, filter, fold, not, nat_lt, Option, Some, None, Result, Ok, Err, if◌then◌else◌, option_map, unwrap_or}
+use Rattle.std.specs.Prelude.{◌≡◌, ℕ, Bool, true, false, ◌+◌, ◌&&◌, ◌||◌, List, [], ◌∷◌}
+use Rattle.std.specs.Prelude.{◌++◌, length, map, filter, fold, not, nat_lt, Option, Some, None, Result, Ok, Err}
+use Rattle.std.specs.Prelude.{if◌then◌else◌, option_map, unwrap_or}
 use Rattle.std.specs.List.{list_any}
 use Rattle.std.specs.Str.{bytes_eq}
 use Rattle.std.specs.Ordering.{is_lt, nat_cmp}
@@ -14,10 +16,12 @@ use Rattle.pf_ruleset.specs.Names.{Name, begins_below, is_before}
 use Rattle.pf_ruleset.specs.Items.{AnyRule, conditions_of, rule_of}
 use Rattle.pf_ruleset.specs.Rulesets as rulesets
 use Rattle.pf_config.specs.declared.fault.ConfigFault.{ConfigFault}
-use Rattle.pf_config.specs.declared.fault.ConfigFault.TheVariants.{NoTable, ConstTable, TableFull, AnchorsFull, BadPath, Memory}
+use Rattle.pf_config.specs.declared.fault.ConfigFault.TheVariants.{NoTable, ConstTable, TableFull, AnchorsFull, BadPath}
+use Rattle.pf_config.specs.declared.fault.ConfigFault.TheVariants.{Memory}
 use Rattle.pf_table.specs.Tables.{TableValue}
 use Rattle.pf_table.specs.Contents.{with_entries, contents_of, without_entries}
-use Rattle.pf_config.specs.Map.{Configuration, AnchorValue, Path, path_eq, anchor_at, rules_in, tables_in, named, table_at, tables_at, name_after}
+use Rattle.pf_config.specs.Map.{Configuration, AnchorValue, Path, path_eq, anchor_at, rules_in, tables_in, named}
+use Rattle.pf_config.specs.Map.{table_at, tables_at, name_after}
 
 -- ---- one entry of the map
 
@@ -46,10 +50,15 @@ unfoldable pub with_anchor : AnchorValue → List AnchorValue → List AnchorVal
 with_anchor a anchors = anchors_before a.path anchors ++ unless_nothing a ++ anchors_behind a.path anchors
 
 abbrev pub with_rules : Path → List AnyRule → List AnchorValue → List AnchorValue
-with_rules p rules anchors = with_anchor (record { path = p; rules = rules; tables = tables_in (anchor_at p anchors) }) anchors
+with_rules p rules anchors = with_anchor (record { path = p; rules = rules; tables = tables_in (anchor_at p anchors) })
+    anchors
 
 abbrev pub with_tables : Path → List (Name × TableValue) → List AnchorValue → List AnchorValue
-with_tables p tables anchors = with_anchor (record { path = p; rules = rules_in (anchor_at p anchors); tables = tables }) anchors
+with_tables p tables anchors = with_anchor (record {
+  path = p;
+  rules = rules_in (anchor_at p anchors);
+  tables = tables;
+}) anchors
 
 -- ---- unnamed blocks
 
@@ -122,7 +131,11 @@ listed None old = old
 listed (Some list) old = contents_of list
 
 abbrev pub defined_table : List (Name × TableValue) → Definition → TableValue
-defined_table tables d = record { persist = d.persist; is_const = d.is_const; entries = listed d.entries (entries_in (named d.name tables)) }
+defined_table tables d = record {
+  persist = d.persist;
+  is_const = d.is_const;
+  entries = listed d.entries (entries_in (named d.name tables));
+}
 
 abbrev pub defined : List (Name × TableValue) → Definition → List (Name × TableValue)
 defined tables d = with_table tables d.name (defined_table tables d)
@@ -143,13 +156,15 @@ loaded own definitions blocks anchors =
 
 -- 23 asks about the map that the command would leave
 abbrev pub unless_full : List Name → List AnchorValue → Result Configuration ConfigFault
-unless_full skip anchors = if nat_lt 1024 (length anchors) then Err AnchorsFull else Ok (record { skip = skip; anchors = anchors })
+unless_full skip anchors = if nat_lt 1024 (length anchors) then Err AnchorsFull
+    else Ok (record { skip = skip; anchors = anchors })
 
 abbrev pub is_too_deep : Block → Bool
 is_too_deep b = nat_lt 8 (length b.path)
 
 -- a text's own rules and definitions at a path, and its blocks in their order, outer ones first
-unfoldable pub load : Configuration → List Name → Block → List Definition → List Block → Result Configuration ConfigFault
+unfoldable pub load : Configuration → List Name → Block → List Definition → List Block →
+    Result Configuration ConfigFault
 load c skip own definitions blocks =
     if list_any is_too_deep (own ∷ blocks) then Err BadPath
     else unless_full (if is_empty own.path then skip else c.skip) (loaded own definitions blocks c.anchors)
@@ -174,7 +189,8 @@ Refuses TableFull old new r = (r ≡ Err TableFull) × (new ≡ old)
 Refuses AnchorsFull old new r = (r ≡ Err AnchorsFull) × (new ≡ old)
 Refuses BadPath old new r = (r ≡ Err BadPath) × (new ≡ old)
 
-abbrev pub Changes : {A : Type 0} → Result A ConfigFault → Configuration → Configuration → Result Configuration ConfigFault → Type 0
+abbrev pub Changes : {A : Type 0} → Result A ConfigFault → Configuration → Configuration →
+    Result Configuration ConfigFault → Type 0
 Changes (Ok x) old new r = r ≡ Ok new
 Changes (Err fault) old new r = Refuses fault old new r
 
@@ -197,11 +213,13 @@ filled t entries =
     else (if nat_lt 4096 (length entries) then Err TableFull else Ok (with_contents t entries))
 
 -- the configuration with a table at a path, unless the table is refused
-abbrev pub set_filled : Configuration → Path → Name → Result TableValue ConfigFault → Result Configuration ConfigFault
+abbrev pub set_filled : Configuration → Path → Name → Result TableValue ConfigFault →
+    Result Configuration ConfigFault
 set_filled c p name (Ok t) = set_table c p name t
 set_filled c p name (Err fault) = Err fault
 
-abbrev pub fill : Configuration → Path → Name → TableValue → List TableEntry → Result Configuration ConfigFault
+abbrev pub fill : Configuration → Path → Name → TableValue → List TableEntry →
+    Result Configuration ConfigFault
 fill c p name t entries = set_filled c p name (filled t entries)
 
 -- a call fails for want of memory, or with the fault that is defined
@@ -220,9 +238,11 @@ unfoldable pub replace : Configuration → Path → Name → List TableEntry →
 replace c p name list = fill c p name (unwrap_or (table_at c p name) new_table) (contents_of list)
 
 -- 20, then 21
-abbrev pub drain : Configuration → Path → Name → Option TableValue → (List TableEntry → List TableEntry) → Result Configuration ConfigFault
+abbrev pub drain : Configuration → Path → Name → Option TableValue → (List TableEntry → List TableEntry) →
+    Result Configuration ConfigFault
 drain c p name None change = Err NoTable
-drain c p name (Some t) change = if t.is_const then Err ConstTable else set_table c p name (with_contents t (change t.entries))
+drain c p name (Some t) change = if t.is_const then Err ConstTable
+    else set_table c p name (with_contents t (change t.entries))
 
 unfoldable pub delete : Configuration → Path → Name → List TableEntry → Result Configuration ConfigFault
 delete c p name list = drain c p name (table_at c p name) (λ entries. without_entries entries list)

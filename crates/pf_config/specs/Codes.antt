@@ -1,7 +1,8 @@
 -- The numbers of refusals.
 use Rattle.std.specs.Prelude.{ℕ, Option, Some, None}
 use Rattle.pf_config.specs.declared.fault.ConfigFault.{ConfigFault}
-use Rattle.pf_config.specs.declared.fault.ConfigFault.TheVariants.{NoTable, ConstTable, TableFull, AnchorsFull, BadPath, Memory}
+use Rattle.pf_config.specs.declared.fault.ConfigFault.TheVariants.{NoTable, ConstTable, TableFull, AnchorsFull, BadPath}
+use Rattle.pf_config.specs.declared.fault.ConfigFault.TheVariants.{Memory}
 
 -- none for want of memory
 abbrev pub fault_code : ConfigFault → Option ℕ

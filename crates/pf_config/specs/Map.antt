@@ -1,5 +1,6 @@
 -- A configuration: a skip list, and a map from paths to rules and tables.
-use Rattle.std.specs.Prelude.{◌≡◌, ℕ, Bool, true, false, ◌&&◌, List, [], ◌∷◌, ◌++◌, length, map, fold, filter, Option, Some, None, if◌then◌else◌, slice_get, find}
+use Rattle.std.specs.Prelude.{◌≡◌, ℕ, Bool, true, false, ◌&&◌, List, [], ◌∷◌, ◌++◌, length, map}
+use Rattle.std.specs.Prelude.{fold, filter, Option, Some, None, if◌then◌else◌, slice_get, find}
 use Rattle.std.specs.List.{list_any, starts_with, filter_map}
 use Rattle.std.specs.Str.{bytes_eq}
 use Rattle.std.specs.Map.{lookup}
@@ -76,7 +77,8 @@ name_after p q = if starts_with bytes_eq q p then slice_get q (length p) else No
 -- a name at its place in byte order, unless it is there
 abbrev pub put_name : List Name → Name → List Name
 put_name [] n = n ∷ []
-put_name (m ∷ ms) n = if is_before n m then n ∷ m ∷ ms else (if is_before m n then m ∷ put_name ms n else m ∷ ms)
+put_name (m ∷ ms) n = if is_before n m then n ∷ m ∷ ms else (if is_before m n then m ∷ put_name ms n
+    else m ∷ ms)
 
 abbrev pub names_after : Path → List AnchorValue → List Name
 names_after p anchors = filter_map (λ (a : AnchorValue). name_after p a.path) anchors

@@ -1,5 +1,7 @@
 -- Anchors as a tree: what each of them holds is a part of the map.
-use Rattle.std.specs.Prelude.{◌≡◌, ℕ, ◌+◌, ◌-◌, Bool, true, false, List, [], ◌∷◌, ◌++◌, length, filter, Option, Some, None, not, nat_lt, ◌&&◌, find, fold, option_map, if◌then◌else◌}
+use Rattle.std.specs.Prelude.{◌≡◌, ℕ, ◌+◌, ◌-◌, Bool, true, false, List, [], ◌∷◌, ◌++◌}
+use Rattle.std.specs.Prelude.{length, filter, Option, Some, None, not, nat_lt, ◌&&◌, find, fold, option_map}
+use Rattle.std.specs.Prelude.{if◌then◌else◌}
 use Rattle.std.specs.List.{list_all, starts_with}
 use Rattle.std.specs.Str.{bytes_eq}
 use Rattle.pf_ruleset.specs.Names.{Name, is_before}
@@ -43,12 +45,14 @@ last_name (n ∷ m ∷ ns) = last_name (m ∷ ns)
 
 -- it stands directly below the path, and holds something, all of it at its path and below
 abbrev pub IsKid : Path → AnchorTree → Type 0
-IsKid p k = (k.names ≡ p ++ last_name k.names ∷ []) × (is_empty k.anchors ≡ false) × (list_all (λ (a : AnchorValue). starts_with bytes_eq a.path k.names) k.anchors ≡ true)
+IsKid p k = (k.names ≡ p ++ last_name k.names ∷ []) × (is_empty k.anchors ≡ false) ×
+    (list_all (λ (a : AnchorValue). starts_with bytes_eq a.path k.names) k.anchors ≡ true)
 
 -- they stand so, in order of their names
 abbrev pub AreKids : Path → List AnchorTree → Type 0
 AreKids p [] = Unit {0}
-AreKids p (k ∷ ks) = IsKid p k × (list_all (λ (j : AnchorTree). is_before (last_name k.names) (last_name j.names)) ks ≡ true) × AreKids p ks
+AreKids p (k ∷ ks) = IsKid p k × (list_all (λ (j : AnchorTree). is_before (last_name k.names) (last_name j.names))
+    ks ≡ true) × AreKids p ks
 
 -- the names of all paths past the first n
 abbrev pub weight : ℕ → List AnchorValue → ℕ
@@ -76,11 +80,19 @@ anchors_of (Some k) = k.anchors
 
 -- the anchor with these rules and tables at a path below it
 abbrev pub placed_in : AnchorTree → Path → List AnyRule → List (Name × TableValue) → AnchorTree
-placed_in t r rules tables = record { names = t.names; anchors = with_anchor (record { path = t.names ++ r; rules = rules; tables = tables }) t.anchors }
+placed_in t r rules tables = record {
+  names = t.names;
+  anchors = with_anchor (record {
+    path = t.names ++ r;
+    rules = rules;
+    tables = tables;
+  }) t.anchors;
+}
 
 -- where an entry has taken its place in the anchor of that name, it has taken its place in the whole
 abbrev pub TakesPlace : AnchorTree → Name → AnchorTree → AnchorTree → Type 0
-TakesPlace t n kid new = (a : AnchorValue) (r : Path) → a.path ≡ t.names ++ n ∷ r → kid.anchors ≡ with_anchor a (anchors_of (child_at t n)) → new ≡ record { names = t.names; anchors = with_anchor a t.anchors }
+TakesPlace t n kid new = (a : AnchorValue) (r : Path) → a.path ≡ t.names ++ n ∷ r → kid.anchors ≡
+    with_anchor a (anchors_of (child_at t n)) → new ≡ record { names = t.names; anchors = with_anchor a t.anchors }
 
 -- ---- walks down
 

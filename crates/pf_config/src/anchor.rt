@@ -1,14 +1,17 @@
 //! An anchor, with all that stands below it.
 
-ghost use Rattle.std.specs.Prelude.{◌≡◌, ◌≤◌, ◌&&◌, ◌++◌, ◌∷◌, [], true, IfOk, OnOk, map, find, fold, option_map, length};
+ghost use Rattle.std.specs.Prelude.{◌≡◌, ◌≤◌, ◌&&◌, ◌++◌, ◌∷◌, [], true, IfOk, OnOk, map};
+ghost use Rattle.std.specs.Prelude.{find, fold, option_map, length};
 ghost use Rattle.std.specs.List.{list_all, list_any, starts_with};
 ghost use Rattle.std.specs.Option.{option_copied};
 ghost use Rattle.std.specs.Str.{bytes_eq};
 ghost use Rattle.pf_ruleset.specs.Items.{rule_of};
 ghost use Rattle.pf_ruleset.specs.Names.{is_before};
-ghost use Rattle.pf_config.specs.Map.{AnchorValue, anchor_at, rules_in, tables_in, named, is_above, put_name, name_after, names_after, followed_by};
+ghost use Rattle.pf_config.specs.Map.{AnchorValue, anchor_at, rules_in, tables_in, named, is_above, put_name};
+ghost use Rattle.pf_config.specs.Map.{name_after, names_after, followed_by};
 ghost use Rattle.pf_config.specs.Changes.{is_empty, is_some_unnamed, without_unnamed, refer, tidied_of};
-ghost use Rattle.pf_config.specs.Trees.{child_at, last_name, is_named, kids_before, kids_behind, some_kid, anchors_of, placed_in, TakesPlace, passes, kid_names, room_after, own_count};
+ghost use Rattle.pf_config.specs.Trees.{child_at, last_name, is_named, kids_before, kids_behind, some_kid, anchors_of};
+ghost use Rattle.pf_config.specs.Trees.{placed_in, TakesPlace, passes, kid_names, room_after, own_count};
 
 use crate::paths::{copied_path, followed_by};
 use crate::tables::{copied_tables, named};
@@ -38,13 +41,20 @@ impl Model for Anchor {
 
     ghost Value = { AnchorTree };
 
-    ghost view = { λ a. record { names = a.names.items; anchors = own_entry a.names.items (map rule_of a.items.value.items) a.tables.items ++ below a.kids.items } };
+    ghost view = { λ a. record {
+      names = a.names.items;
+      anchors = own_entry a.names.items (map rule_of a.items.value.items) a.tables.items ++ below a.kids.items;
+    } };
 
     ghost invariant = { λ a. (length a.items.value.items ≤ 1024) × AreKids a.names.items a.kids.items };
 
     ghost size = { λ t. weight (length t.names) t.anchors };
 
-    ghost size_decreases = { λ a h. omega (arith, kids_lighter a.names.items (own_entry a.names.items (map rule_of a.items.value.items) a.tables.items) a.kids.items h.1) };
+    ghost size_decreases = { λ a h. omega (
+      arith,
+      kids_lighter a.names.items (own_entry a.names.items (map rule_of a.items.value.items)
+          a.tables.items) a.kids.items h.1,
+    ) };
 }
 
 impl Anchor {
@@ -117,7 +127,9 @@ impl Anchor {
 
     /// The full names of the first anchor directly below, of those with names above this one if one is given.
     pub(crate) fn kid_above(&self, after: Option<&Name>) -> Option<&[Name]>
-        ensures { option_copied result ≡ option_map (followed_by self.now.names) (find (is_above (option_copied after.entry)) (fold put_name [] (names_after self.now.names self.now.anchors))) }
+        ensures { option_copied result ≡ option_map (followed_by self.now.names)
+            (find (is_above (option_copied after.entry))
+            (fold put_name [] (names_after self.now.names self.now.anchors))) }
     {
         first_names(&self.kids, after)
     }
@@ -141,7 +153,10 @@ impl Anchor {
 
     /// The same without the paths that begin with this one and an unnamed name.
     pub(crate) fn without_unnamed(&self, alloc: Global, path: &[Name]) -> Result<Anchor, AllocError>
-        ensures { IfOk result (λ a. a ≡ record { names = self.now.names; anchors = without_unnamed path.now self.now.anchors }) }
+        ensures { IfOk result (λ a. a ≡ record {
+          names = self.now.names;
+          anchors = without_unnamed path.now self.now.anchors;
+        }) }
     {
         let names = copied_path(alloc, &self.names)?;
         if is_unnamed_below(&names, path) {
@@ -180,7 +195,10 @@ impl Anchor {
 
     /// The same without the tables that no rule of the whole configuration refers to.
     pub(crate) fn tidied(&self, alloc: Global, main: &Anchor) -> Result<Anchor, AllocError>
-        ensures { IfOk result (λ a. a ≡ record { names = self.now.names; anchors = tidied_of main.now.anchors self.now.anchors }) }
+        ensures { IfOk result (λ a. a ≡ record {
+          names = self.now.names;
+          anchors = tidied_of main.now.anchors self.now.anchors;
+        }) }
     {
         let names = copied_path(alloc, &self.names)?;
         let items = self.items.clone()?;
@@ -214,7 +232,8 @@ impl Anchor {
     /// The rules at its path, shared.
     #[tactic(auto, using(crate::proofs::Treed::own_rules))]
     pub(crate) fn shared_items(&self) -> Result<Rc<Vec<Item>>, AllocError>
-        ensures rules { IfOk result (λ rc. map rule_of rc.value.items ≡ rules_in (anchor_at self.now.names self.now.anchors)) }
+        ensures rules { IfOk result (λ rc. map rule_of rc.value.items ≡
+            rules_in (anchor_at self.now.names self.now.anchors)) }
         ensures few { IfOk result (λ rc. length rc.value.items ≤ 1024) }
     {
         let items = self.items.clone()?;
@@ -411,7 +430,8 @@ fn kids_with(
     name: &Name,
     kid: Anchor,
 ) -> Result<Vec<Anchor>, AllocError>
-    ensures { IfOk result (λ v. v.items ≡ kids_before name.now kids.now ++ (some_kid kid ++ kids_behind name.now kids.now)) }
+    ensures { IfOk result (λ v. v.items ≡ kids_before name.now kids.now ++
+        (some_kid kid ++ kids_behind name.now kids.now)) }
 {
     let mut next = Vec::new(alloc);
     push_before(alloc, &mut next, kids, name)?;
@@ -453,7 +473,10 @@ fn kid_with_entry(
     tables: Vec<(TableName, Table)>,
 ) -> Result<Anchor, AllocError>
     requires { length items.value.items ≤ 1024 }
-    ensures { IfOk result (λ a. a ≡ placed_in (record { names = anchor.now.names ++ name.now ∷ []; anchors = anchors_of (child_at anchor.now name.now) }) more.now (map rule_of items.value.items) tables.items) }
+    ensures { IfOk result (λ a. a ≡ placed_in (record {
+      names = anchor.now.names ++ name.now ∷ [];
+      anchors = anchors_of (child_at anchor.now name.now);
+    }) more.now (map rule_of items.value.items) tables.items) }
 {
     match anchor.child(name.as_str()) {
         Some(kid) => with_entry(alloc, kid, more, items, tables),

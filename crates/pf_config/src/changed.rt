@@ -78,7 +78,8 @@ pub(crate) fn with_rules(
     requires names { main.now.names ≡ [] }
     requires few { length items.value.items ≤ 1024 }
     ensures names { IfOk result (λ a. a.names ≡ []) }
-    ensures map { IfOk result (λ a. a.anchors ≡ with_rules path.now (map rule_of items.value.items) main.now.anchors) }
+    ensures map { IfOk result (λ a. a.anchors ≡ with_rules path.now (map rule_of items.value.items)
+        main.now.anchors) }
 {
     let tables = tables_at(alloc, main, path)?;
     let next = with_entry(alloc, main, path, items, tables)?;
@@ -95,7 +96,10 @@ pub(crate) fn placed(
     requires names { main.now.names ≡ [] }
     requires few { length items.value.items ≤ 1024 }
     ensures names { IfOk result (λ a. a.names ≡ []) }
-    ensures map { IfOk result (λ a. a.anchors ≡ placed main.now.anchors (record { path = path.now; rules = map rule_of items.value.items })) }
+    ensures map { IfOk result (λ a. a.anchors ≡ placed main.now.anchors (record {
+      path = path.now;
+      rules = map rule_of items.value.items;
+    })) }
 {
     let left = main.without_unnamed(alloc, path)?;
     let next = with_rules(alloc, &left, path, items)?;

@@ -1,12 +1,16 @@
 //! The configuration: anchors with their rules and tables.
 
-ghost use Rattle.std.specs.Prelude.{◌≡◌, ◌≤◌, ◌++◌, map, length, not, nat_lt, Some, None, if◌then◌else◌, option_map, IfSome, IfNone, filter, [], IfOk, MatchResult, unwrap_or, Ok, false};
+ghost use Rattle.std.specs.Prelude.{◌≡◌, ◌≤◌, ◌++◌, map, length, not, nat_lt, Some, None};
+ghost use Rattle.std.specs.Prelude.{if◌then◌else◌, option_map, IfSome, IfNone, filter, [], IfOk, MatchResult};
+ghost use Rattle.std.specs.Prelude.{unwrap_or, Ok, false};
 ghost use Rattle.std.specs.Option.{option_copied};
 ghost use Rattle.std.specs.List as std;
 ghost use Rattle.pf_ruleset.specs.Items.{rule_of};
-ghost use Rattle.pf_config.specs.Map.{rules_at, tables_at, table_at, table_for, begins_some, kids, is_above, followed_by, NextIs};
+ghost use Rattle.pf_config.specs.Map.{rules_at, tables_at, table_at, table_for, begins_some, kids, is_above};
+ghost use Rattle.pf_config.specs.Map.{followed_by, NextIs};
 ghost use Rattle.pf_table.specs.Contents.{with_entries, contents_of};
-ghost use Rattle.pf_config.specs.Changes.{Changes, FailsWith, load, flush_rules, flush_tables, add, replace, delete, flush_table, set_table, filled, new_table, load_ruleset};
+ghost use Rattle.pf_config.specs.Changes.{Changes, FailsWith, load, flush_rules, flush_tables, add, replace, delete};
+ghost use Rattle.pf_config.specs.Changes.{flush_table, set_table, filled, new_table, load_ruleset};
 ghost use Rattle.pf_ruleset.specs.Rulesets.{ruleset_of};
 ghost use Rattle.pf_config.specs.Texts.{definition_of};
 ghost use Rattle.pf_config.specs.Trees.{anchor_in, and_then, tree_at, names_of, first_kid};
@@ -123,7 +127,8 @@ impl Config {
     pub fn find(&self, path: &[Name], rest: &[Name]) -> Option<&[Name]>
         ensures no_rules { IfNone result (rules_at self.now (path.now ++ rest.now) ≡ []) }
         ensures no_kids { IfNone result (kids self.now (path.now ++ rest.now) ≡ []) }
-        ensures value { option_copied result ≡ (if begins_some self.now (path.now ++ rest.now) then Some (path.now ++ rest.now) else None) }
+        ensures value { option_copied result ≡ (if begins_some self.now (path.now ++ rest.now)
+            then Some (path.now ++ rest.now) else None) }
     {
         match found(self.anchor(path), rest) {
             Some(names) => Some(names),
@@ -135,8 +140,10 @@ impl Config {
     /// given.
     #[tactic(auto, using(crate::proofs::Descents::kid_is, crate::proofs::Kids::next_is, crate::proofs::Kids::no_kids_above), unfolding(crate::specs::Map::kids))]
     pub fn kid(&self, path: &[Name], after: Option<&Name>) -> Option<&[Name]>
-        ensures first { option_copied result ≡ option_map (followed_by path.now) (std.find (is_above (option_copied after.entry)) (kids self.now path.now)) }
-        ensures next { IfSome (std.find (is_above (option_copied after.entry)) (kids self.now path.now)) (NextIs (option_copied after.entry) (kids self.now path.now)) }
+        ensures first { option_copied result ≡ option_map (followed_by path.now)
+            (std.find (is_above (option_copied after.entry)) (kids self.now path.now)) }
+        ensures next { IfSome (std.find (is_above (option_copied after.entry)) (kids self.now path.now))
+            (NextIs (option_copied after.entry) (kids self.now path.now)) }
         ensures end { IfNone result (filter (is_above (option_copied after.entry)) (kids self.now path.now) ≡ []) }
     {
         match kid_at(self.anchor(path), after) {
@@ -155,12 +162,12 @@ impl Config {
         Ok(())
     }
 
-    /// Loads a ruleset at a path: its rules take the place of those there, each of its tables gets the flags that it says and, where
-    /// it lists entries, these, and tables that no rule refers to any more go unless they persist. At the main ruleset's path
-    /// the skip list becomes the ruleset's (pfctl(8), `-f`).
+    /// Loads a ruleset at a path: its rules take the place of those there, each of its tables gets the flags that it
+    /// says and, where it lists entries, these, and tables that no rule refers to any more go unless they persist. At
+    /// the main ruleset's path the skip list becomes the ruleset's (pfctl(8), `-f`).
     ///
-    /// Refused are 24 a block that is deeper than 8 names, and 23 a configuration of more than 1,024 paths. A refused load leaves
-    /// the configuration as it was.
+    /// Refused are 24 a block that is deeper than 8 names, and 23 a configuration of more than 1,024 paths. A refused
+    /// load leaves the configuration as it was.
     pub fn load(&mut self, path: &Path, rules: Ruleset) -> Result<(), ConfigFault>
         ensures { Changes result self.old self.new (load_ruleset self.old path.now (ruleset_of rules)) }
     {
@@ -185,7 +192,8 @@ impl Config {
         definitions: &[TableDef],
         blocks: &[Placing],
     ) -> Result<(), ConfigFault>
-        ensures { Changes result self.old self.new (load self.old skip.items own.now (map definition_of definitions.now) blocks.now) }
+        ensures { Changes result self.old self.new (load self.old skip.items own.now (map definition_of definitions.now)
+            blocks.now) }
     {
         if is_too_deep(own) || any_too_deep(blocks) {
             return Err(ConfigFault::BadPath);
@@ -308,7 +316,8 @@ fn found<'c>(anchor: Option<&'c Anchor>, rest: &[Name]) -> Option<&'c [Name]>
 
 /// The names of the first anchor directly below this one, of those with names above this one.
 fn kid_at<'c>(anchor: Option<&'c Anchor>, after: Option<&Name>) -> Option<&'c [Name]>
-    ensures { option_copied result ≡ and_then (option_copied anchor.entry) (first_kid (is_above (option_copied after.entry))) }
+    ensures { option_copied result ≡ and_then (option_copied anchor.entry)
+        (first_kid (is_above (option_copied after.entry))) }
 {
     anchor?.kid_above(after)
 }
@@ -325,7 +334,10 @@ fn has_room(main: &Anchor) -> bool
 
 /// The table with entries put in, a new one if there is none.
 fn added(alloc: Global, old: Option<&Table>, list: &[TableEntry]) -> Result<Table, ConfigFault>
-    ensures { MatchResult result (λ t. filled (unwrap_or (option_copied old.entry) new_table) (with_entries (unwrap_or (option_copied old.entry) new_table).entries list.now) ≡ Ok t) (λ e. FailsWith e (filled (unwrap_or (option_copied old.entry) new_table) (with_entries (unwrap_or (option_copied old.entry) new_table).entries list.now))) }
+    ensures { MatchResult result (λ t. filled (unwrap_or (option_copied old.entry) new_table)
+        (with_entries (unwrap_or (option_copied old.entry) new_table).entries list.now) ≡ Ok t) (λ e.
+        FailsWith e (filled (unwrap_or (option_copied old.entry) new_table)
+        (with_entries (unwrap_or (option_copied old.entry) new_table).entries list.now))) }
 {
     match old {
         None => {
@@ -344,7 +356,8 @@ fn added(alloc: Global, old: Option<&Table>, list: &[TableEntry]) -> Result<Tabl
 
 /// The table with the list as its contents, a new one if there is none.
 fn replaced(alloc: Global, old: Option<&Table>, list: &[TableEntry]) -> Result<Table, ConfigFault>
-    ensures { MatchResult result (λ t. filled (unwrap_or (option_copied old.entry) new_table) (contents_of list.now) ≡ Ok t) (λ e. FailsWith e (filled (unwrap_or (option_copied old.entry) new_table) (contents_of list.now))) }
+    ensures { MatchResult result (λ t. filled (unwrap_or (option_copied old.entry) new_table) (contents_of list.now)
+        ≡ Ok t) (λ e. FailsWith e (filled (unwrap_or (option_copied old.entry) new_table) (contents_of list.now))) }
 {
     match old {
         None => {
@@ -364,7 +377,8 @@ fn replaced(alloc: Global, old: Option<&Table>, list: &[TableEntry]) -> Result<T
 /// The table, if its entries are few enough.
 fn few_enough(table: Table) -> Result<Table, ConfigFault>
     requires { table.is_const ≡ false }
-    ensures { MatchResult result (λ t. filled table table.entries ≡ Ok t) (λ e. FailsWith e (filled table table.entries)) }
+    ensures { MatchResult result (λ t. filled table table.entries ≡ Ok t) (λ e.
+        FailsWith e (filled table table.entries)) }
 {
     if table.entry_count() > ENTRIES_MAX {
         return Err(ConfigFault::TableFull);

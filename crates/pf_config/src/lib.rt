@@ -2,8 +2,8 @@
 //!
 //! # Organization
 //!
-//! - [`Config`]: a skip list, and the anchors from the main ruleset down. Each change is made whole, or refused and leaves all as
-//!   it was.
+//! - [`Config`]: a skip list, and the anchors from the main ruleset down. Each change is made whole, or refused and
+//!   leaves all as it was.
 //! - [`Anchor`]: what stands at a path and below it.
 //! - [`Table`], of the crate below.
 #![tactic(auto)]

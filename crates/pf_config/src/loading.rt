@@ -93,7 +93,8 @@ pub(crate) fn loaded(
 ) -> Result<Anchor, AllocError>
     requires { main.now.names ≡ [] }
     ensures names { IfOk result (λ a. a.names ≡ []) }
-    ensures map { IfOk result (λ a. a.anchors ≡ loaded own.now (map definition_of definitions.now) blocks.now main.now.anchors) }
+    ensures map { IfOk result (λ a. a.anchors ≡ loaded own.now (map definition_of definitions.now) blocks.now
+        main.now.anchors) }
 {
     let items = own.items()?;
     let first = placed(alloc, main, own.path(), items)?;

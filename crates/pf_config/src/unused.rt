@@ -51,7 +51,11 @@ pub(crate) fn items_refer(name: &TableName, items: &[Item]) -> bool
 
 /// Whether a table of that name at the path stays: any rule refers to main's, a rule of its own anchor to another.
 fn is_used(main: &Anchor, path: &[Name], items: &[Item], name: &TableName) -> bool
-    ensures { result ≡ is_used main.now.anchors (record { path = path.now; rules = map rule_of items.now; tables = [] }) name.now }
+    ensures { result ≡ is_used main.now.anchors (record {
+      path = path.now;
+      rules = map rule_of items.now;
+      tables = [];
+    }) name.now }
 {
     if path.is_empty() {
         main.refers(name)
@@ -68,7 +72,11 @@ pub(crate) fn used_tables(
     items: &[Item],
     tables: &[(TableName, Table)],
 ) -> Result<Vec<(TableName, Table)>, AllocError>
-    ensures { IfOk result (λ v. v.items ≡ used_tables main.now.anchors (record { path = path.now; rules = map rule_of items.now; tables = [] }) tables.now) }
+    ensures { IfOk result (λ v. v.items ≡ used_tables main.now.anchors (record {
+      path = path.now;
+      rules = map rule_of items.now;
+      tables = [];
+    }) tables.now) }
 {
     let mut next = Vec::new(alloc);
     for entry in tables {

@@ -5,7 +5,8 @@ use Rattle.pf_entry.specs.declared.command.Command as rust_command
 use Rattle.pf_entry.specs.declared.command.Command.TheVariants as owned
 use Rattle.pf_entry.specs.declared.command.Entry as rust_entry
 use Rattle.pf_entry.specs.Views.{address_of}
-use Rattle.pf_entry.specs.Entry.{Address, Command, load, flush_rules, flush_tables, flush_all, add, delete, replace, flush_table, Entry, spelling}
+use Rattle.pf_entry.specs.Entry.{Address, Command, load, flush_rules, flush_tables, flush_all, add, delete, replace}
+use Rattle.pf_entry.specs.Entry.{flush_table, Entry, spelling}
 
 abbrev pub addresses_value : List rust_address.TableEntry → List Address
 addresses_value list = map address_of list

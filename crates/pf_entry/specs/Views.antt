@@ -6,7 +6,8 @@ use Rattle.pf_entry.specs.declared.view.Addresses.{Addresses}
 use Rattle.pf_entry.specs.declared.view.CommandView.{CommandView}
 use Rattle.pf_entry.specs.declared.view.CommandView.TheVariants as views
 use Rattle.pf_entry.specs.declared.view.EntryView.{EntryView}
-use Rattle.pf_entry.specs.Entry.{Address, Command, load, flush_rules, flush_tables, flush_all, add, delete, replace, flush_table, Entry}
+use Rattle.pf_entry.specs.Entry.{Address, Command, load, flush_rules, flush_tables, flush_all, add, delete, replace}
+use Rattle.pf_entry.specs.Entry.{flush_table, Entry}
 use Rattle.pf_entry.specs.Reading.{names_in, addresses_in}
 
 abbrev pub address_of : rust.TableEntry → Address

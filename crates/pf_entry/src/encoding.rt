@@ -1,6 +1,7 @@
 //! The bytes of an entry.
 
-ghost use Rattle.std.specs.Prelude.{◌≡◌, ◌≤◌, ◌<◌, IfOk, OnOk, IsErrOf, length, false, IsTrue, ◌||◌, nat_lt};
+ghost use Rattle.std.specs.Prelude.{◌≡◌, ◌≤◌, ◌<◌, IfOk, OnOk, IsErrOf, length, false, IsTrue};
+ghost use Rattle.std.specs.Prelude.{◌||◌, nat_lt};
 ghost use Rattle.pf_entry.specs.Entry.{spelling, EntryBytes};
 ghost use Rattle.pf_entry.specs.Owned.{command_value, entry_value, is_long, is_over};
 ghost use Rattle.pf_entry.specs.declared.fault.EncodeFault.TheVariants.{TooLong};

@@ -4,7 +4,10 @@ ghost use Rattle.std.specs.Prelude.{◌≡◌, option_map};
 ghost use Rattle.std.specs.Int.{w16, w32, w64};
 ghost use Rattle.pf_entry.specs.Entry.{is_name, is_origin};
 ghost use Rattle.pf_ruleset.specs.Names.{begins_below};
-ghost use Rattle.pf_entry.specs.Reading.{byte_at, number_at, text_at, counted_at, name_at, names_at, path_at, table_at, sign_at, base_at, address_at, addresses_at, list_at, load_at, change_at, add_at, delete_at, replace_at, flush_table_at, rest_at, command_at, asked_at, entry_at, reading};
+ghost use Rattle.pf_entry.specs.Reading.{byte_at, number_at, text_at, counted_at, name_at, names_at, path_at, table_at};
+ghost use Rattle.pf_entry.specs.Reading.{sign_at, base_at, address_at, addresses_at, list_at, load_at, change_at};
+ghost use Rattle.pf_entry.specs.Reading.{add_at, delete_at, replace_at, flush_table_at, rest_at, command_at, asked_at};
+ghost use Rattle.pf_entry.specs.Reading.{entry_at, reading};
 ghost use Rattle.pf_entry.specs.Views.{address_of, names_of, addresses_of, command_of, entry_of};
 
 use crate::limits::{ADDRESSES, ASKER, ENTRY_BYTES, HALF, LAST_MEMBER, NAMES, NUMBERS};

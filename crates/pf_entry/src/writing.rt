@@ -1,9 +1,11 @@
 //! Writing an entry at the end of some bytes.
 
-ghost use Rattle.std.specs.Prelude.{◌≡◌, ◌≤◌, ◌<◌, ◌^◌, ◌++◌, ◌∷◌, [], length, map, ◌/◌, ◌%◌, OnOk, IsTrue, ◌==◌, true, false};
+ghost use Rattle.std.specs.Prelude.{◌≡◌, ◌≤◌, ◌<◌, ◌^◌, ◌++◌, ◌∷◌, [], length, map};
+ghost use Rattle.std.specs.Prelude.{◌/◌, ◌%◌, OnOk, IsTrue, ◌==◌, true, false};
 ghost use Rattle.std.specs.List.{flat_map, list_all};
 ghost use Rattle.std.specs.Int.{w32, to_be_bytes};
-ghost use Rattle.pf_entry.specs.Entry.{is_table, are_names, in_family, is_address, rest_fits, counted, path, sign, family, halves, bits, address, addresses, format, kind, path_of, rest, spelling};
+ghost use Rattle.pf_entry.specs.Entry.{is_table, are_names, in_family, is_address, rest_fits, counted, path, sign};
+ghost use Rattle.pf_entry.specs.Entry.{family, halves, bits, address, addresses, format, kind, path_of, rest, spelling};
 ghost use Rattle.pf_entry.specs.Views.{address_of};
 ghost use Rattle.pf_entry.specs.Owned.{addresses_value, command_value, entry_value, is_long};
 

@@ -18,7 +18,8 @@ Reads None ws read = read ≡ None
 Reads (Some x) ws read = read ≡ Some (x, ws)
 
 -- the same where memory may run out
-abbrev pub ReadsAll : {X Y : Type 0} → (X → Y) → Result X PacketFault → List Word → Option (Y × List Word) → Type 0
+abbrev pub ReadsAll : {X Y : Type 0} → (X → Y) → Result X PacketFault → List Word →
+    Option (Y × List Word) → Type 0
 ReadsAll view (Ok x) ws read = read ≡ Some (view x, ws)
 ReadsAll view (Err Memory) ws read = Unit {0}
 ReadsAll view (Err BadPacket) ws read = read ≡ None

@@ -1,5 +1,6 @@
 -- Whether a rule matches a packet: each of its conditions holds (pf.conf(5), PACKET FILTERING and PARAMETERS).
-use Rattle.std.specs.Prelude.{ℕ, Bool, true, false, ◌==◌, ◌&&◌, ◌||◌, Option, Some, None, not, nat_lt, nat_le, if◌then◌else◌}
+use Rattle.std.specs.Prelude.{ℕ, Bool, true, false, ◌==◌, ◌&&◌, ◌||◌, Option, Some, None, not, nat_lt}
+use Rattle.std.specs.Prelude.{nat_le, if◌then◌else◌}
 use Rattle.std.specs.List.{list_any}
 use Rattle.std.specs.Str.{bytes_eq}
 use Rattle.pf_addr.specs.declared.addr.Addr.{Addr}
@@ -15,7 +16,8 @@ use Rattle.pf_ruleset.specs.declared.parts.Addresses.TheVariants.{Prefix, Range,
 use Rattle.pf_ruleset.specs.declared.parts.Host.{Host}
 use Rattle.pf_ruleset.specs.declared.parts.Host.TheVariants as host
 use Rattle.pf_ruleset.specs.declared.parts.PortTest.{PortTest}
-use Rattle.pf_ruleset.specs.declared.parts.PortTest.TheVariants.{Equal, NotEqual, Less, LessEqual, Greater, GreaterEqual, FromTo, Between, Outside}
+use Rattle.pf_ruleset.specs.declared.parts.PortTest.TheVariants.{Equal, NotEqual, Less, LessEqual, Greater}
+use Rattle.pf_ruleset.specs.declared.parts.PortTest.TheVariants.{GreaterEqual, FromTo, Between, Outside}
 use Rattle.pf_words.specs.declared.flags.TcpFlags.{TcpFlags}
 use Rattle.pf_ruleset.specs.declared.parts.FlagTest.{FlagTest}
 use Rattle.pf_ruleset.specs.declared.parts.FlagTest.TheVariants as flags
@@ -42,7 +44,8 @@ if_there test (Some x) = test x
 
 -- the interface is one of the packet's names, or, negated, none of them
 unfoldable pub on_interface : PacketValue → Interface → Bool
-on_interface k i = if i.negated then not (list_any (λ n. bytes_eq n i.name) (interfaces k)) else list_any (λ n. bytes_eq n i.name) (interfaces k)
+on_interface k i = if i.negated then not (list_any (λ n. bytes_eq n i.name) (interfaces k))
+    else list_any (λ n. bytes_eq n i.name) (interfaces k)
 
 abbrev pub of_family : Addr → Family → Bool
 of_family (V4 bits) Inet = true

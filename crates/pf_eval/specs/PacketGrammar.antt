@@ -1,5 +1,7 @@
--- The grammar of packet texts, production by production: which text spells which packet. It knows nothing of how a text is read.
-use Rattle.std.specs.Prelude.{◌≡◌, ◌≢◌, ℕ, true, List, [], ◌∷◌, ◌++◌, Option, Some, None, codes, not}
+-- The grammar of packet texts, production by production: which text spells which packet. It knows nothing of how a text
+-- is read.
+use Rattle.std.specs.Prelude.{◌≡◌, ◌≢◌, ℕ, true, List, [], ◌∷◌, ◌++◌, Option, Some, None, codes}
+use Rattle.std.specs.Prelude.{not}
 use Rattle.std.specs.List.{list_all}
 use Rattle.pf_addr.specs.declared.addr.Addr.{Addr}
 use Rattle.pf_ruleset.specs.declared.parts.Direction.{Direction}
@@ -9,7 +11,8 @@ use Rattle.pf_words.specs.declared.flags.TcpFlags.{TcpFlags}
 use Rattle.pf_words.specs.declared.profile.Profile.TheVariants.{One}
 use Rattle.pf_words.specs.Words.{is_interface_name, protocol_of, flags_of}
 use Rattle.pf_eval.specs.Packets.{PacketValue}
-use Rattle.pf_eval.specs.PacketTexts.{Word, is_blank, name_of, address_of, port_number_of, type_number_of, End, agrees, said_flags}
+use Rattle.pf_eval.specs.PacketTexts.{Word, is_blank, name_of, address_of, port_number_of, type_number_of, End, agrees}
+use Rattle.pf_eval.specs.PacketTexts.{said_flags}
 
 -- ---- words between blanks
 
@@ -26,7 +29,8 @@ pub data AreBlanks : List ℕ → Type 0 where
 -- words with blanks between them, and none at either end
 pub data AreSpaced : List ℕ → List Word → Type 0 where
   LastWord : (word : Word) → IsWord word → AreSpaced word (word ∷ [])
-  MoreWords : (word blanks text : List ℕ) (words : List Word) → IsWord word → AreBlanks blanks → AreSpaced text words → AreSpaced (word ++ (blanks ++ text)) (word ∷ words)
+  MoreWords : (word blanks text : List ℕ) (words : List Word) → IsWord word → AreBlanks blanks →
+      AreSpaced text words → AreSpaced (word ++ (blanks ++ text)) (word ∷ words)
 
 -- ---- the parts of a packet
 
@@ -47,16 +51,18 @@ pub data IsDirection : List Word → Direction → Type 0 where
 -- {"group" IFNAME}
 pub data AreGroups : List Word → List Name → Type 0 where
   NoGroup : AreGroups [] []
-  OneGroup : (name : Name) (ws : List Word) (names : List Name) → is_interface_name One name ≡ true → AreGroups ws names → AreGroups (codes "group" ∷ name ∷ ws) (name ∷ names)
+  OneGroup : (name : Name) (ws : List Word) (names : List Name) → is_interface_name One name ≡ true →
+      AreGroups ws names → AreGroups (codes "group" ∷ name ∷ ws) (name ∷ names)
 
 -- KEY ADDR ["port" N]
 pub data IsEnd (key : Word) : List Word → End → Type 0 where
-  EndOf : (ws us : List Word) (addr : Addr) (port : Option ℕ) → IsKeyed key address_of ws addr → IsOptional (codes "port") port_number_of us port → IsEnd key (ws ++ us) (record { addr = addr; port = port })
+  EndOf : (ws us : List Word) (addr : Addr) (port : Option ℕ) → IsKeyed key address_of ws addr →
+      IsOptional (codes "port") port_number_of us port → IsEnd key (ws ++ us) (record { addr = addr; port = port })
 
 -- ---- the whole
 
--- in|out "on" IFNAME {"group" IFNAME} "proto" PROTO "from" ADDR ["port" N] "to" ADDR ["port" N] ["flags" LETTERS] ["icmp-type" N],
--- whose parts go together
+-- in|out "on" IFNAME {"group" IFNAME} "proto" PROTO "from" ADDR ["port" N] "to" ADDR ["port" N] ["flags" LETTERS]
+-- ["icmp-type" N], whose parts go together
 pub record IsPacket (words : List Word) (k : PacketValue) : Type 0 where
   pub direction : List Word
   pub interface : List Word
@@ -67,7 +73,8 @@ pub record IsPacket (words : List Word) (k : PacketValue) : Type 0 where
   pub flags : List Word
   pub icmp_type : List Word
   pub said : Option TcpFlags
-  pub whole : words ≡ direction ++ (interface ++ (groups ++ (protocol ++ (source ++ (destination ++ (flags ++ icmp_type))))))
+  pub whole : words ≡ direction ++
+      (interface ++ (groups ++ (protocol ++ (source ++ (destination ++ (flags ++ icmp_type))))))
   pub is_direction : IsDirection direction k.direction
   pub is_interface : IsKeyed (codes "on") name_of interface k.interface
   pub are_groups : AreGroups groups k.groups
@@ -77,7 +84,8 @@ pub record IsPacket (words : List Word) (k : PacketValue) : Type 0 where
   pub are_flags : IsOptional (codes "flags") flags_of flags said
   pub flags_said : said_flags said ≡ k.flags
   pub is_type : IsOptional (codes "icmp-type") type_number_of icmp_type k.icmp_type
-  pub agree : agrees k.groups k.protocol (record { addr = k.source; port = k.source_port }) (record { addr = k.destination; port = k.destination_port }) said k.icmp_type ≡ true
+  pub agree : agrees k.groups k.protocol (record { addr = k.source; port = k.source_port })
+      (record { addr = k.destination; port = k.destination_port }) said k.icmp_type ≡ true
 
 -- the text of a packet
 pub record IsPacketText (text : List ℕ) (k : PacketValue) : Type 0 where

@@ -1,5 +1,7 @@
 -- How a packet record is spelled: words between blanks, in a fixed order.
-use Rattle.std.specs.Prelude.{ℕ, ◌-◌, ◌==◌, ◌&&◌, ◌||◌, Bool, true, false, List, [], ◌∷◌, ◌++◌, drop, length, Option, Some, None, is_some, not, nat_le, bytes_eq, codes, get_or, if◌then◌else◌}
+use Rattle.std.specs.Prelude.{ℕ, ◌-◌, ◌==◌, ◌&&◌, ◌||◌, Bool, true, false, List, [], ◌∷◌}
+use Rattle.std.specs.Prelude.{◌++◌, drop, length, Option, Some, None, is_some, not, nat_le, bytes_eq, codes, get_or}
+use Rattle.std.specs.Prelude.{if◌then◌else◌}
 use Rattle.std.specs.Result.{result_ok}
 use Rattle.pf_addr.specs.declared.addr.Addr.{Addr}
 use Rattle.pf_addr.specs.declared.addr.Addr.TheVariants.{V4, V6}
@@ -28,7 +30,8 @@ ended (b ∷ bytes) = (b ∷ bytes) ∷ []
 -- the words of a text of which this word has begun: each longest run of bytes that are no blanks
 abbrev pub words_from : Word → List ℕ → List Word
 words_from begun [] = ended begun
-words_from begun (b ∷ bytes) = if is_blank b then ended begun ++ words_from [] bytes else words_from (begun ++ b ∷ []) bytes
+words_from begun (b ∷ bytes) = if is_blank b then ended begun ++ words_from [] bytes
+    else words_from (begun ++ b ∷ []) bytes
 
 abbrev pub words : List ℕ → List Word
 words text = words_from [] text
@@ -114,7 +117,8 @@ abbrev pub groups_at : List Word → Read (List Word)
 groups_at [] = Some ([], [])
 groups_at (w ∷ []) = if bytes_eq w (codes "group") then None else Some ([], w ∷ [])
 groups_at (w ∷ v ∷ ws) =
-    if bytes_eq w (codes "group") then (name_of v >>= λ name. put_name name (groups_at ws)) else Some ([], w ∷ v ∷ ws)
+    if bytes_eq w (codes "group") then (name_of v >>= λ name. put_name name (groups_at ws))
+    else Some ([], w ∷ v ∷ ws)
 
 -- an address and its port
 pub record End : Type 0 where
@@ -148,8 +152,8 @@ abbrev pub only_if : {X : Type 0} → Bool → Option X → Bool
 only_if true o = true
 only_if false o = not (is_some o)
 
--- the ends are of one family; ports are there for tcp and udp and for no other; flags are for tcp alone, types for icmp alone;
--- there are at most 16 groups
+-- the ends are of one family; ports are there for tcp and udp and for no other; flags are for tcp alone, types for icmp
+-- alone; there are at most 16 groups
 unfoldable pub agrees : List Word → ℕ → End → End → Option TcpFlags → Option ℕ → Bool
 agrees groups protocol source destination flags icmp_type =
     nat_le (length groups) 16

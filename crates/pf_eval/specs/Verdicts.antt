@@ -1,6 +1,7 @@
 -- The verdict: of the rules that match, the last one before the evaluation ends decides (pf.conf(5), "the last matching
 -- rule decides").
-use Rattle.std.specs.Prelude.{ℕ, ◌+◌, Bool, List, [], ◌∷◌, ◌++◌, Option, Some, None, map, if◌then◌else◌}
+use Rattle.std.specs.Prelude.{ℕ, ◌+◌, Bool, List, [], ◌∷◌, ◌++◌, Option, Some, None, map}
+use Rattle.std.specs.Prelude.{if◌then◌else◌}
 use Rattle.std.specs.List.{list_any}
 use Rattle.std.specs.Str.{bytes_eq}
 use Rattle.pf_ruleset.specs.declared.rule.Action.{Action}

@@ -2,8 +2,8 @@
 
 use pf_ruleset::Name;
 
-/// Where the deciding rule stands: the path of its anchor, which has no name where that is the main ruleset, and the rule's
-/// place among the anchor's rules in their expanded order, from 0.
+/// Where the deciding rule stands: the path of its anchor, which has no name where that is the main ruleset, and the
+/// rule's place among the anchor's rules in their expanded order, from 0.
 #[derive(Clone, Copy, Debug)]
 pub struct Spot<'c> {
     /// The path of its anchor.

@@ -1,8 +1,11 @@
 //! The words of a packet text, read from the front.
 
-ghost use Rattle.std.specs.Prelude.{◌≡◌, Some, ◌<◌, drop, length, IsSome, IfSome, IfOk, IfErr, true, map, option_map, codes};
+ghost use Rattle.std.specs.Prelude.{◌≡◌, Some, ◌<◌, drop, length, IsSome, IfSome, IfOk, IfErr, true, map};
+ghost use Rattle.std.specs.Prelude.{option_map, codes};
 ghost use Rattle.std.specs.Option.{option_copied};
-ghost use Rattle.pf_eval.specs.PacketTexts.{is_empty, begins, word_at, word_after, value, keyed, optional, direction_of, name_of, address_of, port_number_of, type_number_of, groups_at, end_at};
+ghost use Rattle.pf_eval.specs.PacketTexts.{is_empty, begins, word_at, word_after, value, keyed, optional};
+ghost use Rattle.pf_eval.specs.PacketTexts.{direction_of, name_of, address_of, port_number_of, type_number_of};
+ghost use Rattle.pf_eval.specs.PacketTexts.{groups_at, end_at};
 ghost use Rattle.pf_words.specs.Words.{protocol_of, flags_of, is_interface_text};
 ghost use Rattle.pf_eval.specs.declared.fault.PacketFault.TheVariants.{Memory};
 ghost use Rattle.pf_eval.specs.Cursors.{left, end_of, Reads, ReadsAll};

@@ -27,7 +27,9 @@ fn decided(action: Action, spot: Spot<'_>) -> Verdict<'_>
 #[tactic(auto, using(crate::proofs::Later::later_or_else))]
 fn last_match<'c>(scope: Scope<'c>, items: &[Item], packet: &Packet) -> Verdict<'c>
     requires { length items.now ≤ 1024 }
-    ensures { judgement_of result ≡ Decided (last_spot (hits_with (tables_of scope.entry) packet.now scope.entry.path.now 0 (map rule_of items.now))) }
+    ensures { judgement_of result ≡
+        Decided (last_spot (hits_with (tables_of scope.entry) packet.now scope.entry.path.now 0
+        (map rule_of items.now))) }
 {
     let mut found = Verdict::Default;
     for (index, item) in items.iter().enumerate() {
@@ -79,7 +81,8 @@ pub fn verdict<'c>(config: &'c Config, packet: &Packet) -> Verdict<'c>
 
 /// The verdict of a ruleset for a packet, its tables taken as empty and its anchors passed over.
 pub fn verdict_flat<'r>(ruleset: &'r Ruleset, packet: &Packet) -> Verdict<'r>
-    ensures { judgement_of result ≡ judgement (flat «ruleset».now.skip.items (map rule_of «ruleset».now.items.items)) packet.now }
+    ensures { judgement_of result ≡
+        judgement (flat «ruleset».now.skip.items (map rule_of «ruleset».now.items.items)) packet.now }
 {
     if is_skipped(&ruleset.skip, packet) {
         return Verdict::Skip;

@@ -2,7 +2,9 @@
 
 ghost use Rattle.std.specs.Prelude.{◌≡◌, ◌==◌};
 ghost use Rattle.pf_eval.specs.Seen.{tables_of};
-ghost use Rattle.pf_eval.specs.Matching.{direction_eq, on_interface, of_family, in_some, in_addresses, at_host, port_passes, flag_passes, just, flags_pass, matches, is_such, is_between, if_set, if_there};
+ghost use Rattle.pf_eval.specs.Matching.{direction_eq, on_interface, of_family, in_some, in_addresses, at_host};
+ghost use Rattle.pf_eval.specs.Matching.{port_passes, flag_passes, just, flags_pass, matches, is_such, is_between};
+ghost use Rattle.pf_eval.specs.Matching.{if_set, if_there};
 
 use crate::packet::Packet;
 use crate::scope::Scope;

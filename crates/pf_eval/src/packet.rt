@@ -30,7 +30,18 @@ impl Model for Packet {
 
     ghost Value = { PacketValue };
 
-    ghost view = { λ p. record { direction = p.direction; interface = p.interface; groups = p.groups.items; protocol = p.protocol; source = p.source; source_port = p.source_port; destination = p.destination; destination_port = p.destination_port; flags = p.flags; icmp_type = p.icmp_type } };
+    ghost view = { λ p. record {
+      direction = p.direction;
+      interface = p.interface;
+      groups = p.groups.items;
+      protocol = p.protocol;
+      source = p.source;
+      source_port = p.source_port;
+      destination = p.destination;
+      destination_port = p.destination_port;
+      flags = p.flags;
+      icmp_type = p.icmp_type;
+    } };
 }
 
 impl Packet {

@@ -1,7 +1,8 @@
 //! Packets from text.
 
 ghost use Rattle.std.specs.Prelude.{◌≡◌, ◌&&◌, map};
-ghost use Rattle.pf_eval.specs.PacketTexts.{same_family, has_ports, is_there_if, only_if, agrees, said_flags, packet_at, packet_of};
+ghost use Rattle.pf_eval.specs.PacketTexts.{same_family, has_ports, is_there_if, only_if, agrees, said_flags};
+ghost use Rattle.pf_eval.specs.PacketTexts.{packet_at, packet_of};
 ghost use Rattle.pf_eval.specs.Cursors.{Answers, end_of};
 
 use crate::cursor::{Cursor, End, interface_name};
@@ -33,7 +34,8 @@ fn has_ports(protocol: u8) -> bool
 
 /// Whether the ends have ports just where the protocol has.
 fn ports_agree(protocol: u8, source: End, destination: End) -> bool
-    ensures { result ≡ (is_there_if (has_ports protocol) source.port && is_there_if (has_ports protocol) destination.port) }
+    ensures { result ≡ (is_there_if (has_ports protocol) source.port &&
+        is_there_if (has_ports protocol) destination.port) }
 {
     source.port.is_some() == has_ports(protocol)
         && destination.port.is_some() == has_ports(protocol)

@@ -1,9 +1,11 @@
 -- Why a statement is refused, and the numbers of the refusals.
-use Rattle.std.specs.Prelude.{ℕ, ◌+◌, ◌==◌, ◌&&◌, ◌||◌, Bool, true, false, List, [], ◌∷◌, length, Option, Some, None, is_none, is_some, nat_lt, not, if◌then◌else◌}
+use Rattle.std.specs.Prelude.{ℕ, ◌+◌, ◌==◌, ◌&&◌, ◌||◌, Bool, true, false, List, [], ◌∷◌}
+use Rattle.std.specs.Prelude.{length, Option, Some, None, is_none, is_some, nat_lt, not, if◌then◌else◌}
 use Rattle.std.specs.List.{list_any, list_all}
 use Rattle.pf_tokens.specs.Lists.{Elements}
 use Rattle.pf_expansion.specs.declared.cause.Cause.{Cause}
-use Rattle.pf_expansion.specs.declared.cause.Cause.TheVariants.{Lexical, Macro, Syntax, Ports, NoCombination, Twice, SetHere, TooMany, IcmpType}
+use Rattle.pf_expansion.specs.declared.cause.Cause.TheVariants.{Lexical, Macro, Syntax, Ports, NoCombination, Twice}
+use Rattle.pf_expansion.specs.declared.cause.Cause.TheVariants.{SetHere, TooMany, IcmpType}
 use Rattle.pf_conditions.specs.declared.written.Protocol.{Protocol}
 use Rattle.pf_conditions.specs.declared.written.WrittenPort.{WrittenPort}
 use Rattle.pf_conditions.specs.declared.written.WrittenType.{WrittenType}
@@ -76,12 +78,14 @@ has_no_combination test text = not (is_too_wide text) && is_empty (combined test
 
 unfoldable pub has_deep_list : ConditionsText → Bool
 has_deep_list text =
-    is_deep_list text.common.interfaces || is_deep_list text.common.protocols || is_deep text.common.source.hosts || is_deep_list text.common.source.ports
+    is_deep_list text.common.interfaces || is_deep_list text.common.protocols || is_deep text.common.source.hosts ||
+    is_deep_list text.common.source.ports
     || is_deep text.common.destination.hosts || is_deep_list text.common.destination.ports || is_deep_list text.types
 
 -- with those so many that stand before there are more than 1,024 rules
 unfoldable pub has_too_many : FlagTest → ℕ → ConditionsText → Bool
-has_too_many test before text = is_too_wide text || has_deep_list text || nat_lt 1024 (before + length (combined test text))
+has_too_many test before text = is_too_wide text || has_deep_list text ||
+    nat_lt 1024 (before + length (combined test text))
 
 -- ---- types of ICMP (19)
 
@@ -92,7 +96,8 @@ abbrev pub is_icmp : Protocol → Bool
 is_icmp p = p.number == 1
 
 unfoldable pub bad_types : ConditionsText → Bool
-bad_types text = any_listed is_bad_type text.types || (is_some text.types && not (all_listed is_icmp text.common.protocols))
+bad_types text = any_listed is_bad_type text.types ||
+    (is_some text.types && not (all_listed is_icmp text.common.protocols))
 
 -- ---- the causes of a rule
 
@@ -104,7 +109,10 @@ lowest (row ∷ rows) = if row.0 then Some row.1 else lowest rows
 -- each cause with its test, the lowest first, where so many rules stand before
 abbrev pub condition_causes : FlagTest → ℕ → ConditionsText → List (Bool × Cause)
 condition_causes test before text =
-    (bad_ports text, Ports) ∷ (has_no_combination test text, NoCombination) ∷ (has_too_many test before text, TooMany) ∷ (bad_types text, IcmpType) ∷ []
+    (bad_ports text, Ports) ∷ (has_no_combination test text, NoCombination) ∷ (
+      has_too_many test before text,
+      TooMany,
+    ) ∷ (bad_types text, IcmpType) ∷ []
 
 abbrev pub rule_causes : ℕ → RuleText → List (Bool × Cause)
 rule_causes before text = condition_causes (rule_flags text) before text.conditions

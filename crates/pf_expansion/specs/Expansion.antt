@@ -1,5 +1,5 @@
--- The conditions of each combination of what is listed, in the order of the lists, the interface outermost and the type of ICMP
--- innermost (pf.conf(5), lists).
+-- The conditions of each combination of what is listed, in the order of the lists, the interface outermost and the type
+-- of ICMP innermost (pf.conf(5), lists).
 use Rattle.std.specs.Prelude.{ℕ, ◌*◌, Bool, true, false, List, [], ◌∷◌, length, map, Option, Some, None}
 use Rattle.std.specs.List.{flat_map}
 use Rattle.pf_tokens.specs.Lists.{Elements}
@@ -134,7 +134,8 @@ conditions_with test text c family = record {
 }
 
 abbrev pub families : ConditionsText → Combination → List (Option Family)
-families text c = text.common.family ∷ host_family c.source ∷ host_family c.destination ∷ type_family c.icmp_type ∷ []
+families text c = text.common.family ∷ host_family c.source ∷ host_family c.destination ∷
+    type_family c.icmp_type ∷ []
 
 abbrev pub conditions_if : FlagTest → ConditionsText → Combination → Option (Option Family) → List Conditions
 conditions_if test text c None = []
@@ -149,26 +150,40 @@ unfoldable pub by_type : FlagTest → ConditionsText → Combination → List Co
 by_type test text c = flat_map (λ t. conditions_at test text (record c { icmp_type = t })) (choices text.types)
 
 unfoldable pub by_destination_port : FlagTest → ConditionsText → Combination → List Conditions
-by_destination_port test text c = flat_map (λ port. by_type test text (record c { destination_port = port })) (choices text.common.destination.ports)
+by_destination_port test text c = flat_map (λ port. by_type test text (record c { destination_port = port }))
+    (choices text.common.destination.ports)
 
 unfoldable pub by_destination : FlagTest → ConditionsText → Combination → List Conditions
-by_destination test text c = flat_map (λ h. by_destination_port test text (record c { destination = h })) text.common.destination.hosts.items
+by_destination test text c = flat_map (λ h. by_destination_port test text (record c { destination = h }))
+    text.common.destination.hosts.items
 
 unfoldable pub by_source_port : FlagTest → ConditionsText → Combination → List Conditions
-by_source_port test text c = flat_map (λ port. by_destination test text (record c { source_port = port })) (choices text.common.source.ports)
+by_source_port test text c = flat_map (λ port. by_destination test text (record c { source_port = port }))
+    (choices text.common.source.ports)
 
 unfoldable pub by_source : FlagTest → ConditionsText → Combination → List Conditions
-by_source test text c = flat_map (λ h. by_source_port test text (record c { source = h })) text.common.source.hosts.items
+by_source test text c = flat_map (λ h. by_source_port test text (record c { source = h }))
+    text.common.source.hosts.items
 
 unfoldable pub by_protocol : FlagTest → ConditionsText → Combination → List Conditions
-by_protocol test text c = flat_map (λ n. by_source test text (record c { protocol = n })) (choices text.common.protocols)
+by_protocol test text c = flat_map (λ n. by_source test text (record c { protocol = n }))
+    (choices text.common.protocols)
 
 unfoldable pub by_interface : FlagTest → ConditionsText → Combination → List Conditions
-by_interface test text c = flat_map (λ i. by_protocol test text (record c { interface = i })) (choices text.common.interfaces)
+by_interface test text c = flat_map (λ i. by_protocol test text (record c { interface = i }))
+    (choices text.common.interfaces)
 
 -- nothing is chosen yet
 abbrev pub nothing_chosen : Combination
-nothing_chosen = record { interface = None; protocol = None; source = host.Any; source_port = None; destination = host.Any; destination_port = None; icmp_type = None }
+nothing_chosen = record {
+  interface = None;
+  protocol = None;
+  source = host.Any;
+  source_port = None;
+  destination = host.Any;
+  destination_port = None;
+  icmp_type = None;
+}
 
 -- what the lists come to, where this is asked of the flags
 unfoldable pub combined : FlagTest → ConditionsText → List Conditions

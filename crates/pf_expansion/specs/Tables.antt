@@ -1,5 +1,6 @@
 -- What a table statement comes to, and why one is refused.
-use Rattle.std.specs.Prelude.{ℕ, ◌||◌, Bool, true, false, List, [], ◌∷◌, ◌++◌, length, fold, Option, Some, None, option_map, nat_lt, if◌then◌else◌}
+use Rattle.std.specs.Prelude.{ℕ, ◌||◌, Bool, true, false, List, [], ◌∷◌, ◌++◌, length, fold, Option}
+use Rattle.std.specs.Prelude.{Some, None, option_map, nat_lt, if◌then◌else◌}
 use Rattle.std.specs.List.{list_any}
 use Rattle.std.specs.Str.{bytes_eq}
 use Rattle.std.specs.Ordering.{is_eq}
@@ -29,7 +30,12 @@ first_of_each entries = fold with_first [] entries
 
 -- what a table statement comes to
 abbrev pub table_value : TableText → TableValue
-table_value t = record { name = t.name; persist = t.persist; is_const = t.is_const; entries = option_map (λ (list : Elements TableEntry). first_of_each list.items) t.entries }
+table_value t = record {
+  name = t.name;
+  persist = t.persist;
+  is_const = t.is_const;
+  entries = option_map (λ (list : Elements TableEntry). first_of_each list.items) t.entries;
+}
 
 -- ---- causes
 

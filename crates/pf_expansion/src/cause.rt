@@ -2,13 +2,14 @@
 
 ghost use Rattle.std.specs.Prelude.{◌≡◌};
 
-/// What is wrong with a statement. The numbers are those of the refusals; where several hold the lowest counts, after the
-/// faults that come up while the statement is read.
+/// What is wrong with a statement. The numbers are those of the refusals; where several hold the lowest counts, after
+/// the faults that come up while the statement is read.
 #[derive(Clone, Copy, Debug, PartialEq, Eq)]
 pub enum Cause {
     /// 10: a byte that begins no token, or a string that doesn't close on its line.
     Lexical,
-    /// 11: an unknown macro, or a definition of one with a bad name, a `$` or `#` in a string, or more than 4,096 bytes.
+    /// 11: an unknown macro, or a definition of one with a bad name, a `$` or `#` in a string, or more than 4,096
+    /// bytes.
     Macro,
     /// 12: the grammar doesn't spell it.
     Syntax,

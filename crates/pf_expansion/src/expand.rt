@@ -3,7 +3,10 @@
 ghost use Rattle.std.specs.Prelude.{◌≡◌, ◌++◌, OnOk, IfOk, is_none};
 ghost use Rattle.std.specs.Option.{option_copied};
 ghost use Rattle.pf_expansion.specs.Chosen.{combination_of, host_families};
-ghost use Rattle.pf_expansion.specs.Expansion.{addresses_family, host_family, type_family, with_family, occurring, families, number_in, test_in, type_in, conditions_with, conditions_at, by_type, by_destination_port, by_destination, by_source_port, by_source, by_protocol, by_interface, combined};
+ghost use Rattle.pf_expansion.specs.Expansion.{addresses_family, host_family, type_family, with_family, occurring};
+ghost use Rattle.pf_expansion.specs.Expansion.{families, number_in, test_in, type_in, conditions_with, conditions_at};
+ghost use Rattle.pf_expansion.specs.Expansion.{by_type, by_destination_port, by_destination, by_source_port, by_source};
+ghost use Rattle.pf_expansion.specs.Expansion.{by_protocol, by_interface, combined};
 ghost use Rattle.pf_conditions.specs.Seen.{conditions_of};
 
 use pf_addr::Family;
@@ -161,7 +164,8 @@ fn conditions_with(
     chosen: &Chosen<'_>,
     family: Option<Family>,
 ) -> Result<Conditions, AllocError>
-    ensures { IfOk result (λ c. c ≡ conditions_with test (conditions_of text.now) (combination_of chosen.now) family) }
+    ensures { IfOk result (λ c. c ≡ conditions_with test (conditions_of text.now) (combination_of chosen.now)
+        family) }
 {
     Ok(Conditions {
         direction: text.direction,
@@ -186,7 +190,8 @@ fn push_chosen(
     text: &WrittenConditions,
     chosen: &Chosen<'_>,
 ) -> Result<(), AllocError>
-    ensures { OnOk result (found.new.items ≡ found.old.items ++ conditions_at test (conditions_of text.now) (combination_of chosen.now)) }
+    ensures { OnOk result (found.new.items ≡ found.old.items ++ conditions_at test (conditions_of text.now)
+        (combination_of chosen.now)) }
 {
     match occurring(text, chosen) {
         Some(family) => {
@@ -207,7 +212,8 @@ fn push_types(
     text: &WrittenConditions,
     chosen: &Chosen<'_>,
 ) -> Result<(), AllocError>
-    ensures { OnOk result (found.new.items ≡ found.old.items ++ by_type test (conditions_of text.now) (combination_of chosen.now)) }
+    ensures { OnOk result (found.new.items ≡ found.old.items ++ by_type test (conditions_of text.now)
+        (combination_of chosen.now)) }
 {
     let Some(types) = &text.types else {
         let chosen = Chosen {
@@ -235,7 +241,8 @@ fn push_destination_ports(
     text: &WrittenConditions,
     chosen: &Chosen<'_>,
 ) -> Result<(), AllocError>
-    ensures { OnOk result (found.new.items ≡ found.old.items ++ by_destination_port test (conditions_of text.now) (combination_of chosen.now)) }
+    ensures { OnOk result (found.new.items ≡ found.old.items ++ by_destination_port test (conditions_of text.now)
+        (combination_of chosen.now)) }
 {
     let Some(ports) = &text.common.destination.ports else {
         let chosen = Chosen {
@@ -262,7 +269,8 @@ fn push_between(
     text: &WrittenConditions,
     chosen: &Chosen<'_>,
 ) -> Result<(), AllocError>
-    ensures { OnOk result (found.new.items ≡ found.old.items ++ by_destination_port test (conditions_of text.now) (combination_of chosen.now)) }
+    ensures { OnOk result (found.new.items ≡ found.old.items ++ by_destination_port test (conditions_of text.now)
+        (combination_of chosen.now)) }
 {
     if has_two_families(text, chosen) {
         return Ok(());
@@ -279,7 +287,8 @@ fn push_destinations(
     text: &WrittenConditions,
     chosen: &Chosen<'_>,
 ) -> Result<(), AllocError>
-    ensures { OnOk result (found.new.items ≡ found.old.items ++ by_destination test (conditions_of text.now) (combination_of chosen.now)) }
+    ensures { OnOk result (found.new.items ≡ found.old.items ++ by_destination test (conditions_of text.now)
+        (combination_of chosen.now)) }
 {
     for destination in &text.common.destination.hosts.items {
         let chosen = Chosen {
@@ -300,7 +309,8 @@ fn push_source_ports(
     text: &WrittenConditions,
     chosen: &Chosen<'_>,
 ) -> Result<(), AllocError>
-    ensures { OnOk result (found.new.items ≡ found.old.items ++ by_source_port test (conditions_of text.now) (combination_of chosen.now)) }
+    ensures { OnOk result (found.new.items ≡ found.old.items ++ by_source_port test (conditions_of text.now)
+        (combination_of chosen.now)) }
 {
     let Some(ports) = &text.common.source.ports else {
         let chosen = Chosen {
@@ -328,7 +338,8 @@ fn push_sources(
     text: &WrittenConditions,
     chosen: &Chosen<'_>,
 ) -> Result<(), AllocError>
-    ensures { OnOk result (found.new.items ≡ found.old.items ++ by_source test (conditions_of text.now) (combination_of chosen.now)) }
+    ensures { OnOk result (found.new.items ≡ found.old.items ++ by_source test (conditions_of text.now)
+        (combination_of chosen.now)) }
 {
     for source in &text.common.source.hosts.items {
         let chosen = Chosen { source, ..*chosen };
@@ -346,7 +357,8 @@ fn push_protocols(
     text: &WrittenConditions,
     chosen: &Chosen<'_>,
 ) -> Result<(), AllocError>
-    ensures { OnOk result (found.new.items ≡ found.old.items ++ by_protocol test (conditions_of text.now) (combination_of chosen.now)) }
+    ensures { OnOk result (found.new.items ≡ found.old.items ++ by_protocol test (conditions_of text.now)
+        (combination_of chosen.now)) }
 {
     let Some(protocols) = &text.common.protocols else {
         let chosen = Chosen {
@@ -374,7 +386,8 @@ fn push_interfaces(
     text: &WrittenConditions,
     chosen: &Chosen<'_>,
 ) -> Result<(), AllocError>
-    ensures { OnOk result (found.new.items ≡ found.old.items ++ by_interface test (conditions_of text.now) (combination_of chosen.now)) }
+    ensures { OnOk result (found.new.items ≡ found.old.items ++ by_interface test (conditions_of text.now)
+        (combination_of chosen.now)) }
 {
     let Some(interfaces) = &text.common.interfaces else {
         let chosen = Chosen {
@@ -393,8 +406,8 @@ fn push_interfaces(
     Ok(())
 }
 
-/// The conditions of all combinations, the interface outermost and the type of ICMP innermost (pf.conf(5), lists), where
-/// this is asked of the flags. A combination of two families gives none.
+/// The conditions of all combinations, the interface outermost and the type of ICMP innermost (pf.conf(5), lists),
+/// where this is asked of the flags. A combination of two families gives none.
 #[tactic(auto, unfolding(crate::specs::Expansion::combined))]
 pub(crate) fn combined(
     alloc: Global,

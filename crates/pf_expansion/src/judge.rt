@@ -1,8 +1,11 @@
 //! Why a written rule is refused, the lowest cause first.
 
-ghost use Rattle.std.specs.Prelude.{◌≡◌, ◌≤◌, ◌+◌, ◌*◌, ◌-◌, ◌^◌, length, min, IfOk, IfErr, None, Some};
+ghost use Rattle.std.specs.Prelude.{◌≡◌, ◌≤◌, ◌+◌, ◌*◌, ◌-◌, ◌^◌, length, min, IfOk, IfErr};
+ghost use Rattle.std.specs.Prelude.{None, Some};
 ghost use Rattle.std.specs.List.{list_any, list_all};
-ghost use Rattle.pf_expansion.specs.Causes.{is_bad_port, has_ports, is_bad_type, is_icmp, any_listed, all_listed, is_deep, is_deep_list, says_ports, bad_ports, is_too_wide, has_deep_list, bad_types, lowest, condition_causes};
+ghost use Rattle.pf_expansion.specs.Causes.{is_bad_port, has_ports, is_bad_type, is_icmp, any_listed, all_listed};
+ghost use Rattle.pf_expansion.specs.Causes.{is_deep, is_deep_list, says_ports, bad_ports, is_too_wide, has_deep_list};
+ghost use Rattle.pf_expansion.specs.Causes.{bad_types, lowest, condition_causes};
 ghost use Rattle.pf_expansion.specs.Expansion.{count_of, combinations, combined};
 ghost use Rattle.pf_conditions.specs.Seen.{list_of, conditions_of};
 ghost use Rattle.pf_tokens.specs.Lists.{elements_of};
@@ -224,10 +227,13 @@ pub(crate) fn judge_conditions(
     before: usize,
     text: &WrittenConditions,
 ) -> Result<Result<Vec<Conditions>, Cause>, AllocError>
-    ensures allowed { IfOk result (λ judged. IfOk judged (λ found. lowest (condition_causes test before (conditions_of text.now)) ≡ None)) }
-    ensures found { IfOk result (λ judged. IfOk judged (λ found. found.items ≡ combined test (conditions_of text.now))) }
+    ensures allowed { IfOk result (λ judged.
+        IfOk judged (λ found. lowest (condition_causes test before (conditions_of text.now)) ≡ None)) }
+    ensures found { IfOk result (λ judged. IfOk judged (λ found. found.items ≡
+        combined test (conditions_of text.now))) }
     ensures few { IfOk result (λ judged. IfOk judged (λ found. before + length found.items ≤ 1024)) }
-    ensures refused { IfOk result (λ judged. IfErr judged (λ cause. lowest (condition_causes test before (conditions_of text.now)) ≡ Some cause)) }
+    ensures refused { IfOk result (λ judged.
+        IfErr judged (λ cause. lowest (condition_causes test before (conditions_of text.now)) ≡ Some cause)) }
 {
     if bad_ports(text) {
         return Ok(Err(Cause::Ports));

@@ -2,7 +2,8 @@
 //!
 //! # Organization
 //!
-//! - [`judge_rule`]: one [`Rule`](pf_ruleset::Rule) for each combination of what a rule lists, or the lowest [`Cause`] that refuses it.
+//! - [`judge_rule`]: one [`Rule`](pf_ruleset::Rule) for each combination of what a rule lists, or the lowest [`Cause`]
+//!   that refuses it.
 //! - [`judge_table`]: the table that a table statement defines, or the lowest cause that refuses it.
 //! - [`is_deep`]: whether too many lists stand in one another.
 #![tactic(auto)]

@@ -115,10 +115,13 @@ pub fn judge_rule(
     before: usize,
     text: &WrittenRule,
 ) -> Result<Result<Vec<Rule>, Cause>, AllocError>
-    ensures allowed { IfOk result (λ judged. IfOk judged (λ rules. lowest (rule_causes before (text_of text.now)) ≡ None)) }
-    ensures rules { IfOk result (λ judged. IfOk judged (λ rules. rules.items ≡ expanded policy (text_of text.now))) }
+    ensures allowed { IfOk result (λ judged. IfOk judged (λ rules. lowest (rule_causes before (text_of text.now)) ≡
+        None)) }
+    ensures rules { IfOk result (λ judged. IfOk judged (λ rules. rules.items ≡
+        expanded policy (text_of text.now))) }
     ensures few { IfOk result (λ judged. IfOk judged (λ rules. before + length rules.items ≤ 1024)) }
-    ensures refused { IfOk result (λ judged. IfErr judged (λ cause. lowest (rule_causes before (text_of text.now)) ≡ Some cause)) }
+    ensures refused { IfOk result (λ judged. IfErr judged (λ cause. lowest (rule_causes before (text_of text.now)) ≡
+        Some cause)) }
 {
     match judge_conditions(alloc, rule_flags(text), before, &text.conditions)? {
         Ok(found) => Ok(Ok(rules_with(alloc, policy, text, found)?)),

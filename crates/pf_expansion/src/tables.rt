@@ -77,9 +77,13 @@ pub fn judge_table(
     tables: &[TableDef],
     text: WrittenTable,
 ) -> Result<Result<TableDef, Cause>, AllocError>
-    ensures allowed { let said = table_text_of text in IfOk result (λ judged. IfOk judged (λ table. lowest (table_causes (map table_of tables.now) said) ≡ None)) }
-    ensures table { let said = table_text_of text in IfOk result (λ judged. IfOk judged (λ table. table_of table ≡ table_value said)) }
-    ensures refused { let said = table_text_of text in IfOk result (λ judged. IfErr judged (λ cause. lowest (table_causes (map table_of tables.now) said) ≡ Some cause)) }
+    ensures allowed { let said = table_text_of text in
+        IfOk result (λ judged. IfOk judged (λ table. lowest (table_causes (map table_of tables.now) said) ≡ None)) }
+    ensures table { let said = table_text_of text in IfOk result (λ judged. IfOk judged (λ table. table_of table ≡
+        table_value said)) }
+    ensures refused { let said = table_text_of text in
+        IfOk result (λ judged. IfErr judged (λ cause. lowest (table_causes (map table_of tables.now) said) ≡
+        Some cause)) }
 {
     if is_defined(tables, &text.name) {
         return Ok(Err(Cause::Twice));

@@ -27,7 +27,8 @@ with_change sofar (changes.Defines made) = record sofar { macros = sofar.macros 
 with_change sofar (changes.Sets said) = record sofar { policy = said }
 with_change sofar (changes.Skips names) = record sofar { skip = sofar.skip ++ names.items }
 with_change sofar (changes.Tables table) = record sofar { tables = sofar.tables ++ table_of table ∷ [] }
-with_change sofar (changes.Adds rules) = record sofar { items = sofar.items ++ map (λ (r : Rule). Filter r) rules.items }
+with_change sofar (changes.Adds rules) =
+    record sofar { items = sofar.items ++ map (λ (r : Rule). Filter r) rules.items }
 
 -- what the statement changes, or its refusal; unless memory ran out
 abbrev pub Judges : Sofar → Result Change ParseFault → Result Sofar Refusal → Type 0

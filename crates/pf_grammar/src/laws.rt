@@ -7,8 +7,9 @@ ghost use Rattle.pf_grammar.specs.declared.place.Place.{Place as IPlace};
 ghost use Rattle.pf_words.specs.declared.profile.Profile.{Profile as IProfile};
 ghost use Rattle.std.specs.Prelude.{List, Ok, length, ◌≡◌, ◌≤◌, ℕ};
 
-/// A ruleset that a text gives is what its shown text gives at the same place and profile, where the line of the skipped
-/// interfaces has no more than the 65,536 tokens that a statement may have.
+/// A ruleset that a text gives is what its shown text gives at the same place and profile, where the line of the
+/// skipped interfaces has no more than the 65,536 tokens that a statement may have.
 pub fn reading_again()
-    ensures { (place : IPlace) (profile : IProfile) (text : List ℕ) (r : RulesetValue) → length r.skip ≤ 65531 → reading place profile text ≡ Ok r → reading place profile (shown r) ≡ Ok r }
+    ensures { (place : IPlace) (profile : IProfile) (text : List ℕ) (r : RulesetValue) → length r.skip ≤ 65531 →
+        reading place profile text ≡ Ok r → reading place profile (shown r) ≡ Ok r }
 {}

@@ -5,8 +5,8 @@
 //! - [`parse`] reads a text for a [`Place`] in a [`Profile`]: its [`Ruleset`], or its first refused statement.
 //! - [`Cause`], why a statement is refused.
 //! - [`reading_again`]: what is shown of a ruleset is read as that ruleset.
-//! - Of the layers below: [`show`] and [`show_items`] write a ruleset or its rules in one form; [`Rule`] and the types of its parts;
-//!   [`reads_the_grammar`], a statement is read exactly as the grammar spells it.
+//! - Of the layers below: [`show`] and [`show_items`] write a ruleset or its rules in one form; [`Rule`] and the types
+//!   of its parts; [`reads_the_grammar`], a statement is read exactly as the grammar spells it.
 #![tactic(auto)]
 
 mod fault;

@@ -1,8 +1,8 @@
 //! Short texts and what `pfx` writes of each: the stored input has the texts, the stored output what is to be written.
 //!
-//! A row of the input is a line `== WORD..`, its words between tabs, and the text up to the newline before the next such line.
-//! What stands before the first one is passed over. Of each row the output has the same line, what the run writes, and a line
-//! `-- STATUS`.
+//! A row of the input is a line `== WORD..`, its words between tabs, and the text up to the newline before the next
+//! such line. What stands before the first one is passed over. Of each row the output has the same line, what the run
+//! writes, and a line `-- STATUS`.
 #![tactic(auto)]
 
 use pf_tool::run;

@@ -20,7 +20,12 @@ pub record RulesetValue : Type 0 where
   pub items : List Item
 
 abbrev pub table_of : TableDef → TableValue
-table_of t = record { name = t.name; persist = t.persist; is_const = t.is_const; entries = option_map (λ v. v.items) t.entries }
+table_of t = record {
+  name = t.name;
+  persist = t.persist;
+  is_const = t.is_const;
+  entries = option_map (λ v. v.items) t.entries;
+}
 
 abbrev pub ruleset_of : Ruleset → RulesetValue
 ruleset_of r = record { skip = r.skip.items; tables = map table_of r.tables.items; items = r.items.items }

@@ -9,8 +9,8 @@ use pf_words::is_interface_text;
 use std::alloc::{AllocError, Global};
 use std::marker::Model;
 
-/// The name of an interface or of a group of them: a letter, and up to 14 letters, digits, `_`, `-` and `.` (pf.conf(5),
-/// `on`). It is seen as its bytes.
+/// The name of an interface or of a group of them: a letter, and up to 14 letters, digits, `_`, `-` and `.`
+/// (pf.conf(5), `on`). It is seen as its bytes.
 #[derive(Debug, Drop)]
 pub struct InterfaceName {
     text: String,

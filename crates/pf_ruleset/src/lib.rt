@@ -2,7 +2,8 @@
 //!
 //! # Organization
 //!
-//! - [`InterfaceName`], [`TableName`] and [`Name`], of an anchor within another: each has its form; [`Path`] of an anchor.
+//! - [`InterfaceName`], [`TableName`] and [`Name`], of an anchor within another: each has its form; [`Path`] of an
+//!   anchor.
 //! - [`Host`], [`PortTest`], [`FlagTest`], [`Interface`] and others: the parts of which rules are made.
 //! - [`Rule`], its [`Action`] and the [`Conditions`] under which it matches.
 //! - [`Ruleset`]: skipped interfaces, tables with their [`TableEntry`]s, and an [`Item`] for each rule.

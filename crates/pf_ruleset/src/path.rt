@@ -11,8 +11,8 @@ use std::marker::Model;
 /// How many names a path has at most.
 pub const PATH_MAX: usize = 8;
 
-/// The path of an anchor that commands may name: the names of the anchors that lead to it, 8 at most, none of an unnamed
-/// block. The main ruleset's path has no name (pf.conf(5), ANCHORS).
+/// The path of an anchor that commands may name: the names of the anchors that lead to it, 8 at most, none of an
+/// unnamed block. The main ruleset's path has no name (pf.conf(5), ANCHORS).
 #[derive(Debug, Drop)]
 pub struct Path {
     names: Vec<Name>,

@@ -25,8 +25,8 @@ pub struct TableDef {
     pub persist: bool,
     /// Whether commands may not change its entries.
     pub is_const: bool,
-    /// Its entries, the first of each prefix, in the order of the text; none where the text has no list, and the contents stay
-    /// as they are.
+    /// Its entries, the first of each prefix, in the order of the text; none where the text has no list, and the
+    /// contents stay as they are.
     pub entries: Option<Vec<TableEntry>>,
 }
 

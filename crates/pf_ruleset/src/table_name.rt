@@ -12,8 +12,8 @@ use std::alloc::{AllocError, Global};
 use std::cmp::Ordering;
 use std::marker::Model;
 
-/// The name of a table: 1 to 31 letters, digits, `_` and `-`, but no word that both profiles reserve (pf.conf(5), TABLES).
-/// It is seen as its bytes.
+/// The name of a table: 1 to 31 letters, digits, `_` and `-`, but no word that both profiles reserve (pf.conf(5),
+/// TABLES). It is seen as its bytes.
 #[derive(Debug, Drop)]
 pub struct TableName {
     text: String,

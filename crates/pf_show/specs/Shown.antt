@@ -1,5 +1,6 @@
 -- How a ruleset is shown: a line for each part, its words between single blanks.
-use Rattle.std.specs.Prelude.{ℕ, Bool, true, false, List, [], ◌∷◌, ◌++◌, Option, Some, None, codes, decimal, map}
+use Rattle.std.specs.Prelude.{ℕ, Bool, true, false, List, [], ◌∷◌, ◌++◌, Option, Some, None, codes, decimal}
+use Rattle.std.specs.Prelude.{map}
 use Rattle.pf_addr.specs.Shown.{shown_addr, shown_prefix}
 use Rattle.pf_ruleset.specs.declared.rule.Action.{Action}
 use Rattle.pf_ruleset.specs.declared.rule.Action.TheVariants.{Pass, Drop, Return}
@@ -13,7 +14,8 @@ use Rattle.pf_ruleset.specs.declared.parts.Addresses.TheVariants.{Prefix, Range,
 use Rattle.pf_ruleset.specs.declared.parts.Host.{Host}
 use Rattle.pf_ruleset.specs.declared.parts.Host.TheVariants as host
 use Rattle.pf_ruleset.specs.declared.parts.PortTest.{PortTest}
-use Rattle.pf_ruleset.specs.declared.parts.PortTest.TheVariants.{Equal, NotEqual, Less, LessEqual, Greater, GreaterEqual, FromTo, Between, Outside}
+use Rattle.pf_ruleset.specs.declared.parts.PortTest.TheVariants.{Equal, NotEqual, Less, LessEqual, Greater}
+use Rattle.pf_ruleset.specs.declared.parts.PortTest.TheVariants.{GreaterEqual, FromTo, Between, Outside}
 use Rattle.pf_words.specs.declared.flags.TcpFlags.{TcpFlags}
 use Rattle.pf_ruleset.specs.declared.parts.FlagTest.{FlagTest}
 use Rattle.pf_ruleset.specs.declared.parts.FlagTest.TheVariants as flags
@@ -146,7 +148,8 @@ condition_parts c =
 unfoldable pub rule_parts : Rule → List Part
 rule_parts r =
     action_parts r.action ++ (direction_parts r.conditions.direction ++ (quick_parts r.quick
-    ++ (condition_parts r.conditions ++ (flags_parts r.action r.conditions.flags ++ state_parts r.action r.keeps_state))))
+    ++ (condition_parts r.conditions ++ (flags_parts r.action r.conditions.flags ++
+    state_parts r.action r.keeps_state))))
 
 -- ---- lines
 
@@ -167,7 +170,8 @@ shown_items (Filter r ∷ items) = line (rule_parts r) ++ shown_items items
 -- set skip on { a b }, unless there is nothing to skip
 abbrev pub skip_line : List Name → List ℕ
 skip_line [] = []
-skip_line (name ∷ names) = line (codes "set" ∷ codes "skip" ∷ codes "on" ∷ codes "{" ∷ ((name ∷ names) ++ codes "}" ∷ []))
+skip_line (name ∷ names) = line (codes "set" ∷ codes "skip" ∷ codes "on" ∷ codes "{" ∷
+    ((name ∷ names) ++ codes "}" ∷ []))
 
 -- ---- tables
 
@@ -186,7 +190,8 @@ word_parts true word = word ∷ []
 word_parts false word = []
 
 unfoldable pub table_parts : TableValue → List Part
-table_parts t = codes "table" ∷ table_sign t.name ∷ (word_parts t.persist (codes "persist") ++ (word_parts t.is_const (codes "const") ++ entries_parts t.entries))
+table_parts t = codes "table" ∷ table_sign t.name ∷ (word_parts t.persist (codes "persist") ++
+    (word_parts t.is_const (codes "const") ++ entries_parts t.entries))
 
 abbrev pub table_lines : List TableValue → List ℕ
 table_lines [] = []

@@ -2,7 +2,10 @@
 
 ghost use Rattle.std.specs.Prelude.{◌≡◌, Some, IfOk, string_bytes};
 ghost use Rattle.pf_ruleset.specs.Rulesets.{ruleset_of};
-ghost use Rattle.pf_show.specs.Shown.{direction_parts, quick_parts, action_parts, interface_parts, family_parts, protocol_parts, host_parts, test_parts, port_parts, end_parts, ends_parts, type_parts, letters, flags_text, flags_parts, state_parts, condition_parts, rule_parts, line, skip_line, shown_items, shown};
+ghost use Rattle.pf_show.specs.Shown.{direction_parts, quick_parts, action_parts, interface_parts, family_parts};
+ghost use Rattle.pf_show.specs.Shown.{protocol_parts, host_parts, test_parts, port_parts, end_parts, ends_parts};
+ghost use Rattle.pf_show.specs.Shown.{type_parts, letters, flags_text, flags_parts, state_parts, condition_parts};
+ghost use Rattle.pf_show.specs.Shown.{rule_parts, line, skip_line, shown_items, shown};
 ghost use Rattle.pf_show.specs.Spaced.{spaced, joined, text_if, is_any_end, item_line};
 
 use crate::tables::TableLines;
@@ -226,7 +229,8 @@ struct EndsParts<'a> {
 }
 
 impl fmt::Display for EndsParts<'_> {
-    ghost output = { λ e. Some (spaced (ends_parts e.source.host.now e.source.port e.destination.host.now e.destination.port)) };
+    ghost output = { λ e.
+        Some (spaced (ends_parts e.source.host.now e.source.port e.destination.host.now e.destination.port)) };
 
     #[tactic(auto, using(crate::proofs::Spacing::ends_are, crate::proofs::Spacing::spaced_append))]
     fn fmt<W: fmt::Write>(&self, f: &mut fmt::Formatter<W>) -> fmt::Result {

@@ -1,6 +1,6 @@
-//! Look-ups in a table of 4,096 entries, to be timed (`scripts/table-speed`): a third single addresses, a third of 24 bits
-//! (IPv6: 64), a third shorter, a tenth of them negated. The words say the family (4 or 6), how often the table is made, and
-//! how many addresses are looked up.
+//! Look-ups in a table of 4,096 entries, to be timed (`scripts/table-speed`): a third single addresses, a third of 24
+//! bits (IPv6: 64), a third shorter, a tenth of them negated. The words say the family (4 or 6), how often the table is
+//! made, and how many addresses are looked up.
 #![tactic(auto)]
 
 ghost use Rattle.std.specs.Prelude.{◌≤◌};

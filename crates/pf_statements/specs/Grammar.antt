@@ -1,6 +1,7 @@
 -- The grammar of a statement, production by production (pf.conf(5), GRAMMAR): which tokens spell which value. It knows
 -- nothing of how a text is read.
-use Rattle.std.specs.Prelude.{◌≡◌, ℕ, ◌+◌, Bool, true, false, List, [], ◌∷◌, ◌++◌, Option, Some, None, Ok, max, codes}
+use Rattle.std.specs.Prelude.{◌≡◌, ℕ, ◌+◌, Bool, true, false, List, [], ◌∷◌, ◌++◌, Option, Some}
+use Rattle.std.specs.Prelude.{None, Ok, max, codes}
 use Rattle.pf_words.specs.declared.profile.Profile.{Profile}
 use Rattle.pf_tokens.specs.Tokens.{Token, Newline}
 use Rattle.pf_tokens.specs.Lists.{Elements}
@@ -13,8 +14,10 @@ use Rattle.pf_statements.specs.declared.written.WrittenAction.{WrittenAction}
 use Rattle.pf_statements.specs.declared.written.WrittenAction.TheVariants.{Pass, Block as Blocks}
 use Rattle.pf_conditions.specs.declared.written.WrittenType.{WrittenType}
 use Rattle.pf_ruleset.specs.Names.{Name}
-use Rattle.pf_statements.specs.Statements.{Options, no_options, has_types, may_keep, RuleText, Setting, SetPolicy, SetSkip, Statement, Sets, Rules, Tables}
-use Rattle.pf_conditions.specs.Grammar.{key, sign, IsSome, IsInterfaceName, IsFlags, IsTypes, IsCommon, IsList, IsPrefix, IsTable}
+use Rattle.pf_statements.specs.Statements.{Options, no_options, has_types, may_keep, RuleText, Setting, SetPolicy}
+use Rattle.pf_statements.specs.Statements.{SetSkip, Statement, Sets, Rules, Tables}
+use Rattle.pf_conditions.specs.Grammar.{key, sign, IsSome, IsInterfaceName, IsFlags, IsTypes, IsCommon, IsList}
+use Rattle.pf_conditions.specs.Grammar.{IsPrefix, IsTable}
 use Rattle.pf_statements.specs.Tables.{TableText, new_table, no_entries}
 use Rattle.pf_ruleset.specs.declared.ruleset.TableEntry.{TableEntry}
 use Rattle.pf_addr.specs.Blocks.{Block}
@@ -31,7 +34,8 @@ pub data IsPolicy : List Token → Policy → Type 0 where
 pub data IsAction : List Token → WrittenAction → Type 0 where
   PassWord : IsAction (key (codes "pass")) Pass
   BlockWord : IsAction (key (codes "block")) (Blocks None)
-  BlockSaid : (ts : List Token) (said : Policy) → IsPolicy ts said → IsAction (key (codes "block") ++ ts) (Blocks (Some said))
+  BlockSaid : (ts : List Token) (said : Policy) → IsPolicy ts said →
+      IsAction (key (codes "block") ++ ts) (Blocks (Some said))
 
 -- [way], way = "in" | "out"
 pub data IsDirection : List Token → Option Direction → Type 0 where
@@ -55,9 +59,16 @@ pub data IsKeep : List ℕ → Bool → Type 0 where
 -- option = "flags" flags | "no" "state" | "keep" "state" | "icmp-type" types, the last in profile Two alone
 pub data IsOptions (profile : Profile) : Options → List Token → Options → Type 0 where
   NoOption : (said : Options) → IsOptions profile said [] said
-  FlagsOption : (said all : Options) (ts us : List Token) (test : FlagTest) → said.flags ≡ None → IsFlags ts test → IsOptions profile (record said { flags = Some test }) us all → IsOptions profile said (key (codes "flags") ++ (ts ++ us)) all
-  StateOption : (said all : Options) (word : List ℕ) (us : List Token) (keep : Bool) → said.state ≡ None → IsKeep word keep → IsOptions profile (record said { state = Some keep }) us all → IsOptions profile said (key word ++ (key (codes "state") ++ us)) all
-  TypesOption : (said all : Options) (ts us : List Token) (types : Elements WrittenType) → has_types profile ≡ true → said.types ≡ None → IsTypes profile ts types → IsOptions profile (record said { types = Some types }) us all → IsOptions profile said (key (codes "icmp-type") ++ (ts ++ us)) all
+  FlagsOption : (said all : Options) (ts us : List Token) (test : FlagTest) → said.flags ≡ None →
+      IsFlags ts test → IsOptions profile (record said { flags = Some test }) us all →
+      IsOptions profile said (key (codes "flags") ++ (ts ++ us)) all
+  StateOption : (said all : Options) (word : List ℕ) (us : List Token) (keep : Bool) → said.state ≡ None →
+      IsKeep word keep → IsOptions profile (record said { state = Some keep }) us all →
+      IsOptions profile said (key word ++ (key (codes "state") ++ us)) all
+  TypesOption : (said all : Options) (ts us : List Token) (types : Elements WrittenType) → has_types profile ≡
+      true → said.types ≡ None → IsTypes profile ts types →
+      IsOptions profile (record said { types = Some types }) us all →
+      IsOptions profile said (key (codes "icmp-type") ++ (ts ++ us)) all
 
 -- ---- rules
 
@@ -76,15 +87,21 @@ pub record IsRule (profile : Profile) (tokens : List Token) (r : RuleText) : Typ
   pub is_log : IsSaid (codes "log") log logs
   pub is_quick : IsSaid (codes "quick") quick r.quick
   pub is_common : IsCommon profile common r.conditions.common
-  pub are_options : IsOptions profile no_options options (record { flags = r.conditions.flags; state = r.state; types = r.conditions.types })
+  pub are_options : IsOptions profile no_options options (record {
+    flags = r.conditions.flags;
+    state = r.state;
+    types = r.conditions.types;
+  })
   pub keeps : may_keep r.action r.state ≡ true
 
 -- ---- tables
 
 -- ["!"] prefix
 pub data IsEntry : List Token → TableEntry → Type 0 where
-  EntryIn : (ts : List Token) (block : Block) → IsPrefix ts block → IsEntry ts (record { negated = false; prefix = block })
-  EntryOut : (ts : List Token) (block : Block) → IsPrefix ts block → IsEntry (sign mark.Not ++ ts) (record { negated = true; prefix = block })
+  EntryIn : (ts : List Token) (block : Block) → IsPrefix ts block →
+      IsEntry ts (record { negated = false; prefix = block })
+  EntryOut : (ts : List Token) (block : Block) → IsPrefix ts block →
+      IsEntry (sign mark.Not ++ ts) (record { negated = true; prefix = block })
 
 -- {NL}
 pub data AreNewlines : List Token → Type 0 where
@@ -93,30 +110,41 @@ pub data AreNewlines : List Token → Type 0 where
 
 -- "{" "}" | list(["!"] prefix), where a newline is a blank
 pub data AreEntries : List Token → Elements TableEntry → Type 0 where
-  NoEntries : (within : List Token) → AreNewlines within → AreEntries (sign mark.Open ++ (within ++ sign mark.Close)) no_entries
+  NoEntries : (within : List Token) → AreNewlines within →
+      AreEntries (sign mark.Open ++ (within ++ sign mark.Close)) no_entries
   SomeEntries : (ts : List Token) (list : Elements TableEntry) → IsList IsEntry ts list → AreEntries ts list
 
 -- {"persist" | "const" | "counters" | "{" "}" | list(["!"] prefix)}, the entries once at most, from what is said before
 pub data AreTableOptions : TableText → List Token → TableText → Type 0 where
   NoTableOption : (said : TableText) → AreTableOptions said [] said
-  PersistOption : (said all : TableText) (us : List Token) → AreTableOptions (record said { persist = true }) us all → AreTableOptions said (key (codes "persist") ++ us) all
-  ConstOption : (said all : TableText) (us : List Token) → AreTableOptions (record said { is_const = true }) us all → AreTableOptions said (key (codes "const") ++ us) all
-  CountersOption : (said all : TableText) (us : List Token) → AreTableOptions said us all → AreTableOptions said (key (codes "counters") ++ us) all
-  EntriesOption : (said all : TableText) (ts us : List Token) (list : Elements TableEntry) → said.entries ≡ None → AreEntries ts list → AreTableOptions (record said { entries = Some list }) us all → AreTableOptions said (ts ++ us) all
+  PersistOption : (said all : TableText) (us : List Token) →
+      AreTableOptions (record said { persist = true }) us all → AreTableOptions said (key (codes "persist") ++ us) all
+  ConstOption : (said all : TableText) (us : List Token) →
+      AreTableOptions (record said { is_const = true }) us all → AreTableOptions said (key (codes "const") ++ us) all
+  CountersOption : (said all : TableText) (us : List Token) → AreTableOptions said us all →
+      AreTableOptions said (key (codes "counters") ++ us) all
+  EntriesOption : (said all : TableText) (ts us : List Token) (list : Elements TableEntry) → said.entries ≡ None →
+      AreEntries ts list → AreTableOptions (record said { entries = Some list }) us all →
+      AreTableOptions said (ts ++ us) all
 
 -- "<" TNAME ">" and its options
 pub data IsTableText (profile : Profile) : List Token → TableText → Type 0 where
-  TableOptions : (ts us : List Token) (name : Name) (all : TableText) → IsTable profile ts name → AreTableOptions (new_table name) us all → IsTableText profile (ts ++ us) all
+  TableOptions : (ts us : List Token) (name : Name) (all : TableText) → IsTable profile ts name →
+      AreTableOptions (new_table name) us all → IsTableText profile (ts ++ us) all
 
 -- ---- statements
 
 -- "block-policy" ("drop" | "return") | "skip" "on" (IFNAME | list(IFNAME))
 pub data IsSetting (profile : Profile) : List Token → Setting → Type 0 where
-  PolicySetting : (ts : List Token) (said : Policy) → IsPolicy ts said → IsSetting profile (key (codes "block-policy") ++ ts) (SetPolicy said)
-  SkipSetting : (ts : List Token) (names : Elements Name) → IsSome (IsInterfaceName profile) ts names → IsSetting profile (key (codes "skip") ++ (key (codes "on") ++ ts)) (SetSkip names)
+  PolicySetting : (ts : List Token) (said : Policy) → IsPolicy ts said →
+      IsSetting profile (key (codes "block-policy") ++ ts) (SetPolicy said)
+  SkipSetting : (ts : List Token) (names : Elements Name) → IsSome (IsInterfaceName profile) ts names →
+      IsSetting profile (key (codes "skip") ++ (key (codes "on") ++ ts)) (SetSkip names)
 
 -- statement = "set" setting | "table" table | rule
 pub data IsStatement (profile : Profile) : List Token → Statement → Type 0 where
-  SetStatement : (ts : List Token) (setting : Setting) → IsSetting profile ts setting → IsStatement profile (key (codes "set") ++ ts) (Sets setting)
-  TableStatement : (ts : List Token) (table : TableText) → IsTableText profile ts table → IsStatement profile (key (codes "table") ++ ts) (Tables table)
+  SetStatement : (ts : List Token) (setting : Setting) → IsSetting profile ts setting →
+      IsStatement profile (key (codes "set") ++ ts) (Sets setting)
+  TableStatement : (ts : List Token) (table : TableText) → IsTableText profile ts table →
+      IsStatement profile (key (codes "table") ++ ts) (Tables table)
   RuleStatement : (ts : List Token) (rule : RuleText) → IsRule profile ts rule → IsStatement profile ts (Rules rule)

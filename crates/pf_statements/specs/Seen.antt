@@ -9,7 +9,8 @@ use Rattle.pf_statements.specs.declared.written.Setting as setting
 use Rattle.pf_statements.specs.declared.written.Setting.TheVariants as settings
 use Rattle.pf_statements.specs.declared.written.Statement as statement
 use Rattle.pf_statements.specs.declared.written.Statement.TheVariants as statements
-use Rattle.pf_statements.specs.Statements.{Options, RuleText, Setting, SetPolicy, SetSkip, Statement, Sets, Rules, Tables}
+use Rattle.pf_statements.specs.Statements.{Options, RuleText, Setting, SetPolicy, SetSkip, Statement, Sets, Rules}
+use Rattle.pf_statements.specs.Statements.{Tables}
 use Rattle.pf_conditions.specs.Seen.{list_of, conditions_of}
 use Rattle.pf_statements.specs.Tables.{TableText}
 use Rattle.pf_statements.specs.declared.written.WrittenTable.{WrittenTable}

@@ -1,5 +1,6 @@
 -- What a statement says, production by production (pf.conf(5), GRAMMAR).
-use Rattle.std.specs.Prelude.{ℕ, zero, suc, ◌&&◌, ◌==◌, Bool, true, false, List, [], ◌∷◌, drop, length, Option, Some, None, is_some, not, codes, if◌then◌else◌}
+use Rattle.std.specs.Prelude.{ℕ, zero, suc, ◌&&◌, ◌==◌, Bool, true, false, List, [], ◌∷◌, drop, length}
+use Rattle.std.specs.Prelude.{Option, Some, None, is_some, not, codes, if◌then◌else◌}
 use Rattle.std.specs.List.{list_any}
 use Rattle.std.specs.Result.{result_ok}
 use Rattle.pf_words.specs.declared.profile.Profile.{Profile}
@@ -32,15 +33,20 @@ no_options = record { flags = None; state = None; types = None }
 
 -- flags, said once
 unfoldable pub flags_option : Options → List Token → Read Options
-flags_option o ts = if is_some o.flags then None else (flags_at ts >>= λ test. Some (record o { flags = Some test.0 }, test.1))
+flags_option o ts = if is_some o.flags then None else (flags_at ts >>= λ test. Some (
+  record o { flags = Some test.0 },
+  test.1,
+))
 
 -- ("no" | "keep") "state", said once
 unfoldable pub state_option : Options → Bool → List Token → Read Options
-state_option o keep ts = if is_some o.state then None else if_so (begins (codes "state") ts) (record o { state = Some keep }, drop 1 ts)
+state_option o keep ts = if is_some o.state then None
+    else if_so (begins (codes "state") ts) (record o { state = Some keep }, drop 1 ts)
 
 -- "icmp-type" types, said once
 unfoldable pub types_option : Profile → Options → List Token → Read Options
-types_option profile o ts = if is_some o.types then None else (types_at profile ts >>= λ types. Some (record o { types = Some types.0 }, types.1))
+types_option profile o ts = if is_some o.types then None
+    else (types_at profile ts >>= λ types. Some (record o { types = Some types.0 }, types.1))
 
 -- profile Two has types of ICMP
 abbrev pub has_types : Profile → Bool
@@ -64,17 +70,20 @@ options_at n profile o ts = to_end (option_with profile) n o ts
 
 -- ["drop" | "return"]
 unfoldable pub policy_at : List Token → Option Policy × List Token
-policy_at ts = if begins (codes "drop") ts then (Some policy.Drop, drop 1 ts) else (if begins (codes "return") ts then (Some policy.Return, drop 1 ts) else (None, ts))
+policy_at ts = if begins (codes "drop") ts then (Some policy.Drop, drop 1 ts)
+    else (if begins (codes "return") ts then (Some policy.Return, drop 1 ts) else (None, ts))
 
 -- action = "pass" | "block" ["drop" | "return"]
 unfoldable pub action_at : List Token → Read WrittenAction
 action_at ts =
     if begins (codes "pass") ts then Some (Pass, drop 1 ts)
-    else (if begins (codes "block") ts then (let said = policy_at (drop 1 ts) in Some (Blocks said.0, said.1)) else None)
+    else (if begins (codes "block") ts then (let said = policy_at (drop 1 ts) in Some (Blocks said.0, said.1))
+    else None)
 
 -- ["in" | "out"]
 unfoldable pub direction_at : List Token → Option Direction × List Token
-direction_at ts = if begins (codes "in") ts then (Some In, drop 1 ts) else (if begins (codes "out") ts then (Some Out, drop 1 ts) else (None, ts))
+direction_at ts = if begins (codes "in") ts then (Some In, drop 1 ts)
+    else (if begins (codes "out") ts then (Some Out, drop 1 ts) else (None, ts))
 
 -- a rule as it is written
 pub record RuleText : Type 0 where
@@ -124,7 +133,8 @@ policy_set (Some said, ts) = if_so (is_end ts) (SetPolicy said)
 -- "on" (IFNAME | list(IFNAME))
 unfoldable pub skip_set : Profile → List Token → Option Setting
 skip_set profile ts =
-    if begins (codes "on") ts then (all_read (some_at (interface_name_at profile) (drop 1 ts)) >>= λ names. Some (SetSkip names)) else None
+    if begins (codes "on") ts then (all_read (some_at (interface_name_at profile) (drop 1 ts)) >>= λ names.
+    Some (SetSkip names)) else None
 
 -- set = "set" "block-policy" .. | "set" "skip" "on" .., behind the first word
 unfoldable pub setting_of : Profile → List Token → Option Setting

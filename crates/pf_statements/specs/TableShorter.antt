@@ -10,8 +10,14 @@ use Rattle.pf_conditions.specs.Conditions.{prefix_at}
 use Rattle.pf_conditions.specs.Shorter.{then_shorter, answer_left, prefix_shorter}
 use Rattle.pf_statements.specs.Tables.{entry_at}
 
-pub entry_shorter : (profile : Profile) (ts rest : List Token) (x : TableEntry) → entry_at profile ts ≡ Some (x, rest) → length rest < length ts
+pub entry_shorter : (profile : Profile) (ts rest : List Token) (x : TableEntry) → entry_at profile ts ≡
+    Some (x, rest) → length rest < length ts
 unfolding entry_at
-entry_shorter profile ts rest x e = then_shorter (prefix_at (symbol_at mark.Not ts).1) (λ block. Some (record { negated = (symbol_at mark.Not ts).0; prefix = block.0 }, block.1)) ts rest x
-    (λ block h. omega (arith, prefix_shorter (symbol_at mark.Not ts).1 block.1 block.0 h, symbol_no_longer mark.Not ts))
+entry_shorter profile ts rest x e = then_shorter (prefix_at (symbol_at mark.Not ts).1) (λ block.
+    Some (record { negated = (symbol_at mark.Not ts).0; prefix = block.0 }, block.1)) ts rest x
+    (λ block h. omega (
+      arith,
+      prefix_shorter (symbol_at mark.Not ts).1 block.1 block.0 h,
+      symbol_no_longer mark.Not ts,
+    ))
     (λ block h. answer_left (record { negated = (symbol_at mark.Not ts).0; prefix = block.0 }) x block.1 rest h) e

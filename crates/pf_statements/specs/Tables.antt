@@ -1,5 +1,6 @@
 -- What a table statement says, production by production (pf.conf(5), TABLES).
-use Rattle.std.specs.Prelude.{ℕ, suc, ◌&&◌, Bool, true, false, List, [], drop, length, Option, Some, None, is_some, codes, if◌then◌else◌}
+use Rattle.std.specs.Prelude.{ℕ, suc, ◌&&◌, Bool, true, false, List, [], drop, length, Option, Some, None}
+use Rattle.std.specs.Prelude.{is_some, codes, if◌then◌else◌}
 use Rattle.pf_words.specs.declared.profile.Profile.{Profile}
 use Rattle.pf_tokens.specs.declared.symbol.Symbol.TheVariants as mark
 use Rattle.pf_tokens.specs.Tokens.{Token}
@@ -38,11 +39,13 @@ no_entries = record { items = []; deepest = 1 }
 
 -- "{" "}" | list(["!"] prefix)
 unfoldable pub entries_at : Profile → List Token → Read (Elements TableEntry)
-entries_at profile ts = let none = empty_at ts in if none.0 then Some (no_entries, none.1) else list_at (entry_at profile) ts
+entries_at profile ts = let none = empty_at ts in if none.0 then Some (no_entries, none.1)
+    else list_at (entry_at profile) ts
 
 -- the entries, listed once
 unfoldable pub listed_option : Profile → TableText → List Token → Read TableText
-listed_option profile t ts = if is_some t.entries then None else (entries_at profile ts >>= λ list. Some (record t { entries = Some list.0 }, list.1))
+listed_option profile t ts = if is_some t.entries then None
+    else (entries_at profile ts >>= λ list. Some (record t { entries = Some list.0 }, list.1))
 
 -- "persist" | "const" | "counters" | "{" "}" | list(["!"] prefix)
 unfoldable pub table_option : Profile → TableText → List Token → Read TableText
@@ -52,6 +55,8 @@ table_option profile t ts =
     else (if begins (codes "counters") ts then Some (t, drop 1 ts)
     else listed_option profile t ts))
 
--- table = "table" "<" TNAME ">" {"persist" | "const" | "counters" | "{" "}" | list(["!"] prefix)}, behind the first word
+-- table = "table" "<" TNAME ">" {"persist" | "const" | "counters" | "{" "}" | list(["!"] prefix)}, behind the first
+-- word
 unfoldable pub table_of : Profile → List Token → Option TableText
-table_of profile ts = table_at profile ts >>= λ name. to_end (table_option profile) (suc (length name.1)) (new_table name.0) name.1
+table_of profile ts = table_at profile ts >>= λ name. to_end (table_option profile) (suc (length name.1))
+    (new_table name.0) name.1

@@ -8,5 +8,6 @@ ghost use Rattle.std.specs.Prelude.{List, Some, ◌↔◌, ◌≡◌};
 
 /// A statement has a value exactly where the grammar spells that value so (pf.conf(5), GRAMMAR).
 pub fn reads_the_grammar()
-    ensures { (profile : IProfile) (ts : List Token) (s : IStatement) → (value_of profile ts ≡ Some s) ↔ IsStatement profile ts s }
+    ensures { (profile : IProfile) (ts : List Token) (s : IStatement) → (value_of profile ts ≡ Some s) ↔
+        IsStatement profile ts s }
 {}

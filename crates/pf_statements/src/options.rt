@@ -2,7 +2,8 @@
 
 ghost use Rattle.std.specs.Prelude.{◌≡◌, suc, length};
 ghost use Rattle.pf_tokens.specs.Parsing.{left, later, Parses};
-ghost use Rattle.pf_statements.specs.Statements.{has_types, no_options, flags_option, state_option, types_option, option_with, options_at};
+ghost use Rattle.pf_statements.specs.Statements.{has_types, no_options, flags_option, state_option, types_option};
+ghost use Rattle.pf_statements.specs.Statements.{option_with, options_at};
 ghost use Rattle.pf_statements.specs.Seen.{options_of, Spells};
 
 use crate::written::RuleOptions;
@@ -45,7 +46,8 @@ fn state_option<'t: 's, 's>(
     keep: bool,
     parser: &mut Parser<'t, 's>,
 ) -> Result<RuleOptions, Stop>
-    ensures read { Parses options_of result (left parser.new) (state_option (options_of options) keep (left parser.old)) }
+    ensures read { Parses options_of result (left parser.new) (state_option (options_of options) keep
+        (left parser.old)) }
     ensures later { later parser.new ≡ later parser.old }
 {
     if options.state.is_some() || !parser.accept(b"state") {
@@ -71,7 +73,8 @@ fn types_option<'t: 's, 's>(
     options: RuleOptions,
     parser: &mut Parser<'t, 's>,
 ) -> Result<RuleOptions, Stop>
-    ensures read { Parses options_of result (left parser.new) (types_option profile (options_of options) (left parser.old)) }
+    ensures read { Parses options_of result (left parser.new) (types_option profile (options_of options)
+        (left parser.old)) }
     ensures later { later parser.new ≡ later parser.old }
 {
     if options.types.is_some() {
@@ -108,7 +111,8 @@ fn read_option<'t: 's, 's>(
     options: RuleOptions,
     parser: &mut Parser<'t, 's>,
 ) -> Result<RuleOptions, Stop>
-    ensures read { Parses options_of result (left parser.new) (option_with profile (options_of options) (left parser.old)) }
+    ensures read { Parses options_of result (left parser.new) (option_with profile (options_of options)
+        (left parser.old)) }
     ensures later { later parser.new ≡ later parser.old }
 {
     if parser.accept(b"flags") {
@@ -130,7 +134,8 @@ pub(crate) fn read_options<'t: 's, 's>(
     profile: Profile,
     parser: &mut Parser<'t, 's>,
 ) -> Result<RuleOptions, Stop>
-    ensures value { Spells options_of result (options_at (suc (length (left parser.old))) profile no_options (left parser.old)) }
+    ensures value { Spells options_of result (options_at (suc (length (left parser.old))) profile no_options
+        (left parser.old)) }
     ensures later { later parser.new ≡ later parser.old }
 {
     let mut options = RuleOptions {

@@ -2,7 +2,8 @@
 
 ghost use Rattle.std.specs.Prelude.{◌≡◌};
 ghost use Rattle.pf_tokens.specs.Parsing.{left, later, Reads};
-ghost use Rattle.pf_statements.specs.Statements.{policy_at, action_at, direction_at, may_keep, rule_of, skip_set, setting_of, value_of};
+ghost use Rattle.pf_statements.specs.Statements.{policy_at, action_at, direction_at, may_keep, rule_of, skip_set};
+ghost use Rattle.pf_statements.specs.Statements.{setting_of, value_of};
 ghost use Rattle.pf_statements.specs.Seen.{text_of, statement_of, Spells};
 ghost use Rattle.pf_statements.specs.Seen as seen;
 

@@ -4,7 +4,8 @@ ghost use Rattle.std.specs.Prelude.{◌≡◌, false, suc, length};
 ghost use Rattle.pf_tokens.specs.Lists.{elements_of};
 ghost use Rattle.pf_tokens.specs.Parsing.{left, later, Parses};
 ghost use Rattle.pf_statements.specs.Options.{to_end};
-ghost use Rattle.pf_statements.specs.Tables.{new_table, entry_at, empty_at, entries_at, listed_option, table_option, table_of};
+ghost use Rattle.pf_statements.specs.Tables.{new_table, entry_at, empty_at, entries_at, listed_option, table_option};
+ghost use Rattle.pf_statements.specs.Tables.{table_of};
 ghost use Rattle.pf_statements.specs.TableShorter.{entry_shorter};
 ghost use Rattle.pf_statements.specs.Seen.{table_text_of, Spells};
 
@@ -82,7 +83,8 @@ fn listed_option<'t: 's, 's>(
     table: WrittenTable,
     parser: &mut Parser<'t, 's>,
 ) -> Result<WrittenTable, Stop>
-    ensures read { Parses table_text_of result (left parser.new) (listed_option profile (table_text_of table) (left parser.old)) }
+    ensures read { Parses table_text_of result (left parser.new) (listed_option profile (table_text_of table)
+        (left parser.old)) }
     ensures later { later parser.new ≡ later parser.old }
 {
     if table.entries.is_some() {
@@ -105,7 +107,10 @@ fn listed_option<'t: 's, 's>(
 
 /// The table with these flags.
 fn flagged(table: WrittenTable, persist: bool, is_const: bool) -> WrittenTable
-    ensures { let t = table_text_of table in table_text_of result ≡ record t { persist = persist; is_const = is_const } }
+    ensures { let t = table_text_of table in table_text_of result ≡ record t {
+      persist = persist;
+      is_const = is_const;
+    } }
 {
     let WrittenTable {
         name,
@@ -129,7 +134,8 @@ fn read_option<'t: 's, 's>(
     table: WrittenTable,
     parser: &mut Parser<'t, 's>,
 ) -> Result<WrittenTable, Stop>
-    ensures read { Parses table_text_of result (left parser.new) (table_option profile (table_text_of table) (left parser.old)) }
+    ensures read { Parses table_text_of result (left parser.new) (table_option profile (table_text_of table)
+        (left parser.old)) }
     ensures later { later parser.new ≡ later parser.old }
 {
     let persist = table.persist;
@@ -152,7 +158,8 @@ fn read_options<'t: 's, 's>(
     name: TableName,
     parser: &mut Parser<'t, 's>,
 ) -> Result<WrittenTable, Stop>
-    ensures value { Spells table_text_of result (to_end (table_option profile) (suc (length (left parser.old))) (new_table name) (left parser.old)) }
+    ensures value { Spells table_text_of result (to_end (table_option profile) (suc (length (left parser.old)))
+        (new_table name) (left parser.old)) }
     ensures later { later parser.new ≡ later parser.old }
 {
     let mut table = WrittenTable {

@@ -1,5 +1,6 @@
 -- How the contents of a table change.
-use Rattle.std.specs.Prelude.{ℕ, Bool, false, ◌&&◌, List, [], ◌∷◌, ◌++◌, length, filter, fold, not, find, Option, Some, None, if◌then◌else◌}
+use Rattle.std.specs.Prelude.{ℕ, Bool, false, ◌&&◌, List, [], ◌∷◌, ◌++◌, length, filter, fold, not}
+use Rattle.std.specs.Prelude.{find, Option, Some, None, if◌then◌else◌}
 use Rattle.std.specs.List.{list_any}
 use Rattle.std.specs.Ordering.{is_lt, is_eq}
 use Rattle.pf_addr.specs.Blocks.{Block}
@@ -24,7 +25,8 @@ entries_behind p entries = filter (λ (e : TableEntry). is_lt (prefix_cmp p e.pr
 
 -- an entry is put in, unless its prefix is there
 abbrev pub put_entry : List TableEntry → TableEntry → List TableEntry
-put_entry entries e = if list_any (is_prefix e.prefix) entries then entries else entries_before e.prefix entries ++ e ∷ entries_behind e.prefix entries
+put_entry entries e = if list_any (is_prefix e.prefix) entries then entries else entries_before e.prefix entries ++
+    e ∷ entries_behind e.prefix entries
 
 -- entries are put in, one after another, so the first of each prefix counts
 abbrev pub with_entries : List TableEntry → List TableEntry → List TableEntry

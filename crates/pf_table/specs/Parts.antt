@@ -16,7 +16,8 @@ joined (p ∷ ps) = p.entries.items ++ joined ps
 -- each entry is before those behind it
 abbrev pub IsOrdered : List TableEntry → Type 0
 IsOrdered [] = Unit {0}
-IsOrdered (e ∷ es) = (list_all (λ (f : TableEntry). is_lt (prefix_cmp e.prefix f.prefix)) es ≡ true) × IsOrdered es
+IsOrdered (e ∷ es) = (list_all (λ (f : TableEntry). is_lt (prefix_cmp e.prefix f.prefix)) es ≡ true) ×
+    IsOrdered es
 
 -- the prefixes are prefixes: no bit past the length is set
 abbrev pub AreBlocks : List TableEntry → Type 0
@@ -40,4 +41,5 @@ pub record AreParts (parts : List Part) : Type 0 where
 
 -- a part has entries of its family and length, in order
 abbrev pub IsPart : Part → Type 0
-IsPart p = (list_all (is_of p.v6 p.len) p.entries.items ≡ true) × (p.len ≤ (if p.v6 then 128 else 32)) × IsOrdered p.entries.items × AreBlocks p.entries.items
+IsPart p = (list_all (is_of p.v6 p.len) p.entries.items ≡ true) × (p.len ≤ (if p.v6 then 128 else 32)) ×
+    IsOrdered p.entries.items × AreBlocks p.entries.items

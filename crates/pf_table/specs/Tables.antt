@@ -1,5 +1,6 @@
 -- Tables and what they match (pf.conf(5), TABLES).
-use Rattle.std.specs.Prelude.{ℕ, Bool, true, false, ◌&&◌, ◌||◌, ◌==◌, List, [], ◌∷◌, Option, Some, None, not, nat_le, if◌then◌else◌}
+use Rattle.std.specs.Prelude.{ℕ, Bool, true, false, ◌&&◌, ◌||◌, ◌==◌, List, [], ◌∷◌, Option, Some}
+use Rattle.std.specs.Prelude.{None, not, nat_le, if◌then◌else◌}
 use Rattle.std.specs.List.{list_any, list_all}
 use Rattle.pf_addr.specs.declared.addr.Addr.{Addr}
 use Rattle.pf_addr.specs.declared.addr.Addr.TheVariants.{V4, V6}
@@ -22,7 +23,8 @@ no_longer a len e = not (contains a e) || nat_le e.prefix.len len
 
 -- some entry that isn't negated contains the address, and no entry that contains it is longer
 unfoldable pub in_table : Addr → List TableEntry → Bool
-in_table a entries = list_any (λ e. not e.negated && contains a e && list_all (no_longer a e.prefix.len) entries) entries
+in_table a entries = list_any (λ e. not e.negated && contains a e && list_all (no_longer a e.prefix.len) entries)
+    entries
 
 -- whether the address is of the second family
 abbrev pub is_v6 : Addr → Bool

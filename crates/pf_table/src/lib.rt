@@ -2,8 +2,8 @@
 //!
 //! # Organization
 //!
-//! - [`Table`] is a set of signed prefixes with two flags. It keeps its entries apart by family and length, each part in
-//!   order of address, so that a look-up searches each used length by halves, the longest first.
+//! - [`Table`] is a set of signed prefixes with two flags. It keeps its entries apart by family and length, each part
+//!   in order of address, so that a look-up searches each used length by halves, the longest first.
 //! - Its changes make a new table, so a refused growth changes nothing; copies share the entries.
 #![tactic(auto)]
 

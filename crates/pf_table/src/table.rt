@@ -52,7 +52,11 @@ impl Table {
         is_const: bool,
         list: &[TableEntry],
     ) -> Result<Table, AllocError>
-        ensures { IfOk result (λ t. t ≡ record { persist = persist; is_const = is_const; entries = contents_of list.now }) }
+        ensures { IfOk result (λ t. t ≡ record {
+          persist = persist;
+          is_const = is_const;
+          entries = contents_of list.now;
+        }) }
     {
         let entries = contents_of(alloc, list)?;
         Table::made(alloc, persist, is_const, &entries)
@@ -79,7 +83,11 @@ impl Table {
 
     /// The same table once more, with these flags. It shares the entries.
     pub fn flagged(&self, persist: bool, is_const: bool) -> Result<Table, AllocError>
-        ensures { IfOk result (λ t. t ≡ record { persist = persist; is_const = is_const; entries = self.now.entries }) }
+        ensures { IfOk result (λ t. t ≡ record {
+          persist = persist;
+          is_const = is_const;
+          entries = self.now.entries;
+        }) }
     {
         let parts = self.parts.clone()?;
         Ok(Table {
@@ -100,7 +108,11 @@ impl Table {
 
     /// The table with the entries of a list put in, but for those whose prefix is there.
     pub fn with_entries(&self, alloc: Global, list: &[TableEntry]) -> Result<Table, AllocError>
-        ensures { IfOk result (λ t. t ≡ record { persist = self.now.persist; is_const = self.now.is_const; entries = with_entries self.now.entries list.now }) }
+        ensures { IfOk result (λ t. t ≡ record {
+          persist = self.now.persist;
+          is_const = self.now.is_const;
+          entries = with_entries self.now.entries list.now;
+        }) }
     {
         let own = self.entries(alloc)?;
         let entries = with_entries(alloc, &own, list)?;
@@ -109,7 +121,11 @@ impl Table {
 
     /// The table without the entries that are listed with their sign, of which the first of each prefix counts.
     pub fn without_entries(&self, alloc: Global, list: &[TableEntry]) -> Result<Table, AllocError>
-        ensures { IfOk result (λ t. t ≡ record { persist = self.now.persist; is_const = self.now.is_const; entries = without_entries self.now.entries list.now }) }
+        ensures { IfOk result (λ t. t ≡ record {
+          persist = self.now.persist;
+          is_const = self.now.is_const;
+          entries = without_entries self.now.entries list.now;
+        }) }
     {
         let own = self.entries(alloc)?;
         let entries = without_entries(alloc, &own, list)?;

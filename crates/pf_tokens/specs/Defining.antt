@@ -1,5 +1,7 @@
 -- What a macro statement defines.
-use Rattle.std.specs.Prelude.{◌≡◌, ℕ, ◌+◌, ◌==◌, ◌||◌, ◌&&◌, Bool, true, false, List, [], ◌∷◌, ◌++◌, length, Option, Some, None, Result, Ok, Err, is_some, nat_lt, not, if◌then◌else◌}
+use Rattle.std.specs.Prelude.{◌≡◌, ℕ, ◌+◌, ◌==◌, ◌||◌, ◌&&◌, Bool, true, false, List, []}
+use Rattle.std.specs.Prelude.{◌∷◌, ◌++◌, length, Option, Some, None, Result, Ok, Err, is_some, nat_lt, not}
+use Rattle.std.specs.Prelude.{if◌then◌else◌}
 use Rattle.std.specs.List.{list_any, list_all}
 use Rattle.pf_tokens.specs.declared.defining.DefinitionFault.{DefinitionFault}
 use Rattle.pf_tokens.specs.declared.defining.DefinitionFault.TheVariants as faults
@@ -68,7 +70,8 @@ spelled name (Some text) = Ok (record { name = name; text = text })
 -- the lower cause comes first
 abbrev pub defined_as : Profile → List Definition → List ℕ → List Token → Result Definition DefinitionFault
 defined_as profile ds name items =
-    if not (is_macro_name profile name) || list_any is_refused_string items || is_too_long (joined_items ds None items) then Err faults.Macro
+    if not (is_macro_name profile name) || list_any is_refused_string items || is_too_long (joined_items ds None items)
+    then Err faults.Macro
     else (if are_items ds items then spelled name (joined_items ds None items) else Err faults.Syntax)
 
 abbrev pub behind_name : Profile → List Definition → Read (List ℕ) → Result Definition DefinitionFault
@@ -100,7 +103,8 @@ len_with some text item = if some then text + 1 + item else text + item
 
 -- the items of a macro statement in memory, unless one refuses it
 abbrev pub Collects : Result Items DefinitionFault → List Definition → List Token → Type 0
-Collects (Ok r) ds ts = (joined_items ds None ts ≡ begun_text r.some r.text.items) × (are_items ds ts ≡ r.all) × ((list_any is_refused_string ts || is_too_long (joined_items ds None ts)) ≡ false)
+Collects (Ok r) ds ts = (joined_items ds None ts ≡ begun_text r.some r.text.items) × (are_items ds ts ≡ r.all) ×
+    ((list_any is_refused_string ts || is_too_long (joined_items ds None ts)) ≡ false)
 Collects (Err faults.Memory) ds ts = Unit {0}
 Collects (Err faults.Macro) ds ts = (list_any is_refused_string ts || is_too_long (joined_items ds None ts)) ≡ true
 Collects (Err faults.Syntax) ds ts = ⊥

@@ -1,5 +1,6 @@
 -- Faults while a statement is read: each is a test on one of its tokens, and the first counts.
-use Rattle.std.specs.Prelude.{ℕ, ◌+◌, ◌||◌, Bool, true, false, List, [], ◌∷◌, Option, Some, None, is_none, nat_le, nat_lt}
+use Rattle.std.specs.Prelude.{ℕ, ◌+◌, ◌||◌, Bool, true, false, List, [], ◌∷◌, Option, Some, None}
+use Rattle.std.specs.Prelude.{is_none, nat_le, nat_lt}
 use Rattle.pf_tokens.specs.declared.fault.ReadingFault.{ReadingFault}
 use Rattle.pf_tokens.specs.declared.fault.ReadingFault.TheVariants.{Lexical, UnknownMacro, TooMany}
 use Rattle.pf_tokens.specs.Tokens.{Token, Macro, Bad}

@@ -20,11 +20,13 @@ ending_raw ds defining depth (p ∷ ps) =
 -- the same where these tokens have been replaced already
 abbrev pub statement_left : List Definition → Bool → ℕ → List Placed → List Placed → List Placed
 statement_left ds defining depth [] raw = statement_raw ds defining depth raw
-statement_left ds defining depth (t ∷ ts) raw = if ends depth t then [] else t ∷ statement_left ds defining (depth_after depth t.token) ts raw
+statement_left ds defining depth (t ∷ ts) raw = if ends depth t then []
+    else t ∷ statement_left ds defining (depth_after depth t.token) ts raw
 
 abbrev pub ending_left : List Definition → Bool → ℕ → List Placed → List Placed → List Placed
 ending_left ds defining depth [] raw = ending_raw ds defining depth raw
-ending_left ds defining depth (t ∷ ts) raw = if ends depth t then t ∷ raw else ending_left ds defining (depth_after depth t.token) ts raw
+ending_left ds defining depth (t ∷ ts) raw = if ends depth t then t ∷ raw
+    else ending_left ds defining (depth_after depth t.token) ts raw
 
 abbrev pub pulled_first : List Placed → List Placed → List Placed × List Placed → List Placed × List Placed
 pulled_first [] ps others = others

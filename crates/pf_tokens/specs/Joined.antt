@@ -1,5 +1,6 @@
 -- A text without the backslashes and newlines that join its lines, and how its lines are counted then.
-use Rattle.std.specs.Prelude.{ℕ, ◌+◌, ◌==◌, ◌&&◌, ◌||◌, Bool, false, List, [], ◌∷◌, nat_le, if◌then◌else◌}
+use Rattle.std.specs.Prelude.{ℕ, ◌+◌, ◌==◌, ◌&&◌, ◌||◌, Bool, false, List, [], ◌∷◌, nat_le}
+use Rattle.std.specs.Prelude.{if◌then◌else◌}
 use Rattle.std.specs.List.{prefix_len}
 use Rattle.std.specs.Cow.{cow_slice_items}
 use Rattle.pf_tokens.specs.declared.text.Text.{Text}
@@ -29,7 +30,8 @@ passed at steps = prefix_len (λ s. nat_le s at) steps
 -- the bytes that stay with their lines in the text as given, so many bytes standing before them
 abbrev pub letters_at : ℕ → ℕ → List ℕ → List ℕ → List Letter
 letters_at line at steps [] = []
-letters_at line at steps (b ∷ bytes) = record { byte = b; line = line + passed at steps } ∷ letters_at (line_after line b) (at + 1) steps bytes
+letters_at line at steps (b ∷ bytes) = record { byte = b; line = line + passed at steps } ∷
+    letters_at (line_after line b) (at + 1) steps bytes
 
 -- the tokens of a text that has been joined
 unfoldable pub text_tokens : Text → List Placed

@@ -1,7 +1,9 @@
 -- Lines that are written: parts, with a blank between two of them, and a newline.
 use Rattle.std.specs.Prelude.{ℕ, true, List, [], ◌∷◌, ◌++◌}
 use Rattle.pf_tokens.specs.declared.symbol.Symbol.{Symbol}
-use Rattle.pf_tokens.specs.declared.symbol.Symbol.TheVariants.{Open, Close, OpenParenthesis, CloseParenthesis, Comma, Slash, Not, NotEqual, Less, LessEqual, Greater, GreaterEqual, Between, Outside, Equals}
+use Rattle.pf_tokens.specs.declared.symbol.Symbol.TheVariants.{Open, Close, OpenParenthesis, CloseParenthesis, Comma}
+use Rattle.pf_tokens.specs.declared.symbol.Symbol.TheVariants.{Slash, Not, NotEqual, Less, LessEqual, Greater}
+use Rattle.pf_tokens.specs.declared.symbol.Symbol.TheVariants.{GreaterEqual, Between, Outside, Equals}
 use Rattle.pf_tokens.specs.Tokens.{Token, Placed}
 
 -- each part behind a blank, and a newline

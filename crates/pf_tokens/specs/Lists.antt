@@ -1,5 +1,6 @@
 -- Lists in braces, of elements of any kind.
-use Rattle.std.specs.Prelude.{ℕ, zero, suc, ◌+◌, ◌-◌, ◌==◌, Bool, true, false, List, [], ◌∷◌, drop, length, Some, None, max, if◌then◌else◌}
+use Rattle.std.specs.Prelude.{ℕ, zero, suc, ◌+◌, ◌-◌, ◌==◌, Bool, true, false, List, [], ◌∷◌, drop}
+use Rattle.std.specs.Prelude.{length, Some, None, max, if◌then◌else◌}
 use Rattle.pf_tokens.specs.declared.symbol.Symbol.TheVariants.{Comma, Open, Close}
 use Rattle.pf_tokens.specs.declared.lists.Listed.{Listed}
 use Rattle.pf_tokens.specs.Tokens.{Token}
@@ -19,12 +20,15 @@ put x more = Some (record { items = x ∷ more.0.items; deepest = more.0.deepest
 -- The elements up to the brace that closes the list, with those of the lists in it; so many lists are open
 -- here, so many were at the deepest, and an element has to come next where none has come since the last brace or
 -- comma. No more than n steps are made, of which each takes a token.
-unfoldable pub elements : {X : Type 0} → (List Token → Read X) → ℕ → ℕ → ℕ → Bool → List Token → Read (Elements X)
+unfoldable pub elements : {X : Type 0} → (List Token → Read X) → ℕ → ℕ → ℕ → Bool → List Token →
+    Read (Elements X)
 elements element zero depth deepest wanted ts = None
 elements element (suc n) depth deepest wanted ts =
     if begins_symbol Open ts then elements element n (depth + 1) (max deepest (depth + 1)) true (drop 1 ts)
     else (if begins_symbol Comma ts then (if wanted then None else elements element n depth deepest true (drop 1 ts))
-    else (if begins_symbol Close ts then (if wanted then None else (if depth == 1 then Some (record { items = []; deepest = deepest }, drop 1 ts) else elements element n (depth - 1) deepest false (drop 1 ts)))
+    else (if begins_symbol Close ts then (if wanted then None
+    else (if depth == 1 then Some (record { items = []; deepest = deepest }, drop 1 ts)
+    else elements element n (depth - 1) deepest false (drop 1 ts)))
     else (element ts >>= λ x. elements element n depth deepest false x.1 >>= put x.0)))
 
 -- list(x) = "{" elem {[","] elem} "}"   elem = x | list(x)   where a newline is a blank
@@ -33,4 +37,5 @@ list_at element ts = let list = list_opened ts in if list.0 then elements elemen
 
 -- x | list(x)
 unfoldable pub some_at : {X : Type 0} → (List Token → Read X) → List Token → Read (Elements X)
-some_at element ts = if begins_symbol Open ts then list_at element ts else (element ts >>= λ x. Some (record { items = x.0 ∷ []; deepest = 0 }, x.1))
+some_at element ts = if begins_symbol Open ts then list_at element ts
+    else (element ts >>= λ x. Some (record { items = x.0 ∷ []; deepest = 0 }, x.1))

@@ -1,5 +1,6 @@
 -- Macros, and the tokens of a text in which they are replaced.
-use Rattle.std.specs.Prelude.{ℕ, ◌+◌, ◌-◌, ◌==◌, ◌&&◌, Bool, true, false, List, [], ◌∷◌, map, Option, Some, None, bytes_eq, nat_lt, fold, flat_map, if◌then◌else◌}
+use Rattle.std.specs.Prelude.{ℕ, ◌+◌, ◌-◌, ◌==◌, ◌&&◌, Bool, true, false, List, [], ◌∷◌, map}
+use Rattle.std.specs.Prelude.{Option, Some, None, bytes_eq, nat_lt, fold, flat_map, if◌then◌else◌}
 use Rattle.pf_tokens.specs.declared.symbol.Symbol.TheVariants.{Equals, Open, Close}
 use Rattle.pf_tokens.specs.Tokens.{Token, Word, Quoted, Macro, Mark, Newline, Bad, Placed, is_newline, plain_tokens}
 

@@ -24,21 +24,23 @@ is_defining parser = parser.stream.defining
 
 -- the tokens of the statement, with their places
 unfoldable pub placed_left : Parser → List Placed
-placed_left parser = statement_left (definitions parser) parser.stream.defining parser.depth (pending parser.stream).0 (pending parser.stream).1
+placed_left parser = statement_left (definitions parser) parser.stream.defining parser.depth (pending parser.stream).0
+    (pending parser.stream).1
 
 -- the tokens of the statement; within a list newlines are blanks
 unfoldable pub left : Parser → List Token
 left parser = blanked parser.braces (tokens_of (placed_left parser))
 
--- what stays the same while a statement is read: the tokens of the text from its end on, and the first fault of the whole
--- statement, among what was passed and what is left
+-- what stays the same while a statement is read: the tokens of the text from its end on, and the first fault of the
+-- whole statement, among what was passed and what is left
 pub record Later : Type 0 where
   pub behind : List Placed
   pub fault : Option ReadingFault
 
 unfoldable pub later : Parser → Later
 later parser = record {
-  behind = ending_left (definitions parser) parser.stream.defining parser.depth (pending parser.stream).0 (pending parser.stream).1;
+  behind = ending_left (definitions parser) parser.stream.defining parser.depth (pending parser.stream).0
+      (pending parser.stream).1;
   fault = carried (definitions parser) parser.passed parser.depth (tokens_of (placed_left parser));
 }
 
@@ -48,7 +50,8 @@ Reads None ts read = read ≡ None
 Reads (Some x) ts read = read ≡ Some (x, ts)
 
 -- the same where memory may run out, or a list has more elements than a statement may have tokens
-abbrev pub Parses : {X Y : Type 0} → (X → Y) → Result X Stop → List Token → Option (Y × List Token) → Type 0
+abbrev pub Parses : {X Y : Type 0} → (X → Y) → Result X Stop → List Token →
+    Option (Y × List Token) → Type 0
 Parses view (Ok x) ts read = read ≡ Some (view x, ts)
 Parses view (Err stops.Memory) ts read = Unit {0}
 Parses view (Err stops.TooMany) ts read = Unit {0}

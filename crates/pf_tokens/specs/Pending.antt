@@ -20,7 +20,10 @@ unless_none (Some t) ts = ts
 
 -- the tokens that have been replaced already: the one at hand and those of a macro's text; and those of the text
 unfoldable pub pending : Stream → List Placed × List Placed
-pending stream = (behind stream.next (map (unwritten stream.line) (tokens_left stream.inside)), unless_none stream.next (tokens_left stream.text))
+pending stream = (
+  behind stream.next (map (unwritten stream.line) (tokens_left stream.inside)),
+  unless_none stream.next (tokens_left stream.text),
+)
 
 -- the macros that are known
 abbrev pub known : Stream → List Definition
@@ -42,6 +45,10 @@ pub record Stays (old new : Stream) : Type 0 where
 
 -- where so many braces of a list are open, at least so many being open in all, the statement stays the same but
 -- for newlines, and so does its end
-pub record Blanks (braces : ℕ) (ds : List Definition) (defining : Bool) (old new : List Placed × List Placed) : Type 0 where
-  pub statement : (depth : ℕ) → braces ≤ depth → blanked braces (map (λ (p : Placed). p.token) (statement_left ds defining depth new.0 new.1)) ≡ blanked braces (map (λ (p : Placed). p.token) (statement_left ds defining depth old.0 old.1))
-  pub ending : (depth : ℕ) → braces ≤ depth → ending_left ds defining depth new.0 new.1 ≡ ending_left ds defining depth old.0 old.1
+pub record Blanks (braces : ℕ) (ds : List Definition) (defining : Bool) (old new : List Placed ×
+    List Placed) : Type 0 where
+  pub statement : (depth : ℕ) → braces ≤ depth →
+      blanked braces (map (λ (p : Placed). p.token) (statement_left ds defining depth new.0 new.1)) ≡
+      blanked braces (map (λ (p : Placed). p.token) (statement_left ds defining depth old.0 old.1))
+  pub ending : (depth : ℕ) → braces ≤ depth → ending_left ds defining depth new.0 new.1 ≡
+      ending_left ds defining depth old.0 old.1

@@ -1,7 +1,10 @@
 -- Productions: what is read from the front of a statement's tokens.
-use Rattle.std.specs.Prelude.{ℕ, ◌==◌, Bool, true, false, List, [], ◌∷◌, drop, Option, Some, None, option_map, bytes_eq, if◌then◌else◌}
+use Rattle.std.specs.Prelude.{ℕ, ◌==◌, Bool, true, false, List, [], ◌∷◌, drop, Option, Some, None}
+use Rattle.std.specs.Prelude.{option_map, bytes_eq, if◌then◌else◌}
 use Rattle.pf_tokens.specs.declared.symbol.Symbol.{Symbol}
-use Rattle.pf_tokens.specs.declared.symbol.Symbol.TheVariants.{Open, Close, OpenParenthesis, CloseParenthesis, Comma, Slash, Not, NotEqual, Less, LessEqual, Greater, GreaterEqual, Between, Outside, Equals}
+use Rattle.pf_tokens.specs.declared.symbol.Symbol.TheVariants.{Open, Close, OpenParenthesis, CloseParenthesis, Comma}
+use Rattle.pf_tokens.specs.declared.symbol.Symbol.TheVariants.{Slash, Not, NotEqual, Less, LessEqual, Greater}
+use Rattle.pf_tokens.specs.declared.symbol.Symbol.TheVariants.{GreaterEqual, Between, Outside, Equals}
 use Rattle.pf_tokens.specs.Tokens.{Token, Word, Quoted, Macro, Mark, Newline, Bad}
 use Rattle.pf_tokens.specs.Blanks.{blanked}
 

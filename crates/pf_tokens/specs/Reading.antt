@@ -19,16 +19,20 @@ judged judge sofar line defining [] = Ok sofar
 judged judge sofar line defining (t ∷ ts) = judge sofar line defining (t ∷ ts)
 
 -- a statement as it is written
-abbrev pub with_statement : {S R : Type 0} → (S → List Definition) → Judge S R → S → List Placed → Result S R
+abbrev pub with_statement : {S R : Type 0} → (S → List Definition) → Judge S R → S → List Placed →
+    Result S R
 with_statement macros judge sofar [] = Ok sofar
-with_statement macros judge sofar (p ∷ ps) = judged judge sofar p.line (is_definition (p ∷ ps)) (flattened (macros sofar) (p ∷ ps))
+with_statement macros judge sofar (p ∷ ps) = judged judge sofar p.line (is_definition (p ∷ ps))
+    (flattened (macros sofar) (p ∷ ps))
 
 -- What the tokens that follow make of what stands before, and of the statement that has begun: it ends at the first
 -- newline of the text outside braces.
-unfoldable pub reading_from : {S R : Type 0} → (S → List Definition) → Judge S R → S → List Placed → List Placed → Result S R
+unfoldable pub reading_from : {S R : Type 0} → (S → List Definition) → Judge S R → S → List Placed →
+    List Placed → Result S R
 reading_from macros judge sofar begun [] = with_statement macros judge sofar begun
 reading_from macros judge sofar begun (p ∷ ps) =
-    if ends (depth_behind 0 (flattened (macros sofar) begun)) p then (with_statement macros judge sofar begun >>= λ next. reading_from macros judge next [] ps)
+    if ends (depth_behind 0 (flattened (macros sofar) begun)) p
+    then (with_statement macros judge sofar begun >>= λ next. reading_from macros judge next [] ps)
     else reading_from macros judge sofar (begun ++ p ∷ []) ps
 
 -- the tokens from the first one on that ends no empty statement

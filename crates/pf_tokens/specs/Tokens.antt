@@ -1,9 +1,13 @@
 -- The tokens of a text, each with its line.
-use Rattle.std.specs.Prelude.{ℕ, zero, suc, ◌+◌, ◌-◌, ◌==◌, ◌||◌, ◌&&◌, Bool, true, false, List, [], ◌∷◌, map, take, drop, Option, Some, None, not, codes, nat_le, if◌then◌else◌, take_while}
+use Rattle.std.specs.Prelude.{ℕ, zero, suc, ◌+◌, ◌-◌, ◌==◌, ◌||◌, ◌&&◌, Bool, true, false, List}
+use Rattle.std.specs.Prelude.{[], ◌∷◌, map, take, drop, Option, Some, None, not, codes, nat_le}
+use Rattle.std.specs.Prelude.{if◌then◌else◌, take_while}
 use Rattle.std.specs.List.{prefix_len, list_any}
 use Rattle.std.specs.Char.{is_ascii_alphanumeric}
 use Rattle.pf_tokens.specs.declared.symbol.Symbol.{Symbol}
-use Rattle.pf_tokens.specs.declared.symbol.Symbol.TheVariants.{Open, Close, OpenParenthesis, CloseParenthesis, Comma, Slash, Not, NotEqual, Less, LessEqual, Greater, GreaterEqual, Between, Outside, Equals}
+use Rattle.pf_tokens.specs.declared.symbol.Symbol.TheVariants.{Open, Close, OpenParenthesis, CloseParenthesis, Comma}
+use Rattle.pf_tokens.specs.declared.symbol.Symbol.TheVariants.{Slash, Not, NotEqual, Less, LessEqual, Greater}
+use Rattle.pf_tokens.specs.declared.symbol.Symbol.TheVariants.{GreaterEqual, Between, Outside, Equals}
 
 -- ---- letters
 
@@ -26,7 +30,8 @@ continues b (c ∷ bytes) = b == 92 && c == 10
 abbrev pub letters : ℕ → List ℕ → List Letter
 letters line [] = []
 letters line (b ∷ []) = record { byte = b; line = line } ∷ []
-letters line (b ∷ c ∷ bytes) = if b == 92 && c == 10 then letters (line + 1) bytes else record { byte = b; line = line } ∷ letters (line_after line b) (c ∷ bytes)
+letters line (b ∷ c ∷ bytes) = if b == 92 && c == 10 then letters (line + 1) bytes
+    else record { byte = b; line = line } ∷ letters (line_after line b) (c ∷ bytes)
 
 -- the same of a text in which nothing is taken out
 abbrev pub plain_letters : ℕ → List ℕ → List Letter
@@ -92,7 +97,8 @@ symbol_of b =
 -- the symbols of two letters: != <= >= <> ><
 abbrev pub symbol_of_two : ℕ → ℕ → Option Symbol
 symbol_of_two b c =
-    if c == 61 then (if b == 33 then Some NotEqual else (if b == 60 then Some LessEqual else (if b == 62 then Some GreaterEqual else None)))
+    if c == 61 then (if b == 33 then Some NotEqual else (if b == 60 then Some LessEqual
+    else (if b == 62 then Some GreaterEqual else None)))
     else (if c == 62 then (if b == 60 then Some Outside else None)
     else (if c == 60 then (if b == 62 then Some Between else None)
     else None))
@@ -109,7 +115,8 @@ one_letter token = record { token = Some token; len = 1 }
 -- a quote, its text, and a quote; a fault where the line ends before it, or a byte that may not stand there
 abbrev pub quoted_closed : List ℕ → ℕ → List ℕ → Front
 quoted_closed bytes len [] = one_letter Bad
-quoted_closed bytes len (b ∷ more) = if b == 34 then record { token = Some (Quoted (take len bytes)); len = len + 2 } else one_letter Bad
+quoted_closed bytes len (b ∷ more) = if b == 34 then record { token = Some (Quoted (take len bytes)); len = len + 2 }
+    else one_letter Bad
 
 -- a dollar sign and a name
 abbrev pub macro_front : List ℕ → ℕ → Front
@@ -130,11 +137,15 @@ longest None None = one_letter Bad
 abbrev pub front : List ℕ → Front
 front [] = record { token = None; len = 0 }
 front (b ∷ bytes) =
-    if is_word_byte b then record { token = Some (Word (take_while is_word_byte (b ∷ bytes))); len = prefix_len is_word_byte (b ∷ bytes) }
+    if is_word_byte b then record {
+      token = Some (Word (take_while is_word_byte (b ∷ bytes)));
+      len = prefix_len is_word_byte (b ∷ bytes);
+    }
     else (if b == 10 then one_letter Newline
     else (if is_blank b then record { token = None; len = 1 }
     else (if b == 35 then record { token = None; len = prefix_len (λ c. not (c == 10)) (b ∷ bytes) }
-    else (if b == 34 then quoted_closed bytes (prefix_len is_quoted_byte bytes) (drop (prefix_len is_quoted_byte bytes) bytes)
+    else (if b == 34 then quoted_closed bytes (prefix_len is_quoted_byte bytes)
+    (drop (prefix_len is_quoted_byte bytes) bytes)
     else (if b == 36 then macro_front bytes (prefix_len is_name_byte bytes)
     else longest (longer_symbol b bytes) (symbol_of b))))))
 

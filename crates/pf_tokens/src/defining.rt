@@ -5,7 +5,8 @@ ghost use Rattle.std.specs.List.{list_all, list_any};
 ghost use Rattle.pf_tokens.specs.Tokens.{Token, is_name_byte};
 ghost use Rattle.pf_tokens.specs.Lexed.{token_of};
 ghost use Rattle.pf_tokens.specs.Parsing.{definitions, left, later};
-ghost use Rattle.pf_tokens.specs.Defining.{is_refused_byte, is_refused_string, is_macro_name, len_with, appended, definition_at, Defines, Collects};
+ghost use Rattle.pf_tokens.specs.Defining.{is_refused_byte, is_refused_string, is_macro_name, len_with, appended};
+ghost use Rattle.pf_tokens.specs.Defining.{definition_at, Defines, Collects};
 ghost use Rattle.pf_tokens.specs.Macros.{Definition};
 ghost use Rattle.pf_tokens.specs.MacroGrammar.{AllRead, IsDefinition, HasMacroFault, HasSyntaxFault};
 ghost use Rattle.pf_tokens.specs.declared.defining.DefinitionFault.TheVariants.{Memory, Macro as MacroFault, Syntax};
@@ -179,7 +180,8 @@ pub fn definition<'t: 's, 's>(
 /// length of its text may be so. Its fault is `Macro` exactly where one of these may not, and `Syntax` exactly where
 /// they may and the grammar spells no macro so. What is read is no more than the relation says, and no less.
 pub fn macros_as_spelled()
-    ensures made { AllRead (λ p ds ts. (made : Definition) → (definition_at p ds ts ≡ Ok made) ↔ IsDefinition p ds ts made) }
+    ensures made { AllRead (λ p ds ts. (made : Definition) → (definition_at p ds ts ≡ Ok made) ↔
+        IsDefinition p ds ts made) }
     ensures lower { AllRead (λ p ds ts. (definition_at p ds ts ≡ Err MacroFault) ↔ HasMacroFault p ds ts) }
     ensures higher { AllRead (λ p ds ts. (definition_at p ds ts ≡ Err Syntax) ↔ HasSyntaxFault p ds ts) }
     ensures no_other { AllRead (λ p ds ts. definition_at p ds ts ≡ Err Memory → ⊥) }

@@ -2,7 +2,8 @@
 
 ghost use Rattle.std.specs.Prelude.{◌≡◌, ◌≤◌, ◌==◌, length, not, drop};
 ghost use Rattle.std.specs.List.{prefix_len};
-ghost use Rattle.pf_tokens.specs.Tokens.{is_word_byte, is_name_byte, is_quoted_byte, is_newline, quoted_closed, macro_front, longer_symbol, longest, symbol_of, front};
+ghost use Rattle.pf_tokens.specs.Tokens.{is_word_byte, is_name_byte, is_quoted_byte, is_newline, quoted_closed};
+ghost use Rattle.pf_tokens.specs.Tokens.{macro_front, longer_symbol, longest, symbol_of, front};
 ghost use Rattle.pf_tokens.specs.Macros.{ends};
 ghost use Rattle.pf_tokens.specs.Lexed.{token_of, placed_of, front_of};
 
@@ -136,7 +137,8 @@ fn quoted_len(text: &[u8]) -> usize
 
 /// What stands behind an opening quote.
 fn quoted(bytes: &[u8]) -> (Option<Lexeme<'_>>, usize)
-    ensures { front_of result ≡ quoted_closed bytes.now (prefix_len is_quoted_byte bytes.now) (drop (prefix_len is_quoted_byte bytes.now) bytes.now) }
+    ensures { front_of result ≡ quoted_closed bytes.now (prefix_len is_quoted_byte bytes.now)
+        (drop (prefix_len is_quoted_byte bytes.now) bytes.now) }
 {
     let len = quoted_len(bytes);
     let (text, others) = bytes.split_at(len);

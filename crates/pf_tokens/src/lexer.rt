@@ -27,7 +27,8 @@ pub struct Lexer<'a> {
 }
 
 impl<'a> Lexer<'a> {
-    ghost use Rattle.std.specs.Prelude.{◌≡◌, ◌+◌, ◌<◌, ◌^◌, ◌++◌, length, option_map, drop, List, [], ℕ};
+    ghost use Rattle.std.specs.Prelude.{◌≡◌, ◌+◌, ◌<◌, ◌^◌, ◌++◌, length, option_map, drop, List};
+    ghost use Rattle.std.specs.Prelude.{[], ℕ};
     ghost use Rattle.std.specs.Bool.{OnTrue};
     ghost use Rattle.std.specs.Option.{option_to_list};
     ghost use Rattle.pf_tokens.specs.Tokens.{Placed, tokens_behind, plain_tokens, first};

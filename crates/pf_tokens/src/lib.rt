@@ -3,10 +3,10 @@
 //! # Organization
 //!
 //! - [`Text`] joins continued lines, and its [`Lexer`] goes from one statement to the next.
-//! - [`Parser`] has the tokens of one statement, in which macros are replaced. A production is a function over it, whose
-//!   contract speaks of `left`, the tokens that the statement still has, and of `later`, those from its end on.
-//! - [`list`] and [`some`] read lists of any [`Element`], [`definition`] reads macro statements. [`lists_as_spelled`] and
-//!   [`macros_as_spelled`] say that both are read exactly as the grammar spells them.
+//! - [`Parser`] has the tokens of one statement, in which macros are replaced. A production is a function over it,
+//!   whose contract speaks of `left`, the tokens that the statement still has, and of `later`, those from its end on.
+//! - [`list`] and [`some`] read lists of any [`Element`], [`definition`] reads macro statements. [`lists_as_spelled`]
+//!   and [`macros_as_spelled`] say that both are read exactly as the grammar spells them.
 #![tactic(auto)]
 
 mod defining;

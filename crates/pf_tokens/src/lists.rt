@@ -35,7 +35,8 @@ pub trait Element {
         ensures later { later parser.new ≡ later parser.old };
 
     /// It takes a token at least.
-    ghost shorter: { (profile : Profile) (ts rest : List Token) (x : Self.Value) → read profile ts ≡ Some (x, rest) → length rest < length ts };
+    ghost shorter: { (profile : Profile) (ts rest : List Token) (x : Self.Value) → read profile ts ≡
+        Some (x, rest) → length rest < length ts };
 }
 
 /// What a list has.
@@ -117,5 +118,6 @@ pub fn some<'t: 's, 's, E: Element>(
 
 /// A list is read exactly where the grammar spells it so: what is read is no more than the relation says, and no less.
 pub fn lists_as_spelled<E: Element>()
-    ensures { (profile : Profile) → IsElement (E.read profile) → ((ts rest : List Token) (l : Elements E.Value) → ((list_at (E.read profile) ts ≡ Some (l, rest)) ↔ IsList (E.read profile) ts l rest)) }
+    ensures { (profile : Profile) → IsElement (E.read profile) → ((ts rest : List Token) (l : Elements E.Value) →
+        ((list_at (E.read profile) ts ≡ Some (l, rest)) ↔ IsList (E.read profile) ts l rest)) }
 {}

@@ -46,15 +46,18 @@ where
     ghost use Rattle.pf_tokens.specs.Known.{definitions_of};
     ghost use Rattle.pf_tokens.specs.Faults.{reading_fault};
     ghost use Rattle.pf_tokens.specs.Defining.{item_of};
-    ghost use Rattle.pf_tokens.specs.Productions.{begins, begins_symbol, option_at, symbol_at, word_at, name_at, is_end, taken_if, list_opened};
+    ghost use Rattle.pf_tokens.specs.Productions.{begins, begins_symbol, option_at, symbol_at, word_at, name_at};
+    ghost use Rattle.pf_tokens.specs.Productions.{is_end, taken_if, list_opened};
     ghost use Rattle.pf_tokens.specs.Parsing.{tokens_of, definitions, is_defining, placed_left, left, later, Reads};
 
     /// At the start of a statement, where these macros are known.
     #[tactic(auto, using(crate::proofs::Beginning::begins_there, crate::proofs::Beginning::begins_later), unfolding(crate::specs::Parsing::placed_left, crate::specs::Parsing::left, crate::specs::Parsing::later))]
     pub fn begin(text: Lexer<'t>, macros: &'s Macros) -> Parser<'t, 's>
-        ensures placed { placed_left result ≡ statement_raw (definitions_of macros.now) (is_definition (tokens_left text.entry)) 0 (tokens_left text.entry) }
+        ensures placed { placed_left result ≡ statement_raw (definitions_of macros.now)
+            (is_definition (tokens_left text.entry)) 0 (tokens_left text.entry) }
         ensures left { left result ≡ tokens_of (placed_left result) }
-        ensures later { (later result).behind ≡ ending_raw (definitions_of macros.now) (is_definition (tokens_left text.entry)) 0 (tokens_left text.entry) }
+        ensures later { (later result).behind ≡ ending_raw (definitions_of macros.now)
+            (is_definition (tokens_left text.entry)) 0 (tokens_left text.entry) }
         ensures fault { (later result).fault ≡ reading_fault (definitions result) 0 0 (left result) }
         ensures definitions { definitions result ≡ definitions_of macros.now }
         ensures defining { is_defining result ≡ is_definition (tokens_left text.entry) }

@@ -57,7 +57,8 @@ pub(crate) fn depth_after(depth: u8, lexeme: Lexeme<'_>) -> u8
 impl Passed {
     /// At the start of a statement.
     pub(crate) fn nothing() -> Passed
-        ensures { (ts : List Token) (macros : List Definition) → carried macros result 0 ts ≡ reading_fault macros 0 0 ts }
+        ensures { (ts : List Token) (macros : List Definition) → carried macros result 0 ts ≡
+            reading_fault macros 0 0 ts }
     {
         Passed {
             count: 0,
@@ -67,7 +68,8 @@ impl Passed {
 
     /// With one token more, before which so many braces were open.
     pub(crate) fn with(self, macros: &Macros, depth: u8, lexeme: Lexeme<'_>) -> Passed
-        ensures { let t = token_of lexeme.entry in let ds = definitions_of macros.now in (ts : List Token) → carried ds result (depth_after depth t) ts ≡ carried ds self depth (t ∷ ts) }
+        ensures { let t = token_of lexeme.entry in let ds = definitions_of macros.now in (ts : List Token) →
+            carried ds result (depth_after depth t) ts ≡ carried ds self depth (t ∷ ts) }
     {
         if self.fault.is_some() {
             return self;

@@ -12,8 +12,8 @@ pub enum Stop {
     Memory,
     /// The tokens don't spell it.
     Syntax,
-    /// A list has more elements than a statement may have tokens. It isn't read on, so that no memory is taken for it; the statement
-    /// has a fault while reading, which goes before all else.
+    /// A list has more elements than a statement may have tokens. It isn't read on, so that no memory is taken for it;
+    /// the statement has a fault while reading, which goes before all else.
     TooMany,
 }
 

@@ -37,7 +37,8 @@ where
     /// At the start of a statement.
     #[tactic(auto, unfolding(crate::specs::Left::tokens_left))]
     pub(crate) fn begin(text: Lexer<'t>, macros: &'s Macros) -> Stream<'t, 's>
-        ensures pulled { pending result ≡ pulled_raw (definitions_of macros.now) (is_definition (tokens_left text.entry)) (tokens_left text.entry) }
+        ensures pulled { pending result ≡ pulled_raw (definitions_of macros.now)
+            (is_definition (tokens_left text.entry)) (tokens_left text.entry) }
         ensures known { known result ≡ definitions_of macros.now }
         ensures defining { result.defining ≡ is_definition (tokens_left text.entry) }
     {
@@ -55,7 +56,8 @@ where
 
     /// The text of a macro that is to be replaced.
     fn replacement(&self, token: Lexed<'t>) -> Option<&'s [u8]>
-        ensures { text_tokens (placed_of token.entry) (option_copied result) ≡ replaced (known self.now) self.now.defining (placed_of token.entry) }
+        ensures { text_tokens (placed_of token.entry) (option_copied result) ≡
+            replaced (known self.now) self.now.defining (placed_of token.entry) }
     {
         match token.lexeme {
             Lexeme::Macro(name) if !self.defining => self.macros.text_of(name),
@@ -67,7 +69,8 @@ where
     #[tactic(auto, using(crate::proofs::Pulling::inside_taken, crate::proofs::Pulling::inside_none, crate::proofs::Pulling::inside_some), unfolding(crate::specs::Pending::pending))]
     fn take_inside(&mut self) -> bool
         ensures some { OnTrue result (0 < length (tokens_left self.old.inside)) }
-        ensures taken { OnTrue result (pending self.new ≡ (map (unwritten self.old.line) (tokens_left self.old.inside), tokens_left self.old.text)) }
+        ensures taken { OnTrue result (pending self.new ≡
+            (map (unwritten self.old.line) (tokens_left self.old.inside), tokens_left self.old.text)) }
         ensures none { OnFalse result ((tokens_left self.old.inside ≡ []) × (tokens_left self.new.inside ≡ [])) }
         ensures text { self.new.text ≡ self.old.text }
         ensures stays { Stays self.old self.new }
@@ -91,7 +94,8 @@ where
     /// Takes the next token of the text to hand, or the first of its macro.
     fn pull(&mut self)
         requires { tokens_left self.old.inside ≡ [] }
-        ensures pulled { pending self.new ≡ pulled_raw (known self.old) self.old.defining (tokens_left self.old.text) }
+        ensures pulled { pending self.new ≡ pulled_raw (known self.old) self.old.defining
+            (tokens_left self.old.text) }
         ensures stays { Stays self.old self.new }
     {
         while let Some(token) = self.text.next_token() {
@@ -114,7 +118,8 @@ where
 
     /// Takes the next token to hand, or none if there is none.
     pub(crate) fn advance(&mut self)
-        ensures pulled { pending self.new ≡ pulled (known self.old) self.old.defining (drop 1 (pending self.old).0) (pending self.old).1 }
+        ensures pulled { pending self.new ≡ pulled (known self.old) self.old.defining (drop 1 (pending self.old).0)
+            (pending self.old).1 }
         ensures stays { Stays self.old self.new }
     {
         if self.next.is_none() {
@@ -130,7 +135,9 @@ where
         requires { braces ≤ depth }
         ensures blanks { Blanks braces (known self.old) self.old.defining (pending self.old) (pending self.new) }
         ensures passed { 0 < braces → at_newline self.new.next ≡ false }
-        ensures fault { carried (known self.old) result depth (statement_tokens (known self.old) self.old.defining depth (pending self.new)) ≡ carried (known self.old) passed depth (statement_tokens (known self.old) self.old.defining depth (pending self.old)) }
+        ensures fault { carried (known self.old) result depth (statement_tokens (known self.old) self.old.defining depth
+            (pending self.new)) ≡ carried (known self.old) passed depth
+            (statement_tokens (known self.old) self.old.defining depth (pending self.old)) }
         ensures stays { Stays self.old self.new }
     {
         let mut passed = passed;

@@ -1,7 +1,9 @@
 -- The words of the program, and what it writes.
-use Rattle.std.specs.Prelude.{◌≡◌, ℕ, true, List, [], ◌∷◌, ◌++◌, Option, Some, None, Result, Ok, Err, IfSome, codes, decimal, bytes_eq, option_map, if◌then◌else◌}
+use Rattle.std.specs.Prelude.{◌≡◌, ℕ, true, List, [], ◌∷◌, ◌++◌, Option, Some, None, Result, Ok, Err}
+use Rattle.std.specs.Prelude.{IfSome, codes, decimal, bytes_eq, option_map, if◌then◌else◌}
 use Rattle.std.specs.Io.KnownBytes.{Appends}
-use Rattle.clap.specs.Words.{App, Row, Text, new_app, new_rule, with_rule, with_subcommand, subcommand_of, all_of, first_of}
+use Rattle.clap.specs.Words.{App, Row, Text, new_app, new_rule, with_rule, with_subcommand, subcommand_of, all_of}
+use Rattle.clap.specs.Words.{first_of}
 use Rattle.clap.specs.Faults.{fault_of}
 use Rattle.clap.specs.Kinds.{Kinds}
 use Rattle.clap.specs.declared.builder.action.ArgAction.TheVariants.{Append, SetTrue}
@@ -31,11 +33,18 @@ use Rattle.pf_tool.specs.declared.status.Status.TheVariants as status
 
 -- test PACKET..
 abbrev pub test_app : App
-test_app = with_rule (new_app (codes "test")) (record (new_rule (codes "packet")) { action = Some Append; required = true; range = Some (record { start_inclusive = 1; end_inclusive = usize_max }) })
+test_app = with_rule (new_app (codes "test")) (record (new_rule (codes "packet")) {
+  action = Some Append;
+  required = true;
+  range = Some (record { start_inclusive = 1; end_inclusive = usize_max });
+})
 
 -- check [--anchor]
 abbrev pub check_app : App
-check_app = with_rule (new_app (codes "check")) (record (new_rule (codes "anchor")) { long = Some (codes "anchor"); action = Some SetTrue })
+check_app = with_rule (new_app (codes "check")) (record (new_rule (codes "anchor")) {
+  long = Some (codes "anchor");
+  action = Some SetTrue;
+})
 
 -- the program: one of its words has to be named
 abbrev pub pfx_app : App
@@ -61,7 +70,8 @@ place_for (Some text) = if bytes_eq text (codes "true") then Anchor else Main
 -- the place of check, if that is the word
 abbrev pub place_in : Option (Text × List Row) → Option Place
 place_in None = None
-place_in (Some (name, rows)) = if bytes_eq name (codes "check") then Some (place_for (first_of (codes "anchor") rows)) else None
+place_in (Some (name, rows)) = if bytes_eq name (codes "check") then Some (place_for (first_of (codes "anchor") rows))
+    else None
 
 -- what packet words ask for, or else a place
 abbrev pub called_as : Option (List Text) → Option Place → Option CallValue
@@ -155,9 +165,10 @@ answered (Check place) input = check_output place input
 abbrev pub Writes : Option (List ℕ) → Option (List ℕ) → Status → Written → Type 0
 Writes old new ending written = Appends old new written.text × (ending ≡ status_of written.ending)
 
--- What a run has done that ended so, over this input. Where memory ran out it wrote that alone; of a read or a write that
--- failed, and of the text for words that aren't understood, nothing is said.
-abbrev pub Ran : Status → Option CallValue → Option (List ℕ) → Option (List ℕ) → Option (List ℕ) → Type 0
+-- What a run has done that ended so, over this input. Where memory ran out it wrote that alone; of a read or a write
+-- that failed, and of the text for words that aren't understood, nothing is said.
+abbrev pub Ran : Status → Option CallValue → Option (List ℕ) → Option (List ℕ) →
+    Option (List ℕ) → Type 0
 Ran status.Memory call input old new = Appends old new (line (codes "memory"))
 Ran status.Failed call input old new = Unit {0}
 Ran ending (Some call) input old new = IfSome input (λ bytes. Writes old new ending (answered call bytes))

@@ -1,6 +1,7 @@
 //! The input of a run.
 
-ghost use Rattle.std.specs.Prelude.{◌≡◌, ◌≢◌, ◌≤◌, ◌<◌, ℕ, List, Option, Ok, true, false, length, IfSome, IfOk, IfErr, OnOk};
+ghost use Rattle.std.specs.Prelude.{◌≡◌, ◌≢◌, ◌≤◌, ◌<◌, ℕ, List, Option, Ok, true, false};
+ghost use Rattle.std.specs.Prelude.{length, IfSome, IfOk, IfErr, OnOk};
 ghost use Rattle.std.specs.Io.KnownBytes.{Consumes, IsAtEnd};
 
 use crate::status::Status;
@@ -23,7 +24,8 @@ pub(crate) enum InputFault {
 /// Reads once, onto the end of what was read, and answers whether there may be more.
 fn read_some<R: Read>(reader: &mut R, all: &mut Vec<u8>) -> Result<bool, InputFault>
     requires { length all.old.items ≤ 16777216 }
-    ensures taken { (first : Option (List ℕ)) → Consumes first (R.remaining reader.old) all.old.items → OnOk result (Consumes first (R.remaining reader.new) all.new.items) }
+    ensures taken { (first : Option (List ℕ)) → Consumes first (R.remaining reader.old) all.old.items →
+        OnOk result (Consumes first (R.remaining reader.new) all.new.items) }
     ensures end { result ≡ Ok false → IsAtEnd (R.remaining reader.new) }
     ensures more { result ≡ Ok true → length all.old.items < length all.new.items }
     ensures few { OnOk result (length all.new.items ≤ 16777216) }

@@ -5,8 +5,8 @@
 //! - `run`: the words of the program, over any reader and writer.
 //! - `Status`: how a run ends, and the exit status.
 //!
-//! Within: `words` has the words as `clap` reads them, `call` what they ask for, `checking` and `testing` what each word writes,
-//! `input` and `output` what a run reads and writes, `running` one run from the words to the status.
+//! Within: `words` has the words as `clap` reads them, `call` what they ask for, `checking` and `testing` what each
+//! word writes, `input` and `output` what a run reads and writes, `running` one run from the words to the status.
 #![tactic(auto)]
 
 mod call;

@@ -20,7 +20,8 @@ use std::io::{Read, Write};
 
 /// Writes `memory`: what a run does where a growth was refused.
 pub fn out_of_memory<W: Write>(writer: &mut W) -> Status
-    ensures { (result ≡ Status.Failed) ⊎ ((result ≡ Status.Memory) × Appends (W.contents writer.old) (W.contents writer.new) (line (codes "memory"))) }
+    ensures { (result ≡ Status.Failed) ⊎ ((result ≡ Status.Memory) ×
+        Appends (W.contents writer.old) (W.contents writer.new) (line (codes "memory"))) }
 {
     match writer.write_all(b"memory\n") {
         Ok(()) => Status::Memory,
@@ -35,7 +36,8 @@ fn answer<R: Read, W: Write>(
     reader: &mut R,
     writer: &mut W,
 ) -> Status
-    ensures { Ran result (Some (asked call.entry)) (R.remaining reader.old) (W.contents writer.old) (W.contents writer.new) }
+    ensures { Ran result (Some (asked call.entry)) (R.remaining reader.old) (W.contents writer.old)
+        (W.contents writer.new) }
 {
     let input = match read_all(alloc, reader) {
         Ok(input) => input,
@@ -74,16 +76,17 @@ fn misused<W: Write>(alloc: Global, error: &Error, writer: &mut W) -> Status
 /// What the words ask for, the program's name first, with the input and the output that are lent.
 ///
 /// `test PACKET..` reads the text of a ruleset and writes a verdict line for each packet text in turn. A refused text
-/// gives `refused CAUSE line L` instead, and a text that is no packet `refused 30`, which ends the run. `check` writes the
-/// ruleset that the text comes to, in its expanded form, or its refusal; with `--anchor` the text is one for an anchor. All
-/// that is written goes to the writer at once; the input is 16,777,216 bytes at most.
+/// gives `refused CAUSE line L` instead, and a text that is no packet `refused 30`, which ends the run. `check` writes
+/// the ruleset that the text comes to, in its expanded form, or its refusal; with `--anchor` the text is one for an
+/// anchor. All that is written goes to the writer at once; the input is 16,777,216 bytes at most.
 pub fn run<S: AsStr, R: Read, W: Write>(
     alloc: Global,
     words: &[S],
     reader: &mut R,
     writer: &mut W,
 ) -> Status
-    ensures { Ran result (call_of (map S.text words.now)) (R.remaining reader.old) (W.contents writer.old) (W.contents writer.new) }
+    ensures { Ran result (call_of (map S.text words.now)) (R.remaining reader.old) (W.contents writer.old)
+        (W.contents writer.new) }
 {
     let Ok(command) = command(alloc) else {
         return out_of_memory(writer);

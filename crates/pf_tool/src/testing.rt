@@ -2,7 +2,8 @@
 
 ghost use Rattle.std.specs.Prelude.{◌≡◌, ◌++◌, [], Some, IfOk, OnOk, map, option_map, string_bytes};
 ghost use Rattle.pf_ruleset.specs.Rulesets.{ruleset_of};
-ghost use Rattle.pf_tool.specs.Tool.{line, refusal_line, verdict_for, verdict_lines, tested_over, nothing_loaded, refused_load, test_output};
+ghost use Rattle.pf_tool.specs.Tool.{line, refusal_line, verdict_for, verdict_lines, tested_over, nothing_loaded};
+ghost use Rattle.pf_tool.specs.Tool.{refused_load, test_output};
 ghost use Rattle.pf_config.specs.Changes.{load_ruleset};
 ghost use Rattle.pf_tool.specs.Output.{written};
 
@@ -89,7 +90,8 @@ fn refused_load(alloc: Global, code: u8) -> Result<Output, AllocError>
 
 /// The ruleset is loaded as the main one of an empty configuration, which then answers.
 fn tested_over(alloc: Global, rules: Ruleset, packets: &[&str]) -> Result<Output, AllocError>
-    ensures { IfOk result (λ o. written o ≡ tested_over (map (λ p. p.now) packets.now) (load_ruleset nothing_loaded [] (ruleset_of rules))) }
+    ensures { IfOk result (λ o. written o ≡ tested_over (map (λ p. p.now) packets.now)
+        (load_ruleset nothing_loaded [] (ruleset_of rules))) }
 {
     let mut config = Config::new(alloc)?;
     match config.load(&Path::main(alloc), rules) {

@@ -1,5 +1,7 @@
 -- Words that stand for numbers, for flags and for names.
-use Rattle.std.specs.Prelude.{ℕ, ◌+◌, ◌*◌, ◌-◌, ◌&&◌, ◌||◌, ◌==◌, Bool, true, false, List, [], ◌∷◌, length, Option, Some, None, nat_le, nat_lt, not, bytes_eq, codes, fold, if◌then◌else◌}
+use Rattle.std.specs.Prelude.{ℕ, ◌+◌, ◌*◌, ◌-◌, ◌&&◌, ◌||◌, ◌==◌, Bool, true, false, List, []}
+use Rattle.std.specs.Prelude.{◌∷◌, length, Option, Some, None, nat_le, nat_lt, not, bytes_eq, codes, fold}
+use Rattle.std.specs.Prelude.{if◌then◌else◌}
 use Rattle.std.specs.List.{list_all, list_any}
 use Rattle.std.specs.Char.{is_ascii_digit, is_ascii_alphabetic, is_ascii_alphanumeric}
 use Rattle.pf_words.specs.declared.flags.TcpFlags.{TcpFlags}
@@ -18,7 +20,8 @@ is_decimal most text = nat_lt 0 (length text) && nat_le (length text) most && li
 
 -- one to so many digits, whose number is at most this; leading zeros may stand within the digits
 unfoldable pub number_of : ℕ → ℕ → List ℕ → Option ℕ
-number_of digits most text = if is_decimal digits text && nat_le (decimal_value text) most then Some (decimal_value text) else None
+number_of digits most text = if is_decimal digits text && nat_le (decimal_value text) most
+    then Some (decimal_value text) else None
 
 -- ---- numbers with names
 
@@ -38,8 +41,10 @@ or_else None other = other
 -- protocols(5), those that have a name here
 abbrev pub protocols : List Named
 protocols =
-    (codes "icmp", 1) ∷ (codes "igmp", 2) ∷ (codes "tcp", 6) ∷ (codes "udp", 17) ∷ (codes "gre", 47) ∷ (codes "esp", 50)
-    ∷ (codes "ah", 51) ∷ (codes "icmp6", 58) ∷ (codes "ospf", 89) ∷ (codes "carp", 112) ∷ (codes "pfsync", 240) ∷ []
+    (codes "icmp", 1) ∷ (codes "igmp", 2) ∷ (codes "tcp", 6) ∷ (codes "udp", 17) ∷ (codes "gre", 47) ∷
+    (codes "esp", 50)
+    ∷ (codes "ah", 51) ∷ (codes "icmp6", 58) ∷ (codes "ospf", 89) ∷ (codes "carp", 112) ∷
+    (codes "pfsync", 240) ∷ []
 
 -- a protocol: 0 to 255 in one to three digits, or a name
 abbrev pub protocol_of : List ℕ → Option ℕ
@@ -50,7 +55,8 @@ abbrev pub services : List Named
 services =
     (codes "ftp", 21) ∷ (codes "ssh", 22) ∷ (codes "telnet", 23) ∷ (codes "smtp", 25) ∷ (codes "domain", 53)
     ∷ (codes "www", 80) ∷ (codes "http", 80) ∷ (codes "pop3", 110) ∷ (codes "ntp", 123) ∷ (codes "imap", 143)
-    ∷ (codes "snmp", 161) ∷ (codes "bgp", 179) ∷ (codes "ldap", 389) ∷ (codes "https", 443) ∷ (codes "submission", 587) ∷ []
+    ∷ (codes "snmp", 161) ∷ (codes "bgp", 179) ∷ (codes "ldap", 389) ∷ (codes "https", 443) ∷
+    (codes "submission", 587) ∷ []
 
 -- a port: 0 to 65535 in one to five digits, or a name
 abbrev pub port_of : List ℕ → Option ℕ
@@ -98,10 +104,14 @@ flags_of text = if are_letters text then Some (flags_with text) else None
 -- the words that both profiles keep for themselves
 abbrev pub common_reserved : List (List ℕ)
 common_reserved =
-    codes "pass" ∷ codes "block" ∷ codes "drop" ∷ codes "return" ∷ codes "in" ∷ codes "out" ∷ codes "log" ∷ codes "quick"
-    ∷ codes "on" ∷ codes "inet" ∷ codes "inet6" ∷ codes "proto" ∷ codes "all" ∷ codes "any" ∷ codes "from" ∷ codes "to"
-    ∷ codes "port" ∷ codes "flags" ∷ codes "no" ∷ codes "keep" ∷ codes "state" ∷ codes "set" ∷ codes "skip"
-    ∷ codes "block-policy" ∷ codes "table" ∷ codes "persist" ∷ codes "const" ∷ codes "counters" ∷ codes "anchor" ∷ []
+    codes "pass" ∷ codes "block" ∷ codes "drop" ∷ codes "return" ∷ codes "in" ∷ codes "out" ∷
+    codes "log" ∷ codes "quick"
+    ∷ codes "on" ∷ codes "inet" ∷ codes "inet6" ∷ codes "proto" ∷ codes "all" ∷ codes "any" ∷
+    codes "from" ∷ codes "to"
+    ∷ codes "port" ∷ codes "flags" ∷ codes "no" ∷ codes "keep" ∷ codes "state" ∷ codes "set" ∷
+    codes "skip"
+    ∷ codes "block-policy" ∷ codes "table" ∷ codes "persist" ∷ codes "const" ∷ codes "counters" ∷
+    codes "anchor" ∷ []
 
 abbrev pub is_among : List (List ℕ) → List ℕ → Bool
 is_among words text = list_any (λ word. bytes_eq text word) words
@@ -147,7 +157,16 @@ is_anchor_text text =
 
 -- no flag is set
 abbrev pub no_flags : TcpFlags
-no_flags = record { fin = false; syn = false; rst = false; psh = false; ack = false; urg = false; ece = false; cwr = false }
+no_flags = record {
+  fin = false;
+  syn = false;
+  rst = false;
+  psh = false;
+  ack = false;
+  urg = false;
+  ece = false;
+  cwr = false;
+}
 
 -- a flag of the first is one of the second
 abbrev pub implies : Bool → Bool → Bool

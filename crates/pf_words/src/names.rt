@@ -2,7 +2,8 @@
 
 ghost use Rattle.std.specs.Prelude.{◌≡◌};
 ghost use Rattle.std.specs.List.{list_all};
-ghost use Rattle.pf_words.specs.Words.{is_anchor_byte, is_anchor_text, is_interface_text, is_interface_name, is_table_byte, is_table_text, is_table_name, begins_with_letter};
+ghost use Rattle.pf_words.specs.Words.{is_anchor_byte, is_anchor_text, is_interface_text, is_interface_name};
+ghost use Rattle.pf_words.specs.Words.{is_table_byte, is_table_text, is_table_name, begins_with_letter};
 
 use crate::profile::Profile;
 use crate::words::is_reserved;

@@ -3,7 +3,8 @@
 ghost use Rattle.std.specs.Prelude.{◌≡◌, ◌≤◌, codes, length, map, true, IfSome};
 ghost use Rattle.std.specs.List.{list_all};
 ghost use Rattle.std.specs.Char.{is_ascii_digit};
-ghost use Rattle.pf_words.specs.Words.{number_of, decimal_value, named, protocol_of, port_of, icmp_type_of, is_letter, are_letters, flags_of, is_among, is_reserved};
+ghost use Rattle.pf_words.specs.Words.{number_of, decimal_value, named, protocol_of, port_of, icmp_type_of, is_letter};
+ghost use Rattle.pf_words.specs.Words.{are_letters, flags_of, is_among, is_reserved};
 
 use crate::flags::TcpFlags;
 use crate::profile::Profile;

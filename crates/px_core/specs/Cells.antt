@@ -1,5 +1,6 @@
 -- What the kept votes stand for: a ballot for each position and member.
-use Rattle.std.specs.Prelude.{ℕ, ◌+◌, ◌*◌, ◌%◌, Bool, ◌&&◌, List, if◌then◌else◌, nat_le, nat_lt, nat_eq, slice_index_or}
+use Rattle.std.specs.Prelude.{ℕ, ◌+◌, ◌*◌, ◌%◌, Bool, ◌&&◌, List, if◌then◌else◌, nat_le, nat_lt}
+use Rattle.std.specs.Prelude.{nat_eq, slice_index_or}
 use Rattle.px_core.specs.declared.votes.Cell.{Cell}
 
 abbrev pub empty_cell : Cell

@@ -1,5 +1,6 @@
 -- What the code's parts stand for, and what one function of the code promises another. Only code and proofs use these.
-use Rattle.std.specs.Prelude.{◌≡◌, ℕ, List, [], ◌∷◌, ◌++◌, Some, None, option_map, Bool, true, false, map, slice_index_or, ◌<◌, ◌≤◌, ◌+◌, length, if◌then◌else◌, nat_eq}
+use Rattle.std.specs.Prelude.{◌≡◌, ℕ, List, [], ◌∷◌, ◌++◌, Some, None, option_map, Bool, true, false}
+use Rattle.std.specs.Prelude.{map, slice_index_or, ◌<◌, ◌≤◌, ◌+◌, length, if◌then◌else◌, nat_eq}
 use Rattle.std.specs.Cmp.Lexicographic.{pointwise}
 use Rattle.px_model.specs.Node as node
 use Rattle.px_model.specs.Node.{Volatile, Envelope, Log}

@@ -1,5 +1,6 @@
 //! What waits, and the clock that begins proposals for it (Paxos Made Simple, 2.2, phase 1a; section 3 for the lead).
-ghost use Rattle.std.specs.Prelude.{◌≡◌, ℕ, ◌+◌, ◌*◌, ◌^◌, ◌<◌, ◌≤◌, IfOk, option_map, map, Some, None, length};
+ghost use Rattle.std.specs.Prelude.{◌≡◌, ℕ, ◌+◌, ◌*◌, ◌^◌, ◌<◌, ◌≤◌, IfOk, option_map};
+ghost use Rattle.std.specs.Prelude.{map, Some, None, length};
 ghost use Rattle.std.specs.Vec.{vec_len};
 ghost use Rattle.px_model.specs.Node.{Volatile, Log, Answer};
 ghost use Rattle.px_model.specs.Step.{on_ask, on_tick, new_round, use_lead, propose, front, told, positions};

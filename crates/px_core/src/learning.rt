@@ -1,8 +1,10 @@
 //! The learner (Paxos Made Simple, 2.3): votes are counted, and what was missed is told.
-ghost use Rattle.std.specs.Prelude.{◌≡◌, ℕ, ◌+◌, ◌<◌, ◌≤◌, IfOk, OnOk, is_none, ◌&&◌, length, Some, None, option_map, true, nat_eq};
+ghost use Rattle.std.specs.Prelude.{◌≡◌, ℕ, ◌+◌, ◌<◌, ◌≤◌, IfOk, OnOk, is_none, ◌&&◌, length};
+ghost use Rattle.std.specs.Prelude.{Some, None, option_map, true, nat_eq};
 ghost use Rattle.std.specs.Cmp.Lexicographic.{pointwise};
 ghost use Rattle.px_model.specs.Node.{Volatile, Log};
-ghost use Rattle.px_model.specs.Step.{on_vote, with_vote, on_learned, on_need, learn, idle, in_window, front, put, positions};
+ghost use Rattle.px_model.specs.Step.{on_vote, with_vote, on_learned, on_need, learn, idle, in_window, front, put};
+ghost use Rattle.px_model.specs.Step.{positions};
 ghost use Rattle.px_model.specs.Spelling.{Bytes};
 ghost use Rattle.px_core.specs.Cells.{kept_in};
 ghost use Rattle.px_model.specs.Entries.{entry_of, view_of};

@@ -1,5 +1,6 @@
 //! A core at its beginning, what a restart brings back and takes, and what is asked of a core.
-ghost use Rattle.std.specs.Prelude.{◌≡◌, ◌≤◌, ◌<◌, IfOk, OnOk, OnErr, IsTrue, ◌↔◌, option_map, Some, None, [], Bool};
+ghost use Rattle.std.specs.Prelude.{◌≡◌, ◌≤◌, ◌<◌, IfOk, OnOk, OnErr, IsTrue, ◌↔◌, option_map};
+ghost use Rattle.std.specs.Prelude.{Some, None, [], Bool};
 ghost use Rattle.px_model.specs.Step.{nothing_volatile, front, put, positions};
 ghost use Rattle.px_model.specs.Entries.{entry_of};
 ghost use Rattle.px_core.specs.Cells.{kept_in};
@@ -104,7 +105,8 @@ impl Core {
     #[tactic(auto, unfolding(crate::specs::Planning::state_of))]
     pub fn forget(&mut self)
         ensures state { state_of self.new ≡ record (state_of self.old) { volatile = nothing_volatile } }
-        ensures fits { (test : Bytes → Bool) → CoreFits test (state_of self.old) → CoreFits test (state_of self.new) }
+        ensures fits { (test : Bytes → Bool) → CoreFits test (state_of self.old) →
+            CoreFits test (state_of self.new) }
     {
         self.proposer.forget();
         self.learner.votes.forget();

@@ -5,7 +5,8 @@ ghost use Rattle.px_model.specs.Node.Answer.{Planned};
 ghost use Rattle.px_model.specs.Step.{on_message};
 ghost use Rattle.px_model.specs.Spelling.{Bytes};
 ghost use Rattle.px_model.specs.Views.{meta_of, slot_of, come_of};
-ghost use Rattle.px_core.specs.Planning.{state_in, state_of, planned, step_with, IsFor, IsRefusal, MayCome, MayComeFrom};
+ghost use Rattle.px_core.specs.Planning.{state_in, state_of, planned, step_with, IsFor, IsRefusal, MayCome};
+ghost use Rattle.px_core.specs.Planning.{MayComeFrom};
 ghost use Rattle.px_core.specs.Fitting.{CoreFits, HandedFits, PlanFits};
 ghost use Rattle.px_core.specs.Views.{made, volatile_in, log_in, RoomToLearn};
 

@@ -1,8 +1,10 @@
 //! The proposer goes on: promises are counted, and at a majority its accept requests go out (Paxos Made Simple, 2.2,
 //! phase 2a).
-ghost use Rattle.std.specs.Prelude.{◌≡◌, ℕ, ◌+◌, ◌<◌, ◌≤◌, IfOk, option_map, map, true, max, Some, None, if◌then◌else◌};
+ghost use Rattle.std.specs.Prelude.{◌≡◌, ℕ, ◌+◌, ◌<◌, ◌≤◌, IfOk, option_map, map, true, max};
+ghost use Rattle.std.specs.Prelude.{Some, None, if◌then◌else◌};
 ghost use Rattle.px_model.specs.Node.{Volatile, Log};
-ghost use Rattle.px_model.specs.Step.{on_promise_all, on_nack, gathered, phase_two, idle, put, better, choice, is_majority, drop_attempt, drop_lead, positions};
+ghost use Rattle.px_model.specs.Step.{on_promise_all, on_nack, gathered, phase_two, idle, put, better, choice};
+ghost use Rattle.px_model.specs.Step.{is_majority, drop_attempt, drop_lead, positions};
 ghost use Rattle.px_model.specs.Spelling.{Bytes};
 ghost use Rattle.px_model.specs.Entries.{entry_of, view_of};
 ghost use Rattle.px_core.specs.Logs.{learned_in};

@@ -1,5 +1,7 @@
 //! The volatile part is brought up to a plan whose change is committed. Nothing here takes memory.
-ghost use Rattle.std.specs.Prelude.{◌≡◌, ℕ, ◌<◌, ◌≤◌, option_map, map, Some, None, filter, not, is_some, length, if◌then◌else◌, nat_lt, nat_eq, ◌++◌, ◌∷◌, [], Bool};
+ghost use Rattle.std.specs.Prelude.{◌≡◌, ℕ, ◌<◌, ◌≤◌, option_map, map, Some, None, filter, not};
+ghost use Rattle.std.specs.Prelude.{is_some, length, if◌then◌else◌, nat_lt, nat_eq, ◌++◌, ◌∷◌, []};
+ghost use Rattle.std.specs.Prelude.{Bool};
 ghost use Rattle.std.specs.Vec.{vec_capacity};
 ghost use Rattle.std.specs.Cmp.Lexicographic.{pointwise};
 ghost use Rattle.px_model.specs.Node.{same_entry};

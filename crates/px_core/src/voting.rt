@@ -1,5 +1,6 @@
 //! Keeping and counting votes.
-ghost use Rattle.std.specs.Prelude.{◌≡◌, ℕ, ◌+◌, ◌*◌, ◌<◌, ◌≤◌, if◌then◌else◌, nat_lt, nat_eq, IfOk};
+ghost use Rattle.std.specs.Prelude.{◌≡◌, ℕ, ◌+◌, ◌*◌, ◌<◌, ◌≤◌, if◌then◌else◌, nat_lt};
+ghost use Rattle.std.specs.Prelude.{nat_eq, IfOk};
 ghost use Rattle.px_core.specs.Cells.{kept_in, forgotten_below};
 ghost use Rattle.px_model.specs.Step.{keep, is_majority};
 

@@ -1,9 +1,12 @@
 -- Single steps, computed: member 0 of three, with the record and the volatile part that each case says.
-use Rattle.std.specs.Prelude.{◌≡◌, ℕ, zero, suc, ◌^◌, Bool, true, false, List, [], ◌∷◌, ◌++◌, Option, Some, None, nat_eq}
-use Rattle.px_model.specs.Node.{Entry, Proposal, Slot, Meta, Change, Attempt, Volatile, Input, Plan, Answer, ballot_of, asker}
+use Rattle.std.specs.Prelude.{◌≡◌, ℕ, zero, suc, ◌^◌, Bool, true, false, List, [], ◌∷◌, ◌++◌}
+use Rattle.std.specs.Prelude.{Option, Some, None, nat_eq}
+use Rattle.px_model.specs.Node.{Entry, Proposal, Slot, Meta, Change, Attempt, Volatile, Input, Plan, Answer, ballot_of}
+use Rattle.px_model.specs.Node.{asker}
 use Rattle.px_model.specs.Node.Change.{NewRound, NewNumber, NewFloor, NewPromise, NewAccepted, NewLearned}
 use Rattle.px_model.specs.Node.Phase.{Preparing, Accepting}
-use Rattle.px_model.specs.Node.Message.{Prepare, Promise, PrepareAll, PromiseAll, Accept, Vote, Nack, Need, Learned, Ask, Asked, AskRefused}
+use Rattle.px_model.specs.Node.Message.{Prepare, Promise, PrepareAll, PromiseAll, Accept, Vote, Nack, Need, Learned}
+use Rattle.px_model.specs.Node.Message.{Ask, Asked, AskRefused}
 use Rattle.px_model.specs.Node.Input.{Asks, Ticks, Comes}
 use Rattle.px_model.specs.Node.Answer.{Refused, Planned}
 use Rattle.px_model.specs.Step.{nothing_volatile, idle, answered, put, keep, step}

@@ -1,12 +1,15 @@
 -- What can be spelled: the ranges that datagrams have for the numbers of messages, and what a member's parts
 -- must be so that it sends no others. n is the number of members, me the node.
 -- Bytes are left to whoever spells. IsSpelled says of a command that it has a spelling; entries carry that along.
-use Rattle.std.specs.Prelude.{◌≡◌, ℕ, ◌%◌, ◌^◌, ◌<◌, ◌≤◌, Bool, true, ◌⊎◌, List, [], length, Option, Some, None, IfSome}
+use Rattle.std.specs.Prelude.{◌≡◌, ℕ, ◌%◌, ◌^◌, ◌<◌, ◌≤◌, Bool, true, ◌⊎◌, List, []}
+use Rattle.std.specs.Prelude.{length, Option, Some, None, IfSome}
 use Rattle.px_model.specs.Node as node
-use Rattle.px_model.specs.Node.{Entry, Proposal, Slot, Meta, Log, Record, Change, Phase, Attempt, Lead, Volatile, Message, Envelope, Input, Answer, round_of, asker}
+use Rattle.px_model.specs.Node.{Entry, Proposal, Slot, Meta, Log, Record, Change, Phase, Attempt, Lead, Volatile}
+use Rattle.px_model.specs.Node.{Message, Envelope, Input, Answer, round_of, asker}
 use Rattle.px_model.specs.Node.Change.{NewRound, NewNumber, NewFloor, NewPromise, NewAccepted, NewLearned}
 use Rattle.px_model.specs.Node.Phase.{Preparing, Accepting}
-use Rattle.px_model.specs.Node.Message.{Prepare, Promise, PrepareAll, PromiseAll, Accept, Vote, Nack, Need, Learned, Asked, AskRefused}
+use Rattle.px_model.specs.Node.Message.{Prepare, Promise, PrepareAll, PromiseAll, Accept, Vote, Nack, Need, Learned}
+use Rattle.px_model.specs.Node.Message.{Asked, AskRefused}
 use Rattle.px_model.specs.Node.Input.{Asks, Ticks, Comes}
 use Rattle.px_model.specs.Node.Answer.{Refused, Planned}
 use Rattle.px_model.specs.Step.{positions, commit, front, step}
@@ -188,7 +191,8 @@ state_with s (Refused code) = s
 state_with s (Planned plan) = follows s plan
 
 -- what is written and sent fits, and the member fits afterwards
-pub record AnswerFits {C : Type 0} (IsSpelled : C → Type 0) (n me : ℕ) (s : NodeState C) (a : Answer C) : Type 0 where
+pub record AnswerFits {C : Type 0} (IsSpelled : C → Type 0) (n me : ℕ) (s : NodeState C) (a : Answer C) : Type
+    0 where
   pub change : IfSome (change_of a) (λ x. ChangeFits IsSpelled n x)
   pub sends : SendsFit IsSpelled n me (sends_of a)
   pub state : NodeFits IsSpelled n me (state_with s a)

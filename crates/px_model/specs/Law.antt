@@ -1,6 +1,7 @@
 -- What is promised of every world that is reached. Paxos Made Simple asks for it in 2.1: nothing is chosen that
 -- wasn't proposed, one value at most is chosen, nobody learns a value that isn't chosen.
-use Rattle.std.specs.Prelude.{◌≡◌, ℕ, zero, suc, ◌<◌, ◌≤◌, Bool, true, ◌⊎◌, List, [], ◌∷◌, ◌++◌, Option, Some, None}
+use Rattle.std.specs.Prelude.{◌≡◌, ℕ, zero, suc, ◌<◌, ◌≤◌, Bool, true, ◌⊎◌, List, [], ◌∷◌}
+use Rattle.std.specs.Prelude.{◌++◌, Option, Some, None}
 use Rattle.px_model.specs.Node.{IsEquality, Entry, Log, Message}
 use Rattle.px_model.specs.Node.Message.{Vote}
 use Rattle.px_model.specs.Step.{IsMajority}
@@ -85,25 +86,29 @@ world_after same n events = run same n events start
 -- the members agree
 abbrev pub AlwaysAgree : (C : Type 0) → Type 0
 AlwaysAgree C =
-    (same : C → C → Bool) → IsEquality same → (n : ℕ) → 1 ≤ n → n ≤ 15 → (events : List (Event C)) →
+    (same : C → C → Bool) → IsEquality same → (n : ℕ) → 1 ≤ n → n ≤ 15 →
+    (events : List (Event C)) →
     Agree n (world_after same n events)
 
 -- each entry acts once
 abbrev pub AlwaysOnce : (C : Type 0) → Type 0
 AlwaysOnce C =
-    (same : C → C → Bool) → IsEquality same → (n : ℕ) → 1 ≤ n → n ≤ 15 → (events : List (Event C)) →
+    (same : C → C → Bool) → IsEquality same → (n : ℕ) → 1 ≤ n → n ≤ 15 →
+    (events : List (Event C)) →
     Once (world_after same n events)
 
 -- nothing learned is lost
 abbrev pub AlwaysKept : (C : Type 0) → Type 0
 AlwaysKept C =
-    (same : C → C → Bool) → IsEquality same → (n : ℕ) → 1 ≤ n → n ≤ 15 → (events : List (Event C)) →
+    (same : C → C → Bool) → IsEquality same → (n : ℕ) → 1 ≤ n → n ≤ 15 →
+    (events : List (Event C)) →
     Kept (world_after same n events)
 
 -- At two moments of a run, two members that have learned positions 0 to k-1 make one state of them (3).
 abbrev pub AlwaysSameState : (C S : Type 0) → Type 0
 AlwaysSameState C S =
-    (same : C → C → Bool) → IsEquality same → (n : ℕ) → 1 ≤ n → n ≤ 15 → (before after : List (Event C)) →
+    (same : C → C → Bool) → IsEquality same → (n : ℕ) → 1 ≤ n → n ≤ 15 →
+    (before after : List (Event C)) →
     (f : S → Entry C → S) (s : S) (k m j : ℕ) (x y : S) →
     state_after f s (learned_of (world_after same n before) m) k ≡ Some x →
     state_after f s (learned_of (world_after same n (before ++ after)) j) k ≡ Some y →

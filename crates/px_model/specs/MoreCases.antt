@@ -1,5 +1,6 @@
 -- Single steps and short runs beside those of `Cases`: what no law would miss.
-use Rattle.std.specs.Prelude.{◌≡◌, ℕ, zero, suc, Bool, true, false, List, [], ◌∷◌, ◌++◌, Some, None, nat_eq}
+use Rattle.std.specs.Prelude.{◌≡◌, ℕ, zero, suc, Bool, true, false, List, [], ◌∷◌, ◌++◌, Some, None}
+use Rattle.std.specs.Prelude.{nat_eq}
 use Rattle.px_model.specs.Node.{Log, Volatile, Input, Answer, ballot_of}
 use Rattle.px_model.specs.Node.Change.{NewNumber, NewRound, NewPromise}
 use Rattle.px_model.specs.Node.Phase.{Preparing, Accepting}

@@ -1,4 +1,5 @@
--- What a member writes takes nothing back: no round is used twice, no promise falls, nothing learned is replaced (2.2, 2.5).
+-- What a member writes takes nothing back: no round is used twice, no promise falls, nothing learned is replaced (2.2,
+-- 2.5).
 use Rattle.std.specs.Prelude.{◌≡◌, ℕ, ◌+◌, ◌<◌, ◌≤◌, Bool, None, IfSome}
 use Rattle.px_model.specs.Node.{Record, Change, Plan, Input}
 use Rattle.px_model.specs.Node.Change.{NewRound, NewNumber, NewFloor, NewPromise, NewAccepted, NewLearned}

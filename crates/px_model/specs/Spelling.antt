@@ -1,6 +1,7 @@
 -- What the members see of an entry's spelling: who took the command in, its number there, and the command's bytes.
 -- What a command's bytes say is left to whoever spells commands.
-use Rattle.std.specs.Prelude.{ℕ, List, [], ◌∷◌, ◌++◌, Option, Some, None, take, drop, length, slice_index, if◌then◌else◌, nat_le}
+use Rattle.std.specs.Prelude.{ℕ, List, [], ◌∷◌, ◌++◌, Option, Some, None, take, drop, length, slice_index}
+use Rattle.std.specs.Prelude.{if◌then◌else◌, nat_le}
 use Rattle.std.specs.Int.{to_be_bytes, from_be_bytes, w64}
 use Rattle.px_model.specs.Node as node
 

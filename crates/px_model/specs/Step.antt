@@ -1,10 +1,14 @@
 -- One step of a node, which is proposer, acceptor and learner (Paxos Made Simple, 2.2, 2.3, 2.5 and 3).
 -- n is the number of members, me the node, same the equality of commands. A case reads one slot of the record.
-use Rattle.std.specs.Prelude.{ℕ, zero, suc, ◌+◌, ◌*◌, ◌^◌, ◌<◌, Bool, true, false, ◌&&◌, List, [], ◌∷◌, ◌++◌, length, Option, Some, None, max, if◌then◌else◌, nat_lt, nat_le, nat_eq, is_none}
-use Rattle.px_model.specs.Node.{Entry, Proposal, Slot, Meta, Log, Record, Change, Phase, Attempt, Lead, Volatile, Message, Envelope, Input, Plan, Answer, same_entry, ballot_of, round_of, asker}
+use Rattle.std.specs.Prelude.{ℕ, zero, suc, ◌+◌, ◌*◌, ◌^◌, ◌<◌, Bool, true, false, ◌&&◌, List, []}
+use Rattle.std.specs.Prelude.{◌∷◌, ◌++◌, length, Option, Some, None, max, if◌then◌else◌, nat_lt, nat_le}
+use Rattle.std.specs.Prelude.{nat_eq, is_none}
+use Rattle.px_model.specs.Node.{Entry, Proposal, Slot, Meta, Log, Record, Change, Phase, Attempt, Lead, Volatile}
+use Rattle.px_model.specs.Node.{Message, Envelope, Input, Plan, Answer, same_entry, ballot_of, round_of, asker}
 use Rattle.px_model.specs.Node.Change.{NewRound, NewNumber, NewFloor, NewPromise, NewAccepted, NewLearned}
 use Rattle.px_model.specs.Node.Phase.{Preparing, Accepting}
-use Rattle.px_model.specs.Node.Message.{Prepare, Promise, PrepareAll, PromiseAll, Accept, Vote, Nack, Need, Learned, Ask, Asked, AskRefused}
+use Rattle.px_model.specs.Node.Message.{Prepare, Promise, PrepareAll, PromiseAll, Accept, Vote, Nack, Need, Learned}
+use Rattle.px_model.specs.Node.Message.{Ask, Asked, AskRefused}
 use Rattle.px_model.specs.Node.Input.{Asks, Ticks, Comes}
 use Rattle.px_model.specs.Node.Answer.{Refused, Planned}
 
@@ -158,14 +162,16 @@ use_lead n me front v e lead = record {
 }
 
 -- e waits: by the lead if it has come to the front, else by a new ballot
-abbrev pub propose : {C : Type 0} → (n me : ℕ) → Meta → (front : ℕ) → Volatile C → Entry C → Option Lead →
+abbrev pub propose : {C : Type 0} → (n me : ℕ) → Meta → (front : ℕ) → Volatile C → Entry C →
+    Option Lead →
     Answer C
 propose n me meta front v e None = new_round n me meta front v
 propose n me meta front v e (Some lead) =
     if nat_le lead.from front then Planned (use_lead n me front v e lead) else new_round n me meta front v
 
 -- with nothing to propose, what is missing is asked for
-abbrev pub tick_for : {C : Type 0} → (n me : ℕ) → Meta → (front : ℕ) → Volatile C → List (Entry C) → Answer C
+abbrev pub tick_for : {C : Type 0} → (n me : ℕ) → Meta → (front : ℕ) → Volatile C → List (Entry C) →
+    Answer C
 tick_for n me meta front v [] =
     Planned (record { change = None; volatile = v; sends = to_all n me (Need front) })
 tick_for n me meta front v (e ∷ rest) = propose n me meta front v e v.lead
@@ -179,7 +185,8 @@ on_tick n me meta learned v =
 -- ---- the acceptor (2.2, phases 1b and 2b)
 
 -- for one position
-unfoldable pub on_prepare : {C : Type 0} → (me : ℕ) → Meta → Slot C → Volatile C → (from b p : ℕ) → Plan C
+unfoldable pub on_prepare : {C : Type 0} → (me : ℕ) → Meta → Slot C → Volatile C →
+    (from b p : ℕ) → Plan C
 on_prepare me meta slot v from b p =
     if nat_lt (promised_at meta slot) b
     then answered (Some (NewPromise p b)) v me from (Promise b p slot.accepted)
@@ -290,12 +297,14 @@ abbrev pub keep : ((position member : ℕ) → ℕ) → (p m b : ℕ) → (posit
 keep kept p m b q k = if nat_eq q p then (if nat_eq k m then max (kept q k) b else kept q k) else kept q k
 
 -- learned where the members whose kept ballot is b are a majority
-unfoldable pub with_vote : {C : Type 0} → (C → C → Bool) → (n : ℕ) → Log C → Volatile C → (b p : ℕ) →
+unfoldable pub with_vote : {C : Type 0} → (C → C → Bool) → (n : ℕ) → Log C → Volatile C →
+    (b p : ℕ) →
     Entry C → Plan C
 with_vote same n learned v b p e =
     if is_majority n (λ m. nat_eq (v.kept p m) b) then learn same learned v p e else idle v
 
-unfoldable pub on_vote : {C : Type 0} → (C → C → Bool) → (n : ℕ) → Log C → Volatile C → (from b p : ℕ) →
+unfoldable pub on_vote : {C : Type 0} → (C → C → Bool) → (n : ℕ) → Log C → Volatile C →
+    (from b p : ℕ) →
     Entry C → Plan C
 on_vote same n learned v from b p e =
     if is_none (learned p) && in_window (front learned) p
@@ -341,7 +350,8 @@ position_of (Comes from (PrepareAll b p)) = p
 position_of (Comes from (Accept b p e)) = p
 position_of _ = 0
 
-abbrev pub on_message : {C : Type 0} → (C → C → Bool) → (n me : ℕ) → Meta → Slot C → (top : ℕ) → Log C →
+abbrev pub on_message : {C : Type 0} → (C → C → Bool) → (n me : ℕ) → Meta → Slot C → (top : ℕ) →
+    Log C →
     Volatile C → (from : ℕ) → Message C → Plan C
 on_message same n me meta slot top log v from (Prepare b p) = on_prepare me meta slot v from b p
 on_message same n me meta slot top log v from (Promise b p a) = idle v
@@ -357,7 +367,8 @@ on_message same n me meta slot top log v from (Asked t k) = idle v
 on_message same n me meta slot top log v from (AskRefused t k) = idle v
 
 -- A node's answer to an input: slot is that of the input's position, top that of the whole record.
-unfoldable pub step : {C : Type 0} → (C → C → Bool) → (n me : ℕ) → Meta → Slot C → (top : ℕ) → Log C →
+unfoldable pub step : {C : Type 0} → (C → C → Bool) → (n me : ℕ) → Meta → Slot C → (top : ℕ) →
+    Log C →
     Volatile C → Input C → Answer C
 step same n me meta slot top log v (Asks c) = on_ask me meta log v c
 step same n me meta slot top log v Ticks = on_tick n me meta log v

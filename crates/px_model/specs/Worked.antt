@@ -1,6 +1,7 @@
 -- Worked runs, each with its whole outcome. Messages stand in the order of sending: a message's number is its
 -- place in the list, counted from 0. A command is a number here.
-use Rattle.std.specs.Prelude.{◌≡◌, ℕ, suc, zero, List, [], ◌∷◌, ◌++◌, length, Option, Some, None, nat_eq}
+use Rattle.std.specs.Prelude.{◌≡◌, ℕ, suc, zero, List, [], ◌∷◌, ◌++◌, length, Option, Some, None}
+use Rattle.std.specs.Prelude.{nat_eq}
 use Rattle.px_model.specs.Node.{Entry, Proposal, Message, Envelope, ballot_of}
 use Rattle.px_model.specs.Node.Message.{PrepareAll, PromiseAll, Accept, Vote}
 use Rattle.px_model.specs.Step.{front}

@@ -1,6 +1,7 @@
 -- The members, the network and their failures (Paxos Made Simple, 2.1): messages are lost, repeated, delayed
 -- and reordered, members stop and restart with what they recorded, and no message is altered.
-use Rattle.std.specs.Prelude.{ℕ, Bool, true, false, ◌&&◌, List, [], ◌∷◌, ◌++◌, Option, Some, None, if◌then◌else◌, nat_lt, nat_eq, slice_get}
+use Rattle.std.specs.Prelude.{ℕ, Bool, true, false, ◌&&◌, List, [], ◌∷◌, ◌++◌, Option, Some, None}
+use Rattle.std.specs.Prelude.{if◌then◌else◌, nat_lt, nat_eq, slice_get}
 use Rattle.px_model.specs.Node as node
 use Rattle.px_model.specs.Node.{Entry, Meta, Record, Change, Volatile, Envelope, Input, Plan, Answer, asker}
 use Rattle.px_model.specs.Node.Change.{NewNumber, NewLearned}
@@ -83,7 +84,8 @@ abbrev pub started : {C : Type 0} → Record C → NodeState C
 started d = record { is_up = true; stored = d; volatile = nothing_volatile }
 
 -- the step of the member m, as it stands
-abbrev pub step_in : {C : Type 0} → (C → C → Bool) → (n : ℕ) → World C → (m : ℕ) → Input C → Answer C
+abbrev pub step_in : {C : Type 0} → (C → C → Bool) → (n : ℕ) → World C → (m : ℕ) → Input C →
+    Answer C
 step_in same n w m input = step_of same n m (w.nodes m) input
 
 -- the messages that go to members; what goes to an asker is nobody's to deliver

@@ -1,5 +1,5 @@
-//! Tests of ranges, for whoever reads what somebody else may have written: what a member keeps within them can be spelled
-//! when it is sent.
+//! Tests of ranges, for whoever reads what somebody else may have written: what a member keeps within them can be
+//! spelled when it is sent.
 ghost use Rattle.std.specs.Prelude.{◌≡◌, ◌≤◌, ◌↔◌, Bool, true, IfSome, IsTrue};
 ghost use Rattle.px_model.specs.Bounds.{AnyCommand};
 ghost use Rattle.px_model.specs.Fits.{Passes, IsBallot, IsPromise, EntryFits, ProposalFits, MetaFits, SlotFits};
@@ -43,7 +43,8 @@ impl EntryView<'_> {
 fn is_accepted(members: u8, promised: u64, proposal: &Proposal<Entry>) -> bool
     ensures exact { IsTrue result ↔
         (ProposalFits AnyCommand members (proposal_of proposal.now) × (proposal.now.ballot ≤ promised)) }
-    ensures spelled { (test : Bytes → Bool) → IsTrue result → test (proposal_of proposal.now).entry.command ≡ true →
+    ensures spelled { (test : Bytes → Bool) → IsTrue result →
+        test (proposal_of proposal.now).entry.command ≡ true →
         ProposalFits (Passes test) members (proposal_of proposal.now) × (proposal.now.ballot ≤ promised) }
 {
     proposal.ballot <= promised

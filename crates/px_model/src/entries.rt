@@ -1,5 +1,6 @@
 //! Making, copying, comparing and reading entries.
-ghost use Rattle.std.specs.Prelude.{◌≡◌, ◌≤◌, ℕ, IfOk, IfSome, IsTrue, ◌↔◌, length, take, drop, ◌++◌, nat_eq, ◌&&◌, option_map};
+ghost use Rattle.std.specs.Prelude.{◌≡◌, ◌≤◌, ℕ, IfOk, IfSome, IsTrue, ◌↔◌, length, take, drop};
+ghost use Rattle.std.specs.Prelude.{◌++◌, nat_eq, ◌&&◌, option_map};
 ghost use Rattle.std.specs.Cmp.Lexicographic.{pointwise};
 ghost use Rattle.std.specs.Int.{from_be_bytes, w64};
 ghost use Rattle.px_model.specs.Node.{same_entry};

@@ -1,8 +1,14 @@
 //! Worked cases of the replicated log, computed on the definitions: whole runs, message by message, and single steps.
-ghost use Rattle.px_model.specs.Cases.{ANackDropsItsOwn, APromiseBinds, APromiseCountsOnce, AnAskerIsTold, NothingAfterTheLastPosition, RefusalsComeInOrder, TheClockMakesProposals, TheLearnedEntryLeaves, VotesCountInTheWindow};
+ghost use Rattle.px_model.specs.Cases.{ANackDropsItsOwn, APromiseBinds, APromiseCountsOnce, AnAskerIsTold};
+ghost use Rattle.px_model.specs.Cases.{NothingAfterTheLastPosition, RefusalsComeInOrder, TheClockMakesProposals};
+ghost use Rattle.px_model.specs.Cases.{TheLearnedEntryLeaves, VotesCountInTheWindow};
 ghost use Rattle.px_model.specs.FitsCases.{BallotsThatFit, OthersThatFit, RowsThatFit};
-ghost use Rattle.px_model.specs.MoreCases.{AProposalFromNothing, ALeadComesToTheFront, APromiseHereBindsToo, TheBordersAreExact, LearningLetsGo, NeedIsAnswered, NothingIsLearnedTwice, AStopKeepsWhatWasRecorded};
-ghost use Rattle.px_model.specs.Worked.{ALaterBallotTakesTheAcceptedEntry, AVoteCountsOnceAMember, WhatWasLearnedIsKept, AStopAfterTheRound, LearnedOutOfOrder, NoLeadBelowACountedTop};
+ghost use Rattle.px_model.specs.MoreCases.{AProposalFromNothing, ALeadComesToTheFront, APromiseHereBindsToo};
+ghost use Rattle.px_model.specs.MoreCases.{TheBordersAreExact, LearningLetsGo, NeedIsAnswered, NothingIsLearnedTwice};
+ghost use Rattle.px_model.specs.MoreCases.{AStopKeepsWhatWasRecorded};
+ghost use Rattle.px_model.specs.Worked.{ALaterBallotTakesTheAcceptedEntry, AVoteCountsOnceAMember};
+ghost use Rattle.px_model.specs.Worked.{WhatWasLearnedIsKept, AStopAfterTheRound, LearnedOutOfOrder};
+ghost use Rattle.px_model.specs.Worked.{NoLeadBelowACountedTop};
 
 /// A member that begins a later ballot proposes the entry that was accepted before, and its own at the next position.
 pub fn a_later_ballot_takes_the_accepted_entry()

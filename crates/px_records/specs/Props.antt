@@ -1,5 +1,6 @@
 -- What a record in memory keeps true of itself is a fact, and no more.
-use Rattle.std.proofs.Common.{◌≡◌, inl, inr, ◌≤◌, ℕ, zero, suc, Option, None, Some, IfSome, ap, subst, refl}
+use Rattle.std.proofs.Common.{◌≡◌, inl, inr, ◌≤◌, ℕ, zero, suc, Option, None, Some, IfSome, ap, subst}
+use Rattle.std.proofs.Common.{refl}
 use Rattle.std.specs.Prelude.{◌/◌, is_some, true}
 use Rattle.std.specs.Coded.{×_prop, Coded, code_by, coded×, coded_ℕ, coded_list, coded_option}
 use base.Stored.{Coded-set}

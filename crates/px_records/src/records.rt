@@ -76,7 +76,8 @@ pub trait Records {
         ensures ok { is_honest self.new → IfOk result (λ s. slot_of s ≡ (stored self.new).slots position) }
         ensures fits { IfOk result (λ s. SlotFits AnyCommand (members self.old) (slot_of s)) }
         ensures good { is_honest self.new → OnOk result (is_good self.new (SlotAt position)) }
-        ensures bad { is_honest self.new → result ≡ Err StoreFault.BadStore → is_good self.old (SlotAt position) → ⊥ }
+        ensures bad { is_honest self.new → result ≡ Err StoreFault.BadStore →
+            is_good self.old (SlotAt position) → ⊥ }
         ensures read { IsRead is_honest stored may_leave failed is_good self.old self.new }
         ensures counts { (result ≡ Err StoreFault.Failed) ↔ (0 < failed self.new) }
         ensures why { IsStoresFault result → may_fail self.old }
@@ -99,7 +100,8 @@ pub trait Records {
         ensures ok { is_honest self.new → IfOk result (λ e. learned_of e ≡ (stored self.new).learned position) }
         ensures fits { IfOk result (λ e. IfSome e (λ x. EntryFits AnyCommand (members self.old) (entry_of x))) }
         ensures good { is_honest self.new → OnOk result (is_good self.new (EntryAt position)) }
-        ensures bad { is_honest self.new → result ≡ Err StoreFault.BadStore → is_good self.old (EntryAt position) → ⊥ }
+        ensures bad { is_honest self.new → result ≡ Err StoreFault.BadStore →
+            is_good self.old (EntryAt position) → ⊥ }
         ensures read { IsRead is_honest stored may_leave failed is_good self.old self.new }
         ensures counts { (result ≡ Err StoreFault.Failed) ↔ (0 < failed self.new) }
         ensures why { IsStoresFault result → may_fail self.old }
@@ -125,7 +127,8 @@ pub trait Records {
         ensures was { is_honest self.new → is_honest self.old }
         ensures ok { is_honest self.new →
             OnOk result (stored self.new ≡ committed (Some (change_of change.now)) (stored self.old)) }
-        ensures memory { is_honest self.new → result ≡ Err StoreFault.Memory → stored self.new ≡ stored self.old }
+        ensures memory { is_honest self.new → result ≡ Err StoreFault.Memory → stored self.new ≡
+            stored self.old }
         ensures bad { result ≡ Err StoreFault.BadStore → ⊥ }
         ensures stop { is_honest self.new → LeavesOne stored may_leave self.old self.new (change_of change.now) }
         ensures counts { (result ≡ Err StoreFault.Failed) ↔ (0 < failed self.new) }
@@ -134,5 +137,6 @@ pub trait Records {
         ensures same { members self.new ≡ members self.old };
 
     // While no call has failed a stop leaves the record as it stands.
-    ghost settled: { (r : Self) → is_honest r → failed r ≡ 0 → (d : Record Bytes) → may_leave r d → d ≡ stored r };
+    ghost settled: { (r : Self) → is_honest r → failed r ≡ 0 → (d : Record Bytes) → may_leave r d →
+        d ≡ stored r };
 }

@@ -1,5 +1,5 @@
-//! Events through one member, to be timed (`scripts/core-speed`): an accept request, a vote and a telling at each position.
-//! The words say how many entries are learned before, and how many events come.
+//! Events through one member, to be timed (`scripts/core-speed`): an accept request, a vote and a telling at each
+//! position. The words say how many entries are learned before, and how many events come.
 #![tactic(auto)]
 
 mod record;

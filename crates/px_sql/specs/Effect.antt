@@ -1,5 +1,6 @@
 -- What a call does to a connection.
-use Rattle.std.specs.Prelude.{◌≡◌, ◌≢◌, ◌⊎◌, ℕ, false, IsTrue, List, [], ◌∷◌, length, ◌≤◌}
+use Rattle.std.specs.Prelude.{◌≡◌, ◌≢◌, ◌⊎◌, ℕ, false, IsTrue, List, [], ◌∷◌, length}
+use Rattle.std.specs.Prelude.{◌≤◌}
 use Rattle.sqlite_value.specs.Order.{Row}
 use Rattle.sqlite.specs.Tree.{Trees}
 use Rattle.sqlite.specs.State.{State}
@@ -14,7 +15,8 @@ pub record IsIdle (s : State) : Type 0 where
 -- Under this key the tree shows this row, and nothing else differs, where the key had one row of its own or none.
 pub record Puts (tree p : ℕ) (columns : List ℕ) (row : Row) (old new : Trees) : Type 0 where
   pub put : seen columns (new tree) p ≡ row ∷ []
-  pub others : IsKeyed p (seen columns (old tree) p) → (q : ℕ) → q ≢ p → rows_at (new tree) q ≡ rows_at (old tree) q
+  pub others : IsKeyed p (seen columns (old tree) p) → (q : ℕ) → q ≢ p → rows_at (new tree) q ≡
+      rows_at (old tree) q
   pub trees : (t : ℕ) → t ≢ tree → new t ≡ old t
 
 -- committed and open, over the four tables
@@ -47,7 +49,8 @@ LeavesWhole whole old new = (db : Trees) → new.may_leave db → old.may_leave 
 -- Beside what a stop left before it may leave one thing more, whole: of two that it may leave, one was left before, or
 -- they are the same.
 abbrev pub LeavesOneMore : State → State → Type 0
-LeavesOneMore old new = (a b : Trees) → new.may_leave a → new.may_leave b → old.may_leave a ⊎ (old.may_leave b ⊎
+LeavesOneMore old new = (a b : Trees) → new.may_leave a → new.may_leave b → old.may_leave a ⊎
+    (old.may_leave b ⊎
     (a ≡ b))
 
 -- the connection is open, and shows what it showed

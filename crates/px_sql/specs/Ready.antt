@@ -33,7 +33,8 @@ IsMeta id m db =
 -- transaction, has the tables, and the numbers are those of its rows
 abbrev pub IsReady : ℕ → Schema → Identity → Meta → State → Type 0
 IsReady failures opened id m s =
-    failures ≡ 0 → HasCleanDisk s → opened ≡ schema_3 → (s.now.schema ≡ schema_3) × ((s.in_transaction ≡ false) ×
+    failures ≡ 0 → HasCleanDisk s → opened ≡ schema_3 → (s.now.schema ≡ schema_3) ×
+    ((s.in_transaction ≡ false) ×
     ((s.is_open ≡ true) × IsMeta id m s.committed.trees))
 
 pub IsReady-prop : (failures : ℕ) (opened : Schema) (id : Identity) (m : Meta) (s : State) →

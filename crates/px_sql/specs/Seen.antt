@@ -1,6 +1,8 @@
 -- What the rows of the four tables say of a record.
-use Rattle.std.specs.Prelude.{◌≡◌, ⊤, ℕ, zero, suc, ◌<◌, ◌/◌, ◌%◌, ◌^◌, pos, negsuc, Bool, true, false, ◌&&◌}
-use Rattle.std.specs.Prelude.{if◌then◌else◌, List, [], ◌∷◌, map, filter, length, Option, Some, None, nat_eq, nat_le}
+use Rattle.std.specs.Prelude.{◌≡◌, ⊤, ℕ, zero, suc, ◌<◌, ◌/◌, ◌%◌, ◌^◌, pos, negsuc, Bool}
+use Rattle.std.specs.Prelude.{true, false, ◌&&◌}
+use Rattle.std.specs.Prelude.{if◌then◌else◌, List, [], ◌∷◌, map, filter, length, Option, Some, None, nat_eq}
+use Rattle.std.specs.Prelude.{nat_le}
 use Rattle.std.specs.Prelude.{nat_lt}
 use Rattle.sqlite.specs.declared.types.Value.{Value}
 use Rattle.sqlite.specs.declared.types.Value.TheVariants.{Null, Int, Real, Text, Blob}
@@ -166,7 +168,8 @@ floor_columns = 0 ∷ 2 ∷ []
 
 abbrev pub meta_row : (format cluster members node round number : ℕ) → Row
 meta_row format cluster members node round number =
-    Int (pos 1) ∷ Int (pos format) ∷ Int (pos cluster) ∷ Int (pos members) ∷ Int (pos node) ∷ Int (pos round) ∷ Int
+    Int (pos 1) ∷ Int (pos format) ∷ Int (pos cluster) ∷ Int (pos members) ∷ Int (pos node) ∷
+    Int (pos round) ∷ Int
     (pos number) ∷ []
 
 abbrev pub floor_row : ℕ → Row
@@ -188,7 +191,8 @@ Tells r at n = (is_number (column r at) ≡ true) × (number_in (column r at) �
 abbrev pub IsMetaIn : (cluster members node round number : ℕ) → List Row → Type 0
 IsMetaIn c m n round number [] = ⊥
 IsMetaIn c m n round number (r ∷ []) =
-    Tells r 0 1 × (Tells r 1 3 × (Tells r 2 c × (Tells r 3 m × (Tells r 4 n × (Tells r 5 round × Tells r 6 number)))))
+    Tells r 0 1 × (Tells r 1 3 ×
+    (Tells r 2 c × (Tells r 3 m × (Tells r 4 n × (Tells r 5 round × Tells r 6 number)))))
 IsMetaIn c m n round number (r ∷ x ∷ more) = ⊥
 
 -- no row, or one, which says a ballot above 0

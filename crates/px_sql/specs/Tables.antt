@@ -58,11 +58,13 @@ abbrev pub meta : Table
 meta = sheet (codes "meta") 0
     (key_column (codes "id") ∷ number_column (codes "format") ∷ number_column (codes "cluster") ∷ number_column
     (codes "members")
-    ∷ number_column (codes "node") ∷ number_column (codes "round") ∷ number_column (codes "number") ∷ []) only_row
+    ∷ number_column (codes "node") ∷ number_column (codes "round") ∷ number_column (codes "number") ∷
+    []) only_row
 
 abbrev pub slots : Table
 slots = sheet (codes "slots") 1
-    (key_column (codes "position") ∷ number_column (codes "promised") ∷ number_column (codes "ballot") ∷ bytes_column
+    (key_column (codes "position") ∷ number_column (codes "promised") ∷ number_column (codes "ballot") ∷
+    bytes_column
     (codes "entry") ∷ []) []
 
 abbrev pub floor : Table
@@ -143,7 +145,8 @@ any_entry = codes "SELECT position FROM learned LIMIT 1"
 -- ---- what the texts are given
 
 abbrev pub meta_params : (cluster members node round number : ℕ) → Row
-meta_params c m n round number = Int (pos c) ∷ Int (pos m) ∷ Int (pos n) ∷ Int (pos round) ∷ Int (pos number) ∷ []
+meta_params c m n round number = Int (pos c) ∷ Int (pos m) ∷ Int (pos n) ∷ Int (pos round) ∷
+    Int (pos number) ∷ []
 
 abbrev pub slot_params : (position promised ballot : ℕ) → List ℕ → Row
 slot_params p a b e = Int (pos p) ∷ Int (pos a) ∷ Int (pos b) ∷ Bytes e ∷ []

@@ -1,6 +1,7 @@
 //! The statements, one function each.
 
-ghost use Rattle.std.specs.Prelude.{◌≡◌, ◌<◌, ◌≤◌, ◌^◌, ℕ, pos, true, false, [], Err, OnOk, OnErr, IfOk, IfErr, IsTrue};
+ghost use Rattle.std.specs.Prelude.{◌≡◌, ◌<◌, ◌≤◌, ◌^◌, ℕ, pos, true, false, [], Err, OnOk};
+ghost use Rattle.std.specs.Prelude.{OnErr, IfOk, IfErr, IsTrue};
 ghost use Rattle.std.specs.List.Sorted.{IsPermutation};
 ghost use Rattle.sqlite.specs.Held.{state};
 ghost use Rattle.sqlite.specs.Tree.{Trees};

@@ -2,12 +2,13 @@
 //!
 //! # Organization
 //!
-//! - [`SqlRecords::adopt`] takes a store with the record of its rows: what it holds is read (`finding`) and judged, brought
-//!   to format 3 (`making`, `adopt`) and read again (`opening`); [`SqlRecords::release`] gives its connection back (`taking`).
-//! - [`SqlRecords`] keeps [`Records`](px_records::Records) (`sql`): reads by a position (`looking`), writes of one row each
-//!   (`writing`), over one function for each statement (`calls`). What rows say stands in `reading`.
-//! - `specs/Tables.antt` has the tables and the statements, `Seen.antt` the record that rows show, `Formats.antt` that of an
-//!   older format.
+//! - [`SqlRecords::adopt`] takes a store with the record of its rows: what it holds is read (`finding`) and judged,
+//!   brought to format 3 (`making`, `adopt`) and read again (`opening`); [`SqlRecords::release`] gives its connection
+//!   back (`taking`).
+//! - [`SqlRecords`] keeps [`Records`](px_records::Records) (`sql`): reads by a position (`looking`), writes of one row
+//!   each (`writing`), over one function for each statement (`calls`). What rows say stands in `reading`.
+//! - `specs/Tables.antt` has the tables and the statements, `Seen.antt` the record that rows show, `Formats.antt` that
+//!   of an older format.
 #![tactic(auto)]
 
 mod adopt;

@@ -109,7 +109,8 @@ impl<S: Alter> SqlRecords<S> {
         ensures value { (view_of S.Store self.new).is_honest →
             IfOk result (λ s. slot_with s.promised s.ballot s.entry.items ≡
             (view_of S.Store self.new).kept.slots position) }
-        ensures fits { IfOk result (λ s. is_slot self.old.identity.members s.promised s.ballot s.entry.items ≡ true) }
+        ensures fits { IfOk result (λ s. is_slot self.old.identity.members s.promised s.ballot s.entry.items ≡
+            true) }
         ensures bad { (view_of S.Store self.new).is_honest → result ≡ Err StoreFault.BadStore →
             (view_of S.Store self.old).is_good (SlotAt position) → ⊥ }
         ensures reads { OnlyReads (view_of S.Store self.old) (view_of S.Store self.new) }

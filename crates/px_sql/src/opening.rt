@@ -1,5 +1,6 @@
 //! What a store of format 3 shows as it is opened.
-ghost use Rattle.std.specs.Prelude.{◌≡◌, ◌<◌, ◌≤◌, ◌^◌, ◌⊎◌, Err, IfOk, OnOk, OnErr, true, [], ◌∷◌};
+ghost use Rattle.std.specs.Prelude.{◌≡◌, ◌<◌, ◌≤◌, ◌^◌, ◌⊎◌, Err, IfOk, OnOk, OnErr, true};
+ghost use Rattle.std.specs.Prelude.{[], ◌∷◌};
 ghost use Rattle.sqlite.specs.Held.{state};
 ghost use Rattle.sqlite.specs.State.{HasCleanDisk};
 ghost use Rattle.px_sql.specs.Tables.{schema_3};
@@ -26,7 +27,8 @@ fn meta_of<S: Alter>(conn: &mut Connection<S>, identity: Identity) -> Result<Num
     ensures why { OnErr result ((result ≡ Err AdoptFault.Memory) ⊎ (result ≡ Err AdoptFault.Failed)) }
     ensures rows { HasCleanDisk (state S.Store conn.new) → IsIdle (state S.Store conn.old) →
         IfOk result (λ m. seen meta_columns
-        ((state S.Store conn.old).now.trees 0) 1 ≡ meta_row 3 identity.cluster identity.members identity.node m.round m.number ∷ []) }
+        ((state S.Store conn.old).now.trees 0) 1 ≡ meta_row 3 identity.cluster identity.members identity.node m.round
+        m.number ∷ []) }
     ensures settled { HasCleanDisk (state S.Store conn.new) → IsIdle (state S.Store conn.old) →
         OnOk result (IsSettled (state S.Store conn.new)) }
     ensures stays { HasCleanDisk (state S.Store conn.new) → IsIdle (state S.Store conn.old) →

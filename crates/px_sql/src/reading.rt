@@ -1,6 +1,7 @@
 //! What the rows of an answer say.
 
-ghost use Rattle.std.specs.Prelude.{◌≡◌, ◌≢◌, ℕ, true, false, [], ◌∷◌, Err, IfOk, OnOk, OnErr, ◌<◌, ◌≤◌, ◌^◌};
+ghost use Rattle.std.specs.Prelude.{◌≡◌, ◌≢◌, ℕ, true, false, [], ◌∷◌, Err, IfOk, OnOk, OnErr};
+ghost use Rattle.std.specs.Prelude.{◌<◌, ◌≤◌, ◌^◌};
 ghost use Rattle.sqlite_value.specs.Order.{column};
 ghost use Rattle.px_model.specs.Bounds.{AnyCommand};
 ghost use Rattle.px_model.specs.Entries.{entry_of as stands_for};
@@ -249,7 +250,8 @@ fn meta_in_row(row: &Row, identity: Identity) -> Result<Numbers, ReadFault>
 
 /// What the row for the whole node says, which must be one of format 3 and of this node.
 pub(crate) fn meta_in_rows(rows: &[Row], identity: Identity) -> Result<Numbers, ReadFault>
-    ensures value { IfOk result (λ m. IsMetaIn identity.cluster identity.members identity.node m.round m.number rows.now) }
+    ensures value { IfOk result (λ m. IsMetaIn identity.cluster identity.members identity.node m.round m.number
+        rows.now) }
     ensures round { IfOk result (λ m. m.round < 2 ^ 48) }
     ensures number { IfOk result (λ m. m.number ≤ 2 ^ 48) }
 {

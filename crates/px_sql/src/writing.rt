@@ -128,7 +128,8 @@ impl<S: Alter> SqlRecords<S> {
             (view_of S.Store self.old).kept position entry.now)) }
         ensures memory { (view_of S.Store self.new).is_honest → result ≡ Err Trouble.Memory →
             Keeps (view_of S.Store self.old) (view_of S.Store self.new) }
-        ensures stop { (view_of S.Store self.new).is_honest → (view_of S.Store self.old).is_good (EntryAt position) →
+        ensures stop { (view_of S.Store self.new).is_honest →
+            (view_of S.Store self.old).is_good (EntryAt position) →
             LeavesOneOf (with_entry (view_of S.Store self.old).kept position entry.now) (view_of S.Store self.old)
             (view_of S.Store self.new) }
         ensures counts { (result ≡ Err Trouble.Failed) ↔ (0 < self.new.failures) }
@@ -152,7 +153,8 @@ impl<S: Alter> SqlRecords<S> {
         ensures value { (view_of S.Store self.new).is_honest →
             IfOk result (λ s. slot_with s.promised s.ballot s.entry.items ≡
             (view_of S.Store self.new).kept.slots position) }
-        ensures fits { IfOk result (λ s. is_slot self.old.identity.members s.promised s.ballot s.entry.items ≡ true) }
+        ensures fits { IfOk result (λ s. is_slot self.old.identity.members s.promised s.ballot s.entry.items ≡
+            true) }
         ensures bad { result ≡ Err StoreFault.BadStore → ⊥ }
         ensures reads { OnlyReads (view_of S.Store self.old) (view_of S.Store self.new) }
         ensures counts { (result ≡ Err StoreFault.Failed) ↔ (0 < self.new.failures) }

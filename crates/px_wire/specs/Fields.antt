@@ -1,11 +1,15 @@
 -- The fields of a datagram, each with its offset, its length, what is allowed there, and the code where it isn't.
-use Rattle.std.specs.Prelude.{◌≡◌, ℕ, ◌+◌, ◌==◌, ◌&&◌, Bool, false, nat_le, nat_lt, List, [], ◌∷◌, length, take, drop, Option, Some, None, option_map, is_some, if◌then◌else◌}
+use Rattle.std.specs.Prelude.{◌≡◌, ℕ, ◌+◌, ◌==◌, ◌&&◌, Bool, false, nat_le, nat_lt, List, []}
+use Rattle.std.specs.Prelude.{◌∷◌, length, take, drop, Option, Some, None, option_map, is_some}
+use Rattle.std.specs.Prelude.{if◌then◌else◌}
 use Rattle.std.specs.Int.{Width, w8, w32, w64, byte_len, from_be_bytes}
 use Rattle.pf_entry.specs.Entry as entries
 use Rattle.pf_entry.specs.Reading as entry_reading
 use Rattle.px_wire.specs.declared.membership.Membership.{Membership}
 use Rattle.px_wire.specs.declared.fault.WireFault.{WireFault}
-use Rattle.px_wire.specs.Message.{group, Lent, Message, prepare, promise, accept, vote, nack, need, learned, ask, asked, ask_refused, prepare_all, promise_all, is_member, is_asker, is_party, is_kind, is_ballot, is_ballot_of, is_position, is_top, is_number, is_refusal, is_accepted}
+use Rattle.px_wire.specs.Message.{group, Lent, Message, prepare, promise, accept, vote, nack, need, learned, ask, asked}
+use Rattle.px_wire.specs.Message.{ask_refused, prepare_all, promise_all, is_member, is_asker, is_party, is_kind}
+use Rattle.px_wire.specs.Message.{is_ballot, is_ballot_of, is_position, is_top, is_number, is_refusal, is_accepted}
 
 -- a field as it stands in given bytes
 pub record Field : Type 0 where

@@ -2,14 +2,16 @@
 use Rattle.std.specs.Prelude.{ℕ, Option, Some, None}
 use Rattle.px_model.specs.Node as node
 use Rattle.px_model.specs.Node.{Entry, Proposal, Envelope}
-use Rattle.px_model.specs.Node.Message.{Prepare, Promise, PrepareAll, PromiseAll, Accept, Vote, Nack, Need, Learned, Asked, AskRefused}
+use Rattle.px_model.specs.Node.Message.{Prepare, Promise, PrepareAll, PromiseAll, Accept, Vote, Nack, Need, Learned}
+use Rattle.px_model.specs.Node.Message.{Asked, AskRefused}
 use Rattle.px_model.specs.Fits.{Passes, EnvelopeFits}
 use Rattle.px_model.specs.Spelling.{Bytes, command_in, spelled}
 use Rattle.px_model.specs.Views.{come_of}
 use Rattle.px_model.specs.declared.entry.EntryView.{EntryView}
 use Rattle.px_model.specs.declared.message.Message as declared
 use Rattle.px_wire.specs.declared.membership.Membership.{Membership}
-use Rattle.px_wire.specs.Message.{Lent, Message, prepare, promise, accept, vote, nack, need, learned, ask, asked, ask_refused, prepare_all, promise_all}
+use Rattle.px_wire.specs.Message.{Lent, Message, prepare, promise, accept, vote, nack, need, learned, ask, asked}
+use Rattle.px_wire.specs.Message.{ask_refused, prepare_all, promise_all}
 use Rattle.px_wire.specs.Sent.{is_command}
 
 -- ---- sent

@@ -1,10 +1,12 @@
 -- What a member can show of what it sends, in numbers. Then its message has a spelling.
 -- n is the number of members. A command is given by its bytes: an entry's spelling without who asked and the number.
-use Rattle.std.specs.Prelude.{◌≡◌, ℕ, ◌<◌, ◌≤◌, ◌^◌, ◌/◌, ◌%◌, ◌&&◌, ◌⊎◌, Bool, true, false, is_some, nat_lt, slice_index_or, List, [], Option, Some, None}
+use Rattle.std.specs.Prelude.{◌≡◌, ℕ, ◌<◌, ◌≤◌, ◌^◌, ◌/◌, ◌%◌, ◌&&◌, ◌⊎◌, Bool}
+use Rattle.std.specs.Prelude.{true, false, is_some, nat_lt, slice_index_or, List, [], Option, Some, None}
 use Rattle.std.specs.List.{list_all}
 use Rattle.pf_entry.specs.Reading.{reading}
 use Rattle.px_model.specs.Spelling.{command_in, spelled}
-use Rattle.px_wire.specs.Message.{Lent, Message, prepare, promise, accept, vote, nack, need, learned, ask, asked, ask_refused, prepare_all, promise_all}
+use Rattle.px_wire.specs.Message.{Lent, Message, prepare, promise, accept, vote, nack, need, learned, ask, asked}
+use Rattle.px_wire.specs.Message.{ask_refused, prepare_all, promise_all}
 
 -- ---- commands
 

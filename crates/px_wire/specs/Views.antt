@@ -7,7 +7,8 @@ use Rattle.px_model.specs.declared.record.Proposal.{Proposal}
 use Rattle.px_model.specs.declared.message.Message as declared
 use Rattle.px_model.specs.declared.message.Message.TheVariants as views
 use Rattle.px_wire.specs.declared.fault.WireFault.{WireFault}
-use Rattle.px_wire.specs.Message.{Lent, Message, prepare, promise, accept, vote, nack, need, learned, ask, asked, ask_refused, prepare_all, promise_all}
+use Rattle.px_wire.specs.Message.{Lent, Message, prepare, promise, accept, vote, nack, need, learned, ask, asked}
+use Rattle.px_wire.specs.Message.{ask_refused, prepare_all, promise_all}
 use Rattle.px_wire.specs.Fields.{Field, fault_of, first_fault}
 
 -- an entry with the bytes that spell it

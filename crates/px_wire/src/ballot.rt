@@ -1,6 +1,7 @@
 //! Ballots.
 
-ghost use Rattle.std.specs.Prelude.{◌≡◌, ◌↔◌, ◌<◌, ◌≤◌, ◌+◌, ◌*◌, ◌^◌, ℕ, IfSome, IsSome};
+ghost use Rattle.std.specs.Prelude.{◌≡◌, ◌↔◌, ◌<◌, ◌≤◌, ◌+◌, ◌*◌, ◌^◌, ℕ, IfSome};
+ghost use Rattle.std.specs.Prelude.{IsSome};
 
 use crate::limits::{BALLOTS, FIRST_BALLOT};
 

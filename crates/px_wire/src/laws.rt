@@ -1,6 +1,7 @@
 //! What holds of all datagrams.
 
-ghost use Rattle.std.specs.Prelude.{◌≡◌, ◌<◌, ◌≤◌, ◌^◌, ◌++◌, ℕ, Bool, List, [], Some, None, true, IsOkAnd};
+ghost use Rattle.std.specs.Prelude.{◌≡◌, ◌<◌, ◌≤◌, ◌^◌, ◌++◌, ℕ, Bool, List, [], Some, None};
+ghost use Rattle.std.specs.Prelude.{true, IsOkAnd};
 ghost use Rattle.px_wire.specs.declared.membership.Membership.{Membership};
 ghost use Rattle.px_wire.specs.Message as datagrams;
 ghost use Rattle.px_wire.specs.Message.{Group, group, HasSpelling, DatagramBytes};

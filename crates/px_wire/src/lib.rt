@@ -40,9 +40,9 @@
 //!
 //! A ballot has eight bytes: `round * 256 + member`, the round 1 to 2^48-1. A position has four bytes and is at most
 //! 999,999, a top at most 1,000,000. Accepted is a ballot of 0 for none, else one below the promise's with a length and
-//! an entry behind it. Promised is a ballot not below the first. A length has four bytes and is 1 to 32,768, and so many
-//! bytes spell an entry ([`pf_entry`]): asked of a member, but in an Ask, where its origin is 255 and its number the
-//! asker's token. Tokens and numbers have eight bytes and are below 2^48. A code is one byte, 60 or 62.
+//! an entry behind it. Promised is a ballot not below the first. A length has four bytes and is 1 to 32,768, and so
+//! many bytes spell an entry ([`pf_entry`]): asked of a member, but in an Ask, where its origin is 255 and its number
+//! the asker's token. Tokens and numbers have eight bytes and are below 2^48. A code is one byte, 60 or 62.
 //!
 //! Fields are read in this order. A field whose bytes aren't all there is 50 at its offset, a value that isn't allowed
 //! is refused at its offset, and 56 is at the first byte after the last field.

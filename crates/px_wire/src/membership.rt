@@ -1,6 +1,7 @@
 //! Who takes part.
 
-ghost use Rattle.std.specs.Prelude.{◌≡◌, ◌≤◌, ◌<◌, ◌==◌, ◌||◌, ◌&&◌, nat_le, nat_lt, IsTrue, IsSome, IfSome, ◌↔◌};
+ghost use Rattle.std.specs.Prelude.{◌≡◌, ◌≤◌, ◌<◌, ◌==◌, ◌||◌, ◌&&◌, nat_le, nat_lt};
+ghost use Rattle.std.specs.Prelude.{IsTrue, IsSome, IfSome, ◌↔◌};
 
 use crate::limits::{ASKER, MEMBERS};
 
