@@ -4,3 +4,4 @@ pub mod PiecesSpelled
 pub mod CommonSpelled
 pub mod FlagsSpelled
 pub mod NoLonger
+pub mod TargetSteps

@@ -5,18 +5,20 @@
 //! - [`WrittenConditions`]: what a rule or an anchor rule says of packets, with [`Common`], [`End`], [`Protocol`],
 //!   [`WrittenPort`] and [`WrittenType`].
 //! - [`read_common`], [`read_flags`] and [`read_types`] read its parts at a parser of `pf_tokens`; [`read_prefix`] and
-//!   [`read_table`], prefixes and names of tables.
+//!   [`read_table`], prefixes and names of tables; [`read_target`], the names of an anchor.
 //! - [`InterfaceNameProduction`], the name of an interface, which may stand in a list.
 #![tactic(auto)]
 
 mod behind;
 mod common;
+mod cut;
 mod ends;
 mod flags;
 mod hosts;
 mod interfaces;
 mod ports;
 mod protocols;
+mod targets;
 mod types;
 mod written;
 
@@ -24,5 +26,6 @@ pub use common::read_common;
 pub use flags::read_flags;
 pub use hosts::{read_prefix, read_table};
 pub use interfaces::InterfaceNameProduction;
+pub use targets::read_target;
 pub use types::read_types;
 pub use written::{Common, End, Protocol, WrittenConditions, WrittenPort, WrittenType};

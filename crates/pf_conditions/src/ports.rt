@@ -11,6 +11,7 @@ ghost use Rattle.pf_conditions.specs.Conditions.{operator_at, compared_at, port_
 ghost use Rattle.pf_conditions.specs.Seen.{compared};
 ghost use Rattle.pf_conditions.specs.Shorter.{port_shorter};
 
+use crate::cut::cut;
 use crate::written::{Comparison, WrittenPort};
 use pf_ruleset::PortTest;
 use pf_tokens::{Element, Parser, Stop, Symbol};
@@ -29,19 +30,6 @@ fn compared(comparison: Comparison, port: u16) -> PortTest
         Comparison::Greater => PortTest::Greater(port),
         Comparison::GreaterEqual => PortTest::GreaterEqual(port),
     }
-}
-
-/// What stands before the first colon, and what after it, if there is one.
-#[tactic(auto, using(pf_addr::proofs::Pieces::cut_found, pf_addr::proofs::Pieces::cut_none))]
-fn cut(text: &[u8]) -> (&[u8], Option<&[u8]>)
-    ensures { (result.0.now, option_copied result.1) ≡ cut_at 58 text.now }
-{
-    for (i, b) in text.iter().enumerate() {
-        if *b == b':' {
-            return (&text[..i], Some(&text[i + 1..]));
-        }
-    }
-    (text, None)
 }
 
 /// The port that the word names.
@@ -83,7 +71,7 @@ fn outside(first: &[u8], last: &[u8]) -> Option<PortTest>
 fn colon_parts(word: &[u8]) -> Option<(&[u8], &[u8])>
     ensures { option_map (λ parts. (parts.0.now, parts.1.now)) result ≡ colon_parts (cut_at 58 word.now) }
 {
-    let (first, rest) = cut(word);
+    let (first, rest) = cut(word, b':');
     let last = rest?;
     if first.is_empty() || last.is_empty() || last.contains(&b':') {
         return None;

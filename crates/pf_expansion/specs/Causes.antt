@@ -4,8 +4,8 @@ use Rattle.std.specs.Prelude.{length, Option, Some, None, is_none, is_some, nat_
 use Rattle.std.specs.List.{list_any, list_all}
 use Rattle.pf_tokens.specs.Lists.{Elements}
 use Rattle.pf_expansion.specs.declared.cause.Cause.{Cause}
-use Rattle.pf_expansion.specs.declared.cause.Cause.TheVariants.{Lexical, Macro, Syntax, Ports, NoCombination, Twice}
-use Rattle.pf_expansion.specs.declared.cause.Cause.TheVariants.{SetHere, TooMany, IcmpType}
+use Rattle.pf_expansion.specs.declared.cause.Cause.TheVariants.{Lexical, Macro, Syntax, Ports, NoCombination, Reserved}
+use Rattle.pf_expansion.specs.declared.cause.Cause.TheVariants.{Twice, SetHere, TooMany, IcmpType}
 use Rattle.pf_conditions.specs.declared.written.Protocol.{Protocol}
 use Rattle.pf_conditions.specs.declared.written.WrittenPort.{WrittenPort}
 use Rattle.pf_conditions.specs.declared.written.WrittenType.{WrittenType}
@@ -20,6 +20,7 @@ cause_code Macro = 11
 cause_code Syntax = 12
 cause_code Ports = 13
 cause_code NoCombination = 14
+cause_code Reserved = 15
 cause_code Twice = 16
 cause_code SetHere = 17
 cause_code TooMany = 18
@@ -106,13 +107,12 @@ abbrev pub lowest : List (Bool × Cause) → Option Cause
 lowest [] = None
 lowest (row ∷ rows) = if row.0 then Some row.1 else lowest rows
 
--- each cause with its test, the lowest first, where so many rules stand before
-abbrev pub condition_causes : FlagTest → ℕ → ConditionsText → List (Bool × Cause)
-condition_causes test before text =
-    (bad_ports text, Ports) ∷ (has_no_combination test text, NoCombination) ∷ (
-      has_too_many test before text,
-      TooMany,
-    ) ∷ (bad_types text, IcmpType) ∷ []
+-- each cause with its test, the lowest first, where so many rules stand before, and a name is reserved or not
+abbrev pub condition_causes : FlagTest → ℕ → Bool → ConditionsText → List (Bool × Cause)
+condition_causes test before reserved text =
+    (bad_ports text, Ports) ∷ (has_no_combination test text, NoCombination) ∷ (reserved, Reserved)
+    ∷ (has_too_many test before text, TooMany) ∷ (bad_types text, IcmpType) ∷ []
 
+-- a filter rule names no anchor
 abbrev pub rule_causes : ℕ → RuleText → List (Bool × Cause)
-rule_causes before text = condition_causes (rule_flags text) before text.conditions
+rule_causes before text = condition_causes (rule_flags text) before false text.conditions

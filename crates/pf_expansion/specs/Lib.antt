@@ -2,3 +2,4 @@ pub mod Expansion
 pub mod Chosen
 pub mod Causes
 pub mod Tables
+pub mod Anchors

@@ -17,6 +17,8 @@ pub enum Cause {
     Ports,
     /// 14: no combination of what is listed is of one family.
     NoCombination,
+    /// 15: a name of an anchor that begins with `_`: such names are those of unnamed blocks.
+    Reserved,
     /// 16: a table that the text has defined before.
     Twice,
     /// 17: `set` in a text for an anchor.
@@ -41,6 +43,7 @@ impl Cause {
             Cause::Syntax => 12,
             Cause::Ports => 13,
             Cause::NoCombination => 14,
+            Cause::Reserved => 15,
             Cause::Twice => 16,
             Cause::SetHere => 17,
             Cause::TooMany => 18,

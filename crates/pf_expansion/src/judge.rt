@@ -219,31 +219,41 @@ fn bad_types(text: &WrittenConditions) -> bool
     has_bad_type(&text.types) || (text.types.is_some() && !all_are_icmp(&text.common.protocols))
 }
 
-/// The conditions of all combinations behind so many rules, or the lowest cause that refuses them.
+/// The conditions of all combinations behind so many rules, or the lowest cause that refuses them, where a name is
+/// reserved or not.
 #[tactic(auto, unfolding(crate::specs::Causes::has_no_combination, crate::specs::Causes::has_too_many))]
 pub(crate) fn judge_conditions(
     alloc: Global,
     test: FlagTest,
     before: usize,
+    reserved: bool,
     text: &WrittenConditions,
 ) -> Result<Result<Vec<Conditions>, Cause>, AllocError>
     ensures allowed { IfOk result (λ judged.
-        IfOk judged (λ found. lowest (condition_causes test before (conditions_of text.now)) ≡ None)) }
+        IfOk judged (λ found. lowest (condition_causes test before reserved (conditions_of text.now)) ≡ None)) }
     ensures found { IfOk result (λ judged. IfOk judged (λ found. found.items ≡
         combined test (conditions_of text.now))) }
     ensures few { IfOk result (λ judged. IfOk judged (λ found. before + length found.items ≤ 1024)) }
     ensures refused { IfOk result (λ judged.
-        IfErr judged (λ cause. lowest (condition_causes test before (conditions_of text.now)) ≡ Some cause)) }
+        IfErr judged (λ cause. lowest (condition_causes test before reserved (conditions_of text.now)) ≡
+        Some cause)) }
 {
     if bad_ports(text) {
         return Ok(Err(Cause::Ports));
     }
     if is_too_wide(text) {
-        return Ok(Err(Cause::TooMany));
+        return Ok(Err(if reserved {
+            Cause::Reserved
+        } else {
+            Cause::TooMany
+        }));
     }
     let found = combined(alloc, test, text)?;
     if found.is_empty() {
         return Ok(Err(Cause::NoCombination));
+    }
+    if reserved {
+        return Ok(Err(Cause::Reserved));
     }
     if has_deep_list(text) || before.saturating_add(found.len()) > MOST_RULES {
         return Ok(Err(Cause::TooMany));

@@ -4,16 +4,19 @@
 //!
 //! - [`judge_rule`]: one [`Rule`](pf_ruleset::Rule) for each combination of what a rule lists, or the lowest [`Cause`]
 //!   that refuses it.
+//! - [`judge_anchor`]: the same of an anchor rule.
 //! - [`judge_table`]: the table that a table statement defines, or the lowest cause that refuses it.
 //! - [`is_deep`]: whether too many lists stand in one another.
 #![tactic(auto)]
 
+mod anchors;
 mod cause;
 mod expand;
 mod judge;
 mod rules;
 mod tables;
 
+pub use anchors::judge_anchor;
 pub use cause::Cause;
 pub use judge::is_deep;
 pub use rules::judge_rule;

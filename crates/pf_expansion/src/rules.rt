@@ -61,7 +61,7 @@ fn keeps_state(action: WrittenAction, state: Option<bool>) -> bool
 }
 
 /// The flags that are asked for.
-fn tested_flags(keep: bool, written: Option<FlagTest>) -> FlagTest
+pub(crate) fn tested_flags(keep: bool, written: Option<FlagTest>) -> FlagTest
     ensures { result ≡ tested_flags keep written }
 {
     match written {
@@ -123,7 +123,7 @@ pub fn judge_rule(
     ensures refused { IfOk result (λ judged. IfErr judged (λ cause. lowest (rule_causes before (text_of text.now)) ≡
         Some cause)) }
 {
-    match judge_conditions(alloc, rule_flags(text), before, &text.conditions)? {
+    match judge_conditions(alloc, rule_flags(text), before, false, &text.conditions)? {
         Ok(found) => Ok(Ok(rules_with(alloc, policy, text, found)?)),
         Err(cause) => Ok(Err(cause)),
     }

@@ -135,7 +135,7 @@ flags_of_rule : (r : Rule) → FitsState r.action r.keeps_state → rule_flags (
 flags_of_rule r fits = ap (λ (keep : Bool). tested_flags keep (written_flags r.action r.conditions.flags)) (state_again r.action r.keeps_state fits) ∙ flags_again r.action r.keeps_state r.conditions.flags fits
 
 -- its lists come to its conditions
-combined_again : (profile : Profile) (r : Rule) → FitsRule profile r → combined (rule_flags (written r)) (written_conditions r) ≡ r.conditions ∷ []
+pub combined_again : (profile : Profile) (r : Rule) → FitsRule profile r → combined (rule_flags (written r)) (written_conditions r) ≡ r.conditions ∷ []
 unfolding conditions_at
 combined_again profile r fits =
     one_combination (rule_flags (written r)) r
@@ -164,7 +164,7 @@ all_ported : (o : Option ℕ) → all_listed has_ports (one_if written_protocol 
 all_ported None = refl
 all_ported (Some n) = and_true (n == 6 || n == 17)
 
-no_bad_ports : (profile : Profile) (r : Rule) → FitsRule profile r → bad_ports (written_conditions r) ≡ false
+pub no_bad_ports : (profile : Profile) (r : Rule) → FitsRule profile r → bad_ports (written_conditions r) ≡ false
 unfolding bad_ports
 no_bad_ports profile r fits =
     let q = r.conditions in
@@ -189,11 +189,11 @@ no_deep_list r =
 room_left : (before : ℕ) → before < 1024 → nat_lt 1024 (before + 1) ≡ false
 room_left before h = grind (arith, nat_tests, h)
 
-not_too_many : (profile : Profile) (before : ℕ) (r : Rule) → FitsRule profile r → before < 1024 → has_too_many (rule_flags (written r)) before (written_conditions r) ≡ false
+pub not_too_many : (profile : Profile) (before : ℕ) (r : Rule) → FitsRule profile r → before < 1024 → has_too_many (rule_flags (written r)) before (written_conditions r) ≡ false
 unfolding has_too_many
 not_too_many profile before r fits h = rw (narrow r, no_deep_list r, combined_again profile r fits) (room_left before h)
 
-some_combination : (profile : Profile) (r : Rule) → FitsRule profile r → has_no_combination (rule_flags (written r)) (written_conditions r) ≡ false
+pub some_combination : (profile : Profile) (r : Rule) → FitsRule profile r → has_no_combination (rule_flags (written r)) (written_conditions r) ≡ false
 unfolding has_no_combination
 some_combination profile r fits = rw (narrow r, combined_again profile r fits) refl
 
@@ -201,7 +201,7 @@ types_there : (profile : Profile) (protocol : Option ℕ) (o : Option ℕ) → F
 types_there profile protocol None fits = refl
 types_there profile protocol (Some n) fits = rw fits.2 refl
 
-no_bad_types : (profile : Profile) (r : Rule) → FitsRule profile r → bad_types (written_conditions r) ≡ false
+pub no_bad_types : (profile : Profile) (r : Rule) → FitsRule profile r → bad_types (written_conditions r) ≡ false
 unfolding bad_types
 no_bad_types profile r fits = types_there profile r.conditions.protocol r.conditions.icmp_type fits.conditions.types
 

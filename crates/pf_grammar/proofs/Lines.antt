@@ -34,15 +34,14 @@ use Rattle.pf_ruleset.specs.declared.parts.FlagTest.{FlagTest}
 use Rattle.pf_ruleset.specs.declared.parts.FlagTest.TheVariants as flags
 use Rattle.pf_ruleset.specs.declared.parts.Policy.{Policy}
 use Rattle.pf_ruleset.specs.declared.rule.Rule.{Rule}
-use Rattle.pf_ruleset.specs.declared.ruleset.Item.{Item}
-use Rattle.pf_ruleset.specs.declared.ruleset.Item.TheVariants.{Filter}
+use Rattle.pf_ruleset.specs.Items.{ItemValue, Filters}
 use Rattle.pf_grammar.specs.declared.place.Place.{Place}
 use Rattle.pf_ruleset.specs.Names.{Name}
 use Rattle.pf_statements.specs.Statements.{Statement, Rules, value_of}
 use Rattle.pf_grammar.specs.Causes.{statement_cause}
 use Rattle.pf_statements.specs.Grammar.{RuleStatement}
 use Rattle.pf_grammar.specs.Reading.{Sofar, macros_of, judge, meant, answered, unless_fault}
-use Rattle.pf_show.specs.Shown.{shown_items, letters}
+use Rattle.pf_show.specs.Shown.{letters}
 use Rattle.pf_conditions.proofs.Fronts.{rank, no_symbol}
 use Rattle.pf_statements.proofs.StatementsSpelled.{statement_reads}
 use Rattle.pf_grammar.proofs.Told.{FitsRule, rule_told, told_rank, written, action_tokens, direction_tokens, quick_tokens, negated_tokens, interface_tokens, family_tokens, protocol_tokens, length_tokens, addresses_tokens, host_tokens, test_tokens, port_tokens, end_tokens, both_tokens, ends_tokens, type_tokens, letters_token, test_of_tokens, flags_tokens, state_tokens, option_tokens, rule_tokens}
@@ -98,12 +97,12 @@ action_short act.Pass = more_short 1 2 _ (omega arith) (word_short _)
 action_short act.Drop = then_short 1 _ _ (simple_word _) (word_short _)
 action_short act.Return = then_short 1 _ _ (simple_word _) (word_short _)
 
-direction_short : (d : Option Direction) → Short 1 (direction_tokens d)
+pub direction_short : (d : Option Direction) → Short 1 (direction_tokens d)
 direction_short None = more_short 0 1 _ (omega arith) none_short
 direction_short (Some In) = word_short _
 direction_short (Some Out) = word_short _
 
-quick_short : (q : Bool) → Short 1 (quick_tokens q)
+pub quick_short : (q : Bool) → Short 1 (quick_tokens q)
 quick_short true = word_short _
 quick_short false = more_short 0 1 _ (omega arith) none_short
 
@@ -111,16 +110,16 @@ negated_short : (b : Bool) (name : List ℕ) → Short 2 (negated_tokens b (Word
 negated_short true name = then_short 1 _ _ (simple_mark Not (λ d. refl)) (word_short name)
 negated_short false name = more_short 1 2 _ (omega arith) (word_short name)
 
-interface_short : (i : Option Interface) → Short 3 (interface_tokens i)
+pub interface_short : (i : Option Interface) → Short 3 (interface_tokens i)
 interface_short None = more_short 0 3 _ (omega arith) none_short
 interface_short (Some i) = then_short 2 _ _ (simple_word _) (negated_short i.negated i.name)
 
-family_short : (f : Option Family) → Short 1 (family_tokens f)
+pub family_short : (f : Option Family) → Short 1 (family_tokens f)
 family_short None = more_short 0 1 _ (omega arith) none_short
 family_short (Some Inet) = word_short _
 family_short (Some Inet6) = word_short _
 
-protocol_short : (p : Option ℕ) → Short 2 (protocol_tokens p)
+pub protocol_short : (p : Option ℕ) → Short 2 (protocol_tokens p)
 protocol_short None = more_short 0 2 _ (omega arith) none_short
 protocol_short (Some n) = then_short 1 _ _ (simple_word _) (word_short _)
 
@@ -165,7 +164,7 @@ end_short h port = short_append 4 4 (host_tokens h) (port_tokens port) (host_sho
 both_short : (s : Host) (sp : Option PortTest) (d : Host) (dp : Option PortTest) → Short 18 (both_tokens s sp d dp)
 both_short s sp d dp = then_short 17 _ _ (simple_word _) (short_append 8 9 (end_tokens s sp) _ (end_short s sp) (then_short 8 _ _ (simple_word _) (end_short d dp)))
 
-ends_short : (s : Host) (sp : Option PortTest) (d : Host) (dp : Option PortTest) → Short 18 (ends_tokens s sp d dp)
+pub ends_short : (s : Host) (sp : Option PortTest) (d : Host) (dp : Option PortTest) → Short 18 (ends_tokens s sp d dp)
 ends_short host.Any None host.Any None = more_short 1 18 _ (omega arith) (word_short _)
 ends_short host.Any None host.Any (Some t) = both_short host.Any None host.Any (Some t)
 ends_short host.Any None (host.In set) dp = both_short host.Any None (host.In set) dp
@@ -174,7 +173,7 @@ ends_short host.Any (Some t) e dp = both_short host.Any (Some t) e dp
 ends_short (host.In set) sp e dp = both_short (host.In set) sp e dp
 ends_short (host.NotIn set) sp e dp = both_short (host.NotIn set) sp e dp
 
-type_short : (o : Option ℕ) → Short 2 (type_tokens o)
+pub type_short : (o : Option ℕ) → Short 2 (type_tokens o)
 type_short None = more_short 0 2 _ (omega arith) none_short
 type_short (Some n) = then_short 1 _ _ (simple_word _) (word_short _)
 
@@ -186,7 +185,7 @@ test_of_short : (t : FlagTest) → Short 3 (test_of_tokens t)
 test_of_short flags.Any = more_short 1 3 _ (omega arith) (word_short _)
 test_of_short (flags.Just set of) = short_append 1 2 (letters_token (letters set)) _ (letters_short (letters set)) (then_short 1 _ _ (simple_mark Slash (λ d. refl)) (word_short _))
 
-flags_short : (a : Action) (t : FlagTest) → Short 4 (flags_tokens a t)
+pub flags_short : (a : Action) (t : FlagTest) → Short 4 (flags_tokens a t)
 flags_short act.Pass t = then_short 3 _ _ (simple_word _) (test_of_short t)
 flags_short act.Drop flags.Any = more_short 0 4 _ (omega arith) none_short
 flags_short act.Drop (flags.Just set of) = then_short 3 _ _ (simple_word _) (test_of_short (flags.Just set of))
@@ -199,10 +198,10 @@ state_short act.Pass false = then_short 1 _ _ (simple_word _) (word_short _)
 state_short act.Drop keep = more_short 0 2 _ (omega arith) none_short
 state_short act.Return keep = more_short 0 2 _ (omega arith) none_short
 
-option_short : (r : Rule) → Short 8 (option_tokens r)
+pub option_short : (r : Rule) → Short 8 (option_tokens r)
 option_short r = short_append 2 6 (type_tokens r.conditions.icmp_type) _ (type_short r.conditions.icmp_type) (short_append 4 2 (flags_tokens r.action r.conditions.flags) (state_tokens r.action r.keeps_state) (flags_short r.action r.conditions.flags) (state_short r.action r.keeps_state))
 
-rule_short : (r : Rule) → Short 36 (rule_tokens r)
+pub rule_short : (r : Rule) → Short 36 (rule_tokens r)
 rule_short r =
     let c = r.conditions in
     short_append 2 34 (action_tokens r.action) _ (action_short r.action)
@@ -243,7 +242,7 @@ flattened_none [] w = refl
 flattened_none (p ∷ ps) w = ap (λ (qs : List Placed). qs ++ flat_map (replaced [] w) ps) (replaced_none p w) ∙ ap (λ (qs : List Placed). p ∷ qs) (flattened_none ps w)
 
 -- what the statements so far come to, without macros
-abbrev pub so_far : Policy → List Name → List TableValue → List Item → Sofar
+abbrev pub so_far : Policy → List Name → List TableValue → List ItemValue → Sofar
 so_far p skip tables items = record { macros = []; policy = p; skip = skip; tables = tables; items = items }
 
 -- what a statement comes to, from its tokens
@@ -260,7 +259,7 @@ is_end_there : (d n : ℕ) → d ≡ 0 → ends d (at_line n Newline) ≡ true
 is_end_there d n e = rw e refl
 
 -- a line is a statement
-pub line_read : (place : Place) (profile : Profile) (p : Policy) (skip : List Name) (tables : List TableValue) (items : List Item) (n : ℕ) (ts : List Token) (begun rest : List Placed) → AreInLine ts → depth_behind 0 (begun ++ map (at_line n) ts) ≡ 0
+pub line_read : (place : Place) (profile : Profile) (p : Policy) (skip : List Name) (tables : List TableValue) (items : List ItemValue) (n : ℕ) (ts : List Token) (begun rest : List Placed) → AreInLine ts → depth_behind 0 (begun ++ map (at_line n) ts) ≡ 0
     → reading_from macros_of (judge place profile) (so_far p skip tables items) begun (map (at_line n) ts ++ (at_line n Newline ∷ rest))
     ≡ (with_statement macros_of (judge place profile) (so_far p skip tables items) (begun ++ map (at_line n) ts) >>= λ next. reading_from macros_of (judge place profile) next [] rest)
 unfolding reading_from
@@ -326,19 +325,19 @@ rule_no_definition profile r n fits =
 rule_value : (profile : Profile) (r : Rule) → FitsRule profile r → value_of profile (rule_tokens r) ≡ Some (Rules (written r))
 rule_value profile r fits = statement_reads profile (rule_tokens r) (Rules (written r)) (RuleStatement (rule_tokens r) (written r) (rule_told profile r fits))
 
-abbrev added : Policy → List Name → List TableValue → List Item → Rule → Result Sofar Refusal
-added p skip tables items r = Ok (so_far p skip tables (items ++ Filter r ∷ []))
+abbrev pub added : Policy → List Name → List TableValue → List ItemValue → Rule → Result Sofar Refusal
+added p skip tables items r = Ok (so_far p skip tables (items ++ Filters r ∷ []))
 
-rule_meant : (place : Place) (profile : Profile) (p : Policy) (skip : List Name) (tables : List TableValue) (items : List Item) (n : ℕ) (r : Rule) → FitsRule profile r → length items < 1024 → meant place profile (so_far p skip tables items) n false (rule_tokens r) ≡ added p skip tables items r
+rule_meant : (place : Place) (profile : Profile) (p : Policy) (skip : List Name) (tables : List TableValue) (items : List ItemValue) (n : ℕ) (r : Rule) → FitsRule profile r → length items < 1024 → meant place profile (so_far p skip tables items) n false (rule_tokens r) ≡ added p skip tables items r
 rule_meant place profile p skip tables items n r fits room =
     ap (λ (value : Option Statement). answered n (so_far p skip tables items) value (statement_cause place tables (length items) value)) (rule_value profile r fits)
     ∙ ap (answered n (so_far p skip tables items) (Some (Rules (written r)))) (no_cause place profile tables (length items) r fits room)
-    ∙ ap (λ (rs : List Rule). let next : Result Sofar Refusal = Ok (so_far p skip tables (items ++ map (λ (r : Rule). Filter r) rs)) in next) (expanded_again profile p r fits)
+    ∙ ap (λ (rs : List Rule). let next : Result Sofar Refusal = Ok (so_far p skip tables (items ++ map (λ (r : Rule). Filters r) rs)) in next) (expanded_again profile p r fits)
 
 judged_some : (place : Place) (profile : Profile) (sofar : Sofar) (n : ℕ) (w : Bool) (t : Token) (ts : List Token) → judged (judge place profile) sofar n w (map (at_line n) (t ∷ ts)) ≡ unless_fault n (reading_fault sofar.macros 0 0 (t ∷ ts)) (meant place profile sofar n w (t ∷ ts))
 judged_some place profile sofar n w t ts = ap (λ (us : List Token). unless_fault n (reading_fault sofar.macros 0 0 (t ∷ us)) (meant place profile sofar n w (t ∷ us))) (tokens_at n ts)
 
-pub line_judged : (place : Place) (profile : Profile) (p : Policy) (skip : List Name) (tables : List TableValue) (items : List Item) (n : ℕ) (ts : List Token) → 0 < length ts → is_definition (map (at_line n) ts) ≡ false → reading_fault [] 0 0 ts ≡ None → with_statement macros_of (judge place profile) (so_far p skip tables items) (map (at_line n) ts) ≡ meant place profile (so_far p skip tables items) n false ts
+pub line_judged : (place : Place) (profile : Profile) (p : Policy) (skip : List Name) (tables : List TableValue) (items : List ItemValue) (n : ℕ) (ts : List Token) → 0 < length ts → is_definition (map (at_line n) ts) ≡ false → reading_fault [] 0 0 ts ≡ None → with_statement macros_of (judge place profile) (so_far p skip tables items) (map (at_line n) ts) ≡ meant place profile (so_far p skip tables items) n false ts
 line_judged place profile p skip tables items n [] some plain good = absurd (omega arith)
 line_judged place profile p skip tables items n (t ∷ ts) some plain good =
     ap (λ (w : Bool). judged (judge place profile) (so_far p skip tables items) n w (flat_map (replaced [] w) (map (at_line n) (t ∷ ts)))) plain
@@ -359,24 +358,8 @@ pub simple_level : (n d : ℕ) (ts : List Token) → AllByRecursion Simple ts �
 simple_level n d [] simple = refl
 simple_level n d (t ∷ ts) simple = ap (λ (k : ℕ). depth_behind k (map (at_line n) ts)) (simple.0.level d) ∙ simple_level n d ts simple.1
 
-rule_added : (place : Place) (profile : Profile) (p : Policy) (skip : List Name) (tables : List TableValue) (items : List Item) (n : ℕ) (r : Rule) → FitsRule profile r → length items < 1024 → with_statement macros_of (judge place profile) (so_far p skip tables items) (map (at_line n) (rule_tokens r)) ≡ added p skip tables items r
+pub rule_added : (place : Place) (profile : Profile) (p : Policy) (skip : List Name) (tables : List TableValue) (items : List ItemValue) (n : ℕ) (r : Rule) → FitsRule profile r → length items < 1024 → with_statement macros_of (judge place profile) (so_far p skip tables items) (map (at_line n) (rule_tokens r)) ≡ added p skip tables items r
 rule_added place profile p skip tables items n r fits room =
     let short = rule_short r in
     line_judged place profile p skip tables items n (rule_tokens r) (some_action r.action _) (rule_no_definition profile r n fits) (no_fault (rule_tokens r) 0 short.simple (let h = short.short in omega (arith, h)))
     ∙ rule_meant place profile p skip tables items n r fits room
-
-abbrev pub FitsItem : Profile → Item → Type 0
-FitsItem profile (Filter r) = FitsRule profile r
-
--- shown rules are read as themselves
-pub items_again : (place : Place) (profile : Profile) (items : List Item) (p : Policy) (skip : List Name) (tables : List TableValue) (before : List Item) (n : ℕ) → AllByRecursion (FitsItem profile) items → length before + length items ≤ 1024
-    → reading_from macros_of (judge place profile) (so_far p skip tables before) [] (lexed n (shown_items items)) ≡ Ok (so_far p skip tables (before ++ items))
-unfolding reading_from
-items_again place profile [] p skip tables before n fits room = ap (λ (is : List Item). let next : Result Sofar Refusal = Ok (so_far p skip tables is) in next) (sym (append-nil before))
-items_again place profile (Filter r ∷ items) p skip tables before n fits room =
-    let simple = (rule_short r).simple in
-    ap (reading_from macros_of (judge place profile) (so_far p skip tables before) []) (rule_line profile r n (shown_items items) fits.0)
-    ∙ line_read place profile p skip tables before n (rule_tokens r) [] (lexed (n + 1) (shown_items items)) (simple_in_line (rule_tokens r) simple) (simple_level n 0 (rule_tokens r) simple)
-    ∙ ap (λ (o : Result Sofar Refusal). o >>= λ next. reading_from macros_of (judge place profile) next [] (lexed (n + 1) (shown_items items))) (rule_added place profile p skip tables before n r fits.0 (omega (arith, room)))
-    ∙ items_again place profile items p skip tables (before ++ Filter r ∷ []) (n + 1) fits.1 (let l = length-append before (Filter r ∷ []) in omega (arith, l, room))
-    ∙ ap (λ (is : List Item). let next : Result Sofar Refusal = Ok (so_far p skip tables is) in next) (append_assoc before (Filter r ∷ []) items)

@@ -1,5 +1,5 @@
 -- Reading a text, one statement after another.
-use Rattle.std.proofs.Common.{◌≡◌, ℕ, ◌+◌, ◌<◌, ◌≤◌, Bool, true, false, List, [], ◌∷◌, ◌++◌, length, map, drop, Option, Some, None, option_map, Result, Ok, Err, refl, sym, ap, ◌∙◌, arith, length-append}
+use Rattle.std.proofs.Common.{◌≡◌, ℕ, ◌+◌, ◌<◌, ◌≤◌, Bool, true, false, List, [], ◌∷◌, ◌++◌, length, map, drop, Option, Some, None, option_map, Result, Ok, Err, refl, sym, ap, subst, ◌∙◌, ◌||◌, arith, length-append}
 use Rattle.std.proofs.lemmas.Bool.{false≢true}
 use Rattle.std.proofs.lemmas.List.{map-append, length-map}
 use Rattle.pf_words.specs.declared.profile.Profile.{Profile}
@@ -24,11 +24,19 @@ use Rattle.pf_grammar.specs.declared.fault.ParseFault.TheVariants as faults
 use Rattle.pf_grammar.specs.declared.fault.Refusal.{Refusal}
 use Rattle.pf_ruleset.specs.declared.parts.Policy.{Policy}
 use Rattle.pf_ruleset.specs.declared.rule.Rule.{Rule}
-use Rattle.pf_ruleset.specs.declared.ruleset.Item.TheVariants.{Filter}
+use Rattle.pf_ruleset.specs.declared.item.Item.{Item}
+use Rattle.pf_ruleset.specs.Items.{ItemValue, Heading, is_overfull}
+use Rattle.pf_ruleset.specs.Items as item
+use Rattle.pf_ruleset.specs.Seen.{item_of, items_of}
+use Rattle.std.specs.List.{list_any}
+use Rattle.pf_expansion.specs.Anchors.{headings, heading_with, anchor_flags, anchor_causes, is_reserved}
+use Rattle.pf_statements.specs.Anchors.{AnchorText}
 use Rattle.pf_grammar.specs.declared.place.Place.{Place}
-use Rattle.pf_statements.specs.Statements.{Statement, Sets, Rules, SetPolicy, SetSkip, RuleText, Tables}
+use Rattle.pf_statements.specs.Statements.{Statement, Sets, Rules, SetPolicy, SetSkip, RuleText, Tables, Anchors}
 use Rattle.pf_expansion.specs.Expansion.{expanded, combined, rule_flags, rule_with}
-use Rattle.pf_expansion.specs.Causes.{has_too_many, bad_ports, has_no_combination, bad_types, lowest, rule_causes}
+use Rattle.pf_expansion.specs.Causes.{has_too_many, bad_ports, has_no_combination, bad_types, lowest, rule_causes, condition_causes}
+use Rattle.pf_ruleset.specs.declared.parts.FlagTest.{FlagTest}
+use Rattle.pf_conditions.specs.Conditions.{ConditionsText}
 use Rattle.pf_grammar.specs.Causes.{setting_causes, statement_cause}
 use Rattle.pf_grammar.specs.Reading.{Sofar, judge, macros_of, answered, taken, defined, meant, unless_fault, nothing, reading, made_if, Fails}
 use Rattle.pf_grammar.specs.Gathering.{Judges}
@@ -38,6 +46,9 @@ use Rattle.pf_expansion.specs.Tables.{table_causes}
 
 pub tables_push : (ts : List TableDef) (t : TableDef) → map table_of (ts ++ t ∷ []) ≡ map table_of ts ++ table_of t ∷ []
 tables_push ts t = map-append table_of ts (t ∷ [])
+
+pub items_push : (is : List Item) (i : Item) → items_of (is ++ i ∷ []) ≡ items_of is ++ item_of i ∷ []
+items_push is i = map-append item_of is (i ∷ [])
 
 -- ---- one statement
 
@@ -87,47 +98,76 @@ unfolding reading
 fails_so place profile text sofar faults.Memory line old ts defines statement rest b e is same = tt
 fails_so place profile text sofar (faults.Refused refusal) line old ts defines statement rest b e is same = ap made_if (sym same ∙ stopped_at place profile sofar refusal line old ts defines statement rest b e is)
 
--- ---- no more than 1,024 rules
+-- ---- no more than 1,024 rules, and no block that has more
+
+abbrev pub Room : List ItemValue → Type 0
+Room items = (length items ≤ 1024) × (list_any is_overfull items ≡ false)
+
+any_append : (xs ys : List ItemValue) → list_any is_overfull xs ≡ false → list_any is_overfull ys ≡ false → list_any is_overfull (xs ++ ys) ≡ false
+any_append [] ys p q = q
+any_append (x ∷ xs) ys p q = let h = or_parts (is_overfull x) (list_any is_overfull xs) p in rw h.0 (any_append xs ys h.1 q)
+
+room_added : (xs ys : List ItemValue) → Room xs → length xs + length ys ≤ 1024 → list_any is_overfull ys ≡ false → Room (xs ++ ys)
+room_added xs ys room few none = (omega (arith, few, length-append xs ys), any_append xs ys room.1 none)
+
+filters_fine : (rs : List Rule) → list_any is_overfull (map (λ (r : Rule). item.Filters r) rs) ≡ false
+filters_fine [] = refl
+filters_fine (r ∷ rs) = filters_fine rs
+
+anchors_fine : (hs : List Heading) → list_any is_overfull (map (λ (h : Heading). item.Anchors h) hs) ≡ false
+anchors_fine [] = refl
+anchors_fine (h ∷ hs) = anchors_fine hs
 
 answered_ok : (line : ℕ) (sofar next : Sofar) (value : Option Statement) (cause : Option Cause) → answered line sofar value cause ≡ Ok next → (cause ≡ None) × (taken sofar value ≡ next)
 answered_ok line sofar next value None e = (refl, cc)
 answered_ok line sofar next value (Some cause) e = absurd (let h = e in cc)
 
-third : (a b c d : Bool) (p q r s : Cause) → lowest ((a, p) ∷ (b, q) ∷ (c, r) ∷ (d, s) ∷ []) ≡ None → c ≡ false
-third a b false d p q r s e = refl
-third true b true d p q r s e = absurd (let h = e in cc)
-third false true true d p q r s e = absurd (let h = e in cc)
-third false false true d p q r s e = absurd (let h = e in cc)
+fourth : (a b c d e : Bool) (p q r s t : Cause) → lowest ((a, p) ∷ (b, q) ∷ (c, r) ∷ (d, s) ∷ (e, t) ∷ []) ≡ None → d ≡ false
+fourth a b c false e p q r s t is = refl
+fourth true b c true e p q r s t is = absurd (let h = is in cc)
+fourth false true c true e p q r s t is = absurd (let h = is in cc)
+fourth false false true true e p q r s t is = absurd (let h = is in cc)
+fourth false false false true e p q r s t is = absurd (let h = is in cc)
 
 below : (n : ℕ) → nat_lt 1024 n ≡ false → n ≤ 1024
 below n e = grind (arith, nat_tests, e)
 
-few_rules : (p : Policy) (items : ℕ) (text : RuleText) → lowest (rule_causes items text) ≡ None → items + length (expanded p text) ≤ 1024
-unfolding has_too_many expanded
-few_rules p items text e =
-    let found = combined (rule_flags text) text.conditions in
-    let small : items + length found ≤ 1024 = below (items + length found) (or_parts _ _ (third (bad_ports text.conditions) (has_no_combination (rule_flags text) text.conditions) (has_too_many (rule_flags text) items text.conditions) (bad_types text.conditions) _ _ _ _ e)).1 in
-    omega (arith, small, length-map found (rule_with p text))
+few_found : (test : FlagTest) (before : ℕ) (reserved : Bool) (text : ConditionsText) → lowest (condition_causes test before reserved text) ≡ None → before + length (combined test text) ≤ 1024
+unfolding has_too_many
+few_found test before reserved text e =
+    below (before + length (combined test text)) (or_parts _ _ (fourth (bad_ports text) (has_no_combination test text) reserved (has_too_many test before text) (bad_types text) _ _ _ _ _ e)).1
 
-few_taken : (line : ℕ) (place : Place) (sofar next : Sofar) (value : Option Statement) → length sofar.items ≤ 1024 → answered line sofar value (statement_cause place sofar.tables (length sofar.items) value) ≡ Ok next → length next.items ≤ 1024
+few_rules : (p : Policy) (items : ℕ) (text : RuleText) → lowest (rule_causes items text) ≡ None → items + length (expanded p text) ≤ 1024
+unfolding expanded
+few_rules p items text e = omega (arith, few_found (rule_flags text) items false text.conditions e, length-map (combined (rule_flags text) text.conditions) (rule_with p text))
+
+few_headings : (items : ℕ) (text : AnchorText) → lowest (anchor_causes items text) ≡ None → items + length (headings text) ≤ 1024
+unfolding headings
+few_headings items text e = omega (arith, few_found (anchor_flags text) items (is_reserved text.target) text.conditions e, length-map (combined (anchor_flags text) text.conditions) (heading_with text))
+
+few_taken : (line : ℕ) (place : Place) (sofar next : Sofar) (value : Option Statement) → Room sofar.items → answered line sofar value (statement_cause place sofar.tables (length sofar.items) value) ≡ Ok next → Room next.items
 few_taken line place sofar next None few e = absurd (let h = e in cc)
-few_taken line place sofar next (Some (Sets (SetPolicy policy))) few e = omega (arith, few, ap (λ (s : Sofar). length s.items) (answered_ok line sofar next (Some (Sets (SetPolicy policy))) (lowest (setting_causes place (SetPolicy policy))) e).1)
-few_taken line place sofar next (Some (Sets (SetSkip names))) few e = omega (arith, few, ap (λ (s : Sofar). length s.items) (answered_ok line sofar next (Some (Sets (SetSkip names))) (lowest (setting_causes place (SetSkip names))) e).1)
-few_taken line place sofar next (Some (Tables t)) few e = omega (arith, few, ap (λ (s : Sofar). length s.items) (answered_ok line sofar next (Some (Tables t)) (lowest (table_causes sofar.tables t)) e).1)
+few_taken line place sofar next (Some (Sets (SetPolicy policy))) few e = subst (λ (s : Sofar). Room s.items) (answered_ok line sofar next (Some (Sets (SetPolicy policy))) (lowest (setting_causes place (SetPolicy policy))) e).1 few
+few_taken line place sofar next (Some (Sets (SetSkip names))) few e = subst (λ (s : Sofar). Room s.items) (answered_ok line sofar next (Some (Sets (SetSkip names))) (lowest (setting_causes place (SetSkip names))) e).1 few
+few_taken line place sofar next (Some (Tables t)) few e = subst (λ (s : Sofar). Room s.items) (answered_ok line sofar next (Some (Tables t)) (lowest (table_causes sofar.tables t)) e).1 few
 few_taken line place sofar next (Some (Rules text)) few e =
     let a = answered_ok line sofar next (Some (Rules text)) (lowest (rule_causes (length sofar.items) text)) e in
-    omega (arith, few_rules sofar.policy (length sofar.items) text a.0, ap (λ (s : Sofar). length s.items) a.1, length-append sofar.items (map (λ (r : Rule). Filter r) (expanded sofar.policy text)), length-map (expanded sofar.policy text) (λ (r : Rule). Filter r))
+    let rules = expanded sofar.policy text in
+    subst (λ (s : Sofar). Room s.items) a.1 (room_added sofar.items (map (λ (r : Rule). item.Filters r) rules) few (omega (arith, few_rules sofar.policy (length sofar.items) text a.0, length-map rules (λ (r : Rule). item.Filters r))) (filters_fine rules))
+few_taken line place sofar next (Some (Anchors text)) few e =
+    let a = answered_ok line sofar next (Some (Anchors text)) (lowest (anchor_causes (length sofar.items) text)) e in
+    subst (λ (s : Sofar). Room s.items) a.1 (room_added sofar.items (map (λ (h : Heading). item.Anchors h) (headings text)) few (omega (arith, few_headings (length sofar.items) text a.0, length-map (headings text) (λ (h : Heading). item.Anchors h))) (anchors_fine (headings text)))
 
-few_defined : (line : ℕ) (sofar next : Sofar) (read : Result Definition DefinitionFault) → length sofar.items ≤ 1024 → defined line sofar read ≡ Ok next → length next.items ≤ 1024
-few_defined line sofar next (Ok definition) few e = omega (arith, few, ap (λ (s : Sofar). length s.items) (ok_is (record sofar { macros = sofar.macros ++ definition ∷ [] }) next e))
-  where
-    ok_is : (x y : Sofar) → (let given : Result Sofar Refusal = Ok x in given ≡ Ok y) → x ≡ y
-    ok_is x y e = cc
+ok_is : (x y : Sofar) → (let given : Result Sofar Refusal = Ok x in given ≡ Ok y) → x ≡ y
+ok_is x y e = cc
+
+few_defined : (line : ℕ) (sofar next : Sofar) (read : Result Definition DefinitionFault) → Room sofar.items → defined line sofar read ≡ Ok next → Room next.items
+few_defined line sofar next (Ok definition) few e = subst (λ (s : Sofar). Room s.items) (ok_is (record sofar { macros = sofar.macros ++ definition ∷ [] }) next e) few
 few_defined line sofar next (Err defining.Memory) few e = absurd (let h = e in cc)
 few_defined line sofar next (Err defining.Macro) few e = absurd (let h = e in cc)
 few_defined line sofar next (Err defining.Syntax) few e = absurd (let h = e in cc)
 
-few_meant : (place : Place) (profile : Profile) (sofar next : Sofar) (line : ℕ) (defines : Bool) (ts : List Token) → length sofar.items ≤ 1024 → meant place profile sofar line defines ts ≡ Ok next → length next.items ≤ 1024
+few_meant : (place : Place) (profile : Profile) (sofar next : Sofar) (line : ℕ) (defines : Bool) (ts : List Token) → Room sofar.items → meant place profile sofar line defines ts ≡ Ok next → Room next.items
 few_meant place profile sofar next line true ts few e = few_defined line sofar next _ few e
 few_meant place profile sofar next line false ts few e = few_taken line place sofar next _ few e
 
@@ -135,5 +175,5 @@ unless : (line : ℕ) (fault : Option ReadingFault) (result : Result Sofar Refus
 unless line None result next e = e
 unless line (Some fault) result next e = absurd (let h = e in cc)
 
-pub few_stay : (place : Place) (profile : Profile) (sofar next : Sofar) (line : ℕ) (defines : Bool) (statement : List Placed) → length sofar.items ≤ 1024 → judge place profile sofar line defines statement ≡ Ok next → length next.items ≤ 1024
+pub few_stay : (place : Place) (profile : Profile) (sofar next : Sofar) (line : ℕ) (defines : Bool) (statement : List Placed) → Room sofar.items → judge place profile sofar line defines statement ≡ Ok next → Room next.items
 few_stay place profile sofar next line defines statement few e = few_meant place profile sofar next line defines (tokens_of statement) few (unless line _ _ next e)

@@ -61,7 +61,7 @@ pub record FitsText (profile : Profile) (text : ConditionsText) : Type 0 where
   pub flags : FitsIf FitsFlags text.flags
   pub types : FitsIf (λ list. (has_types profile ≡ true) × AllFit FitsNumber list) text.types
 
-behind_fits : {X : Type 0} {word : List ℕ} {Is : List Token → X → Type 0} (P : X → Type 0) → ((ts : List Token) (x : X) → Is ts x → P x) → (ts : List Token) (o : Option X) → IsBehind word Is ts o → FitsIf P o
+pub behind_fits : {X : Type 0} {word : List ℕ} {Is : List Token → X → Type 0} (P : X → Type 0) → ((ts : List Token) (x : X) → Is ts x → P x) → (ts : List Token) (o : Option X) → IsBehind word Is ts o → FitsIf P o
 behind_fits P each _ _ Missing = tt
 behind_fits P each _ _ (Behind ts x is) = each ts x is
 
@@ -75,7 +75,7 @@ part_fits : (profile : Profile) (ts : List Token) (e : Ends) → IsPart profile 
 part_fits profile _ _ (PartHosts ts us hosts ports is_h is_p) = record { hosts = some_fits (FitsHost profile) (host_fits profile) ts hosts is_h; ports = ports_fit profile us ports _ is_p }
 part_fits profile _ _ (PartPorts ts ports is) = record { hosts = (tt, tt); ports = some_fits FitsPort (port_fits profile) ts ports is }
 
-hosts_fit : (profile : Profile) (ts : List Token) (s d : Ends) → IsHosts profile ts s d → FitsEnd profile s × FitsEnd profile d
+pub hosts_fit : (profile : Profile) (ts : List Token) (s d : Ends) → IsHosts profile ts s d → FitsEnd profile s × FitsEnd profile d
 hosts_fit profile _ _ _ NoHosts = (any_fits profile, any_fits profile)
 hosts_fit profile _ _ _ AllWord = (any_fits profile, any_fits profile)
 hosts_fit profile _ _ _ (FromPart ts s is) = (part_fits profile ts s is, any_fits profile)
@@ -178,7 +178,7 @@ choices_if false test o e = never (choices o)
     never [] = tt
     never (c ∷ cs) = (λ h. absurd (false≢true h), never cs)
 
-all_flat : {X Y : Type 0} (P : Y → Type 0) (Q : X → Type 0) (f : X → List Y) (xs : List X) → AllByRecursion Q xs → ((x : X) → Q x → AllByRecursion P (f x)) → AllByRecursion P (flat_map f xs)
+pub all_flat : {X Y : Type 0} (P : Y → Type 0) (Q : X → Type 0) (f : X → List Y) (xs : List X) → AllByRecursion Q xs → ((x : X) → Q x → AllByRecursion P (f x)) → AllByRecursion P (flat_map f xs)
 all_flat P Q f [] all each = tt
 all_flat {X} {Y} P Q f (x ∷ xs) all each = joined (f x) (flat_map f xs) (each x all.0) (all_flat P Q f xs all.1 each)
   where
@@ -237,7 +237,7 @@ type_ok profile n (Some t) fits h = number t.number fits.1
     number None small = tt
     number (Some k) small = (fits.0, small, passes_icmp n (h refl))
 
-flags_ok : (keep : Bool) (o : Option FlagTest) → FitsIf FitsFlags o → FitsFlags (tested_flags keep o)
+pub flags_ok : (keep : Bool) (o : Option FlagTest) → FitsIf FitsFlags o → FitsFlags (tested_flags keep o)
 unfolding is_within
 flags_ok keep (Some test) fits = fits
 flags_ok true None fits = (refl, refl)
@@ -336,7 +336,7 @@ said_second true b c h e = refl
 said_second false b c h e = h e
 
 -- the conditions of each combination
-combined_fit : (profile : Profile) (test : FlagTest) (text : ConditionsText) → FitsFlags test → FitsText profile text → bad_ports text ≡ false → bad_types text ≡ false → AllByRecursion (FitsConditions profile) (combined test text)
+pub combined_fit : (profile : Profile) (test : FlagTest) (text : ConditionsText) → FitsFlags test → FitsText profile text → bad_ports text ≡ false → bad_types text ≡ false → AllByRecursion (FitsConditions profile) (combined test text)
 unfolding combined by_interface by_protocol by_source by_source_port by_destination by_destination_port by_type bad_ports bad_types
 combined_fit profile test text test_fits fits no_bad_ports no_bad_types =
     let ports = (or_false (any_listed is_bad_port text.common.source.ports || any_listed is_bad_port text.common.destination.ports) (says_ports text && not (all_listed has_ports text.common.protocols)) no_bad_ports).1 in

@@ -375,7 +375,7 @@ condition_are profile r fits =
 rest_tokens : (a b c d e f : List Token) → (a ++ (b ++ (c ++ (d ++ e)))) ++ f ≡ a ++ (b ++ (c ++ (d ++ (e ++ f))))
 rest_tokens a b c d e f = simp append_assoc refl
 
-more_are : (profile : Profile) (r : Rule) → FitsRule profile r → AreParts (direction_parts r.conditions.direction ++ (quick_parts r.quick ++ (condition_parts r.conditions ++ (flags_parts r.action r.conditions.flags ++ state_parts r.action r.keeps_state)))) (more_tokens r)
+pub more_are : (profile : Profile) (r : Rule) → FitsRule profile r → AreParts (direction_parts r.conditions.direction ++ (quick_parts r.quick ++ (condition_parts r.conditions ++ (flags_parts r.action r.conditions.flags ++ state_parts r.action r.keeps_state)))) (more_tokens r)
 more_are profile r fits =
     let c = r.conditions in
     let last = parts_append (flags_parts r.action c.flags) (state_parts r.action r.keeps_state) (flags_tokens r.action c.flags) (state_tokens r.action r.keeps_state) (flags_are r.action c.flags fits.conditions.flags) (state_are r.action r.keeps_state) in

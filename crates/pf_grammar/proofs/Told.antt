@@ -289,12 +289,12 @@ action_told act.Pass = PassWord
 action_told act.Drop = BlockSaid _ policy.Drop DropWord
 action_told act.Return = BlockSaid _ policy.Return ReturnWord
 
-direction_told : (d : Option Direction) → IsDirection (direction_tokens d) d
+pub direction_told : (d : Option Direction) → IsDirection (direction_tokens d) d
 direction_told None = NoDirection
 direction_told (Some In) = InWord
 direction_told (Some Out) = OutWord
 
-quick_told : (q : Bool) → IsSaid (codes "quick") (quick_tokens q) q
+pub quick_told : (q : Bool) → IsSaid (codes "quick") (quick_tokens q) q
 quick_told true = Said
 quick_told false = Unsaid
 
@@ -425,7 +425,7 @@ letters_told set of (b ∷ text) e within some =
     let there : nat_lt 0 (length (letters set)) ≡ true = ap (λ (t : List ℕ). nat_lt 0 (length t)) e ∙ lt_is 0 (length (b ∷ text)) (omega arith) in
     SomeOf (b ∷ text) (letters of) set of (ap flags_of (sym e) ∙ flags_again set there) (flags_again of some) within
 
-flags_told : (test : FlagTest) → FitsFlags test → IsFlags (test_of_tokens test) test
+pub flags_told : (test : FlagTest) → FitsFlags test → IsFlags (test_of_tokens test) test
 flags_told flags.Any fits = AnyFlags
 flags_told (flags.Just set of) fits = letters_told set of (letters set) refl fits.0 fits.1
 
@@ -469,7 +469,7 @@ may_told act.Return keep = refl
 abbrev pub common_tokens : Conditions → List Token
 common_tokens c = interface_tokens c.interface ++ (family_tokens c.family ++ (protocol_tokens c.protocol ++ ends_tokens c.source c.source_port c.destination c.destination_port))
 
-common_told : (profile : Profile) (c : Conditions) → FitsConditions profile c → IsCommon profile (common_tokens c) (written_common c)
+pub common_told : (profile : Profile) (c : Conditions) → FitsConditions profile c → IsCommon profile (common_tokens c) (written_common c)
 common_told profile c fits = record {
   interfaces = interface_tokens c.interface;
   family = family_tokens c.family;
@@ -483,7 +483,7 @@ common_told profile c fits = record {
 }
 
 -- its tokens, those of its conditions together
-common_split : (r : Rule) → common_tokens r.conditions ++ option_tokens r ≡ interface_tokens r.conditions.interface ++ (family_tokens r.conditions.family ++ (protocol_tokens r.conditions.protocol
+pub common_split : (r : Rule) → common_tokens r.conditions ++ option_tokens r ≡ interface_tokens r.conditions.interface ++ (family_tokens r.conditions.family ++ (protocol_tokens r.conditions.protocol
     ++ (ends_tokens r.conditions.source r.conditions.source_port r.conditions.destination r.conditions.destination_port ++ option_tokens r)))
 common_split r =
     let c = r.conditions in

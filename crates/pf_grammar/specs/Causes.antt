@@ -7,7 +7,8 @@ use Rattle.pf_expansion.specs.declared.cause.Cause.TheVariants.{Lexical, Macro, 
 use Rattle.pf_expansion.specs.Causes.{is_deep, lowest, rule_causes}
 use Rattle.pf_grammar.specs.declared.place.Place.{Place}
 use Rattle.pf_grammar.specs.declared.place.Place.TheVariants.{Main, Anchor}
-use Rattle.pf_statements.specs.Statements.{Statement, Sets, Rules, Setting, SetPolicy, SetSkip, Tables}
+use Rattle.pf_statements.specs.Statements.{Statement, Sets, Rules, Setting, SetPolicy, SetSkip, Tables, Anchors}
+use Rattle.pf_expansion.specs.Anchors.{anchor_causes}
 use Rattle.pf_expansion.specs.Tables.{table_causes}
 use Rattle.pf_ruleset.specs.Rulesets.{TableValue}
 
@@ -35,3 +36,4 @@ statement_cause place tables before None = Some Syntax
 statement_cause place tables before (Some (Sets setting)) = lowest (setting_causes place setting)
 statement_cause place tables before (Some (Tables table)) = lowest (table_causes tables table)
 statement_cause place tables before (Some (Rules text)) = lowest (rule_causes before text)
+statement_cause place tables before (Some (Anchors text)) = lowest (anchor_causes before text)

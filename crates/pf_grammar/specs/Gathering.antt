@@ -9,7 +9,8 @@ use Rattle.pf_grammar.specs.declared.gathered.Change.{Change}
 use Rattle.pf_grammar.specs.declared.gathered.Change.TheVariants as changes
 use Rattle.pf_grammar.specs.declared.gathered.Gathered.{Gathered}
 use Rattle.pf_ruleset.specs.declared.rule.Rule.{Rule}
-use Rattle.pf_ruleset.specs.declared.ruleset.Item.TheVariants.{Filter}
+use Rattle.pf_ruleset.specs.Items.{Anchors, Filters, Heading}
+use Rattle.pf_ruleset.specs.Seen.{heading_of, items_of}
 use Rattle.pf_grammar.specs.Reading.{Sofar}
 use Rattle.pf_ruleset.specs.Rulesets.{table_of}
 
@@ -19,7 +20,7 @@ sofar_of g = record {
   policy = g.policy;
   skip = g.skip.items;
   tables = map table_of g.tables.items;
-  items = g.items.items;
+  items = items_of g.items.items;
 }
 
 abbrev pub with_change : Sofar → Change → Sofar
@@ -28,7 +29,9 @@ with_change sofar (changes.Sets said) = record sofar { policy = said }
 with_change sofar (changes.Skips names) = record sofar { skip = sofar.skip ++ names.items }
 with_change sofar (changes.Tables table) = record sofar { tables = sofar.tables ++ table_of table ∷ [] }
 with_change sofar (changes.Adds rules) =
-    record sofar { items = sofar.items ++ map (λ (r : Rule). Filter r) rules.items }
+    record sofar { items = sofar.items ++ map (λ (r : Rule). Filters r) rules.items }
+with_change sofar (changes.AddsAnchors headings) =
+    record sofar { items = sofar.items ++ map (λ (h : Heading). Anchors h) (map heading_of headings.items) }
 
 -- what the statement changes, or its refusal; unless memory ran out
 abbrev pub Judges : Sofar → Result Change ParseFault → Result Sofar Refusal → Type 0

@@ -2,11 +2,12 @@
 
 ghost use Rattle.std.specs.Prelude.{◌≡◌, ◌++◌, map, OnOk};
 ghost use Rattle.pf_ruleset.specs.declared.rule.Rule.{Rule as IRule};
-ghost use Rattle.pf_ruleset.specs.declared.ruleset.Item.TheVariants.{Filter};
+ghost use Rattle.pf_ruleset.specs.Items.{Anchors, Filters, Heading as IHeading};
+ghost use Rattle.pf_ruleset.specs.Seen.{heading_of, items_of};
 ghost use Rattle.pf_grammar.specs.Reading.{nothing};
 ghost use Rattle.pf_grammar.specs.Gathering.{sofar_of, with_change};
 
-use pf_ruleset::{InterfaceName, Item, Policy, Rule, TableDef};
+use pf_ruleset::{AnchorHeading, InterfaceName, Item, Policy, Rule, TableDef};
 use pf_tokens::{Macro, Macros};
 use std::alloc::{AllocError, Global};
 
@@ -34,6 +35,8 @@ pub(crate) enum Change {
     Tables(TableDef),
     /// It comes to these rules.
     Adds(Vec<Rule>),
+    /// It comes to these anchor rules.
+    AddsAnchors(Vec<AnchorHeading>),
 }
 
 /// Appends the names.
@@ -47,11 +50,25 @@ fn push_names(skip: &mut Vec<InterfaceName>, names: Vec<InterfaceName>) -> Resul
 }
 
 /// Appends the rules.
+#[tactic(auto, using(crate::proofs::ReadingSteps::items_push))]
 fn push_rules(items: &mut Vec<Item>, rules: Vec<Rule>) -> Result<(), AllocError>
-    ensures { OnOk result (items.new.items ≡ items.old.items ++ map (λ (r : IRule). Filter r) rules.items) }
+    ensures { OnOk result (items_of items.new.items ≡ items_of items.old.items ++
+        map (λ (r : IRule). Filters r) rules.items) }
 {
     for rule in rules {
-        items.push(Item::Filter(rule))?;
+        items.push(Item::filter(rule))?;
+    }
+    Ok(())
+}
+
+/// Appends the anchor rules.
+#[tactic(auto, using(crate::proofs::ReadingSteps::items_push))]
+fn push_anchors(items: &mut Vec<Item>, headings: Vec<AnchorHeading>) -> Result<(), AllocError>
+    ensures { OnOk result (items_of items.new.items ≡ items_of items.old.items ++
+        map (λ (h : IHeading). Anchors h) (map heading_of headings.items)) }
+{
+    for heading in headings {
+        items.push(Item::anchor(heading))?;
     }
     Ok(())
 }
@@ -81,6 +98,7 @@ impl Gathered {
             Change::Skips(names) => push_names(&mut self.skip, names)?,
             Change::Tables(table) => self.tables.push(table)?,
             Change::Adds(rules) => push_rules(&mut self.items, rules)?,
+            Change::AddsAnchors(headings) => push_anchors(&mut self.items, headings)?,
         }
         Ok(())
     }

@@ -21,8 +21,9 @@ pub use laws::reading_again;
 pub use pf_addr::Family;
 pub use pf_expansion::Cause;
 pub use pf_ruleset::{
-    Action, Addresses, Conditions, Direction, FlagTest, Host, Interface, InterfaceName, Item, Name,
-    Policy, PortTest, Rule, Ruleset, TableDef, TableEntry, TableName,
+    Action, Addresses, AnchorHeading, AnchorRule, Conditions, Direction, FlagTest, Host, Interface,
+    InterfaceName, Item, Name, Policy, PortTest, Rule, Ruleset, TableDef, TableEntry, TableName,
+    Target,
 };
 pub use pf_show::{show, show_items};
 pub use pf_statements::reads_the_grammar;

@@ -1,3 +1,4 @@
 pub mod Names
 pub mod Rulesets
 pub mod Items
+pub mod Seen

@@ -1,7 +1,8 @@
 -- Rulesets as values.
 use Rattle.std.specs.Prelude.{Bool, List, map, Option, option_map}
 use Rattle.pf_ruleset.specs.Names.{Name}
-use Rattle.pf_ruleset.specs.declared.ruleset.Item.{Item}
+use Rattle.pf_ruleset.specs.Items.{ItemValue}
+use Rattle.pf_ruleset.specs.Seen.{items_of}
 use Rattle.pf_ruleset.specs.declared.ruleset.Ruleset.{Ruleset}
 use Rattle.pf_ruleset.specs.declared.ruleset.TableDef.{TableDef}
 use Rattle.pf_ruleset.specs.declared.ruleset.TableEntry.{TableEntry}
@@ -17,7 +18,7 @@ pub record TableValue : Type 0 where
 pub record RulesetValue : Type 0 where
   pub skip : List Name
   pub tables : List TableValue
-  pub items : List Item
+  pub items : List ItemValue
 
 abbrev pub table_of : TableDef → TableValue
 table_of t = record {
@@ -28,4 +29,4 @@ table_of t = record {
 }
 
 abbrev pub ruleset_of : Ruleset → RulesetValue
-ruleset_of r = record { skip = r.skip.items; tables = map table_of r.tables.items; items = r.items.items }
+ruleset_of r = record { skip = r.skip.items; tables = map table_of r.tables.items; items = items_of r.items.items }

@@ -10,6 +10,7 @@
 #![tactic(auto)]
 
 mod interface_name;
+mod item;
 mod name;
 mod parts;
 mod path;
@@ -19,9 +20,10 @@ mod table_name;
 mod text;
 
 pub use interface_name::InterfaceName;
+pub use item::{AnchorHeading, AnchorRule, Item, Target};
 pub use name::Name;
 pub use parts::{Addresses, Direction, FlagTest, Host, Interface, Policy, PortTest};
 pub use path::{PATH_MAX, Path};
 pub use rule::{Action, Conditions, Rule};
-pub use ruleset::{Item, Ruleset, TableDef, TableEntry};
+pub use ruleset::{Ruleset, TableDef, TableEntry};
 pub use table_name::TableName;

@@ -1,9 +1,12 @@
 //! Rulesets.
 
-ghost use Rattle.std.specs.Prelude.{◌≤◌, length};
+ghost use Rattle.std.specs.Prelude.{◌≡◌, ◌≤◌, false, length};
+ghost use Rattle.std.specs.List.{list_any};
+ghost use Rattle.pf_ruleset.specs.Items.{is_overfull};
+ghost use Rattle.pf_ruleset.specs.Seen.{items_of};
 
 use crate::interface_name::InterfaceName;
-use crate::rule::Rule;
+use crate::item::Item;
 use crate::table_name::TableName;
 use pf_addr::Prefix;
 
@@ -30,12 +33,6 @@ pub struct TableDef {
     pub entries: Option<Vec<TableEntry>>,
 }
 
-/// What is evaluated in its turn.
-#[derive(Debug, Drop)]
-pub enum Item {
-    Filter(Rule),
-}
-
 /// What a text comes to.
 #[derive(Debug, Drop)]
 pub struct Ruleset {
@@ -43,7 +40,8 @@ pub struct Ruleset {
     pub skip: Vec<InterfaceName>,
     /// The tables that the text defines.
     pub tables: Vec<TableDef>,
-    /// The rules in their expanded order, 1,024 at most.
+    /// The rules in their expanded order, 1,024 at most, and as many in each block.
     pub items: Vec<Item>,
     ghost few: { length items.items ≤ 1024 },
+    ghost blocks: { list_any is_overfull (items_of items.items) ≡ false },
 }

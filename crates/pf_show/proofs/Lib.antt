@@ -1,2 +1,3 @@
 mod Spacing
 mod TableSpacing
+mod Anchors

@@ -6,12 +6,10 @@ use Rattle.pf_ruleset.specs.declared.parts.Host.{Host}
 use Rattle.pf_ruleset.specs.declared.parts.Host.TheVariants as host
 use Rattle.pf_ruleset.specs.declared.parts.PortTest.{PortTest}
 use Rattle.pf_ruleset.specs.declared.rule.Rule.{Rule}
-use Rattle.pf_show.specs.Shown.{Part, end_parts, ends_parts, action_parts, direction_parts, quick_parts, condition_parts, flags_parts, state_parts, rule_parts, more_parts, line, letter, shown_items, skip_line}
-use Rattle.pf_ruleset.specs.declared.ruleset.Item.{Item}
-use Rattle.pf_ruleset.specs.declared.ruleset.Item.TheVariants.{Filter}
+use Rattle.pf_show.specs.Shown.{Part, end_parts, ends_parts, action_parts, direction_parts, quick_parts, condition_parts, flags_parts, state_parts, rule_parts, more_parts, line, letter, skip_line}
 use Rattle.pf_ruleset.specs.Names.{Name}
 use Rattle.std.specs.List.{flat_map}
-use Rattle.pf_show.specs.Spaced.{spaced, joined, text_if, is_any_end, item_line}
+use Rattle.pf_show.specs.Spaced.{spaced, joined, text_if, is_any_end}
 
 -- parts behind others
 pub spaced_append : (a b : List Part) → spaced (a ++ b) ≡ spaced a ++ spaced b
@@ -52,11 +50,6 @@ ends_are host.Any None (host.NotIn set) q = refl
 ends_are host.Any (Some test) d q = refl
 ends_are (host.In set) p d q = refl
 ends_are (host.NotIn set) p d q = refl
-
--- items line by line
-pub items_are : (items : List Item) → shown_items items ≡ flat_map item_line items
-items_are [] = refl
-items_are (Filter r ∷ items) = ap (λ t. line (rule_parts r) ++ t) (items_are items)
 
 -- names behind blanks
 names_are : (names : List Name) → spaced names ≡ flat_map (λ n. 32 ∷ n) names

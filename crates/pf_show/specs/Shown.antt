@@ -1,6 +1,6 @@
 -- How a ruleset is shown: a line for each part, its words between single blanks.
 use Rattle.std.specs.Prelude.{ℕ, Bool, true, false, List, [], ◌∷◌, ◌++◌, Option, Some, None, codes, decimal}
-use Rattle.std.specs.Prelude.{map}
+use Rattle.std.specs.Prelude.{map, if◌then◌else◌}
 use Rattle.pf_addr.specs.Shown.{shown_addr, shown_prefix}
 use Rattle.pf_ruleset.specs.declared.rule.Action.{Action}
 use Rattle.pf_ruleset.specs.declared.rule.Action.TheVariants.{Pass, Drop, Return}
@@ -21,9 +21,10 @@ use Rattle.pf_ruleset.specs.declared.parts.FlagTest.{FlagTest}
 use Rattle.pf_ruleset.specs.declared.parts.FlagTest.TheVariants as flags
 use Rattle.pf_ruleset.specs.declared.rule.Conditions.{Conditions}
 use Rattle.pf_ruleset.specs.declared.rule.Rule.{Rule}
-use Rattle.pf_ruleset.specs.declared.ruleset.Item.{Item}
-use Rattle.pf_ruleset.specs.declared.ruleset.Item.TheVariants.{Filter}
-use Rattle.pf_ruleset.specs.Names.{Name}
+use Rattle.pf_ruleset.specs.Items.{Target, Heading, AnyRule, FilterRule, AnchorRule, ItemValue, Filters}
+use Rattle.pf_ruleset.specs.Items.{Anchors, Blocks}
+use Rattle.pf_ruleset.specs.Items.{ItemValues, no_items, one_more}
+use Rattle.pf_ruleset.specs.Names.{Name, begins_below}
 use Rattle.pf_ruleset.specs.Rulesets.{RulesetValue, TableValue}
 use Rattle.pf_ruleset.specs.declared.ruleset.TableEntry.{TableEntry}
 
@@ -163,9 +164,73 @@ abbrev pub line : List Part → List ℕ
 line [] = 10 ∷ []
 line (part ∷ parts) = part ++ more_parts parts
 
-abbrev pub shown_items : List Item → List ℕ
+-- ---- anchor rules
+
+-- names between slashes
+abbrev pub slashed : List Name → List ℕ
+slashed [] = []
+slashed (name ∷ []) = name
+slashed (name ∷ other ∷ names) = name ++ 47 ∷ slashed (other ∷ names)
+
+-- behind `/*` stand the anchors directly attached
+abbrev pub children_text : Bool → List ℕ
+children_text true = codes "/*"
+children_text false = []
+
+abbrev pub target_text : Target → List ℕ
+target_text t = slashed t.names ++ children_text t.children
+
+-- the target between quotes
+abbrev pub target_part : Target → Part
+target_part t = 34 ∷ (target_text t ++ 34 ∷ [])
+
+-- what stands behind the target; flags only where something is checked
+unfoldable pub heading_parts : Heading → List Part
+heading_parts h =
+    direction_parts h.conditions.direction ++ (quick_parts h.quick
+    ++ (condition_parts h.conditions ++ flags_parts Drop h.conditions.flags))
+
+unfoldable pub anchor_parts : Heading → List Part
+anchor_parts h = codes "anchor" ∷ target_part h.target ∷ heading_parts h
+
+-- the name that an unnamed block has: one that begins with _
+abbrev pub is_unnamed : List Name → Bool
+is_unnamed [] = false
+is_unnamed (name ∷ []) = begins_below name
+is_unnamed (name ∷ other ∷ names) = false
+
+-- the target of a rule that carries a block, which is left out where the block is unnamed
+abbrev pub block_target : Target → List Part
+block_target t = if is_unnamed t.names then [] else target_part t ∷ []
+
+unfoldable pub block_parts : Heading → List Part
+block_parts h = codes "anchor" ∷ (block_target h.target ++ (heading_parts h ++ codes "{" ∷ []))
+
+-- ---- rules
+
+-- the line of a rule, without the block that it may carry and with every name
+abbrev pub any_rule_line : AnyRule → List ℕ
+any_rule_line (FilterRule r) = line (rule_parts r)
+any_rule_line (AnchorRule h) = line (anchor_parts h)
+
+abbrev pub shown_items : List AnyRule → List ℕ
 shown_items [] = []
-shown_items (Filter r ∷ items) = line (rule_parts r) ++ shown_items items
+shown_items (rule ∷ rules) = any_rule_line rule ++ shown_items rules
+
+-- a rule on its line; where it carries a block, a brace ends the line, the block's rules follow, and a brace on a line
+abbrev mutual
+  pub shown_item : ItemValue → List ℕ
+  shown_item (Filters r) = line (rule_parts r)
+  shown_item (Anchors h) = line (anchor_parts h)
+  shown_item (Blocks h block) = line (block_parts h) ++ (shown_block block ++ codes "}\n")
+
+  pub shown_block : ItemValues → List ℕ
+  shown_block no_items = []
+  shown_block (one_more item items) = shown_item item ++ shown_block items
+
+abbrev pub shown_rules : List ItemValue → List ℕ
+shown_rules [] = []
+shown_rules (item ∷ items) = shown_item item ++ shown_rules items
 
 -- set skip on { a b }, unless there is nothing to skip
 abbrev pub skip_line : List Name → List ℕ
@@ -201,4 +266,4 @@ table_lines (t ∷ tables) = line (table_parts t) ++ table_lines tables
 
 -- a ruleset
 unfoldable pub shown : RulesetValue → List ℕ
-shown r = skip_line r.skip ++ (table_lines r.tables ++ shown_items r.items)
+shown r = skip_line r.skip ++ (table_lines r.tables ++ shown_rules r.items)

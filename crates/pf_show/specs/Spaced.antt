@@ -3,9 +3,10 @@ use Rattle.std.specs.Prelude.{ℕ, Bool, true, false, List, [], ◌∷◌, ◌++
 use Rattle.pf_ruleset.specs.declared.parts.Host.{Host}
 use Rattle.pf_ruleset.specs.declared.parts.Host.TheVariants as host
 use Rattle.pf_ruleset.specs.declared.parts.PortTest.{PortTest}
-use Rattle.pf_ruleset.specs.declared.ruleset.Item.{Item}
-use Rattle.pf_ruleset.specs.declared.ruleset.Item.TheVariants.{Filter}
-use Rattle.pf_show.specs.Shown.{Part, rule_parts, line, entry_part, table_parts}
+use Rattle.pf_ruleset.specs.declared.item.Item.{Item}
+use Rattle.pf_ruleset.specs.Seen.{item_of, rule_of}
+use Rattle.pf_ruleset.specs.Names.{Name}
+use Rattle.pf_show.specs.Shown.{Part, rule_parts, line, entry_part, table_parts, any_rule_line, shown_item}
 use Rattle.pf_ruleset.specs.declared.ruleset.TableEntry.{TableEntry}
 use Rattle.pf_ruleset.specs.declared.ruleset.TableDef.{TableDef}
 use Rattle.pf_ruleset.specs.Rulesets.{table_of}
@@ -32,9 +33,17 @@ is_any_end host.Any (Some test) = false
 is_any_end (host.In set) port = false
 is_any_end (host.NotIn set) port = false
 
--- the line of an item
+-- the line of an item without its block
 abbrev pub item_line : Item → List ℕ
-item_line (Filter r) = line (rule_parts r)
+item_line item = any_rule_line (rule_of item)
+
+-- the lines of an item with its block
+abbrev pub item_text : Item → List ℕ
+item_text item = shown_item (item_of item)
+
+-- a name behind a slash
+abbrev pub slash_name : Name → List ℕ
+slash_name name = 47 ∷ name
 
 -- an entry behind a blank
 abbrev pub spaced_entry : TableEntry → List ℕ

@@ -5,6 +5,7 @@
 //! - [`show`] and [`show_items`] write a ruleset or its rules in one form, a line for each rule.
 #![tactic(auto)]
 
+mod items;
 mod shown;
 mod tables;
 

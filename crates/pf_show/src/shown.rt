@@ -1,13 +1,15 @@
 //! A ruleset as text: a line for each part, its words between single blanks.
 
-ghost use Rattle.std.specs.Prelude.{◌≡◌, Some, IfOk, string_bytes};
+ghost use Rattle.std.specs.Prelude.{◌≡◌, Some, IfOk, map, string_bytes};
 ghost use Rattle.pf_ruleset.specs.Rulesets.{ruleset_of};
 ghost use Rattle.pf_show.specs.Shown.{direction_parts, quick_parts, action_parts, interface_parts, family_parts};
 ghost use Rattle.pf_show.specs.Shown.{protocol_parts, host_parts, test_parts, port_parts, end_parts, ends_parts};
 ghost use Rattle.pf_show.specs.Shown.{type_parts, letters, flags_text, flags_parts, state_parts, condition_parts};
 ghost use Rattle.pf_show.specs.Shown.{rule_parts, line, skip_line, shown_items, shown};
-ghost use Rattle.pf_show.specs.Spaced.{spaced, joined, text_if, is_any_end, item_line};
+ghost use Rattle.pf_show.specs.Spaced.{spaced, joined, text_if, is_any_end};
+ghost use Rattle.pf_ruleset.specs.Seen.{rule_of};
 
+use crate::items::{ItemLines, ItemTexts};
 use crate::tables::TableLines;
 use pf_addr::Family;
 use pf_ruleset::{
@@ -36,7 +38,7 @@ impl fmt::Display for ActionWords {
 
 /// A direction behind a blank, if there is one.
 #[derive(Clone, Copy)]
-struct DirectionPart(Option<Direction>);
+pub(crate) struct DirectionPart(pub(crate) Option<Direction>);
 
 impl fmt::Display for DirectionPart {
     ghost output = { λ d. Some (spaced (direction_parts d.0)) };
@@ -52,7 +54,7 @@ impl fmt::Display for DirectionPart {
 
 /// `quick` behind a blank, if it is said.
 #[derive(Clone, Copy)]
-struct QuickPart(bool);
+pub(crate) struct QuickPart(pub(crate) bool);
 
 impl fmt::Display for QuickPart {
     ghost output = { λ q. Some (spaced (quick_parts q.0)) };
@@ -261,7 +263,7 @@ impl fmt::Display for TypeParts {
 
 /// The conditions that stand from the interface to the type of ICMP.
 #[derive(Clone, Copy)]
-struct ConditionParts<'a>(&'a Conditions);
+pub(crate) struct ConditionParts<'a>(pub(crate) &'a Conditions);
 
 impl fmt::Display for ConditionParts<'_> {
     ghost output = { λ c. Some (spaced (condition_parts c.0.now)) };
@@ -287,7 +289,7 @@ impl fmt::Display for ConditionParts<'_> {
 }
 
 /// The text, if it is wanted.
-fn text_if(wanted: bool, text: &str) -> &str
+pub(crate) fn text_if(wanted: bool, text: &str) -> &str
     ensures { result.now ≡ text_if wanted text.now }
 {
     if wanted { text } else { "" }
@@ -331,9 +333,9 @@ impl fmt::Display for FlagsText {
 
 /// What is asked of the flags behind its word: always of a rule that passes, else where something is asked.
 #[derive(Clone, Copy)]
-struct FlagsParts {
-    action: Action,
-    test: FlagTest,
+pub(crate) struct FlagsParts {
+    pub(crate) action: Action,
+    pub(crate) test: FlagTest,
 }
 
 impl fmt::Display for FlagsParts {
@@ -370,7 +372,7 @@ impl fmt::Display for StateParts {
 
 /// The line of a rule.
 #[derive(Clone, Copy)]
-struct RuleLine<'a>(&'a Rule);
+pub(crate) struct RuleLine<'a>(pub(crate) &'a Rule);
 
 impl fmt::Display for RuleLine<'_> {
     ghost output = { λ r. Some (line (rule_parts r.0.now)) };
@@ -390,37 +392,6 @@ impl fmt::Display for RuleLine<'_> {
             keeps: self.0.keeps_state,
         };
         writeln!(f, "{action}{direction}{quick}{conditions}{flags}{state}")
-    }
-}
-
-/// The line of an item.
-#[derive(Clone, Copy)]
-struct ItemLine<'a>(&'a Item);
-
-impl fmt::Display for ItemLine<'_> {
-    ghost output = { λ i. Some (item_line i.0.now) };
-
-    fn fmt<W: fmt::Write>(&self, f: &mut fmt::Formatter<W>) -> fmt::Result {
-        match self.0 {
-            Item::Filter(rule) => write!(f, "{}", RuleLine(rule)),
-        }
-    }
-}
-
-/// The lines of items.
-#[derive(Clone, Copy)]
-struct ItemLines<'a>(&'a [Item]);
-
-impl fmt::Display for ItemLines<'_> {
-    ghost use Rattle.std.specs.List.{flat_map};
-
-    ghost output = { λ i. Some (flat_map item_line i.0.now) };
-
-    fn fmt<W: fmt::Write>(&self, f: &mut fmt::Formatter<W>) -> fmt::Result {
-        for item in self.0 {
-            write!(f, "{}", ItemLine(item))?;
-        }
-        Ok(())
     }
 }
 
@@ -465,27 +436,29 @@ struct RulesetLines<'a>(&'a Ruleset);
 impl fmt::Display for RulesetLines<'_> {
     ghost output = { λ r. Some (shown (ruleset_of r.0.now)) };
 
-    #[tactic(auto, using(crate::proofs::Spacing::items_are, crate::proofs::TableSpacing::tables_are), unfolding(crate::specs::Shown::shown))]
+    #[tactic(auto, using(crate::proofs::Anchors::rules_are, crate::proofs::TableSpacing::tables_are), unfolding(crate::specs::Shown::shown))]
     fn fmt<W: fmt::Write>(&self, f: &mut fmt::Formatter<W>) -> fmt::Result {
         let skip = SkipLine(&self.0.skip);
         let tables = TableLines(&self.0.tables);
-        let items = ItemLines(&self.0.items);
+        let items = ItemTexts(&self.0.items);
         write!(f, "{skip}{tables}{items}")
     }
 }
 
 /// The ruleset as text: a line `set skip on { .. }` if anything is skipped, a line for each table, and a line for each
-/// rule (pfctl(8), `-s rules`). A growth that is refused is the error.
+/// rule; where one carries a block, its rules follow up to a line `}` (pfctl(8), `-s rules`). A growth that is refused
+/// is the error.
 pub fn show(alloc: Global, rules: &Ruleset) -> Result<String, AllocError>
     ensures { IfOk result (λ text. string_bytes text ≡ shown (ruleset_of rules.now)) }
 {
     format!(in alloc; "{}", RulesetLines(rules))
 }
 
-/// The items as text, a line for each rule (pfctl(8), `-s rules`). A growth that is refused is the error.
-#[tactic(auto, using(crate::proofs::Spacing::items_are))]
+/// The items as text, a line for each rule, with every name and without blocks (pfctl(8), `-s rules`). A growth that is
+/// refused is the error.
+#[tactic(auto, using(crate::proofs::Anchors::lines_are))]
 pub fn show_items(alloc: Global, items: &[Item]) -> Result<String, AllocError>
-    ensures { IfOk result (λ text. string_bytes text ≡ shown_items items.now) }
+    ensures { IfOk result (λ text. string_bytes text ≡ shown_items (map rule_of items.now)) }
 {
     format!(in alloc; "{}", ItemLines(items))
 }

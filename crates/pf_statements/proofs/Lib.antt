@@ -4,3 +4,4 @@ pub mod TableSteps
 pub mod TablesSpelled
 pub mod RulesSpelled
 pub mod StatementsSpelled
+pub mod AnchorsSpelled

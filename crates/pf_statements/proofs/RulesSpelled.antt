@@ -10,7 +10,8 @@ use Rattle.pf_ruleset.specs.declared.parts.Direction.{Direction}
 use Rattle.pf_ruleset.specs.declared.parts.Direction.TheVariants.{In, Out}
 use Rattle.pf_statements.specs.declared.written.WrittenAction.{WrittenAction}
 use Rattle.pf_statements.specs.declared.written.WrittenAction.TheVariants.{Pass, Block as Blocks}
-use Rattle.pf_statements.specs.Statements.{policy_at, action_at, direction_at}
+use Rattle.pf_statements.specs.Statements.{policy_at, action_at}
+use Rattle.pf_statements.specs.Directions.{direction_at}
 use Rattle.pf_conditions.specs.Grammar.{key}
 use Rattle.pf_statements.specs.Grammar.{IsPolicy, DropWord, ReturnWord, IsAction, PassWord, BlockWord, BlockSaid, IsDirection, NoDirection, InWord, OutWord, IsSaid, Unsaid, Said}
 use Rattle.pf_conditions.proofs.Fronts.{Took, begins_is, rank, not_begun}

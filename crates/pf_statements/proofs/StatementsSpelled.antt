@@ -15,9 +15,12 @@ use Rattle.pf_ruleset.specs.declared.parts.FlagTest.{FlagTest}
 use Rattle.pf_statements.specs.declared.written.WrittenAction.{WrittenAction}
 use Rattle.pf_conditions.specs.declared.written.WrittenType.{WrittenType}
 use Rattle.pf_conditions.specs.Conditions.{if_so, interface_name_at, flags_at, types_at, common_at}
-use Rattle.pf_statements.specs.Statements.{Options, no_options, flags_option, state_option, types_option, has_types, option_with, options_at, policy_at, action_at, direction_at, RuleText, may_keep, rule_of, Setting, SetPolicy, SetSkip, all_read, policy_set, skip_set, setting_of, Statement, Sets, Rules, as_setting, as_rule, value_of, Tables, as_table}
+use Rattle.pf_statements.specs.Statements.{Options, no_options, flags_option, state_option, types_option, has_types, option_with, options_at, policy_at, action_at, RuleText, may_keep, rule_of, Setting, SetPolicy, SetSkip, all_read, policy_set, skip_set, setting_of, Statement, Sets, Rules, as_setting, as_rule, value_of, Tables, as_table, Anchors, as_anchor}
+use Rattle.pf_statements.specs.Directions.{direction_at}
+use Rattle.pf_statements.specs.Anchors.{AnchorText, anchor_of}
+use Rattle.pf_statements.proofs.AnchorsSpelled.{anchor_reads, anchor_took}
 use Rattle.pf_conditions.specs.Grammar.{IsSome, IsInterfaceName, IsFlags, IsTypes}
-use Rattle.pf_statements.specs.Grammar.{IsAction, PassWord, BlockWord, BlockSaid, IsKeep, NoWord, KeepWord, IsOptions, NoOption, FlagsOption, StateOption, TypesOption, IsRule, IsSetting, PolicySetting, SkipSetting, IsStatement, SetStatement, RuleStatement, TableStatement}
+use Rattle.pf_statements.specs.Grammar.{IsAction, PassWord, BlockWord, BlockSaid, IsKeep, NoWord, KeepWord, IsOptions, NoOption, FlagsOption, StateOption, TypesOption, IsRule, IsSetting, PolicySetting, SkipSetting, IsStatement, SetStatement, RuleStatement, TableStatement, AnchorStatement}
 use Rattle.pf_conditions.proofs.Fronts.{begins_is, rank, not_begun}
 use Rattle.pf_conditions.proofs.ListsSpelled.{Spells, some_spells}
 use Rattle.pf_statements.proofs.RulesSpelled.{action_took, action_reads, direction_took, direction_reads, direction_rank, said_took, said_reads, log_rank, quick_rank, PolicyTook, policy_took, policy_reads}
@@ -280,18 +283,26 @@ as_table_is : (o : Option TableText) (s : Statement) → as_table o ≡ Some s �
 as_table_is None s e = absurd cc
 as_table_is (Some table) s e = (table, refl, some_is (Tables table) s e)
 
+as_anchor_is : (o : Option AnchorText) (s : Statement) → as_anchor o ≡ Some s → (anchor : AnchorText) × (o ≡ Some anchor) × (Anchors anchor ≡ s)
+as_anchor_is None s e = absurd cc
+as_anchor_is (Some anchor) s e = (anchor, refl, some_is (Anchors anchor) s e)
+
 pub statement_took : (profile : Profile) (ts : List Token) (s : Statement) → value_of profile ts ≡ Some s → IsStatement profile ts s
 unfolding value_of
-statement_took profile ts s e = cases (begins (codes "set") ts) refl (begins (codes "table") ts) refl e
+statement_took profile ts s e = cases (begins (codes "set") ts) refl (begins (codes "table") ts) refl (begins (codes "anchor") ts) refl e
   where
-    cases : (b : Bool) → begins (codes "set") ts ≡ b → (c : Bool) → begins (codes "table") ts ≡ c → cond b (as_setting (setting_of profile (drop 1 ts))) (cond c (as_table (table_of profile (drop 1 ts))) (as_rule (rule_of profile ts))) ≡ Some s → IsStatement profile ts s
-    cases true begun c table e =
+    cases : (b : Bool) → begins (codes "set") ts ≡ b → (c : Bool) → begins (codes "table") ts ≡ c → (d : Bool) → begins (codes "anchor") ts ≡ d
+        → cond b (as_setting (setting_of profile (drop 1 ts))) (cond c (as_table (table_of profile (drop 1 ts))) (cond d (as_anchor (anchor_of profile (drop 1 ts))) (as_rule (rule_of profile ts)))) ≡ Some s → IsStatement profile ts s
+    cases true begun c table d anchor e =
         let a = as_setting_is (setting_of profile (drop 1 ts)) s e in
         subst (λ (v : Statement). IsStatement profile ts v) a.2 (subst (λ (us : List Token). IsStatement profile us (Sets a.0)) (sym (begins_is (codes "set") ts begun)) (SetStatement (drop 1 ts) a.0 (setting_took profile (drop 1 ts) a.0 a.1)))
-    cases false begun true table e =
+    cases false begun true table d anchor e =
         let a = as_table_is (table_of profile (drop 1 ts)) s e in
         subst (λ (v : Statement). IsStatement profile ts v) a.2 (subst (λ (us : List Token). IsStatement profile us (Tables a.0)) (sym (begins_is (codes "table") ts table)) (TableStatement (drop 1 ts) a.0 (table_took profile (drop 1 ts) a.0 a.1)))
-    cases false begun false table e =
+    cases false begun false table true anchor e =
+        let a = as_anchor_is (anchor_of profile (drop 1 ts)) s e in
+        subst (λ (v : Statement). IsStatement profile ts v) a.2 (subst (λ (us : List Token). IsStatement profile us (Anchors a.0)) (sym (begins_is (codes "anchor") ts anchor)) (AnchorStatement (drop 1 ts) a.0 (anchor_took profile (drop 1 ts) a.0 a.1)))
+    cases false begun false table false anchor e =
         let a = as_rule_is (rule_of profile ts) s e in
         subst (λ (v : Statement). IsStatement profile ts v) a.2 (RuleStatement ts a.0 (rule_took profile ts a.0 a.1))
 
@@ -307,4 +318,5 @@ pub statement_reads : (profile : Profile) (ts : List Token) (s : Statement) → 
 unfolding value_of
 statement_reads profile _ _ (SetStatement ts setting is) = ap as_setting (setting_reads profile ts setting is)
 statement_reads profile _ _ (TableStatement ts table is) = ap as_table (table_reads profile ts table is)
-statement_reads profile _ _ (RuleStatement ts rule is) = rw (rule_not (codes "set") refl refl profile ts rule is, rule_not (codes "table") refl refl profile ts rule is) (ap as_rule (rule_reads profile ts rule is))
+statement_reads profile _ _ (AnchorStatement ts anchor is) = ap as_anchor (anchor_reads profile ts anchor is)
+statement_reads profile _ _ (RuleStatement ts rule is) = rw (rule_not (codes "set") refl refl profile ts rule is, rule_not (codes "table") refl refl profile ts rule is, rule_not (codes "anchor") refl refl profile ts rule is) (ap as_rule (rule_reads profile ts rule is))

@@ -3,7 +3,7 @@
 use Rattle.std.specs.Prelude.{◌≡◌, ℕ, ◌+◌, Bool, true, false, List, [], ◌∷◌, ◌++◌, Option, Some}
 use Rattle.std.specs.Prelude.{None, Ok, max, codes}
 use Rattle.pf_words.specs.declared.profile.Profile.{Profile}
-use Rattle.pf_tokens.specs.Tokens.{Token, Newline}
+use Rattle.pf_tokens.specs.Tokens.{Token, Newline, Quoted}
 use Rattle.pf_tokens.specs.Lists.{Elements}
 use Rattle.pf_ruleset.specs.declared.parts.Policy.{Policy}
 use Rattle.pf_ruleset.specs.declared.parts.Policy.TheVariants as policy
@@ -15,8 +15,13 @@ use Rattle.pf_statements.specs.declared.written.WrittenAction.TheVariants.{Pass,
 use Rattle.pf_conditions.specs.declared.written.WrittenType.{WrittenType}
 use Rattle.pf_ruleset.specs.Names.{Name}
 use Rattle.pf_statements.specs.Statements.{Options, no_options, has_types, may_keep, RuleText, Setting, SetPolicy}
-use Rattle.pf_statements.specs.Statements.{SetSkip, Statement, Sets, Rules, Tables}
+use Rattle.pf_statements.specs.Statements.{SetSkip, Statement, Sets, Rules, Tables, Anchors}
+use Rattle.pf_statements.specs.Anchors.{AnchorText}
+use Rattle.pf_ruleset.specs.Items.{Target}
+use Rattle.pf_words.specs.Words.{is_reserved}
+use Rattle.pf_conditions.specs.Targets.{target_of}
 use Rattle.pf_conditions.specs.Grammar.{key, sign, IsSome, IsInterfaceName, IsFlags, IsTypes, IsCommon, IsList}
+use Rattle.pf_conditions.specs.Grammar.{IsBehind}
 use Rattle.pf_conditions.specs.Grammar.{IsPrefix, IsTable}
 use Rattle.pf_statements.specs.Tables.{TableText, new_table, no_entries}
 use Rattle.pf_ruleset.specs.declared.ruleset.TableEntry.{TableEntry}
@@ -94,6 +99,30 @@ pub record IsRule (profile : Profile) (tokens : List Token) (r : RuleText) : Typ
   })
   pub keeps : may_keep r.action r.state ≡ true
 
+-- ---- anchor rules
+
+-- ANAME: a STRING, or a WORD that isn't reserved
+pub data IsTarget (profile : Profile) : List Token → Target → Type 0 where
+  TargetWord : (text : List ℕ) (target : Target) → is_reserved profile text ≡ false →
+      target_of text ≡ Some target → IsTarget profile (key text) target
+  TargetString : (text : List ℕ) (target : Target) → target_of text ≡ Some target →
+      IsTarget profile (Quoted text ∷ []) target
+
+-- anchor = "anchor" ANAME [way] ["quick"] common [flags], behind the first word
+pub record IsAnchor (profile : Profile) (tokens : List Token) (a : AnchorText) : Type 0 where
+  pub target : List Token
+  pub direction : List Token
+  pub quick : List Token
+  pub common : List Token
+  pub flags : List Token
+  pub whole : tokens ≡ target ++ (direction ++ (quick ++ (common ++ flags)))
+  pub is_target : IsTarget profile target a.target
+  pub is_direction : IsDirection direction a.conditions.direction
+  pub is_quick : IsSaid (codes "quick") quick a.quick
+  pub is_common : IsCommon profile common a.conditions.common
+  pub are_flags : IsBehind (codes "flags") IsFlags flags a.conditions.flags
+  pub no_types : a.conditions.types ≡ None
+
 -- ---- tables
 
 -- ["!"] prefix
@@ -141,10 +170,12 @@ pub data IsSetting (profile : Profile) : List Token → Setting → Type 0 where
   SkipSetting : (ts : List Token) (names : Elements Name) → IsSome (IsInterfaceName profile) ts names →
       IsSetting profile (key (codes "skip") ++ (key (codes "on") ++ ts)) (SetSkip names)
 
--- statement = "set" setting | "table" table | rule
+-- statement = "set" setting | "table" table | "anchor" anchor | rule
 pub data IsStatement (profile : Profile) : List Token → Statement → Type 0 where
   SetStatement : (ts : List Token) (setting : Setting) → IsSetting profile ts setting →
       IsStatement profile (key (codes "set") ++ ts) (Sets setting)
   TableStatement : (ts : List Token) (table : TableText) → IsTableText profile ts table →
       IsStatement profile (key (codes "table") ++ ts) (Tables table)
   RuleStatement : (ts : List Token) (rule : RuleText) → IsRule profile ts rule → IsStatement profile ts (Rules rule)
+  AnchorStatement : (ts : List Token) (anchor : AnchorText) → IsAnchor profile ts anchor →
+      IsStatement profile (key (codes "anchor") ++ ts) (Anchors anchor)

@@ -1,4 +1,6 @@
 pub mod Options
+pub mod Directions
+pub mod Anchors
 pub mod Tables
 pub mod TableShorter
 pub mod Statements

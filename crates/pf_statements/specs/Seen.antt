@@ -10,16 +10,22 @@ use Rattle.pf_statements.specs.declared.written.Setting.TheVariants as settings
 use Rattle.pf_statements.specs.declared.written.Statement as statement
 use Rattle.pf_statements.specs.declared.written.Statement.TheVariants as statements
 use Rattle.pf_statements.specs.Statements.{Options, RuleText, Setting, SetPolicy, SetSkip, Statement, Sets, Rules}
-use Rattle.pf_statements.specs.Statements.{Tables}
+use Rattle.pf_statements.specs.Statements.{Tables, Anchors}
 use Rattle.pf_conditions.specs.Seen.{list_of, conditions_of}
 use Rattle.pf_statements.specs.Tables.{TableText}
 use Rattle.pf_statements.specs.declared.written.WrittenTable.{WrittenTable}
+use Rattle.pf_statements.specs.declared.written.WrittenAnchor.{WrittenAnchor}
+use Rattle.pf_statements.specs.Anchors.{AnchorText}
+use Rattle.pf_ruleset.specs.Seen.{target_of}
 
 abbrev pub options_of : options.RuleOptions → Options
 options_of o = record { flags = o.flags; state = o.state; types = list_of o.types }
 
 abbrev pub text_of : WrittenRule → RuleText
 text_of r = record { action = r.action; quick = r.quick; conditions = conditions_of r.conditions; state = r.state }
+
+abbrev pub anchor_text_of : WrittenAnchor → AnchorText
+anchor_text_of a = record { target = target_of a.target; quick = a.quick; conditions = conditions_of a.conditions }
 
 abbrev pub table_text_of : WrittenTable → TableText
 table_text_of t = record { name = t.name; persist = t.persist; is_const = t.is_const; entries = list_of t.entries }
@@ -32,6 +38,7 @@ abbrev pub statement_of : statement.Statement → Statement
 statement_of (statements.Sets said) = Sets (setting_of said)
 statement_of (statements.Tables table) = Tables (table_text_of table)
 statement_of (statements.Rules text) = Rules (text_of text)
+statement_of (statements.Anchors text) = Anchors (anchor_text_of text)
 
 -- the whole statement spells the value, or doesn't; unless memory ran out
 abbrev pub Spells : {X Y : Type 0} → (X → Y) → Result X Stop → Option Y → Type 0

@@ -10,8 +10,6 @@ use Rattle.pf_tokens.specs.Productions.{Read, ◌>>=◌, is_end, begins, option_
 use Rattle.pf_tokens.specs.Lists.{Elements, some_at}
 use Rattle.pf_ruleset.specs.declared.parts.Policy.{Policy}
 use Rattle.pf_ruleset.specs.declared.parts.Policy.TheVariants as policy
-use Rattle.pf_ruleset.specs.declared.parts.Direction.{Direction}
-use Rattle.pf_ruleset.specs.declared.parts.Direction.TheVariants.{In, Out}
 use Rattle.pf_ruleset.specs.declared.parts.FlagTest.{FlagTest}
 use Rattle.pf_statements.specs.declared.written.WrittenAction.{WrittenAction}
 use Rattle.pf_statements.specs.declared.written.WrittenAction.TheVariants.{Pass, Block as Blocks}
@@ -19,6 +17,8 @@ use Rattle.pf_conditions.specs.declared.written.WrittenType.{WrittenType}
 use Rattle.pf_ruleset.specs.Names.{Name}
 use Rattle.pf_conditions.specs.Conditions.{if_so, interface_name_at, flags_at, types_at, common_at, ConditionsText}
 use Rattle.pf_statements.specs.Options.{to_end}
+use Rattle.pf_statements.specs.Directions.{direction_at}
+use Rattle.pf_statements.specs.Anchors.{AnchorText, anchor_of}
 use Rattle.pf_statements.specs.Tables.{TableText, table_of}
 
 -- ---- options
@@ -79,11 +79,6 @@ action_at ts =
     if begins (codes "pass") ts then Some (Pass, drop 1 ts)
     else (if begins (codes "block") ts then (let said = policy_at (drop 1 ts) in Some (Blocks said.0, said.1))
     else None)
-
--- ["in" | "out"]
-unfoldable pub direction_at : List Token → Option Direction × List Token
-direction_at ts = if begins (codes "in") ts then (Some In, drop 1 ts)
-    else (if begins (codes "out") ts then (Some Out, drop 1 ts) else (None, ts))
 
 -- a rule as it is written
 pub record RuleText : Type 0 where
@@ -148,6 +143,7 @@ pub data Statement : Type 0 where
   Sets : (setting : Setting) → Statement
   Tables : (table : TableText) → Statement
   Rules : (rule : RuleText) → Statement
+  Anchors : (anchor : AnchorText) → Statement
 
 abbrev pub as_setting : Option Setting → Option Statement
 as_setting None = None
@@ -161,9 +157,14 @@ abbrev pub as_table : Option TableText → Option Statement
 as_table None = None
 as_table (Some table) = Some (Tables table)
 
+abbrev pub as_anchor : Option AnchorText → Option Statement
+as_anchor None = None
+as_anchor (Some anchor) = Some (Anchors anchor)
+
 -- the value of a statement that defines no macro, none where the grammar doesn't spell it
 unfoldable pub value_of : Profile → List Token → Option Statement
 value_of profile ts =
     if begins (codes "set") ts then as_setting (setting_of profile (drop 1 ts))
     else (if begins (codes "table") ts then as_table (table_of profile (drop 1 ts))
-    else as_rule (rule_of profile ts))
+    else (if begins (codes "anchor") ts then as_anchor (anchor_of profile (drop 1 ts))
+    else as_rule (rule_of profile ts)))

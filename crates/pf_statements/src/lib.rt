@@ -3,10 +3,12 @@
 //! # Organization
 //!
 //! - [`read_statement`] reads a statement at a parser of `pf_tokens`: a [`Statement`], which sets something, or is a
-//!   [`WrittenTable`] or a [`WrittenRule`].
+//!   [`WrittenTable`], a [`WrittenRule`] or a [`WrittenAnchor`].
 //! - [`reads_the_grammar`]: a statement is read exactly as the grammar spells it.
 #![tactic(auto)]
 
+mod anchors;
+mod directions;
 mod laws;
 mod options;
 mod statements;
@@ -15,4 +17,6 @@ mod written;
 
 pub use laws::reads_the_grammar;
 pub use statements::read_statement;
-pub use written::{RuleOptions, Setting, Statement, WrittenAction, WrittenRule, WrittenTable};
+pub use written::{
+    RuleOptions, Setting, Statement, WrittenAction, WrittenAnchor, WrittenRule, WrittenTable,
+};

@@ -2,16 +2,18 @@
 
 ghost use Rattle.std.specs.Prelude.{◌≡◌};
 ghost use Rattle.pf_tokens.specs.Parsing.{left, later, Reads};
-ghost use Rattle.pf_statements.specs.Statements.{policy_at, action_at, direction_at, may_keep, rule_of, skip_set};
+ghost use Rattle.pf_statements.specs.Statements.{policy_at, action_at, may_keep, rule_of, skip_set};
 ghost use Rattle.pf_statements.specs.Statements.{setting_of, value_of};
 ghost use Rattle.pf_statements.specs.Seen.{text_of, statement_of, Spells};
 ghost use Rattle.pf_statements.specs.Seen as seen;
 
+use crate::anchors::read_anchor;
+use crate::directions::read_direction;
 use crate::options::read_options;
 use crate::tables::read_table_text;
 use crate::written::{RuleOptions, Setting, Statement, WrittenAction, WrittenRule};
 use pf_conditions::{InterfaceNameProduction, WrittenConditions, read_common};
-use pf_ruleset::{Direction, Policy};
+use pf_ruleset::Policy;
 use pf_tokens::{Parser, Stop, some};
 use pf_words::Profile;
 use std::alloc::Global;
@@ -45,21 +47,6 @@ fn read_action<'t: 's, 's>(parser: &mut Parser<'t, 's>) -> Option<WrittenAction>
         return Some(WrittenAction::Block(said));
     }
     None
-}
-
-/// The direction, if it is said.
-#[tactic(auto, unfolding(pf_tokens::specs::Productions::option_at, crate::specs::Statements::direction_at))]
-fn read_direction<'t: 's, 's>(parser: &mut Parser<'t, 's>) -> Option<Direction>
-    ensures read { (result, left parser.new) ≡ direction_at (left parser.old) }
-    ensures later { later parser.new ≡ later parser.old }
-{
-    if parser.accept(b"in") {
-        Some(Direction::In)
-    } else if parser.accept(b"out") {
-        Some(Direction::Out)
-    } else {
-        None
-    }
 }
 
 /// Whether the rule may say so of its state: a block rule keeps none.
@@ -172,6 +159,10 @@ pub fn read_statement<'t: 's, 's>(
     if parser.accept(b"table") {
         let table = read_table_text(alloc, profile, parser)?;
         return Ok(Statement::Tables(table));
+    }
+    if parser.accept(b"anchor") {
+        let anchor = read_anchor(alloc, profile, parser)?;
+        return Ok(Statement::Anchors(anchor));
     }
     let rule = read_rule(alloc, profile, parser)?;
     Ok(Statement::Rules(rule))

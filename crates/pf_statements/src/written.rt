@@ -1,7 +1,7 @@
 //! Statements as they are written, before lists are expanded.
 
 use pf_conditions::{WrittenConditions, WrittenType};
-use pf_ruleset::{FlagTest, InterfaceName, Policy, TableEntry, TableName};
+use pf_ruleset::{FlagTest, InterfaceName, Policy, TableEntry, TableName, Target};
 use pf_tokens::Listed;
 
 /// What a rule does, as written.
@@ -37,6 +37,17 @@ pub struct WrittenRule {
     pub state: Option<bool>,
 }
 
+/// An anchor rule as it is written.
+#[derive(Debug, Drop)]
+pub struct WrittenAnchor {
+    /// The anchors that it evaluates.
+    pub target: Target,
+    /// Whether `quick` is said.
+    pub quick: bool,
+    /// What it says of packets.
+    pub conditions: WrittenConditions,
+}
+
 /// A table statement as it is written (pf.conf(5), TABLES).
 #[derive(Debug, Drop)]
 pub struct WrittenTable {
@@ -68,4 +79,6 @@ pub enum Statement {
     Tables(WrittenTable),
     /// A filter rule.
     Rules(WrittenRule),
+    /// An anchor rule.
+    Anchors(WrittenAnchor),
 }

@@ -1,4 +1,4 @@
-use Rattle.std.proofs.Common.{◌≡◌, ◌∙◌, List, length, arith, drop, Ok, Result, ap, sym, false, true}
+use Rattle.std.proofs.Common.{◌≡◌, ◌∙◌, List, length, arith, drop, Ok, Result, ap, sym, subst, refl, false, true}
 use Rattle.std.proofs.lemmas.Result.{err_from_is_err_and}
 use Rattle.pf_tokens.specs.Tokens.{Placed, tokens}
 use Rattle.pf_tokens.specs.Left.{tokens_left}
@@ -8,7 +8,7 @@ use Rattle.pf_tokens.proofs.Walking.{reading_ends}
 use Rattle.pf_grammar.specs.declared.fault.Refusal.{Refusal}
 use Rattle.pf_grammar.specs.Reading.{Sofar, judge, macros_of, reading, made_if, nothing}
 use Rattle.pf_grammar.specs.Gathering.{sofar_of}
-use Rattle.pf_grammar.proofs.ReadingSteps.{from, Begun, rest_shorter, passed_over, went_on, fails_so, few_stay}
+use Rattle.pf_grammar.proofs.ReadingSteps.{from, Begun, rest_shorter, passed_over, went_on, fails_so, few_stay, Room}
 use Rattle.pf_grammar.proofs.reading.parse.Goals as goal
 
 made : Sofar → Result Sofar Refusal
@@ -19,7 +19,7 @@ statements-init c =
     let lines : tokens_left c.lexer-lexer.result ≡ tokens c.args.text.now = c.lexer-lexer.ensures ∙ c.in_ok-joined.ensures in
     record {
       same = ap (λ (s : Sofar). from c.args.place c.args.profile s (tokens_left c.lexer-lexer.result)) c.new-gathered.ensures ∙ ap (λ (ts : List Placed). from c.args.place c.args.profile nothing ts) lines;
-      few = omega (arith, ap (λ (s : Sofar). length s.items) c.new-gathered.ensures);
+      few = subst (λ (s : Sofar). Room s.items) (sym c.new-gathered.ensures) (omega arith, refl);
     }
 
 pub statements-smaller-then-at_end : goal.statements-smaller-then-at_end

@@ -2,7 +2,7 @@ use Rattle.std.proofs.Common.{take}
 use Rattle.std.specs.Fmt.{HasWritten, IsPlainFormatter}
 use Rattle.std.specs.List.{flat_map}
 use Rattle.pf_show.specs.Spaced.{item_line}
-use Rattle.pf_show.proofs.shown.ItemLinesDisplay.fmt.Given as goal
+use Rattle.pf_show.proofs.items.ItemLinesDisplay.fmt.Given as goal
 
 -- what is written so far are the items so far
 abbrev pub invariant-loop-item : goal.invariant-loop-item
