@@ -13,7 +13,8 @@ use Rattle.pf_ruleset.specs.declared.parts.Host.TheVariants.{Any, In, NotIn}
 use Rattle.pf_ruleset.specs.declared.rule.Conditions.{Conditions}
 use Rattle.pf_ruleset.specs.declared.ruleset.TableEntry.{TableEntry}
 use Rattle.pf_ruleset.specs.Names.{Name, begins_below, is_before}
-use Rattle.pf_ruleset.specs.Items.{AnyRule, conditions_of, rule_of}
+use Rattle.pf_ruleset.specs.Items.{AnyRule, ItemValue, ItemValues, Filters, Anchors, Blocks, no_items, one_more}
+use Rattle.pf_ruleset.specs.Items.{conditions_of, rule_in, list_of, values_of}
 use Rattle.pf_ruleset.specs.Rulesets as rulesets
 use Rattle.pf_config.specs.declared.fault.ConfigFault.{ConfigFault}
 use Rattle.pf_config.specs.declared.fault.ConfigFault.TheVariants.{NoTable, ConstTable, TableFull, AnchorsFull, BadPath}
@@ -145,6 +146,19 @@ pub record Block : Type 0 where
   pub path : Path
   pub rules : List AnyRule
 
+-- the blocks of rules at a path: each stands before those in it, and these before the blocks that follow
+abbrev mutual
+  pub blocks_of : Path → ItemValue → List Block
+  blocks_of p (Filters rule) = []
+  blocks_of p (Anchors heading) = []
+  blocks_of p (Blocks heading items) =
+      record { path = p ++ heading.target.names; rules = map rule_in (list_of items) } ∷
+      blocks_in (p ++ heading.target.names) items
+
+  pub blocks_in : Path → ItemValues → List Block
+  blocks_in p no_items = []
+  blocks_in p (one_more item items) = blocks_of p item ++ blocks_in p items
+
 abbrev pub placed : List AnchorValue → Block → List AnchorValue
 placed anchors b = with_rules b.path b.rules (without_unnamed b.path anchors)
 
@@ -171,13 +185,18 @@ load c skip own definitions blocks =
 
 -- a ruleset is loaded at a path
 abbrev pub load_ruleset : Configuration → Path → rulesets.RulesetValue → Result Configuration ConfigFault
-load_ruleset c p r = load c r.skip (record { path = p; rules = map rule_of r.items }) r.tables []
+load_ruleset c p r = load c r.skip (record { path = p; rules = map rule_in r.items }) r.tables
+    (blocks_in p (values_of r.items))
 
 unfoldable pub flush_rules : Configuration → Path → Configuration
 flush_rules c p = record { skip = c.skip; anchors = tidied (placed c.anchors (record { path = p; rules = [] })) }
 
 unfoldable pub flush_tables : Configuration → Path → Configuration
 flush_tables c p = record { skip = c.skip; anchors = with_tables p [] c.anchors }
+
+-- the rules go, and then the tables
+abbrev pub flush_all : Configuration → Path → Configuration
+flush_all c p = flush_tables (flush_rules c p) p
 
 -- ---- what a call does: it changes the configuration as defined, or is refused so; a refused one changes nothing
 

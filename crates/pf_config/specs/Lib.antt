@@ -4,3 +4,4 @@ pub mod Texts
 pub mod Trees
 pub mod TreeFalls
 pub mod Codes
+pub mod PathTexts

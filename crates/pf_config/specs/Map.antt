@@ -61,6 +61,14 @@ table_at c p name = named name (tables_at c p)
 abbrev pub table_for : Configuration → Path → Name → Option TableValue
 table_for c p name = or_else (table_at c p name) (table_at c [] name)
 
+-- the names of the tables at a path
+abbrev pub table_names : Configuration → Path → List Name
+table_names c p = map (λ (t : Name × TableValue). t.0) (tables_at c p)
+
+-- the paths of entries
+abbrev pub paths_in : List AnchorValue → List Path
+paths_in anchors = map (λ (a : AnchorValue). a.path) anchors
+
 -- ---- paths below a path
 
 abbrev pub any_begins : List AnchorValue → Path → Bool

@@ -5,13 +5,14 @@ ghost use Rattle.std.specs.Prelude.{find, fold, option_map, length};
 ghost use Rattle.std.specs.List.{list_all, list_any, starts_with};
 ghost use Rattle.std.specs.Option.{option_copied};
 ghost use Rattle.std.specs.Str.{bytes_eq};
-ghost use Rattle.pf_ruleset.specs.Items.{rule_of};
+ghost use Rattle.pf_ruleset.specs.Seen.{rule_of};
 ghost use Rattle.pf_ruleset.specs.Names.{is_before};
 ghost use Rattle.pf_config.specs.Map.{AnchorValue, anchor_at, rules_in, tables_in, named, is_above, put_name};
 ghost use Rattle.pf_config.specs.Map.{name_after, names_after, followed_by};
 ghost use Rattle.pf_config.specs.Changes.{is_empty, is_some_unnamed, without_unnamed, refer, tidied_of};
 ghost use Rattle.pf_config.specs.Trees.{child_at, last_name, is_named, kids_before, kids_behind, some_kid, anchors_of};
-ghost use Rattle.pf_config.specs.Trees.{placed_in, TakesPlace, passes, kid_names, room_after, own_count};
+ghost use Rattle.pf_config.specs.Trees.{placed_in, TakesPlace, passes, kid_names, room_after, own_count, own_entry};
+ghost use Rattle.pf_config.specs.Map.{paths_in};
 
 use crate::paths::{copied_path, followed_by};
 use crate::tables::{copied_tables, named};
@@ -34,7 +35,7 @@ pub struct Anchor {
 
 impl Model for Anchor {
     ghost use Rattle.std.specs.Prelude.{map, length, ◌≤◌, ◌++◌};
-    ghost use Rattle.pf_ruleset.specs.Items.{rule_of};
+    ghost use Rattle.pf_ruleset.specs.Seen.{rule_of};
     ghost use Rattle.pf_config.specs.Trees.{AnchorTree, own_entry, below, AreKids, weight};
     ghost use Rattle.std.proofs.Common.{arith};
     ghost use Rattle.pf_config.specs.TreeFalls.{kids_lighter};
@@ -149,6 +150,18 @@ impl Anchor {
             left = less;
         }
         Some(left)
+    }
+
+    /// Puts the paths of its entries behind those that are there.
+    pub(crate) fn push_paths<'c>(&'c self, paths: &mut Vec<&'c [Name]>) -> Result<(), AllocError>
+        ensures { OnOk result (map (λ p. p.now) paths.new.items
+            ≡ map (λ p. p.now) paths.old.items ++ paths_in self.now.anchors) }
+    {
+        push_own_path(&self.names, &self.items, &self.tables, paths)?;
+        for kid in &self.kids {
+            kid.push_paths(paths)?;
+        }
+        Ok(())
     }
 
     /// The same without the paths that begin with this one and an unnamed name.
@@ -332,6 +345,25 @@ fn first_names<'c>(kids: &'c [Anchor], after: Option<&Name>) -> Option<&'c [Name
         Some(kid) => Some(kid.names()),
         None => None,
     }
+}
+
+/// Puts an anchor's own path behind those that are there, if it has an entry.
+#[tactic(auto, using(crate::proofs::Treed::empty_len, crate::proofs::Treed::empty_map))]
+fn push_own_path<'c>(
+    names: &'c [Name],
+    items: &[Item],
+    tables: &[(TableName, Table)],
+    paths: &mut Vec<&'c [Name]>,
+) -> Result<(), AllocError>
+    ensures { OnOk result (map (λ p. p.now) paths.new.items
+        ≡ map (λ p. p.now) paths.old.items
+        ++ paths_in (own_entry names.now (map rule_of items.now) tables.now)) }
+{
+    if items.is_empty() && tables.is_empty() {
+        return Ok(());
+    }
+    paths.push(names)?;
+    Ok(())
 }
 
 /// The room that is left once the anchor's own entry has its place.

@@ -2,7 +2,7 @@
 //! refused growth changes nothing.
 
 ghost use Rattle.std.specs.Prelude.{◌≡◌, ◌≤◌, [], IfOk, map, length};
-ghost use Rattle.pf_ruleset.specs.Items.{rule_of};
+ghost use Rattle.pf_ruleset.specs.Seen.{rule_of};
 ghost use Rattle.pf_config.specs.Map.{anchor_at, rules_in, tables_in};
 ghost use Rattle.pf_config.specs.Changes.{with_tables, with_rules, placed};
 

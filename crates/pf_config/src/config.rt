@@ -5,23 +5,26 @@ ghost use Rattle.std.specs.Prelude.{if◌then◌else◌, option_map, IfSome, IfN
 ghost use Rattle.std.specs.Prelude.{unwrap_or, Ok, false};
 ghost use Rattle.std.specs.Option.{option_copied};
 ghost use Rattle.std.specs.List as std;
-ghost use Rattle.pf_ruleset.specs.Items.{rule_of};
-ghost use Rattle.pf_config.specs.Map.{rules_at, tables_at, table_at, table_for, begins_some, kids, is_above};
+ghost use Rattle.pf_ruleset.specs.Seen.{rule_of};
+ghost use Rattle.pf_config.specs.Map.{rules_at, tables_at, table_at, table_for, table_names, paths_in, begins_some};
+ghost use Rattle.pf_config.specs.Map.{kids, is_above};
 ghost use Rattle.pf_config.specs.Map.{followed_by, NextIs};
 ghost use Rattle.pf_table.specs.Contents.{with_entries, contents_of};
-ghost use Rattle.pf_config.specs.Changes.{Changes, FailsWith, load, flush_rules, flush_tables, add, replace, delete};
-ghost use Rattle.pf_config.specs.Changes.{flush_table, set_table, filled, new_table, load_ruleset};
+ghost use Rattle.pf_config.specs.Changes.{Changes, FailsWith, load, flush_rules, flush_tables, flush_all};
+ghost use Rattle.pf_config.specs.Changes.{add, replace, delete, flush_table, set_table, filled, new_table};
+ghost use Rattle.pf_config.specs.Changes.{load_ruleset};
 ghost use Rattle.pf_ruleset.specs.Rulesets.{ruleset_of};
 ghost use Rattle.pf_config.specs.Texts.{definition_of};
 ghost use Rattle.pf_config.specs.Trees.{anchor_in, and_then, tree_at, names_of, first_kid};
 
 use crate::anchor::Anchor;
+use crate::blocks::blocks_in;
 use crate::changed::{placed, with_tables};
 use crate::fault::ConfigFault;
 use crate::loading::{any_too_deep, is_too_deep, loaded};
 use crate::paths::copied_path;
 use crate::placing::Placing;
-use crate::tables::{named, with_table};
+use crate::tables::{named, names_of, with_table};
 use crate::walk::descend;
 use pf_ruleset::{InterfaceName, Item, Name, Path, Ruleset, TableDef, TableEntry, TableName};
 use pf_table::Table;
@@ -105,6 +108,23 @@ impl Config {
         }
     }
 
+    /// The names of the tables at a path, in their order: byte by byte.
+    #[tactic(auto, unfolding(crate::specs::Map::tables_at))]
+    pub fn table_names(&self, path: &[Name]) -> Result<Vec<&str>, AllocError>
+        ensures { IfOk result (λ v. map (λ n. n.now) v.items ≡ table_names self.now path.now) }
+    {
+        names_of(self.alloc, self.tables(path))
+    }
+
+    /// The paths that have rules or tables, in byte order.
+    pub fn paths(&self) -> Result<Vec<&[Name]>, AllocError>
+        ensures { IfOk result (λ v. map (λ p. p.now) v.items ≡ paths_in self.now.anchors) }
+    {
+        let mut paths = Vec::new(self.alloc);
+        self.main.push_paths(&mut paths)?;
+        Ok(paths)
+    }
+
     /// The table of that name at the path.
     pub fn table(&self, path: &[Name], name: &str) -> Option<&Table>
         ensures { option_copied result ≡ table_at self.now path.now name.now }
@@ -163,8 +183,9 @@ impl Config {
     }
 
     /// Loads a ruleset at a path: its rules take the place of those there, each of its tables gets the flags that it
-    /// says and, where it lists entries, these, and tables that no rule refers to any more go unless they persist. At
-    /// the main ruleset's path the skip list becomes the ruleset's (pfctl(8), `-f`).
+    /// says and, where it lists entries, these, each of its blocks is loaded in the same way at its path below, and
+    /// tables that no rule refers to any more go unless they persist. At the main ruleset's path the skip list becomes
+    /// the ruleset's (pfctl(8), `-f`).
     ///
     /// Refused are 24 a block that is deeper than 8 names, and 23 a configuration of more than 1,024 paths. A refused
     /// load leaves the configuration as it was.
@@ -177,9 +198,10 @@ impl Config {
             items,
         } = rules;
         let names = copied_path(self.alloc, path.names())?;
+        let blocks = blocks_in(self.alloc, path.names(), &items)?;
         let items = Rc::new(self.alloc, items)?;
         let own = Placing::new(names, items);
-        self.load_placed(skip, &own, &tables, &[])
+        self.load_placed(skip, &own, &tables, &blocks)
     }
 
     /// Loads a text's rules and tables at a path, and its blocks below it. The skip list is taken where the path is
@@ -217,6 +239,19 @@ impl Config {
         let items = Rc::new(self.alloc, Vec::new(self.alloc))?;
         let left = placed(self.alloc, &self.main, path, items)?;
         let next = left.tidied(self.alloc, &left)?;
+        self.main = next;
+        Ok(())
+    }
+
+    /// Removes what `flush_rules` does, and then all tables of the path.
+    #[tactic(auto, unfolding(crate::specs::Changes::flush_rules, crate::specs::Changes::flush_tables, crate::specs::Changes::tidied))]
+    pub fn flush_all(&mut self, path: &[Name]) -> Result<(), ConfigFault>
+        ensures { Changes result self.old self.new (Ok (flush_all self.old path.now)) }
+    {
+        let items = Rc::new(self.alloc, Vec::new(self.alloc))?;
+        let left = placed(self.alloc, &self.main, path, items)?;
+        let tidy = left.tidied(self.alloc, &left)?;
+        let next = with_tables(self.alloc, &tidy, path, Vec::new(self.alloc))?;
         self.main = next;
         Ok(())
     }

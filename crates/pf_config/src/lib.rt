@@ -5,14 +5,17 @@
 //! - [`Config`]: a skip list, and the anchors from the main ruleset down. Each change is made whole, or refused and
 //!   leaves all as it was.
 //! - [`Anchor`]: what stands at a path and below it.
+//! - [`parse_path`] reads the path of an anchor.
 //! - [`Table`], of the crate below.
 #![tactic(auto)]
 
 mod anchor;
+mod blocks;
 mod changed;
 mod config;
 mod fault;
 mod loading;
+mod path_text;
 mod paths;
 mod placing;
 mod tables;
@@ -22,4 +25,5 @@ mod walk;
 pub use anchor::Anchor;
 pub use config::Config;
 pub use fault::ConfigFault;
+pub use path_text::parse_path;
 pub use pf_table::Table;

@@ -28,3 +28,14 @@ pub(crate) fn followed_by(
     names.push(name.copied(alloc)?)?;
     Ok(names)
 }
+
+/// The names, and more names behind them.
+pub(crate) fn joined(alloc: Global, path: &[Name], more: &[Name]) -> Result<Vec<Name>, AllocError>
+    ensures { IfOk result (λ v. v.items ≡ path.now ++ more.now) }
+{
+    let mut names = copied_path(alloc, path)?;
+    for name in more {
+        names.push(name.copied(alloc)?)?;
+    }
+    Ok(names)
+}

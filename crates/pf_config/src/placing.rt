@@ -1,7 +1,7 @@
 //! Rules and the path that they are loaded at.
 
 ghost use Rattle.std.specs.Prelude.{◌≡◌, ◌≤◌, IfOk, map, length};
-ghost use Rattle.pf_ruleset.specs.Items.{rule_of};
+ghost use Rattle.pf_ruleset.specs.Seen.{rule_of};
 
 use pf_ruleset::{Item, Name};
 use std::alloc::AllocError;
@@ -17,7 +17,7 @@ pub(crate) struct Placing {
 
 impl Model for Placing {
     ghost use Rattle.std.specs.Prelude.{map, length, ◌≤◌};
-    ghost use Rattle.pf_ruleset.specs.Items.{rule_of};
+    ghost use Rattle.pf_ruleset.specs.Seen.{rule_of};
     ghost use Rattle.pf_config.specs.Changes.{Block};
 
     ghost Value = { Block };

@@ -1,6 +1,6 @@
 //! The tables of an anchor.
 
-ghost use Rattle.std.specs.Prelude.{◌≡◌, ◌++◌, IfOk, OnOk};
+ghost use Rattle.std.specs.Prelude.{◌≡◌, ◌++◌, IfOk, OnOk, map};
 ghost use Rattle.std.specs.Option.{option_copied};
 ghost use Rattle.pf_config.specs.Map.{named};
 ghost use Rattle.pf_config.specs.Changes.{tables_before, tables_behind, with_table};
@@ -19,6 +19,20 @@ pub(crate) fn named<'c>(tables: &'c [(TableName, Table)], name: &str) -> Option<
         }
     }
     None
+}
+
+/// The names of the tables.
+pub(crate) fn names_of(
+    alloc: Global,
+    tables: &[(TableName, Table)],
+) -> Result<Vec<&str>, AllocError>
+    ensures { IfOk result (λ v. map (λ n. n.now) v.items ≡ map (λ t. t.0) tables.now) }
+{
+    let mut names = Vec::new(alloc);
+    for entry in tables {
+        names.push(entry.0.as_str())?;
+    }
+    Ok(names)
 }
 
 /// The same table once more, which shares its entries.

@@ -2,7 +2,7 @@
 
 ghost use Rattle.std.specs.Prelude.{◌≡◌, [], IfOk, map};
 ghost use Rattle.std.specs.List.{list_any};
-ghost use Rattle.pf_ruleset.specs.Items.{rule_of};
+ghost use Rattle.pf_ruleset.specs.Seen.{rule_of};
 ghost use Rattle.pf_config.specs.Changes.{is_at_table, conditions_refer, refers, is_used, used_tables};
 
 use crate::anchor::Anchor;
@@ -32,9 +32,7 @@ fn conditions_refer(name: &TableName, conditions: &Conditions) -> bool
 fn refers(name: &TableName, item: &Item) -> bool
     ensures { result ≡ refers name.now (rule_of item.now) }
 {
-    match item {
-        Item::Filter(rule) => conditions_refer(name, &rule.conditions),
-    }
+    conditions_refer(name, item.conditions())
 }
 
 /// Whether one of the rules refers to the table of that name.

@@ -2,6 +2,6 @@ pub mod Digits
 pub mod Words
 pub mod Forms
 pub mod Groups
-pub mod Later
+pub mod Walks
 pub mod Spaces
 pub mod PacketSpelled

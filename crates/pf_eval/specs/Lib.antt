@@ -5,3 +5,4 @@ pub mod Matching
 pub mod Verdicts
 pub mod Seen
 pub mod PacketGrammar
+pub mod Outcomes

@@ -13,10 +13,13 @@ mod decide;
 mod fault;
 mod laws;
 mod matching;
+mod member;
 mod packet;
 mod reading;
 mod scope;
 mod show;
+mod walk;
+mod walked;
 mod word;
 
 pub use answer::{Spot, Verdict};
@@ -26,3 +29,4 @@ pub use laws::packets_as_spelled;
 pub use packet::Packet;
 pub use reading::parse_packet;
 pub use show::show_verdict;
+pub use word::words as words_between_blanks;

@@ -33,8 +33,8 @@ fn put_word<'a>(found: &mut Vec<&'a [u8]>, word: &'a [u8]) -> Result<(), AllocEr
     Ok(())
 }
 
-/// The words between blanks.
-pub(crate) fn words<'a>(alloc: Global, text: &'a [u8]) -> Result<Vec<&'a [u8]>, AllocError>
+/// The words of a text between blanks, which are spaces and tabs. A growth that is refused is the error.
+pub fn words<'a>(alloc: Global, text: &'a [u8]) -> Result<Vec<&'a [u8]>, AllocError>
     ensures { IfOk result (λ found. map (λ w. w.now) found.items ≡ words text.now) }
 {
     let mut found = Vec::new(alloc);

@@ -98,8 +98,8 @@ impl Table {
         })
     }
 
-    /// The entries, in order.
-    fn entries(&self, alloc: Global) -> Result<Vec<TableEntry>, AllocError>
+    /// The entries, in order of family, length and address.
+    pub fn entries(&self, alloc: Global) -> Result<Vec<TableEntry>, AllocError>
         ensures value { IfOk result (λ v. v.items ≡ self.now.entries) }
         ensures ordered { IfOk result (λ v. IsOrdered v.items) }
     {

@@ -1,5 +1,5 @@
 use Rattle.std.proofs.Common.{◌≡◌, ◌-◌, length, take, drop, map, rules}
-use Rattle.pf_ruleset.specs.Items.{rule_of}
+use Rattle.pf_ruleset.specs.Seen.{rule_of}
 use Rattle.pf_config.proofs.Entries.{placed_begins, takes_place, cons_is}
 use Rattle.pf_config.proofs.anchor.+entry.Goals as goal
 

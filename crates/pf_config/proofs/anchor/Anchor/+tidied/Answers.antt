@@ -1,6 +1,6 @@
 use Rattle.std.proofs.Common.{◌≡◌, ◌+◌, ◌++◌, [], map, length, length-drop, arith, sym, subst, drop, rules}
 use Rattle.std.proofs.lemmas.Grind.{common_steps}
-use Rattle.pf_ruleset.specs.Items.{rule_of}
+use Rattle.pf_ruleset.specs.Seen.{rule_of}
 use Rattle.pf_config.specs.Changes.{tidied_of, used_tables}
 use Rattle.pf_config.specs.Trees.{AnchorTree, own_entry, below}
 use Rattle.pf_config.proofs.Cut.{Walked, walked_some, tidied_cuts, tidied_done, next_kid}

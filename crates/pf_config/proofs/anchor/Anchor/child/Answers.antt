@@ -1,7 +1,7 @@
 use Rattle.std.proofs.Common.{◌≡◌, ◌∙◌, ap, map, subst}
 use Rattle.std.specs.Prelude.{find}
 use Rattle.std.specs.Option.{option_copied}
-use Rattle.pf_ruleset.specs.Items.{rule_of}
+use Rattle.pf_ruleset.specs.Seen.{rule_of}
 use Rattle.pf_config.specs.Trees.{AnchorTree, child_at, is_named}
 use Rattle.pf_config.proofs.Treed.{child_is}
 use Rattle.pf_config.proofs.anchor.Anchor.child.Goals as goal

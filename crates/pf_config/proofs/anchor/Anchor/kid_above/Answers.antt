@@ -1,7 +1,7 @@
 use Rattle.std.proofs.Common.{◌≡◌, ◌∙◌, [], ap, map, subst}
 use Rattle.std.specs.Prelude.{find, fold, option_map}
 use Rattle.std.specs.Option.{option_copied}
-use Rattle.pf_ruleset.specs.Items.{rule_of}
+use Rattle.pf_ruleset.specs.Seen.{rule_of}
 use Rattle.pf_config.specs.Map.{is_above, followed_by, put_name, names_after}
 use Rattle.pf_config.specs.Trees.{AnchorTree, passes, kid_names}
 use Rattle.pf_config.proofs.Kids.{kid_above_is}

@@ -1,6 +1,6 @@
 use Rattle.std.proofs.Common.{◌≡◌, ◌∙◌, ◌++◌, ◌∷◌, [], ap, map, sym, subst, arith}
 use Rattle.std.proofs.lemmas.Grind.{common_steps}
-use Rattle.pf_ruleset.specs.Items.{rule_of}
+use Rattle.pf_ruleset.specs.Seen.{rule_of}
 use Rattle.pf_config.specs.Trees.{AnchorTree, AreKids, TakesPlace, own_entry, below, kids_before, kids_behind, some_kid}
 use Rattle.pf_config.proofs.Entries.{kids_again, kid_placed}
 use Rattle.pf_config.proofs.anchor.Anchor.with_kid.Goals as goal

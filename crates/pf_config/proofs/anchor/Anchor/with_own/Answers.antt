@@ -1,6 +1,6 @@
 use Rattle.std.proofs.Common.{◌≡◌, ◌∙◌, ◌++◌, [], ap, map, subst, arith}
 use Rattle.std.proofs.lemmas.Grind.{common_steps}
-use Rattle.pf_ruleset.specs.Items.{rule_of}
+use Rattle.pf_ruleset.specs.Seen.{rule_of}
 use Rattle.pf_config.specs.Trees.{AnchorTree, placed_in, own_entry, below}
 use Rattle.pf_config.proofs.Entries.{own_placed}
 use Rattle.pf_config.proofs.anchor.Anchor.with_own.Goals as goal

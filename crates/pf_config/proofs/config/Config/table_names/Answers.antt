@@ -1,0 +1,5 @@
+use Rattle.std.proofs.Common.{◌≡◌}
+use Rattle.pf_config.proofs.config.Config.table_names.Goals as goal
+
+pub returns : goal.returns
+returns c = rw (← c.tables.ensures) c.names_of.ensures
