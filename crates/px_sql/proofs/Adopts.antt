@@ -152,3 +152,7 @@ same_then h k = record { now = k.now ∙ h.now; auto = k.auto }
 
 pub still : {a b : State} {schema : Schema} → IsSame a b → a.now.schema ≡ schema → b.now.schema ≡ schema
 still h has = ap (λ (d : Database). d.schema) h.now ∙ has
+
+-- beside what could be found before there is one thing more, of which this holds
+pub brought_more : (Old New P : Trees → Type 0) (whole : Trees) → ((db : Trees) → New db → Old db ⊎ (db ≡ whole)) → P whole → (db : Trees) → New db → Old db ⊎ P db
+brought_more Old New P whole h p db left = elim (h db left) [ inl was ↦ inl was | inr same ↦ inr (subst P (sym same) p) ]

@@ -12,3 +12,4 @@ mod Ends
 mod Highest
 mod Makes
 mod Adopts
+pub mod Judged

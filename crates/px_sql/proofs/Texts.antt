@@ -14,7 +14,7 @@ use Rattle.sqlite.specs.Source.TheVariants.{Values}
 use Rattle.sqlite_tied.specs.Compute.{everything}
 use Rattle.sqlite.specs.Listing.{understood, reads_listing}
 use Rattle.sqlite.proofs.Callers.{IsPlain, command_of}
-use Rattle.px_sql.specs.Tables.{schema_3, put_meta, put_slot, put_floor, put_learned, get_meta, get_slot, get_floor, get_learned, get_top, get_end, any_slot, any_entry}
+use Rattle.px_sql.specs.Tables.{schema_3, put_meta, put_slot, put_floor, put_learned, get_meta, get_slot, get_floor, get_learned, get_top, get_end, get_last}
 use Rattle.px_sql.specs.Formats.{Format, schema_at}
 use Rattle.px_sql.specs.Formats.Format.{One, Two, Three}
 use Rattle.px_sql.specs.Adopting.{HasFloor, HasEntries}
@@ -142,20 +142,20 @@ meta_asks One = record { means = record { is = refl; plain = (refl, refl) }; unl
 meta_asks Two = record { means = record { is = refl; plain = (refl, refl) }; unlisted = refl }
 meta_asks Three = record { means = record { is = refl; plain = (refl, refl) }; unlisted = refl }
 
-pub floor_plain : (f : Format) → HasFloor f → IsPlain (understood (schema_at f) get_floor)
+pub floor_asks : (f : Format) → HasFloor f → Asks (schema_at f) get_floor (by_key 2 (col 1 0 ∷ col 1 2 ∷ [])) (codes "id" ∷ codes "ballot" ∷ [])
 unfolding understood everything
-floor_plain One has = absurd has
-floor_plain Two has = (refl, refl)
-floor_plain Three has = (refl, refl)
+floor_asks One has = absurd has
+floor_asks Two has = record { means = record { is = refl; plain = (refl, refl) }; unlisted = refl }
+floor_asks Three has = record { means = record { is = refl; plain = (refl, refl) }; unlisted = refl }
 
-pub slot_plain : (f : Format) → IsPlain (understood (schema_at f) any_slot)
+pub slot_asks : (f : Format) → Asks (schema_at f) get_last (last_row 1 []) top_names
 unfolding understood everything
-slot_plain One = (refl, refl)
-slot_plain Two = (refl, refl)
-slot_plain Three = (refl, refl)
+slot_asks One = record { means = record { is = refl; plain = (refl, refl) }; unlisted = refl }
+slot_asks Two = record { means = record { is = refl; plain = (refl, refl) }; unlisted = refl }
+slot_asks Three = record { means = record { is = refl; plain = (refl, refl) }; unlisted = refl }
 
-pub entry_plain : (f : Format) → HasEntries f → IsPlain (understood (schema_at f) any_entry)
+pub entry_asks : (f : Format) → HasEntries f → Asks (schema_at f) get_end (last_row 3 []) top_names
 unfolding understood everything
-entry_plain One has = absurd has
-entry_plain Two has = absurd has
-entry_plain Three has = (refl, refl)
+entry_asks One has = absurd has
+entry_asks Two has = absurd has
+entry_asks Three has = end_get

@@ -7,5 +7,6 @@ pub mod Ready
 pub mod Bytes
 pub mod View
 pub mod Formats
+pub mod Judging
 pub mod Making
 pub mod Adopting

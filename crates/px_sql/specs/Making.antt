@@ -1,5 +1,6 @@
 -- What the statements that make a store do to it.
-use Rattle.std.specs.Prelude.{◌≡◌, ℕ, IsTrue, List, [], ◌∷◌}
+use Rattle.std.specs.Prelude.{◌≡◌, ◌⊎◌, ℕ, IsTrue, List, [], ◌∷◌}
+use Rattle.sqlite.specs.Tree.{Trees}
 use Rattle.sqlite_value.specs.Order.{Row}
 use Rattle.sqlite.specs.Schema.{Schema}
 use Rattle.sqlite.specs.Change.{KeepsRows}
@@ -29,3 +30,16 @@ pub record Brought (id : Identity) (round number : ℕ) (slots floor learned : L
   pub slots_are : new.now.trees 1 ≡ slots
   pub floor_are : new.now.trees 2 ≡ floor
   pub learned_are : new.now.trees 3 ≡ learned
+
+-- the rows of a store of format 3 with this row for the whole node, and these in the other tables
+pub record AreBrought (id : Identity) (round number : ℕ) (slots floor learned : List Row) (db : Trees) : Type 0 where
+  pub meta_is : seen meta_columns (db 0) 1 ≡ meta_row 3 id.cluster id.members id.node round number ∷ []
+  pub slots_be : db 1 ≡ slots
+  pub floor_be : db 2 ≡ floor
+  pub learned_be : db 3 ≡ learned
+
+-- what an open after a crash may find is what it could find before, or such a store, whole
+abbrev pub LeavesBrought : (id : Identity) (round number : ℕ) (slots floor learned : List Row) → State →
+    State → Type 0
+LeavesBrought id round number slots floor learned old new =
+    (db : Trees) → new.may_leave db → old.may_leave db ⊎ AreBrought id round number slots floor learned db

@@ -136,11 +136,8 @@ get_top = codes "SELECT position FROM slots WHERE ballot > 0 ORDER BY position D
 abbrev pub get_end : List ℕ
 get_end = codes "SELECT position FROM learned ORDER BY position DESC LIMIT 1"
 
-abbrev pub any_slot : List ℕ
-any_slot = codes "SELECT position FROM slots LIMIT 1"
-
-abbrev pub any_entry : List ℕ
-any_entry = codes "SELECT position FROM learned LIMIT 1"
+abbrev pub get_last : List ℕ
+get_last = codes "SELECT position FROM slots ORDER BY position DESC LIMIT 1"
 
 -- ---- what the texts are given
 

@@ -1,5 +1,7 @@
 //! Taking a store: what it holds is judged, and brought to format 3.
 ghost use Rattle.std.specs.Prelude.{◌≡◌, ◌⊎◌, ◌<◌, ◌≤◌, ◌^◌, false, length, IfOk, OnOk};
+ghost use Rattle.std.specs.Prelude.{IfErr};
+ghost use Rattle.std.specs.Prelude.{Some, None};
 ghost use Rattle.sqlite.specs.Held.{state};
 ghost use Rattle.sqlite.specs.State.{HasCleanDisk};
 ghost use Rattle.px_model.specs.World.{nothing_stored};
@@ -8,7 +10,8 @@ ghost use Rattle.px_sql.specs.Seen.{seen, number_at, meta_columns};
 ghost use Rattle.px_sql.specs.Effect.{IsIdle, IsSettled, LeavesOld};
 ghost use Rattle.px_sql.specs.Formats.{record_at};
 ghost use Rattle.px_sql.specs.Formats.Format.{One, Two, Three};
-ghost use Rattle.px_sql.specs.Adopting.{IsRefused, IsKnown, IsSame, Shows};
+ghost use Rattle.px_sql.specs.Adopting.{IsRefused, IsKnown, IsVerdict, IsSame, Shows};
+ghost use Rattle.px_sql.specs.Judging.{refusal};
 
 use crate::calls::{Identity, Trouble, cause_of};
 use crate::fault::AdoptFault;
@@ -37,6 +40,7 @@ fn bring_none<S: Alter>(conn: &mut Connection<S>, identity: Identity) -> Result<
     ensures made { HasCleanDisk (state S.Store conn.new) → (state S.Store conn.old).now.schema ≡ no_schema →
         (state S.Store conn.old).in_transaction ≡ false → OnOk result (Shows nothing_stored
         (state S.Store conn.new)) }
+    ensures judged { IfErr result (λ e. IsVerdict e → ⊥) }
 {
     if !conn.is_autocommit() {
         return Err(AdoptFault::Failed);
@@ -56,6 +60,12 @@ fn bring_one<S: Alter>(conn: &mut Connection<S>, identity: Identity) -> Result<(
     ensures made { HasCleanDisk (state S.Store conn.new) → (state S.Store conn.old).now.schema ≡ schema_1 →
         (state S.Store conn.old).in_transaction ≡ false → OnOk result (Shows (record_at One
         (state S.Store conn.old).now.trees) (state S.Store conn.new)) }
+    ensures taken { HasCleanDisk (state S.Store conn.new) → (state S.Store conn.old).now.schema ≡ schema_1 →
+        (state S.Store conn.old).in_transaction ≡ false →
+        OnOk result (refusal One identity (state S.Store conn.old).now.trees ≡ None) }
+    ensures judged { HasCleanDisk (state S.Store conn.new) → (state S.Store conn.old).now.schema ≡ schema_1 →
+        (state S.Store conn.old).in_transaction ≡ false →
+        IfErr result (λ e. IsVerdict e → refusal One identity (state S.Store conn.old).now.trees ≡ Some e) }
 {
     let read = read_one(conn)?;
     let found = judge(&read, 1, identity)?;
@@ -77,6 +87,12 @@ fn bring_two<S: Alter>(conn: &mut Connection<S>, identity: Identity) -> Result<(
     ensures made { HasCleanDisk (state S.Store conn.new) → (state S.Store conn.old).now.schema ≡ schema_2 →
         (state S.Store conn.old).in_transaction ≡ false → OnOk result (Shows (record_at Two
         (state S.Store conn.old).now.trees) (state S.Store conn.new)) }
+    ensures taken { HasCleanDisk (state S.Store conn.new) → (state S.Store conn.old).now.schema ≡ schema_2 →
+        (state S.Store conn.old).in_transaction ≡ false →
+        OnOk result (refusal Two identity (state S.Store conn.old).now.trees ≡ None) }
+    ensures judged { HasCleanDisk (state S.Store conn.new) → (state S.Store conn.old).now.schema ≡ schema_2 →
+        (state S.Store conn.old).in_transaction ≡ false →
+        IfErr result (λ e. IsVerdict e → refusal Two identity (state S.Store conn.old).now.trees ≡ Some e) }
 {
     let read = read_two(conn)?;
     let found = judge(&read, 2, identity)?;
@@ -98,6 +114,12 @@ fn bring_three<S: Alter>(conn: &mut Connection<S>, identity: Identity) -> Result
     ensures made { HasCleanDisk (state S.Store conn.new) → (state S.Store conn.old).now.schema ≡ schema_3 →
         (state S.Store conn.old).in_transaction ≡ false → OnOk result (Shows (record_at Three
         (state S.Store conn.old).now.trees) (state S.Store conn.new)) }
+    ensures taken { HasCleanDisk (state S.Store conn.new) → (state S.Store conn.old).now.schema ≡ schema_3 →
+        (state S.Store conn.old).in_transaction ≡ false →
+        OnOk result (refusal Three identity (state S.Store conn.old).now.trees ≡ None) }
+    ensures judged { HasCleanDisk (state S.Store conn.new) → (state S.Store conn.old).now.schema ≡ schema_3 →
+        (state S.Store conn.old).in_transaction ≡ false →
+        IfErr result (λ e. IsVerdict e → refusal Three identity (state S.Store conn.old).now.trees ≡ Some e) }
 {
     let read = read_three(conn)?;
     let found = judge(&read, 3, identity)?;
@@ -141,6 +163,27 @@ pub(crate) fn bring<S: Alter>(
     ensures three { HasCleanDisk (state S.Store conn.new) → (state S.Store conn.old).now.schema ≡ schema_3 →
         (state S.Store conn.old).in_transaction ≡ false → OnOk result (Shows (record_at Three
         (state S.Store conn.old).now.trees) (state S.Store conn.new)) }
+    ensures judged_empty { (state S.Store conn.old).now.schema ≡ no_schema →
+        IfErr result (λ e. IsVerdict e → ⊥) }
+    ensures taken_one { HasCleanDisk (state S.Store conn.new) → (state S.Store conn.old).now.schema ≡ schema_1 →
+        (state S.Store conn.old).in_transaction ≡ false →
+        OnOk result (refusal One identity (state S.Store conn.old).now.trees ≡ None) }
+    ensures judged_one { HasCleanDisk (state S.Store conn.new) → (state S.Store conn.old).now.schema ≡ schema_1 →
+        (state S.Store conn.old).in_transaction ≡ false →
+        IfErr result (λ e. IsVerdict e → refusal One identity (state S.Store conn.old).now.trees ≡ Some e) }
+    ensures taken_two { HasCleanDisk (state S.Store conn.new) → (state S.Store conn.old).now.schema ≡ schema_2 →
+        (state S.Store conn.old).in_transaction ≡ false →
+        OnOk result (refusal Two identity (state S.Store conn.old).now.trees ≡ None) }
+    ensures judged_two { HasCleanDisk (state S.Store conn.new) → (state S.Store conn.old).now.schema ≡ schema_2 →
+        (state S.Store conn.old).in_transaction ≡ false →
+        IfErr result (λ e. IsVerdict e → refusal Two identity (state S.Store conn.old).now.trees ≡ Some e) }
+    ensures taken_three { HasCleanDisk (state S.Store conn.new) → (state S.Store conn.old).now.schema ≡ schema_3 →
+        (state S.Store conn.old).in_transaction ≡ false →
+        OnOk result (refusal Three identity (state S.Store conn.old).now.trees ≡ None) }
+    ensures judged_three { HasCleanDisk (state S.Store conn.new) → (state S.Store conn.old).now.schema ≡
+        schema_3 →
+        (state S.Store conn.old).in_transaction ≡ false →
+        IfErr result (λ e. IsVerdict e → refusal Three identity (state S.Store conn.old).now.trees ≡ Some e) }
 {
     match tables_in(conn) {
         0 => bring_none(conn, identity),

@@ -1,16 +1,21 @@
 //! What a store holds as it is found.
 ghost use Rattle.std.specs.Prelude.{◌≡◌, ◌<◌, ◌≤◌, ◌^◌, ℕ, false, [], ◌∷◌, length};
-ghost use Rattle.std.specs.Prelude.{◌⊎◌, IfOk, OnOk, OnErr, Ok, Err};
+ghost use Rattle.std.specs.Prelude.{◌⊎◌, IfOk, OnOk, OnErr, IfErr, Ok, Err, Some, None, true, ◌&&◌, ◌||◌};
 ghost use Rattle.sqlite.specs.Held.{state};
 ghost use Rattle.sqlite.specs.State.{HasCleanDisk, Shown};
 ghost use Rattle.sqlite.specs.Values.{bound};
 ghost use Rattle.sqlite.specs.Given.{IsPlain};
 ghost use Rattle.sqlite.specs.Listing.{understood};
-ghost use Rattle.px_sql.specs.Tables.{get_meta, key_params, schema_1, schema_2, schema_3};
-ghost use Rattle.px_sql.specs.Seen.{seen, meta_columns, number_at};
+ghost use Rattle.sqlite_value.specs.Order.{column};
+ghost use Rattle.px_sql.specs.Tables.{get_meta, get_floor, get_last, get_end, key_params};
+ghost use Rattle.px_sql.specs.Tables.{schema_1, schema_2, schema_3};
+ghost use Rattle.px_sql.specs.Seen.{seen, meta_columns, floor_columns, number_at, number_in};
 ghost use Rattle.px_sql.specs.Effect.{LeavesOld, IsAlike};
-ghost use Rattle.px_sql.specs.Formats.{Format, schema_at};
-ghost use Rattle.px_sql.specs.Adopting.{IsSame, HasFloor, HasEntries};
+ghost use Rattle.px_sql.specs.Formats.{Format, schema_at, trees_at};
+ghost use Rattle.px_sql.specs.Formats.Format.{One, Two, Three};
+ghost use Rattle.px_sql.specs.Adopting.{IsSame, IsVerdict, HasFloor, HasEntries};
+ghost use Rattle.px_sql.specs.Judging.{has_rows, rows_in, says_format, says_member, says_numbers, is_member_of};
+ghost use Rattle.px_sql.specs.Judging.{is_owner, row_refusal, refusal_of};
 
 use crate::calls::{Identity, Trouble, cause_of};
 use crate::fault::AdoptFault;
@@ -57,38 +62,47 @@ fn look<S: Alter>(
     }
 }
 
-/// What was read, or a row that no node writes.
-fn judged<T>(read: Result<T, ReadFault>) -> Result<T, AdoptFault>
-    ensures value { IfOk result (λ x. read ≡ Ok x) }
+/// Whether the row says this format.
+fn says_format(row: &Row, format: u64) -> Result<bool, AdoptFault>
+    ensures value { IfOk result (λ b. b ≡ says_format format row.now) }
+    ensures why { OnErr result (result ≡ Err AdoptFault.Memory) }
 {
-    match read {
-        Ok(value) => Ok(value),
+    match number(row, 1) {
+        Ok(found) => Ok(found == format),
         Err(ReadFault::Memory) => Err(AdoptFault::Memory),
-        Err(ReadFault::Bad) => Err(AdoptFault::BadStore),
+        Err(ReadFault::Bad) => Ok(false),
     }
 }
 
-fn found_in_row(row: &Row, format: u64) -> Result<Found, AdoptFault>
+/// Whether there is such a member of such a cluster.
+fn is_member_of(cluster: u64, members: u64, node: u64) -> bool
+    ensures { result ≡ is_member_of cluster members node }
+{
+    cluster <= 4_294_967_295 && 1 <= members && members <= 15 && node < members
+}
+
+/// What the row for the whole node says, if a node writes such a row.
+fn found_in_row(row: &Row) -> Result<Found, ReadFault>
+    ensures good { OnOk result ((says_member row.now && says_numbers row.now) ≡ true) }
+    ensures bad { result ≡ Err ReadFault.Bad → (says_member row.now && says_numbers row.now) ≡ false }
+    ensures member { IfOk result (λ f. number_in (column row.now 3) ≡ f.members) }
+    ensures cluster { IfOk result (λ f. number_in (column row.now 2) ≡ f.cluster) }
+    ensures node { IfOk result (λ f. number_in (column row.now 4) ≡ f.node) }
     ensures round { IfOk result (λ f. number_at 5 (row.now ∷ []) ≡ f.round) }
     ensures number { IfOk result (λ f. number_at 6 (row.now ∷ []) ≡ f.number) }
     ensures low { IfOk result (λ f. f.round < 2 ^ 48) }
     ensures most { IfOk result (λ f. f.number ≤ 2 ^ 48) }
 {
-    match number(row, 1) {
-        Ok(found) if found == format => {}
-        Err(ReadFault::Memory) => return Err(AdoptFault::Memory),
-        _ => return Err(AdoptFault::StoreVersion),
+    let cluster = number(row, 2)?;
+    let members = number(row, 3)?;
+    let node = number(row, 4)?;
+    if !is_member_of(cluster, members, node) {
+        return Err(ReadFault::Bad);
     }
-    let cluster = judged(number(row, 2))?;
-    let members = judged(number(row, 3))?;
-    let node = judged(number(row, 4))?;
-    let round = judged(number(row, 5))?;
-    let counted = judged(number(row, 6))?;
-    if cluster > 4_294_967_295 || members == 0 || members > 15 || node >= members {
-        return Err(AdoptFault::BadStore);
-    }
+    let round = number(row, 5)?;
+    let counted = number(row, 6)?;
     if round >= NUMBERS || counted > NUMBERS {
-        return Err(AdoptFault::BadStore);
+        return Err(ReadFault::Bad);
     }
     Ok(Found {
         has_row: true,
@@ -98,27 +112,6 @@ fn found_in_row(row: &Row, format: u64) -> Result<Found, AdoptFault>
         round,
         number: counted,
     })
-}
-
-fn found_in(rows: &[Row], format: u64) -> Result<Found, AdoptFault>
-    ensures few { IfOk result (λ f. length rows.now < 2) }
-    ensures round { IfOk result (λ f. number_at 5 rows.now ≡ f.round) }
-    ensures number { IfOk result (λ f. number_at 6 rows.now ≡ f.number) }
-    ensures low { IfOk result (λ f. f.round < 2 ^ 48) }
-    ensures most { IfOk result (λ f. f.number ≤ 2 ^ 48) }
-{
-    match rows {
-        [] => Ok(Found {
-            has_row: false,
-            cluster: 0,
-            members: 0,
-            node: 0,
-            round: 0,
-            number: 0,
-        }),
-        [row] => found_in_row(row, format),
-        _ => Err(AdoptFault::BadStore),
-    }
 }
 
 fn meta_asked<S: Alter>(conn: &mut Connection<S>) -> Result<Vec<Row>, AdoptFault>
@@ -158,14 +151,18 @@ fn meta_rows<S: Alter>(conn: &mut Connection<S>) -> Result<Vec<Row>, AdoptFault>
     meta_asked(conn)
 }
 
-fn floor_rows<S: Alter>(conn: &mut Connection<S>) -> Result<Vec<Row>, AdoptFault>
+fn floor_asked<S: Alter>(conn: &mut Connection<S>) -> Result<Vec<Row>, AdoptFault>
     ensures why { OnErr result ((result ≡ Err AdoptFault.Memory) ⊎ (result ≡ Err AdoptFault.Failed)) }
+    ensures shown { HasCleanDisk (state S.Store conn.new) →
+        IfOk result (λ rows. Shown get_floor (key_params 1) (state S.Store conn.old)
+        (state S.Store conn.new) rows.items) }
     ensures clean { HasCleanDisk (state S.Store conn.new) → HasCleanDisk (state S.Store conn.old) }
-    ensures stays { HasCleanDisk (state S.Store conn.new) → (f : Format) → HasFloor f →
-        (state S.Store conn.old).now.schema ≡ schema_at f → (state S.Store conn.old).in_transaction ≡ false →
-        OnOk result (IsSame (state S.Store conn.old) (state S.Store conn.new)) }
-    ensures crash { HasCleanDisk (state S.Store conn.new) → (f : Format) → HasFloor f →
-        (state S.Store conn.old).now.schema ≡ schema_at f →
+    ensures stays { HasCleanDisk (state S.Store conn.new) →
+        IsPlain (understood (state S.Store conn.old).now.schema get_floor) →
+        (state S.Store conn.old).in_transaction ≡ false → OnOk result (IsSame (state S.Store conn.old)
+        (state S.Store conn.new)) }
+    ensures crash { HasCleanDisk (state S.Store conn.new) →
+        IsPlain (understood (state S.Store conn.old).now.schema get_floor) →
         LeavesOld (state S.Store conn.old) (state S.Store conn.new) }
 {
     look(
@@ -175,8 +172,48 @@ fn floor_rows<S: Alter>(conn: &mut Connection<S>) -> Result<Vec<Row>, AdoptFault
     )
 }
 
-fn some_slot<S: Alter>(conn: &mut Connection<S>) -> Result<Vec<Row>, AdoptFault>
+fn floor_rows<S: Alter>(conn: &mut Connection<S>) -> Result<Vec<Row>, AdoptFault>
     ensures why { OnErr result ((result ≡ Err AdoptFault.Memory) ⊎ (result ≡ Err AdoptFault.Failed)) }
+    ensures rows { HasCleanDisk (state S.Store conn.new) → (f : Format) → HasFloor f →
+        (state S.Store conn.old).now.schema ≡ schema_at f →
+        IfOk result (λ rows. IsAlike (seen floor_columns ((state S.Store conn.old).now.trees 2) 1) rows.items) }
+    ensures clean { HasCleanDisk (state S.Store conn.new) → HasCleanDisk (state S.Store conn.old) }
+    ensures stays { HasCleanDisk (state S.Store conn.new) → (f : Format) → HasFloor f →
+        (state S.Store conn.old).now.schema ≡ schema_at f → (state S.Store conn.old).in_transaction ≡ false →
+        OnOk result (IsSame (state S.Store conn.old) (state S.Store conn.new)) }
+    ensures crash { HasCleanDisk (state S.Store conn.new) → (f : Format) → HasFloor f →
+        (state S.Store conn.old).now.schema ≡ schema_at f →
+        LeavesOld (state S.Store conn.old) (state S.Store conn.new) }
+{
+    floor_asked(conn)
+}
+
+fn last_slot<S: Alter>(conn: &mut Connection<S>) -> Result<Vec<Row>, AdoptFault>
+    ensures why { OnErr result ((result ≡ Err AdoptFault.Memory) ⊎ (result ≡ Err AdoptFault.Failed)) }
+    ensures shown { HasCleanDisk (state S.Store conn.new) →
+        IfOk result (λ rows. Shown get_last [] (state S.Store conn.old) (state S.Store conn.new) rows.items) }
+    ensures clean { HasCleanDisk (state S.Store conn.new) → HasCleanDisk (state S.Store conn.old) }
+    ensures stays { HasCleanDisk (state S.Store conn.new) →
+        IsPlain (understood (state S.Store conn.old).now.schema get_last) →
+        (state S.Store conn.old).in_transaction ≡ false → OnOk result (IsSame (state S.Store conn.old)
+        (state S.Store conn.new)) }
+    ensures crash { HasCleanDisk (state S.Store conn.new) →
+        IsPlain (understood (state S.Store conn.old).now.schema get_last) →
+        LeavesOld (state S.Store conn.old) (state S.Store conn.new) }
+{
+    look(
+        conn,
+        "SELECT position FROM slots ORDER BY position DESC LIMIT 1",
+        &[],
+    )
+}
+
+/// Whether the store has a slot.
+fn some_slot<S: Alter>(conn: &mut Connection<S>) -> Result<bool, AdoptFault>
+    ensures why { OnErr result ((result ≡ Err AdoptFault.Memory) ⊎ (result ≡ Err AdoptFault.Failed)) }
+    ensures value { HasCleanDisk (state S.Store conn.new) → (f : Format) →
+        (state S.Store conn.old).now.schema ≡ schema_at f →
+        IfOk result (λ b. b ≡ has_rows ((state S.Store conn.old).now.trees 1)) }
     ensures clean { HasCleanDisk (state S.Store conn.new) → HasCleanDisk (state S.Store conn.old) }
     ensures stays { HasCleanDisk (state S.Store conn.new) → (f : Format) →
         (state S.Store conn.old).now.schema ≡ schema_at f → (state S.Store conn.old).in_transaction ≡ false →
@@ -185,11 +222,36 @@ fn some_slot<S: Alter>(conn: &mut Connection<S>) -> Result<Vec<Row>, AdoptFault>
         (state S.Store conn.old).now.schema ≡ schema_at f →
         LeavesOld (state S.Store conn.old) (state S.Store conn.new) }
 {
-    look(conn, "SELECT position FROM slots LIMIT 1", &[])
+    let rows = last_slot(conn)?;
+    Ok(has_rows(rows.as_slice()))
 }
 
-fn some_entry<S: Alter>(conn: &mut Connection<S>) -> Result<Vec<Row>, AdoptFault>
+fn last_entry<S: Alter>(conn: &mut Connection<S>) -> Result<Vec<Row>, AdoptFault>
     ensures why { OnErr result ((result ≡ Err AdoptFault.Memory) ⊎ (result ≡ Err AdoptFault.Failed)) }
+    ensures shown { HasCleanDisk (state S.Store conn.new) →
+        IfOk result (λ rows. Shown get_end [] (state S.Store conn.old) (state S.Store conn.new) rows.items) }
+    ensures clean { HasCleanDisk (state S.Store conn.new) → HasCleanDisk (state S.Store conn.old) }
+    ensures stays { HasCleanDisk (state S.Store conn.new) →
+        IsPlain (understood (state S.Store conn.old).now.schema get_end) →
+        (state S.Store conn.old).in_transaction ≡ false → OnOk result (IsSame (state S.Store conn.old)
+        (state S.Store conn.new)) }
+    ensures crash { HasCleanDisk (state S.Store conn.new) →
+        IsPlain (understood (state S.Store conn.old).now.schema get_end) →
+        LeavesOld (state S.Store conn.old) (state S.Store conn.new) }
+{
+    look(
+        conn,
+        "SELECT position FROM learned ORDER BY position DESC LIMIT 1",
+        &[],
+    )
+}
+
+/// Whether the store has a learned entry.
+fn some_entry<S: Alter>(conn: &mut Connection<S>) -> Result<bool, AdoptFault>
+    ensures why { OnErr result ((result ≡ Err AdoptFault.Memory) ⊎ (result ≡ Err AdoptFault.Failed)) }
+    ensures value { HasCleanDisk (state S.Store conn.new) → (f : Format) → HasEntries f →
+        (state S.Store conn.old).now.schema ≡ schema_at f →
+        IfOk result (λ b. b ≡ has_rows ((state S.Store conn.old).now.trees 3)) }
     ensures clean { HasCleanDisk (state S.Store conn.new) → HasCleanDisk (state S.Store conn.old) }
     ensures stays { HasCleanDisk (state S.Store conn.new) → (f : Format) → HasEntries f →
         (state S.Store conn.old).now.schema ≡ schema_at f → (state S.Store conn.old).in_transaction ≡ false →
@@ -198,7 +260,18 @@ fn some_entry<S: Alter>(conn: &mut Connection<S>) -> Result<Vec<Row>, AdoptFault
         (state S.Store conn.old).now.schema ≡ schema_at f →
         LeavesOld (state S.Store conn.old) (state S.Store conn.new) }
 {
-    look(conn, "SELECT position FROM learned LIMIT 1", &[])
+    let rows = last_entry(conn)?;
+    Ok(has_rows(rows.as_slice()))
+}
+
+/// Whether there is a row.
+fn has_rows(rows: &[Row]) -> bool
+    ensures { result ≡ has_rows rows.now }
+{
+    match rows {
+        [] => false,
+        _ => true,
+    }
 }
 
 /// What a store holds, as far as taking it looks at that.
@@ -215,18 +288,31 @@ pub(crate) fn read_one<S: Alter>(conn: &mut Connection<S>) -> Result<Read, Adopt
     ensures rows { HasCleanDisk (state S.Store conn.new) → (state S.Store conn.old).now.schema ≡ schema_1 →
         (state S.Store conn.old).in_transaction ≡ false →
         IfOk result (λ r. IsAlike (seen meta_columns ((state S.Store conn.old).now.trees 0) 1) r.meta.items) }
+    ensures floors { HasCleanDisk (state S.Store conn.new) → (state S.Store conn.old).now.schema ≡ schema_1 →
+        (state S.Store conn.old).in_transaction ≡ false →
+        IfOk result (λ r. IsAlike (seen floor_columns (trees_at One (state S.Store conn.old).now.trees 2) 1)
+        (rows_in r.floor)) }
+    ensures slots { HasCleanDisk (state S.Store conn.new) → (state S.Store conn.old).now.schema ≡ schema_1 →
+        (state S.Store conn.old).in_transaction ≡ false →
+        IfOk result (λ r. r.has_slot ≡ has_rows ((state S.Store conn.old).now.trees 1)) }
+    ensures entries { HasCleanDisk (state S.Store conn.new) → (state S.Store conn.old).now.schema ≡ schema_1 →
+        (state S.Store conn.old).in_transaction ≡ false →
+        IfOk result (λ r. r.has_entry ≡ has_rows (trees_at One (state S.Store conn.old).now.trees 3)) }
     ensures why { OnErr result ((result ≡ Err AdoptFault.Memory) ⊎ (result ≡ Err AdoptFault.Failed)) }
     ensures clean { HasCleanDisk (state S.Store conn.new) → HasCleanDisk (state S.Store conn.old) }
+    ensures crash { HasCleanDisk (state S.Store conn.new) → (state S.Store conn.old).now.schema ≡ schema_1 →
+        (state S.Store conn.old).in_transaction ≡ false →
+        LeavesOld (state S.Store conn.old) (state S.Store conn.new) }
     ensures stays { HasCleanDisk (state S.Store conn.new) → (state S.Store conn.old).now.schema ≡ schema_1 →
         (state S.Store conn.old).in_transaction ≡ false →
         OnOk result (IsSame (state S.Store conn.old) (state S.Store conn.new)) }
 {
     let meta = meta_rows(conn)?;
-    let slots = some_slot(conn)?;
+    let has_slot = some_slot(conn)?;
     Ok(Read {
         meta,
         floor: None,
-        has_slot: slots.len() > 0,
+        has_slot,
         has_entry: false,
     })
 }
@@ -236,19 +322,32 @@ pub(crate) fn read_two<S: Alter>(conn: &mut Connection<S>) -> Result<Read, Adopt
     ensures rows { HasCleanDisk (state S.Store conn.new) → (state S.Store conn.old).now.schema ≡ schema_2 →
         (state S.Store conn.old).in_transaction ≡ false →
         IfOk result (λ r. IsAlike (seen meta_columns ((state S.Store conn.old).now.trees 0) 1) r.meta.items) }
+    ensures floors { HasCleanDisk (state S.Store conn.new) → (state S.Store conn.old).now.schema ≡ schema_2 →
+        (state S.Store conn.old).in_transaction ≡ false →
+        IfOk result (λ r. IsAlike (seen floor_columns (trees_at Two (state S.Store conn.old).now.trees 2) 1)
+        (rows_in r.floor)) }
+    ensures slots { HasCleanDisk (state S.Store conn.new) → (state S.Store conn.old).now.schema ≡ schema_2 →
+        (state S.Store conn.old).in_transaction ≡ false →
+        IfOk result (λ r. r.has_slot ≡ has_rows ((state S.Store conn.old).now.trees 1)) }
+    ensures entries { HasCleanDisk (state S.Store conn.new) → (state S.Store conn.old).now.schema ≡ schema_2 →
+        (state S.Store conn.old).in_transaction ≡ false →
+        IfOk result (λ r. r.has_entry ≡ has_rows (trees_at Two (state S.Store conn.old).now.trees 3)) }
     ensures why { OnErr result ((result ≡ Err AdoptFault.Memory) ⊎ (result ≡ Err AdoptFault.Failed)) }
     ensures clean { HasCleanDisk (state S.Store conn.new) → HasCleanDisk (state S.Store conn.old) }
+    ensures crash { HasCleanDisk (state S.Store conn.new) → (state S.Store conn.old).now.schema ≡ schema_2 →
+        (state S.Store conn.old).in_transaction ≡ false →
+        LeavesOld (state S.Store conn.old) (state S.Store conn.new) }
     ensures stays { HasCleanDisk (state S.Store conn.new) → (state S.Store conn.old).now.schema ≡ schema_2 →
         (state S.Store conn.old).in_transaction ≡ false →
         OnOk result (IsSame (state S.Store conn.old) (state S.Store conn.new)) }
 {
     let meta = meta_rows(conn)?;
     let floor = floor_rows(conn)?;
-    let slots = some_slot(conn)?;
+    let has_slot = some_slot(conn)?;
     Ok(Read {
         meta,
         floor: Some(floor),
-        has_slot: slots.len() > 0,
+        has_slot,
         has_entry: false,
     })
 }
@@ -258,62 +357,134 @@ pub(crate) fn read_three<S: Alter>(conn: &mut Connection<S>) -> Result<Read, Ado
     ensures rows { HasCleanDisk (state S.Store conn.new) → (state S.Store conn.old).now.schema ≡ schema_3 →
         (state S.Store conn.old).in_transaction ≡ false →
         IfOk result (λ r. IsAlike (seen meta_columns ((state S.Store conn.old).now.trees 0) 1) r.meta.items) }
+    ensures floors { HasCleanDisk (state S.Store conn.new) → (state S.Store conn.old).now.schema ≡ schema_3 →
+        (state S.Store conn.old).in_transaction ≡ false →
+        IfOk result (λ r. IsAlike (seen floor_columns (trees_at Three (state S.Store conn.old).now.trees 2) 1)
+        (rows_in r.floor)) }
+    ensures slots { HasCleanDisk (state S.Store conn.new) → (state S.Store conn.old).now.schema ≡ schema_3 →
+        (state S.Store conn.old).in_transaction ≡ false →
+        IfOk result (λ r. r.has_slot ≡ has_rows ((state S.Store conn.old).now.trees 1)) }
+    ensures entries { HasCleanDisk (state S.Store conn.new) → (state S.Store conn.old).now.schema ≡ schema_3 →
+        (state S.Store conn.old).in_transaction ≡ false →
+        IfOk result (λ r. r.has_entry ≡ has_rows (trees_at Three (state S.Store conn.old).now.trees 3)) }
     ensures why { OnErr result ((result ≡ Err AdoptFault.Memory) ⊎ (result ≡ Err AdoptFault.Failed)) }
     ensures clean { HasCleanDisk (state S.Store conn.new) → HasCleanDisk (state S.Store conn.old) }
+    ensures crash { HasCleanDisk (state S.Store conn.new) → (state S.Store conn.old).now.schema ≡ schema_3 →
+        (state S.Store conn.old).in_transaction ≡ false →
+        LeavesOld (state S.Store conn.old) (state S.Store conn.new) }
     ensures stays { HasCleanDisk (state S.Store conn.new) → (state S.Store conn.old).now.schema ≡ schema_3 →
         (state S.Store conn.old).in_transaction ≡ false →
         OnOk result (IsSame (state S.Store conn.old) (state S.Store conn.new)) }
 {
     let meta = meta_rows(conn)?;
     let floor = floor_rows(conn)?;
-    let slots = some_slot(conn)?;
-    let entries = some_entry(conn)?;
+    let has_slot = some_slot(conn)?;
+    let has_entry = some_entry(conn)?;
     Ok(Read {
         meta,
         floor: Some(floor),
-        has_slot: slots.len() > 0,
-        has_entry: entries.len() > 0,
+        has_slot,
+        has_entry,
     })
 }
 
-/// Whether the row says another owner.
-fn owner_judged(found: &Found, identity: Identity) -> Result<(), AdoptFault> {
-    let is_owner = found.cluster == u64::from(identity.cluster)
+/// Whether the row says this owner.
+fn is_owner(found: &Found, identity: Identity) -> bool
+    ensures { result ≡ is_owner identity found.now.cluster found.now.members found.now.node }
+{
+    found.cluster == u64::from(identity.cluster)
         && found.members == identity.members
-        && found.node == u64::from(identity.node);
-    if is_owner {
-        Ok(())
-    } else {
-        Err(AdoptFault::WrongNode)
+        && found.node == u64::from(identity.node)
+}
+
+/// Judges a store that has a row for the whole node: 73, 72, 71, in this order.
+fn judge_row(row: &Row, floor: &[Row], format: u64, identity: Identity) -> Result<Found, AdoptFault>
+    ensures taken { OnOk result (row_refusal format identity floor.now row.now ≡ None) }
+    ensures refused { IfErr result (λ e. IsVerdict e → row_refusal format identity floor.now row.now ≡ Some e) }
+    ensures round { IfOk result (λ f. number_at 5 (row.now ∷ []) ≡ f.round) }
+    ensures number { IfOk result (λ f. number_at 6 (row.now ∷ []) ≡ f.number) }
+    ensures low { IfOk result (λ f. f.round < 2 ^ 48) }
+    ensures most { IfOk result (λ f. f.number ≤ 2 ^ 48) }
+{
+    if !says_format(row, format)? {
+        return Err(AdoptFault::StoreVersion);
+    }
+    let found = match found_in_row(row) {
+        Ok(found) => found,
+        Err(ReadFault::Memory) => return Err(AdoptFault::Memory),
+        Err(ReadFault::Bad) => return Err(AdoptFault::BadStore),
+    };
+    match floor_in_rows(floor, found.members) {
+        Ok(_) => {}
+        Err(ReadFault::Memory) => return Err(AdoptFault::Memory),
+        Err(ReadFault::Bad) => return Err(AdoptFault::BadStore),
+    }
+    if !is_owner(&found, identity) {
+        return Err(AdoptFault::WrongNode);
+    }
+    Ok(found)
+}
+
+/// Judges a store: 73, 72, 71, in this order.
+fn judge_rows(
+    meta: &[Row],
+    floor: &[Row],
+    has_more: bool,
+    format: u64,
+    identity: Identity,
+) -> Result<Found, AdoptFault>
+    ensures taken { OnOk result (refusal_of format identity meta.now floor.now has_more ≡ None) }
+    ensures refused { IfErr result (λ e. IsVerdict e →
+        refusal_of format identity meta.now floor.now has_more ≡ Some e) }
+    ensures few { IfOk result (λ f. length meta.now < 2) }
+    ensures round { IfOk result (λ f. number_at 5 meta.now ≡ f.round) }
+    ensures number { IfOk result (λ f. number_at 6 meta.now ≡ f.number) }
+    ensures low { IfOk result (λ f. f.round < 2 ^ 48) }
+    ensures most { IfOk result (λ f. f.number ≤ 2 ^ 48) }
+{
+    match meta {
+        [] => {
+            if has_rows(floor) || has_more {
+                return Err(AdoptFault::BadStore);
+            }
+            Ok(Found {
+                has_row: false,
+                cluster: 0,
+                members: 0,
+                node: 0,
+                round: 0,
+                number: 0,
+            })
+        }
+        [row] => judge_row(row, floor, format, identity),
+        _ => Err(AdoptFault::BadStore),
     }
 }
 
-/// Whether there is a floor, which must be the ballot of one of so many members.
-fn floor_judged(floor: &Option<Vec<Row>>, members: u8) -> Result<bool, AdoptFault> {
-    let Some(rows) = floor else {
-        return Ok(false);
-    };
-    let ballot = judged(floor_in_rows(rows.as_slice(), members))?;
-    Ok(ballot > 0)
+/// The rows that were read, if that table was asked.
+fn rows_in(rows: &Option<Vec<Row>>) -> &[Row]
+    ensures { result.now ≡ rows_in rows.now }
+{
+    match rows {
+        Some(rows) => rows.as_slice(),
+        None => &[],
+    }
 }
 
 /// Judges a store: 73, 72, 71, in this order.
 pub(crate) fn judge(read: &Read, format: u64, identity: Identity) -> Result<Found, AdoptFault>
+    ensures taken { OnOk result (refusal_of format identity read.now.meta.items (rows_in read.now.floor)
+        (read.now.has_slot || read.now.has_entry) ≡ None) }
+    ensures refused { IfErr result (λ e. IsVerdict e →
+        refusal_of format identity read.now.meta.items (rows_in read.now.floor)
+        (read.now.has_slot || read.now.has_entry) ≡ Some e) }
     ensures few { IfOk result (λ f. length read.now.meta.items < 2) }
     ensures round { IfOk result (λ f. number_at 5 read.now.meta.items ≡ f.round) }
     ensures number { IfOk result (λ f. number_at 6 read.now.meta.items ≡ f.number) }
     ensures low { IfOk result (λ f. f.round < 2 ^ 48) }
     ensures most { IfOk result (λ f. f.number ≤ 2 ^ 48) }
 {
-    let found = found_in(read.meta.as_slice(), format)?;
-    if found.has_row {
-        floor_judged(&read.floor, found.members)?;
-        owner_judged(&found, identity)?;
-        return Ok(found);
-    }
-    let has_floor = floor_judged(&read.floor, identity.members)?;
-    if has_floor || read.has_slot || read.has_entry {
-        return Err(AdoptFault::BadStore);
-    }
-    Ok(found)
+    let floor = rows_in(&read.floor);
+    let has_more = read.has_slot || read.has_entry;
+    judge_rows(read.meta.as_slice(), floor, has_more, format, identity)
 }

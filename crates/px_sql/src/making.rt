@@ -4,7 +4,7 @@ ghost use Rattle.sqlite.specs.Held.{state};
 ghost use Rattle.sqlite.specs.State.{HasCleanDisk, ExecutesInside, Survives};
 ghost use Rattle.px_sql.specs.Tables.{no_schema, meta_schema, schema_1, schema_2, schema_3, put_meta, meta_params};
 ghost use Rattle.px_sql.specs.Effect.{LeavesOld, LeavesOneMore};
-ghost use Rattle.px_sql.specs.Making.{Grows, PutsMeta, Brought};
+ghost use Rattle.px_sql.specs.Making.{Grows, PutsMeta, Brought, LeavesBrought};
 
 use crate::calls::{Identity, signed};
 use sqlite::{Alter, Connection, Error, Transaction, params};
@@ -133,6 +133,8 @@ pub(crate) fn make_anew<S: Alter>(conn: &mut Connection<S>, identity: Identity) 
     ensures clean { HasCleanDisk (state S.Store conn.new) → HasCleanDisk (state S.Store conn.old) }
     ensures crash { HasCleanDisk (state S.Store conn.new) →
         LeavesOneMore (state S.Store conn.old) (state S.Store conn.new) }
+    ensures stop { HasCleanDisk (state S.Store conn.new) → (state S.Store conn.old).now.schema ≡ no_schema →
+        LeavesBrought identity 0 0 [] [] [] (state S.Store conn.old) (state S.Store conn.new) }
     ensures made { HasCleanDisk (state S.Store conn.new) → (state S.Store conn.old).now.schema ≡ no_schema →
         OnOk result (Brought identity 0 0 [] [] [] (state S.Store conn.new)) }
 {
@@ -158,6 +160,9 @@ pub(crate) fn from_one<S: Alter>(
     ensures clean { HasCleanDisk (state S.Store conn.new) → HasCleanDisk (state S.Store conn.old) }
     ensures crash { HasCleanDisk (state S.Store conn.new) →
         LeavesOneMore (state S.Store conn.old) (state S.Store conn.new) }
+    ensures stop { HasCleanDisk (state S.Store conn.new) → (state S.Store conn.old).now.schema ≡ schema_1 →
+        LeavesBrought identity round number ((state S.Store conn.old).now.trees 1) [] [] (state S.Store conn.old)
+        (state S.Store conn.new) }
     ensures made { HasCleanDisk (state S.Store conn.new) → (state S.Store conn.old).now.schema ≡ schema_1 →
         OnOk result (Brought identity round number ((state S.Store conn.old).now.trees 1) [] []
         (state S.Store conn.new)) }
@@ -182,6 +187,9 @@ pub(crate) fn from_two<S: Alter>(
     ensures clean { HasCleanDisk (state S.Store conn.new) → HasCleanDisk (state S.Store conn.old) }
     ensures crash { HasCleanDisk (state S.Store conn.new) →
         LeavesOneMore (state S.Store conn.old) (state S.Store conn.new) }
+    ensures stop { HasCleanDisk (state S.Store conn.new) → (state S.Store conn.old).now.schema ≡ schema_2 →
+        LeavesBrought identity round number ((state S.Store conn.old).now.trees 1)
+        ((state S.Store conn.old).now.trees 2) [] (state S.Store conn.old) (state S.Store conn.new) }
     ensures made { HasCleanDisk (state S.Store conn.new) → (state S.Store conn.old).now.schema ≡ schema_2 →
         OnOk result (Brought identity round number ((state S.Store conn.old).now.trees 1)
         ((state S.Store conn.old).now.trees 2) [] (state S.Store conn.new)) }
@@ -205,6 +213,10 @@ pub(crate) fn from_three<S: Alter>(
     ensures clean { HasCleanDisk (state S.Store conn.new) → HasCleanDisk (state S.Store conn.old) }
     ensures crash { HasCleanDisk (state S.Store conn.new) →
         LeavesOneMore (state S.Store conn.old) (state S.Store conn.new) }
+    ensures stop { HasCleanDisk (state S.Store conn.new) → (state S.Store conn.old).now.schema ≡ schema_3 →
+        LeavesBrought identity round number ((state S.Store conn.old).now.trees 1)
+        ((state S.Store conn.old).now.trees 2) ((state S.Store conn.old).now.trees 3) (state S.Store conn.old)
+        (state S.Store conn.new) }
     ensures made { HasCleanDisk (state S.Store conn.new) → (state S.Store conn.old).now.schema ≡ schema_3 →
         OnOk result (Brought identity round number ((state S.Store conn.old).now.trees 1)
         ((state S.Store conn.old).now.trees 2) ((state S.Store conn.old).now.trees 3) (state S.Store conn.new)) }

@@ -13,6 +13,7 @@ ghost use Rattle.px_sql.specs.Seen.{is_proposal, is_slot, is_slot_row, are_slot_
 ghost use Rattle.px_sql.specs.Seen.{is_learned_row, are_learned_rows, learned_in, IsEndOf, Tells, IsMetaIn};
 ghost use Rattle.px_sql.specs.Seen.{IsFloorIn};
 ghost use Rattle.px_sql.specs.Bytes.{read_in, is_entry_in};
+ghost use Rattle.px_sql.specs.Judging.{are_floor_rows};
 
 use crate::calls::Identity;
 use px_model::{Entry, EntryView, Proposal, Slot};
@@ -265,11 +266,15 @@ pub(crate) fn meta_in_rows(rows: &[Row], identity: Identity) -> Result<Numbers, 
 pub(crate) fn floor_in_rows(rows: &[Row], members: u8) -> Result<u64, ReadFault>
     ensures value { IfOk result (λ b. IsFloorIn b rows.now) }
     ensures fits { IfOk result (λ b. is_none_or_ballot members b ≡ true) }
+    ensures good { OnOk result (are_floor_rows members rows.now ≡ true) }
+    ensures bad { result ≡ Err ReadFault.Bad → are_floor_rows members rows.now ≡ false }
 {
     match rows {
         [] => Ok(0),
         [row] => {
-            expect_number(row, 0, 1)?;
+            if number(row, 0)? != 1 {
+                return Err(ReadFault::Bad);
+            }
             let ballot = number(row, 1)?;
             if !is_ballot_by(ballot, members) {
                 return Err(ReadFault::Bad);

@@ -1,11 +1,12 @@
 //! Taking a store, and giving it back.
-ghost use Rattle.std.specs.Prelude.{◌≡◌, false, IfOk, IfErr};
+ghost use Rattle.std.specs.Prelude.{◌≡◌, false, IfOk, IfErr, Some, None};
 ghost use Rattle.sqlite.specs.Held.{state};
 ghost use Rattle.sqlite.specs.State.{HasCleanDisk};
 ghost use Rattle.px_model.specs.World.{nothing_stored};
 ghost use Rattle.px_sql.specs.Tables.{no_schema};
 ghost use Rattle.px_sql.specs.Formats.{Format, schema_at, record_at};
 ghost use Rattle.px_sql.specs.Adopting.{IsVerdict, IsKnown, IsSame};
+ghost use Rattle.px_sql.specs.Judging.{refusal};
 ghost use Rattle.px_sql.specs.View.{connection_of, IsOpened};
 
 use crate::adopt::bring;
@@ -22,7 +23,10 @@ impl<S: Alter> SqlRecords<S> {
     /// or 3 the record of its rows, brought to format 3 in one transaction. What an older format lacks is 0, or nothing
     /// learned.
     ///
-    /// A refusal gives the connection back. A store refused with 71, 72 or 73 isn't written to.
+    /// A refusal gives the connection back. Of a store with the tables of a format, 73 says that its row for the whole
+    /// node has another format, 72 that a row says what no node writes, or that this row is missing beside others, and
+    /// 71 that the store is another node's, in this order. Such a store isn't written to. One without tables is never
+    /// refused so.
     pub fn adopt(
         alloc: Global,
         mut conn: Connection<S>,
@@ -42,6 +46,13 @@ impl<S: Alter> SqlRecords<S> {
         ensures rows { IfOk result (λ r. HasCleanDisk (state S.Store (connection_of r)) → (f : Format) →
             (state S.Store conn).now.schema ≡ schema_at f → (state S.Store conn).in_transaction ≡ false →
             IsOpened S.Store r (record_at f (state S.Store conn).now.trees)) }
+        ensures taken { IfOk result (λ r. HasCleanDisk (state S.Store (connection_of r)) → (f : Format) →
+            (state S.Store conn).now.schema ≡ schema_at f → (state S.Store conn).in_transaction ≡ false →
+            refusal f identity (state S.Store conn).now.trees ≡ None) }
+        ensures judged { IfErr result (λ e. HasCleanDisk (state S.Store e.1) → (f : Format) →
+            (state S.Store conn).now.schema ≡ schema_at f → (state S.Store conn).in_transaction ≡ false →
+            IsVerdict e.0 → refusal f identity (state S.Store conn).now.trees ≡ Some e.0) }
+        ensures never { IfErr result (λ e. (state S.Store conn).now.schema ≡ no_schema → IsVerdict e.0 → ⊥) }
     {
         if let Err(fault) = bring(&mut conn, identity) {
             return Err((fault, conn));

@@ -1,10 +1,17 @@
-use Rattle.std.proofs.Common.{◌≡◌, ◌∙◌, ap, subst, [], ◌∷◌}
+use Rattle.std.proofs.Common.{rules, ◌≡◌, ◌∙◌, ap, sym, subst, [], ◌∷◌, Some, Err}
+use Rattle.std.specs.Result.{IfErr}
+use Rattle.px_sql.specs.Adopting.{IsVerdict}
 use Rattle.sqlite.specs.Held.{state}
 use Rattle.sqlite.specs.Effect.{Database}
 use Rattle.px_sql.specs.Seen.{number_at}
 use Rattle.px_sql.specs.Making.{Brought}
 use Rattle.px_sql.proofs.Adopts.{shows_two, shows_same, alike_few}
 use Rattle.px_sql.proofs.adopt.bring_two.Goals as goal
+use Rattle.px_sql.specs.Formats.{trees_at}
+use Rattle.px_sql.specs.Formats.Format.{Two}
+use Rattle.px_sql.specs.Seen.{seen, meta_columns, floor_columns}
+use Rattle.px_sql.specs.Judging.{has_rows, rows_in, refusal}
+use Rattle.px_sql.proofs.Judged.{judged_alike}
 
 pub returns-in-Ok-clause-made : goal.returns-in-Ok-clause-made
 returns-in-Ok-clause-made g c = λ clean has auto.
@@ -17,3 +24,22 @@ returns-in-Ok-clause-made g c = λ clean has auto.
     shows_two c.args.identity found.round found.number old.now.trees new (ap (number_at 5) rows ∙ c.in_ok-found.ensures.round) (ap (number_at 6) rows ∙ c.in_ok-found.ensures.number)
     (subst (λ (d : Database). Brought c.args.identity found.round found.number (d.trees 1) (d.trees 2) [] new) same.now
     (c.in-Ok.ensures.made clean (ap (λ (d : Database). d.schema) same.now ∙ has)))
+
+pub returns-in_err-found-clause-judged : goal.returns-in_err-found-clause-judged
+returns-in_err-found-clause-judged g c = λ clean has auto.
+    let db = (state g.S.Store c.args.conn.now).now.trees in
+    let read = c.in_ok-read.read in
+    let told = c.in_ok-read.ensures in
+    let judged = judged_alike 2 c.args.identity (seen meta_columns (db 0) 1) read.meta.items (seen floor_columns (trees_at Two db 2) 1) (rows_in read.floor) (has_rows (db 1)) (has_rows (trees_at Two db 3)) read.has_slot read.has_entry
+    (told.rows clean has auto) (told.floors clean has auto) (told.slots clean has auto) (told.entries clean has auto) in
+    let same : c.from_residual-in_err-found.result ≡ Err c.in_err-found.field-0.0 = search rules in
+    subst (λ r. IfErr r (λ e. IsVerdict e → refusal Two c.args.identity db ≡ Some e)) (sym same) (λ verdict. judged ∙ c.in_err-found.ensures.refused verdict)
+
+pub returns-in-Ok-clause-taken : goal.returns-in-Ok-clause-taken
+returns-in-Ok-clause-taken g c = λ clean has auto.
+    let mid = c.in-Ok.ensures.clean clean in
+    let db = (state g.S.Store c.args.conn.now).now.trees in
+    let read = c.in_ok-read.read in
+    let told = c.in_ok-read.ensures in
+    judged_alike 2 c.args.identity (seen meta_columns (db 0) 1) read.meta.items (seen floor_columns (trees_at Two db 2) 1) (rows_in read.floor) (has_rows (db 1)) (has_rows (trees_at Two db 3)) read.has_slot read.has_entry
+    (told.rows mid has auto) (told.floors mid has auto) (told.slots mid has auto) (told.entries mid has auto) ∙ c.in_ok-found.ensures.taken
