@@ -2,7 +2,8 @@
 //!
 //! # Organization
 //!
-//! - [`Entry`], with a [`Command`]: what is asked, with memory of its own. [`encode`] gives its bytes.
+//! - [`Entry`], with a [`Command`]: what is asked, with memory of its own. [`encode`] gives its bytes,
+//!   [`encode_asked`] those of a command with origin and number.
 //! - [`EntryView`], with a [`CommandView`]: what bytes spell. [`decode`] gives it and takes no memory; `to_entry` owns
 //!   it.
 //! - `specs/Entry` is what is to be believed: `spelling`, `Fits`, `EntryBytes`. `specs/Reading` reads from left to
@@ -38,9 +39,10 @@ mod writing;
 
 pub use command::{Command, Entry, SomeAddresses};
 pub use decoding::{decode, no_spelling_begins_another, what_is_spelled_is_read};
-pub use encoding::encode;
+pub use encoding::{encode, encode_asked};
 pub use fault::{BadEntry, EncodeFault};
 pub use limits::{ADDRESSES, ENTRY_BYTES};
+pub use owning::{addresses_owned, path_owned, table_owned};
 pub use pf_ruleset::{Name, Path, TableEntry, TableName};
 pub use pf_words::Profile;
 pub use view::{Addresses, CommandView, EntryView, Names};

@@ -205,17 +205,23 @@ fn put_rest(out: &mut Vec<u8>, command: &Command) -> Result<(), AllocError>
 }
 
 /// Format, origin, number, kind, path, rest.
-pub(crate) fn put_entry(out: &mut Vec<u8>, e: &Entry) -> Result<(), AllocError>
-    requires { is_long (command_value e.now.command) ≡ false }
-    ensures names { OnOk result (are_names (path_of (command_value e.now.command)) ≡ true) }
-    ensures rest { OnOk result (rest_fits (command_value e.now.command) ≡ true) }
-    ensures bytes { OnOk result (out.new.items ≡ out.old.items ++ spelling (entry_value e.now)) }
+pub(crate) fn put_asked(
+    out: &mut Vec<u8>,
+    origin: u8,
+    number: u64,
+    command: &Command,
+) -> Result<(), AllocError>
+    requires { is_long (command_value command.now) ≡ false }
+    ensures names { OnOk result (are_names (path_of (command_value command.now)) ≡ true) }
+    ensures rest { OnOk result (rest_fits (command_value command.now) ≡ true) }
+    ensures bytes { OnOk result (out.new.items ≡ out.old.items ++
+        spelling (record { origin = origin; number = number; command = command_value command.now })) }
 {
-    out.push(format_of(&e.command))?;
-    out.push(e.origin)?;
-    put_u64(out, e.number)?;
-    out.push(kind_of(&e.command))?;
-    put_path(out, path_of(&e.command))?;
-    put_rest(out, &e.command)?;
+    out.push(format_of(command))?;
+    out.push(origin)?;
+    put_u64(out, number)?;
+    out.push(kind_of(command))?;
+    put_path(out, path_of(command))?;
+    put_rest(out, command)?;
     Ok(())
 }

@@ -1,19 +1,22 @@
 //! Short texts and what `pfx` writes of each: the stored input has the texts, the stored output what is to be written.
 //!
-//! A row of the input is a line `== WORD..`, its words between tabs, and the text up to the newline before the next
-//! such line. What stands before the first one is passed over. Of each row the output has the same line, what the run
-//! writes, and a line `-- STATUS`.
+//! A row of the input is a line `== WORD..`, its words between tabs, behind which a word that begins with `#` names the
+//! row, and the text up to the newline before the next such line. What stands before the first one is passed over. Of
+//! each row the output has the same line, what the run writes, and a line `-- STATUS`.
 #![tactic(auto)]
 
 use pf_tool::run;
 use std::alloc::Global;
 use std::io;
 
-/// The words of a run, the program's name first.
+/// The words of a run, the program's name first; the row's name is none of them.
 fn words_of(alloc: Global, line: &str) -> io::Result<Vec<&str>> {
     let mut words = Vec::new(alloc);
     words.push("pfx")?;
     for word in line.split('\t') {
+        if word.starts_with('#') {
+            break;
+        }
         words.push(word)?;
     }
     Ok(words)

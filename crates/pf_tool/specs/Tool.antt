@@ -1,5 +1,6 @@
 -- The words of the program, and what it writes.
-use Rattle.std.specs.Prelude.{◌≡◌, ℕ, true, List, [], ◌∷◌, ◌++◌, Option, Some, None, Result, Ok, Err}
+use Rattle.std.specs.Prelude.{◌≡◌, ℕ, Bool, true, false, List, [], ◌∷◌, ◌++◌, Option, Some, None}
+use Rattle.std.specs.Prelude.{Result, Ok, Err}
 use Rattle.std.specs.Prelude.{IfSome, codes, decimal, bytes_eq, option_map, if◌then◌else◌}
 use Rattle.std.specs.Io.KnownBytes.{Appends}
 use Rattle.clap.specs.Words.{App, Row, Text, new_app, new_rule, with_rule, with_subcommand, subcommand_of, all_of}
@@ -24,6 +25,7 @@ use Rattle.pf_config.specs.Changes.{load_ruleset}
 use Rattle.pf_config.specs.Codes.{fault_code}
 use Rattle.pf_eval.specs.Verdicts.{judgement}
 use Rattle.pf_eval.specs.Seen.{verdict_text}
+use Rattle.pf_scripts.specs.Ctl.{printed}
 use Rattle.pf_tool.specs.declared.output.Ending.{Ending}
 use Rattle.pf_tool.specs.declared.output.Ending.TheVariants.{Done, Refused}
 use Rattle.pf_tool.specs.declared.status.Status.{Status}
@@ -46,16 +48,22 @@ check_app = with_rule (new_app (codes "check")) (record (new_rule (codes "anchor
   action = Some SetTrue;
 })
 
+-- ctl
+abbrev pub ctl_app : App
+ctl_app = new_app (codes "ctl")
+
 -- the program: one of its words has to be named
 abbrev pub pfx_app : App
 pfx_app =
-    let named = with_subcommand (with_subcommand (new_app (codes "pfx")) check_app.top) test_app.top in
+    let named = with_subcommand (with_subcommand (with_subcommand (new_app (codes "pfx")) check_app.top) test_app.top)
+    ctl_app.top in
     record named { top = record named.top { subcommand_required = true } }
 
--- what is asked for: verdicts for packet texts, or what a text comes to at a place
+-- what is asked for: verdicts for packet texts, what a text comes to at a place, or what a script prints
 pub data CallValue : Type 0 where
   Test : (packets : List Text) → CallValue
   Check : (place : Place) → CallValue
+  Ctl : CallValue
 
 -- the packet words of test, if that is the word
 abbrev pub packets_in : Option (Text × List Row) → Option (List Text)
@@ -73,14 +81,20 @@ place_in None = None
 place_in (Some (name, rows)) = if bytes_eq name (codes "check") then Some (place_for (first_of (codes "anchor") rows))
     else None
 
--- what packet words ask for, or else a place
-abbrev pub called_as : Option (List Text) → Option Place → Option CallValue
-called_as (Some packets) place = Some (Test packets)
-called_as None (Some place) = Some (Check place)
-called_as None None = None
+-- whether the word is ctl
+abbrev pub is_ctl : Option (Text × List Row) → Bool
+is_ctl None = false
+is_ctl (Some (name, rows)) = bytes_eq name (codes "ctl")
+
+-- what packet words ask for, or else a place, or else a script
+abbrev pub called_as : Option (List Text) → Option Place → Bool → Option CallValue
+called_as (Some packets) place script = Some (Test packets)
+called_as None (Some place) script = Some (Check place)
+called_as None None true = Some Ctl
+called_as None None false = None
 
 abbrev pub called : Option (Text × List Row) → Option CallValue
-called word = called_as (packets_in word) (place_in word)
+called word = called_as (packets_in word) (place_in word) (is_ctl word)
 
 abbrev pub unless_faulty : Kinds → Option CallValue → Option CallValue
 unless_faulty [] call = call
@@ -161,6 +175,7 @@ status_of Refused = status.Refused
 abbrev pub answered : CallValue → List ℕ → Written
 answered (Test packets) input = test_output packets input
 answered (Check place) input = check_output place input
+answered Ctl input = record { text = printed input; ending = Done }
 
 abbrev pub Writes : Option (List ℕ) → Option (List ℕ) → Status → Written → Type 0
 Writes old new ending written = Appends old new written.text × (ending ≡ status_of written.ending)

@@ -3,12 +3,13 @@
 ghost use Rattle.std.specs.Prelude.{◌≡◌, IfOk, map, option_map};
 ghost use Rattle.std.specs.Option.{option_copied};
 ghost use Rattle.clap.specs.Words.{subcommand_rows_of};
-ghost use Rattle.pf_tool.specs.Tool.{packets_in, place_in, place_for, called, answered};
+ghost use Rattle.pf_tool.specs.Tool.{packets_in, place_in, place_for, is_ctl, called, answered};
 ghost use Rattle.pf_tool.specs.Calls.{asked};
 ghost use Rattle.pf_tool.specs.Output.{written};
 
 use crate::checking::check_output;
 use crate::output::Output;
+use crate::scripts::script_output;
 use crate::testing::test_output;
 use clap::ArgMatches;
 use pf_grammar::Place;
@@ -21,6 +22,8 @@ pub(crate) enum Call<'m, 'a> {
     Test(&'m [&'a str]),
     /// What a text comes to at a place.
     Check(Place),
+    /// What a script prints.
+    Ctl,
 }
 
 /// The packet words of `test`, if that is the word.
@@ -55,6 +58,16 @@ fn place_for(anchor: Option<&str>) -> Place
     }
 }
 
+/// Whether the word is `ctl`.
+fn is_ctl(matches: &ArgMatches<'_>) -> bool
+    ensures { result ≡ is_ctl (subcommand_rows_of matches.now) }
+{
+    match matches.subcommand_matches("ctl") {
+        Some(_) => true,
+        None => false,
+    }
+}
+
 /// What the matches of the words ask for, none where no word is named.
 pub(crate) fn call_in<'m, 'a>(matches: &'m ArgMatches<'a>) -> Option<Call<'m, 'a>>
     ensures { option_map asked result ≡ called (subcommand_rows_of matches.now) }
@@ -63,7 +76,13 @@ pub(crate) fn call_in<'m, 'a>(matches: &'m ArgMatches<'a>) -> Option<Call<'m, 'a
         Some(packets) => Some(Call::Test(packets)),
         None => match place_of(matches) {
             Some(place) => Some(Call::Check(place)),
-            None => None,
+            None => {
+                if is_ctl(matches) {
+                    Some(Call::Ctl)
+                } else {
+                    None
+                }
+            }
         },
     }
 }
@@ -79,5 +98,6 @@ pub(crate) fn output_of(
     match call {
         Call::Test(packets) => test_output(alloc, packets, input),
         Call::Check(place) => check_output(alloc, place, input),
+        Call::Ctl => script_output(alloc, input),
     }
 }

@@ -14,6 +14,7 @@ mod checking;
 mod input;
 mod output;
 mod running;
+mod scripts;
 mod status;
 mod testing;
 mod words;

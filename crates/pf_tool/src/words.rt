@@ -3,7 +3,7 @@
 ghost use Rattle.std.specs.Prelude.{◌≡◌, IfOk, false};
 ghost use Rattle.clap.specs.Words.{app_of};
 ghost use Rattle.clap.specs.declared.builder.command.Command.TheViews.{out-Command};
-ghost use Rattle.pf_tool.specs.Tool.{check_app, test_app, pfx_app};
+ghost use Rattle.pf_tool.specs.Tool.{check_app, test_app, ctl_app, pfx_app};
 
 use clap::{Arg, ArgAction, Command};
 use std::alloc::{AllocError, Global};
@@ -31,6 +31,14 @@ fn check_command<'a>(alloc: Global) -> Result<Command<'a>, AllocError>
     Command::new(alloc, "check").arg(anchor)
 }
 
+/// `ctl`
+fn ctl_command<'a>(alloc: Global) -> Command<'a>
+    ensures app { app_of result ≡ ctl_app }
+    ensures local { (out-Command result).has_globals ≡ false }
+{
+    Command::new(alloc, "ctl")
+}
+
 /// All words of the program.
 pub(crate) fn command<'a>(alloc: Global) -> Result<Command<'a>, AllocError>
     ensures { IfOk result (λ c. app_of c ≡ pfx_app) }
@@ -39,6 +47,7 @@ pub(crate) fn command<'a>(alloc: Global) -> Result<Command<'a>, AllocError>
     let test = test_command(alloc)?;
     let command = Command::new(alloc, "pfx")
         .subcommand(check)?
-        .subcommand(test)?;
+        .subcommand(test)?
+        .subcommand(ctl_command(alloc))?;
     Ok(command.subcommand_required(true))
 }

@@ -2,4 +2,6 @@
 #![tactic(auto)]
 
 #[cfg(test)]
+mod effects;
+#[cfg(test)]
 mod tables;

@@ -28,6 +28,7 @@ fn refusals_on_line_one(rt: HostRuntime) -> Result<(), Fail> {
             "refused 14 line 1\n",
         ),
         ("pass to port 22", false, "refused 13 line 1\n"),
+        ("anchor \"_x\"", false, "refused 15 line 1\n"),
         ("pass on $none", false, "refused 11 line 1\n"),
         ("pass & block", false, "refused 10 line 1\n"),
         ("set skip on lo", true, "refused 17 line 1\n"),

@@ -1,0 +1,18 @@
+//! The effect of a command on a configuration (pfctl(8), `-f`, `-F` and `-T`).
+//!
+//! # Organization
+//!
+//! - [`apply`] changes a configuration by a command, as it lies in an entry's bytes, and counts what came to a table
+//!   and went from it.
+//! - `specs/Effect` is what is to be believed: `effect`, a command's change or its refusal, and `after`, the
+//!   configuration after a log.
+#![tactic(auto)]
+
+mod commands;
+mod counts;
+mod fault;
+mod laws;
+
+pub use commands::{Applied, apply};
+pub use fault::ApplyFault;
+pub use laws::a_log_goes_on;

@@ -1,0 +1,5 @@
+pub mod Lines
+pub mod Orders
+pub mod Listings
+pub mod Ctl
+pub mod Seen

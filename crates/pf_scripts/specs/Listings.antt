@@ -1,0 +1,47 @@
+-- What pfctl lists (pfctl(8), -s and -T).
+use Rattle.std.specs.Prelude.{ℕ, Bool, List, [], ◌∷◌, ◌++◌, length, map, Option, Some, None, codes, decimal}
+use Rattle.std.specs.Prelude.{count_by}
+use Rattle.std.specs.List.{flat_map}
+use Rattle.pf_addr.specs.declared.addr.Addr.{Addr}
+use Rattle.pf_ruleset.specs.declared.ruleset.TableEntry.{TableEntry}
+use Rattle.pf_ruleset.specs.Names.{Name}
+use Rattle.pf_show.specs.Shown.{entry_part, shown_items}
+use Rattle.pf_table.specs.Tables.{TableValue, in_table}
+use Rattle.pf_config.specs.Map.{Configuration, AnchorValue, Path, rules_at, table_at, table_names}
+use Rattle.pf_scripts.specs.Lines.{line, refused_line}
+use Rattle.pf_scripts.specs.Orders.{entries_in_order, lines_in_order}
+
+abbrev pub all_lines : List (List ℕ) → List ℕ
+all_lines texts = flat_map line texts
+
+-- -s rules: a line for each rule, with every name and without blocks
+abbrev pub rules_listed : Configuration → Path → List ℕ
+rules_listed c p = shown_items (rules_at c p)
+
+-- -s Tables: the names at a path, ordered by bytes
+abbrev pub tables_listed : Configuration → Path → List ℕ
+tables_listed c p = all_lines (lines_in_order (table_names c p))
+
+-- a path and the paths that lead to it, names joined by slashes
+abbrev pub leading_from : List ℕ → Path → List (List ℕ)
+leading_from begun [] = []
+leading_from begun (n ∷ ns) = (begun ++ n) ∷ leading_from ((begun ++ n) ++ 47 ∷ []) ns
+
+abbrev pub leading : AnchorValue → List (List ℕ)
+leading a = leading_from [] a.path
+
+-- -s Anchors: all anchors but main, unnamed blocks and those that only lead to others too, ordered by bytes
+abbrev pub anchors_listed : Configuration → List ℕ
+anchors_listed c = all_lines (lines_in_order (flat_map leading c.anchors))
+
+-- -T show: the entries, IPv4 first, then by address, then by length
+abbrev pub entries_listed : Option TableValue → List ℕ
+entries_listed None = refused_line 20 0
+entries_listed (Some t) = all_lines (map entry_part (entries_in_order t.entries))
+
+-- -T test: how many of the addresses are in the table
+abbrev pub matches_listed : List Addr → Option TableValue → List ℕ
+matches_listed addresses None = refused_line 20 0
+matches_listed addresses (Some t) =
+    line (decimal (count_by (λ a. in_table a t.entries) addresses) ++ codes " of " ++ decimal (length addresses) ++
+    codes " match")

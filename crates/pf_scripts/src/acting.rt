@@ -1,0 +1,161 @@
+//! What an action does and prints.
+
+ghost use Rattle.std.specs.Prelude.{◌≡◌, ◌++◌, OnOk, Ok, true, false, string_bytes};
+ghost use Rattle.pf_grammar.specs.Reading.{reading};
+ghost use Rattle.pf_words.specs.declared.profile.Profile.TheVariants.{Two};
+ghost use Rattle.pf_entry.specs.Entry.{are_names, path_of, rest_fits};
+ghost use Rattle.pf_entry.specs.Owned.{command_value};
+ghost use Rattle.pf_entry.specs.Views.{command_of};
+ghost use Rattle.pf_effect.specs.Effect.{effect, after_command, place_at};
+ghost use Rattle.pf_command.specs.Asked.{is_too_long};
+ghost use Rattle.pf_command.specs.Answers.{action_value, IsShort};
+ghost use Rattle.pf_scripts.specs.Ctl.{acted, is_counted, counts_line, change_line, check_line, prints};
+ghost use Rattle.pf_scripts.specs.Seen.{Does};
+
+use crate::listing::{list_anchors, list_entries, list_matches, list_rules, list_tables};
+use crate::printing::{push_line, push_number, push_refusal};
+use pf_command::{Action, Command, CommandView, EncodeFault, Entry, decode, encode};
+use pf_config::Config;
+use pf_effect::{Applied, ApplyFault, apply};
+use pf_entry::BadEntry;
+use pf_grammar::{ParseFault, Place, Profile, parse};
+use pf_ruleset::Name;
+use std::alloc::{AllocError, Global};
+
+/// Whether a command's counts are printed: it changes one table.
+fn is_counted(command: &Command) -> bool
+    ensures { result ≡ is_counted (command_value command.now) }
+{
+    match command {
+        Command::Load { .. } => false,
+        Command::FlushRules { .. } => false,
+        Command::FlushTables { .. } => false,
+        Command::FlushAll { .. } => false,
+        Command::Add { .. } => true,
+        Command::Delete { .. } => true,
+        Command::Replace { .. } => true,
+        Command::FlushTable { .. } => true,
+    }
+}
+
+/// Puts `ok` behind the output, with counts where they are printed.
+fn push_counts(
+    alloc: Global,
+    out: &mut String,
+    counts: bool,
+    applied: Applied,
+) -> Result<(), AllocError>
+    ensures { OnOk result (string_bytes out.new
+        ≡ string_bytes out.old ++ counts_line counts applied.added applied.removed) }
+{
+    out.push_str("ok")?;
+    if counts {
+        out.push(' ')?;
+        push_number(alloc, out, applied.added as u64)?;
+        out.push(' ')?;
+        push_number(alloc, out, applied.removed as u64)?;
+    }
+    out.push('\n')
+}
+
+/// Applies a command as it lies in an entry's bytes, and says what comes of it.
+#[tactic(auto, using(crate::proofs::Acted::applied_does, crate::proofs::Acted::refused_does))]
+fn run_view(
+    alloc: Global,
+    config: &mut Config,
+    command: &CommandView,
+    counts: bool,
+    out: &mut String,
+) -> Result<(), AllocError>
+    requires names { are_names (path_of (command_of command.now)) ≡ true }
+    requires rest { rest_fits (command_of command.now) ≡ true }
+    ensures { OnOk result (Does (prints (after_command config.old (command_of command.now))
+        (change_line counts (effect config.old (command_of command.now))))
+        config.new (string_bytes out.old) (string_bytes out.new)) }
+{
+    match apply(alloc, config, command) {
+        Ok(applied) => push_counts(alloc, out, counts, applied),
+        Err(ApplyFault::Memory) => Err(AllocError),
+        Err(ApplyFault::Refused(code, at)) => push_refusal(alloc, out, code, at),
+    }
+}
+
+/// Applies a command by way of the bytes of an entry.
+fn run_change(
+    alloc: Global,
+    config: &mut Config,
+    command: Command,
+    out: &mut String,
+) -> Result<(), AllocError>
+    requires { is_too_long (command_value command) ≡ false }
+    ensures { OnOk result (Does (prints (after_command config.old (command_value command))
+        (change_line (is_counted (command_value command)) (effect config.old (command_value command))))
+        config.new (string_bytes out.old) (string_bytes out.new)) }
+{
+    let counts = is_counted(&command);
+    let entry = Entry {
+        origin: 0,
+        number: 0,
+        command,
+    };
+    let bytes = match encode(alloc, &entry) {
+        Ok(bytes) => bytes,
+        Err(EncodeFault::Memory) => return Err(AllocError),
+        Err(EncodeFault::TooLong) => unreachable!(),
+    };
+    match decode(&bytes) {
+        Ok(view) => run_view(alloc, config, &view.command, counts, out),
+        Err(BadEntry) => unreachable!(),
+    }
+}
+
+/// Where a text for this path is loaded.
+fn place_at(path: &[Name]) -> Place
+    ensures { result ≡ place_at path.now }
+{
+    match path {
+        [] => Place::Main,
+        [_, ..] => Place::Anchor,
+    }
+}
+
+/// Reads a text and loads nothing.
+fn run_check(alloc: Global, path: &[Name], text: &[u8], out: &mut String) -> Result<(), AllocError>
+    ensures { OnOk result (string_bytes out.new
+        ≡ string_bytes out.old ++ check_line (reading (place_at path.now) Two text.now)) }
+{
+    match parse(alloc, text, place_at(path), Profile::Two) {
+        Ok(_rules) => push_line(out, "ok"),
+        Err(ParseFault::Memory) => Err(AllocError),
+        Err(ParseFault::Refused(refusal)) => {
+            push_refusal(alloc, out, refusal.cause.code(), refusal.line)
+        }
+    }
+}
+
+/// Does what an action asks for; `text` is what stands behind the line.
+pub(crate) fn run_action(
+    alloc: Global,
+    config: &mut Config,
+    action: Action,
+    text: &[u8],
+    out: &mut String,
+) -> Result<(), AllocError>
+    requires { IsShort action }
+    ensures { OnOk result (Does (acted config.old text.now (Ok (action_value action)))
+        config.new (string_bytes out.old) (string_bytes out.new)) }
+{
+    match action {
+        Action::Change(command) => run_change(alloc, config, command, out),
+        Action::CheckOnly(path) => run_check(alloc, path.names(), text, out),
+        Action::ShowRules(path) => list_rules(alloc, config, path.names(), out),
+        Action::ShowTables(path) => list_tables(alloc, config, path.names(), out),
+        Action::ShowAnchors => list_anchors(alloc, config, out),
+        Action::TableShow(path, name) => {
+            list_entries(alloc, config.table(path.names(), name.as_str()), out)
+        }
+        Action::TableTest(path, name, list) => {
+            list_matches(alloc, config.table(path.names(), name.as_str()), &list, out)
+        }
+    }
+}

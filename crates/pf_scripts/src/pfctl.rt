@@ -1,0 +1,120 @@
+//! A line of pfctl's words.
+
+ghost use Rattle.std.specs.Prelude.{◌≡◌, IfOk, OnOk, map, codes, string_bytes, option_map, false};
+ghost use Rattle.std.specs.Option.{option_copied};
+ghost use Rattle.clap.specs.Words.{app_of, found_of, rows_of, first_of};
+ghost use Rattle.clap.specs.declared.builder.command.Command.TheViews.{out-Command};
+ghost use Rattle.pf_command.specs.Options.{pfctl_app};
+ghost use Rattle.pf_scripts.specs.Ctl.{pfctl, pfctl_rows, rows_in, takes_text, is_standard, is_input};
+ghost use Rattle.pf_scripts.specs.Seen.{Does};
+
+use crate::acting::run_action;
+use crate::lines::stand_together;
+use crate::printing::push_refusal;
+use clap::error::ErrorKind;
+use clap::{ArgMatches, Command};
+use pf_command::{from_matches, pfctl_args};
+use pf_config::Config;
+use std::alloc::{AllocError, Global};
+
+/// pfctl by itself, as `clap` reads it.
+fn command<'a>(alloc: Global) -> Result<Command<'a>, AllocError>
+    ensures { IfOk result (λ c. app_of c ≡ pfctl_app) }
+{
+    pfctl_args(alloc, Command::new(alloc, "pfctl"))
+}
+
+/// The matches of a line's words, none where `clap` refuses them.
+fn matches_in<'a>(alloc: Global, words: &'a [&'a str]) -> Result<Option<ArgMatches<'a>>, AllocError>
+    ensures { IfOk result (λ found. option_map (λ m. rows_of (found_of m)) found ≡
+        rows_in (map (λ w. w.now) words.entry.now)) }
+{
+    let command = command(alloc)?;
+    match command.try_get_matches_from(words) {
+        Ok(matches) => Ok(Some(matches)),
+        Err(error) => {
+            if error.kind() == ErrorKind::OutOfMemory {
+                return Err(AllocError);
+            }
+            Ok(None)
+        }
+    }
+}
+
+/// Whether a file is standard input.
+fn is_input(file: Option<&str>) -> bool
+    ensures { result ≡ is_input (option_copied file.entry) }
+{
+    match file {
+        Some(name) => name == "-",
+        None => false,
+    }
+}
+
+/// Whether a file is standard input, or there is none.
+fn is_standard(file: Option<&str>) -> bool
+    ensures { result ≡ is_standard (option_copied file.entry) }
+{
+    match file {
+        Some(name) => name == "-",
+        None => true,
+    }
+}
+
+/// The value of `-f`.
+fn file_in<'a>(matches: &ArgMatches<'a>) -> Option<&'a str>
+    ensures { option_copied result ≡ first_of (codes "file") (rows_of (found_of matches.now)) }
+{
+    matches.get_str("file")
+}
+
+/// Whether a text follows the words, up to a line `.`.
+pub(crate) fn takes_text(alloc: Global, words: &[&str]) -> Result<bool, AllocError>
+    ensures { IfOk result (λ b. b ≡ takes_text (map (λ w. w.now) words.now)) }
+{
+    match matches_in(alloc, words)? {
+        Some(matches) => Ok(is_input(file_in(&matches))),
+        None => Ok(stand_together("-f", "-", words)),
+    }
+}
+
+/// Does what matches ask for.
+#[tactic(auto, using(crate::proofs::Acted::fault_acted))]
+fn run_matches(
+    alloc: Global,
+    config: &mut Config,
+    matches: &ArgMatches<'_>,
+    text: &[u8],
+    out: &mut String,
+) -> Result<(), AllocError>
+    ensures { OnOk result (Does (pfctl_rows config.old text.now (rows_of (found_of matches.now)))
+        config.new (string_bytes out.old) (string_bytes out.new)) }
+{
+    if !is_standard(file_in(matches)) {
+        return push_refusal(alloc, out, 40, 0);
+    }
+    match from_matches(alloc, matches, text) {
+        Ok(action) => run_action(alloc, config, action, text, out),
+        Err(fault) => match fault.code() {
+            Some(code) => push_refusal(alloc, out, code, 0),
+            None => Err(AllocError),
+        },
+    }
+}
+
+/// Does what a line of pfctl's words asks for, `pfctl` itself first.
+pub(crate) fn run_words(
+    alloc: Global,
+    config: &mut Config,
+    words: &[&str],
+    text: &[u8],
+    out: &mut String,
+) -> Result<(), AllocError>
+    ensures { OnOk result (Does (pfctl config.old (map (λ w. w.now) words.now) text.now)
+        config.new (string_bytes out.old) (string_bytes out.new)) }
+{
+    match matches_in(alloc, words)? {
+        Some(matches) => run_matches(alloc, config, &matches, text, out),
+        None => push_refusal(alloc, out, 40, 0),
+    }
+}

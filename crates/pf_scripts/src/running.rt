@@ -1,0 +1,53 @@
+//! A script over one local configuration.
+
+ghost use Rattle.std.specs.Prelude.{◌≡◌, ◌++◌, IfOk, OnOk, option_map, string_bytes};
+ghost use Rattle.pf_scripts.specs.Ctl.{at_end, printed};
+ghost use Rattle.pf_scripts.specs.Seen.{waiting_of};
+
+use crate::lines::cut_line;
+use crate::pfctl::run_words;
+use crate::stepping::step;
+use crate::waiting::Waiting;
+use pf_config::Config;
+use std::alloc::{AllocError, Global};
+
+/// Ends a text that still waits for its last line.
+fn finish(
+    alloc: Global,
+    config: &mut Config,
+    waiting: Option<Waiting<'_>>,
+    out: &mut String,
+) -> Result<(), AllocError>
+    ensures { OnOk result (string_bytes out.new
+        ≡ string_bytes out.old ++ at_end config.old (option_map waiting_of waiting.entry)) }
+{
+    match waiting {
+        Some(waiting) => {
+            run_words(alloc, config, &waiting.words, &waiting.text, out)?;
+            Ok(())
+        }
+        None => Ok(()),
+    }
+}
+
+/// What a script prints over an empty configuration.
+///
+/// A line is `pfctl` and its words, or `test` and a packet's; an empty one is passed over, any other prints `refused
+/// 40`. A line of pfctl's with `-f -` is followed by its text, up to a line `.` or the end of the script. A change
+/// prints `ok`, one by `-T` the counts behind it, a listing its lines, and a refusal `refused CODE`, of a text `refused
+/// CAUSE line L`; the script then goes on.
+#[tactic(auto, unfolding(crate::specs::Ctl::printed))]
+pub fn ctl(alloc: Global, script: &[u8]) -> Result<String, AllocError>
+    ensures { IfOk result (λ text. string_bytes text ≡ printed script.now) }
+{
+    let mut out = String::new(alloc);
+    let mut config = Config::new(alloc)?;
+    let mut waiting = None;
+    let mut left = script;
+    while let Some((line, rest)) = cut_line(left) {
+        waiting = step(alloc, &mut config, waiting, line, &mut out)?;
+        left = rest;
+    }
+    finish(alloc, &mut config, waiting, &mut out)?;
+    Ok(out)
+}

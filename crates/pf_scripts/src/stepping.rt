@@ -1,0 +1,118 @@
+//! A line of a script.
+
+ghost use Rattle.std.specs.Prelude.{◌≡◌, ◌++◌, IfOk, OnOk, map, option_map, string_bytes};
+ghost use Rattle.pf_scripts.specs.Ctl.{tested, packet_line, pfctl_line, at_words, stepped};
+ghost use Rattle.pf_scripts.specs.Seen.{line_of, waiting_of, Steps};
+
+use crate::lines::{Line, push_bytes, spaced, words_in};
+use crate::pfctl::{run_words, takes_text};
+use crate::printing::{push_line, push_refusal};
+use crate::waiting::Waiting;
+use pf_config::Config;
+use pf_eval::{PacketFault, parse_packet, show_verdict, verdict};
+use std::alloc::{AllocError, Global};
+
+/// Puts the verdict for a packet behind the output, 30 where the words are none.
+#[tactic(auto, unfolding(crate::specs::Ctl::tested))]
+fn test_packet(
+    alloc: Global,
+    config: &Config,
+    words: &[&str],
+    out: &mut String,
+) -> Result<(), AllocError>
+    ensures { OnOk result (string_bytes out.new
+        ≡ string_bytes out.old ++ tested config.now (map (λ w. w.now) words.now)) }
+{
+    let text = spaced(alloc, words)?;
+    match parse_packet(alloc, text.as_str()) {
+        Ok(packet) => {
+            let shown = show_verdict(alloc, &verdict(config, &packet))?;
+            push_line(out, shown.as_str())
+        }
+        Err(PacketFault::Memory) => Err(AllocError),
+        Err(PacketFault::BadPacket) => push_refusal(alloc, out, 30, 0),
+    }
+}
+
+/// Does a line of pfctl's words, unless a text follows it.
+fn run_pfctl<'a>(
+    alloc: Global,
+    config: &mut Config,
+    words: Vec<&'a str>,
+    out: &mut String,
+) -> Result<Option<Waiting<'a>>, AllocError>
+    ensures { IfOk result (λ w. Steps (pfctl_line config.old (map (λ x. x.now) words.entry.items))
+        config.new (option_map waiting_of w) (string_bytes out.old) (string_bytes out.new)) }
+{
+    if takes_text(alloc, &words)? {
+        return Ok(Some(Waiting {
+            words,
+            text: Vec::new(alloc),
+        }));
+    }
+    run_words(alloc, config, &words, &[], out)?;
+    Ok(None)
+}
+
+/// Does a line with words.
+fn run_line<'a>(
+    alloc: Global,
+    config: &mut Config,
+    words: Option<Vec<&'a str>>,
+    out: &mut String,
+) -> Result<Option<Waiting<'a>>, AllocError>
+    ensures { IfOk result (λ w. Steps
+        (at_words config.old (option_map (λ v. map (λ x. x.now) v.items) words.entry))
+        config.new (option_map waiting_of w) (string_bytes out.old) (string_bytes out.new)) }
+{
+    let Some(words) = words else {
+        push_refusal(alloc, out, 40, 0)?;
+        return Ok(None);
+    };
+    match words.as_slice() {
+        [] => Ok(None),
+        [first, rest @ ..] => {
+            if *first == "pfctl" {
+                return run_pfctl(alloc, config, words, out);
+            }
+            if *first == "test" {
+                test_packet(alloc, config, rest, out)?;
+                return Ok(None);
+            }
+            push_refusal(alloc, out, 40, 0)?;
+            Ok(None)
+        }
+    }
+}
+
+/// Does a line: one of a text, or one with words. Answers what waits for its text then.
+pub(crate) fn step<'a>(
+    alloc: Global,
+    config: &mut Config,
+    waiting: Option<Waiting<'a>>,
+    line: Line<'a>,
+    out: &mut String,
+) -> Result<Option<Waiting<'a>>, AllocError>
+    ensures { IfOk result (λ w. Steps
+        (stepped config.old (option_map waiting_of waiting.entry) (line_of line.entry))
+        config.new (option_map waiting_of w) (string_bytes out.old) (string_bytes out.new)) }
+{
+    match waiting {
+        None => {
+            let words = words_in(alloc, line.content)?;
+            run_line(alloc, config, words, out)
+        }
+        Some(waiting) => {
+            if line.content == b".".as_slice() {
+                run_words(alloc, config, &waiting.words, &waiting.text, out)?;
+                return Ok(None);
+            }
+            let mut text = waiting.text;
+            push_bytes(&mut text, line)?;
+            Ok(Some(Waiting {
+                words: waiting.words,
+                text,
+            }))
+        }
+    }
+}

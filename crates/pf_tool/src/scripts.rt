@@ -1,0 +1,21 @@
+//! The word `ctl`: what a script prints.
+
+ghost use Rattle.std.specs.Prelude.{◌≡◌, IfOk};
+ghost use Rattle.pf_scripts.specs.Ctl.{printed};
+ghost use Rattle.pf_tool.specs.declared.output.Ending.TheVariants as ending;
+ghost use Rattle.pf_tool.specs.Output.{written};
+
+use crate::output::{Ending, Output};
+use pf_scripts::ctl;
+use std::alloc::{AllocError, Global};
+
+/// What `ctl` writes over this input: what the script's lines print over one configuration.
+pub(crate) fn script_output(alloc: Global, input: &[u8]) -> Result<Output, AllocError>
+    ensures { IfOk result (λ o. written o ≡ record { text = printed input.now; ending = ending.Done }) }
+{
+    let text = ctl(alloc, input)?;
+    Ok(Output {
+        text,
+        ending: Ending::Done,
+    })
+}
