@@ -1,0 +1,175 @@
+-- What comes to one member of a lab happens in the world.
+use Rattle.std.proofs.Common.{◌≡◌, ◌∙◌, sym, ap, subst, refl, ℕ, zero, suc, ◌⊎◌, inl, inr, Bool, true, false, List, [], ◌∷◌, ◌++◌, Some, Result, Ok, Err, OnOk, OnErr, slice_get, length}
+use Rattle.std.proofs.Math.ListN.{set}
+use Rattle.std.proofs.lemmas.List.{append-nil}
+use Rattle.std.specs.List.{flat_map}
+use Rattle.px_model.specs.Node as node
+use Rattle.px_model.specs.Node.{Input, Answer}
+use Rattle.px_model.specs.Node.Input.{Comes}
+use Rattle.px_model.specs.World.{World, NodeState, Action, Event, happens, run, start, started, nothing_stored}
+use Rattle.px_model.specs.World.Event.{Runs, StopAfter}
+use Rattle.px_model.specs.Spelling.{Bytes}
+use Rattle.px_model.proofs.AlwaysFits.{nothing_fits}
+use Rattle.px_model.specs.Fits.{Passes}
+use Rattle.px_wire.specs.declared.membership.Membership.{Membership}
+use Rattle.px_wire.specs.Message.{Group, group, DatagramBytes}
+use Rattle.px_wire.specs.Members.{as_sent, Passing}
+use Rattle.px_wire.specs.Sent.{is_command}
+use Rattle.px_replica.specs.Made.{same, answer, Makes}
+use Rattle.px_replica.specs.Seen.{IsSound}
+use Rattle.px_replica.specs.Replicas.{Takes, IsUnspelled, MatchReceived}
+use Rattle.px_replica.specs.Spelled.{AreSpelled}
+use Rattle.px_replica.specs.declared.datagram.Datagram.{Datagram}
+use Rattle.px_replica.specs.declared.receiving.Received.{Received}
+use Rattle.px_replica.specs.declared.receiving.Received.TheVariants as received
+use Rattle.pf_node.specs.Nodes.{state_in}
+use Rattle.pf_lab.specs.Coming.{IsInput, Came, happenings}
+use Rattle.pf_lab.specs.declared.event.LabEvent.{LabEvent}
+use Rattle.pf_lab.specs.declared.coming.What.{What}
+use Rattle.pf_lab.specs.Labs.{IsAnswered, IsSeat, SeatsAre, state_of, group_of, for_members, cluster_of}
+use Rattle.pf_lab.specs.declared.seat.Seat.{Seat}
+use Rattle.pf_lab.proofs.Telling.{one_message}
+use Rattle.pf_lab.proofs.Following.{lab_runs, lab_same, lab_stops_after, emptied_state}
+
+-- ---- answers
+
+pub answered_made : (g : Group) (me : ℕ) (s t : NodeState Bytes) (x : Input Bytes) (old new : List Datagram) →
+    Makes g me s t x old new → old ≡ [] → IsAnswered g (answer g.members me s x) s t new
+answered_made g me s t x old new m none =
+    let all : new ≡ m.added = m.handed ∙ ap (λ (z : List Datagram). z ++ m.added) none in
+    subst (λ (a : Answer Bytes). IsAnswered g a s t new) (sym m.steps)
+    (m.follows, subst (λ (z : List Datagram). AreSpelled g m.plan.sends z) (sym all) m.spelled)
+
+-- a message that comes is the one that the bytes spell
+pub received_answered : (g : Group) (me : ℕ) (s t : NodeState Bytes) (bytes : List ℕ) (old new : List Datagram) (r : Received)
+    (I : Type 0) (from : ℕ) (message : node.Message Bytes) → old ≡ [] →
+    MatchReceived r (Takes g me s t bytes old new) (t ≡ s) →
+    MatchReceived r (Unit {0}) I → (I → IsUnspelled g me bytes) →
+    Passing g.members from me message → DatagramBytes g from me (as_sent message) bytes →
+    IsAnswered g (answer g.members me s (Comes from message)) s t new
+received_answered g me s t bytes old new received.Done I from message none takes un none_spelled passes spells =
+    subst (λ (x : Input Bytes). IsAnswered g (answer g.members me s x) s t new)
+    (one_message g me takes.sender from takes.message message bytes takes.passes passes takes.spelled spells)
+    (answered_made g me s t (Comes takes.sender takes.message) old new takes.makes none)
+received_answered g me s t bytes old new (received.Ignored fault) I from message none takes un none_spelled passes spells =
+    absurd (none_spelled un from (as_sent message) spells)
+
+-- ---- one of the members
+
+state_up : (y : Seat) → y.is_up ≡ true → state_of y ≡ state_in y.node
+state_up y up = ap (λ (b : Bool). state_as b (state_in y.node)) up
+  where
+    state_as : Bool → NodeState Bytes → NodeState Bytes
+    state_as b s = record { is_up = b; stored = s.stored; volatile = s.volatile }
+
+input_here : (g : Group) (m : ℕ) (p : Membership) (what : What) (x : Input Bytes) → group p ≡ g → p.me ≡ m →
+    IsInput g m what x → IsInput (group p) p.me what x
+input_here g m p what x e f told =
+    subst (λ (k : ℕ). IsInput (group p) k what x) (sym f) (subst (λ (h : Group). IsInput h m what x) (sym e) told)
+
+answered_up : (g : Group) (y z : Seat) (a : NodeState Bytes → Answer Bytes) (out : List Datagram) → y.is_up ≡ true → z.is_up ≡ y.is_up →
+    IsAnswered g (a (state_in y.node)) (state_in y.node) (state_in z.node) out →
+    IsAnswered g (a (state_of y)) (state_of y) (state_of z) out
+answered_up g y z a out up same is =
+    subst (λ (t : NodeState Bytes). IsAnswered g (a (state_of y)) (state_of y) t out) (sym (state_up z (same ∙ up)))
+    (subst (λ (s : NodeState Bytes). IsAnswered g (a s) s (state_in z.node) out) (sym (state_up y up)) is)
+
+-- what comes to a member that runs happens in the world
+pub runs_at : {X E : Type 0} (r : Result X E) (seats : List Seat) (g : Group) (m : ℕ) (w : World Bytes) (a : Action Bytes) (what : What)
+    (y z : Seat) (sent out : List Datagram) → SeatsAre seats g sent w → slice_get seats m ≡ Some y → y.is_up ≡ true →
+    z.is_up ≡ y.is_up → group_of z ≡ group_of y → Came g w a m what →
+    ((x : Input Bytes) → IsInput (group (group_of y)) (group_of y).me what x →
+    OnOk r (IsAnswered (group (group_of y)) (answer (group_of y).members (group_of y).me (state_in y.node) x)
+    (state_in y.node) (state_in z.node) out)) →
+    OnOk r (SeatsAre (set seats m z) g (sent ++ for_members out) (happens same g.members w (Runs a)))
+runs_at (Err e) seats g m w a what y z sent out world at up kept same_group came went = tt
+runs_at (Ok v) seats g m w a what y z sent out world at up kept same_group came went =
+    let seat = world.seats m y at in
+    let x = came.input in
+    let p = group_of y in
+    lab_runs seats state_of group_of g m w a x y z sent out world at up same_group came.comes
+    (answered_up (group p) y z (λ s. answer p.members p.me s x) out up kept
+    (went x (input_here g m p what x seat.group seat.me came.told)))
+
+-- a member that is as it was leaves the world as it was
+pub same_at : {X E : Type 0} (r : Result X E) (seats : List Seat) (g : Group) (m : ℕ) (w : World Bytes)
+    (y z : Seat) (sent : List Datagram) → SeatsAre seats g sent w → slice_get seats m ≡ Some y → y.is_up ≡ true →
+    z.is_up ≡ y.is_up → group_of z ≡ group_of y → OnErr r (state_in z.node ≡ state_in y.node) →
+    OnErr r (SeatsAre (set seats m z) g sent w)
+same_at (Ok v) seats g m w y z sent world at up kept same_group is = tt
+same_at (Err e) seats g m w y z sent world at up kept same_group is =
+    lab_same seats state_of group_of g m w y z sent world at (state_up z (kept ∙ up) ∙ is ∙ sym (state_up y up)) same_group
+
+-- a member stops after what comes to it
+pub stops_at : (seats : List Seat) (g : Group) (m : ℕ) (w : World Bytes) (a : Action Bytes) (what : What)
+    (y z q : Seat) (sent out : List Datagram) → SeatsAre seats g sent w → slice_get seats m ≡ Some y → y.is_up ≡ true →
+    z.is_up ≡ y.is_up → group_of z ≡ group_of y → group_of q ≡ group_of z → state_of q ≡ emptied_state false (state_of z) →
+    Came g w a m what →
+    ((x : Input Bytes) → IsInput (group (group_of y)) (group_of y).me what x →
+    IsAnswered (group (group_of y)) (answer (group_of y).members (group_of y).me (state_in y.node) x)
+    (state_in y.node) (state_in z.node) out) →
+    SeatsAre (set seats m q) g sent (happens same g.members w (StopAfter a))
+stops_at seats g m w a what y z q sent out world at up kept same_group still after came went =
+    let seat = world.seats m y at in
+    let x = came.input in
+    let p = group_of y in
+    lab_stops_after seats state_of group_of g m w a x y z q sent out world at up after (still ∙ same_group) came.comes
+    (answered_up (group p) y z (λ s. answer p.members p.me s x) out up kept
+    (went x (input_here g m p what x seat.group seat.me came.told)))
+
+-- ---- the beginning
+
+-- an empty record can be told
+pub nothing_sound : (n : ℕ) → IsSound n nothing_stored
+nothing_sound n = nothing_fits (Passes is_command) n
+
+pub begun_sound : (n k : ℕ) (s : NodeState Bytes) (d : node.Record Bytes) → k ≡ n → s ≡ started d → d ≡ nothing_stored → IsSound k s.stored
+begun_sound n k s d e is none =
+    subst (λ (j : ℕ). IsSound j s.stored) (sym e)
+    (subst (λ (r : node.Record Bytes). IsSound n r) (sym (ap (λ (z : NodeState Bytes). z.stored) is ∙ none)) (nothing_sound n))
+
+-- a record that is as it was can be told as before
+pub kept_sound : (p q : Membership) (s t : NodeState Bytes) → q ≡ p → t ≡ s → IsSound p.members s.stored → IsSound q.members t.stored
+kept_sound p q s t e is sound =
+    subst (λ (m : Membership). IsSound m.members t.stored) (sym e)
+    (subst (λ (z : NodeState Bytes). IsSound p.members z.stored) (sym is) sound)
+
+-- the members so far are those of the beginning
+abbrev pub AreBegun : ℕ → List Seat → Type 0
+AreBegun n seats = (k : ℕ) (x : Seat) → slice_get seats k ≡ Some x → IsSeat start (cluster_of n) k (state_of x) (group_of x)
+
+pub none_begun : (n : ℕ) → AreBegun n []
+none_begun n k x h = absurd cc
+
+get_pushed : {M : Type 0} (xs : List M) (s : M) (k : ℕ) (x : M) → slice_get (xs ++ s ∷ []) k ≡ Some x →
+    (slice_get xs k ≡ Some x) ⊎ ((k ≡ length xs) × (s ≡ x))
+get_pushed [] s zero x h = inr (refl, cc)
+get_pushed [] s (suc k) x h = absurd cc
+get_pushed (y ∷ ys) s zero x h = inl h
+get_pushed (y ∷ ys) s (suc k) x h = elim (get_pushed ys s k x h) [
+  | inl there ↦ inl there
+  | inr last ↦ inr (ap suc last.0, last.1)
+]
+
+pub pushed_begun : (n m : ℕ) (seats : List Seat) (s : Seat) → AreBegun n seats → length seats ≡ m →
+    IsSeat start (cluster_of n) m (state_of s) (group_of s) → AreBegun n (seats ++ s ∷ [])
+pushed_begun n m seats s begun count seat k x h = elim (get_pushed seats s k x h) [
+  | inl there ↦ begun k x there
+  | inr last ↦ subst (λ (j : ℕ). IsSeat start (cluster_of n) j (state_of x) (group_of x)) (sym (last.0 ∙ count))
+      (subst (λ (z : Seat). IsSeat start (cluster_of n) m (state_of z) (group_of z)) last.1 seat)
+]
+
+-- ---- one event after another
+
+pub run_append : (n : ℕ) (xs ys : List (Event Bytes)) (w : World Bytes) →
+    run same n (xs ++ ys) w ≡ run same n ys (run same n xs w)
+run_append n [] ys w = refl
+run_append n (x ∷ xs) ys w = run_append n xs ys (happens same n w x)
+
+pub one_more_event : (n : ℕ) (xs : List LabEvent) (x : LabEvent) (w : World Bytes) →
+    run same n (flat_map happenings (xs ++ x ∷ [])) w ≡ run same n (happenings x) (run same n (flat_map happenings xs) w)
+one_more_event n [] x w = ap (λ (es : List (Event Bytes)). run same n es w) (append-nil (happenings x))
+one_more_event n (y ∷ ys) x w =
+    run_append n (happenings y) (flat_map happenings (ys ++ x ∷ [])) w
+    ∙ one_more_event n ys x (run same n (happenings y) w)
+    ∙ ap (run same n (happenings x)) (sym (run_append n (happenings y) (flat_map happenings ys) w))

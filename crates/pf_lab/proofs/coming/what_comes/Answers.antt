@@ -1,0 +1,24 @@
+-- the datagram comes as the message that it spells
+use Rattle.std.proofs.Common.{◌∙◌, ap, sym, subst, refl, List, ℕ, length}
+use Rattle.std.proofs.lemmas.Option.{slice_get_read}
+use Rattle.px_model.specs.Node.Input.{Comes}
+use Rattle.px_model.specs.World.{comes_to}
+use Rattle.px_wire.specs.Message.{DatagramBytes}
+use Rattle.px_wire.specs.Members.{as_sent}
+use Rattle.pf_lab.specs.Coming.{action_of}
+use Rattle.pf_lab.specs.declared.event.LabAction.{LabAction}
+use Rattle.pf_lab.proofs.Telling.{comes_spelled}
+use Rattle.pf_lab.proofs.coming.what_comes.Goals as goal
+
+pub returns-in-Some-get-clause-came : goal.returns-in-Some-get-clause-came
+returns-in-Some-get-clause-came c g w are =
+    let sent = c.args.sent.now in
+    let d = c.in-Some-get.datagram.now in
+    let at = slice_get_read sent (length sent) c.in-Deliver.k d refl c.in-Some-get.ensures.lookup.3.0 c.in-Some-get.ensures.lookup.1 in
+    let f = comes_spelled g w sent c.in-Deliver.k d are at in
+    let bytes = subst (λ (b : List ℕ). DatagramBytes g f.sender d.to (as_sent f.message) b) (sym c.as_slice.ensures.value) f.bytes in
+    record {
+      input = Comes f.sender f.message;
+      comes = ap (λ (a : LabAction). comes_to w (action_of a)) c.in-Deliver.is ∙ f.comes;
+      told = (f.sender, f.message, (f.passes, (bytes, refl)));
+    }

@@ -1,0 +1,37 @@
+-- what comes to a member that runs happens in the world; nothing comes to one that is stopped
+use Rattle.std.proofs.Common.{rules, ◌≡◌, ◌∙◌, ◌<◌, sym, refl, true, Some, length}
+use Rattle.std.proofs.lemmas.Option.{slice_get_read}
+use Rattle.pf_lab.specs.Labs.{state_of, group_of}
+use Rattle.pf_lab.proofs.Following.{lab_stopped}
+use Rattle.pf_lab.proofs.Taking.{runs_at, same_at}
+use Rattle.pf_lab.proofs.seats.run_at.Goals as goal
+
+pub returns-then-not-index-clause-happens : goal.returns-then-not-index-clause-happens
+returns-then-not-index-clause-happens c g w a sent world came =
+    let seats = c.args.seats.now.items in
+    let below : c.args.m < length seats = search rules in
+    let y = c.index.result.now in
+    let at = slice_get_read seats (length seats) c.args.m y refl below c.index.ensures in
+    lab_stopped seats state_of group_of g c.args.m w a came.input y sent c.args.out.now.items world at c.if-not-index.true came.comes c.requires.empty
+
+pub returns-clause-happens : goal.returns-clause-happens
+returns-clause-happens c g w a sent world came =
+    let seats = c.args.seats.now.items in
+    let below : c.args.m < length seats = search rules in
+    let y = c.index_mut.result.now in
+    let before = slice_get_read seats (length seats) c.args.m c.index.result.now refl below c.index.ensures in
+    let at = slice_get_read seats (length seats) c.args.m y refl below c.index_mut.ensures.value in
+    let one : Some c.index.result.now ≡ Some y = sym before ∙ at in
+    let up : y.is_up ≡ true = cc (one, c.if-not-index.false) in
+    runs_at c.take.result seats g c.args.m w a c.args.what y c.take.new.self sent c.take.new.out.items world at up c.take.ensures.up c.take.ensures.group came c.take.ensures.went
+
+pub returns-clause-stays : goal.returns-clause-stays
+returns-clause-stays c g w sent world =
+    let seats = c.args.seats.now.items in
+    let below : c.args.m < length seats = search rules in
+    let y = c.index_mut.result.now in
+    let before = slice_get_read seats (length seats) c.args.m c.index.result.now refl below c.index.ensures in
+    let at = slice_get_read seats (length seats) c.args.m y refl below c.index_mut.ensures.value in
+    let one : Some c.index.result.now ≡ Some y = sym before ∙ at in
+    let up : y.is_up ≡ true = cc (one, c.if-not-index.false) in
+    same_at c.take.result seats g c.args.m w y c.take.new.self sent world at up c.take.ensures.up c.take.ensures.group c.take.ensures.stays

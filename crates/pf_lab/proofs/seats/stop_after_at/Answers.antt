@@ -1,0 +1,43 @@
+-- what is recorded stays, and the rest is lost
+use Rattle.std.proofs.Common.{rules, ◌≡◌, ◌∙◌, ◌<◌, refl, ap, sym, subst, true, false, Some, Result, Err, length}
+use Rattle.std.proofs.lemmas.Option.{slice_get_read}
+use Rattle.px_model.specs.World.{World, NodeState}
+use Rattle.px_model.specs.Spelling.{Bytes}
+use Rattle.pf_lab.specs.Labs.{SeatsAre}
+use Rattle.pf_lab.specs.declared.event.Outcome.{Outcome}
+use Rattle.pf_lab.specs.declared.event.LabFault.{LabFault}
+use Rattle.pf_lab.proofs.Following.{stays_after}
+use Rattle.pf_lab.proofs.Taking.{stops_at, same_at}
+use Rattle.pf_lab.proofs.seats.stop_after_at.Goals as goal
+
+pub returns-then-not-index-clause-happens : goal.returns-then-not-index-clause-happens
+returns-then-not-index-clause-happens c g w a sent world came =
+    let seats = c.args.seats.now.items in
+    let below : c.args.m < length seats = search rules in
+    let y = c.index.result.now in
+    let at = slice_get_read seats (length seats) c.args.m y refl below c.index.ensures in
+    let down : (w.nodes c.args.m).is_up ≡ false = ap (λ (s : NodeState Bytes). s.is_up) (world.seats c.args.m y at).here ∙ c.if-not-index.true in
+    subst (λ (z : World Bytes). SeatsAre seats g sent z) (sym (stays_after g.members c.args.m w a came.input came.comes down)) world
+
+pub returns-in-Err-clause-stays : goal.returns-in-Err-clause-stays
+returns-in-Err-clause-stays c g w sent world =
+    let seats = c.args.seats.now.items in
+    let below : c.args.m < length seats = search rules in
+    let y = c.index_mut-seat.result.now in
+    let before = slice_get_read seats (length seats) c.args.m c.index.result.now refl below c.index.ensures in
+    let at = slice_get_read seats (length seats) c.args.m y refl below c.index_mut-seat.ensures.value in
+    let one : Some c.index.result.now ≡ Some y = sym before ∙ at in
+    let up : y.is_up ≡ true = cc (one, c.if-not-index.false) in
+    let r : Result Outcome LabFault = Err c.in-Err.fault in
+    same_at r seats g c.args.m w y c.take.new.self sent world at up c.take.ensures.up c.take.ensures.group c.in-Err.ensures.stays
+
+pub returns-clause-happens : goal.returns-clause-happens
+returns-clause-happens c g w a sent world came =
+    let seats = c.args.seats.now.items in
+    let below : c.args.m < length seats = search rules in
+    let y = c.index_mut-seat.result.now in
+    let before = slice_get_read seats (length seats) c.args.m c.index.result.now refl below c.index.ensures in
+    let at = slice_get_read seats (length seats) c.args.m y refl below c.index_mut-seat.ensures.value in
+    let one : Some c.index.result.now ≡ Some y = sym before ∙ at in
+    let up : y.is_up ≡ true = cc (one, c.if-not-index.false) in
+    stops_at seats g c.args.m w a c.args.what y c.take.new.self c.empty.new.self sent c.take.new.out.items world at up c.take.ensures.up c.take.ensures.group c.empty.ensures.group c.empty.ensures.state came c.in-Ok.ensures.went

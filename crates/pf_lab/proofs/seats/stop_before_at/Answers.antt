@@ -1,0 +1,27 @@
+-- a member that runs is emptied; one that is stopped stays
+use Rattle.std.proofs.Common.{rules, ◌≡◌, ◌∙◌, ◌<◌, refl, ap, sym, subst, true, false, length, arith}
+use Rattle.std.proofs.lemmas.Option.{slice_get_read}
+use Rattle.px_model.specs.World.{World, NodeState}
+use Rattle.px_model.specs.Spelling.{Bytes}
+use Rattle.pf_lab.specs.Labs.{SeatsAre}
+use Rattle.pf_lab.proofs.Following.{stays_before, stops_before}
+use Rattle.pf_lab.proofs.seats.stop_before_at.Goals as goal
+
+pub returns-then-not-index-clause-happens : goal.returns-then-not-index-clause-happens
+returns-then-not-index-clause-happens c g w a x sent world come =
+    let seats = c.args.seats.now.items in
+    let below : c.args.m < length seats = search rules in
+    let y = c.index.result.now in
+    let at = slice_get_read seats (length seats) c.args.m y refl below c.index.ensures in
+    let down : (w.nodes c.args.m).is_up ≡ false = ap (λ (s : NodeState Bytes). s.is_up) (world.seats c.args.m y at).here ∙ c.if-not-index.true in
+    subst (λ (z : World Bytes). SeatsAre seats g sent z) (sym (stays_before g.members c.args.m w a x come down)) world
+
+pub returns-clause-happens : goal.returns-clause-happens
+returns-clause-happens c g w a x sent world come =
+    let seats = c.args.seats.now.items in
+    let below : c.args.m < length seats = search rules in
+    let y = c.index.result.now in
+    let at = slice_get_read seats (length seats) c.args.m y refl below c.index.ensures in
+    let up : (w.nodes c.args.m).is_up ≡ true = ap (λ (s : NodeState Bytes). s.is_up) (world.seats c.args.m y at).here ∙ c.if-not-index.false in
+    let inside : c.args.m < g.members = omega (arith, below, world.count) in
+    subst (λ (z : World Bytes). SeatsAre c.empty_at.new.seats.items g sent z) (sym (stops_before g.members c.args.m w a x come inside up)) (c.empty_at.ensures.empties g w sent world)

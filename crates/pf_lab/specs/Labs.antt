@@ -1,0 +1,67 @@
+-- When a lab is a world.
+use Rattle.std.specs.Prelude.{◌≡◌, ℕ, not, nat_eq, List, [], length, slice_get, filter, Some}
+use Rattle.px_model.specs.Node.{Answer, asker}
+use Rattle.px_model.specs.Node.Answer.{Refused, Planned}
+use Rattle.px_model.specs.World.{World, NodeState, follows}
+use Rattle.px_model.specs.Spelling.{Bytes}
+use Rattle.px_wire.specs.declared.membership.Membership.{Membership}
+use Rattle.px_wire.specs.Message.{Group, group}
+use Rattle.px_replica.specs.Spelled.{AreSpelled}
+use Rattle.px_replica.specs.declared.datagram.Datagram.{Datagram}
+use Rattle.px_replica.specs.declared.fault.NodeFault.{NodeFault}
+use Rattle.px_replica.specs.declared.fault.NodeFault.TheVariants as fault
+use Rattle.pf_node.specs.Nodes.{state_in, membership_of}
+use Rattle.pf_lab.specs.declared.seat.Seat.{Seat}
+use Rattle.pf_lab.specs.declared.state.Lab.{Lab}
+
+-- the member of the world that a seat is
+abbrev pub state_of : Seat → NodeState Bytes
+state_of s = record { is_up = s.is_up; stored = (state_in s.node).stored; volatile = (state_in s.node).volatile }
+
+abbrev pub group_of : Seat → Membership
+group_of s = membership_of s.node
+
+-- the datagrams that go to members
+abbrev pub for_members : List Datagram → List Datagram
+for_members out = filter (λ (d : Datagram). not (nat_eq d.to asker)) out
+
+-- a member did what the model answers: nothing where it refuses, else the plan
+abbrev pub IsAnswered : Group → Answer Bytes → (s t : NodeState Bytes) → List Datagram → Type 0
+IsAnswered g (Refused code) s t out = (t ≡ s) × (out ≡ [])
+IsAnswered g (Planned plan) s t out = (t ≡ follows s plan) × AreSpelled g plan.sends out
+
+-- a member of the lab is the m-th of the world
+pub record IsSeat (w : World Bytes) (g : Group) (m : ℕ) (s : NodeState Bytes) (p : Membership) : Type 0 where
+  pub here : w.nodes m ≡ s
+  pub group : group p ≡ g
+  pub me : p.me ≡ m
+
+-- These members and these datagrams are the world: the members are the world's, and its messages, in order, are
+-- spelled.
+pub record AreWorld {M : Type 0} (members : List M) (state_of : M → NodeState Bytes) (group_of : M → Membership)
+    (g : Group) (sent : List Datagram) (w : World Bytes) : Type 0 where
+  pub count : length members ≡ g.members
+  pub seats : (m : ℕ) (x : M) → slice_get members m ≡ Some x → IsSeat w g m (state_of x) (group_of x)
+  pub told : AreSpelled g w.sent sent
+
+abbrev pub SeatsAre : List Seat → Group → List Datagram → World Bytes → Type 0
+SeatsAre seats g sent w = AreWorld seats state_of group_of g sent w
+
+-- the lab is the world
+abbrev pub IsWorld : Lab → Group → World Bytes → Type 0
+IsWorld lab g w = SeatsAre lab.seats.items g lab.sent.items w
+
+-- what a node over a record in memory is refused with
+abbrev pub IsLabs : NodeFault → Type 0
+IsLabs fault.Memory = Unit {0}
+IsLabs fault.Full = Unit {0}
+IsLabs fault.BallotsSpent = Unit {0}
+IsLabs fault.PositionsSpent = Unit {0}
+IsLabs fault.TooLong = ⊥
+IsLabs fault.Store = ⊥
+IsLabs fault.BadStore = ⊥
+IsLabs fault.Failed = ⊥
+
+-- a lab's cluster of so many members
+abbrev pub cluster_of : ℕ → Group
+cluster_of n = record { cluster = 0; members = n }

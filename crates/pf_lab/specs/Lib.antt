@@ -1,0 +1,4 @@
+pub mod Props
+pub mod Coming
+pub mod Labs
+pub mod Same

@@ -1,0 +1,64 @@
+//! What comes to a member, as bytes.
+
+ghost use Rattle.std.specs.Prelude.{◌≡◌, ◌↔◌, IfSome, IfOk, None, length, true, false};
+ghost use Rattle.px_model.specs.Spelling.{Bytes};
+ghost use Rattle.px_model.specs.World.{World};
+ghost use Rattle.px_wire.specs.Message.{Group};
+ghost use Rattle.px_replica.specs.Spelled.{AreSpelled};
+ghost use Rattle.pf_lab.specs.Coming.{IsAskable, IsNamed, Came, action_of, is_too_long, names_no_message};
+
+use crate::event::LabAction;
+use pf_node::{NodeFault, asked_bytes, asked_entry};
+use px_model::EntryView;
+use px_replica::Datagram;
+use std::alloc::{AllocError, Global};
+
+/// What comes to a member.
+#[derive(Clone, Copy)]
+pub(crate) enum What<'a> {
+    Ask(EntryView<'a>),
+    Tick,
+    Datagram(&'a [u8]),
+}
+
+/// The bytes of the action's command, none of any other action; `None` where the command is too long.
+pub(crate) fn named(alloc: Global, action: &LabAction) -> Result<Option<Vec<u8>>, AllocError>
+    ensures some { IfOk result (λ o. IfSome o (λ v. IsNamed action.now v.items)) }
+    ensures short { IfOk result (λ o. IfSome o (λ v. is_too_long action.now ≡ false)) }
+    ensures long { IfOk result (λ o. o ≡ None → is_too_long action.now ≡ true) }
+{
+    match action {
+        LabAction::Ask(_, command) => match asked_bytes(alloc, command) {
+            Ok(bytes) => Ok(Some(bytes)),
+            Err(NodeFault::TooLong) => Ok(None),
+            Err(_) => Err(AllocError),
+        },
+        LabAction::Tick(_) => Ok(Some(Vec::new(alloc))),
+        LabAction::Deliver(_) => Ok(Some(Vec::new(alloc))),
+    }
+}
+
+/// To whom the action comes, and as what; none where no such message was sent.
+pub(crate) fn what_comes<'a>(
+    sent: &'a [Datagram],
+    action: &LabAction,
+    bytes: &'a [u8],
+) -> Option<(u8, What<'a>)>
+    requires { IsNamed action.now bytes.now }
+    ensures came { (g : Group) (w : World Bytes) → AreSpelled g w.sent sent.entry.now →
+        IfSome result (λ r. Came g w (action_of action.now) r.0 r.1) }
+    ensures askable { IfSome result (λ r. IsAskable r.1) }
+    ensures unknown { (result ≡ None) ↔ (names_no_message (length sent.entry.now) action.now ≡ true) }
+{
+    match action {
+        LabAction::Ask(m, command) => match asked_entry(command, bytes) {
+            Some(entry) => Some((*m, What::Ask(entry))),
+            None => unreachable!(),
+        },
+        LabAction::Tick(m) => Some((*m, What::Tick)),
+        LabAction::Deliver(k) => match sent.get(*k) {
+            None => None,
+            Some(datagram) => Some((datagram.to, What::Datagram(datagram.bytes.as_slice()))),
+        },
+    }
+}

@@ -1,0 +1,179 @@
+//! What happens to the world of a lab.
+
+ghost use Rattle.std.specs.Prelude.{◌≡◌, ◌≤◌, ◌<◌, IfOk, OnOk, OnErr, Err};
+ghost use Rattle.std.specs.List.{flat_map};
+ghost use Rattle.px_model.specs.Spelling.{Bytes};
+ghost use Rattle.px_model.specs.World.{World, happens, run, start};
+ghost use Rattle.px_model.specs.World.Event.{Runs, StopBefore, StopAfter, Restart};
+ghost use Rattle.px_wire.specs.Message.{Group};
+ghost use Rattle.px_replica.specs.Made.{same};
+ghost use Rattle.pf_lab.specs.Coming.{IsNamed, IsOf, action_of, happenings};
+ghost use Rattle.pf_lab.specs.Labs.{IsSeat, IsWorld, cluster_of, state_of, group_of};
+
+use crate::coming::{named, what_comes};
+use crate::event::{LabAction, LabEvent, LabFault, Outcome};
+use crate::seat::Seat;
+use crate::seats::{empty_at, run_at, send_on, stop_after_at, stop_before_at};
+use crate::state::Lab;
+use pf_node::{Membership, Node};
+use px_records::MemoryRecords;
+use std::alloc::Global;
+
+/// So many messages a member sends in a step at most.
+const MESSAGES: usize = 15;
+
+impl Lab {
+    /// The action happens in the world.
+    fn run(&mut self, action: &LabAction, bytes: &[u8]) -> Result<Outcome, LabFault>
+        requires { IsNamed action.now bytes.now }
+        ensures happens { (g : Group) (w : World Bytes) → IsWorld self.old g w →
+            OnOk result (IsWorld self.new g (happens same g.members w (Runs (action_of action.now)))) }
+        ensures stays { (g : Group) (w : World Bytes) → IsWorld self.old g w → OnErr result (IsWorld self.new g w) }
+    {
+        if self.sent.reserve(MESSAGES).is_err() {
+            return Err(LabFault::Memory);
+        }
+        let mut out = Vec::new(self.alloc);
+        let outcome = match what_comes(self.sent.as_slice(), action, bytes) {
+            None => return Err(LabFault::BadEvent),
+            Some((m, what)) => match run_at(&mut self.seats, m, what, &mut out) {
+                Ok(outcome) => outcome,
+                Err(fault) => return Err(fault),
+            },
+        };
+        send_on(&mut self.sent, &mut out);
+        Ok(outcome)
+    }
+
+    /// A member stops before the action changes anything.
+    fn stop_before(&mut self, action: &LabAction, bytes: &[u8]) -> Result<Outcome, LabFault>
+        requires { IsNamed action.now bytes.now }
+        ensures happens { (g : Group) (w : World Bytes) → IsWorld self.old g w →
+            OnOk result (IsWorld self.new g (happens same g.members w (StopBefore (action_of action.now)))) }
+        ensures stays { (g : Group) (w : World Bytes) → IsWorld self.old g w → OnErr result (IsWorld self.new g w) }
+    {
+        match what_comes(self.sent.as_slice(), action, bytes) {
+            None => Err(LabFault::BadEvent),
+            Some((m, _)) => stop_before_at(&mut self.seats, m),
+        }
+    }
+
+    /// A member stops after the action's change is recorded.
+    fn stop_after(&mut self, action: &LabAction, bytes: &[u8]) -> Result<Outcome, LabFault>
+        requires { IsNamed action.now bytes.now }
+        ensures happens { (g : Group) (w : World Bytes) → IsWorld self.old g w →
+            OnOk result (IsWorld self.new g (happens same g.members w (StopAfter (action_of action.now)))) }
+        ensures stays { (g : Group) (w : World Bytes) → IsWorld self.old g w → OnErr result (IsWorld self.new g w) }
+    {
+        match what_comes(self.sent.as_slice(), action, bytes) {
+            None => Err(LabFault::BadEvent),
+            Some((m, what)) => stop_after_at(self.alloc, &mut self.seats, m, what),
+        }
+    }
+
+    /// A member starts anew, with its record alone.
+    fn restart(&mut self, m: u8) -> Result<Outcome, LabFault>
+        ensures happens { (g : Group) (w : World Bytes) → IsWorld self.old g w →
+            OnOk result (IsWorld self.new g (happens same g.members w (Restart m))) }
+        ensures stays { (g : Group) (w : World Bytes) → IsWorld self.old g w → OnErr result (IsWorld self.new g w) }
+    {
+        let m = m as usize;
+        if m >= self.seats.len() {
+            return Err(LabFault::BadEvent);
+        }
+        empty_at(&mut self.seats, m, true);
+        Ok(Outcome::Nothing)
+    }
+
+    /// The action happens, or the member stops before or after it; a command that is too long is refused.
+    fn act(&mut self, event: &LabEvent, action: &LabAction) -> Result<Outcome, LabFault>
+        requires { IsOf event.now action.now }
+        ensures happens { (g : Group) (w : World Bytes) → IsWorld self.old g w →
+            OnOk result (IsWorld self.new g (run same g.members (happenings event.now) w)) }
+        ensures stays { (g : Group) (w : World Bytes) → IsWorld self.old g w → OnErr result (IsWorld self.new g w) }
+    {
+        let bytes = match named(self.alloc, action) {
+            Ok(Some(bytes)) => bytes,
+            Ok(None) => return Ok(Outcome::Refused(41)),
+            Err(_) => return Err(LabFault::Memory),
+        };
+        match event {
+            LabEvent::Runs(_) => self.run(action, bytes.as_slice()),
+            LabEvent::StopBefore(_) => self.stop_before(action, bytes.as_slice()),
+            LabEvent::StopAfter(_) => self.stop_after(action, bytes.as_slice()),
+            LabEvent::Restart(_) => unreachable!(),
+        }
+    }
+
+    /// The event happens as in the world. An ask whose command is too long is no event: it is refused with 41.
+    ///
+    /// `BadEvent` where the event names no member or no message that was sent. It and `Memory` leave the same world:
+    /// only what a tick applied before stays applied.
+    pub fn step(&mut self, event: &LabEvent) -> Result<Outcome, LabFault>
+        ensures happens { (g : Group) (w : World Bytes) → IsWorld self.old g w →
+            OnOk result (IsWorld self.new g (run same g.members (happenings event.now) w)) }
+        ensures stays { (g : Group) (w : World Bytes) → IsWorld self.old g w → OnErr result (IsWorld self.new g w) }
+    {
+        match event {
+            LabEvent::Runs(action) => self.act(event, action),
+            LabEvent::StopBefore(action) => self.act(event, action),
+            LabEvent::StopAfter(action) => self.act(event, action),
+            LabEvent::Restart(m) => self.restart(*m),
+        }
+    }
+}
+
+/// A member that starts with an empty record.
+fn seat(alloc: Global, members: u8, m: u8) -> Result<Seat, LabFault>
+    requires few { members ≤ 15 }
+    requires member { m < members }
+    ensures seat { IfOk result (λ s. IsSeat start (cluster_of members) m (state_of s) (group_of s)) }
+    ensures memory { OnErr result (result ≡ Err LabFault.Memory) }
+{
+    let group = match Membership::new(0, members, m) {
+        Some(group) => group,
+        None => unreachable!(),
+    };
+    let records = MemoryRecords::new(alloc, members);
+    match Node::open(alloc, group, records) {
+        Ok(node) => Ok(Seat { node, is_up: true }),
+        Err(_) => Err(LabFault::Memory),
+    }
+}
+
+impl Lab {
+    /// The world as it begins: 1 to 15 members, each with an empty record, and nothing sent.
+    pub fn new(alloc: Global, members: u8) -> Result<Lab, LabFault>
+        requires some { 1 ≤ members }
+        requires few { members ≤ 15 }
+        ensures world { IfOk result (λ lab. IsWorld lab (cluster_of members) start) }
+        ensures memory { OnErr result (result ≡ Err LabFault.Memory) }
+    {
+        let mut seats = Vec::new(alloc);
+        for m in 0..members {
+            let seat = seat(alloc, members, m)?;
+            if seats.push(seat).is_err() {
+                return Err(LabFault::Memory);
+            }
+        }
+        Ok(Lab {
+            seats,
+            sent: Vec::new(alloc),
+            alloc,
+        })
+    }
+}
+
+/// The world after these events, one after another. It ends with the first that doesn't happen.
+pub fn lab(alloc: Global, members: u8, events: &[LabEvent]) -> Result<Lab, LabFault>
+    requires some { 1 ≤ members }
+    requires few { members ≤ 15 }
+    ensures world { IfOk result (λ lab. IsWorld lab (cluster_of members)
+        (run same members (flat_map happenings events.now) start)) }
+{
+    let mut lab = Lab::new(alloc, members)?;
+    for event in events {
+        let _outcome = lab.step(event)?;
+    }
+    Ok(lab)
+}

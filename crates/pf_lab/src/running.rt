@@ -1,0 +1,147 @@
+//! What comes to a member of a lab.
+
+ghost use Rattle.std.specs.Prelude.{◌≡◌, ◌≤◌, ℕ, [], length, false, Err, OnOk, OnErr, true};
+ghost use Rattle.px_model.specs.Entries.{view_of};
+ghost use Rattle.px_model.specs.Node.{Answer, Input, Message};
+ghost use Rattle.px_model.specs.Node.Answer.{Refused};
+ghost use Rattle.px_model.specs.Node.Input.{Asks, Ticks, Comes};
+ghost use Rattle.px_model.specs.Spelling.{Bytes};
+ghost use Rattle.px_model.specs.Step.{nothing_volatile};
+ghost use Rattle.px_wire.specs.Members.{as_sent, Passing};
+ghost use Rattle.px_wire.specs.Message.{group, DatagramBytes};
+ghost use Rattle.px_wire.specs.Sent.{is_command};
+ghost use Rattle.px_replica.specs.Faults.{IsRefusedBy};
+ghost use Rattle.px_replica.specs.Made.{answer};
+ghost use Rattle.px_replica.specs.Seen.{IsSound};
+ghost use Rattle.pf_node.specs.Nodes.{state_in, membership_of, has_failed};
+ghost use Rattle.pf_lab.specs.Coming.{IsInput, IsAskable};
+ghost use Rattle.pf_lab.specs.Labs.{IsAnswered, IsLabs, state_of, group_of};
+
+use crate::coming::What;
+use crate::event::{LabFault, Outcome};
+use crate::seat::Seat;
+use pf_node::Node;
+use px_model::EntryView;
+use px_records::MemoryRecords;
+use px_replica::{Datagram, NodeFault};
+
+/// The outcome of a refusal.
+fn refused(fault: NodeFault) -> Result<Outcome, LabFault>
+    requires { IsLabs fault }
+    ensures refused { (a : Answer Bytes) → IsRefusedBy fault a →
+        OnOk result ((code : ℕ) × (a ≡ Refused code)) }
+    ensures memory { OnErr result (result ≡ Err LabFault.Memory) }
+{
+    match fault {
+        NodeFault::Full => Ok(Outcome::Refused(60)),
+        NodeFault::BallotsSpent => Ok(Outcome::Refused(61)),
+        NodeFault::PositionsSpent => Ok(Outcome::Refused(62)),
+        NodeFault::Memory => Err(LabFault::Memory),
+        NodeFault::TooLong => unreachable!(),
+        NodeFault::Store => unreachable!(),
+        NodeFault::BadStore => unreachable!(),
+        NodeFault::Failed => unreachable!(),
+    }
+}
+
+/// A command is asked of a node over a record in memory.
+fn ask(node: &mut Node<MemoryRecords>, entry: &EntryView) -> Result<Outcome, LabFault>
+    requires works { has_failed node.old ≡ false }
+    requires sound { IsSound (membership_of node.old).members (state_in node.old).stored }
+    requires command { is_command (view_of entry.now).command ≡ true }
+    ensures went { OnOk result (IsAnswered (group (membership_of node.old))
+        (answer (membership_of node.old).members (membership_of node.old).me (state_in node.old)
+        (Asks (view_of entry.now).command)) (state_in node.old) (state_in node.new) []) }
+    ensures stays { OnErr result (state_in node.new ≡ state_in node.old) }
+    ensures memory { OnErr result (result ≡ Err LabFault.Memory) }
+    ensures works { has_failed node.new ≡ false }
+    ensures sound { IsSound (membership_of node.new).members (state_in node.new).stored }
+    ensures group { membership_of node.new ≡ membership_of node.old }
+{
+    match node.ask_entry(entry) {
+        Ok(number) => Ok(Outcome::Asked(number)),
+        Err(fault) => refused(fault),
+    }
+}
+
+/// The clock of a node over a record in memory ticks.
+fn tick(node: &mut Node<MemoryRecords>, out: &mut Vec<Datagram>) -> Result<Outcome, LabFault>
+    requires empty { out.old.items ≡ [] }
+    requires works { has_failed node.old ≡ false }
+    requires sound { IsSound (membership_of node.old).members (state_in node.old).stored }
+    ensures went { OnOk result (IsAnswered (group (membership_of node.old))
+        (answer (membership_of node.old).members (membership_of node.old).me (state_in node.old) Ticks)
+        (state_in node.old) (state_in node.new) out.new.items) }
+    ensures stays { OnErr result (state_in node.new ≡ state_in node.old) }
+    ensures memory { OnErr result (result ≡ Err LabFault.Memory) }
+    ensures few { OnOk result (length out.new.items ≤ 15) }
+    ensures works { has_failed node.new ≡ false }
+    ensures sound { IsSound (membership_of node.new).members (state_in node.new).stored }
+    ensures group { membership_of node.new ≡ membership_of node.old }
+{
+    match node.tick(out) {
+        Ok(()) => Ok(Outcome::Nothing),
+        Err(fault) => refused(fault),
+    }
+}
+
+/// A datagram comes to a node over a record in memory.
+fn receive(
+    node: &mut Node<MemoryRecords>,
+    bytes: &[u8],
+    out: &mut Vec<Datagram>,
+) -> Result<Outcome, LabFault>
+    requires empty { out.old.items ≡ [] }
+    requires works { has_failed node.old ≡ false }
+    requires sound { IsSound (membership_of node.old).members (state_in node.old).stored }
+    ensures went { (from : ℕ) (message : Message Bytes) →
+        Passing (membership_of node.old).members from (membership_of node.old).me message →
+        DatagramBytes (group (membership_of node.old)) from (membership_of node.old).me (as_sent message) bytes.now →
+        OnOk result (IsAnswered (group (membership_of node.old))
+        (answer (membership_of node.old).members (membership_of node.old).me (state_in node.old) (Comes from message))
+        (state_in node.old) (state_in node.new) out.new.items) }
+    ensures stays { OnErr result (state_in node.new ≡ state_in node.old) }
+    ensures memory { OnErr result (result ≡ Err LabFault.Memory) }
+    ensures few { OnOk result (length out.new.items ≤ 15) }
+    ensures works { has_failed node.new ≡ false }
+    ensures sound { IsSound (membership_of node.new).members (state_in node.new).stored }
+    ensures group { membership_of node.new ≡ membership_of node.old }
+{
+    match node.receive(bytes, out) {
+        Ok(_) => Ok(Outcome::Nothing),
+        Err(_) => Err(LabFault::Memory),
+    }
+}
+
+impl Seat {
+    /// What comes to the member is answered as the model answers it.
+    pub(crate) fn take(&mut self, what: What, out: &mut Vec<Datagram>) -> Result<Outcome, LabFault>
+        requires empty { out.old.items ≡ [] }
+        requires askable { IsAskable what }
+        ensures went { (x : Input Bytes) → IsInput (group (group_of self.old)) (group_of self.old).me what.entry x →
+            OnOk result (IsAnswered (group (group_of self.old))
+            (answer (group_of self.old).members (group_of self.old).me (state_in self.old.node) x)
+            (state_in self.old.node) (state_in self.new.node) out.new.items) }
+        ensures stays { OnErr result (state_in self.new.node ≡ state_in self.old.node) }
+        ensures memory { OnErr result (result ≡ Err LabFault.Memory) }
+        ensures few { OnOk result (length out.new.items ≤ 15) }
+        ensures group { group_of self.new ≡ group_of self.old }
+        ensures up { self.new.is_up ≡ self.old.is_up }
+    {
+        match what {
+            What::Ask(entry) => ask(&mut self.node, &entry),
+            What::Tick => tick(&mut self.node, out),
+            What::Datagram(bytes) => receive(&mut self.node, bytes, out),
+        }
+    }
+
+    /// The member loses all but its record, and goes on or stops.
+    pub(crate) fn empty(&mut self, up: bool)
+        ensures state { state_of self.new ≡
+            record { is_up = up; stored = (state_of self.old).stored; volatile = nothing_volatile } }
+        ensures group { group_of self.new ≡ group_of self.old }
+    {
+        self.node.forget();
+        self.is_up = up;
+    }
+}

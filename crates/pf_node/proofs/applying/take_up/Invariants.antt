@@ -1,0 +1,12 @@
+-- what is applied is the log up to this position
+use Rattle.std.proofs.Common.{◌≡◌, ◌≤◌, Some}
+use Rattle.px_replica.specs.Replicas.{learned_by}
+use Rattle.pf_node.specs.Applied.{after}
+use Rattle.pf_node.proofs.applying.take_up.Given as goal
+
+abbrev pub invariant-loop-position : goal.invariant-loop-position
+invariant-loop-position g l = record {
+  configured : after (learned_by l.replica) l.position ≡ Some l.config;
+  here : l.applied ≡ l.position;
+  grown : l.fn.applied ≤ l.applied;
+}

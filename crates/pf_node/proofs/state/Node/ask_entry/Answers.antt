@@ -1,0 +1,13 @@
+-- what was learned below the front stays
+use Rattle.std.proofs.Common.{arith}
+use Rattle.px_replica.specs.Replicas.{learned_by}
+use Rattle.pf_node.proofs.Following.{after_kept}
+use Rattle.pf_node.proofs.state.Node.ask_entry.Goals as goal
+
+pub invariant_of-self : goal.invariant_of-self
+invariant_of-self g c =
+    let n = c.args.self.now in
+    record {
+      configured = after_kept (learned_by n.replica) (learned_by c.ask.new.self) n.applied n.config n.configured n.behind c.ask.ensures.below;
+      behind = omega (arith, n.behind, c.ask.ensures.front);
+    }

@@ -1,0 +1,3 @@
+pub mod Applied
+pub mod Nodes
+pub mod Asked

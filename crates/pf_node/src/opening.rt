@@ -1,0 +1,79 @@
+//! A node from its record.
+
+ghost use Rattle.std.specs.Prelude.{◌≡◌, ◌≢◌, ◌<◌, IfErr, IfOk, OnOk, false};
+ghost use Rattle.px_model.specs.Step.{front};
+ghost use Rattle.px_model.specs.World.{started};
+ghost use Rattle.px_replica.specs.Faults.{IsOfStore, SomeFails};
+ghost use Rattle.px_replica.specs.Seen.{IsSound};
+ghost use Rattle.px_replica.specs.Replicas as replicas;
+ghost use Rattle.pf_node.specs.Nodes.{records_of, learned_by, membership_of, has_failed, state_in, applied_of};
+
+use crate::applying::take_up;
+use crate::state::Node;
+use pf_config::Config;
+use px_records::Records;
+use px_replica::{Membership, NodeFault, Replica};
+use std::alloc::{AllocError, Global};
+
+/// A node of this member, whose configuration is empty.
+fn joined<R: Records>(alloc: Global, replica: Replica<R>) -> Result<Node<R>, R>
+    ensures replica { IfOk result (λ n. n.replica ≡ replica) }
+    ensures kept { IfErr result (λ r. r ≡ replicas.records_of replica) }
+{
+    match Config::new(alloc) {
+        Ok(config) => Ok(Node {
+            replica,
+            config,
+            applied: 0,
+            alloc,
+        }),
+        Err(_) => Err(replica.close()),
+    }
+}
+
+/// Applies all that is learned up to the first gap.
+fn bring_up<R: Records>(node: &mut Node<R>) -> Result<(), AllocError>
+    ensures replica { node.new.replica ≡ node.old.replica }
+    ensures done { OnOk result (applied_of node.new ≡ front (learned_by node.new)) }
+{
+    take_up(
+        node.alloc,
+        &node.replica,
+        &mut node.config,
+        &mut node.applied,
+    )
+}
+
+impl<R: Records> Node<R> {
+    /// The node that a restart makes of its record, with all applied that is learned up to the first gap.
+    ///
+    /// A refusal gives the record back: `Store`, `BadStore` for a row that no commit writes or an entry that has no
+    /// spelling, or `Memory`; but for `Store` the record is then as it was.
+    pub fn open(alloc: Global, m: Membership, records: R) -> Result<Node<R>, (NodeFault, R)>
+        requires members { R.members records ≡ m.members }
+        requires here { m.me < m.members }
+        ensures state { IfOk result (λ n. R.is_honest (records_of n) → state_in n ≡ started (R.stored records)) }
+        ensures learned { IfOk result (λ n. R.is_honest (records_of n) → learned_by n ≡
+            (R.stored records).learned) }
+        ensures applied { IfOk result (λ n. applied_of n ≡ front (learned_by n)) }
+        ensures works { IfOk result (λ n. has_failed n ≡ false) }
+        ensures membership { IfOk result (λ n. membership_of n ≡ m) }
+        ensures kept { IfErr result (λ e. R.is_honest e.1 → e.0 ≢ NodeFault.Store → R.stored e.1 ≡
+            R.stored records) }
+        ensures why { IfErr result (λ e. R.is_honest e.1 → IsSound m.members (R.stored records) →
+            IsOfStore e.0 → SomeFails R.may_fail) }
+    {
+        let replica = match Replica::open(alloc, m, records) {
+            Ok(replica) => replica,
+            Err(refused) => return Err(refused),
+        };
+        let mut node = match joined(alloc, replica) {
+            Ok(node) => node,
+            Err(records) => return Err((NodeFault::Memory, records)),
+        };
+        match bring_up(&mut node) {
+            Ok(()) => Ok(node),
+            Err(_) => Err((NodeFault::Memory, node.replica.close())),
+        }
+    }
+}

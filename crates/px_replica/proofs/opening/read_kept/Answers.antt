@@ -1,0 +1,15 @@
+-- the record is the one before
+use Rattle.std.proofs.Common.{subst, sym}
+use Rattle.px_model.specs.Node.{Record}
+use Rattle.px_model.specs.Spelling.{Bytes}
+use Rattle.px_replica.specs.Members.{group_of}
+use Rattle.px_replica.specs.Seen.{IsSound}
+use Rattle.px_replica.proofs.Steps.{none_failed, stores_fault}
+use Rattle.px_replica.proofs.opening.read_kept.Goals as goal
+
+pub returns-in-Err-learned_end-clause-why : goal.returns-in-Err-learned_end-clause-why
+returns-in-Err-learned_end-clause-why g c honest sound fault =
+    let n = (group_of c.args.member.now).members in
+    let was = c.learned_end.ensures.read.was honest in
+    let stays = c.read_meta.ensures.read.stays was (none_failed (g.R.Records.failed c.read_meta.new.self) c.in-Ok.meta c.in-Ok.ensures.counts) in
+    c.in-Err-learned_end.ensures.why n honest (subst (λ (d : Record Bytes). IsSound n d) (sym stays) sound) (stores_fault c.in-Err-learned_end.fault fault)

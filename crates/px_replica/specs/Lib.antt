@@ -1,0 +1,8 @@
+pub mod Spelled
+pub mod Seen
+pub mod Faults
+pub mod Props
+pub mod Members
+pub mod Made
+pub mod Replicas
+pub mod Copied

@@ -1,0 +1,27 @@
+//! A member of the agreement with its record, from datagrams to datagrams.
+//!
+//! # Organization
+//!
+//! - [`Replica`]: `ask`, `tick` and `receive` read the record, plan, spell what is sent, commit, settle, and hand out.
+//! - `specs/Made` says what a call makes, in the words of px_model's world; `specs/Spelled` how messages are spelled.
+//!
+//! Nothing leaves before the change that it rests on is committed, and all memory is taken before the commit.
+#![tactic(auto)]
+
+mod act;
+mod datagram;
+mod fault;
+mod look;
+mod member;
+mod opening;
+mod planning;
+mod receiving;
+mod replica;
+mod spelling;
+mod state;
+
+pub use datagram::Datagram;
+pub use fault::NodeFault;
+pub use px_wire::{Membership, WireFault};
+pub use receiving::Received;
+pub use state::Replica;
