@@ -22,10 +22,10 @@ use Rattle.pf_conditions.specs.declared.written.Protocol.{Protocol}
 -- ---- what follows a part of a rule
 
 host_ends : (rest : List Token) → 0 < rank rest → HostEnds rest
-host_ends rest h = record { not_hyphen = not_begun (codes "-") rest h; not_slash = no_symbol mark.Slash rest h }
+host_ends rest h = record { not_hyphen = not_begun (codes "-") rest h; not_slash = no_symbol mark.Slash rest (omega arith) h }
 
 port_ends : (rest : List Token) → 0 < rank rest → PortEnds rest
-port_ends rest h = record { not_between = no_symbol mark.Between rest h; not_outside = no_symbol mark.Outside rest h }
+port_ends rest h = record { not_between = no_symbol mark.Between rest (omega arith) h; not_outside = no_symbol mark.Outside rest (omega arith) h }
 
 -- ---- the words at the front
 

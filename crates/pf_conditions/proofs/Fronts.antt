@@ -1,5 +1,5 @@
 -- What stands at the front of tokens.
-use Rattle.std.proofs.Common.{◌≡◌, ℕ, ◌<◌, ◌==◌, Bool, true, false, List, [], ◌∷◌, ◌++◌, drop, Option, Some, None, refl, sym, ap, ◌∙◌, arith}
+use Rattle.std.proofs.Common.{◌≡◌, ℕ, ◌<◌, ◌≤◌, ◌==◌, Bool, true, false, List, [], ◌∷◌, ◌++◌, drop, Option, Some, None, refl, sym, ap, ◌∙◌, arith}
 use Rattle.std.specs.Prelude.{codes, if◌then◌else◌}
 use Rattle.std.proofs.lemmas.Slice.Eq.{bytes_eq-Decides}
 use Rattle.std.proofs.lemmas.Bool.{false≢true}
@@ -97,14 +97,32 @@ rank_in (Some n) = n
 abbrev pub word_rank : List ℕ → ℕ
 word_rank word = rank_in (named ranked word)
 
+-- a brace ends what stands before it, and no other symbol begins a part
+abbrev pub mark_rank : Symbol → ℕ
+mark_rank Open = 20
+mark_rank Close = 20
+mark_rank OpenParenthesis = 0
+mark_rank CloseParenthesis = 0
+mark_rank Comma = 0
+mark_rank Slash = 0
+mark_rank Not = 0
+mark_rank NotEqual = 0
+mark_rank Less = 0
+mark_rank LessEqual = 0
+mark_rank Greater = 0
+mark_rank GreaterEqual = 0
+mark_rank Between = 0
+mark_rank Outside = 0
+mark_rank Equals = 0
+
 -- which part of a rule may stand here at the earliest
 abbrev pub rank : List Token → ℕ
 rank [] = 20
 rank (Word text ∷ ts) = word_rank text
 rank (Quoted text ∷ ts) = 0
 rank (Macro name ∷ ts) = 0
-rank (Mark symbol ∷ ts) = 0
-rank (Newline ∷ ts) = 0
+rank (Mark symbol ∷ ts) = mark_rank symbol
+rank (Newline ∷ ts) = 20
 rank (Bad ∷ ts) = 0
 
 pub not_begun : (word : List ℕ) (ts : List Token) → word_rank word < rank ts → begins word ts ≡ false
@@ -114,11 +132,32 @@ not_begun word ts h = cases (begins word ts) refl
     cases true e = absurd (let same : rank ts ≡ word_rank word = ap rank (begins_is word ts e) in omega (arith, h, same))
     cases false e = refl
 
-pub no_symbol : (s : Symbol) (ts : List Token) → 0 < rank ts → begins_symbol s ts ≡ false
-no_symbol s [] h = refl
-no_symbol s (Word text ∷ ts) h = refl
-no_symbol s (Quoted text ∷ ts) h = refl
-no_symbol s (Macro name ∷ ts) h = refl
-no_symbol s (Mark symbol ∷ ts) h = absurd (omega (arith, h))
-no_symbol s (Newline ∷ ts) h = refl
-no_symbol s (Bad ∷ ts) h = refl
+not_low : (m n : ℕ) → m ≤ 1 → 1 < n → (m == n) ≡ false
+not_low m n low high = grind (arith, nat_tests, low, high)
+
+no_mark : (s found : Symbol) → 1 < number s → 0 < mark_rank found → (number found == number s) ≡ false
+no_mark s Open other h = not_low 0 (number s) (omega arith) other
+no_mark s Close other h = not_low 1 (number s) (omega arith) other
+no_mark s OpenParenthesis other h = absurd (omega (arith, h))
+no_mark s CloseParenthesis other h = absurd (omega (arith, h))
+no_mark s Comma other h = absurd (omega (arith, h))
+no_mark s Slash other h = absurd (omega (arith, h))
+no_mark s Not other h = absurd (omega (arith, h))
+no_mark s NotEqual other h = absurd (omega (arith, h))
+no_mark s Less other h = absurd (omega (arith, h))
+no_mark s LessEqual other h = absurd (omega (arith, h))
+no_mark s Greater other h = absurd (omega (arith, h))
+no_mark s GreaterEqual other h = absurd (omega (arith, h))
+no_mark s Between other h = absurd (omega (arith, h))
+no_mark s Outside other h = absurd (omega (arith, h))
+no_mark s Equals other h = absurd (omega (arith, h))
+
+-- no symbol but a brace stands where a part of a rule may
+pub no_symbol : (s : Symbol) (ts : List Token) → 1 < number s → 0 < rank ts → begins_symbol s ts ≡ false
+no_symbol s [] other h = refl
+no_symbol s (Word text ∷ ts) other h = refl
+no_symbol s (Quoted text ∷ ts) other h = refl
+no_symbol s (Macro name ∷ ts) other h = refl
+no_symbol s (Mark symbol ∷ ts) other h = no_mark s symbol other h
+no_symbol s (Newline ∷ ts) other h = refl
+no_symbol s (Bad ∷ ts) other h = refl

@@ -1,6 +1,6 @@
 -- Which anchors a rule evaluates, as it is written (pf.conf(5), ANCHORS).
 use Rattle.std.specs.Prelude.{ℕ, ◌&&◌, Bool, true, false, List, [], ◌∷◌, length, Option, Some, None, codes}
-use Rattle.std.specs.Prelude.{bytes_eq, nat_le, if◌then◌else◌}
+use Rattle.std.specs.Prelude.{bytes_eq, nat_le, is_some, if◌then◌else◌}
 use Rattle.pf_addr.specs.Spelling.{pieces}
 use Rattle.pf_words.specs.declared.profile.Profile.{Profile}
 use Rattle.pf_words.specs.Words.{is_anchor_text, is_reserved}
@@ -43,6 +43,10 @@ target_text profile (Macro name) = None
 target_text profile (Mark symbol) = None
 target_text profile Newline = None
 target_text profile Bad = None
+
+-- whether a token may be a name
+abbrev pub may_name : Profile → Token → Bool
+may_name profile t = is_some (target_text profile t)
 
 abbrev pub target_behind : Option Target → List Token → Read Target
 target_behind None ts = None

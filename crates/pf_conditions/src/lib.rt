@@ -26,6 +26,6 @@ pub use common::read_common;
 pub use flags::read_flags;
 pub use hosts::{read_prefix, read_table};
 pub use interfaces::InterfaceNameProduction;
-pub use targets::read_target;
+pub use targets::{may_begin_target, read_target};
 pub use types::read_types;
 pub use written::{Common, End, Protocol, WrittenConditions, WrittenPort, WrittenType};

@@ -6,7 +6,8 @@ ghost use Rattle.pf_addr.proofs.Pieces.{pieces_left};
 ghost use Rattle.pf_ruleset.specs.Seen as seen;
 ghost use Rattle.pf_tokens.specs.Parsing.{left, later, Parses};
 ghost use Rattle.pf_tokens.specs.Lexed.{token_of};
-ghost use Rattle.pf_conditions.specs.Targets.{is_star, target_at, target_of, target_text, target_with};
+ghost use Rattle.pf_tokens.specs.Productions.{starts};
+ghost use Rattle.pf_conditions.specs.Targets.{is_star, may_name, target_at, target_of, target_text, target_with};
 
 use crate::cut::cut;
 use pf_ruleset::{Name, PATH_MAX, Target};
@@ -64,6 +65,16 @@ fn target_text<'s>(profile: Profile, lexeme: Lexeme<'s>) -> Option<&'s [u8]>
         Lexeme::Word(text) if !is_reserved(profile, text) => Some(text),
         Lexeme::Quoted(text) => Some(text),
         _ => None,
+    }
+}
+
+/// Whether the next token may be the name of an anchor: a string, or a word that isn't reserved.
+pub fn may_begin_target(profile: Profile, parser: &Parser<'_, '_>) -> bool
+    ensures { result ≡ starts (may_name profile) (left parser.now) }
+{
+    match parser.peek() {
+        Some(lexeme) => target_text(profile, lexeme).is_some(),
+        None => false,
     }
 }
 

@@ -1,4 +1,7 @@
+mod Capped
 mod Counting
 mod Families
+pub mod Given
 mod Keeping
 mod Products
+mod Pushed

@@ -1,7 +1,9 @@
 -- What an anchor rule comes to, and why one is refused.
-use Rattle.std.specs.Prelude.{ℕ, Bool, false, List, map}
+use Rattle.std.specs.Prelude.{ℕ, ◌&&◌, Bool, false, not, List, [], ◌∷◌, map, drop, Option, Some, None, nat_le, bytes_eq}
 use Rattle.std.specs.List.{list_any}
-use Rattle.pf_ruleset.specs.Names.{begins_below}
+use Rattle.std.specs.Fmt.{decimal}
+use Rattle.pf_words.specs.Words.{number_of}
+use Rattle.pf_ruleset.specs.Names.{Name, begins_below}
 use Rattle.pf_ruleset.specs.Items.{Target, Heading}
 use Rattle.pf_ruleset.specs.declared.parts.FlagTest.{FlagTest}
 use Rattle.pf_ruleset.specs.declared.rule.Conditions.{Conditions}
@@ -10,13 +12,21 @@ use Rattle.pf_expansion.specs.declared.cause.Cause.{Cause}
 use Rattle.pf_expansion.specs.Expansion.{tested_flags, combined}
 use Rattle.pf_expansion.specs.Causes.{condition_causes}
 
+-- the k-th unnamed block of a ruleset is named _k
+abbrev pub given_name : ℕ → Name
+given_name k = 95 ∷ decimal k
+
 -- nothing is asked of the flags unless they are written
 abbrev pub anchor_flags : AnchorText → FlagTest
 anchor_flags text = tested_flags false text.conditions.flags
 
+-- a rule of this name, quick or not, with these conditions
+abbrev pub heading_from : Target → Bool → Conditions → Heading
+heading_from target quick conditions = record { target = target; quick = quick; conditions = conditions }
+
 -- the rule with these conditions
 abbrev pub heading_with : AnchorText → Conditions → Heading
-heading_with text conditions = record { target = text.target; quick = text.quick; conditions = conditions }
+heading_with text = heading_from text.target text.quick
 
 -- the rules of a statement
 unfoldable pub headings : AnchorText → List Heading
@@ -26,5 +36,26 @@ headings text = map (heading_with text) (combined (anchor_flags text) text.condi
 abbrev pub is_reserved : Target → Bool
 is_reserved target = list_any begins_below target.names
 
-abbrev pub anchor_causes : ℕ → AnchorText → List (Bool × Cause)
-anchor_causes before text = condition_causes (anchor_flags text) before (is_reserved text.target) text.conditions
+abbrev pub is_number_of : ℕ → Name → Option ℕ → Bool
+is_number_of unnamed name None = false
+is_number_of unnamed name (Some k) = nat_le 1 k && nat_le k unnamed && bytes_eq name (given_name k)
+
+-- the name of one of the first so many unnamed blocks; a statement has no more tokens than 65,536
+unfoldable pub is_given : ℕ → Name → Bool
+is_given unnamed name = is_number_of unnamed name (number_of 5 65535 (drop 1 name))
+
+-- it stands alone
+abbrev pub is_given_alone : ℕ → List Name → Bool
+is_given_alone unnamed [] = false
+is_given_alone unnamed (name ∷ []) = is_given unnamed name
+is_given_alone unnamed (name ∷ other ∷ names) = false
+
+-- a name begins with _, and isn't that of an unnamed block that stands before, alone
+unfoldable pub is_misnamed : ℕ → Target → Bool
+is_misnamed unnamed target =
+    is_reserved target && not (not target.children && is_given_alone unnamed target.names)
+
+-- where so many rules stand before, and so many unnamed blocks among them
+abbrev pub anchor_causes : ℕ → ℕ → AnchorText → List (Bool × Cause)
+anchor_causes before unnamed text =
+    condition_causes (anchor_flags text) before (is_misnamed unnamed text.target) text.conditions

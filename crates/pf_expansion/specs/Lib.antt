@@ -3,3 +3,5 @@ pub mod Chosen
 pub mod Causes
 pub mod Tables
 pub mod Anchors
+pub mod Blocks
+pub mod Paths

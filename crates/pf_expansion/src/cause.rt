@@ -17,9 +17,9 @@ pub enum Cause {
     Ports,
     /// 14: no combination of what is listed is of one family.
     NoCombination,
-    /// 15: a name of an anchor that begins with `_`: such names are those of unnamed blocks.
+    /// 15: a name of an anchor that begins with `_`, but for that of an unnamed block that stands before, alone.
     Reserved,
-    /// 16: a table that the text has defined before.
+    /// 16: a table that the text has defined before, or a block with the path of another one.
     Twice,
     /// 17: `set` in a text for an anchor.
     SetHere,

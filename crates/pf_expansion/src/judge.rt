@@ -92,7 +92,7 @@ fn says_ports(text: &WrittenConditions) -> bool
 
 /// Whether a port is neither number nor name, or the protocols don't all have ports.
 #[tactic(auto, unfolding(crate::specs::Causes::bad_ports))]
-fn bad_ports(text: &WrittenConditions) -> bool
+pub(crate) fn bad_ports(text: &WrittenConditions) -> bool
     ensures { result ≡ bad_ports (conditions_of text.now) }
 {
     has_bad_port(&text.common.source.ports)
@@ -126,7 +126,7 @@ fn combinations(text: &WrittenConditions) -> usize
 
 /// Whether the lists have more combinations than there may be.
 #[tactic(auto, using(crate::proofs::Products::below_cap), unfolding(crate::specs::Causes::is_too_wide))]
-fn is_too_wide(text: &WrittenConditions) -> bool
+pub(crate) fn is_too_wide(text: &WrittenConditions) -> bool
     ensures { result ≡ is_too_wide (conditions_of text.now) }
 {
     combinations(text) > MOST_COMBINATIONS
@@ -151,7 +151,7 @@ fn is_deep_list<E: Drop>(list: &Option<Listed<E>>) -> bool
 
 /// Whether too many lists stand in one another anywhere in the rule.
 #[tactic(auto, unfolding(crate::specs::Causes::has_deep_list))]
-fn has_deep_list(text: &WrittenConditions) -> bool
+pub(crate) fn has_deep_list(text: &WrittenConditions) -> bool
     ensures { result ≡ has_deep_list (conditions_of text.now) }
 {
     is_deep_list(&text.common.interfaces)
@@ -213,7 +213,7 @@ fn all_are_icmp(protocols: &Option<Listed<Protocol>>) -> bool
 
 /// Whether a type is neither number nor name, or the protocols aren't all icmp.
 #[tactic(auto, unfolding(crate::specs::Causes::bad_types))]
-fn bad_types(text: &WrittenConditions) -> bool
+pub(crate) fn bad_types(text: &WrittenConditions) -> bool
     ensures { result ≡ bad_types (conditions_of text.now) }
 {
     has_bad_type(&text.types) || (text.types.is_some() && !all_are_icmp(&text.common.protocols))

@@ -72,7 +72,7 @@ pub(crate) fn tested_flags(keep: bool, written: Option<FlagTest>) -> FlagTest
 }
 
 /// What is asked of the flags in a rule.
-fn rule_flags(text: &WrittenRule) -> FlagTest
+pub(crate) fn rule_flags(text: &WrittenRule) -> FlagTest
     ensures { result ≡ rule_flags (text_of text.now) }
 {
     tested_flags(keeps_state(text.action, text.state), text.conditions.flags)
@@ -91,7 +91,7 @@ fn rule_with(policy: Policy, text: &WrittenRule, conditions: Conditions) -> Rule
 }
 
 /// The rules with these conditions.
-fn rules_with(
+pub(crate) fn rules_with(
     alloc: Global,
     policy: Policy,
     text: &WrittenRule,

@@ -1,38 +1,34 @@
 -- The anchor rules that a statement comes to fit.
-use Rattle.std.proofs.Common.{◌≡◌, ℕ, ◌≤◌, ◌&&◌, Bool, true, false, cond, List, [], ◌∷◌, length, map, Option, Some, None, refl, sym, ap, subst, ◌∙◌, nat_le}
+use Rattle.std.proofs.Common.{◌≡◌, ℕ, ◌≤◌, ◌&&◌, Bool, true, false, cond, List, [], ◌∷◌, length, map, Option, Some, None, refl, subst, nat_le}
 use Rattle.std.specs.List.{AllByRecursion}
-use Rattle.std.proofs.lemmas.Bool.{false≢true}
 use Rattle.pf_addr.specs.Spelling.{pieces}
 use Rattle.pf_addr.specs.declared.addr.Family.{Family}
 use Rattle.pf_words.specs.declared.profile.Profile.{Profile}
 use Rattle.pf_words.specs.Words.{is_anchor_text}
 use Rattle.pf_tokens.specs.Tokens.{Token}
-use Rattle.pf_tokens.specs.Productions.{◌>>=◌}
 use Rattle.pf_tokens.specs.Lists.{Elements}
 use Rattle.pf_tokens.specs.Shorter.{bind_some, some_is}
 use Rattle.pf_ruleset.specs.Names.{Name, name_if}
-use Rattle.pf_ruleset.specs.Items.{Target, Heading, ItemValue}
-use Rattle.pf_ruleset.specs.Items as item
-use Rattle.pf_ruleset.specs.declared.parts.Interface.{Interface}
+use Rattle.pf_ruleset.specs.Items.{Target}
 use Rattle.pf_ruleset.specs.declared.parts.FlagTest.{FlagTest}
 use Rattle.pf_ruleset.specs.declared.rule.Conditions.{Conditions}
 use Rattle.pf_conditions.specs.declared.written.Protocol.{Protocol}
 use Rattle.pf_conditions.specs.declared.written.WrittenType.{WrittenType}
 use Rattle.pf_conditions.specs.Conditions.{ConditionsText}
-use Rattle.pf_conditions.specs.Grammar.{IsFlags}
 use Rattle.pf_conditions.specs.Targets.{is_star, in_front, names_of, target_with, target_of}
 use Rattle.pf_conditions.proofs.PiecesSpelled.{if_so_is}
-use Rattle.pf_statements.specs.Anchors.{AnchorText}
-use Rattle.pf_statements.specs.Grammar.{IsTarget, TargetWord, TargetString, IsAnchor}
+use Rattle.pf_statements.specs.Anchors.{AnchorText, HeadingText, anchor_with}
+use Rattle.pf_statements.proofs.AnchorsSpelled.{heading_with as heading_text_with, anchor_heading}
+use Rattle.pf_statements.specs.Grammar.{IsTarget, TargetWord, TargetString, IsAnchor, IsHeading, IsOptional, LeftOut, Given}
 use Rattle.pf_expansion.specs.Expansion.{choices, Combination, nothing_chosen, conditions_if, conditions_at, families, occurring, by_type, by_destination_port, by_destination, by_source_port, by_source, by_protocol, by_interface, combined}
-use Rattle.pf_expansion.specs.Anchors.{anchor_flags, heading_with, headings, is_reserved}
+use Rattle.pf_expansion.specs.Anchors.{anchor_flags, heading_with, headings}
 use Rattle.pf_expansion.specs.Causes.{bad_ports, bad_types}
 use Rattle.pf_grammar.proofs.Made.{interface_fits, some_fits}
 use Rattle.pf_grammar.proofs.PartsFit.{protocol_fits, flags_fit}
 use Rattle.pf_grammar.proofs.Told.{FitsIf, FitsFlags, FitsConditions}
 use Rattle.pf_grammar.proofs.RuleFits.{FitsName, AllFit, FitsText, behind_fits, hosts_fit, flags_ok, combined_fit, all_flat}
 use Rattle.pf_grammar.proofs.Targets.{AreAnchorNames, FitsTarget}
-use Rattle.pf_grammar.proofs.AnchorLine.{FitsHeading, FitsItem}
+use Rattle.pf_grammar.proofs.AnchorLine.{FitsHeading}
 
 -- ---- targets
 
@@ -52,7 +48,7 @@ names_fit (p ∷ ps) x e = cases (is_star (p ∷ ps)) (λ y h. names_fit ps y h)
     cases true each e = subst (λ (y : List Name × Bool). AreAnchorNames y.0) (some_is ([], true) x e) tt
     cases false each e = front_fits p (names_of ps) x each e
 
-abbrev Few : Target → Type 0
+abbrev pub Few : Target → Type 0
 Few t = (nat_le 1 (length t.names) && nat_le (length t.names) 8) ≡ true
 
 with_fits : (x : List Name × Bool) (t : Target) → AreAnchorNames x.0 → target_with x ≡ Some t → AreAnchorNames t.names × Few t
@@ -78,30 +74,45 @@ pub record FitsAnchorText (profile : Profile) (a : AnchorText) : Type 0 where
   pub conditions : FitsText profile a.conditions
   pub no_types : a.conditions.types ≡ None
 
--- an anchor rule of the grammar is such a one
-pub anchor_text_fits : (profile : Profile) (ts : List Token) (a : AnchorText) → IsAnchor profile ts a → FitsAnchorText profile a
-anchor_text_fits profile ts a is =
-    let common = a.conditions.common in
+no_types_fit : {X : Type 0} (P : X → Type 0) (o : Option X) → o ≡ None → FitsIf P o
+no_types_fit P None e = tt
+no_types_fit P (Some x) e = absurd cc
+
+-- a heading of the grammar with a name is such a one
+pub heading_text_fits : (profile : Profile) (ts : List Token) (h : HeadingText) (target : Target) → IsHeading profile ts h → AreAnchorNames target.names → Few target → FitsAnchorText profile (anchor_with h target)
+heading_text_fits profile ts h target is names few =
+    let common = h.conditions.common in
     let c = is.is_common in
     let hosts = hosts_fit profile c.hosts common.source common.destination c.are_hosts in
-    let target = named profile is.target a.target is.is_target in
     record {
-      names = target.0;
-      few = target.1;
+      names = names;
+      few = few;
       conditions = record {
         interfaces = behind_fits (AllFit (FitsName profile)) (some_fits (FitsName profile) (interface_fits profile)) c.interfaces common.interfaces c.are_interfaces;
         protocols = behind_fits (AllFit (λ (p : Protocol). p.number ≤ 255)) (some_fits (λ (p : Protocol). p.number ≤ 255) protocol_fits) c.protocols common.protocols c.are_protocols;
         source = hosts.0;
         destination = hosts.1;
-        flags = behind_fits FitsFlags flags_fit is.flags a.conditions.flags is.are_flags;
-        types = no_types_fit _ a.conditions.types is.no_types;
+        flags = behind_fits FitsFlags flags_fit is.flags h.conditions.flags is.are_flags;
+        types = no_types_fit _ h.conditions.types is.no_types;
       };
       no_types = is.no_types;
     }
-  where
-    no_types_fit : {X : Type 0} (P : X → Type 0) (o : Option X) → o ≡ None → FitsIf P o
-    no_types_fit P None e = tt
-    no_types_fit P (Some x) e = absurd cc
+
+-- an anchor rule of the grammar is such a one
+pub anchor_text_fits : (profile : Profile) (ts : List Token) (a : AnchorText) → IsAnchor profile ts a → FitsAnchorText profile a
+anchor_text_fits profile ts a is =
+    let target = named profile is.target a.target is.is_target in
+    heading_text_fits profile ts (heading_text_with a) a.target (anchor_heading profile ts a is) target.0 target.1
+
+optional_named : (profile : Profile) (ts : List Token) (o : Option Target) (target : Target) → IsOptional (IsTarget profile) ts o → o ≡ Some target → AreAnchorNames target.names × Few target
+optional_named profile _ _ target LeftOut e = absurd cc
+optional_named profile _ _ target (Given ts x is) e = named profile ts target (subst (IsTarget profile ts) (some_is x target e) is)
+
+-- so is one with the name that is written
+pub said_text_fits : (profile : Profile) (ts : List Token) (h : HeadingText) (target : Target) → IsHeading profile ts h → h.target ≡ Some target → FitsAnchorText profile (anchor_with h target)
+said_text_fits profile ts h target is e =
+    let names = optional_named profile is.target h.target target is.is_target e in
+    heading_text_fits profile ts h target is names.0 names.1
 
 -- ---- each combination is without a type of ICMP
 
@@ -144,13 +155,9 @@ with_target profile a target [] all none = tt
 with_target profile a target (c ∷ cs) all none = (record { target = target; conditions = all.0; no_type = none.0 }, with_target profile a target cs all.1 none.1)
 
 -- each anchor rule that a statement comes to
-pub headings_fit : (profile : Profile) (a : AnchorText) → FitsAnchorText profile a → is_reserved a.target ≡ false → bad_ports a.conditions ≡ false → bad_types a.conditions ≡ false → AllByRecursion (FitsHeading profile) (headings a)
+pub headings_fit : (profile : Profile) (a : AnchorText) → FitsAnchorText profile a → bad_ports a.conditions ≡ false → bad_types a.conditions ≡ false → AllByRecursion (FitsHeading profile) (headings a)
 unfolding headings
-headings_fit profile a fits free no_bad_ports no_bad_types =
-    with_target profile a (record { names = fits.names; few = fits.few; free = free }) (combined (anchor_flags a) a.conditions)
+headings_fit profile a fits no_bad_ports no_bad_types =
+    with_target profile a (record { names = fits.names; few = fits.few }) (combined (anchor_flags a) a.conditions)
     (combined_fit profile (anchor_flags a) a.conditions (flags_ok false a.conditions.flags fits.conditions.flags) fits.conditions no_bad_ports no_bad_types)
     (untyped (anchor_flags a) a.conditions fits.no_types)
-
-pub anchors_fit : (profile : Profile) (hs : List Heading) → AllByRecursion (FitsHeading profile) hs → AllByRecursion (FitsItem profile) (map (λ (h : Heading). item.Anchors h) hs)
-anchors_fit profile [] all = tt
-anchors_fit profile (h ∷ hs) all = (all.0, anchors_fit profile hs all.1)

@@ -1,40 +1,36 @@
 -- The shown line of an anchor rule without a block is read again.
-use Rattle.std.proofs.Common.{◌≡◌, ℕ, ◌+◌, ◌<◌, ◌≤◌, Bool, true, false, List, [], ◌∷◌, ◌++◌, length, map, Option, Some, None, Result, Ok, refl, sym, ap, subst, ◌∙◌, append_assoc, arith}
+use Rattle.std.proofs.Common.{◌≡◌, ℕ, ◌<◌, true, false, List, [], ◌∷◌, ◌++◌, length, map, Option, Some, None, Result, Ok, refl, sym, ap, subst, ◌∙◌, arith}
 use Rattle.std.specs.Prelude.{codes}
-use Rattle.std.specs.List.{AllByRecursion}
-use Rattle.std.proofs.lemmas.List.{append-nil, length-append}
+use Rattle.std.proofs.lemmas.List.{append-nil}
 use Rattle.pf_words.specs.declared.profile.Profile.{Profile}
 use Rattle.pf_tokens.specs.Tokens.{Token, Word, Quoted}
-use Rattle.pf_tokens.specs.Lists.{Elements}
-use Rattle.pf_tokens.specs.Reading.{◌>>=◌, with_statement, reading_from}
+use Rattle.pf_tokens.specs.Reading.{with_statement}
 use Rattle.pf_ruleset.specs.declared.rule.Action.TheVariants as act
 use Rattle.pf_ruleset.specs.declared.parts.FlagTest.{FlagTest}
 use Rattle.pf_ruleset.specs.declared.parts.FlagTest.TheVariants as flags
 use Rattle.pf_ruleset.specs.declared.parts.Policy.{Policy}
 use Rattle.pf_ruleset.specs.declared.rule.Rule.{Rule}
-use Rattle.pf_ruleset.specs.declared.rule.Conditions.{Conditions}
 use Rattle.pf_ruleset.specs.Names.{Name}
 use Rattle.pf_ruleset.specs.Items.{Target, Heading, ItemValue, Filters, Blocks}
 use Rattle.pf_ruleset.specs.Items as item
 use Rattle.pf_ruleset.specs.Rulesets.{TableValue}
-use Rattle.pf_conditions.specs.declared.written.WrittenType.{WrittenType}
 use Rattle.pf_conditions.specs.Grammar.{IsBehind, Missing, Behind, IsFlags}
 use Rattle.pf_statements.specs.Anchors.{AnchorText}
 use Rattle.pf_statements.specs.Statements.{Statement, Anchors, value_of}
 use Rattle.pf_statements.specs.Grammar.{IsAnchor, TargetString, AnchorStatement}
 use Rattle.pf_statements.proofs.StatementsSpelled.{statement_reads}
-use Rattle.pf_expansion.specs.Anchors.{headings, heading_with}
-use Rattle.pf_expansion.specs.Causes.{bad_ports, has_no_combination, has_too_many, bad_types}
-use Rattle.pf_show.specs.Shown.{line as shown_line, Part, direction_parts, quick_parts, condition_parts, flags_parts, heading_parts, anchor_parts, target_part, target_text, shown_rules}
+use Rattle.pf_expansion.specs.Anchors.{headings, heading_with, is_misnamed}
+use Rattle.pf_show.specs.Shown.{line as shown_line, Part, direction_parts, quick_parts, condition_parts, flags_parts, heading_parts, anchor_parts, target_part, target_text}
 use Rattle.pf_grammar.specs.declared.fault.Refusal.{Refusal}
 use Rattle.pf_grammar.specs.declared.place.Place.{Place}
 use Rattle.pf_grammar.specs.Causes.{statement_cause}
 use Rattle.pf_grammar.specs.Reading.{Sofar, macros_of, judge, meant, answered}
-use Rattle.pf_grammar.proofs.Told.{FitsRule, FitsConditions, FitsFlags, direction_tokens, quick_tokens, interface_tokens, family_tokens, protocol_tokens, ends_tokens, type_tokens, flags_tokens, test_of_tokens, option_tokens, common_tokens, rule_tokens, written_flags, written_types, written_conditions, direction_told, quick_told, flags_told, common_told, common_split}
+use Rattle.pf_grammar.proofs.Told.{FitsRule, FitsConditions, FitsFlags, direction_tokens, quick_tokens, interface_tokens, family_tokens, protocol_tokens, ends_tokens, type_tokens, flags_tokens, test_of_tokens, option_tokens, common_tokens, written_flags, written_types, written_conditions, direction_told, quick_told, flags_told, common_told, common_split}
 use Rattle.pf_grammar.proofs.Expanded.{combined_again, no_bad_ports, some_combination, not_too_many, no_bad_types}
 use Rattle.pf_grammar.proofs.Parts.{lexed, with_newline, AreParts, OnePart, word_part, line_lexes}
-use Rattle.pf_grammar.proofs.RuleParts.{more_tokens, more_are, rule_line}
-use Rattle.pf_grammar.proofs.Lines.{Simple, Short, short_append, then_short, none_short, simple_word, direction_short, quick_short, interface_short, family_short, protocol_short, ends_short, option_short, no_fault, so_far, line_read, not_definition, line_judged, simple_in_line, simple_level, rule_short, rule_added}
+use Rattle.pf_grammar.proofs.RuleParts.{more_tokens, more_are}
+use Rattle.pf_grammar.proofs.Lines.{Simple, Short, short_append, then_short, simple_word, direction_short, quick_short, interface_short, family_short, protocol_short, ends_short, option_short, no_fault, so_far, not_definition, line_judged}
+use Rattle.pf_expansion.specs.Blocks.{unnamed_in}
 use Rattle.pf_grammar.proofs.Targets.{FitsTarget, target_is_part, target_again}
 
 -- the block rule whose words behind the action are those behind an anchor rule's target
@@ -47,7 +43,7 @@ pub record FitsHeading (profile : Profile) (h : Heading) : Type 0 where
   pub conditions : FitsConditions profile h.conditions
   pub no_type : h.conditions.icmp_type ≡ None
 
-abbrev as_fitting : (profile : Profile) (h : Heading) → FitsHeading profile h → FitsRule profile (as_rule h)
+abbrev pub as_fitting : (profile : Profile) (h : Heading) → FitsHeading profile h → FitsRule profile (as_rule h)
 as_fitting profile h fits = record { conditions = fits.conditions; state = refl }
 
 -- ---- its tokens
@@ -56,22 +52,22 @@ abbrev pub anchor_tokens : Heading → List Token
 anchor_tokens h = Word (codes "anchor") ∷ Quoted (target_text h.target) ∷ more_tokens (as_rule h)
 
 -- the line of a block rule shows no state
-behind_are : (profile : Profile) (h : Heading) → FitsHeading profile h → AreParts (heading_parts h) (more_tokens (as_rule h))
+pub behind_are : (profile : Profile) (h : Heading) → FitsHeading profile h → AreParts (heading_parts h) (more_tokens (as_rule h))
 unfolding heading_parts
 behind_are profile h fits =
     subst (λ (ps : List Part). AreParts (direction_parts h.conditions.direction ++ (quick_parts h.quick ++ (condition_parts h.conditions ++ ps))) (more_tokens (as_rule h))) (append-nil (flags_parts act.Drop h.conditions.flags))
     (more_are profile (as_rule h) (as_fitting profile h fits))
 
-anchor_line : (profile : Profile) (h : Heading) (n : ℕ) (rest : List ℕ) → FitsHeading profile h → lexed n (shown_line (anchor_parts h) ++ rest) ≡ with_newline n (anchor_tokens h) rest
+pub anchor_line : (profile : Profile) (h : Heading) (n : ℕ) (rest : List ℕ) → FitsHeading profile h → lexed n (shown_line (anchor_parts h) ++ rest) ≡ with_newline n (anchor_tokens h) rest
 unfolding anchor_parts
 anchor_line profile h n rest fits =
     line_lexes n (codes "anchor") (target_part h.target ∷ heading_parts h) (Word (codes "anchor") ∷ []) (Quoted (target_text h.target) ∷ more_tokens (as_rule h)) rest (word_part 97 (110 ∷ 99 ∷ 104 ∷ 111 ∷ 114 ∷ []) refl)
     (OnePart (target_part h.target) (heading_parts h) (Quoted (target_text h.target) ∷ []) (more_tokens (as_rule h)) (target_is_part h.target fits.target) (behind_are profile h fits))
 
-simple_string : (text : List ℕ) → Simple (Quoted text)
+pub simple_string : (text : List ℕ) → Simple (Quoted text)
 simple_string text = record { in_line = refl; good = refl; known = refl; level = λ d. refl }
 
-more_short : (h : Heading) → Short 34 (more_tokens (as_rule h))
+pub more_short : (h : Heading) → Short 34 (more_tokens (as_rule h))
 more_short h =
     let c = h.conditions in
     short_append 1 33 (direction_tokens c.direction) _ (direction_short c.direction)
@@ -81,7 +77,7 @@ more_short h =
     (short_append 2 26 (protocol_tokens c.protocol) _ (protocol_short c.protocol)
     (short_append 18 8 (ends_tokens c.source c.source_port c.destination c.destination_port) (option_tokens (as_rule h)) (ends_short c.source c.source_port c.destination c.destination_port) (option_short (as_rule h)))))))
 
-anchor_short : (h : Heading) → Short 36 (anchor_tokens h)
+pub anchor_short : (h : Heading) → Short 36 (anchor_tokens h)
 anchor_short h = then_short 35 _ _ (simple_word _) (then_short 34 _ _ (simple_string (target_text h.target)) (more_short h))
 
 -- ---- they spell it
@@ -89,19 +85,19 @@ anchor_short h = then_short 35 _ _ (simple_word _) (then_short 34 _ _ (simple_st
 abbrev pub written_anchor : Heading → AnchorText
 written_anchor h = record { target = h.target; quick = h.quick; conditions = written_conditions (as_rule h) }
 
-flags_behind : (test : FlagTest) → FitsFlags test → IsBehind (codes "flags") IsFlags (flags_tokens act.Drop test) (written_flags act.Drop test)
+pub flags_behind : (test : FlagTest) → FitsFlags test → IsBehind (codes "flags") IsFlags (flags_tokens act.Drop test) (written_flags act.Drop test)
 flags_behind flags.Any fits = Missing
 flags_behind (flags.Just set of) fits = Behind (test_of_tokens (flags.Just set of)) (flags.Just set of) (flags_told (flags.Just set of) fits)
 
-no_types_left : (types : Option ℕ) (ts : List Token) → types ≡ None → type_tokens types ++ (ts ++ []) ≡ ts
+pub no_types_left : (types : Option ℕ) (ts : List Token) → types ≡ None → type_tokens types ++ (ts ++ []) ≡ ts
 no_types_left None ts e = append-nil ts
 no_types_left (Some n) ts e = absurd cc
 
-types_unwritten : (types : Option ℕ) → types ≡ None → written_types types ≡ None
+pub types_unwritten : (types : Option ℕ) → types ≡ None → written_types types ≡ None
 types_unwritten None e = refl
 types_unwritten (Some n) e = absurd cc
 
-anchor_told : (profile : Profile) (h : Heading) → FitsHeading profile h → IsAnchor profile (Quoted (target_text h.target) ∷ more_tokens (as_rule h)) (written_anchor h)
+pub anchor_told : (profile : Profile) (h : Heading) → FitsHeading profile h → IsAnchor profile (Quoted (target_text h.target) ∷ more_tokens (as_rule h)) (written_anchor h)
 anchor_told profile h fits = record {
   target = Quoted (target_text h.target) ∷ [];
   direction = direction_tokens h.conditions.direction;
@@ -124,59 +120,28 @@ anchor_value profile h fits = statement_reads profile (anchor_tokens h) (Anchors
 
 -- ---- it comes to itself
 
-headings_again : (profile : Profile) (h : Heading) → FitsHeading profile h → headings (written_anchor h) ≡ h ∷ []
+pub headings_again : (profile : Profile) (h : Heading) → FitsHeading profile h → headings (written_anchor h) ≡ h ∷ []
 unfolding headings
 headings_again profile h fits = ap (map (heading_with (written_anchor h))) (combined_again profile (as_rule h) (as_fitting profile h fits))
 
-no_cause : (place : Place) (profile : Profile) (tables : List TableValue) (before : ℕ) (h : Heading) → FitsHeading profile h → before < 1024 → statement_cause place tables before (Some (Anchors (written_anchor h))) ≡ None
-no_cause place profile tables before h fits room =
+no_cause : (place : Place) (profile : Profile) (tables : List TableValue) (before : List ItemValue) (h : Heading) → FitsHeading profile h → is_misnamed (unnamed_in 0 before) h.target ≡ false → length before < 1024 → statement_cause place tables before (Some (Anchors (written_anchor h))) ≡ None
+no_cause place profile tables before h fits free room =
     let r = as_rule h in
     let is = as_fitting profile h fits in
-    rw (no_bad_ports profile r is, some_combination profile r is, fits.target.free, not_too_many profile before r is room, no_bad_types profile r is) refl
+    rw (no_bad_ports profile r is, some_combination profile r is, free, not_too_many profile (length before) r is room, no_bad_types profile r is) refl
 
 abbrev pub anchor_added : Policy → List Name → List TableValue → List ItemValue → Heading → Result Sofar Refusal
 anchor_added p skip tables items h = Ok (so_far p skip tables (items ++ item.Anchors h ∷ []))
 
-anchor_meant : (place : Place) (profile : Profile) (p : Policy) (skip : List Name) (tables : List TableValue) (items : List ItemValue) (n : ℕ) (h : Heading) → FitsHeading profile h → length items < 1024 → meant place profile (so_far p skip tables items) n false (anchor_tokens h) ≡ anchor_added p skip tables items h
-anchor_meant place profile p skip tables items n h fits room =
-    ap (λ (value : Option Statement). answered n (so_far p skip tables items) value (statement_cause place tables (length items) value)) (anchor_value profile h fits)
-    ∙ ap (answered n (so_far p skip tables items) (Some (Anchors (written_anchor h)))) (no_cause place profile tables (length items) h fits room)
+anchor_meant : (place : Place) (profile : Profile) (p : Policy) (skip : List Name) (tables : List TableValue) (items : List ItemValue) (n : ℕ) (h : Heading) → FitsHeading profile h → is_misnamed (unnamed_in 0 items) h.target ≡ false → length items < 1024 → meant place profile (so_far p skip tables items) n false (anchor_tokens h) ≡ anchor_added p skip tables items h
+anchor_meant place profile p skip tables items n h fits free room =
+    ap (λ (value : Option Statement). answered n (so_far p skip tables items) value (statement_cause place tables items value)) (anchor_value profile h fits)
+    ∙ ap (answered n (so_far p skip tables items) (Some (Anchors (written_anchor h)))) (no_cause place profile tables items h fits free room)
     ∙ ap (λ (hs : List Heading). let next : Result Sofar Refusal = Ok (so_far p skip tables (items ++ map (λ (h : Heading). item.Anchors h) hs)) in next) (headings_again profile h fits)
 
-anchor_is_added : (place : Place) (profile : Profile) (p : Policy) (skip : List Name) (tables : List TableValue) (items : List ItemValue) (n : ℕ) (h : Heading) → FitsHeading profile h → length items < 1024
+pub anchor_is_added : (place : Place) (profile : Profile) (p : Policy) (skip : List Name) (tables : List TableValue) (items : List ItemValue) (n : ℕ) (h : Heading) → FitsHeading profile h → is_misnamed (unnamed_in 0 items) h.target ≡ false → length items < 1024
     → with_statement macros_of (judge place profile) (so_far p skip tables items) (map (λ (t : Token). record { token = t; line = n; written = true }) (anchor_tokens h)) ≡ anchor_added p skip tables items h
-anchor_is_added place profile p skip tables items n h fits room =
+anchor_is_added place profile p skip tables items n h fits free room =
     let short = anchor_short h in
     line_judged place profile p skip tables items n (anchor_tokens h) (omega arith) (not_definition n (Word (codes "anchor")) (Quoted (target_text h.target) ∷ more_tokens (as_rule h)) refl) (no_fault (anchor_tokens h) 0 short.simple (let k = short.short in omega (arith, k)))
-    ∙ anchor_meant place profile p skip tables items n h fits room
-
--- ---- items
-
-abbrev pub FitsItem : Profile → ItemValue → Type 0
-FitsItem profile (Filters r) = FitsRule profile r
-FitsItem profile (item.Anchors h) = FitsHeading profile h
-FitsItem profile (Blocks h block) = ⊥
-
-abbrev done : Policy → List Name → List TableValue → List ItemValue → Result Sofar Refusal
-done p skip tables items = Ok (so_far p skip tables items)
-
--- shown rules are read as themselves
-pub items_again : (place : Place) (profile : Profile) (items : List ItemValue) (p : Policy) (skip : List Name) (tables : List TableValue) (before : List ItemValue) (n : ℕ) → AllByRecursion (FitsItem profile) items → length before + length items ≤ 1024
-    → reading_from macros_of (judge place profile) (so_far p skip tables before) [] (lexed n (shown_rules items)) ≡ Ok (so_far p skip tables (before ++ items))
-unfolding reading_from
-items_again place profile [] p skip tables before n fits room = ap (done p skip tables) (sym (append-nil before))
-items_again place profile (Filters r ∷ items) p skip tables before n fits room =
-    let simple = (rule_short r).simple in
-    ap (reading_from macros_of (judge place profile) (so_far p skip tables before) []) (rule_line profile r n (shown_rules items) fits.0)
-    ∙ line_read place profile p skip tables before n (rule_tokens r) [] (lexed (n + 1) (shown_rules items)) (simple_in_line (rule_tokens r) simple) (simple_level n 0 (rule_tokens r) simple)
-    ∙ ap (λ (o : Result Sofar Refusal). o >>= λ next. reading_from macros_of (judge place profile) next [] (lexed (n + 1) (shown_rules items))) (rule_added place profile p skip tables before n r fits.0 (omega (arith, room)))
-    ∙ items_again place profile items p skip tables (before ++ Filters r ∷ []) (n + 1) fits.1 (let l = length-append before (Filters r ∷ []) in omega (arith, l, room))
-    ∙ ap (done p skip tables) (append_assoc before (Filters r ∷ []) items)
-items_again place profile (item.Anchors h ∷ items) p skip tables before n fits room =
-    let simple = (anchor_short h).simple in
-    ap (reading_from macros_of (judge place profile) (so_far p skip tables before) []) (anchor_line profile h n (shown_rules items) fits.0)
-    ∙ line_read place profile p skip tables before n (anchor_tokens h) [] (lexed (n + 1) (shown_rules items)) (simple_in_line (anchor_tokens h) simple) (simple_level n 0 (anchor_tokens h) simple)
-    ∙ ap (λ (o : Result Sofar Refusal). o >>= λ next. reading_from macros_of (judge place profile) next [] (lexed (n + 1) (shown_rules items))) (anchor_is_added place profile p skip tables before n h fits.0 (omega (arith, room)))
-    ∙ items_again place profile items p skip tables (before ++ item.Anchors h ∷ []) (n + 1) fits.1 (let l = length-append before (item.Anchors h ∷ []) in omega (arith, l, room))
-    ∙ ap (done p skip tables) (append_assoc before (item.Anchors h ∷ []) items)
-items_again place profile (Blocks h block ∷ items) p skip tables before n fits room = absurd fits.0
+    ∙ anchor_meant place profile p skip tables items n h fits free room

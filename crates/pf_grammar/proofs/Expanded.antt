@@ -1,5 +1,5 @@
 -- A shown rule is refused by no cause, and comes to itself.
-use Rattle.std.proofs.Common.{◌≡◌, ℕ, ◌+◌, ◌<◌, ◌==◌, ◌&&◌, ◌||◌, Bool, true, false, List, [], ◌∷◌, Option, Some, None, refl, sym, ap, ◌∙◌, arith}
+use Rattle.std.proofs.Common.{◌≡◌, ℕ, ◌+◌, ◌<◌, ◌==◌, ◌&&◌, ◌||◌, Bool, true, false, List, [], ◌∷◌, Option, Some, None, refl, sym, ap, ◌∙◌, arith, length}
 use Rattle.std.specs.Prelude.{is_some, not, nat_lt, flat_map, map}
 use Rattle.std.proofs.lemmas.List.{append-nil}
 use Rattle.std.proofs.lemmas.Bool.Decides.{nat_tests}
@@ -20,6 +20,7 @@ use Rattle.pf_conditions.specs.declared.written.WrittenType.{WrittenType}
 use Rattle.pf_statements.specs.Statements.{Rules}
 use Rattle.pf_expansion.specs.Expansion.{choices, type_family, resolved, keeps_state, tested_flags, Combination, nothing_chosen, number_in, test_in, type_in, conditions_with, conditions_at, rule_flags, rule_with, by_type, by_destination_port, by_destination, by_source_port, by_source, by_protocol, by_interface, combined, expanded, count_of, combinations}
 use Rattle.pf_expansion.specs.Causes.{any_listed, all_listed, is_deep_list, is_bad_port, has_ports, bad_ports, is_too_wide, has_no_combination, has_deep_list, has_too_many, is_bad_type, is_icmp, bad_types}
+use Rattle.pf_ruleset.specs.Items.{ItemValue}
 use Rattle.pf_grammar.specs.Causes.{statement_cause}
 use Rattle.pf_grammar.proofs.Told.{FitsRule, FitsIf, FitsType, FitsState, ported, one_if, written_action, written_flags, written_state, written_protocol, written_conditions, written}
 use Rattle.pf_ruleset.specs.Rulesets.{TableValue}
@@ -206,6 +207,6 @@ unfolding bad_types
 no_bad_types profile r fits = types_there profile r.conditions.protocol r.conditions.icmp_type fits.conditions.types
 
 -- no cause refuses a shown rule where there is room for it
-pub no_cause : (place : Place) (profile : Profile) (tables : List TableValue) (before : ℕ) (r : Rule) → FitsRule profile r → before < 1024 → statement_cause place tables before (Some (Rules (written r))) ≡ None
+pub no_cause : (place : Place) (profile : Profile) (tables : List TableValue) (before : List ItemValue) (r : Rule) → FitsRule profile r → length before < 1024 → statement_cause place tables before (Some (Rules (written r))) ≡ None
 no_cause place profile tables before r fits h =
-    rw (no_bad_ports profile r fits, some_combination profile r fits, not_too_many profile before r fits h, no_bad_types profile r fits) refl
+    rw (no_bad_ports profile r fits, some_combination profile r fits, not_too_many profile (length before) r fits h, no_bad_types profile r fits) refl

@@ -46,8 +46,8 @@ use Rattle.pf_conditions.proofs.Fronts.{rank, no_symbol}
 use Rattle.pf_statements.proofs.StatementsSpelled.{statement_reads}
 use Rattle.pf_grammar.proofs.Told.{FitsRule, rule_told, told_rank, written, action_tokens, direction_tokens, quick_tokens, negated_tokens, interface_tokens, family_tokens, protocol_tokens, length_tokens, addresses_tokens, host_tokens, test_tokens, port_tokens, end_tokens, both_tokens, ends_tokens, type_tokens, letters_token, test_of_tokens, flags_tokens, state_tokens, option_tokens, rule_tokens}
 use Rattle.pf_grammar.proofs.Expanded.{expanded_again, no_cause}
-use Rattle.pf_grammar.proofs.Parts.{lexed, at_line}
-use Rattle.pf_grammar.proofs.RuleParts.{more_tokens, rule_line}
+use Rattle.pf_grammar.proofs.Parts.{at_line}
+use Rattle.pf_grammar.proofs.RuleParts.{more_tokens}
 use Rattle.pf_ruleset.specs.Rulesets.{TableValue}
 
 -- ---- tokens of a line
@@ -237,7 +237,7 @@ replaced_none : (p : Placed) (w : Bool) → replaced [] w p ≡ p ∷ []
 replaced_none p true = refl
 replaced_none p false = token_none p p.token
 
-flattened_none : (ps : List Placed) (w : Bool) → flat_map (replaced [] w) ps ≡ ps
+pub flattened_none : (ps : List Placed) (w : Bool) → flat_map (replaced [] w) ps ≡ ps
 flattened_none [] w = refl
 flattened_none (p ∷ ps) w = ap (λ (qs : List Placed). qs ++ flat_map (replaced [] w) ps) (replaced_none p w) ∙ ap (λ (qs : List Placed). p ∷ qs) (flattened_none ps w)
 
@@ -274,7 +274,7 @@ line_read place profile p skip tables items n (t ∷ ts) begun rest in_line leve
     (line_read place profile p skip tables items n ts (begun ++ at_line n t ∷ []) rest in_line.1 (ap (depth_behind 0) split ∙ level)
     ∙ ap (λ (ps : List Placed). with_statement macros_of (judge place profile) (so_far p skip tables items) ps >>= λ next. reading_from macros_of (judge place profile) next [] rest) split)
 
-tokens_at : (n : ℕ) (ts : List Token) → tokens_of (map (at_line n) ts) ≡ ts
+pub tokens_at : (n : ℕ) (ts : List Token) → tokens_of (map (at_line n) ts) ≡ ts
 tokens_at n [] = refl
 tokens_at n (t ∷ ts) = ap (λ (us : List Token). t ∷ us) (tokens_at n ts)
 
@@ -284,7 +284,7 @@ and_false : (b : Bool) → (b && false) ≡ false
 and_false true = refl
 and_false false = refl
 
-not_equals : (b : Bool) (u : Token) → is_symbol Equals u ≡ false → (b && is_equals u) ≡ false
+pub not_equals : (b : Bool) (u : Token) → is_symbol Equals u ≡ false → (b && is_equals u) ≡ false
 not_equals b (Word text) e = and_false b
 not_equals b (Quoted text) e = and_false b
 not_equals b (Macro name) e = and_false b
@@ -313,7 +313,7 @@ not_definition n t (u ∷ us) e = not_equals (is_some_word t) u e
 rule_no_definition : (profile : Profile) (r : Rule) (n : ℕ) → FitsRule profile r → is_definition (map (at_line n) (rule_tokens r)) ≡ false
 rule_no_definition profile r n fits =
     let h : 1 < rank (more_tokens r) = told_rank profile r fits in
-    cases r.action (more_tokens r) (no_symbol Equals (more_tokens r) (omega (arith, h)))
+    cases r.action (more_tokens r) (no_symbol Equals (more_tokens r) (omega arith) (omega (arith, h)))
   where
     cases : (a : Action) (us : List Token) → begins_symbol Equals us ≡ false → is_definition (map (at_line n) (action_tokens a ++ us)) ≡ false
     cases act.Pass us e = not_definition n (Word (codes "pass")) us e
@@ -330,8 +330,8 @@ added p skip tables items r = Ok (so_far p skip tables (items ++ Filters r ∷ [
 
 rule_meant : (place : Place) (profile : Profile) (p : Policy) (skip : List Name) (tables : List TableValue) (items : List ItemValue) (n : ℕ) (r : Rule) → FitsRule profile r → length items < 1024 → meant place profile (so_far p skip tables items) n false (rule_tokens r) ≡ added p skip tables items r
 rule_meant place profile p skip tables items n r fits room =
-    ap (λ (value : Option Statement). answered n (so_far p skip tables items) value (statement_cause place tables (length items) value)) (rule_value profile r fits)
-    ∙ ap (answered n (so_far p skip tables items) (Some (Rules (written r)))) (no_cause place profile tables (length items) r fits room)
+    ap (λ (value : Option Statement). answered n (so_far p skip tables items) value (statement_cause place tables items value)) (rule_value profile r fits)
+    ∙ ap (answered n (so_far p skip tables items) (Some (Rules (written r)))) (no_cause place profile tables items r fits room)
     ∙ ap (λ (rs : List Rule). let next : Result Sofar Refusal = Ok (so_far p skip tables (items ++ map (λ (r : Rule). Filters r) rs)) in next) (expanded_again profile p r fits)
 
 judged_some : (place : Place) (profile : Profile) (sofar : Sofar) (n : ℕ) (w : Bool) (t : Token) (ts : List Token) → judged (judge place profile) sofar n w (map (at_line n) (t ∷ ts)) ≡ unless_fault n (reading_fault sofar.macros 0 0 (t ∷ ts)) (meant place profile sofar n w (t ∷ ts))

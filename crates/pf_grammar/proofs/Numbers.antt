@@ -52,7 +52,7 @@ le_is m n h = grind (arith, nat_tests, h)
 pub lt_is : (m n : ℕ) → m < n → nat_lt m n ≡ true
 lt_is m n h = grind (arith, nat_tests, h)
 
-number_again : (digits most n : ℕ) → 0 < digits → n ≤ most → n < 65536 → n < 10 ^ digits → number_of digits most (decimal n) ≡ Some n
+pub number_again : (digits most n : ℕ) → 0 < digits → n ≤ most → n < 65536 → n < 10 ^ digits → number_of digits most (decimal n) ≡ Some n
 unfolding number_of
 number_again digits most n some fits small short =
     rw (

@@ -6,10 +6,8 @@ use Rattle.pf_words.specs.declared.profile.Profile.{Profile}
 use Rattle.pf_tokens.specs.declared.defining.DefinitionFault.{DefinitionFault}
 use Rattle.pf_tokens.specs.declared.defining.DefinitionFault.TheVariants as defining
 use Rattle.pf_tokens.specs.declared.fault.ReadingFault.{ReadingFault}
-use Rattle.pf_tokens.specs.declared.macros.Macro.{Macro}
 use Rattle.pf_tokens.specs.Tokens.{Token, Placed, first, tokens}
 use Rattle.pf_tokens.specs.Macros.{Definition, is_definition}
-use Rattle.pf_tokens.specs.Defined.{definition_of}
 use Rattle.pf_tokens.specs.Flow.{statement_raw, ending_raw}
 use Rattle.pf_tokens.specs.Parsing.{tokens_of}
 use Rattle.pf_tokens.specs.Productions.{is_end}
@@ -29,10 +27,12 @@ use Rattle.pf_ruleset.specs.Items.{ItemValue, Heading, is_overfull}
 use Rattle.pf_ruleset.specs.Items as item
 use Rattle.pf_ruleset.specs.Seen.{item_of, items_of}
 use Rattle.std.specs.List.{list_any}
-use Rattle.pf_expansion.specs.Anchors.{headings, heading_with, anchor_flags, anchor_causes, is_reserved}
+use Rattle.pf_expansion.specs.Anchors.{headings, heading_with, anchor_flags, anchor_causes, is_misnamed}
 use Rattle.pf_statements.specs.Anchors.{AnchorText}
+use Rattle.pf_expansion.specs.Blocks.{block_causes, is_twice, item_judged, item_misnamed, item_values, unnamed_in}
+use Rattle.pf_grammar.proofs.BlockRoom.{item_fine}
 use Rattle.pf_grammar.specs.declared.place.Place.{Place}
-use Rattle.pf_statements.specs.Statements.{Statement, Sets, Rules, SetPolicy, SetSkip, RuleText, Tables, Anchors}
+use Rattle.pf_statements.specs.Statements.{Statement, Sets, Rules, SetPolicy, SetSkip, RuleText, Tables, Anchors, AnchorBlocks, BlockItem}
 use Rattle.pf_expansion.specs.Expansion.{expanded, combined, rule_flags, rule_with}
 use Rattle.pf_expansion.specs.Causes.{has_too_many, bad_ports, has_no_combination, bad_types, lowest, rule_causes, condition_causes}
 use Rattle.pf_ruleset.specs.declared.parts.FlagTest.{FlagTest}
@@ -49,6 +49,9 @@ tables_push ts t = map-append table_of ts (t ∷ [])
 
 pub items_push : (is : List Item) (i : Item) → items_of (is ++ i ∷ []) ≡ items_of is ++ item_of i ∷ []
 items_push is i = map-append item_of is (i ∷ [])
+
+pub items_append : (is more : List Item) → items_of (is ++ more) ≡ items_of is ++ items_of more
+items_append is more = map-append item_of is more
 
 -- ---- one statement
 
@@ -129,6 +132,14 @@ fourth false true c true e p q r s t is = absurd (let h = is in cc)
 fourth false false true true e p q r s t is = absurd (let h = is in cc)
 fourth false false false true e p q r s t is = absurd (let h = is in cc)
 
+fifth : (a b c d e f : Bool) (p q r s t u : Cause) → lowest ((a, p) ∷ (b, q) ∷ (c, r) ∷ (d, s) ∷ (e, t) ∷ (f, u) ∷ []) ≡ None → e ≡ false
+fifth a b c d false f p q r s t u is = refl
+fifth true b c d true f p q r s t u is = absurd (let h = is in cc)
+fifth false true c d true f p q r s t u is = absurd (let h = is in cc)
+fifth false false true d true f p q r s t u is = absurd (let h = is in cc)
+fifth false false false true true f p q r s t u is = absurd (let h = is in cc)
+fifth false false false false true f p q r s t u is = absurd (let h = is in cc)
+
 below : (n : ℕ) → nat_lt 1024 n ≡ false → n ≤ 1024
 below n e = grind (arith, nat_tests, e)
 
@@ -141,11 +152,11 @@ few_rules : (p : Policy) (items : ℕ) (text : RuleText) → lowest (rule_causes
 unfolding expanded
 few_rules p items text e = omega (arith, few_found (rule_flags text) items false text.conditions e, length-map (combined (rule_flags text) text.conditions) (rule_with p text))
 
-few_headings : (items : ℕ) (text : AnchorText) → lowest (anchor_causes items text) ≡ None → items + length (headings text) ≤ 1024
+few_headings : (items unnamed : ℕ) (text : AnchorText) → lowest (anchor_causes items unnamed text) ≡ None → items + length (headings text) ≤ 1024
 unfolding headings
-few_headings items text e = omega (arith, few_found (anchor_flags text) items (is_reserved text.target) text.conditions e, length-map (combined (anchor_flags text) text.conditions) (heading_with text))
+few_headings items unnamed text e = omega (arith, few_found (anchor_flags text) items (is_misnamed unnamed text.target) text.conditions e, length-map (combined (anchor_flags text) text.conditions) (heading_with text))
 
-few_taken : (line : ℕ) (place : Place) (sofar next : Sofar) (value : Option Statement) → Room sofar.items → answered line sofar value (statement_cause place sofar.tables (length sofar.items) value) ≡ Ok next → Room next.items
+few_taken : (line : ℕ) (place : Place) (sofar next : Sofar) (value : Option Statement) → Room sofar.items → answered line sofar value (statement_cause place sofar.tables sofar.items value) ≡ Ok next → Room next.items
 few_taken line place sofar next None few e = absurd (let h = e in cc)
 few_taken line place sofar next (Some (Sets (SetPolicy policy))) few e = subst (λ (s : Sofar). Room s.items) (answered_ok line sofar next (Some (Sets (SetPolicy policy))) (lowest (setting_causes place (SetPolicy policy))) e).1 few
 few_taken line place sofar next (Some (Sets (SetSkip names))) few e = subst (λ (s : Sofar). Room s.items) (answered_ok line sofar next (Some (Sets (SetSkip names))) (lowest (setting_causes place (SetSkip names))) e).1 few
@@ -155,8 +166,18 @@ few_taken line place sofar next (Some (Rules text)) few e =
     let rules = expanded sofar.policy text in
     subst (λ (s : Sofar). Room s.items) a.1 (room_added sofar.items (map (λ (r : Rule). item.Filters r) rules) few (omega (arith, few_rules sofar.policy (length sofar.items) text a.0, length-map rules (λ (r : Rule). item.Filters r))) (filters_fine rules))
 few_taken line place sofar next (Some (Anchors text)) few e =
-    let a = answered_ok line sofar next (Some (Anchors text)) (lowest (anchor_causes (length sofar.items) text)) e in
-    subst (λ (s : Sofar). Room s.items) a.1 (room_added sofar.items (map (λ (h : Heading). item.Anchors h) (headings text)) few (omega (arith, few_headings (length sofar.items) text a.0, length-map (headings text) (λ (h : Heading). item.Anchors h))) (anchors_fine (headings text)))
+    let a = answered_ok line sofar next (Some (Anchors text)) (lowest (anchor_causes (length sofar.items) (unnamed_in 0 sofar.items) text)) e in
+    subst (λ (s : Sofar). Room s.items) a.1 (room_added sofar.items (map (λ (h : Heading). item.Anchors h) (headings text)) few (omega (arith, few_headings (length sofar.items) (unnamed_in 0 sofar.items) text a.0, length-map (headings text) (λ (h : Heading). item.Anchors h))) (anchors_fine (headings text)))
+few_taken line place sofar next (Some (AnchorBlocks heading block)) few e =
+    let item = BlockItem heading block in
+    let a = answered_ok line sofar next (Some (AnchorBlocks heading block)) (lowest (block_causes sofar.items item)) e in
+    let values = item_values sofar.policy (unnamed_in 0 sofar.items) item in
+    let many = fifth (item_judged item).ports (item_judged item).combination (item_misnamed (unnamed_in 0 sofar.items) item) (is_twice sofar.items item) ((item_judged item).many || nat_lt 1024 (length sofar.items + (item_judged item).rules)) (item_judged item).types _ _ _ _ _ _ a.0 in
+    let parts = or_parts (item_judged item).many (nat_lt 1024 (length sofar.items + (item_judged item).rules)) many in
+    let fine = item_fine sofar.policy (unnamed_in 0 sofar.items) item parts.0 in
+    let count = fine.count in
+    let room = below (length sofar.items + (item_judged item).rules) parts.1 in
+    subst (λ (s : Sofar). Room s.items) a.1 (room_added sofar.items values few (omega (arith, count, room)) fine.blocks)
 
 ok_is : (x y : Sofar) → (let given : Result Sofar Refusal = Ok x in given ≡ Ok y) → x ≡ y
 ok_is x y e = cc

@@ -86,7 +86,7 @@ skipping p names = Ok (so_far p names [] [])
 
 skip_meant : (profile : Profile) (p : Policy) (name : Name) (names : List Name) (n : ℕ) → AreNames profile (name ∷ names) → meant Main profile (so_far p [] [] []) n false (skip_tokens (name ∷ names)) ≡ skipping p (name ∷ names)
 skip_meant profile p name names n fits =
-    ap (λ (value : Option Statement). answered n (so_far p [] [] []) value (statement_cause Main [] 0 value)) (skip_value profile name names fits)
+    ap (λ (value : Option Statement). answered n (so_far p [] [] []) value (statement_cause Main [] [] value)) (skip_value profile name names fits)
 
 -- with at most 65,531 names the line sets them
 pub skip_again : (profile : Profile) (p : Policy) (name : Name) (names : List Name) (rest : List ℕ) → AreNames profile (name ∷ names) → length (name ∷ names) ≤ 65531

@@ -1,10 +1,9 @@
 -- The shown lines of tables are read again.
-use Rattle.std.proofs.Common.{◌≡◌, ℕ, zero, suc, ◌+◌, ◌*◌, ◌<◌, ◌≤◌, ◌||◌, Bool, true, false, cond, List, [], ◌∷◌, ◌++◌, length, map, fold, Option, Some, None, option_map, Result, Ok, refl, sym, ap, subst, ◌∙◌, append_assoc, arith}
+use Rattle.std.proofs.Common.{◌≡◌, ℕ, ◌+◌, ◌*◌, ◌≤◌, Bool, true, false, List, [], ◌∷◌, ◌++◌, length, map, Option, Some, None, option_map, Result, Ok, refl, sym, ap, subst, ◌∙◌, append_assoc, arith}
 use Rattle.std.specs.Prelude.{codes, nat_lt}
-use Rattle.std.specs.List.{AllByRecursion, list_any}
-use Rattle.std.proofs.lemmas.Bool.{false≢true}
+use Rattle.std.specs.List.{AllByRecursion}
 use Rattle.std.proofs.lemmas.Bool.Decides.{nat_tests}
-use Rattle.std.proofs.lemmas.List.{append-nil, length-append}
+use Rattle.std.proofs.lemmas.List.{append-nil}
 use Rattle.pf_addr.specs.Blocks.{Block}
 use Rattle.pf_addr.specs.Shown.{shown_prefix}
 use Rattle.pf_addr.proofs.Made.{FitsBlock}
@@ -282,7 +281,7 @@ added p skip before t = Ok (so_far p skip (before ++ t ∷ []) [])
 
 line_meant : (place : Place) (profile : Profile) (p : Policy) (skip : List Name) (before : List TableValue) (n : ℕ) (t : TableValue) → FitsTable profile t → is_defined before t.name ≡ false → meant place profile (so_far p skip before []) n false (line_tokens t) ≡ added p skip before t
 line_meant place profile p skip before n t fits free =
-    ap (λ (value : Option Statement). answered n (so_far p skip before []) value (statement_cause place before 0 value)) (line_value profile t fits)
+    ap (λ (value : Option Statement). answered n (so_far p skip before []) value (statement_cause place before [] value)) (line_value profile t fits)
     ∙ rw (free, not_long t.entries fits.entries) (ap (added p skip before) (table_again_value profile t fits))
 
 table_again : (place : Place) (profile : Profile) (p : Policy) (skip : List Name) (before : List TableValue) (n : ℕ) (t : TableValue) (rest : List ℕ) → FitsTable profile t → is_defined before t.name ≡ false

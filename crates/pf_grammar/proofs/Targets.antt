@@ -1,9 +1,9 @@
 -- A shown target is read again.
-use Rattle.std.proofs.Common.{◌≡◌, ℕ, ◌+◌, ◌-◌, ◌≤◌, ◌==◌, ◌&&◌, ◌||◌, ◌⊎◌, inl, inr, Bool, true, false, List, [], ◌∷◌, ◌++◌, length, map, take, drop, Option, Some, None, refl, sym, ap, subst, ◌∙◌, append_assoc, arith, eqb-true, nat_le}
+use Rattle.std.proofs.Common.{◌≡◌, ℕ, ◌+◌, ◌-◌, ◌≤◌, ◌==◌, ◌&&◌, ◌||◌, ◌⊎◌, inl, inr, Bool, true, false, List, [], ◌∷◌, ◌++◌, length, map, drop, Option, Some, refl, sym, ap, subst, ◌∙◌, append_assoc, arith, eqb-true, nat_le}
 use Rattle.std.specs.Prelude.{codes, bytes_eq}
 use Rattle.std.specs.Char.{is_ascii_alphanumeric}
 use Rattle.std.specs.Int.{is_in_range}
-use Rattle.std.specs.List.{AllByRecursion, list_all, list_any, prefix_len}
+use Rattle.std.specs.List.{AllByRecursion, list_all, prefix_len}
 use Rattle.std.proofs.lemmas.Bool.{and_parts, false≢true, leb-true}
 use Rattle.std.proofs.lemmas.Bool.Decides.{nat_tests}
 use Rattle.std.proofs.lemmas.List.{append-nil, length-append, take_at, drop_at}
@@ -11,12 +11,11 @@ use Rattle.std.proofs.lemmas.Slice.Eq.{bytes_eq-Decides}
 use Rattle.pf_addr.specs.Spelling.{pieces}
 use Rattle.pf_addr.proofs.Marks.{Apart, pieces_mark, pieces_last}
 use Rattle.pf_words.specs.Words.{is_table_byte, is_anchor_byte, is_anchor_text}
-use Rattle.pf_tokens.specs.Tokens.{Token, Quoted, Letter, letters, line_after, is_quoted_byte, Front, front, quoted_closed, tokens_behind, Placed}
+use Rattle.pf_tokens.specs.Tokens.{Quoted, Letter, letters, line_after, is_quoted_byte, Front, front, quoted_closed, tokens_behind, Placed}
 use Rattle.pf_tokens.specs.Productions.{◌>>=◌}
-use Rattle.pf_ruleset.specs.Names.{Name, begins_below}
+use Rattle.pf_ruleset.specs.Names.{Name}
 use Rattle.pf_ruleset.specs.Items.{Target}
 use Rattle.pf_conditions.specs.Targets.{names_of, target_with, target_of}
-use Rattle.pf_expansion.specs.Anchors.{is_reserved}
 use Rattle.pf_show.specs.Shown.{slashed, children_text, target_text, target_part}
 use Rattle.pf_grammar.proofs.Parts.{lexed, at_line, bytes_of, letter_at, front_lexes, letter_first, bytes_word, behind_all, length_letters, IsPart}
 
@@ -160,7 +159,6 @@ AreAnchorNames names = AllByRecursion (λ name. is_anchor_text name ≡ true) na
 pub record FitsTarget (t : Target) : Type 0 where
   pub names : AreAnchorNames t.names
   pub few : (nat_le 1 (length t.names) && nat_le (length t.names) 8) ≡ true
-  pub free : is_reserved t ≡ false
 
 slashed_quoted : (names : List Name) → AreAnchorNames names → AreQuoted (slashed names)
 slashed_quoted [] all = refl

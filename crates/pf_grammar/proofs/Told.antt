@@ -44,7 +44,7 @@ use Rattle.pf_expansion.specs.Expansion.{host_family, type_family, occurring}
 use Rattle.pf_show.specs.Shown.{letters}
 use Rattle.pf_grammar.proofs.Numbers.{lt_is, IsDigit, Digits, BeginsDigit, decimal_digits, decimal_there, protocol_again, port_again, type_again, digit_free, decimal_begins}
 use Rattle.pf_conditions.proofs.Fronts.{rank}
-use Rattle.pf_statements.proofs.StatementsSpelled.{rule_rank}
+use Rattle.pf_statements.proofs.OptionsSpelled.{rule_rank}
 use Rattle.pf_grammar.proofs.FlagLetters.{flags_again, flags_with_again}
 use Rattle.pf_ruleset.specs.declared.rule.Conditions.{Conditions}
 use Rattle.pf_conditions.specs.Conditions.{CommonText, ConditionsText}

@@ -1,5 +1,5 @@
 -- Why a statement is refused.
-use Rattle.std.specs.Prelude.{ℕ, Bool, true, false, List, [], ◌∷◌, Option, Some, None}
+use Rattle.std.specs.Prelude.{Bool, true, false, List, [], ◌∷◌, length, Option, Some, None}
 use Rattle.pf_tokens.specs.declared.fault.ReadingFault.{ReadingFault}
 use Rattle.pf_tokens.specs.declared.fault.ReadingFault.TheVariants as reading
 use Rattle.pf_expansion.specs.declared.cause.Cause.{Cause}
@@ -8,6 +8,9 @@ use Rattle.pf_expansion.specs.Causes.{is_deep, lowest, rule_causes}
 use Rattle.pf_grammar.specs.declared.place.Place.{Place}
 use Rattle.pf_grammar.specs.declared.place.Place.TheVariants.{Main, Anchor}
 use Rattle.pf_statements.specs.Statements.{Statement, Sets, Rules, Setting, SetPolicy, SetSkip, Tables, Anchors}
+use Rattle.pf_statements.specs.Statements.{AnchorBlocks, BlockItem}
+use Rattle.pf_expansion.specs.Blocks.{block_causes, unnamed_in}
+use Rattle.pf_ruleset.specs.Items.{ItemValue}
 use Rattle.pf_expansion.specs.Anchors.{anchor_causes}
 use Rattle.pf_expansion.specs.Tables.{table_causes}
 use Rattle.pf_ruleset.specs.Rulesets.{TableValue}
@@ -30,10 +33,13 @@ is_deep_setting (SetSkip names) = is_deep names
 abbrev pub setting_causes : Place → Setting → List (Bool × Cause)
 setting_causes place setting = (is_anchor place, SetHere) ∷ (is_deep_setting setting, TooMany) ∷ []
 
--- the cause that refuses a statement, if one does; these tables and so many rules stand before it
-abbrev pub statement_cause : Place → List TableValue → ℕ → Option Statement → Option Cause
+-- the cause that refuses a statement, if one does; these tables and rules stand before it
+abbrev pub statement_cause : Place → List TableValue → List ItemValue → Option Statement → Option Cause
 statement_cause place tables before None = Some Syntax
 statement_cause place tables before (Some (Sets setting)) = lowest (setting_causes place setting)
 statement_cause place tables before (Some (Tables table)) = lowest (table_causes tables table)
-statement_cause place tables before (Some (Rules text)) = lowest (rule_causes before text)
-statement_cause place tables before (Some (Anchors text)) = lowest (anchor_causes before text)
+statement_cause place tables before (Some (Rules text)) = lowest (rule_causes (length before) text)
+statement_cause place tables before (Some (Anchors text)) =
+    lowest (anchor_causes (length before) (unnamed_in 0 before) text)
+statement_cause place tables before (Some (AnchorBlocks heading block)) =
+    lowest (block_causes before (BlockItem heading block))

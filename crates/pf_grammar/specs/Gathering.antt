@@ -32,6 +32,7 @@ with_change sofar (changes.Adds rules) =
     record sofar { items = sofar.items ++ map (λ (r : Rule). Filters r) rules.items }
 with_change sofar (changes.AddsAnchors headings) =
     record sofar { items = sofar.items ++ map (λ (h : Heading). Anchors h) (map heading_of headings.items) }
+with_change sofar (changes.AddsItems items) = record sofar { items = sofar.items ++ items_of items.items }
 
 -- what the statement changes, or its refusal; unless memory ran out
 abbrev pub Judges : Sofar → Result Change ParseFault → Result Sofar Refusal → Type 0

@@ -37,6 +37,8 @@ pub(crate) enum Change {
     Adds(Vec<Rule>),
     /// It comes to these anchor rules.
     AddsAnchors(Vec<AnchorHeading>),
+    /// It comes to these rules of any kind.
+    AddsItems(Vec<Item>),
 }
 
 /// Appends the names.
@@ -73,6 +75,17 @@ fn push_anchors(items: &mut Vec<Item>, headings: Vec<AnchorHeading>) -> Result<(
     Ok(())
 }
 
+/// Appends the rules of any kind.
+#[tactic(auto, using(crate::proofs::ReadingSteps::items_append))]
+fn push_items(items: &mut Vec<Item>, more: Vec<Item>) -> Result<(), AllocError>
+    ensures { OnOk result (items_of items.new.items ≡ items_of items.old.items ++ items_of more.items) }
+{
+    for item in more {
+        items.push(item)?;
+    }
+    Ok(())
+}
+
 impl Gathered {
     /// Before the first statement.
     pub(crate) fn new(alloc: Global) -> Gathered
@@ -99,6 +112,7 @@ impl Gathered {
             Change::Tables(table) => self.tables.push(table)?,
             Change::Adds(rules) => push_rules(&mut self.items, rules)?,
             Change::AddsAnchors(headings) => push_anchors(&mut self.items, headings)?,
+            Change::AddsItems(items) => push_items(&mut self.items, items)?,
         }
         Ok(())
     }

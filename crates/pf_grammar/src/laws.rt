@@ -1,15 +1,19 @@
 //! Laws over the definitions.
 
 ghost use Rattle.pf_ruleset.specs.Rulesets.{RulesetValue};
+ghost use Rattle.pf_grammar.specs.Again.{FitsStatement};
 ghost use Rattle.pf_grammar.specs.Reading.{reading};
+ghost use Rattle.std.specs.List.{AllByRecursion};
 ghost use Rattle.pf_show.specs.Shown.{shown};
 ghost use Rattle.pf_grammar.specs.declared.place.Place.{Place as IPlace};
 ghost use Rattle.pf_words.specs.declared.profile.Profile.{Profile as IProfile};
 ghost use Rattle.std.specs.Prelude.{List, Ok, length, ◌≡◌, ◌≤◌, ℕ};
 
 /// A ruleset that a text gives is what its shown text gives at the same place and profile, where the line of the
-/// skipped interfaces has no more than the 65,536 tokens that a statement may have.
+/// skipped interfaces has no more than the 65,536 tokens that a statement may have, and neither have the lines of a
+/// rule with its block, nor more than 64 open braces.
 pub fn reading_again()
     ensures { (place : IPlace) (profile : IProfile) (text : List ℕ) (r : RulesetValue) → length r.skip ≤ 65531 →
-        reading place profile text ≡ Ok r → reading place profile (shown r) ≡ Ok r }
+        AllByRecursion FitsStatement r.items → reading place profile text ≡ Ok r →
+        reading place profile (shown r) ≡ Ok r }
 {}

@@ -1,7 +1,12 @@
 pub mod OptionSteps
 pub mod Steps
+pub mod OverSteps
+pub mod Over
 pub mod TableSteps
 pub mod TablesSpelled
 pub mod RulesSpelled
-pub mod StatementsSpelled
+pub mod OptionsSpelled
 pub mod AnchorsSpelled
+pub mod BlocksSpelled
+pub mod BlockSteps
+pub mod StatementsSpelled

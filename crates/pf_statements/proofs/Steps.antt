@@ -1,5 +1,5 @@
 -- Options are read one after another, to the end of the statement.
-use Rattle.std.proofs.Common.{◌≡◌, ℕ, zero, suc, ◌<◌, Bool, true, false, List, length, Option, Some, None, Err, refl, sym, arith}
+use Rattle.std.proofs.Common.{◌≡◌, ℕ, zero, suc, ◌<◌, true, false, List, length, Option, Some, None, Err, refl, sym, arith}
 use Rattle.pf_tokens.specs.declared.stop.Stop.{Stop}
 use Rattle.pf_tokens.specs.declared.stop.Stop.TheVariants as stops
 use Rattle.pf_tokens.specs.Tokens.{Token}

@@ -1,5 +1,5 @@
 -- An option of a table takes a token at least.
-use Rattle.std.proofs.Common.{◌≡◌, ◌<◌, ◌≤◌, Bool, true, false, cond, List, drop, length, Some, None, refl, arith, ap, codes}
+use Rattle.std.proofs.Common.{◌≡◌, ◌<◌, Bool, true, false, cond, List, drop, length, Some, None, refl, arith, codes}
 use Rattle.std.specs.Prelude.{is_some}
 use Rattle.pf_words.specs.declared.profile.Profile.{Profile}
 use Rattle.pf_tokens.specs.Tokens.{Token}

@@ -1,7 +1,7 @@
 -- The grammar of a statement, production by production (pf.conf(5), GRAMMAR): which tokens spell which value. It knows
 -- nothing of how a text is read.
-use Rattle.std.specs.Prelude.{◌≡◌, ℕ, ◌+◌, Bool, true, false, List, [], ◌∷◌, ◌++◌, Option, Some}
-use Rattle.std.specs.Prelude.{None, Ok, max, codes}
+use Rattle.std.specs.Prelude.{◌≡◌, ℕ, Bool, true, false, List, [], ◌∷◌, ◌++◌, Option, Some}
+use Rattle.std.specs.Prelude.{None, codes}
 use Rattle.pf_words.specs.declared.profile.Profile.{Profile}
 use Rattle.pf_tokens.specs.Tokens.{Token, Newline, Quoted}
 use Rattle.pf_tokens.specs.Lists.{Elements}
@@ -15,8 +15,11 @@ use Rattle.pf_statements.specs.declared.written.WrittenAction.TheVariants.{Pass,
 use Rattle.pf_conditions.specs.declared.written.WrittenType.{WrittenType}
 use Rattle.pf_ruleset.specs.Names.{Name}
 use Rattle.pf_statements.specs.Statements.{Options, no_options, has_types, may_keep, RuleText, Setting, SetPolicy}
-use Rattle.pf_statements.specs.Statements.{SetSkip, Statement, Sets, Rules, Tables, Anchors}
-use Rattle.pf_statements.specs.Anchors.{AnchorText}
+use Rattle.pf_statements.specs.Statements.{SetSkip, Statement, Sets, Rules, Tables, Anchors, AnchorBlocks}
+use Rattle.pf_statements.specs.Statements.{ItemText, RuleItem, AnchorItem, BlockItem, ItemTexts, no_texts, one_text}
+use Rattle.pf_statements.specs.Statements.{is_wild}
+use Rattle.pf_statements.specs.Options.{is_over}
+use Rattle.pf_statements.specs.Anchors.{AnchorText, HeadingText}
 use Rattle.pf_ruleset.specs.Items.{Target}
 use Rattle.pf_words.specs.Words.{is_reserved}
 use Rattle.pf_conditions.specs.Targets.{target_of}
@@ -123,6 +126,46 @@ pub record IsAnchor (profile : Profile) (tokens : List Token) (a : AnchorText) :
   pub are_flags : IsBehind (codes "flags") IsFlags flags a.conditions.flags
   pub no_types : a.conditions.types ≡ None
 
+-- [x]
+pub data IsOptional {X : Type 0} (Is : List Token → X → Type 0) : List Token → Option X → Type 0 where
+  LeftOut : IsOptional Is [] None
+  Given : (ts : List Token) (x : X) → Is ts x → IsOptional Is ts (Some x)
+
+-- heading = [ANAME] [way] ["quick"] common [flags]
+pub record IsHeading (profile : Profile) (tokens : List Token) (h : HeadingText) : Type 0 where
+  pub target : List Token
+  pub direction : List Token
+  pub quick : List Token
+  pub common : List Token
+  pub flags : List Token
+  pub whole : tokens ≡ target ++ (direction ++ (quick ++ (common ++ flags)))
+  pub is_target : IsOptional (IsTarget profile) target h.target
+  pub is_direction : IsDirection direction h.conditions.direction
+  pub is_quick : IsSaid (codes "quick") quick h.quick
+  pub is_common : IsCommon profile common h.conditions.common
+  pub are_flags : IsBehind (codes "flags") IsFlags flags h.conditions.flags
+  pub no_types : h.conditions.types ≡ None
+
+-- ---- blocks
+
+mutual
+  -- item = rule | "anchor" anchor | "anchor" heading "{" items "}", where `x/*` carries no block
+  pub data IsItem (profile : Profile) : List Token → ItemText → Type 0 where
+    ARule : (ts : List Token) (rule : RuleText) → IsRule profile ts rule → IsItem profile ts (RuleItem rule)
+    AnAnchor : (ts : List Token) (anchor : AnchorText) → IsAnchor profile ts anchor →
+        IsItem profile (key (codes "anchor") ++ ts) (AnchorItem anchor)
+    ABlock : (ts us : List Token) (h : HeadingText) (items : ItemTexts) → IsHeading profile ts h →
+        is_wild h.target ≡ false → AreItems profile us items →
+        IsItem profile (key (codes "anchor") ++ (ts ++ (sign mark.Open ++ (us ++ sign mark.Close)))) (BlockItem h items)
+
+  -- items = {NL} [item {NL {NL} item} {NL}]: nothing stands behind an item on its line
+  pub data AreItems (profile : Profile) : List Token → ItemTexts → Type 0 where
+    NoItem : AreItems profile [] no_texts
+    EmptyLine : (ts : List Token) (items : ItemTexts) → AreItems profile ts items →
+        AreItems profile (Newline ∷ ts) items
+    OneItem : (ts us : List Token) (item : ItemText) (items : ItemTexts) → IsItem profile ts item → is_over us ≡
+        true → AreItems profile us items → AreItems profile (ts ++ us) (one_text item items)
+
 -- ---- tables
 
 -- ["!"] prefix
@@ -170,7 +213,7 @@ pub data IsSetting (profile : Profile) : List Token → Setting → Type 0 where
   SkipSetting : (ts : List Token) (names : Elements Name) → IsSome (IsInterfaceName profile) ts names →
       IsSetting profile (key (codes "skip") ++ (key (codes "on") ++ ts)) (SetSkip names)
 
--- statement = "set" setting | "table" table | "anchor" anchor | rule
+-- statement = "set" setting | "table" table | "anchor" anchor | "anchor" heading "{" items "}" | rule
 pub data IsStatement (profile : Profile) : List Token → Statement → Type 0 where
   SetStatement : (ts : List Token) (setting : Setting) → IsSetting profile ts setting →
       IsStatement profile (key (codes "set") ++ ts) (Sets setting)
@@ -179,3 +222,7 @@ pub data IsStatement (profile : Profile) : List Token → Statement → Type 0 w
   RuleStatement : (ts : List Token) (rule : RuleText) → IsRule profile ts rule → IsStatement profile ts (Rules rule)
   AnchorStatement : (ts : List Token) (anchor : AnchorText) → IsAnchor profile ts anchor →
       IsStatement profile (key (codes "anchor") ++ ts) (Anchors anchor)
+  BlockStatement : (ts us : List Token) (h : HeadingText) (items : ItemTexts) → IsHeading profile ts h →
+      is_wild h.target ≡ false → AreItems profile us items →
+      IsStatement profile (key (codes "anchor") ++ (ts ++ (sign mark.Open ++ (us ++ sign mark.Close))))
+      (AnchorBlocks h items)

@@ -1,5 +1,5 @@
 -- What the code's written rules and statements stand for.
-use Rattle.std.specs.Prelude.{◌≡◌, ℕ, Option, Some, None, Result, Ok, Err}
+use Rattle.std.specs.Prelude.{◌≡◌, List, map, Option, Some, None, option_map, Result, Ok, Err}
 use Rattle.pf_tokens.specs.declared.stop.Stop.{Stop}
 use Rattle.pf_tokens.specs.declared.stop.Stop.TheVariants as stops
 use Rattle.pf_tokens.specs.Lists.{elements_of}
@@ -10,12 +10,16 @@ use Rattle.pf_statements.specs.declared.written.Setting.TheVariants as settings
 use Rattle.pf_statements.specs.declared.written.Statement as statement
 use Rattle.pf_statements.specs.declared.written.Statement.TheVariants as statements
 use Rattle.pf_statements.specs.Statements.{Options, RuleText, Setting, SetPolicy, SetSkip, Statement, Sets, Rules}
-use Rattle.pf_statements.specs.Statements.{Tables, Anchors}
+use Rattle.pf_statements.specs.Statements.{Tables, Anchors, AnchorBlocks, ItemText, RuleItem, AnchorItem, BlockItem}
+use Rattle.pf_statements.specs.Statements.{ItemTexts, texts_of}
+use Rattle.pf_statements.specs.declared.written.WrittenHeading.{WrittenHeading}
+use Rattle.pf_statements.specs.declared.written.WrittenItem.{WrittenItem, fold-WrittenItem}
+use Rattle.pf_statements.specs.declared.written.WrittenItem.TheOpen.{WrittenItem-F}
 use Rattle.pf_conditions.specs.Seen.{list_of, conditions_of}
 use Rattle.pf_statements.specs.Tables.{TableText}
 use Rattle.pf_statements.specs.declared.written.WrittenTable.{WrittenTable}
 use Rattle.pf_statements.specs.declared.written.WrittenAnchor.{WrittenAnchor}
-use Rattle.pf_statements.specs.Anchors.{AnchorText}
+use Rattle.pf_statements.specs.Anchors.{AnchorText, HeadingText}
 use Rattle.pf_ruleset.specs.Seen.{target_of}
 
 abbrev pub options_of : options.RuleOptions → Options
@@ -26,6 +30,25 @@ text_of r = record { action = r.action; quick = r.quick; conditions = conditions
 
 abbrev pub anchor_text_of : WrittenAnchor → AnchorText
 anchor_text_of a = record { target = target_of a.target; quick = a.quick; conditions = conditions_of a.conditions }
+
+abbrev pub heading_text_of : WrittenHeading → HeadingText
+heading_text_of h = record {
+  target = option_map target_of h.target;
+  quick = h.quick;
+  conditions = conditions_of h.conditions;
+}
+
+-- one level, with each rule in a block already seen as its value
+abbrev pub item_step : WrittenItem-F ItemText → ItemText
+item_step (WrittenItem-F.Rule rule) = RuleItem (text_of rule)
+item_step (WrittenItem-F.Anchor anchor) = AnchorItem (anchor_text_of anchor)
+item_step (WrittenItem-F.Block heading items) = BlockItem (heading_text_of heading) (texts_of items.items)
+
+abbrev pub item_text_of : WrittenItem → ItemText
+item_text_of = fold-WrittenItem ItemText item_step
+
+abbrev pub item_texts_of : List WrittenItem → ItemTexts
+item_texts_of items = texts_of (map item_text_of items)
 
 abbrev pub table_text_of : WrittenTable → TableText
 table_text_of t = record { name = t.name; persist = t.persist; is_const = t.is_const; entries = list_of t.entries }
@@ -39,6 +62,7 @@ statement_of (statements.Sets said) = Sets (setting_of said)
 statement_of (statements.Tables table) = Tables (table_text_of table)
 statement_of (statements.Rules text) = Rules (text_of text)
 statement_of (statements.Anchors text) = Anchors (anchor_text_of text)
+statement_of (statements.Blocks heading items) = AnchorBlocks (heading_text_of heading) (item_texts_of items.items)
 
 -- the whole statement spells the value, or doesn't; unless memory ran out
 abbrev pub Spells : {X Y : Type 0} → (X → Y) → Result X Stop → Option Y → Type 0

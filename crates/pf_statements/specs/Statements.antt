@@ -1,12 +1,11 @@
 -- What a statement says, production by production (pf.conf(5), GRAMMAR).
-use Rattle.std.specs.Prelude.{ℕ, zero, suc, ◌&&◌, ◌==◌, Bool, true, false, List, [], ◌∷◌, drop, length}
-use Rattle.std.specs.Prelude.{Option, Some, None, is_some, not, codes, if◌then◌else◌}
-use Rattle.std.specs.List.{list_any}
-use Rattle.std.specs.Result.{result_ok}
+use Rattle.std.specs.Prelude.{ℕ, zero, suc, ◌&&◌, Bool, true, false, List, [], ◌∷◌, drop, length}
+use Rattle.std.specs.Prelude.{Option, Some, None, is_some, codes, if◌then◌else◌}
 use Rattle.pf_words.specs.declared.profile.Profile.{Profile}
 use Rattle.pf_words.specs.declared.profile.Profile.TheVariants.{One, Two}
-use Rattle.pf_tokens.specs.Tokens.{Token}
-use Rattle.pf_tokens.specs.Productions.{Read, ◌>>=◌, is_end, begins, option_at}
+use Rattle.pf_tokens.specs.declared.symbol.Symbol.TheVariants as mark
+use Rattle.pf_tokens.specs.Tokens.{Token, is_newline}
+use Rattle.pf_tokens.specs.Productions.{Read, ◌>>=◌, is_end, begins, begins_symbol, starts, option_at}
 use Rattle.pf_tokens.specs.Lists.{Elements, some_at}
 use Rattle.pf_ruleset.specs.declared.parts.Policy.{Policy}
 use Rattle.pf_ruleset.specs.declared.parts.Policy.TheVariants as policy
@@ -16,9 +15,10 @@ use Rattle.pf_statements.specs.declared.written.WrittenAction.TheVariants.{Pass,
 use Rattle.pf_conditions.specs.declared.written.WrittenType.{WrittenType}
 use Rattle.pf_ruleset.specs.Names.{Name}
 use Rattle.pf_conditions.specs.Conditions.{if_so, interface_name_at, flags_at, types_at, common_at, ConditionsText}
-use Rattle.pf_statements.specs.Options.{to_end}
+use Rattle.pf_statements.specs.Options.{is_over, until_over}
 use Rattle.pf_statements.specs.Directions.{direction_at}
-use Rattle.pf_statements.specs.Anchors.{AnchorText, anchor_of}
+use Rattle.pf_statements.specs.Anchors.{AnchorText, HeadingText, anchor_with, heading_at}
+use Rattle.pf_ruleset.specs.Items.{Target}
 use Rattle.pf_statements.specs.Tables.{TableText, table_of}
 
 -- ---- options
@@ -62,9 +62,9 @@ option_with profile o ts =
     else (if has_types profile && begins (codes "icmp-type") ts then types_option profile o (drop 1 ts)
     else None)))
 
--- {option} to the end of the statement; no more than n are read
-abbrev pub options_at : ℕ → Profile → Options → List Token → Option Options
-options_at n profile o ts = to_end (option_with profile) n o ts
+-- {option} up to where the rule is over; no more than n are read
+abbrev pub options_at : ℕ → Profile → Options → List Token → Read Options
+options_at n profile o ts = until_over (option_with profile) n o ts
 
 -- ---- rules
 
@@ -95,20 +95,94 @@ may_keep (Blocks said) (Some false) = true
 may_keep (Blocks said) None = true
 
 -- rule = action [way] ["log"] ["quick"] common {option}
-unfoldable pub rule_of : Profile → List Token → Option RuleText
-rule_of profile ts = do
+unfoldable pub rule_at : Profile → List Token → Read RuleText
+rule_at profile ts = do
   action ← action_at ts
   let direction = direction_at action.1
   let log = option_at (codes "log") direction.1
   let quick = option_at (codes "quick") log.1
   common ← common_at profile quick.1
   options ← options_at (suc (length common.1)) profile no_options common.1
-  if_so (may_keep action.0 options.state) (record {
-    action = action.0;
-    quick = quick.0;
-    conditions = record { direction = direction.0; common = common.0; flags = options.flags; types = options.types };
-    state = options.state;
-  })
+  if_so (may_keep action.0 options.0.state) (
+    record {
+      action = action.0;
+      quick = quick.0;
+      conditions = record {
+        direction = direction.0;
+        common = common.0;
+        flags = options.0.flags;
+        types = options.0.types;
+      };
+      state = options.0.state;
+    },
+    options.1,
+  )
+
+-- ---- blocks
+
+mutual
+  -- a filter rule, an anchor rule without a block, or one with its block, as they are written
+  pub data ItemText : Type 0 where
+    RuleItem : (rule : RuleText) → ItemText
+    AnchorItem : (anchor : AnchorText) → ItemText
+    BlockItem : (heading : HeadingText) → (block : ItemTexts) → ItemText
+
+  -- the rules of a block
+  pub data ItemTexts : Type 0 where
+    no_texts : ItemTexts
+    one_text : (item : ItemText) → (items : ItemTexts) → ItemTexts
+
+abbrev pub texts_of : List ItemText → ItemTexts
+texts_of [] = no_texts
+texts_of (item ∷ items) = one_text item (texts_of items)
+
+-- `/*` stands behind the name
+abbrev pub is_wild : Option Target → Bool
+is_wild None = false
+is_wild (Some target) = target.children
+
+-- an anchor rule without a block: it has a name
+abbrev pub anchor_item : HeadingText → List Token → Read ItemText
+anchor_item h ts = h.target >>= λ target. if_so (is_over ts) (AnchorItem (anchor_with h target), ts)
+
+-- an anchor rule behind its block
+abbrev pub block_item : HeadingText → ItemTexts × List Token → Read ItemText
+block_item h block = if_so (is_over block.1) (BlockItem h block.0, block.1)
+
+-- an anchor rule behind its heading, where a block is read so behind its brace
+unfoldable pub anchor_behind : (List Token → Read ItemTexts) → HeadingText → List Token → Read ItemText
+anchor_behind block h ts =
+    if begins_symbol mark.Open ts then (if is_wild h.target then None else (block (drop 1 ts) >>= block_item h))
+    else anchor_item h ts
+
+abbrev pub as_rule : RuleText × List Token → Read ItemText
+as_rule rule = Some (RuleItem rule.0, rule.1)
+
+-- a filter rule
+abbrev pub rule_item_at : Profile → List Token → Read ItemText
+rule_item_at profile ts = rule_at profile ts >>= as_rule
+
+-- item = "anchor" heading [block] | rule, where a block is read so behind its brace
+unfoldable pub item_with : (List Token → Read ItemTexts) → Profile → List Token → Read ItemText
+item_with block profile ts =
+    if begins (codes "anchor") ts then (heading_at profile (drop 1 ts) >>= λ h. anchor_behind block h.0 h.1)
+    else rule_item_at profile ts
+
+abbrev pub put_text : ItemText → ItemTexts × List Token → Read ItemTexts
+put_text item more = Some (one_text item more.0, more.1)
+
+-- block = "{" {NL} [item {NL {NL} item} {NL}] "}", behind the brace that opens it; an item ends where it is over. No
+-- more than n steps are made, of which each takes a token.
+unfoldable pub items_at : ℕ → Profile → List Token → Read ItemTexts
+items_at zero profile ts = None
+items_at (suc n) profile ts =
+    if starts is_newline ts then items_at n profile (drop 1 ts)
+    else (if begins_symbol mark.Close ts then Some (no_texts, drop 1 ts)
+    else (item_with (items_at n profile) profile ts >>= λ item. items_at n profile item.1 >>= put_text item.0))
+
+-- a rule of any kind, with no more than n steps in each block
+unfoldable pub item_at : ℕ → Profile → List Token → Read ItemText
+item_at n profile ts = item_with (items_at n profile) profile ts
 
 -- ---- set
 
@@ -144,27 +218,30 @@ pub data Statement : Type 0 where
   Tables : (table : TableText) → Statement
   Rules : (rule : RuleText) → Statement
   Anchors : (anchor : AnchorText) → Statement
+  AnchorBlocks : (heading : HeadingText) → (block : ItemTexts) → Statement
 
 abbrev pub as_setting : Option Setting → Option Statement
 as_setting None = None
 as_setting (Some setting) = Some (Sets setting)
 
-abbrev pub as_rule : Option RuleText → Option Statement
-as_rule None = None
-as_rule (Some rule) = Some (Rules rule)
-
 abbrev pub as_table : Option TableText → Option Statement
 as_table None = None
 as_table (Some table) = Some (Tables table)
 
-abbrev pub as_anchor : Option AnchorText → Option Statement
-as_anchor None = None
-as_anchor (Some anchor) = Some (Anchors anchor)
+-- a rule of any kind as a statement
+abbrev pub statement_with : ItemText → Statement
+statement_with (RuleItem rule) = Rules rule
+statement_with (AnchorItem anchor) = Anchors anchor
+statement_with (BlockItem heading block) = AnchorBlocks heading block
+
+-- the rule, where it is all of the statement
+abbrev pub as_item : Read ItemText → Option Statement
+as_item None = None
+as_item (Some (item, ts)) = if_so (is_end ts) (statement_with item)
 
 -- the value of a statement that defines no macro, none where the grammar doesn't spell it
 unfoldable pub value_of : Profile → List Token → Option Statement
 value_of profile ts =
     if begins (codes "set") ts then as_setting (setting_of profile (drop 1 ts))
     else (if begins (codes "table") ts then as_table (table_of profile (drop 1 ts))
-    else (if begins (codes "anchor") ts then as_anchor (anchor_of profile (drop 1 ts))
-    else as_rule (rule_of profile ts)))
+    else as_item (item_at (length ts) profile ts))

@@ -1,5 +1,5 @@
 -- What a table statement says, production by production (pf.conf(5), TABLES).
-use Rattle.std.specs.Prelude.{ℕ, suc, ◌&&◌, Bool, true, false, List, [], drop, length, Option, Some, None}
+use Rattle.std.specs.Prelude.{suc, ◌&&◌, Bool, true, false, List, [], drop, length, Option, Some, None}
 use Rattle.std.specs.Prelude.{is_some, codes, if◌then◌else◌}
 use Rattle.pf_words.specs.declared.profile.Profile.{Profile}
 use Rattle.pf_tokens.specs.declared.symbol.Symbol.TheVariants as mark

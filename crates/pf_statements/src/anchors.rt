@@ -1,14 +1,15 @@
-//! Anchor rules.
+//! Anchor rules up to their blocks.
 
-ghost use Rattle.std.specs.Prelude.{◌≡◌};
+ghost use Rattle.std.specs.Prelude.{◌≡◌, option_map};
 ghost use Rattle.pf_tokens.specs.Parsing.{left, later, Parses};
-ghost use Rattle.pf_statements.specs.Anchors.{said_flags, anchor_of};
-ghost use Rattle.pf_statements.specs.Seen.{anchor_text_of, Spells};
+ghost use Rattle.pf_ruleset.specs.Seen.{target_of};
+ghost use Rattle.pf_statements.specs.Anchors.{said_flags, heading_at, optional_target_at};
+ghost use Rattle.pf_statements.specs.Seen.{heading_text_of};
 
 use crate::directions::read_direction;
-use crate::written::WrittenAnchor;
-use pf_conditions::{WrittenConditions, read_common, read_flags, read_target};
-use pf_ruleset::FlagTest;
+use crate::written::WrittenHeading;
+use pf_conditions::{WrittenConditions, may_begin_target, read_common, read_flags, read_target};
+use pf_ruleset::{FlagTest, Target};
 use pf_tokens::{Parser, Stop};
 use pf_words::Profile;
 use std::alloc::Global;
@@ -28,25 +29,40 @@ fn read_said_flags<'t: 's, 's>(parser: &mut Parser<'t, 's>) -> Result<Option<Fla
     }
 }
 
-/// An anchor rule behind its first word.
-#[tactic(auto, unfolding(crate::specs::Anchors::anchor_of))]
-pub(crate) fn read_anchor<'t: 's, 's>(
+/// The name, if it is said.
+#[tactic(auto, unfolding(crate::specs::Anchors::optional_target_at))]
+fn read_optional_target<'t: 's, 's>(
     alloc: Global,
     profile: Profile,
     parser: &mut Parser<'t, 's>,
-) -> Result<WrittenAnchor, Stop>
-    ensures value { Spells anchor_text_of result (anchor_of profile (left parser.old)) }
+) -> Result<Option<Target>, Stop>
+    ensures read { Parses (λ target. option_map target_of target) result (left parser.new)
+        (optional_target_at profile (left parser.old)) }
     ensures later { later parser.new ≡ later parser.old }
 {
+    if !may_begin_target(profile, parser) {
+        return Ok(None);
+    }
     let target = read_target(alloc, profile, parser)?;
+    Ok(Some(target))
+}
+
+/// An anchor rule behind its first word, up to its block.
+#[tactic(auto, unfolding(crate::specs::Anchors::heading_at))]
+pub(crate) fn read_heading<'t: 's, 's>(
+    alloc: Global,
+    profile: Profile,
+    parser: &mut Parser<'t, 's>,
+) -> Result<WrittenHeading, Stop>
+    ensures read { Parses heading_text_of result (left parser.new) (heading_at profile (left parser.old)) }
+    ensures later { later parser.new ≡ later parser.old }
+{
+    let target = read_optional_target(alloc, profile, parser)?;
     let direction = read_direction(parser);
     let quick = parser.accept(b"quick");
     let common = read_common(alloc, profile, parser)?;
     let flags = read_said_flags(parser)?;
-    if !parser.at_end() {
-        return Err(Stop::Syntax);
-    }
-    Ok(WrittenAnchor {
+    Ok(WrittenHeading {
         target,
         quick,
         conditions: WrittenConditions {

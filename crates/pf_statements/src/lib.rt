@@ -3,11 +3,13 @@
 //! # Organization
 //!
 //! - [`read_statement`] reads a statement at a parser of `pf_tokens`: a [`Statement`], which sets something, or is a
-//!   [`WrittenTable`], a [`WrittenRule`] or a [`WrittenAnchor`].
+//!   [`WrittenTable`], a [`WrittenRule`], a [`WrittenAnchor`], or a [`WrittenHeading`] with a block of
+//!   [`WrittenItem`]s.
 //! - [`reads_the_grammar`]: a statement is read exactly as the grammar spells it.
 #![tactic(auto)]
 
 mod anchors;
+mod blocks;
 mod directions;
 mod laws;
 mod options;
@@ -18,5 +20,6 @@ mod written;
 pub use laws::reads_the_grammar;
 pub use statements::read_statement;
 pub use written::{
-    RuleOptions, Setting, Statement, WrittenAction, WrittenAnchor, WrittenRule, WrittenTable,
+    RuleOptions, Setting, Statement, WrittenAction, WrittenAnchor, WrittenHeading, WrittenItem,
+    WrittenRule, WrittenTable,
 };

@@ -4,11 +4,12 @@ ghost use Rattle.std.specs.Prelude.{◌≡◌, suc, length};
 ghost use Rattle.pf_tokens.specs.Parsing.{left, later, Parses};
 ghost use Rattle.pf_statements.specs.Statements.{has_types, no_options, flags_option, state_option, types_option};
 ghost use Rattle.pf_statements.specs.Statements.{option_with, options_at};
-ghost use Rattle.pf_statements.specs.Seen.{options_of, Spells};
+ghost use Rattle.pf_statements.specs.Options.{is_over};
+ghost use Rattle.pf_statements.specs.Seen.{options_of};
 
 use crate::written::RuleOptions;
 use pf_conditions::{read_flags, read_types};
-use pf_tokens::{Parser, Stop};
+use pf_tokens::{Lexeme, Parser, Stop, Symbol};
 use pf_words::Profile;
 use std::alloc::Global;
 
@@ -128,14 +129,26 @@ fn read_option<'t: 's, 's>(
     }
 }
 
-/// The options up to the end of the statement.
+/// Whether the rule is over: nothing is left, or in a block a newline or the brace that closes it comes next.
+pub(crate) fn is_over(parser: &Parser<'_, '_>) -> bool
+    ensures { result ≡ is_over (left parser.now) }
+{
+    match parser.peek() {
+        None => true,
+        Some(Lexeme::Newline) => true,
+        Some(Lexeme::Mark(found)) => found == Symbol::Close,
+        Some(_) => false,
+    }
+}
+
+/// The options up to where the rule is over.
 pub(crate) fn read_options<'t: 's, 's>(
     alloc: Global,
     profile: Profile,
     parser: &mut Parser<'t, 's>,
 ) -> Result<RuleOptions, Stop>
-    ensures value { Spells options_of result (options_at (suc (length (left parser.old))) profile no_options
-        (left parser.old)) }
+    ensures read { Parses options_of result (left parser.new) (options_at (suc (length (left parser.old))) profile
+        no_options (left parser.old)) }
     ensures later { later parser.new ≡ later parser.old }
 {
     let mut options = RuleOptions {
@@ -143,7 +156,7 @@ pub(crate) fn read_options<'t: 's, 's>(
         state: None,
         types: None,
     };
-    'options: while !parser.at_end() {
+    'options: while !is_over(parser) {
         options = read_option(alloc, profile, options, parser)?;
     }
     Ok(options)

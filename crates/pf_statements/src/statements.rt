@@ -1,13 +1,13 @@
 //! Statements that define no macro.
 
 ghost use Rattle.std.specs.Prelude.{◌≡◌};
-ghost use Rattle.pf_tokens.specs.Parsing.{left, later, Reads};
-ghost use Rattle.pf_statements.specs.Statements.{policy_at, action_at, may_keep, rule_of, skip_set};
+ghost use Rattle.pf_tokens.specs.Parsing.{left, later, Parses, Reads};
+ghost use Rattle.pf_statements.specs.Statements.{policy_at, action_at, may_keep, rule_at, skip_set};
 ghost use Rattle.pf_statements.specs.Statements.{setting_of, value_of};
 ghost use Rattle.pf_statements.specs.Seen.{text_of, statement_of, Spells};
 ghost use Rattle.pf_statements.specs.Seen as seen;
 
-use crate::anchors::read_anchor;
+use crate::blocks::read_item;
 use crate::directions::read_direction;
 use crate::options::read_options;
 use crate::tables::read_table_text;
@@ -60,13 +60,13 @@ fn may_keep(action: WrittenAction, state: Option<bool>) -> bool
 }
 
 /// A filter rule.
-#[tactic(auto, unfolding(crate::specs::Statements::rule_of))]
-fn read_rule<'t: 's, 's>(
+#[tactic(auto, unfolding(crate::specs::Statements::rule_at))]
+pub(crate) fn read_rule<'t: 's, 's>(
     alloc: Global,
     profile: Profile,
     parser: &mut Parser<'t, 's>,
 ) -> Result<WrittenRule, Stop>
-    ensures value { Spells text_of result (rule_of profile (left parser.old)) }
+    ensures read { Parses text_of result (left parser.new) (rule_at profile (left parser.old)) }
     ensures later { later parser.new ≡ later parser.old }
 {
     let Some(action) = read_action(parser) else {
@@ -160,10 +160,9 @@ pub fn read_statement<'t: 's, 's>(
         let table = read_table_text(alloc, profile, parser)?;
         return Ok(Statement::Tables(table));
     }
-    if parser.accept(b"anchor") {
-        let anchor = read_anchor(alloc, profile, parser)?;
-        return Ok(Statement::Anchors(anchor));
+    let item = read_item(alloc, profile, 0, parser)?;
+    if !parser.at_end() {
+        return Err(Stop::Syntax);
     }
-    let rule = read_rule(alloc, profile, parser)?;
-    Ok(Statement::Rules(rule))
+    Ok(Statement::of_item(item))
 }

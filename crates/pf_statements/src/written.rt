@@ -1,5 +1,10 @@
 //! Statements as they are written, before lists are expanded.
 
+ghost use Rattle.std.specs.Prelude.{◌≡◌};
+ghost use Rattle.pf_statements.specs.Statements.{AnchorItem, BlockItem, RuleItem, statement_with};
+ghost use Rattle.pf_statements.specs.Seen.{anchor_text_of, heading_text_of, item_text_of, item_texts_of};
+ghost use Rattle.pf_statements.specs.Seen.{statement_of, text_of};
+
 use pf_conditions::{WrittenConditions, WrittenType};
 use pf_ruleset::{FlagTest, InterfaceName, Policy, TableEntry, TableName, Target};
 use pf_tokens::Listed;
@@ -37,7 +42,7 @@ pub struct WrittenRule {
     pub state: Option<bool>,
 }
 
-/// An anchor rule as it is written.
+/// An anchor rule without a block, as it is written.
 #[derive(Debug, Drop)]
 pub struct WrittenAnchor {
     /// The anchors that it evaluates.
@@ -46,6 +51,51 @@ pub struct WrittenAnchor {
     pub quick: bool,
     /// What it says of packets.
     pub conditions: WrittenConditions,
+}
+
+/// An anchor rule up to its block, as it is written (pf.conf(5), ANCHORS).
+#[derive(Debug, Drop)]
+pub struct WrittenHeading {
+    /// The anchors that it evaluates, if they are named: the name of a block may be left out.
+    pub target: Option<Target>,
+    /// Whether `quick` is said.
+    pub quick: bool,
+    /// What it says of packets.
+    pub conditions: WrittenConditions,
+}
+
+/// A rule of any kind as it is written.
+#[derive(Debug, Drop)]
+pub enum WrittenItem {
+    /// A filter rule.
+    Rule(WrittenRule),
+    /// An anchor rule without a block.
+    Anchor(WrittenAnchor),
+    /// An anchor rule with the rules of its block.
+    Block(WrittenHeading, Vec<WrittenItem>),
+}
+
+impl WrittenItem {
+    /// A filter rule.
+    pub(crate) fn rule(rule: WrittenRule) -> WrittenItem
+        ensures { item_text_of result ≡ RuleItem (text_of rule) }
+    {
+        WrittenItem::Rule(rule)
+    }
+
+    /// An anchor rule without a block.
+    pub(crate) fn anchor(anchor: WrittenAnchor) -> WrittenItem
+        ensures { item_text_of result ≡ AnchorItem (anchor_text_of anchor) }
+    {
+        WrittenItem::Anchor(anchor)
+    }
+
+    /// An anchor rule with the rules of its block.
+    pub(crate) fn block(heading: WrittenHeading, items: Vec<WrittenItem>) -> WrittenItem
+        ensures { item_text_of result ≡ BlockItem (heading_text_of heading) (item_texts_of items.items) }
+    {
+        WrittenItem::Block(heading, items)
+    }
 }
 
 /// A table statement as it is written (pf.conf(5), TABLES).
@@ -79,6 +129,21 @@ pub enum Statement {
     Tables(WrittenTable),
     /// A filter rule.
     Rules(WrittenRule),
-    /// An anchor rule.
+    /// An anchor rule without a block.
     Anchors(WrittenAnchor),
+    /// An anchor rule with the rules of its block.
+    Blocks(WrittenHeading, Vec<WrittenItem>),
+}
+
+impl Statement {
+    /// A rule of any kind as a statement.
+    pub(crate) fn of_item(item: WrittenItem) -> Statement
+        ensures { statement_of result ≡ statement_with (item_text_of item) }
+    {
+        match item {
+            WrittenItem::Rule(rule) => Statement::Rules(rule),
+            WrittenItem::Anchor(anchor) => Statement::Anchors(anchor),
+            WrittenItem::Block(heading, items) => Statement::Blocks(heading, items),
+        }
+    }
 }

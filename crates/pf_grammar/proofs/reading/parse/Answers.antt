@@ -1,4 +1,4 @@
-use Rattle.std.proofs.Common.{◌≡◌, ◌∙◌, List, length, arith, drop, Ok, Result, ap, sym, subst, refl, false, true}
+use Rattle.std.proofs.Common.{◌≡◌, ◌∙◌, List, arith, drop, Ok, Result, ap, sym, subst, refl, false, true}
 use Rattle.std.proofs.lemmas.Result.{err_from_is_err_and}
 use Rattle.pf_tokens.specs.Tokens.{Placed, tokens}
 use Rattle.pf_tokens.specs.Left.{tokens_left}
