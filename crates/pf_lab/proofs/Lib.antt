@@ -2,3 +2,4 @@ pub mod Following
 pub mod Telling
 pub mod Taking
 pub mod Agreeing
+pub mod Outcomes

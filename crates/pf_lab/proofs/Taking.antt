@@ -62,7 +62,7 @@ state_up y up = ap (λ (b : Bool). state_as b (state_in y.node)) up
     state_as : Bool → NodeState Bytes → NodeState Bytes
     state_as b s = record { is_up = b; stored = s.stored; volatile = s.volatile }
 
-input_here : (g : Group) (m : ℕ) (p : Membership) (what : What) (x : Input Bytes) → group p ≡ g → p.me ≡ m →
+pub input_here : (g : Group) (m : ℕ) (p : Membership) (what : What) (x : Input Bytes) → group p ≡ g → p.me ≡ m →
     IsInput g m what x → IsInput (group p) p.me what x
 input_here g m p what x e f told =
     subst (λ (k : ℕ). IsInput (group p) k what x) (sym f) (subst (λ (h : Group). IsInput h m what x) (sym e) told)

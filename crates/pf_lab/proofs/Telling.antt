@@ -1,5 +1,5 @@
 -- What was sent, in the world and as datagrams.
-use Rattle.std.proofs.Common.{◌≡◌, ◌∙◌, sym, ap, subst, refl, ℕ, zero, suc, Bool, true, false, not, cond, nat_eq, List, [], ◌∷◌, ◌++◌, Some, slice_get}
+use Rattle.std.proofs.Common.{◌≡◌, ◌∙◌, sym, ap, subst, refl, ℕ, zero, suc, Bool, true, false, not, cond, nat_eq, List, [], ◌∷◌, ◌++◌, Some, None, slice_get, length, ◌≤◌, arith}
 use Rattle.px_model.specs.Node as node
 use Rattle.px_model.specs.Node.{Envelope, asker}
 use Rattle.px_model.specs.Node.Input.{Comes}
@@ -81,3 +81,12 @@ one_message g me from from' x y bytes p q a b =
     let ey : Envelope Bytes = record { sender = from'; addressee = me; message = y } in
     let same : x ≡ y = sym (heard_as_sent g.members ex p) ∙ ap as_heard s.3 ∙ heard_as_sent g.members ey q in
     ap (λ (k : ℕ). Comes k x) s.1 ∙ ap (Comes from') same
+
+-- behind the last datagram no message was sent
+pub unsent : (g : Group) (xs : List (Envelope Bytes)) (ds : List Datagram) (k : ℕ) → AreSpelled g xs ds → length ds ≤ k → slice_get xs k ≡ None
+unsent g [] [] zero a h = refl
+unsent g [] [] (suc k) a h = refl
+unsent g (x ∷ xs) (e ∷ es) zero a h = absurd (omega (arith, h))
+unsent g (x ∷ xs) (e ∷ es) (suc k) a h = unsent g xs es k a.1 (omega (arith, h))
+unsent g [] (e ∷ es) k a h = absurd a
+unsent g (x ∷ xs) [] k a h = absurd a

@@ -32,16 +32,22 @@ is_too_long (lab.Ask m c) = is_over (unnamed c)
 is_too_long (lab.Tick m) = false
 is_too_long (lab.Deliver k) = false
 
--- a command that is too long is refused before it is an event
-abbrev pub unless_long : LabAction → Event Bytes → List (Event Bytes)
-unless_long a e = if is_too_long a then [] else e ∷ []
+-- the event in the world
+abbrev pub event_of : LabEvent → Event Bytes
+event_of (event.Runs a) = world.Event.Runs (action_of a)
+event_of (event.StopBefore a) = world.Event.StopBefore (action_of a)
+event_of (event.StopAfter a) = world.Event.StopAfter (action_of a)
+event_of (event.Restart m) = world.Event.Restart m
 
--- what happens in the world
+abbrev pub is_long : LabEvent → Bool
+is_long (event.Runs a) = is_too_long a
+is_long (event.StopBefore a) = is_too_long a
+is_long (event.StopAfter a) = is_too_long a
+is_long (event.Restart m) = false
+
+-- what happens in the world: a command that is too long is refused before it is an event
 abbrev pub happenings : LabEvent → List (Event Bytes)
-happenings (event.Runs a) = unless_long a (world.Event.Runs (action_of a))
-happenings (event.StopBefore a) = unless_long a (world.Event.StopBefore (action_of a))
-happenings (event.StopAfter a) = unless_long a (world.Event.StopAfter (action_of a))
-happenings (event.Restart m) = world.Event.Restart m ∷ []
+happenings e = if is_long e then [] else event_of e ∷ []
 
 -- this is the event's action
 abbrev pub IsOf : LabEvent → LabAction → Type 0

@@ -1,5 +1,5 @@
 -- When a lab is a world.
-use Rattle.std.specs.Prelude.{◌≡◌, ℕ, not, nat_eq, List, [], length, slice_get, filter, Some}
+use Rattle.std.specs.Prelude.{◌≡◌, ℕ, true, false, not, nat_eq, List, [], length, slice_get, filter, Some}
 use Rattle.px_model.specs.Node.{Answer, asker}
 use Rattle.px_model.specs.Node.Answer.{Refused, Planned}
 use Rattle.px_model.specs.World.{World, NodeState, follows}
@@ -10,7 +10,10 @@ use Rattle.px_replica.specs.Spelled.{AreSpelled}
 use Rattle.px_replica.specs.declared.datagram.Datagram.{Datagram}
 use Rattle.px_replica.specs.declared.fault.NodeFault.{NodeFault}
 use Rattle.px_replica.specs.declared.fault.NodeFault.TheVariants as fault
-use Rattle.pf_node.specs.Nodes.{state_in, membership_of}
+use Rattle.px_replica.specs.Seen.{IsSound}
+use Rattle.px_records.specs.declared.records.Records.{Ghosts}
+use Rattle.pf_node.specs.declared.state.Node.{Node}
+use Rattle.pf_node.specs.Nodes.{state_in, membership_of, learned_by, has_failed, records_of}
 use Rattle.pf_lab.specs.declared.seat.Seat.{Seat}
 use Rattle.pf_lab.specs.declared.state.Lab.{Lab}
 
@@ -50,6 +53,15 @@ SeatsAre seats g sent w = AreWorld seats state_of group_of g sent w
 -- the lab is the world
 abbrev pub IsWorld : Lab → Group → World Bytes → Type 0
 IsWorld lab g w = SeatsAre lab.seats.items g lab.sent.items w
+
+-- A node shows a member that runs: its record, what it learned, and that the record can be told.
+pub record IsShown {R : Type 0} {G : Ghosts R} (s : NodeState Bytes) (n : Node R G) : Type 0 where
+  pub up : s.is_up ≡ true
+  pub stored : s.stored ≡ (state_in n).stored
+  pub learned : s.stored.learned ≡ learned_by n
+  pub works : has_failed n ≡ false
+  pub honest : G.is_honest (records_of n)
+  pub sound : IsSound (membership_of n).members s.stored
 
 -- what a node over a record in memory is refused with
 abbrev pub IsLabs : NodeFault → Type 0

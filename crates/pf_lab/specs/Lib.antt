@@ -1,4 +1,5 @@
 pub mod Props
 pub mod Coming
 pub mod Labs
+pub mod Outcomes
 pub mod Same

@@ -2,7 +2,7 @@
 
 ghost use Rattle.std.specs.Prelude.{◌≡◌, ◌↔◌, IfSome, IfOk, None, length, true, false};
 ghost use Rattle.px_model.specs.Spelling.{Bytes};
-ghost use Rattle.px_model.specs.World.{World};
+ghost use Rattle.px_model.specs.World.{World, comes_to};
 ghost use Rattle.px_wire.specs.Message.{Group};
 ghost use Rattle.px_replica.specs.Spelled.{AreSpelled};
 ghost use Rattle.pf_lab.specs.Coming.{IsAskable, IsNamed, Came, action_of, is_too_long, names_no_message};
@@ -48,6 +48,8 @@ pub(crate) fn what_comes<'a>(
     ensures came { (g : Group) (w : World Bytes) → AreSpelled g w.sent sent.entry.now →
         IfSome result (λ r. Came g w (action_of action.now) r.0 r.1) }
     ensures askable { IfSome result (λ r. IsAskable r.1) }
+    ensures none { (g : Group) (w : World Bytes) → AreSpelled g w.sent sent.entry.now → result ≡ None →
+        comes_to w (action_of action.now) ≡ None }
     ensures unknown { (result ≡ None) ↔ (names_no_message (length sent.entry.now) action.now ≡ true) }
 {
     match action {

@@ -8,6 +8,7 @@ ghost use Rattle.px_model.specs.World.Event.{Runs, StopBefore, StopAfter, Restar
 ghost use Rattle.px_wire.specs.Message.{Group};
 ghost use Rattle.px_replica.specs.Made.{same};
 ghost use Rattle.pf_lab.specs.Coming.{IsNamed, IsOf, action_of, happenings};
+ghost use Rattle.pf_lab.specs.Outcomes.{Tells, is_unknown, outcome_in, is_bad, becomes};
 ghost use Rattle.pf_lab.specs.Labs.{IsSeat, IsWorld, cluster_of, state_of, group_of};
 
 use crate::coming::{named, what_comes};
@@ -28,6 +29,9 @@ impl Lab {
         requires { IsNamed action.now bytes.now }
         ensures happens { (g : Group) (w : World Bytes) → IsWorld self.old g w →
             OnOk result (IsWorld self.new g (happens same g.members w (Runs (action_of action.now)))) }
+        ensures told { (g : Group) (w : World Bytes) → IsWorld self.old g w →
+            Tells result (is_unknown g.members w (Runs (action_of action.now)))
+            (outcome_in g.members w (Runs (action_of action.now))) }
         ensures stays { (g : Group) (w : World Bytes) → IsWorld self.old g w → OnErr result (IsWorld self.new g w) }
     {
         if self.sent.reserve(MESSAGES).is_err() {
@@ -50,6 +54,9 @@ impl Lab {
         requires { IsNamed action.now bytes.now }
         ensures happens { (g : Group) (w : World Bytes) → IsWorld self.old g w →
             OnOk result (IsWorld self.new g (happens same g.members w (StopBefore (action_of action.now)))) }
+        ensures told { (g : Group) (w : World Bytes) → IsWorld self.old g w →
+            Tells result (is_unknown g.members w (StopBefore (action_of action.now)))
+            (outcome_in g.members w (StopBefore (action_of action.now))) }
         ensures stays { (g : Group) (w : World Bytes) → IsWorld self.old g w → OnErr result (IsWorld self.new g w) }
     {
         match what_comes(self.sent.as_slice(), action, bytes) {
@@ -63,6 +70,9 @@ impl Lab {
         requires { IsNamed action.now bytes.now }
         ensures happens { (g : Group) (w : World Bytes) → IsWorld self.old g w →
             OnOk result (IsWorld self.new g (happens same g.members w (StopAfter (action_of action.now)))) }
+        ensures told { (g : Group) (w : World Bytes) → IsWorld self.old g w →
+            Tells result (is_unknown g.members w (StopAfter (action_of action.now)))
+            (outcome_in g.members w (StopAfter (action_of action.now))) }
         ensures stays { (g : Group) (w : World Bytes) → IsWorld self.old g w → OnErr result (IsWorld self.new g w) }
     {
         match what_comes(self.sent.as_slice(), action, bytes) {
@@ -75,6 +85,8 @@ impl Lab {
     fn restart(&mut self, m: u8) -> Result<Outcome, LabFault>
         ensures happens { (g : Group) (w : World Bytes) → IsWorld self.old g w →
             OnOk result (IsWorld self.new g (happens same g.members w (Restart m))) }
+        ensures told { (g : Group) (w : World Bytes) → IsWorld self.old g w →
+            Tells result (is_unknown g.members w (Restart m)) (outcome_in g.members w (Restart m)) }
         ensures stays { (g : Group) (w : World Bytes) → IsWorld self.old g w → OnErr result (IsWorld self.new g w) }
     {
         let m = m as usize;
@@ -90,6 +102,8 @@ impl Lab {
         requires { IsOf event.now action.now }
         ensures happens { (g : Group) (w : World Bytes) → IsWorld self.old g w →
             OnOk result (IsWorld self.new g (run same g.members (happenings event.now) w)) }
+        ensures told { (g : Group) (w : World Bytes) → IsWorld self.old g w →
+            Tells result (is_bad g.members w event.now) (becomes g.members w event.now) }
         ensures stays { (g : Group) (w : World Bytes) → IsWorld self.old g w → OnErr result (IsWorld self.new g w) }
     {
         let bytes = match named(self.alloc, action) {
@@ -107,11 +121,13 @@ impl Lab {
 
     /// The event happens as in the world. An ask whose command is too long is no event: it is refused with 41.
     ///
-    /// `BadEvent` where the event names no member or no message that was sent. It and `Memory` leave the same world:
-    /// only what a tick applied before stays applied.
+    /// `BadEvent` exactly where the event names no member or no message that was sent, unless memory is wanting first.
+    /// It and `Memory` leave the same world: only what a tick applied before stays applied.
     pub fn step(&mut self, event: &LabEvent) -> Result<Outcome, LabFault>
         ensures happens { (g : Group) (w : World Bytes) → IsWorld self.old g w →
             OnOk result (IsWorld self.new g (run same g.members (happenings event.now) w)) }
+        ensures told { (g : Group) (w : World Bytes) → IsWorld self.old g w →
+            Tells result (is_bad g.members w event.now) (becomes g.members w event.now) }
         ensures stays { (g : Group) (w : World Bytes) → IsWorld self.old g w → OnErr result (IsWorld self.new g w) }
     {
         match event {

@@ -1,8 +1,8 @@
 //! What comes to a member of a lab.
 
-ghost use Rattle.std.specs.Prelude.{◌≡◌, ◌≤◌, ℕ, [], length, false, Err, OnOk, OnErr, true};
+ghost use Rattle.std.specs.Prelude.{◌≡◌, ◌≤◌, ℕ, [], length, false, Err, IfOk, OnOk, OnErr, true};
 ghost use Rattle.px_model.specs.Entries.{view_of};
-ghost use Rattle.px_model.specs.Node.{Answer, Input, Message};
+ghost use Rattle.px_model.specs.Node.{Answer, Input, Message, Meta};
 ghost use Rattle.px_model.specs.Node.Answer.{Refused};
 ghost use Rattle.px_model.specs.Node.Input.{Asks, Ticks, Comes};
 ghost use Rattle.px_model.specs.Spelling.{Bytes};
@@ -15,6 +15,7 @@ ghost use Rattle.px_replica.specs.Made.{answer};
 ghost use Rattle.px_replica.specs.Seen.{IsSound};
 ghost use Rattle.pf_node.specs.Nodes.{state_in, membership_of, has_failed};
 ghost use Rattle.pf_lab.specs.Coming.{IsInput, IsAskable};
+ghost use Rattle.pf_lab.specs.Outcomes.{outcome_of};
 ghost use Rattle.pf_lab.specs.Labs.{IsAnswered, IsLabs, state_of, group_of};
 
 use crate::coming::What;
@@ -30,6 +31,10 @@ fn refused(fault: NodeFault) -> Result<Outcome, LabFault>
     requires { IsLabs fault }
     ensures refused { (a : Answer Bytes) → IsRefusedBy fault a →
         OnOk result ((code : ℕ) × (a ≡ Refused code)) }
+    ensures asks { (a : Answer Bytes) (meta : Meta) (c : Bytes) → IsRefusedBy fault a →
+        IfOk result (λ o. o ≡ outcome_of meta (Asks c) a) }
+    ensures ticks { (a : Answer Bytes) (meta : Meta) → IsRefusedBy fault a →
+        IfOk result (λ o. o ≡ outcome_of meta Ticks a) }
     ensures memory { OnErr result (result ≡ Err LabFault.Memory) }
 {
     match fault {
@@ -52,6 +57,9 @@ fn ask(node: &mut Node<MemoryRecords>, entry: &EntryView) -> Result<Outcome, Lab
     ensures went { OnOk result (IsAnswered (group (membership_of node.old))
         (answer (membership_of node.old).members (membership_of node.old).me (state_in node.old)
         (Asks (view_of entry.now).command)) (state_in node.old) (state_in node.new) []) }
+    ensures told { IfOk result (λ o. o ≡ outcome_of (state_in node.old).stored.meta (Asks (view_of entry.now).command)
+        (answer (membership_of node.old).members (membership_of node.old).me (state_in node.old)
+        (Asks (view_of entry.now).command))) }
     ensures stays { OnErr result (state_in node.new ≡ state_in node.old) }
     ensures memory { OnErr result (result ≡ Err LabFault.Memory) }
     ensures works { has_failed node.new ≡ false }
@@ -72,6 +80,8 @@ fn tick(node: &mut Node<MemoryRecords>, out: &mut Vec<Datagram>) -> Result<Outco
     ensures went { OnOk result (IsAnswered (group (membership_of node.old))
         (answer (membership_of node.old).members (membership_of node.old).me (state_in node.old) Ticks)
         (state_in node.old) (state_in node.new) out.new.items) }
+    ensures told { IfOk result (λ o. o ≡ outcome_of (state_in node.old).stored.meta Ticks
+        (answer (membership_of node.old).members (membership_of node.old).me (state_in node.old) Ticks)) }
     ensures stays { OnErr result (state_in node.new ≡ state_in node.old) }
     ensures memory { OnErr result (result ≡ Err LabFault.Memory) }
     ensures few { OnOk result (length out.new.items ≤ 15) }
@@ -100,6 +110,7 @@ fn receive(
         OnOk result (IsAnswered (group (membership_of node.old))
         (answer (membership_of node.old).members (membership_of node.old).me (state_in node.old) (Comes from message))
         (state_in node.old) (state_in node.new) out.new.items) }
+    ensures told { IfOk result (λ o. o ≡ Outcome.Nothing) }
     ensures stays { OnErr result (state_in node.new ≡ state_in node.old) }
     ensures memory { OnErr result (result ≡ Err LabFault.Memory) }
     ensures few { OnOk result (length out.new.items ≤ 15) }
@@ -122,6 +133,9 @@ impl Seat {
             OnOk result (IsAnswered (group (group_of self.old))
             (answer (group_of self.old).members (group_of self.old).me (state_in self.old.node) x)
             (state_in self.old.node) (state_in self.new.node) out.new.items) }
+        ensures told { (x : Input Bytes) → IsInput (group (group_of self.old)) (group_of self.old).me what.entry x →
+            IfOk result (λ o. o ≡ outcome_of (state_in self.old.node).stored.meta x
+            (answer (group_of self.old).members (group_of self.old).me (state_in self.old.node) x)) }
         ensures stays { OnErr result (state_in self.new.node ≡ state_in self.old.node) }
         ensures memory { OnErr result (result ≡ Err LabFault.Memory) }
         ensures few { OnOk result (length out.new.items ≤ 15) }

@@ -12,6 +12,7 @@ ghost use Rattle.px_replica.specs.Made.{same};
 ghost use Rattle.px_replica.specs.declared.datagram.Datagram as datagrams;
 ghost use Rattle.pf_lab.specs.Coming.{Came, IsAskable};
 ghost use Rattle.pf_lab.specs.Labs.{SeatsAre, for_members};
+ghost use Rattle.pf_lab.specs.Outcomes.{Tells, is_unknown, outcome_in};
 
 use crate::coming::What;
 use crate::event::{LabFault, Outcome};
@@ -32,6 +33,9 @@ pub(crate) fn run_at(
         SeatsAre seats.old.items g sent w → Came g w a m what.entry →
         OnOk result (SeatsAre seats.new.items g (sent ++ for_members out.new.items)
         (happens same g.members w (Runs a))) }
+    ensures told { (g : Group) (w : World Bytes) (a : Action Bytes) (sent : List datagrams.Datagram) →
+        SeatsAre seats.old.items g sent w → Came g w a m what.entry →
+        Tells result (is_unknown g.members w (Runs a)) (outcome_in g.members w (Runs a)) }
     ensures stays { (g : Group) (w : World Bytes) (sent : List datagrams.Datagram) →
         SeatsAre seats.old.items g sent w → OnErr result (SeatsAre seats.new.items g sent w) }
     ensures few { OnOk result (length out.new.items ≤ 15) }
@@ -64,6 +68,10 @@ pub(crate) fn stop_before_at(seats: &mut Vec<Seat>, m: u8) -> Result<Outcome, La
         (sent : List datagrams.Datagram) →
         SeatsAre seats.old.items g sent w → comes_to w a ≡ Some (m, x) →
         OnOk result (SeatsAre seats.new.items g sent (happens same g.members w (StopBefore a))) }
+    ensures told { (g : Group) (w : World Bytes) (a : Action Bytes) (x : Input Bytes)
+        (sent : List datagrams.Datagram) →
+        SeatsAre seats.old.items g sent w → comes_to w a ≡ Some (m, x) →
+        Tells result (is_unknown g.members w (StopBefore a)) (outcome_in g.members w (StopBefore a)) }
     ensures stays { OnErr result (seats.new.items ≡ seats.old.items) }
     ensures count { length seats.new.items ≡ length seats.old.items }
     ensures bad { (result ≡ Err LabFault.BadEvent) ↔ (length seats.old.items ≤ m) }
@@ -91,6 +99,9 @@ pub(crate) fn stop_after_at(
     ensures happens { (g : Group) (w : World Bytes) (a : Action Bytes) (sent : List datagrams.Datagram) →
         SeatsAre seats.old.items g sent w → Came g w a m what.entry →
         OnOk result (SeatsAre seats.new.items g sent (happens same g.members w (StopAfter a))) }
+    ensures told { (g : Group) (w : World Bytes) (a : Action Bytes) (sent : List datagrams.Datagram) →
+        SeatsAre seats.old.items g sent w → Came g w a m what.entry →
+        Tells result (is_unknown g.members w (StopAfter a)) (outcome_in g.members w (StopAfter a)) }
     ensures stays { (g : Group) (w : World Bytes) (sent : List datagrams.Datagram) →
         SeatsAre seats.old.items g sent w → OnErr result (SeatsAre seats.new.items g sent w) }
     ensures count { length seats.new.items ≡ length seats.old.items }

@@ -3,6 +3,9 @@
 //! # Organization
 //!
 //! - [`ctl`]: what a script of pfctl's words and packets prints.
+//! - For scripts of other kinds: [`cut_line`] and [`words_in`] cut; [`takes_text`] and [`Waiting`] are of the text
+//!   behind a line of pfctl's words, [`matches_in`], [`file_in`] and [`is_standard`] of those words; [`push_line`],
+//!   [`push_number`], [`push_refusal`] and [`test_packet`] print.
 //!
 //! Within: `lines` cuts scripts and lines, `order` and `listing` are what is listed, `acting` what an action does,
 //! `pfctl` a line of pfctl's words, `stepping` a line of a script.
@@ -18,4 +21,9 @@ mod running;
 mod stepping;
 mod waiting;
 
+pub use lines::{Line, cut_line, push_bytes, spaced, words_in};
+pub use pfctl::{file_in, is_standard, matches_in, takes_text};
+pub use printing::{push_line, push_number, push_refusal};
 pub use running::ctl;
+pub use stepping::test_packet;
+pub use waiting::Waiting;

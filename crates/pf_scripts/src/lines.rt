@@ -13,9 +13,11 @@ use std::alloc::{AllocError, Global};
 
 /// A line of a script, and whether a newline ends it, which the last one may lack.
 #[derive(Clone, Copy)]
-pub(crate) struct Line<'a> {
-    pub(crate) content: &'a [u8],
-    pub(crate) has_newline: bool,
+pub struct Line<'a> {
+    /// What stands before its end.
+    pub content: &'a [u8],
+    /// Whether a newline ends it.
+    pub has_newline: bool,
 }
 
 /// How many bytes stand before the end of the line.
@@ -29,7 +31,7 @@ fn line_len(script: &[u8]) -> usize
 
 /// The first line of a script, and what stands behind it; none of an empty one.
 #[tactic(auto, using(crate::proofs::LinesCut::cut_here, crate::proofs::LinesCut::last_line, crate::proofs::LinesCut::shorter, crate::proofs::LinesCut::nothing))]
-pub(crate) fn cut_line(script: &[u8]) -> Option<(Line<'_>, &[u8])>
+pub fn cut_line(script: &[u8]) -> Option<(Line<'_>, &[u8])>
     ensures cut { IfSome result (λ c. lines script.now ≡ line_of c.0 ∷ lines c.1.now) }
     ensures less { IfSome result (λ c. length c.1.now < length script.now) }
     ensures end { IfNone result (script.now ≡ []) }
@@ -57,7 +59,7 @@ pub(crate) fn cut_line(script: &[u8]) -> Option<(Line<'_>, &[u8])>
 }
 
 /// Puts a line with its newline behind a text.
-pub(crate) fn push_bytes(text: &mut Vec<u8>, line: Line<'_>) -> Result<(), AllocError>
+pub fn push_bytes(text: &mut Vec<u8>, line: Line<'_>) -> Result<(), AllocError>
     ensures { OnOk result (text.new.items ≡ text.old.items ++ bytes_of (line_of line.entry)) }
 {
     text.extend_from_slice(line.content)?;
@@ -95,10 +97,7 @@ fn texts<'a>(alloc: Global, found: &[&'a [u8]]) -> Result<Option<Vec<&'a str>>, 
 
 /// The words of a line, between blanks; none where one of them isn't UTF-8.
 #[tactic(auto, unfolding(crate::specs::Lines::words_in))]
-pub(crate) fn words_in<'a>(
-    alloc: Global,
-    line: &'a [u8],
-) -> Result<Option<Vec<&'a str>>, AllocError>
+pub fn words_in<'a>(alloc: Global, line: &'a [u8]) -> Result<Option<Vec<&'a str>>, AllocError>
     ensures { IfOk result (λ words. option_map (λ v. map (λ w. w.now) v.items) words ≡ words_in line.now) }
 {
     let found = words_between_blanks(alloc, line)?;
@@ -106,7 +105,7 @@ pub(crate) fn words_in<'a>(
 }
 
 /// Words with a blank between them.
-pub(crate) fn spaced(alloc: Global, words: &[&str]) -> Result<String, AllocError>
+pub fn spaced(alloc: Global, words: &[&str]) -> Result<String, AllocError>
     ensures { IfOk result (λ text. string_bytes text ≡ spaced (map (λ w. w.now) words.now)) }
 {
     let mut text = String::new(alloc);

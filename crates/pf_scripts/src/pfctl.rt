@@ -25,7 +25,10 @@ fn command<'a>(alloc: Global) -> Result<Command<'a>, AllocError>
 }
 
 /// The matches of a line's words, none where `clap` refuses them.
-fn matches_in<'a>(alloc: Global, words: &'a [&'a str]) -> Result<Option<ArgMatches<'a>>, AllocError>
+pub fn matches_in<'a>(
+    alloc: Global,
+    words: &'a [&'a str],
+) -> Result<Option<ArgMatches<'a>>, AllocError>
     ensures { IfOk result (λ found. option_map (λ m. rows_of (found_of m)) found ≡
         rows_in (map (λ w. w.now) words.entry.now)) }
 {
@@ -52,7 +55,7 @@ fn is_input(file: Option<&str>) -> bool
 }
 
 /// Whether a file is standard input, or there is none.
-fn is_standard(file: Option<&str>) -> bool
+pub fn is_standard(file: Option<&str>) -> bool
     ensures { result ≡ is_standard (option_copied file.entry) }
 {
     match file {
@@ -62,14 +65,14 @@ fn is_standard(file: Option<&str>) -> bool
 }
 
 /// The value of `-f`.
-fn file_in<'a>(matches: &ArgMatches<'a>) -> Option<&'a str>
+pub fn file_in<'a>(matches: &ArgMatches<'a>) -> Option<&'a str>
     ensures { option_copied result ≡ first_of (codes "file") (rows_of (found_of matches.now)) }
 {
     matches.get_str("file")
 }
 
 /// Whether a text follows the words, up to a line `.`.
-pub(crate) fn takes_text(alloc: Global, words: &[&str]) -> Result<bool, AllocError>
+pub fn takes_text(alloc: Global, words: &[&str]) -> Result<bool, AllocError>
     ensures { IfOk result (λ b. b ≡ takes_text (map (λ w. w.now) words.now)) }
 {
     match matches_in(alloc, words)? {

@@ -6,7 +6,7 @@ ghost use Rattle.pf_scripts.specs.Lines.{line, refused_line};
 use std::alloc::{AllocError, Global};
 
 /// Puts a line behind the text.
-pub(crate) fn push_line(out: &mut String, shown: &str) -> Result<(), AllocError>
+pub fn push_line(out: &mut String, shown: &str) -> Result<(), AllocError>
     ensures { OnOk result (string_bytes out.new ≡ string_bytes out.old ++ line shown.now) }
 {
     out.push_str(shown)?;
@@ -14,7 +14,7 @@ pub(crate) fn push_line(out: &mut String, shown: &str) -> Result<(), AllocError>
 }
 
 /// Puts a number behind the text.
-pub(crate) fn push_number(alloc: Global, out: &mut String, n: u64) -> Result<(), AllocError>
+pub fn push_number(alloc: Global, out: &mut String, n: u64) -> Result<(), AllocError>
     ensures { OnOk result (string_bytes out.new ≡ string_bytes out.old ++ decimal n) }
 {
     let shown = n.to_string(alloc)?;
@@ -22,12 +22,7 @@ pub(crate) fn push_number(alloc: Global, out: &mut String, n: u64) -> Result<(),
 }
 
 /// Puts a refusal behind the text: its number, and the line of a refused text, 0 where there is none.
-pub(crate) fn push_refusal(
-    alloc: Global,
-    out: &mut String,
-    code: u8,
-    at: u64,
-) -> Result<(), AllocError>
+pub fn push_refusal(alloc: Global, out: &mut String, code: u8, at: u64) -> Result<(), AllocError>
     ensures { OnOk result (string_bytes out.new ≡ string_bytes out.old ++ refused_line code at) }
 {
     out.push_str("refused ")?;

@@ -14,7 +14,7 @@ use std::alloc::{AllocError, Global};
 
 /// Puts the verdict for a packet behind the output, 30 where the words are none.
 #[tactic(auto, unfolding(crate::specs::Ctl::tested))]
-fn test_packet(
+pub fn test_packet(
     alloc: Global,
     config: &Config,
     words: &[&str],

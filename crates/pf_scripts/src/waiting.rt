@@ -2,7 +2,9 @@
 
 /// The words of a line, and the text behind it so far.
 #[derive(Drop)]
-pub(crate) struct Waiting<'a> {
-    pub(crate) words: Vec<&'a str>,
-    pub(crate) text: Vec<u8>,
+pub struct Waiting<'a> {
+    /// The words.
+    pub words: Vec<&'a str>,
+    /// The lines so far, each with its newline.
+    pub text: Vec<u8>,
 }

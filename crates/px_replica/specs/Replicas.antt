@@ -60,5 +60,5 @@ MatchReceived (received.Ignored fault) done ignored = ignored
 abbrev pub LeavesOneOf : Group → (me : ℕ) → NodeState Bytes → Bytes → Record Bytes → Type 0
 LeavesOneOf g me s bytes left =
     (left ≡ s.stored) ⊎
-    ((sender : ℕ) × (message : node.Message Bytes) × DatagramBytes g sender me (as_sent message) bytes ×
-    LeavesOne g.members me s (Comes sender message) left)
+    ((sender : ℕ) × (message : node.Message Bytes) × Passing g.members sender me message ×
+    DatagramBytes g sender me (as_sent message) bytes × LeavesOne g.members me s (Comes sender message) left)

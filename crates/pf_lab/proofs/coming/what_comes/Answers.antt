@@ -1,13 +1,13 @@
 -- the datagram comes as the message that it spells
-use Rattle.std.proofs.Common.{◌∙◌, ap, sym, subst, refl, List, ℕ, length}
+use Rattle.std.proofs.Common.{rules, ◌∙◌, ◌≤◌, ap, sym, subst, refl, List, ℕ, length}
 use Rattle.std.proofs.lemmas.Option.{slice_get_read}
 use Rattle.px_model.specs.Node.Input.{Comes}
-use Rattle.px_model.specs.World.{comes_to}
+use Rattle.px_model.specs.World.{comes_to, delivered}
 use Rattle.px_wire.specs.Message.{DatagramBytes}
 use Rattle.px_wire.specs.Members.{as_sent}
 use Rattle.pf_lab.specs.Coming.{action_of}
 use Rattle.pf_lab.specs.declared.event.LabAction.{LabAction}
-use Rattle.pf_lab.proofs.Telling.{comes_spelled}
+use Rattle.pf_lab.proofs.Telling.{comes_spelled, unsent}
 use Rattle.pf_lab.proofs.coming.what_comes.Goals as goal
 
 pub returns-in-Some-get-clause-came : goal.returns-in-Some-get-clause-came
@@ -22,3 +22,9 @@ returns-in-Some-get-clause-came c g w are =
       comes = ap (λ (a : LabAction). comes_to w (action_of a)) c.in-Deliver.is ∙ f.comes;
       told = (f.sender, f.message, (f.passes, (bytes, refl)));
     }
+
+pub returns-in-None-get-clause-none : goal.returns-in-None-get-clause-none
+returns-in-None-get-clause-none c g w are none =
+    let sent = c.args.sent.now in
+    let over : length sent ≤ c.in-Deliver.k = search (rules, c.in-None-get.ensures.lookup) in
+    ap (λ (a : LabAction). comes_to w (action_of a)) c.in-Deliver.is ∙ ap delivered (unsent g w.sent sent c.in-Deliver.k are over)

@@ -1,8 +1,11 @@
 -- what comes to a member that runs happens in the world; nothing comes to one that is stopped
-use Rattle.std.proofs.Common.{rules, ◌≡◌, ◌∙◌, ◌<◌, sym, refl, true, Some, length}
+use Rattle.std.proofs.Common.{rules, ◌≡◌, ◌∙◌, ◌<◌, ap, sym, refl, true, Some, length, arith}
 use Rattle.std.proofs.lemmas.Option.{slice_get_read}
 use Rattle.pf_lab.specs.Labs.{state_of, group_of}
 use Rattle.pf_lab.proofs.Following.{lab_stopped}
+use Rattle.px_model.specs.World.{NodeState}
+use Rattle.px_model.specs.Spelling.{Bytes}
+use Rattle.pf_lab.proofs.Outcomes.{down_told, takes_at}
 use Rattle.pf_lab.proofs.Taking.{runs_at, same_at}
 use Rattle.pf_lab.proofs.seats.run_at.Goals as goal
 
@@ -35,3 +38,23 @@ returns-clause-stays c g w sent world =
     let one : Some c.index.result.now ≡ Some y = sym before ∙ at in
     let up : y.is_up ≡ true = cc (one, c.if-not-index.false) in
     same_at c.take.result seats g c.args.m w y c.take.new.self sent world at up c.take.ensures.up c.take.ensures.group c.take.ensures.stays
+
+pub returns-then-not-index-clause-told : goal.returns-then-not-index-clause-told
+returns-then-not-index-clause-told c g w a sent world came =
+    let seats = c.args.seats.now.items in
+    let below : c.args.m < length seats = search rules in
+    let y = c.index.result.now in
+    let at = slice_get_read seats (length seats) c.args.m y refl below c.index.ensures in
+    let inside : c.args.m < g.members = omega (arith, below, world.count) in
+    down_told g.members c.args.m w a came.input came.comes inside (ap (λ (s : NodeState Bytes). s.is_up) (world.seats c.args.m y at).here ∙ c.if-not-index.true)
+
+pub returns-clause-told : goal.returns-clause-told
+returns-clause-told c g w a sent world came =
+    let seats = c.args.seats.now.items in
+    let below : c.args.m < length seats = search rules in
+    let y = c.index_mut.result.now in
+    let before = slice_get_read seats (length seats) c.args.m c.index.result.now refl below c.index.ensures in
+    let at = slice_get_read seats (length seats) c.args.m y refl below c.index_mut.ensures.value in
+    let one : Some c.index.result.now ≡ Some y = sym before ∙ at in
+    let up : y.is_up ≡ true = cc (one, c.if-not-index.false) in
+    takes_at c.take.result seats g c.args.m w a c.args.what y sent world at up came c.take.ensures.memory c.take.ensures.told

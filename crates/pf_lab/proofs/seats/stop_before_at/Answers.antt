@@ -4,6 +4,7 @@ use Rattle.std.proofs.lemmas.Option.{slice_get_read}
 use Rattle.px_model.specs.World.{World, NodeState}
 use Rattle.px_model.specs.Spelling.{Bytes}
 use Rattle.pf_lab.specs.Labs.{SeatsAre}
+use Rattle.pf_lab.proofs.Outcomes.{down_before, up_before}
 use Rattle.pf_lab.proofs.Following.{stays_before, stops_before}
 use Rattle.pf_lab.proofs.seats.stop_before_at.Goals as goal
 
@@ -25,3 +26,21 @@ returns-clause-happens c g w a x sent world come =
     let up : (w.nodes c.args.m).is_up ≡ true = ap (λ (s : NodeState Bytes). s.is_up) (world.seats c.args.m y at).here ∙ c.if-not-index.false in
     let inside : c.args.m < g.members = omega (arith, below, world.count) in
     subst (λ (z : World Bytes). SeatsAre c.empty_at.new.seats.items g sent z) (sym (stops_before g.members c.args.m w a x come inside up)) (c.empty_at.ensures.empties g w sent world)
+
+pub returns-then-not-index-clause-told : goal.returns-then-not-index-clause-told
+returns-then-not-index-clause-told c g w a x sent world come =
+    let seats = c.args.seats.now.items in
+    let below : c.args.m < length seats = search rules in
+    let y = c.index.result.now in
+    let at = slice_get_read seats (length seats) c.args.m y refl below c.index.ensures in
+    let inside : c.args.m < g.members = omega (arith, below, world.count) in
+    down_before g.members c.args.m w a x come inside (ap (λ (s : NodeState Bytes). s.is_up) (world.seats c.args.m y at).here ∙ c.if-not-index.true)
+
+pub returns-clause-told : goal.returns-clause-told
+returns-clause-told c g w a x sent world come =
+    let seats = c.args.seats.now.items in
+    let below : c.args.m < length seats = search rules in
+    let y = c.index.result.now in
+    let at = slice_get_read seats (length seats) c.args.m y refl below c.index.ensures in
+    let inside : c.args.m < g.members = omega (arith, below, world.count) in
+    up_before g.members c.args.m w a x come inside (ap (λ (s : NodeState Bytes). s.is_up) (world.seats c.args.m y at).here ∙ c.if-not-index.false)

@@ -1,5 +1,5 @@
 -- the member at the place
-use Rattle.std.proofs.Common.{rules, ◌≡◌, ◌∙◌, ◌≤◌, Option, Some, None, List, slice_get, false, length, refl, sym, subst}
+use Rattle.std.proofs.Common.{rules, ◌≡◌, ◌∙◌, ◌≤◌, Some, None, List, slice_get, length, refl, sym, subst}
 use Rattle.std.proofs.lemmas.Option.{slice_get_read, slice_get_past}
 use Rattle.pf_lab.specs.declared.seat.Seat.{Seat}
 use Rattle.pf_lab.proofs.state.Lab.node.Goals as goal

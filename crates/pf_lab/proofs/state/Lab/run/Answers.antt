@@ -7,6 +7,7 @@ use Rattle.px_model.specs.World.{happens}
 use Rattle.px_model.specs.World.Event.{Runs}
 use Rattle.pf_lab.specs.Coming.{action_of}
 use Rattle.pf_lab.specs.Labs.{SeatsAre, for_members}
+use Rattle.pf_lab.specs.Outcomes.{is_nobodys, is_unknown, outcome_in, Tells}
 use Rattle.pf_lab.proofs.state.Lab.run.Goals as goal
 
 pub returns-clause-happens : goal.returns-clause-happens
@@ -18,3 +19,11 @@ returns-clause-happens c g w world =
     let came = c.in-Some.ensures.came g w (subst (λ (ds : List Datagram). AreSpelled g w.sent ds) (sym kept) world.told) in
     subst (λ (ds : List Datagram). SeatsAre c.run_at.new.seats.items g ds (happens same g.members w (Runs a))) (sym room)
     (c.in-Ok.ensures.happens g w a sent world came)
+
+pub returns-clause-told : goal.returns-clause-told
+returns-clause-told c g w world =
+    let sent = c.args.self.now.sent.items in
+    let a = action_of c.args.action.now in
+    let kept : c.as_slice.result.now ≡ sent = search (rules, c.as_slice.ensures.value, c.reserve.ensures.items) in
+    let came = c.in-Some.ensures.came g w (subst (λ (ds : List Datagram). AreSpelled g w.sent ds) (sym kept) world.told) in
+    c.in-Ok.ensures.told g w a sent world came

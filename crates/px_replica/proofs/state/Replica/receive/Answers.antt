@@ -21,7 +21,7 @@ pub returns-in-Ok-step-clause-stop : goal.returns-in-Ok-step-clause-stop
 returns-in-Ok-step-clause-stop g c works honest left may =
     let m = membership_of c.args.self.now in
     let h = heard m c.group.result c.in-Ok.sender c.in-Ok.message c.args.bytes.now c.group.ensures.group c.in-Ok.ensures.found c.in-Ok.ensures.fits in
-    inr (c.in-Ok.sender, come_of c.in-Ok.message, h.1, c.step.ensures.stop honest left may)
+    inr (c.in-Ok.sender, come_of c.in-Ok.message, h.0, h.1, c.step.ensures.stop honest left may)
 
 pub returns-in-Err-step-clause-spelled : goal.returns-in-Err-step-clause-spelled
 returns-in-Err-step-clause-spelled g c works none =
@@ -38,4 +38,4 @@ pub returns-in-Err-step-clause-stop : goal.returns-in-Err-step-clause-stop
 returns-in-Err-step-clause-stop g c works honest left may =
     let m = membership_of c.args.self.now in
     let h = heard m c.group.result c.in-Ok.sender c.in-Ok.message c.args.bytes.now c.group.ensures.group c.in-Ok.ensures.found c.in-Ok.ensures.fits in
-    inr (c.in-Ok.sender, come_of c.in-Ok.message, h.1, c.step.ensures.stop honest left may)
+    inr (c.in-Ok.sender, come_of c.in-Ok.message, h.0, h.1, c.step.ensures.stop honest left may)
