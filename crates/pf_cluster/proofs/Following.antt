@@ -1,0 +1,231 @@
+-- What happens to nodes happens in the world.
+use Rattle.std.proofs.Common.{◌≡◌, ◌∙◌, sym, ap, subst, refl, ℕ, ◌<◌, ◌≤◌, true, false, ◌&&◌, nat_lt, List, [], ◌∷◌, ◌++◌, Option, Some, lt-ltb, arith, inl, inr}
+use Rattle.std.proofs.lemmas.Bool.{and_from, cond-true}
+use Rattle.std.proofs.lemmas.List.{append-nil}
+use Rattle.px_model.specs.Node as node
+use Rattle.px_model.specs.Node.{Envelope, Input, Answer, Plan, Record, asker}
+use Rattle.px_model.specs.Node.Answer.{Refused, Planned}
+use Rattle.px_model.specs.Node.Input.{Asks, Ticks, Comes}
+use Rattle.px_model.specs.Node.Message.{Prepare, Promise, PrepareAll, PromiseAll, Accept, Vote, Nack, Need, Learned, Ask, Asked, AskRefused}
+use Rattle.px_model.specs.Step.{put, commit}
+use Rattle.px_model.specs.World as world
+use Rattle.px_model.specs.World.{World, NodeState, Action, Event, comes_to, at_member, goes_on, step_in, step_of, happens, run, to_members, emptied, stops_after, follows, started, start}
+use Rattle.px_model.specs.World.Event.{Runs, StopBefore, StopAfter, Restart}
+use Rattle.px_model.specs.Spelling.{Bytes}
+use Rattle.px_wire.specs.Message.{Group, DatagramBytes}
+use Rattle.px_wire.specs.Members.{as_sent, Passing}
+use Rattle.px_replica.specs.Made.{same, answer}
+use Rattle.px_replica.specs.Spelled.{AreSpelled}
+use Rattle.px_replica.specs.declared.datagram.Datagram.{Datagram}
+use Rattle.pf_lab.specs.Labs.{for_members}
+use Rattle.pf_lab.proofs.Telling.{are_append, are_members, comes_spelled, one_message}
+use Rattle.pf_cluster.specs.Clusters as clusters
+use Rattle.pf_cluster.specs.Clusters.{Cluster, Happening, begun, stopped, WasSent, MayCome, MayHappen, next, after, MayAllHappen}
+use Rattle.pf_cluster.specs.Clusters.Happening.{Calls, Stops, Opens}
+use Rattle.pf_cluster.specs.Promised.{IsWorld, IsGroup, IsRun}
+
+-- ---- what comes to a member is an action of the world
+
+record IsAction (w : World Bytes) (m : ℕ) (x : Input Bytes) : Type 0 where
+  action : Action Bytes
+  comes : comes_to w action ≡ Some (m, x)
+
+no_asker : (n : ℕ) → n ≤ 15 → asker < n → ⊥
+no_asker n few below = omega (arith, few, below)
+
+-- whoever isn't a member only asks
+asked_from : (g : Group) (w : World Bytes) (m : ℕ) (message : node.Message Bytes) → g.members ≤ 15 →
+    Passing g.members asker m message → IsAction w m (Comes asker message)
+asked_from g w m (Ask token c) few p = record { action = world.Action.AskFrom m token c; comes = refl }
+asked_from g w m (Prepare b q) few p = absurd (no_asker g.members few p.between.0)
+asked_from g w m (Promise b q a) few p = absurd (no_asker g.members few p.between.0)
+asked_from g w m (PrepareAll b q) few p = absurd (no_asker g.members few p.between.0)
+asked_from g w m (PromiseAll b q t a) few p = absurd (no_asker g.members few p.between.0)
+asked_from g w m (Accept b q e) few p = absurd (no_asker g.members few p.between.0)
+asked_from g w m (Vote b q e) few p = absurd (no_asker g.members few p.between.0)
+asked_from g w m (Nack b q r) few p = absurd (no_asker g.members few p.between.0)
+asked_from g w m (Need q) few p = absurd (no_asker g.members few p.between.0)
+asked_from g w m (Learned q e) few p = absurd (no_asker g.members few p.between.0)
+asked_from g w m (Asked t k) few p = absurd (no_asker g.members few p.between.0)
+asked_from g w m (AskRefused t k) few p = absurd (no_asker g.members few p.between.0)
+
+sent_to : (g : Group) (w : World Bytes) (sent : List Datagram) (m sender : ℕ) (message : node.Message Bytes) →
+    AreSpelled g w.sent sent → Passing g.members sender m message → WasSent g sent m sender message →
+    IsAction w m (Comes sender message)
+sent_to g w sent m sender message told passes was =
+    let d = comes_spelled g w sent was.place was.datagram told was.there in
+    let passes' : Passing g.members d.sender m d.message =
+    subst (λ (to : ℕ). Passing g.members d.sender to d.message) was.to_it d.passes in
+    let bytes' = subst (λ (to : ℕ). DatagramBytes g d.sender to (as_sent d.message) was.datagram.bytes.items) was.to_it d.bytes in
+    let one = one_message g m d.sender sender d.message message was.datagram.bytes.items passes' passes bytes' was.spelled in
+    record {
+      action = world.Action.Deliver was.place;
+      comes = d.comes ∙ ap (λ (to : ℕ). Some (to, Comes d.sender d.message)) was.to_it ∙ ap (λ (x : Input Bytes). Some (m, x)) one;
+    }
+
+comes_in : (g : Group) (w : World Bytes) (sent : List Datagram) (m : ℕ) (x : Input Bytes) → g.members ≤ 15 →
+    AreSpelled g w.sent sent → MayCome g sent m x → IsAction w m x
+comes_in g w sent m (Asks c) few told may = record { action = world.Action.Ask m c; comes = refl }
+comes_in g w sent m Ticks few told may = record { action = world.Action.Tick m; comes = refl }
+comes_in g w sent m (Comes sender message) few told may = elim may.1 [
+  | inl was ↦ sent_to g w sent m sender message told may.0 was
+  | inr is ↦ subst (λ (k : ℕ). IsAction w m (Comes k message)) (sym is)
+      (asked_from g w m message few (subst (λ (k : ℕ). Passing g.members k m message) is may.0))
+]
+
+-- ---- one thing that happens
+
+pub record Follows (g : Group) (c : Cluster) (w : World Bytes) : Type 0 where
+  pub events : List (Event Bytes)
+  pub world : IsWorld g c (run same g.members events w)
+
+tested : (g : Group) (c : Cluster) (w : World Bytes) (m : ℕ) → w.nodes ≡ c.nodes → clusters.Runs g c m →
+    (nat_lt m g.members && (w.nodes m).is_up) ≡ true
+tested g c w m here runs =
+    and_from (nat_lt m g.members) (w.nodes m).is_up (lt-ltb m g.members runs.below)
+    (ap (λ (f : ℕ → NodeState Bytes). (f m).is_up) here ∙ runs.is_up)
+
+-- an action that comes to a member that runs
+acts : (n m : ℕ) (w : World Bytes) (a : Action Bytes) (x : Input Bytes) (F : ℕ → Input Bytes → World Bytes) →
+    comes_to w a ≡ Some (m, x) → (nat_lt m n && (w.nodes m).is_up) ≡ true → at_member n w (comes_to w a) F ≡ F m x
+acts n m w a x F come up = ap (λ (t : Option (ℕ × Input Bytes)). at_member n w t F) come ∙ cond-true _ (F m x) w up
+
+answered : (n m : ℕ) (w : World Bytes) (s : NodeState Bytes) (x : Input Bytes) (plan : Plan Bytes) → w.nodes m ≡ s →
+    answer n m s x ≡ Planned plan → step_in same n w m x ≡ Planned plan
+answered n m w s x plan here is = ap (λ (z : NodeState Bytes). step_of same n m z x) here ∙ is
+
+-- the call made a step
+called : (g : Group) (c : Cluster) (w : World Bytes) (m : ℕ) (x : Input Bytes) (t : NodeState Bytes) (out : List Datagram) →
+    g.members ≤ 15 → IsWorld g c w → MayHappen g c (Calls m x t out) → Follows g (next c (Calls m x t out)) w
+unfolding happens
+called g c w m x t out few is may =
+    let n = g.members in
+    let makes = may.1.1 in
+    let plan = makes.plan in
+    let come = comes_in g w c.sent m x few is.sent may.1.0 in
+    let here : w.nodes m ≡ c.nodes m = ap (λ (f : ℕ → NodeState Bytes). f m) is.nodes in
+    let e : happens same n w (Runs come.action) ≡ goes_on w m x (Planned plan) =
+    acts n m w come.action x (λ k y. goes_on w k y (step_in same n w k y)) come.comes (tested g c w m is.nodes may.0)
+    ∙ ap (goes_on w m x) (answered n m w (c.nodes m) x plan here makes.steps) in
+    let state : follows (w.nodes m) plan ≡ t = ap (λ (z : NodeState Bytes). follows z plan) here ∙ sym makes.follows in
+    record {
+      events = Runs come.action ∷ [];
+      world = subst (λ (z : World Bytes). IsWorld g (next c (Calls m x t out)) z) (sym e) (record {
+        nodes = ap (λ (f : ℕ → NodeState Bytes). put f m (follows (w.nodes m) plan)) is.nodes ∙ ap (put c.nodes m) state;
+        sent = are_append g w.sent (to_members plan.sends) c.sent (for_members out) is.sent
+            (are_members g plan.sends out (subst (λ (z : List Datagram). AreSpelled g plan.sends z) (sym makes.handed) makes.spelled));
+      });
+    }
+
+put_down : (c : Cluster) (w : World Bytes) (m : ℕ) (d left : Record Bytes) → w.nodes ≡ c.nodes → d ≡ left →
+    put w.nodes m (stopped d) ≡ put c.nodes m (stopped left)
+put_down c w m d left here is =
+    ap (λ (f : ℕ → NodeState Bytes). put f m (stopped d)) here ∙ ap (λ (z : Record Bytes). put c.nodes m (stopped z)) is
+
+-- the call was cut short
+cut_short : (g : Group) (c : Cluster) (w : World Bytes) (m : ℕ) (x : Input Bytes) (left : Record Bytes) →
+    g.members ≤ 15 → IsWorld g c w → MayHappen g c (Stops m x left) → Follows g (next c (Stops m x left)) w
+unfolding happens
+cut_short g c w m x left few is may =
+    let n = g.members in
+    let come = comes_in g w c.sent m x few is.sent may.1.0 in
+    let here : w.nodes m ≡ c.nodes m = ap (λ (f : ℕ → NodeState Bytes). f m) is.nodes in
+    let stored : (w.nodes m).stored ≡ (c.nodes m).stored = ap (λ (z : NodeState Bytes). z.stored) here in
+    let sent = subst (λ (z : List (Envelope Bytes)). AreSpelled g z c.sent) (sym (append-nil w.sent)) is.sent in
+    let up = tested g c w m is.nodes may.0 in
+    elim may.1.1 [
+      | inl was ↦ (
+          let e : happens same n w (StopBefore come.action) ≡ emptied w m false =
+          acts n m w come.action x (λ k y. emptied w k false) come.comes up in
+          record {
+            events = StopBefore come.action ∷ [];
+            world = subst (λ (z : World Bytes). IsWorld g (next c (Stops m x left)) z) (sym e) (record {
+              nodes = put_down c w m (w.nodes m).stored left is.nodes (stored ∙ sym was);
+              sent = sent;
+            });
+          })
+      | inr done ↦ (
+          let plan = done.0 in
+          let e : happens same n w (StopAfter come.action) ≡ stops_after w m x (Planned plan) =
+          acts n m w come.action x (λ k y. stops_after w k y (step_in same n w k y)) come.comes up
+          ∙ ap (stops_after w m x) (answered n m w (c.nodes m) x plan here done.1) in
+          record {
+            events = StopAfter come.action ∷ [];
+            world = subst (λ (z : World Bytes). IsWorld g (next c (Stops m x left)) z) (sym e) (record {
+              nodes = put_down c w m (commit plan.change (w.nodes m).stored) left is.nodes
+                  (ap (commit plan.change) stored ∙ sym done.2);
+              sent = sent;
+            });
+          })
+    ]
+
+-- a record is opened
+opened : (g : Group) (c : Cluster) (w : World Bytes) (m : ℕ) → IsWorld g c w → m < g.members → Follows g (next c (Opens m)) w
+unfolding happens
+opened g c w m is below =
+    let e : happens same g.members w (Restart m) ≡ emptied w m true = cond-true _ (emptied w m true) w (lt-ltb m g.members below) in
+    record {
+      events = Restart m ∷ [];
+      world = subst (λ (z : World Bytes). IsWorld g (next c (Opens m)) z) (sym e) (record {
+        nodes = ap (λ (f : ℕ → NodeState Bytes). put f m (started (f m).stored)) is.nodes;
+        sent = subst (λ (z : List (Envelope Bytes)). AreSpelled g z c.sent) (sym (append-nil w.sent)) is.sent;
+      });
+    }
+
+one : (g : Group) (c : Cluster) (w : World Bytes) (h : Happening) → g.members ≤ 15 → IsWorld g c w → MayHappen g c h →
+    Follows g (next c h) w
+one g c w (Calls m x t out) few is may = called g c w m x t out few is may
+one g c w (Stops m x left) few is may = cut_short g c w m x left few is may
+one g c w (Opens m) few is may = opened g c w m is may
+
+-- ---- all that happens
+
+run_append : (n : ℕ) (xs ys : List (Event Bytes)) (w : World Bytes) → run same n (xs ++ ys) w ≡ run same n ys (run same n xs w)
+run_append n [] ys w = refl
+run_append n (e ∷ xs) ys w = run_append n xs ys (happens same n w e)
+
+pub all : (g : Group) (hs : List Happening) (c : Cluster) (w : World Bytes) → g.members ≤ 15 → IsWorld g c w →
+    MayAllHappen g hs c → Follows g (after hs c) w
+all g [] c w few is may = record { events = []; world = is }
+all g (h ∷ hs) c w few is may =
+    let f = one g c w h few is may.0 in
+    let rest = all g hs (next c h) (run same g.members f.events w) few f.world may.1 in
+    record {
+      events = f.events ++ rest.events;
+      world = subst (λ (z : World Bytes). IsWorld g (after hs (next c h)) z) (sym (run_append g.members f.events rest.events w)) rest.world;
+    }
+
+pub from_start : (g : Group) → IsGroup g → (hs : List Happening) → MayAllHappen g hs begun → IsRun g (after hs begun)
+from_start g group hs may =
+    let f = all g hs begun start group.few (record { nodes = refl; sent = tt }) may in
+    record { events = f.events; world = f.world }
+
+-- what happens later happens in the world later
+pub record Later (g : Group) (c d : Cluster) : Type 0 where
+  pub before : List (Event Bytes)
+  pub more : List (Event Bytes)
+  pub early : IsWorld g c (run same g.members before start)
+  pub late : IsWorld g d (run same g.members (before ++ more) start)
+
+split : (g : Group) (hs more : List Happening) (c : Cluster) → MayAllHappen g (hs ++ more) c →
+    MayAllHappen g hs c × MayAllHappen g more (after hs c)
+split g [] more c may = (tt, may)
+split g (h ∷ hs) more c may = let s = split g hs more (next c h) may.1 in ((may.0, s.0), s.1)
+
+after_both : (hs more : List Happening) (c : Cluster) → after (hs ++ more) c ≡ after more (after hs c)
+after_both [] more c = refl
+after_both (h ∷ hs) more c = after_both hs more (next c h)
+
+pub in_turn : (g : Group) → IsGroup g → (hs more : List Happening) → MayAllHappen g (hs ++ more) begun →
+    Later g (after hs begun) (after (hs ++ more) begun)
+in_turn g group hs more may =
+    let parts = split g hs more begun may in
+    let f = all g hs begun start group.few (record { nodes = refl; sent = tt }) parts.0 in
+    let s = all g more (after hs begun) (run same g.members f.events start) group.few f.world parts.1 in
+    record {
+      before = f.events;
+      more = s.events;
+      early = f.world;
+      late = subst (λ (d : Cluster). IsWorld g d (run same g.members (f.events ++ s.events) start)) (sym (after_both hs more begun))
+          (subst (λ (z : World Bytes). IsWorld g (after more (after hs begun)) z) (sym (run_append g.members f.events s.events start)) s.world);
+    }
