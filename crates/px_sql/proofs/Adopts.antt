@@ -12,7 +12,7 @@ use Rattle.px_model.specs.Spelling.{Bytes}
 use Rattle.px_model.specs.World.{nothing_stored}
 use Rattle.px_sql.specs.Formats.{record_at}
 use Rattle.px_sql.specs.Formats.Format.{One, Two, Three}
-use Rattle.px_sql.specs.Making.{Brought}
+use Rattle.px_sql.specs.Making.{Brought, AreBrought}
 use Rattle.px_sql.specs.Adopting.{IsSame, Shows}
 use Rattle.sqlite.specs.Schema.{Schema}
 use Rattle.px_sql.specs.Seen.{number_at, slot_in, learned_in, slot_columns, learned_columns, record_in, rows_at, seen, shown, meta_columns, meta_row, floor_columns, floor_rows, Tells, IsMetaIn, IsFloorIn}
@@ -120,10 +120,25 @@ built a b c d s t u v w x p q r k l =
     ap (λ n. build n c s u w) p ∙ ap (λ n. build b n s u w) q ∙ ap (λ n. build b d n u w) r ∙ ap (λ n. build b d t n w) k ∙ ap (λ n. build b d t v n) l
 
 module _ (id : Identity) (round number : ℕ) (db : Trees) (new : State) (r : number_at 5 (seen meta_columns (db 0) 1) ≡ round) (k : number_at 6 (seen meta_columns (db 0) 1) ≡ number) where
-  shows : (s f l : List Row) → Brought id round number s f l new → record_in new.now.trees ≡ build (number_at 5 (seen meta_columns (db 0) 1)) (number_at 6 (seen meta_columns (db 0) 1)) s f l
+  shows_at : (x : Trees) (s f l : List Row) → AreBrought id round number s f l x → record_in x ≡ build (number_at 5 (seen meta_columns (db 0) 1)) (number_at 6 (seen meta_columns (db 0) 1)) s f l
   unfolding build
-  shows s f l b =
-      built _ _ _ _ _ _ _ _ _ _ (ap (number_at 5) b.meta ∙ sym r) (ap (number_at 6) b.meta ∙ sym k) b.slots_are b.floor_are b.learned_are
+  shows_at x s f l b =
+      built _ _ _ _ _ _ _ _ _ _ (ap (number_at 5) b.meta_is ∙ sym r) (ap (number_at 6) b.meta_is ∙ sym k) b.slots_be b.floor_be b.learned_be
+
+  shows : (s f l : List Row) → Brought id round number s f l new → record_in new.now.trees ≡ build (number_at 5 (seen meta_columns (db 0) 1)) (number_at 6 (seen meta_columns (db 0) 1)) s f l
+  shows s f l b = shows_at new.now.trees s f l (record { meta_is = b.meta; slots_be = b.slots_are; floor_be = b.floor_are; learned_be = b.learned_are })
+
+  pub at_one : (x : Trees) → AreBrought id round number (db 1) [] [] x → record_in x ≡ record_at One db
+  unfolding build
+  at_one x b = shows_at x (db 1) [] [] b
+
+  pub at_two : (x : Trees) → AreBrought id round number (db 1) (db 2) [] x → record_in x ≡ record_at Two db
+  unfolding build
+  at_two x b = shows_at x (db 1) (db 2) [] b
+
+  pub at_three : (x : Trees) → AreBrought id round number (db 1) (db 2) (db 3) x → record_in x ≡ record_at Three db
+  unfolding build
+  at_three x b = shows_at x (db 1) (db 2) (db 3) b
 
   pub shows_one : Brought id round number (db 1) [] [] new → Shows (record_at One db) new
   unfolding build
@@ -143,6 +158,10 @@ shows_anew id new b = record {
   schema = b.schema;
   is = built _ _ _ _ _ _ _ _ _ _ (ap (number_at 5) b.meta) (ap (number_at 6) b.meta) b.slots_are b.floor_are b.learned_are;
 }
+
+pub at_anew : (id : Identity) (x : Trees) → AreBrought id 0 0 [] [] [] x → record_in x ≡ nothing_stored
+unfolding build
+at_anew id x b = built _ _ _ _ _ _ _ _ _ _ (ap (number_at 5) b.meta_is) (ap (number_at 6) b.meta_is) b.slots_be b.floor_be b.learned_be
 
 pub shows_same : (db : Trees) (new : State) → new.now.schema ≡ schema_3 → new.now.trees ≡ db → Shows (record_at Three db) new
 shows_same db new has same = record { schema = has; is = ap (λ (t : Trees). record_in t) same }

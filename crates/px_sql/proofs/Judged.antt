@@ -1,11 +1,9 @@
 -- A store is judged by the rows that were read as by those that it holds.
-use Rattle.std.proofs.Common.{◌≡◌, inl, inr, ℕ, ◌≤◌, List, [], ◌∷◌, length, Bool, true, false, ◌&&◌, ◌||◌, Option, Some, None, refl, sym, ap, subst, ◌∙◌, arith, cond}
-use Rattle.std.specs.Prelude.{not, if◌then◌else◌}
+use Rattle.std.proofs.Common.{◌≡◌, inl, inr, ℕ, List, [], ◌∷◌, Bool, ◌||◌, refl, ap, ◌∙◌, arith}
 use Rattle.sqlite_value.specs.Order.{Row}
 use Rattle.px_sql.specs.Effect.{IsAlike}
-use Rattle.px_sql.specs.Judging.{has_rows, are_floor_rows, refusal_of, row_refusal}
+use Rattle.px_sql.specs.Judging.{has_rows, are_floor_rows, refusal_of}
 use Rattle.px_sql.specs.declared.calls.Identity.{Identity}
-use Rattle.px_sql.specs.declared.fault.AdoptFault.{AdoptFault}
 
 floors_alike : (members : ℕ) (fs gs : List Row) → IsAlike fs gs → are_floor_rows members fs ≡ are_floor_rows members gs
 floors_alike members fs gs (inl same) = ap (are_floor_rows members) same

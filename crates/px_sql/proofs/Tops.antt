@@ -16,7 +16,7 @@ use Rattle.sqlite.specs.Tree.{Trees}
 use Rattle.sqlite_rules.specs.Lists.{Has}
 use Rattle.sqlite.specs.State.{State, Shown}
 use Rattle.sqlite.proofs.Callers.{reads_as}
-use Rattle.px_sql.specs.Tables.{schema_3, get_top, get_end, get_last}
+use Rattle.px_sql.specs.Tables.{schema_3, get_top, get_end}
 use Rattle.px_sql.specs.Seen.{has_ballot, any_row, IsLast}
 use Rattle.sqlite.specs.Schema.{Schema}
 use Rattle.px_sql.specs.Judging.{has_rows}

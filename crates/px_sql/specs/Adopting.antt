@@ -1,6 +1,7 @@
 -- What opening a store does to it.
 use Rattle.std.specs.Prelude.{◌≡◌, ◌⊎◌, ⊤, ℕ, false, Option, Some, None, Result, Ok, Err}
 use Rattle.sqlite.specs.State.{State}
+use Rattle.sqlite.specs.Tree.{Trees}
 use Rattle.px_model.specs.Node.{Record}
 use Rattle.px_model.specs.Spelling.{Bytes}
 use Rattle.sqlite.specs.Schema.{Schema}
@@ -56,3 +57,7 @@ pub record IsSame (old new : State) : Type 0 where
 pub record Shows (d : Record Bytes) (new : State) : Type 0 where
   pub schema : new.now.schema ≡ schema_3
   pub is : record_in new.now.trees ≡ d
+
+-- what an open after a crash may find is what it could find before, or rows of format 3 that show this record
+abbrev pub LeavesShown : Record Bytes → State → State → Type 0
+LeavesShown d old new = (db : Trees) → new.may_leave db → old.may_leave db ⊎ (record_in db ≡ d)

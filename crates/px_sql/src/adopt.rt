@@ -10,7 +10,7 @@ ghost use Rattle.px_sql.specs.Seen.{seen, number_at, meta_columns};
 ghost use Rattle.px_sql.specs.Effect.{IsIdle, IsSettled, LeavesOld};
 ghost use Rattle.px_sql.specs.Formats.{record_at};
 ghost use Rattle.px_sql.specs.Formats.Format.{One, Two, Three};
-ghost use Rattle.px_sql.specs.Adopting.{IsRefused, IsKnown, IsVerdict, IsSame, Shows};
+ghost use Rattle.px_sql.specs.Adopting.{IsRefused, IsKnown, IsVerdict, IsSame, Shows, LeavesShown};
 ghost use Rattle.px_sql.specs.Judging.{refusal};
 
 use crate::calls::{Identity, Trouble, cause_of};
@@ -40,6 +40,9 @@ fn bring_none<S: Alter>(conn: &mut Connection<S>, identity: Identity) -> Result<
     ensures made { HasCleanDisk (state S.Store conn.new) → (state S.Store conn.old).now.schema ≡ no_schema →
         (state S.Store conn.old).in_transaction ≡ false → OnOk result (Shows nothing_stored
         (state S.Store conn.new)) }
+    ensures stop { HasCleanDisk (state S.Store conn.new) → (state S.Store conn.old).now.schema ≡ no_schema →
+        (state S.Store conn.old).in_transaction ≡ false →
+        LeavesShown nothing_stored (state S.Store conn.old) (state S.Store conn.new) }
     ensures judged { IfErr result (λ e. IsVerdict e → ⊥) }
 {
     if !conn.is_autocommit() {
@@ -60,6 +63,9 @@ fn bring_one<S: Alter>(conn: &mut Connection<S>, identity: Identity) -> Result<(
     ensures made { HasCleanDisk (state S.Store conn.new) → (state S.Store conn.old).now.schema ≡ schema_1 →
         (state S.Store conn.old).in_transaction ≡ false → OnOk result (Shows (record_at One
         (state S.Store conn.old).now.trees) (state S.Store conn.new)) }
+    ensures stop { HasCleanDisk (state S.Store conn.new) → (state S.Store conn.old).now.schema ≡ schema_1 →
+        (state S.Store conn.old).in_transaction ≡ false → LeavesShown (record_at One
+        (state S.Store conn.old).now.trees) (state S.Store conn.old) (state S.Store conn.new) }
     ensures taken { HasCleanDisk (state S.Store conn.new) → (state S.Store conn.old).now.schema ≡ schema_1 →
         (state S.Store conn.old).in_transaction ≡ false →
         OnOk result (refusal One identity (state S.Store conn.old).now.trees ≡ None) }
@@ -87,6 +93,9 @@ fn bring_two<S: Alter>(conn: &mut Connection<S>, identity: Identity) -> Result<(
     ensures made { HasCleanDisk (state S.Store conn.new) → (state S.Store conn.old).now.schema ≡ schema_2 →
         (state S.Store conn.old).in_transaction ≡ false → OnOk result (Shows (record_at Two
         (state S.Store conn.old).now.trees) (state S.Store conn.new)) }
+    ensures stop { HasCleanDisk (state S.Store conn.new) → (state S.Store conn.old).now.schema ≡ schema_2 →
+        (state S.Store conn.old).in_transaction ≡ false → LeavesShown (record_at Two
+        (state S.Store conn.old).now.trees) (state S.Store conn.old) (state S.Store conn.new) }
     ensures taken { HasCleanDisk (state S.Store conn.new) → (state S.Store conn.old).now.schema ≡ schema_2 →
         (state S.Store conn.old).in_transaction ≡ false →
         OnOk result (refusal Two identity (state S.Store conn.old).now.trees ≡ None) }
@@ -114,6 +123,9 @@ fn bring_three<S: Alter>(conn: &mut Connection<S>, identity: Identity) -> Result
     ensures made { HasCleanDisk (state S.Store conn.new) → (state S.Store conn.old).now.schema ≡ schema_3 →
         (state S.Store conn.old).in_transaction ≡ false → OnOk result (Shows (record_at Three
         (state S.Store conn.old).now.trees) (state S.Store conn.new)) }
+    ensures stop { HasCleanDisk (state S.Store conn.new) → (state S.Store conn.old).now.schema ≡ schema_3 →
+        (state S.Store conn.old).in_transaction ≡ false → LeavesShown (record_at Three
+        (state S.Store conn.old).now.trees) (state S.Store conn.old) (state S.Store conn.new) }
     ensures taken { HasCleanDisk (state S.Store conn.new) → (state S.Store conn.old).now.schema ≡ schema_3 →
         (state S.Store conn.old).in_transaction ≡ false →
         OnOk result (refusal Three identity (state S.Store conn.old).now.trees ≡ None) }
@@ -163,6 +175,18 @@ pub(crate) fn bring<S: Alter>(
     ensures three { HasCleanDisk (state S.Store conn.new) → (state S.Store conn.old).now.schema ≡ schema_3 →
         (state S.Store conn.old).in_transaction ≡ false → OnOk result (Shows (record_at Three
         (state S.Store conn.old).now.trees) (state S.Store conn.new)) }
+    ensures stop_empty { HasCleanDisk (state S.Store conn.new) → (state S.Store conn.old).now.schema ≡ no_schema →
+        (state S.Store conn.old).in_transaction ≡ false →
+        LeavesShown nothing_stored (state S.Store conn.old) (state S.Store conn.new) }
+    ensures stop_one { HasCleanDisk (state S.Store conn.new) → (state S.Store conn.old).now.schema ≡ schema_1 →
+        (state S.Store conn.old).in_transaction ≡ false → LeavesShown (record_at One
+        (state S.Store conn.old).now.trees) (state S.Store conn.old) (state S.Store conn.new) }
+    ensures stop_two { HasCleanDisk (state S.Store conn.new) → (state S.Store conn.old).now.schema ≡ schema_2 →
+        (state S.Store conn.old).in_transaction ≡ false → LeavesShown (record_at Two
+        (state S.Store conn.old).now.trees) (state S.Store conn.old) (state S.Store conn.new) }
+    ensures stop_three { HasCleanDisk (state S.Store conn.new) → (state S.Store conn.old).now.schema ≡ schema_3 →
+        (state S.Store conn.old).in_transaction ≡ false → LeavesShown (record_at Three
+        (state S.Store conn.old).now.trees) (state S.Store conn.old) (state S.Store conn.new) }
     ensures judged_empty { (state S.Store conn.old).now.schema ≡ no_schema →
         IfErr result (λ e. IsVerdict e → ⊥) }
     ensures taken_one { HasCleanDisk (state S.Store conn.new) → (state S.Store conn.old).now.schema ≡ schema_1 →

@@ -89,6 +89,8 @@ pub(crate) fn read_again<S: Alter>(
         OnOk result ((state S.Store conn.new).committed ≡ (state S.Store conn.old).now) }
     ensures crash { HasCleanDisk (state S.Store conn.new) → IfOk result (λ o. o.tables ≡ schema_3 →
         LeavesOld (state S.Store conn.old) (state S.Store conn.new)) }
+    ensures left { HasCleanDisk (state S.Store conn.new) → (state S.Store conn.old).now.schema ≡ schema_3 →
+        LeavesOld (state S.Store conn.old) (state S.Store conn.new) }
 {
     if !conn.is_autocommit() {
         return Err(AdoptFault::Failed);

@@ -5,9 +5,9 @@ ghost use Rattle.sqlite.specs.State.{HasCleanDisk};
 ghost use Rattle.px_model.specs.World.{nothing_stored};
 ghost use Rattle.px_sql.specs.Tables.{no_schema};
 ghost use Rattle.px_sql.specs.Formats.{Format, schema_at, record_at};
-ghost use Rattle.px_sql.specs.Adopting.{IsVerdict, IsKnown, IsSame};
+ghost use Rattle.px_sql.specs.Adopting.{IsVerdict, IsKnown, IsSame, LeavesShown};
 ghost use Rattle.px_sql.specs.Judging.{refusal};
-ghost use Rattle.px_sql.specs.View.{connection_of, IsOpened};
+ghost use Rattle.px_sql.specs.View.{connection_of, connection_after, IsOpened};
 
 use crate::adopt::bring;
 use crate::calls::Identity;
@@ -27,6 +27,8 @@ impl<S: Alter> SqlRecords<S> {
     /// node has another format, 72 that a row says what no node writes, or that this row is missing beside others, and
     /// 71 that the store is another node's, in this order. Such a store isn't written to. One without tables is never
     /// refused so.
+    ///
+    /// Whatever it answers, a stop while it runs leaves what a stop left before, or the store of format 3, whole.
     pub fn adopt(
         alloc: Global,
         mut conn: Connection<S>,
@@ -52,6 +54,13 @@ impl<S: Alter> SqlRecords<S> {
         ensures judged { IfErr result (λ e. HasCleanDisk (state S.Store e.1) → (f : Format) →
             (state S.Store conn).now.schema ≡ schema_at f → (state S.Store conn).in_transaction ≡ false →
             IsVerdict e.0 → refusal f identity (state S.Store conn).now.trees ≡ Some e.0) }
+        ensures stop_empty { HasCleanDisk (state S.Store (connection_after result)) →
+            (state S.Store conn).now.schema ≡ no_schema → (state S.Store conn).in_transaction ≡ false →
+            LeavesShown nothing_stored (state S.Store conn) (state S.Store (connection_after result)) }
+        ensures stop { HasCleanDisk (state S.Store (connection_after result)) → (f : Format) →
+            (state S.Store conn).now.schema ≡ schema_at f → (state S.Store conn).in_transaction ≡ false →
+            LeavesShown (record_at f (state S.Store conn).now.trees) (state S.Store conn)
+            (state S.Store (connection_after result)) }
         ensures never { IfErr result (λ e. (state S.Store conn).now.schema ≡ no_schema → IsVerdict e.0 → ⊥) }
     {
         if let Err(fault) = bring(&mut conn, identity) {

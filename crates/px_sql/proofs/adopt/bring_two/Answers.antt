@@ -1,11 +1,11 @@
-use Rattle.std.proofs.Common.{rules, ◌≡◌, ◌∙◌, ap, sym, subst, [], ◌∷◌, Some, Err}
+use Rattle.std.proofs.Common.{rules, ◌≡◌, ◌∙◌, ap, sym, subst, [], Some, Err, inl, inr}
 use Rattle.std.specs.Result.{IfErr}
 use Rattle.px_sql.specs.Adopting.{IsVerdict}
 use Rattle.sqlite.specs.Held.{state}
 use Rattle.sqlite.specs.Effect.{Database}
 use Rattle.px_sql.specs.Seen.{number_at}
-use Rattle.px_sql.specs.Making.{Brought}
-use Rattle.px_sql.proofs.Adopts.{shows_two, shows_same, alike_few}
+use Rattle.px_sql.specs.Making.{Brought, AreBrought}
+use Rattle.px_sql.proofs.Adopts.{at_two, shows_two, alike_few}
 use Rattle.px_sql.proofs.adopt.bring_two.Goals as goal
 use Rattle.px_sql.specs.Formats.{trees_at}
 use Rattle.px_sql.specs.Formats.Format.{Two}
@@ -43,3 +43,30 @@ returns-in-Ok-clause-taken g c = λ clean has auto.
     let told = c.in_ok-read.ensures in
     judged_alike 2 c.args.identity (seen meta_columns (db 0) 1) read.meta.items (seen floor_columns (trees_at Two db 2) 1) (rows_in read.floor) (has_rows (db 1)) (has_rows (trees_at Two db 3)) read.has_slot read.has_entry
     (told.rows mid has auto) (told.floors mid has auto) (told.slots mid has auto) (told.entries mid has auto) ∙ c.in_ok-found.ensures.taken
+
+pub returns-in-Ok-clause-stop : goal.returns-in-Ok-clause-stop
+returns-in-Ok-clause-stop g c = λ clean has auto db left.
+    let mid = c.in-Ok.ensures.clean clean in
+    let same = c.in_ok-read.ensures.stays mid has auto in
+    let old = state g.S.Store c.args.conn.now in
+    let found = c.in_ok-found.found in
+    let rows = alike_few _ _ (c.in_ok-read.ensures.rows mid has auto) c.in_ok-found.ensures.few in
+    elim (c.in-Ok.ensures.stop clean (ap (λ (d : Database). d.schema) same.now ∙ has) db left) [
+      | inl was ↦ inl (c.in_ok-read.ensures.crash mid has auto db was)
+      | inr is ↦ inr (at_two c.args.identity found.round found.number old.now.trees (state g.S.Store c.from_two.new.conn) (ap (number_at 5) rows ∙ c.in_ok-found.ensures.round) (ap (number_at 6) rows ∙ c.in_ok-found.ensures.number) db
+          (subst (λ (d : Database). AreBrought c.args.identity found.round found.number (d.trees 1) (d.trees 2) [] db) same.now is))
+    ]
+
+pub returns-clause-stop : goal.returns-clause-stop
+returns-clause-stop g c = λ clean has auto db left.
+    let after = c.fault_of.ensures.clean clean in
+    let mid = c.in-Err.ensures.clean after in
+    let same = c.in_ok-read.ensures.stays mid has auto in
+    let old = state g.S.Store c.args.conn.now in
+    let found = c.in_ok-found.found in
+    let rows = alike_few _ _ (c.in_ok-read.ensures.rows mid has auto) c.in_ok-found.ensures.few in
+    elim (c.in-Err.ensures.stop after (ap (λ (d : Database). d.schema) same.now ∙ has) db (c.fault_of.ensures.crash clean db left)) [
+      | inl was ↦ inl (c.in_ok-read.ensures.crash mid has auto db was)
+      | inr is ↦ inr (at_two c.args.identity found.round found.number old.now.trees (state g.S.Store c.from_two.new.conn) (ap (number_at 5) rows ∙ c.in_ok-found.ensures.round) (ap (number_at 6) rows ∙ c.in_ok-found.ensures.number) db
+          (subst (λ (d : Database). AreBrought c.args.identity found.round found.number (d.trees 1) (d.trees 2) [] db) same.now is))
+    ]

@@ -3,7 +3,7 @@ use Rattle.sqlite.specs.Held.{state}
 use Rattle.sqlite.specs.Listing.{understood}
 use Rattle.sqlite.proofs.Callers.{IsPlain}
 use Rattle.sqlite.specs.State.{Shown}
-use Rattle.sqlite.specs.Term.{Term, col}
+use Rattle.sqlite.specs.Term.{col}
 use Rattle.std.specs.Prelude.{[], ◌∷◌, codes}
 use Rattle.px_sql.specs.Tables.{get_floor, key_params}
 use Rattle.px_sql.specs.Effect.{IsAlike}

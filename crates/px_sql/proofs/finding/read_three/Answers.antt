@@ -1,12 +1,10 @@
-use Rattle.std.proofs.Common.{◌≡◌, ◌∙◌, ap, subst, refl, List, inl}
+use Rattle.std.proofs.Common.{◌∙◌, ap, subst}
 use Rattle.sqlite.specs.Effect.{Database}
-use Rattle.sqlite.specs.Held.{state}
-use Rattle.sqlite_value.specs.Order.{Row}
 use Rattle.px_sql.specs.Seen.{seen, floor_columns}
 use Rattle.px_sql.specs.Effect.{IsAlike}
 use Rattle.px_sql.specs.Judging.{has_rows}
 use Rattle.px_sql.specs.Formats.Format.{Three}
-use Rattle.px_sql.proofs.Adopts.{same_then, still, if_ok}
+use Rattle.px_sql.proofs.Adopts.{same_then, still}
 use Rattle.px_sql.proofs.finding.read_three.Goals as goal
 
 pub returns-clause-stays : goal.returns-clause-stays
