@@ -16,8 +16,10 @@ const BYTES_MAX: usize = 16_777_216;
 
 /// Why the input isn't there.
 #[derive(Clone, Copy, Debug, PartialEq, Eq)]
-pub(crate) enum InputFault {
+pub enum InputFault {
+    /// A growth was refused.
     Memory,
+    /// A read failed, or there is more than 16,777,216 bytes.
     Failed,
 }
 
@@ -46,7 +48,7 @@ fn read_some<R: Read>(reader: &mut R, all: &mut Vec<u8>) -> Result<bool, InputFa
 }
 
 /// All that is left to read, up to a limit; more is a failed read.
-pub(crate) fn read_all<R: Read>(alloc: Global, reader: &mut R) -> Result<Vec<u8>, InputFault>
+pub fn read_all<R: Read>(alloc: Global, reader: &mut R) -> Result<Vec<u8>, InputFault>
     ensures whole { IfOk result (λ v. IfSome (R.remaining reader.old) (λ input. v.items ≡ input)) }
     ensures few { IfOk result (λ v. length v.items ≤ 16777216) }
 {

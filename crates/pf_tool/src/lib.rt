@@ -4,6 +4,7 @@
 //!
 //! - `run`: the words of the program, over any reader and writer.
 //! - `Status`: how a run ends, and the exit status.
+//! - For other words over the same input and output: `read_all`, `misused`, `out_of_memory`.
 //!
 //! Within: `words` has the words as `clap` reads them, `call` what they ask for, `checking` and `testing` what each
 //! word writes, `input` and `output` what a run reads and writes, `running` one run from the words to the status.
@@ -19,7 +20,8 @@ mod status;
 mod testing;
 mod words;
 
-pub use running::{out_of_memory, run};
+pub use input::{InputFault, read_all};
+pub use running::{misused, out_of_memory, run};
 pub use status::Status;
 
 #[cfg(test)]

@@ -57,7 +57,7 @@ fn answer<R: Read, W: Write>(
 }
 
 /// Writes what is wrong with the words.
-fn misused<W: Write>(alloc: Global, error: &Error, writer: &mut W) -> Status
+pub fn misused<W: Write>(alloc: Global, error: &Error, writer: &mut W) -> Status
     ensures ran { Ran result None None (W.contents writer.old) (W.contents writer.new) }
     ensures memory { kind_of error.now ≡ OutOfMemory → result ≡ Status.Usage → ⊥ }
 {

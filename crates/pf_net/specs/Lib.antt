@@ -1,0 +1,3 @@
+pub mod Addresses
+pub mod Members
+pub mod Asking

@@ -1,0 +1,20 @@
+//! Datagrams over UDP, and a command asked of a node from outside.
+//!
+//! # Organization
+//!
+//! - [`UdpWire`]: a wire of a member, or of who asks, over a UDP socket. [`parse_address`]: where a member listens.
+//! - [`ask_once`]: one command asked of one node over any wire, and its [`AskAnswer`].
+#![tactic(auto)]
+
+mod address;
+mod answer;
+mod asking;
+mod udp;
+
+pub use address::{Address, parse_address};
+pub use answer::AskAnswer;
+pub use asking::ask_once;
+pub use pf_entry::Command;
+pub use px_replica::NodeFault;
+pub use px_wire::Membership;
+pub use udp::{BindFault, UdpWire};

@@ -1,0 +1,5 @@
+//! Trials of nodes over wires: a cluster in one process, over UDP, and with datagrams that are lost.
+#![tactic(auto)]
+
+#[cfg(test)]
+mod cluster;

@@ -1,0 +1,3 @@
+pub mod Wires
+pub mod Memory
+pub mod Faulty

@@ -1,0 +1,18 @@
+-- What went over a wire in memory, and what is still to come.
+use Rattle.std.specs.Prelude.{◌≡◌, ℕ, List, [], ◌∷◌, map, take, drop, Option, Some, None, if◌then◌else◌}
+use Rattle.px_transport.specs.declared.memory.MemoryWire.{MemoryWire}
+
+abbrev pub given_of : MemoryWire → Option (List (List ℕ))
+given_of w = Some (take w.next (map (λ d. d.items) w.coming.items))
+
+-- none once memory was wanting
+abbrev pub handed_of : MemoryWire → Option (List (ℕ × List ℕ))
+handed_of w = if w.is_whole then Some (map (λ d. (d.0, d.1.items)) w.sent.items) else None
+
+abbrev pub coming_of : MemoryWire → List (List ℕ)
+coming_of w = drop w.next (map (λ d. d.items) w.coming.items)
+
+-- the first is given as far as there is room for it, and the others are still to come
+abbrev pub IsNext : List (List ℕ) → (room : ℕ) → Option (List ℕ) → List (List ℕ) → Type 0
+IsNext [] room came later = (came ≡ None) × (later ≡ [])
+IsNext (d ∷ ds) room came later = (came ≡ Some (take room d)) × (later ≡ ds)

@@ -1,0 +1,106 @@
+//! A wire that fails at times.
+
+ghost use Rattle.std.specs.Prelude.{◌≡◌, ◌<◌, ◌≤◌, ◌+◌, ℕ, List, None, false, IfSome, length, option_map};
+ghost use Rattle.std.specs.Prelude.{take};
+ghost use Rattle.px_transport.specs.Wires.{Gives, Counts};
+ghost use Rattle.px_transport.specs.Faulty.{inner_of, recvs_left, sends_left, period_of, failures_of};
+
+use crate::wire::Wire;
+
+/// A wire of which each `k`-th receive and each `k`-th send fails, and doesn't come to the wire below: for tests of
+/// what lost datagrams do.
+#[derive(Drop)]
+pub struct FaultyWire<W> {
+    inner: W,
+    period: u64,
+    /// How many receives are left up to the next that fails.
+    recvs_left: u64,
+    /// The same of sends.
+    sends_left: u64,
+    missed: u64,
+}
+
+impl<W: Wire> FaultyWire<W> {
+    /// The wire over which each `k`-th receive and each `k`-th send fails.
+    pub fn new(inner: W, k: u64) -> FaultyWire<W>
+        requires { 0 < k }
+        ensures inner { inner_of result ≡ inner }
+        ensures period { period_of result ≡ k }
+        ensures recvs { recvs_left result ≡ k }
+        ensures sends { sends_left result ≡ k }
+    {
+        FaultyWire {
+            inner,
+            period: k,
+            recvs_left: k,
+            sends_left: k,
+            missed: 0,
+        }
+    }
+
+    /// The wire below.
+    pub fn into_inner(self) -> W
+        ensures { result ≡ inner_of self }
+    {
+        let FaultyWire {
+            inner,
+            period: _,
+            recvs_left: _,
+            sends_left: _,
+            missed: _,
+        } = self;
+        inner
+    }
+}
+
+impl<W: Wire> Wire for FaultyWire<W> {
+    ghost given = { λ w. W.given w.inner };
+
+    // not all that it was handed came to the wire below
+    ghost handed = { λ w. None };
+
+    ghost failed = { λ w. failures_of (W.failed w.inner) w };
+
+    fn recv(&mut self, into: &mut [u8]) -> Option<usize>
+        ensures missed { recvs_left self.old ≤ 1 → (result ≡ None) × (inner_of self.new ≡ inner_of self.old) ×
+            (recvs_left self.new ≡ period_of self.old) }
+        ensures passed { 1 < recvs_left self.old → recvs_left self.new + 1 ≡ recvs_left self.old }
+        ensures rest { (sends_left self.new ≡ sends_left self.old) × (period_of self.new ≡ period_of self.old) }
+        ensures fits { IfSome result (λ n. n ≤ length into.new) }
+        ensures given { Gives (W.given (inner_of self.old)) (option_map (λ n. take n into.new) result)
+            (W.given (inner_of self.new)) }
+        ensures quiet { Unit {0} }
+        ensures counts { failures_of (W.failed (inner_of self.old)) self.old ≤
+            failures_of (W.failed (inner_of self.new)) self.new }
+    {
+        if self.recvs_left <= 1 {
+            self.recvs_left = self.period;
+            self.missed = self.missed.saturating_add(1);
+            return None;
+        }
+        self.recvs_left -= 1;
+        self.inner.recv(into)
+    }
+
+    fn send(&mut self, to: u8, bytes: &[u8]) -> bool
+        ensures missed { sends_left self.old ≤ 1 → (result ≡ false) × (inner_of self.new ≡ inner_of self.old) ×
+            (sends_left self.new ≡ period_of self.old) }
+        ensures passed { 1 < sends_left self.old → sends_left self.new + 1 ≡ sends_left self.old }
+        ensures rest { (recvs_left self.new ≡ recvs_left self.old) × (period_of self.new ≡ period_of self.old) }
+        ensures quiet { W.given (inner_of self.new) ≡ W.given (inner_of self.old) }
+        ensures counts { Counts result (failures_of (W.failed (inner_of self.old)) self.old)
+            (failures_of (W.failed (inner_of self.new)) self.new) }
+    {
+        if self.sends_left <= 1 {
+            self.sends_left = self.period;
+            self.missed = self.missed.saturating_add(1);
+            return false;
+        }
+        self.sends_left -= 1;
+        self.inner.send(to, bytes)
+    }
+
+    fn failures(&self) -> u64 {
+        self.inner.failures().saturating_add(self.missed)
+    }
+}

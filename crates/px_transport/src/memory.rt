@@ -1,0 +1,112 @@
+//! A wire in memory.
+
+ghost use Rattle.std.specs.Prelude.{◌≡◌, ◌≤◌, [], Some, None, true, IfSome, OnOk, OnErr, length, map, option_map};
+ghost use Rattle.std.specs.Prelude.{take};
+ghost use Rattle.px_transport.specs.Wires.{Gives, Grows};
+ghost use Rattle.px_transport.specs.Memory.{given_of, handed_of, coming_of, IsNext};
+
+use crate::wire::Wire;
+use std::alloc::{AllocError, Global};
+
+/// A wire in memory: it gives the datagrams that it was made with, in order, and tells what it was handed as long as
+/// memory holds that.
+#[derive(Drop)]
+pub struct MemoryWire {
+    coming: Vec<Vec<u8>>,
+    /// How many of them were given.
+    next: usize,
+    sent: Vec<(u8, Vec<u8>)>,
+    /// Whether `sent` is all that was handed over.
+    is_whole: bool,
+    failures: u64,
+    alloc: Global,
+}
+
+/// Cuts the datagram to the room that there is, and writes it there: how many bytes it has.
+fn put(datagram: &mut Vec<u8>, into: &mut [u8]) -> usize
+    ensures fits { result ≤ length into.new }
+    ensures written { take result into.new ≡ datagram.new.items }
+    ensures cut { datagram.new.items ≡ take (length into.old) datagram.old.items }
+{
+    datagram.truncate(into.len());
+    let n = datagram.len();
+    into[..n].copy_from_slice(datagram.as_slice());
+    n
+}
+
+impl MemoryWire {
+    /// A wire that gives these datagrams, and was handed nothing. Takes no memory.
+    pub fn new(alloc: Global, coming: Vec<Vec<u8>>) -> MemoryWire
+        ensures coming { coming_of result ≡ map (λ d. d.items) coming.items }
+        ensures given { given_of result ≡ Some [] }
+        ensures handed { handed_of result ≡ Some [] }
+    {
+        MemoryWire {
+            coming,
+            next: 0,
+            sent: Vec::new(alloc),
+            is_whole: true,
+            failures: 0,
+            alloc,
+        }
+    }
+
+    /// What it was handed: for whom, and the bytes. `None` once memory was wanting.
+    pub fn sent(&self) -> Option<&[(u8, Vec<u8>)]>
+        ensures { option_map (λ s. map (λ d. (d.0, d.1.items)) s.now) result ≡ handed_of self.now }
+    {
+        if self.is_whole {
+            Some(self.sent.as_slice())
+        } else {
+            None
+        }
+    }
+
+    fn keep(&mut self, to: u8, bytes: &[u8]) -> Result<(), AllocError>
+        ensures kept { OnOk result (Grows (handed_of self.old) (to, bytes.now) (handed_of self.new)) }
+        ensures lost { OnErr result (handed_of self.new ≡ handed_of self.old) }
+        ensures given { given_of self.new ≡ given_of self.old }
+        ensures failures { self.new.failures ≡ self.old.failures }
+    {
+        let copy = Vec::from_slice(self.alloc, bytes)?;
+        self.sent.push((to, copy))?;
+        Ok(())
+    }
+}
+
+impl Wire for MemoryWire {
+    ghost given = { given_of };
+
+    ghost handed = { handed_of };
+
+    ghost failed = { λ w. w.failures };
+
+    fn recv(&mut self, into: &mut [u8]) -> Option<usize>
+        ensures next { IsNext (coming_of self.old) (length into.old) (option_map (λ n. take n into.new) result)
+            (coming_of self.new) }
+        ensures fits { IfSome result (λ n. n ≤ length into.new) }
+        ensures given { Gives (given_of self.old) (option_map (λ n. take n into.new) result) (given_of self.new) }
+        ensures quiet { handed_of self.new ≡ handed_of self.old }
+        ensures counts { self.old.failures ≤ self.new.failures }
+    {
+        if self.next >= self.coming.len() {
+            return None;
+        }
+        let n = put(&mut self.coming[self.next], into);
+        self.next += 1;
+        Some(n)
+    }
+
+    fn send(&mut self, to: u8, bytes: &[u8]) -> bool {
+        let kept = self.keep(to, bytes).is_ok();
+        if !kept {
+            self.is_whole = false;
+            self.failures = self.failures.saturating_add(1);
+        }
+        kept
+    }
+
+    fn failures(&self) -> u64 {
+        self.failures
+    }
+}

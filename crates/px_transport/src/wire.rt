@@ -1,0 +1,35 @@
+//! Where datagrams come from and go to.
+
+ghost use Rattle.std.specs.Prelude.{◌≡◌, ◌≤◌, ℕ, List, Option, IfSome, length, option_map, take};
+ghost use Rattle.px_transport.specs.Wires.{Gives, Grows, Counts};
+
+/// Where datagrams come from and go to. Members are told apart by their numbers; 255 is whoever sent the datagram that
+/// came last. A datagram that isn't sent is lost, as it may be on its way: nothing else follows from it.
+pub trait Wire {
+    // what `recv` gave so far, where the wire tells
+    ghost given: { Self → Option (List (List ℕ)) };
+
+    // what `send` was handed so far, with for whom, where the wire tells
+    ghost handed: { Self → Option (List (ℕ × List ℕ)) };
+
+    // how many sends were not made, and how many faults were met
+    ghost failed: { Self → ℕ };
+
+    /// Waits for a datagram: how many bytes it has, which are written from the slice's front on. `None` where none came
+    /// in time, or for a fault. Of a datagram longer than the slice the rest is lost.
+    fn recv(&mut self, into: &mut [u8]) -> Option<usize>
+        ensures fits { IfSome result (λ n. n ≤ length into.new) }
+        ensures given { Gives (given self.old) (option_map (λ n. take n into.new) result) (given self.new) }
+        ensures quiet { handed self.new ≡ handed self.old }
+        ensures counts { failed self.old ≤ failed self.new };
+
+    /// Sends the bytes to a member, or with 255 to whoever sent the datagram that came last. Whether they were sent.
+    fn send(&mut self, to: u8, bytes: &[u8]) -> bool
+        ensures handed { Grows (handed self.old) (to, bytes.now) (handed self.new) }
+        ensures quiet { given self.new ≡ given self.old }
+        ensures counts { Counts result (failed self.old) (failed self.new) };
+
+    /// How many sends were answered `false`, and how many faults `recv` met, up to 2^64 - 1.
+    fn failures(&self) -> u64
+        ensures { result ≡ failed self.now };
+}
