@@ -3,5 +3,10 @@ mod Counting
 mod Families
 pub mod Given
 mod Keeping
+mod Looking
+mod Numbering
 mod Products
 mod Pushed
+mod Stepping
+mod Twice
+mod Walking

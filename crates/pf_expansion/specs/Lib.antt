@@ -4,4 +4,4 @@ pub mod Causes
 pub mod Tables
 pub mod Anchors
 pub mod Blocks
-pub mod Paths
+pub mod Numbers

@@ -18,6 +18,7 @@ mod cause;
 mod expand;
 mod judge;
 mod judged;
+mod numbers;
 mod rules;
 mod tables;
 

@@ -1,42 +1,50 @@
 //! Tables that a text defines.
 
-ghost use Rattle.std.specs.Prelude.{◌≡◌, map, option_map, IfOk, IfErr, None, Some};
-ghost use Rattle.std.specs.List.{list_any};
+ghost use Rattle.std.specs.Prelude.{◌≡◌, map, option_map, IfOk, IfErr, OnOk, None, Some};
 ghost use Rattle.pf_ruleset.specs.Rulesets.{table_of};
 ghost use Rattle.pf_statements.specs.Seen.{table_text_of};
 ghost use Rattle.pf_expansion.specs.Causes.{lowest};
-ghost use Rattle.pf_expansion.specs.Tables.{same_prefix, kept, is_defined, table_value, table_causes};
+ghost use Rattle.pf_expansion.specs.Tables.{AreKeys, is_defined, kept, key_of, table_causes, table_value, with_first};
 
 use crate::cause::Cause;
 use crate::judge::is_deep;
+use pf_addr::{Addr, Prefix};
 use pf_ruleset::{TableDef, TableEntry, TableName};
 use pf_statements::WrittenTable;
 use std::alloc::{AllocError, Global};
-use std::cmp::Ordering;
+use std::collections::BTreeSet;
 
 /// The most different prefixes that a table may have.
 const MOST_ENTRIES: usize = 4_096;
 
-/// Whether the second entry has the prefix of the first.
-fn same_prefix(entry: &TableEntry, other: &TableEntry) -> bool
-    ensures { result ≡ same_prefix entry.now other.now }
+/// The prefix as numbers: the version of IP, the length, and the address.
+fn key_of(prefix: &Prefix) -> (u8, (u8, u128))
+    ensures { result ≡ key_of prefix.now }
 {
-    match other.prefix.order(&entry.prefix) {
-        Ordering::Equal => true,
-        Ordering::Less | Ordering::Greater => false,
+    match prefix.base() {
+        Addr::V4(bits) => (4, (prefix.len(), u128::from(bits))),
+        Addr::V6(bits) => (6, (prefix.len(), bits)),
     }
 }
 
-/// Whether one of the entries has the prefix of this one.
-fn has_prefix(entries: &[TableEntry], entry: &TableEntry) -> bool
-    ensures { result ≡ list_any (same_prefix entry.now) entries.now }
+/// Appends the entry to those that were found, whose prefixes these are, unless its prefix is among them.
+fn push_first(
+    found: &mut Vec<TableEntry>,
+    prefixes: &mut BTreeSet<(u8, (u8, u128))>,
+    entry: &TableEntry,
+) -> Result<(), AllocError>
+    requires { AreKeys prefixes.old found.old.items }
+    ensures prefixes { OnOk result (AreKeys prefixes.new found.new.items) }
+    ensures found { OnOk result (found.new.items ≡ with_first found.old.items entry.now) }
 {
-    for other in entries {
-        if same_prefix(entry, other) {
-            return true;
+    match prefixes.insert(key_of(&entry.prefix)) {
+        Ok(true) => {
+            found.push(*entry)?;
+            Ok(())
         }
+        Ok(false) => Ok(()),
+        Err(_) => Err(AllocError),
     }
-    false
 }
 
 /// The first entry of each prefix, none where they are too many.
@@ -47,12 +55,11 @@ fn kept_entries(
     ensures { IfOk result (λ found. option_map (λ v. v.items) found ≡ kept entries.now) }
 {
     let mut found = Vec::new(alloc);
+    let mut prefixes = BTreeSet::new(alloc);
     for entry in entries {
-        if !has_prefix(&found, entry) {
-            if found.len() >= MOST_ENTRIES {
-                return Ok(None);
-            }
-            found.push(*entry)?;
+        push_first(&mut found, &mut prefixes, entry)?;
+        if found.len() > MOST_ENTRIES {
+            return Ok(None);
         }
     }
     Ok(Some(found))

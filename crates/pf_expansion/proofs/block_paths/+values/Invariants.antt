@@ -1,11 +1,12 @@
-use Rattle.std.proofs.Common.{◌≡◌, ◌++◌, map, drop}
+use Rattle.std.proofs.Common.{◌≡◌, [], Some, drop}
+use Rattle.std.specs.List.{list_any}
 use Rattle.pf_ruleset.specs.Items.{values_of}
 use Rattle.pf_ruleset.specs.Seen.{items_of}
 use Rattle.pf_expansion.specs.Blocks.{paths_within}
-use Rattle.pf_expansion.specs.Paths.{path_of}
+use Rattle.pf_expansion.specs.Numbers.{is_marked}
 use Rattle.pf_expansion.proofs.block_paths.+values.Given as goal
 
--- the paths so far and those of what is left are all
-abbrev pub invariant-push_paths_within-loop-item : goal.invariant-push_paths_within-loop-item
-invariant-push_paths_within-loop-item l =
-    map path_of l.initial.paths.items ++ paths_within l.fn.path (values_of (items_of l.fn.items)) ≡ map path_of l.paths.items ++ paths_within l.fn.path (values_of (items_of (drop l.item-index l.items)))
+-- looked for among the rules that are left
+abbrev pub invariant-any_in-loop-item : goal.invariant-any_in-loop-item
+invariant-any_in-loop-item l =
+    list_any (is_marked l.fn.numbers.steps l.fn.set (Some l.fn.from)) (paths_within [] (values_of (items_of l.fn.items))) ≡ list_any (is_marked l.fn.numbers.steps l.fn.set (Some l.fn.from)) (paths_within [] (values_of (items_of (drop l.item-index l.items))))
