@@ -17,7 +17,6 @@ pub mod Carried
 pub mod Lists
 pub mod Reading
 pub mod Shorter
-pub mod Answers
 pub mod Lines
 pub mod ListGrammar
 pub mod MacroGrammar

@@ -32,6 +32,3 @@ pub use parser::Parser;
 pub use stop::Stop;
 pub use symbol::Symbol;
 pub use text::Text;
-
-#[cfg(test)]
-mod tests;

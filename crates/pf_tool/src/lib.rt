@@ -24,5 +24,3 @@ pub use input::{InputFault, read_all};
 pub use running::{misused, out_of_memory, run};
 pub use status::Status;
 
-#[cfg(test)]
-mod tests;

@@ -1,7 +1,7 @@
 //! How a run ends that can't read its words, its input or its output.
 
-use super::{QUICK, SYN_PACKET};
-use crate::{Status, run};
+use crate::runs::{QUICK, SYN_PACKET};
+use pf_tool::{Status, run};
 use std::io::{self, Error, ErrorKind, Read, Write};
 use std::test::Fail;
 
@@ -9,7 +9,7 @@ use std::test::Fail;
 fn unknown_words_are_told_apart(rt: HostRuntime) -> Result<(), Fail> {
     let mut reader = QUICK;
     let mut out = Vec::new(rt.alloc());
-    let status = run(rt.alloc(), &["pfx", "lab"], &mut reader, &mut out);
+    let status = run(rt.alloc(), &["pfx", "labs"], &mut reader, &mut out);
     assert_eq!(rt; status.code(), 2);
     assert!(rt; out.len() > 20);
     let mut out = Vec::new(rt.alloc());

@@ -1,6 +1,6 @@
 //! Verdicts for packets, with the exact bytes that `test` writes.
 
-use super::{QUICK, SYN_PACKET, tested};
+use crate::runs::{QUICK, SYN_PACKET, tested};
 use std::test::Fail;
 
 const SYN: &[u8] = b"block all\npass quick from 10/8\n";

@@ -1,6 +1,11 @@
-ghost use Rattle.pf_tokens.specs.Answers.{negated_at, negated_shorter};
+//! Tokens, statements, macros and lists.
 
-use super::*;
+ghost use Rattle.pf_token_trials.specs.Answers.{negated_at, negated_shorter};
+
+use pf_tokens::{
+    DefinitionFault, Element, Lexeme, Macro, Macros, Parser, ReadingFault, Stop, Symbol, Text,
+    definition, list, lists_as_spelled, macros_as_spelled, some,
+};
 use pf_words::Profile;
 use std::alloc::Global;
 use std::test::Fail;
@@ -13,7 +18,7 @@ impl Element for Answer {
 
     ghost read = { λ profile. negated_at };
 
-    #[tactic(auto, unfolding(crate::specs::Productions::option_at, crate::specs::Answers::answer_at, crate::specs::Answers::negated_at))]
+    #[tactic(auto, unfolding(pf_tokens::specs::Productions::option_at, crate::specs::Answers::answer_at, crate::specs::Answers::negated_at))]
     fn read<'t: 's, 's>(
         _alloc: Global,
         _profile: Profile,

@@ -1,18 +1,15 @@
-mod endings;
-mod large;
-mod profiles;
-mod verdicts;
-mod worked;
+//! Runs of the program's words, as the tests make them.
 
-use crate::run;
+use pf_tool::run;
 use std::alloc::Global;
 
-const QUICK: &[u8] = b"block all\npass quick from 10/8 no state\n";
+pub(crate) const QUICK: &[u8] = b"block all\npass quick from 10/8 no state\n";
 
-const SYN_PACKET: &str = "in on em0 proto tcp from 10.1.2.3 port 4000 to 192.0.2.1 port 22 flags S";
+pub(crate) const SYN_PACKET: &str =
+    "in on em0 proto tcp from 10.1.2.3 port 4000 to 192.0.2.1 port 22 flags S";
 
 /// What the word `test` writes for these packets, and the exit status.
-fn tested(alloc: Global, text: &[u8], packets: &[&str]) -> (u8, Vec<u8>) {
+pub(crate) fn tested(alloc: Global, text: &[u8], packets: &[&str]) -> (u8, Vec<u8>) {
     let mut words = Vec::new(alloc);
     let _ = words.push("pfx");
     let _ = words.push("test");
@@ -26,7 +23,7 @@ fn tested(alloc: Global, text: &[u8], packets: &[&str]) -> (u8, Vec<u8>) {
 }
 
 /// What the word `check` writes for this text, and the exit status.
-fn checked(alloc: Global, text: &[u8], anchor: bool) -> (u8, Vec<u8>) {
+pub(crate) fn checked(alloc: Global, text: &[u8], anchor: bool) -> (u8, Vec<u8>) {
     let mut reader = text;
     let mut out = Vec::new(alloc);
     let status = if anchor {

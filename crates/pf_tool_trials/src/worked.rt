@@ -1,6 +1,6 @@
 //! Worked texts, and what `check` writes of them.
 
-use super::checked;
+use crate::runs::checked;
 use pf_grammar::{Place, Profile, parse, show_items};
 use std::test::Fail;
 
