@@ -52,18 +52,27 @@ check_app = with_rule (new_app (codes "check")) (record (new_rule (codes "anchor
 abbrev pub ctl_app : App
 ctl_app = new_app (codes "ctl")
 
+-- lab
+abbrev pub lab_app : App
+lab_app = new_app (codes "lab")
+
+-- the words that read a ruleset's text
+abbrev pub texts_app : App
+texts_app = with_subcommand (with_subcommand (new_app (codes "pfx")) check_app.top) test_app.top
+
 -- the program: one of its words has to be named
 abbrev pub pfx_app : App
 pfx_app =
-    let named = with_subcommand (with_subcommand (with_subcommand (new_app (codes "pfx")) check_app.top) test_app.top)
-    ctl_app.top in
+    let named = with_subcommand (with_subcommand texts_app ctl_app.top) lab_app.top in
     record named { top = record named.top { subcommand_required = true } }
 
--- what is asked for: verdicts for packet texts, what a text comes to at a place, or what a script prints
+-- what is asked for: verdicts for packet texts, what a text comes to at a place, or what a script prints, over one
+-- configuration or over a lab
 pub data CallValue : Type 0 where
   Test : (packets : List Text) → CallValue
   Check : (place : Place) → CallValue
   Ctl : CallValue
+  Lab : CallValue
 
 -- the packet words of test, if that is the word
 abbrev pub packets_in : Option (Text × List Row) → Option (List Text)
@@ -86,15 +95,25 @@ abbrev pub is_ctl : Option (Text × List Row) → Bool
 is_ctl None = false
 is_ctl (Some (name, rows)) = bytes_eq name (codes "ctl")
 
+-- whether the word is lab
+abbrev pub is_lab : Option (Text × List Row) → Bool
+is_lab None = false
+is_lab (Some (name, rows)) = bytes_eq name (codes "lab")
+
+-- which of the two scripts
+abbrev pub script_as : Bool → Bool → Option CallValue
+script_as true events = Some Ctl
+script_as false true = Some Lab
+script_as false false = None
+
 -- what packet words ask for, or else a place, or else a script
-abbrev pub called_as : Option (List Text) → Option Place → Bool → Option CallValue
+abbrev pub called_as : Option (List Text) → Option Place → Option CallValue → Option CallValue
 called_as (Some packets) place script = Some (Test packets)
 called_as None (Some place) script = Some (Check place)
-called_as None None true = Some Ctl
-called_as None None false = None
+called_as None None script = script
 
 abbrev pub called : Option (Text × List Row) → Option CallValue
-called word = called_as (packets_in word) (place_in word) (is_ctl word)
+called word = called_as (packets_in word) (place_in word) (script_as (is_ctl word) (is_lab word))
 
 abbrev pub unless_faulty : Kinds → Option CallValue → Option CallValue
 unless_faulty [] call = call
@@ -171,11 +190,13 @@ abbrev pub status_of : Ending → Status
 status_of Done = status.Done
 status_of Refused = status.Refused
 
--- what is asked for, over this input
-abbrev pub answered : CallValue → List ℕ → Written
-answered (Test packets) input = test_output packets input
-answered (Check place) input = check_output place input
-answered Ctl input = record { text = printed input; ending = Done }
+-- What is asked for, over this input. Of a lab's script no more is said than how it ends: which positions a node has
+-- applied is no part of the world.
+abbrev pub IsAnswer : CallValue → List ℕ → Written → Type 0
+IsAnswer (Test packets) input w = w ≡ test_output packets input
+IsAnswer (Check place) input w = w ≡ check_output place input
+IsAnswer Ctl input w = w ≡ record { text = printed input; ending = Done }
+IsAnswer Lab input w = w.ending ≡ Done
 
 abbrev pub Writes : Option (List ℕ) → Option (List ℕ) → Status → Written → Type 0
 Writes old new ending written = Appends old new written.text × (ending ≡ status_of written.ending)
@@ -186,5 +207,6 @@ abbrev pub Ran : Status → Option CallValue → Option (List ℕ) → Option (L
     Option (List ℕ) → Type 0
 Ran status.Memory call input old new = Appends old new (line (codes "memory"))
 Ran status.Failed call input old new = Unit {0}
-Ran ending (Some call) input old new = IfSome input (λ bytes. Writes old new ending (answered call bytes))
+Ran ending (Some call) input old new =
+    IfSome input (λ bytes. (w : Written) × IsAnswer call bytes w × Writes old new ending w)
 Ran ending None input old new = ending ≡ status.Usage

@@ -3,13 +3,13 @@
 ghost use Rattle.std.specs.Prelude.{◌≡◌, IfOk, map, option_map};
 ghost use Rattle.std.specs.Option.{option_copied};
 ghost use Rattle.clap.specs.Words.{subcommand_rows_of};
-ghost use Rattle.pf_tool.specs.Tool.{packets_in, place_in, place_for, is_ctl, called, answered};
+ghost use Rattle.pf_tool.specs.Tool.{packets_in, place_in, place_for, is_ctl, is_lab, called, IsAnswer};
 ghost use Rattle.pf_tool.specs.Calls.{asked};
 ghost use Rattle.pf_tool.specs.Output.{written};
 
 use crate::checking::check_output;
 use crate::output::Output;
-use crate::scripts::script_output;
+use crate::scripts::{lab_output, script_output};
 use crate::testing::test_output;
 use clap::ArgMatches;
 use pf_grammar::Place;
@@ -22,8 +22,10 @@ pub(crate) enum Call<'m, 'a> {
     Test(&'m [&'a str]),
     /// What a text comes to at a place.
     Check(Place),
-    /// What a script prints.
+    /// What a script over one configuration prints.
     Ctl,
+    /// What a script of a lab's events prints.
+    Lab,
 }
 
 /// The packet words of `test`, if that is the word.
@@ -68,6 +70,16 @@ fn is_ctl(matches: &ArgMatches<'_>) -> bool
     }
 }
 
+/// Whether the word is `lab`.
+fn is_lab(matches: &ArgMatches<'_>) -> bool
+    ensures { result ≡ is_lab (subcommand_rows_of matches.now) }
+{
+    match matches.subcommand_matches("lab") {
+        Some(_) => true,
+        None => false,
+    }
+}
+
 /// What the matches of the words ask for, none where no word is named.
 pub(crate) fn call_in<'m, 'a>(matches: &'m ArgMatches<'a>) -> Option<Call<'m, 'a>>
     ensures { option_map asked result ≡ called (subcommand_rows_of matches.now) }
@@ -78,10 +90,12 @@ pub(crate) fn call_in<'m, 'a>(matches: &'m ArgMatches<'a>) -> Option<Call<'m, 'a
             Some(place) => Some(Call::Check(place)),
             None => {
                 if is_ctl(matches) {
-                    Some(Call::Ctl)
-                } else {
-                    None
+                    return Some(Call::Ctl);
                 }
+                if is_lab(matches) {
+                    return Some(Call::Lab);
+                }
+                None
             }
         },
     }
@@ -93,11 +107,12 @@ pub(crate) fn output_of(
     call: Call<'_, '_>,
     input: &[u8],
 ) -> Result<Output, AllocError>
-    ensures { IfOk result (λ o. written o ≡ answered (asked call.entry) input.now) }
+    ensures { IfOk result (λ o. IsAnswer (asked call.entry) input.now (written o)) }
 {
     match call {
         Call::Test(packets) => test_output(alloc, packets, input),
         Call::Check(place) => check_output(alloc, place, input),
         Call::Ctl => script_output(alloc, input),
+        Call::Lab => lab_output(alloc, input),
     }
 }

@@ -23,4 +23,3 @@ mod words;
 pub use input::{InputFault, read_all};
 pub use running::{misused, out_of_memory, run};
 pub use status::Status;
-

@@ -1,4 +1,4 @@
-//! The word `ctl`: what a script prints.
+//! The words `ctl` and `lab`: what a script prints.
 
 ghost use Rattle.std.specs.Prelude.{◌≡◌, IfOk};
 ghost use Rattle.pf_scripts.specs.Ctl.{printed};
@@ -6,6 +6,7 @@ ghost use Rattle.pf_tool.specs.declared.output.Ending.TheVariants as ending;
 ghost use Rattle.pf_tool.specs.Output.{written};
 
 use crate::output::{Ending, Output};
+use pf_lab_scripts::lab;
 use pf_scripts::ctl;
 use std::alloc::{AllocError, Global};
 
@@ -14,6 +15,17 @@ pub(crate) fn script_output(alloc: Global, input: &[u8]) -> Result<Output, Alloc
     ensures { IfOk result (λ o. written o ≡ record { text = printed input.now; ending = ending.Done }) }
 {
     let text = ctl(alloc, input)?;
+    Ok(Output {
+        text,
+        ending: Ending::Done,
+    })
+}
+
+/// What `lab` writes over this input: what the script's lines print over one lab.
+pub(crate) fn lab_output(alloc: Global, input: &[u8]) -> Result<Output, AllocError>
+    ensures { IfOk result (λ o. (written o).ending ≡ ending.Done) }
+{
+    let text = lab(alloc, input)?;
     Ok(Output {
         text,
         ending: Ending::Done,

@@ -1,0 +1,5 @@
+pub mod Numbers
+pub mod Asking
+pub mod LabLines
+pub mod Shown
+pub mod Seen

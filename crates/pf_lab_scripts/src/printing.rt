@@ -1,0 +1,19 @@
+//! Numbers with a word before them.
+
+ghost use Rattle.std.specs.Prelude.{◌≡◌, ◌++◌, OnOk, string_bytes, decimal};
+
+use pf_scripts::push_number;
+use std::alloc::{AllocError, Global};
+
+/// Puts a number behind the text, and its word before it.
+pub(crate) fn push_named(
+    alloc: Global,
+    out: &mut String,
+    word: &str,
+    number: u64,
+) -> Result<(), AllocError>
+    ensures { OnOk result (string_bytes out.new ≡ string_bytes out.old ++ word.now ++ decimal number) }
+{
+    out.push_str(word)?;
+    push_number(alloc, out, number)
+}
