@@ -1,7 +1,7 @@
 -- Parts of the tree that go.
-use Rattle.std.proofs.Common.{◌≡◌, ℕ, ◌+◌, ◌-◌, ◌<◌, ◌≤◌, Bool, true, false, ◌&&◌, ◌||◌, cond, List, [], ◌∷◌, ◌++◌, Option, Some, None, length, length-append, refl, sym, subst, ap, ◌∙◌, append_assoc, arith, inl, inr, slice_get, drop, drop-cons, add-one, suc, get_or}
+use Rattle.std.proofs.Common.{◌≡◌, ℕ, ◌+◌, ◌-◌, ◌<◌, Bool, true, false, ◌&&◌, ◌||◌, cond, List, [], ◌∷◌, ◌++◌, Option, Some, None, length, length-append, refl, sym, subst, ap, ◌∙◌, append_assoc, arith, inl, inr, slice_get, drop, drop-cons, add-one, suc, get_or}
 use Rattle.std.specs.Prelude.{if◌then◌else◌, filter, not, nat_lt}
-use Rattle.std.specs.List.{list_all, list_any, starts_with}
+use Rattle.std.specs.List.{list_any, starts_with}
 use Rattle.std.specs.Str.{bytes_eq}
 use Rattle.std.proofs.lemmas.Bool.{cases_lt}
 use Rattle.std.proofs.lemmas.Bool.Decides.{nat_tests}
@@ -10,8 +10,8 @@ use Rattle.pf_ruleset.specs.Names.{Name, is_before}
 use Rattle.pf_ruleset.specs.Items.{AnyRule}
 use Rattle.pf_table.specs.Tables.{TableValue}
 use Rattle.pf_config.specs.Map.{AnchorValue, Path, name_after}
-use Rattle.pf_config.specs.Changes.{is_empty, is_nothing, unless_nothing, is_some_unnamed, without_unnamed, refers, refer, used_alone, used_tables, tidied_of}
-use Rattle.pf_config.specs.Trees.{AnchorTree, below, own_entry, last_name, IsKid, AreKids, some_kid, and_then, room_after, own_count}
+use Rattle.pf_config.specs.Changes.{is_empty, is_nothing, unless_nothing, is_some_unnamed, without_unnamed, refers, refer, is_used, used_alone, used_tables, tidied_of}
+use Rattle.pf_config.specs.Trees.{AnchorTree, below, own_entry, last_name, IsKid, AreKids, some_kid, and_then, room_after, own_count, any_unnamed, is_idle, sheds, any_sheds}
 use Rattle.pf_config.proofs.Treed.{both_true, bytes_same, begins, begins_more, kid_begins, kids_above, append_nil}
 use Rattle.pf_config.proofs.Entries.{below_append, below_some}
 use Rattle.pf_config.proofs.Descents.{begins_chain}
@@ -190,8 +190,25 @@ pub unnamed_all : (p q n : Path) (rules : List AnyRule) (tables : List (Name × 
 unnamed_all p q n rules tables done left all u e h z =
     ap (λ x. own_entry x rules tables ++ below done) e ∙ ap (λ r. own_entry p rules tables ++ r) (walked_map n (without_unnamed q) (unnamed_cuts q) done left all h z) ∙ ap (λ r. r ++ without_unnamed q (below all)) (sym (own_named q p rules tables u)) ∙ sym (unnamed_append q (own_entry p rules tables) (below all))
 
-pub next_kid : (ks : List AnchorTree) (i : ℕ) (k : AnchorTree) → i < length ks → k ≡ get_or ks i k → drop i ks ≡ k ∷ drop (i + 1) ks
-next_kid ks i k n f = drop-cons ks i k n ∙ ap (λ (x : AnchorTree). x ∷ drop (suc i) ks) (sym f) ∙ ap (λ j. k ∷ drop j ks) (sym (add-one i))
+pub next_kid : {X : Type 0} (ks : List X) (i : ℕ) (k : X) → i < length ks → k ≡ get_or ks i k → drop i ks ≡ k ∷ drop (i + 1) ks
+next_kid {X} ks i k n f = drop-cons ks i k n ∙ ap (λ (x : X). x ∷ drop (suc i) ks) (sym f) ∙ ap (λ j. k ∷ drop j ks) (sym (add-one i))
+
+-- what is left once nothing goes
+or_false : (a b : Bool) → (a || b) ≡ false → (a ≡ false) × (b ≡ false)
+or_false true b h = cc
+or_false false b h = (refl, h)
+
+or_nothing : (b : Bool) → (b || false) ≡ b
+or_nothing true = refl
+or_nothing false = refl
+
+pub none_unnamed : (p : Path) (es : List AnchorValue) → any_unnamed p es ≡ false → without_unnamed p es ≡ es
+unfolding without_unnamed
+none_unnamed p [] h = refl
+none_unnamed p (a ∷ es) h = let both = or_false (is_some_unnamed (name_after p a.path)) (any_unnamed p es) h in rw both.0 (ap (λ (r : List AnchorValue). a ∷ r) (none_unnamed p es both.1))
+
+pub stays_named : (p : Path) (k : AnchorTree) → any_unnamed p k.anchors ≡ false → k ≡ record { names = k.names; anchors = without_unnamed p k.anchors }
+stays_named p k h = ap {B = AnchorTree} (λ (r : List AnchorValue). record { names = k.names; anchors = r }) (sym (none_unnamed p k.anchors h))
 
 -- ---- tables that no rule refers to
 
@@ -203,16 +220,40 @@ any_own : (n : Name) (p : Path) (rules : List AnyRule) (tables : List (Name × T
 any_own n p [] [] = refl
 any_own n p [] (t ∷ tables) = refl
 any_own n p (r ∷ rules) tables = or_nothing (list_any (refers n) (r ∷ rules))
-  where
-    or_nothing : (b : Bool) → (b || false) ≡ b
-    or_nothing true = refl
-    or_nothing false = refl
 
 pub refers_own : (n : Name) (p : Path) (rules : List AnyRule) (tables : List (Name × TableValue)) (ks : List AnchorTree) → list_any (refer n) (own_entry p rules tables ++ below ks) ≡ (list_any (refers n) rules || list_any (refer n) (below ks))
 refers_own n p rules tables ks = any_append (refer n) (own_entry p rules tables) (below ks) ∙ ap (λ b. b || list_any (refer n) (below ks)) (any_own n p rules tables)
 
 pub refers_below : (n : Name) (k : AnchorTree) (ks : List AnchorTree) → list_any (refer n) (below (k ∷ ks)) ≡ (list_any (refer n) k.anchors || list_any (refer n) (below ks))
 refers_below n k ks = any_append (refer n) k.anchors (below ks)
+
+sheds_alone : (all : List AnchorValue) (p : Path) (rules : List AnyRule) (tables : List (Name × TableValue)) → any_sheds all (own_entry p rules tables) ≡ list_any (is_idle all (record { path = p; rules = rules; tables = [] })) tables
+sheds_alone all p [] [] = refl
+sheds_alone all p [] (t ∷ tables) = or_nothing (list_any (is_idle all (record { path = p; rules = []; tables = [] })) (t ∷ tables))
+sheds_alone all p (r ∷ rules) tables = or_nothing (list_any (is_idle all (record { path = p; rules = r ∷ rules; tables = [] })) tables)
+
+pub sheds_own : (all : List AnchorValue) (p : Path) (rules : List AnyRule) (tables : List (Name × TableValue)) (ks : List AnchorTree) → any_sheds all (own_entry p rules tables ++ below ks) ≡ (list_any (is_idle all (record { path = p; rules = rules; tables = [] })) tables || any_sheds all (below ks))
+sheds_own all p rules tables ks = any_append (sheds all) (own_entry p rules tables) (below ks) ∙ ap (λ b. b || any_sheds all (below ks)) (sheds_alone all p rules tables)
+
+not_false : (b : Bool) → not b ≡ false → b ≡ true
+not_false true h = refl
+not_false false h = cc
+
+none_idle : (all : List AnchorValue) (a : AnchorValue) (tables : List (Name × TableValue)) → list_any (is_idle all a) tables ≡ false → used_tables all a tables ≡ tables
+none_idle all a [] h = refl
+none_idle all a (t ∷ tables) h = let both = or_false (is_idle all a t) (list_any (is_idle all a) tables) h in rw (not_false (t.1.persist || is_used all a t.0) both.0) (ap (λ (r : List (Name × TableValue)). t ∷ r) (none_idle all a tables both.1))
+
+pub none_sheds : (all es : List AnchorValue) → any_sheds all es ≡ false → tidied_of all es ≡ es
+none_sheds all [] h = refl
+none_sheds all (a ∷ es) h =
+    let both = or_false (sheds all a) (any_sheds all es) h in
+    let own = or_false (is_nothing a) (list_any (is_idle all a) a.tables) both.0 in
+    let same : used_alone all a ≡ a = ap {B = AnchorValue} (λ r. record { path = a.path; rules = a.rules; tables = r }) (none_idle all a a.tables own.1) in
+    let held : is_nothing (used_alone all a) ≡ false = ap is_nothing same ∙ own.0 in
+    rw held (ap (λ (x : AnchorValue). x ∷ tidied_of all es) same ∙ ap (λ (r : List AnchorValue). a ∷ r) (none_sheds all es both.1))
+
+pub stays_tidy : (all : List AnchorValue) (k : AnchorTree) → any_sheds all k.anchors ≡ false → k ≡ record { names = k.names; anchors = tidied_of all k.anchors }
+stays_tidy all k h = ap {B = AnchorTree} (λ (r : List AnchorValue). record { names = k.names; anchors = r }) (sym (none_sheds all k.anchors h))
 
 tidied_joins : (all es fs : List AnchorValue) → tidied_of all (es ++ fs) ≡ tidied_of all es ++ tidied_of all fs
 tidied_joins all [] fs = refl

@@ -1,7 +1,7 @@
 -- An entry of the map takes its place in the tree.
-use Rattle.std.proofs.Common.{take, drop, take_all, drop-cons, length, length-drop, get_or, arith, ◌-◌, ◌≤◌, ◌≡◌, ℕ, Bool, true, false, ◌&&◌, cond, List, [], ◌∷◌, ◌++◌, Option, Some, None, Ordering, refl, sym, subst, ap, ◌∙◌, append_assoc}
+use Rattle.std.proofs.Common.{take, drop, take_all, drop-cons, length, length-drop, get_or, arith, ◌-◌, ◌≤◌, ◌≡◌, Bool, true, false, ◌&&◌, cond, List, [], ◌∷◌, ◌++◌, None, Ordering, refl, sym, subst, ap, ◌∙◌, append_assoc}
 use Rattle.std.specs.declared.cmp.Ordering.TheVariants.{Less, Equal, Greater}
-use Rattle.std.specs.Prelude.{if◌then◌else◌, filter, find, not}
+use Rattle.std.specs.Prelude.{if◌then◌else◌, filter, find}
 use Rattle.std.specs.List.{list_all, starts_with}
 use Rattle.std.specs.Str.{bytes_eq}
 use Rattle.std.specs.Ordering.{is_lt, nat_cmp, ordering_then, ordering_reverse}
@@ -16,11 +16,11 @@ use Rattle.pf_table.specs.Tables.{TableValue}
 use Rattle.pf_config.specs.Map.{AnchorValue, Path}
 use Rattle.pf_config.specs.Changes.{is_empty, unless_nothing, is_path_before, anchors_before, anchors_behind, with_anchor}
 use Rattle.pf_config.specs.Trees.{AnchorTree, part_below, some_part, child_at, anchors_of, below, own_entry, last_name, is_named, IsKid, AreKids, kids_before, kids_behind, some_kid, placed_in, TakesPlace}
-use Rattle.pf_config.proofs.Treed.{both_true, append_nil, bytes_same, same_bytes, begins, kid_begins, begins_more, name_chain, never, is_less, before_other, other_turned, kids_above, kids_above_chain, last_of, child_is}
+use Rattle.pf_config.proofs.Treed.{both_true, append_nil, bytes_same, same_bytes, begins, kid_begins, begins_more, is_less, before_other, other_turned, kids_above, kids_above_chain, last_of, child_is}
 
 -- ---- the order of paths
 
-paths_total : IsTotalOrder (slice_cmp (slice_cmp nat_cmp))
+pub paths_total : IsTotalOrder (slice_cmp (slice_cmp nat_cmp))
 paths_total = lists_total nat_list_cmp_total
 
 -- a path through one name, against a path through another
@@ -52,7 +52,7 @@ cmp_longer (l ∷ p) (x ∷ q) m h =
     let c : slice_cmp nat_cmp x l ≡ Equal = subst (λ (y : Name). slice_cmp nat_cmp y l ≡ Equal) e (tied_itself nat_list_cmp_total l) in
     rw c (cmp_longer p q m both.1)
 
-turn : (p q : Path) (o : Ordering) → slice_cmp (slice_cmp nat_cmp) p q ≡ o → slice_cmp (slice_cmp nat_cmp) q p ≡ ordering_reverse o
+pub turn : (p q : Path) (o : Ordering) → slice_cmp (slice_cmp nat_cmp) p q ≡ o → slice_cmp (slice_cmp nat_cmp) q p ≡ ordering_reverse o
 turn p q o h = paths_total.antisymm q p ∙ ap ordering_reverse h
 
 -- ---- filters that keep all or nothing
@@ -67,9 +67,9 @@ keeps_none t s h (a ∷ es) k = let both = both_true (s a) (list_all s es) k in 
 
 -- ---- one kid against a path
 
-record Sided (q : Path) (es before behind : List AnchorValue) : Type 0 where
-  first : anchors_before q es ≡ before
-  last : anchors_behind q es ≡ behind
+pub record Sided (q : Path) (es before behind : List AnchorValue) : Type 0 where
+  pub first : anchors_before q es ≡ before
+  pub last : anchors_behind q es ≡ behind
 
 kid_before : (p : Path) (k : AnchorTree) (n : Name) (r : Path) → IsKid p k → slice_cmp nat_cmp (last_name k.names) n ≡ Less → Sided (p ++ n ∷ r) k.anchors k.anchors []
 kid_before p k n r h o =
@@ -101,7 +101,7 @@ kid_below p k h =
       last = keeps_all (λ (a : AnchorValue). is_path_before p a.path) s (λ a t. ap is_lt (turn a.path p Greater (c a t))) k.anchors (kid_begins p k h);
     }
 
-sides_join : (q : Path) (es bs x y u v : List AnchorValue) → Sided q es x y → Sided q bs u v → Sided q (es ++ bs) (x ++ u) (y ++ v)
+pub sides_join : (q : Path) (es bs x y u v : List AnchorValue) → Sided q es x y → Sided q bs u v → Sided q (es ++ bs) (x ++ u) (y ++ v)
 sides_join q es bs x y u v h k = record {
   first = filter-append (λ (a : AnchorValue). is_path_before a.path q) es bs ∙ ap (λ r. r ++ anchors_before q bs) h.first ∙ ap (λ r. x ++ r) k.first;
   last = filter-append (λ (a : AnchorValue). is_path_before q a.path) es bs ∙ ap (λ r. r ++ anchors_behind q bs) h.last ∙ ap (λ r. y ++ r) k.last;
@@ -180,7 +180,7 @@ unless_before p n r rules tables =
       | false ↦ record { first = rw c refl; last = rw (turn p (p ++ n ∷ r) Less c) refl }
     ]
 
-unless_own : (p : Path) (rules : List AnyRule) (tables : List (Name × TableValue)) → Sided p (own_entry p rules tables) [] []
+pub unless_own : (p : Path) (rules : List AnyRule) (tables : List (Name × TableValue)) → Sided p (own_entry p rules tables) [] []
 unless_own p rules tables =
     let c = tied_itself paths_total p in
     elim (is_empty rules && is_empty tables) as (λ b. Sided p (if b then [] else record { path = p; rules = rules; tables = tables } ∷ []) [] []) [

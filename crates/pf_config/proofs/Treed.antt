@@ -1,23 +1,21 @@
 -- Anchors as a tree.
 use Rattle.std.proofs.lemmas.Bool.Decides.{nat_tests}
-use Rattle.std.proofs.Common.{◌==◌, map, slice_get, zero, suc, ◌≡◌, ℕ, ◌+◌, ◌-◌, ◌<◌, ◌≤◌, Bool, true, false, ◌&&◌, ◌||◌, cond, List, [], ◌∷◌, ◌++◌, Option, Some, None, Ordering, length, refl, sym, subst, ap, ◌∙◌, arith, append_assoc, inl, inr}
+use Rattle.std.proofs.Common.{◌==◌, map, slice_get, zero, suc, ◌≡◌, ℕ, ◌-◌, Bool, true, false, ◌&&◌, cond, List, [], ◌∷◌, ◌++◌, Some, None, Ordering, length, refl, sym, subst, ap, ◌∙◌, arith}
 use Rattle.std.specs.declared.cmp.Ordering.TheVariants.{Less, Equal, Greater}
-use Rattle.std.specs.Prelude.{if◌then◌else◌, filter, find, not}
-use Rattle.std.specs.List.{list_all, list_any, starts_with}
+use Rattle.std.specs.Prelude.{if◌then◌else◌, find}
+use Rattle.std.specs.List.{list_all, starts_with}
 use Rattle.std.specs.Str.{bytes_eq}
-use Rattle.std.specs.Ordering.{is_lt, nat_cmp, ordering_then, ordering_reverse}
-use Rattle.std.specs.Cmp.Lexicographic.{slice_cmp, pointwise}
+use Rattle.std.specs.Ordering.{is_lt}
 use Rattle.std.proofs.lemmas.Cmp.{nat_list_cmp_total, tied_itself}
 use Rattle.std.proofs.lemmas.List.Elements.{filter-append}
-use Rattle.std.proofs.lemmas.Map.Lookups.{exact_bytes}
 use Rattle.std.proofs.lemmas.Slice.Eq.{bytes_eq-Decides}
 use Rattle.pf_ruleset.specs.Names.{Name, is_before}
 use Rattle.pf_ruleset.specs.Items.{AnyRule}
 use Rattle.pf_table.specs.Tables.{TableValue}
 use Rattle.pf_config.specs.Map.{AnchorValue, Path, anchor_at, path_eq, rules_in, tables_in}
-use Rattle.pf_config.specs.Changes.{is_empty, is_nothing, unless_nothing, is_path_before, anchors_before, anchors_behind, with_anchor}
+use Rattle.pf_config.specs.Changes.{is_empty}
 use Rattle.pf_config.specs.Trees.{AnchorTree, part_below, some_part, child_at, below, own_entry, last_name, is_named, IsKid, AreKids}
-use Rattle.pf_config.proofs.PathFronts.{starts_with_both, own_front, path_decides}
+use Rattle.pf_config.proofs.PathFronts.{path_decides}
 
 pub both_true : (a b : Bool) → (a && b) ≡ true → (a ≡ true) × (b ≡ true)
 both_true true true h = (refl, refl)
@@ -168,7 +166,7 @@ child_is p n rules tables ks h = find_part p n ks h ∙ ap (some_part (p ++ n �
 
 -- ---- the entry of the anchor's own path
 
-path_same : (p q : Path) → path_eq p q ≡ true → p ≡ q
+pub path_same : (p q : Path) → path_eq p q ≡ true → p ≡ q
 path_same p q h = (path_decides p q).0 h
 
 kid_path_other : (p : Path) (n : Name) (q : Path) → starts_with bytes_eq q (p ++ n ∷ []) ≡ true → path_eq q p ≡ false
@@ -189,7 +187,7 @@ pub none_below : (p : Path) (ks : List AnchorTree) → AreKids p ks → anchor_a
 none_below p [] h = refl
 none_below p (k ∷ ks) h = at_append p k.anchors (below ks) (none_begins p (last_name k.names) k.anchors (kid_begins p k h.0)) ∙ none_below p ks h.2
 
-empty_is : {X : Type 0} (xs : List X) → is_empty xs ≡ true → xs ≡ []
+pub empty_is : {X : Type 0} (xs : List X) → is_empty xs ≡ true → xs ≡ []
 empty_is [] h = refl
 empty_is (x ∷ xs) h = cc
 
@@ -197,7 +195,7 @@ pub path_itself : (p : Path) → path_eq p p ≡ true
 path_itself [] = refl
 path_itself (n ∷ p) = rw (same_bytes n) (path_itself p)
 
-at_own : (p : Path) (rules : List AnyRule) (tables : List (Name × TableValue)) (bs : List AnchorValue) → anchor_at p bs ≡ None → anchor_at p (own_entry p rules tables ++ bs) ≡ (if is_empty rules && is_empty tables then None else Some (record { path = p; rules = rules; tables = tables }))
+pub at_own : (p : Path) (rules : List AnyRule) (tables : List (Name × TableValue)) (bs : List AnchorValue) → anchor_at p bs ≡ None → anchor_at p (own_entry p rules tables ++ bs) ≡ (if is_empty rules && is_empty tables then None else Some (record { path = p; rules = rules; tables = tables }))
 at_own p rules tables bs h = elim (is_empty rules && is_empty tables) as (λ b. anchor_at p ((if b then [] else record { path = p; rules = rules; tables = tables } ∷ []) ++ bs) ≡ (if b then None else Some (record { path = p; rules = rules; tables = tables }))) [ true ↦ h | false ↦ rw (path_itself p) refl ]
 
 pub own_rules : (p : Path) (rules : List AnyRule) (tables : List (Name × TableValue)) (ks : List AnchorTree) → AreKids p ks → rules_in (anchor_at p (own_entry p rules tables ++ below ks)) ≡ rules

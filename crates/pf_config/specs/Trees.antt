@@ -1,14 +1,16 @@
 -- Anchors as a tree: what each of them holds is a part of the map.
 use Rattle.std.specs.Prelude.{◌≡◌, ℕ, ◌+◌, ◌-◌, Bool, true, false, List, [], ◌∷◌, ◌++◌}
 use Rattle.std.specs.Prelude.{length, filter, Option, Some, None, not, nat_lt, ◌&&◌, find, fold, option_map}
-use Rattle.std.specs.Prelude.{if◌then◌else◌}
-use Rattle.std.specs.List.{list_all, starts_with}
+use Rattle.std.specs.Prelude.{if◌then◌else◌, map, ◌||◌}
+use Rattle.std.specs.List.{list_all, list_any, starts_with}
 use Rattle.std.specs.Str.{bytes_eq}
+use Rattle.std.specs.declared.rc.Rc.{Rc}
 use Rattle.pf_ruleset.specs.Names.{Name, is_before}
 use Rattle.pf_ruleset.specs.Items.{AnyRule}
 use Rattle.pf_table.specs.Tables.{TableValue}
-use Rattle.pf_config.specs.Map.{AnchorValue, Path, followed_by, put_name, names_after}
-use Rattle.pf_config.specs.Changes.{is_empty, unless_nothing, with_anchor}
+use Rattle.pf_config.specs.Map.{AnchorValue, Path, anchor_at, tables_in, followed_by, put_name, names_after, name_after}
+use Rattle.pf_config.specs.Changes.{is_empty, is_nothing, unless_nothing, with_anchor, is_some_unnamed, is_used}
+use Rattle.pf_config.specs.Changes.{Block, Definition, defined}
 
 -- an anchor: its full names, and the part of the map at its path and below
 pub record AnchorTree : Type 0 where
@@ -33,6 +35,10 @@ child_at t n = let p = t.names ++ n ∷ [] in some_part p (part_below p t.anchor
 abbrev pub below : List AnchorTree → List AnchorValue
 below [] = []
 below (k ∷ ks) = k.anchors ++ below ks
+
+-- what is shared
+abbrev pub shared : {X Z : Type 0} → List (Rc X Z) → List X
+shared ks = map (λ k. k.value) ks
 
 -- the entry of an anchor's own path
 abbrev pub own_entry : Path → List AnyRule → List (Name × TableValue) → List AnchorValue
@@ -134,3 +140,29 @@ room_after room n = if nat_lt room n then None else Some (room - n)
 
 abbrev pub own_count : List AnyRule → List (Name × TableValue) → ℕ
 own_count rules tables = if is_empty rules && is_empty tables then 0 else 1
+
+-- ---- what a change takes away
+
+-- some path begins with p and an unnamed name
+abbrev pub any_unnamed : Path → List AnchorValue → Bool
+any_unnamed p anchors = list_any (λ (a : AnchorValue). is_some_unnamed (name_after p a.path)) anchors
+
+-- a table of the entry that goes
+abbrev pub is_idle : List AnchorValue → AnchorValue → Name × TableValue → Bool
+is_idle all a t = not (t.1.persist || is_used all a t.0)
+
+-- some entry has such a table, or holds nothing
+abbrev pub sheds : List AnchorValue → AnchorValue → Bool
+sheds all a = is_nothing a || list_any (is_idle all a) a.tables
+
+abbrev pub any_sheds : List AnchorValue → List AnchorValue → Bool
+any_sheds all anchors = list_any (sheds all) anchors
+
+-- ---- a text's rules and tables take their place at once
+
+abbrev pub with_text : Block → List Definition → List AnchorValue → List AnchorValue
+with_text own definitions anchors = with_anchor (record {
+  path = own.path;
+  rules = own.rules;
+  tables = fold defined (tables_in (anchor_at own.path anchors)) definitions;
+}) anchors

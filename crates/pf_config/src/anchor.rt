@@ -10,13 +10,14 @@ ghost use Rattle.pf_ruleset.specs.Names.{is_before};
 ghost use Rattle.pf_config.specs.Map.{AnchorValue, anchor_at, rules_in, tables_in, named, is_above, put_name};
 ghost use Rattle.pf_config.specs.Map.{name_after, names_after, followed_by};
 ghost use Rattle.pf_config.specs.Changes.{is_empty, is_some_unnamed, without_unnamed, refer, tidied_of};
+ghost use Rattle.pf_config.specs.Trees.{shared, any_unnamed, any_sheds, is_idle};
 ghost use Rattle.pf_config.specs.Trees.{child_at, last_name, is_named, kids_before, kids_behind, some_kid, anchors_of};
 ghost use Rattle.pf_config.specs.Trees.{placed_in, TakesPlace, passes, kid_names, room_after, own_count, own_entry};
 ghost use Rattle.pf_config.specs.Map.{paths_in};
 
 use crate::paths::{copied_path, followed_by};
 use crate::tables::{copied_tables, named};
-use crate::unused::{items_refer, used_tables};
+use crate::unused::{any_unused, items_refer, used_tables};
 use pf_ruleset::{Item, Name, TableName};
 use pf_table::Table;
 use std::alloc::{AllocError, Global};
@@ -30,32 +31,28 @@ pub struct Anchor {
     names: Vec<Name>,
     items: Rc<Vec<Item>>,
     tables: Vec<(TableName, Table)>,
-    kids: Vec<Anchor>,
+    kids: Vec<Rc<Anchor>>,
 }
 
 impl Model for Anchor {
     ghost use Rattle.std.specs.Prelude.{map, length, ◌≤◌, ◌++◌};
     ghost use Rattle.pf_ruleset.specs.Seen.{rule_of};
-    ghost use Rattle.pf_config.specs.Trees.{AnchorTree, own_entry, below, AreKids, weight};
-    ghost use Rattle.std.proofs.Common.{arith};
-    ghost use Rattle.pf_config.specs.TreeFalls.{kids_lighter};
+    ghost use Rattle.pf_config.specs.Trees.{AnchorTree, own_entry, below, shared, AreKids, weight};
+    ghost use Rattle.pf_config.specs.TreeFalls.{shared_lighter};
 
     ghost Value = { AnchorTree };
 
     ghost view = { λ a. record {
       names = a.names.items;
-      anchors = own_entry a.names.items (map rule_of a.items.value.items) a.tables.items ++ below a.kids.items;
+      anchors = own_entry a.names.items (map rule_of a.items.value.items) a.tables.items ++ below (shared a.kids.items);
     } };
 
-    ghost invariant = { λ a. (length a.items.value.items ≤ 1024) × AreKids a.names.items a.kids.items };
+    ghost invariant = { λ a. (length a.items.value.items ≤ 1024) × AreKids a.names.items (shared a.kids.items) };
 
     ghost size = { λ t. weight (length t.names) t.anchors };
 
-    ghost size_decreases = { λ a h. omega (
-      arith,
-      kids_lighter a.names.items (own_entry a.names.items (map rule_of a.items.value.items)
-          a.tables.items) a.kids.items h.1,
-    ) };
+    ghost size_decreases = { λ a h. shared_lighter a.names.items (own_entry a.names.items (map rule_of
+        a.items.value.items) a.tables.items) a.kids.items h.1 };
 }
 
 impl Anchor {
@@ -164,7 +161,23 @@ impl Anchor {
         Ok(())
     }
 
-    /// The same without the paths that begin with this one and an unnamed name.
+    /// Whether one of its paths begins with this one and an unnamed name.
+    pub(crate) fn has_unnamed(&self, path: &[Name]) -> bool
+        ensures { result ≡ any_unnamed path.now self.now.anchors }
+    {
+        if is_own_unnamed(&self.names, &self.items, &self.tables, path) {
+            return true;
+        }
+        for kid in &self.kids {
+            if kid.has_unnamed(path) {
+                return true;
+            }
+        }
+        false
+    }
+
+    /// The same without the paths that begin with this one and an unnamed name. An anchor below in which nothing
+    /// changes is shared.
     pub(crate) fn without_unnamed(&self, alloc: Global, path: &[Name]) -> Result<Anchor, AllocError>
         ensures { IfOk result (λ a. a ≡ record {
           names = self.now.names;
@@ -180,8 +193,12 @@ impl Anchor {
         let tables = copied_tables(alloc, &self.tables)?;
         let mut kids = Vec::new(alloc);
         for kid in &self.kids {
+            if !kid.has_unnamed(path) {
+                push_some(&mut kids, kid.clone()?)?;
+                continue;
+            }
             let own = kid.without_unnamed(alloc, path)?;
-            push_some(&mut kids, own)?;
+            push_some(&mut kids, Rc::new(alloc, own)?)?;
         }
         Ok(Anchor {
             names,
@@ -206,7 +223,23 @@ impl Anchor {
         false
     }
 
-    /// The same without the tables that no rule of the whole configuration refers to.
+    /// Whether a table here or below neither persists nor is referred to by a rule of the whole configuration.
+    pub(crate) fn has_unused(&self, main: &Anchor) -> bool
+        ensures { result ≡ any_sheds main.now.anchors self.now.anchors }
+    {
+        if any_unused(main, &self.names, &self.items, &self.tables) {
+            return true;
+        }
+        for kid in &self.kids {
+            if kid.has_unused(main) {
+                return true;
+            }
+        }
+        false
+    }
+
+    /// The same without the tables that no rule of the whole configuration refers to. An anchor below in which nothing
+    /// changes is shared.
     pub(crate) fn tidied(&self, alloc: Global, main: &Anchor) -> Result<Anchor, AllocError>
         ensures { IfOk result (λ a. a ≡ record {
           names = self.now.names;
@@ -218,8 +251,12 @@ impl Anchor {
         let tables = used_tables(alloc, main, &self.names, &self.items, &self.tables)?;
         let mut kids = Vec::new(alloc);
         for kid in &self.kids {
+            if !kid.has_unused(main) {
+                push_some(&mut kids, kid.clone()?)?;
+                continue;
+            }
             let own = kid.tidied(alloc, main)?;
-            push_some(&mut kids, own)?;
+            push_some(&mut kids, Rc::new(alloc, own)?)?;
         }
         Ok(Anchor {
             names,
@@ -253,25 +290,6 @@ impl Anchor {
         Ok(items)
     }
 
-    /// The same once more, which shares its rules and the entries of its tables.
-    pub(crate) fn copied(&self, alloc: Global) -> Result<Anchor, AllocError>
-        ensures { IfOk result (λ a. a ≡ self.now) }
-    {
-        let names = copied_path(alloc, &self.names)?;
-        let items = self.items.clone()?;
-        let tables = copied_tables(alloc, &self.tables)?;
-        let mut kids = Vec::new(alloc);
-        for kid in &self.kids {
-            kids.push(kid.copied(alloc)?)?;
-        }
-        Ok(Anchor {
-            names,
-            items,
-            tables,
-            kids,
-        })
-    }
-
     /// The same with these rules and tables at its path.
     fn with_own(
         &self,
@@ -283,10 +301,7 @@ impl Anchor {
         ensures { IfOk result (λ a. a ≡ placed_in self.now [] (map rule_of items.value.items) tables.items) }
     {
         let names = copied_path(alloc, &self.names)?;
-        let mut kids = Vec::new(alloc);
-        for kid in &self.kids {
-            kids.push(kid.copied(alloc)?)?;
-        }
+        let kids = shared_kids(alloc, &self.kids)?;
         Ok(Anchor {
             names,
             items,
@@ -305,6 +320,7 @@ impl Anchor {
         let names = copied_path(alloc, &self.names)?;
         let items = self.items.clone()?;
         let tables = copied_tables(alloc, &self.tables)?;
+        let kid = Rc::new(alloc, kid)?;
         let kids = kids_with(alloc, &self.kids, name, kid)?;
         Ok(Anchor {
             names,
@@ -326,8 +342,8 @@ fn is_above(after: Option<&Name>, kid: &Anchor) -> bool
 }
 
 /// The first of the anchors with a name above this one.
-fn first_above<'c>(kids: &'c [Anchor], after: Option<&Name>) -> Option<&'c Anchor>
-    ensures { option_copied result ≡ find (passes (is_above (option_copied after.entry))) kids.now }
+fn first_above<'c>(kids: &'c [Rc<Anchor>], after: Option<&Name>) -> Option<&'c Anchor>
+    ensures { option_copied result ≡ find (passes (is_above (option_copied after.entry))) (shared kids.now) }
 {
     for kid in kids {
         if is_above(after, kid) {
@@ -338,8 +354,9 @@ fn first_above<'c>(kids: &'c [Anchor], after: Option<&Name>) -> Option<&'c Ancho
 }
 
 /// The full names of the first of the anchors with a name above this one.
-fn first_names<'c>(kids: &'c [Anchor], after: Option<&Name>) -> Option<&'c [Name]>
-    ensures { option_copied result ≡ kid_names (find (passes (is_above (option_copied after.entry))) kids.now) }
+fn first_names<'c>(kids: &'c [Rc<Anchor>], after: Option<&Name>) -> Option<&'c [Name]>
+    ensures { option_copied result ≡ kid_names
+        (find (passes (is_above (option_copied after.entry))) (shared kids.now)) }
 {
     match first_above(kids, after) {
         Some(kid) => Some(kid.names()),
@@ -384,13 +401,26 @@ fn own_room(items: &[Item], tables: &[(TableName, Table)], room: usize) -> Optio
 fn is_unnamed_below(own: &[Name], path: &[Name]) -> bool
     ensures { result ≡ is_some_unnamed (name_after path.now own.now) }
 {
-    if !own.starts_with(path) {
-        return false;
-    }
     match own.get(path.len()) {
-        Some(name) => name.is_unnamed(),
+        Some(name) => name.is_unnamed() && own.starts_with(path),
         None => false,
     }
+}
+
+/// Whether the anchor has an entry of its own whose path begins with the other and an unnamed name.
+#[tactic(auto, using(crate::proofs::Treed::empty_len, crate::proofs::Treed::empty_map))]
+fn is_own_unnamed(
+    names: &[Name],
+    items: &[Item],
+    tables: &[(TableName, Table)],
+    path: &[Name],
+) -> bool
+    ensures { result ≡ any_unnamed path.now (own_entry names.now (map rule_of items.now) tables.now) }
+{
+    if items.is_empty() && tables.is_empty() {
+        return false;
+    }
+    is_unnamed_below(names, path)
 }
 
 /// The last of the names.
@@ -405,24 +435,34 @@ fn last_name(names: &[Name]) -> &[u8]
 
 /// Whether there is none of all these.
 #[tactic(auto, using(crate::proofs::Treed::empty_len, crate::proofs::Treed::empty_map))]
-fn are_empty(items: &[Item], tables: &[(TableName, Table)], kids: &[Anchor]) -> bool
-    ensures { result ≡ (is_empty (map rule_of items.now) && (is_empty tables.now && is_empty kids.now)) }
+fn are_empty(items: &[Item], tables: &[(TableName, Table)], kids: &[Rc<Anchor>]) -> bool
+    ensures { result ≡ (is_empty (map rule_of items.now) && (is_empty tables.now && is_empty (shared kids.now))) }
 {
     items.is_empty() && tables.is_empty() && kids.is_empty()
 }
 
+/// The anchors once more, shared.
+fn shared_kids(alloc: Global, kids: &[Rc<Anchor>]) -> Result<Vec<Rc<Anchor>>, AllocError>
+    ensures { IfOk result (λ v. shared v.items ≡ shared kids.now) }
+{
+    let mut next = Vec::new(alloc);
+    for kid in kids {
+        next.push(kid.clone()?)?;
+    }
+    Ok(next)
+}
+
 /// Appends the anchors with names before this one.
 fn push_before(
-    alloc: Global,
-    next: &mut Vec<Anchor>,
-    kids: &[Anchor],
+    next: &mut Vec<Rc<Anchor>>,
+    kids: &[Rc<Anchor>],
     name: &Name,
 ) -> Result<(), AllocError>
-    ensures { OnOk result (next.new.items ≡ next.old.items ++ kids_before name.now kids.now) }
+    ensures { OnOk result (shared next.new.items ≡ shared next.old.items ++ kids_before name.now (shared kids.now)) }
 {
     for kid in kids {
         if kid.is_before(name) {
-            next.push(kid.copied(alloc)?)?;
+            next.push(kid.clone()?)?;
         }
     }
     Ok(())
@@ -430,24 +470,23 @@ fn push_before(
 
 /// Appends the anchors with names behind this one.
 fn push_behind(
-    alloc: Global,
-    next: &mut Vec<Anchor>,
-    kids: &[Anchor],
+    next: &mut Vec<Rc<Anchor>>,
+    kids: &[Rc<Anchor>],
     name: &Name,
 ) -> Result<(), AllocError>
-    ensures { OnOk result (next.new.items ≡ next.old.items ++ kids_behind name.now kids.now) }
+    ensures { OnOk result (shared next.new.items ≡ shared next.old.items ++ kids_behind name.now (shared kids.now)) }
 {
     for kid in kids {
         if kid.is_behind(name) {
-            next.push(kid.copied(alloc)?)?;
+            next.push(kid.clone()?)?;
         }
     }
     Ok(())
 }
 
 /// Appends the anchor, unless it holds nothing.
-fn push_some(next: &mut Vec<Anchor>, kid: Anchor) -> Result<(), AllocError>
-    ensures { OnOk result (next.new.items ≡ next.old.items ++ some_kid kid) }
+fn push_some(next: &mut Vec<Rc<Anchor>>, kid: Rc<Anchor>) -> Result<(), AllocError>
+    ensures { OnOk result (shared next.new.items ≡ shared next.old.items ++ some_kid kid.value) }
 {
     if !kid.is_nothing() {
         next.push(kid)?;
@@ -458,17 +497,17 @@ fn push_some(next: &mut Vec<Anchor>, kid: Anchor) -> Result<(), AllocError>
 /// The anchors with this one in the place of the one of that name, or without it where it holds nothing.
 fn kids_with(
     alloc: Global,
-    kids: &[Anchor],
+    kids: &[Rc<Anchor>],
     name: &Name,
-    kid: Anchor,
-) -> Result<Vec<Anchor>, AllocError>
-    ensures { IfOk result (λ v. v.items ≡ kids_before name.now kids.now ++
-        (some_kid kid ++ kids_behind name.now kids.now)) }
+    kid: Rc<Anchor>,
+) -> Result<Vec<Rc<Anchor>>, AllocError>
+    ensures { IfOk result (λ v. shared v.items ≡ kids_before name.now (shared kids.now) ++
+        (some_kid kid.value ++ kids_behind name.now (shared kids.now))) }
 {
     let mut next = Vec::new(alloc);
-    push_before(alloc, &mut next, kids, name)?;
+    push_before(&mut next, kids, name)?;
     push_some(&mut next, kid)?;
-    push_behind(alloc, &mut next, kids, name)?;
+    push_behind(&mut next, kids, name)?;
     Ok(next)
 }
 
@@ -520,8 +559,8 @@ fn kid_with_entry(
 }
 
 /// The anchor of that name.
-fn kid_named<'c>(kids: &'c [Anchor], name: &str) -> Option<&'c Anchor>
-    ensures { option_copied result ≡ find (is_named name.now) kids.now }
+fn kid_named<'c>(kids: &'c [Rc<Anchor>], name: &str) -> Option<&'c Anchor>
+    ensures { option_copied result ≡ find (is_named name.now) (shared kids.now) }
 {
     for kid in kids {
         if kid.is_named(name) {

@@ -1,10 +1,10 @@
-//! Changed maps: each function makes a new tree, which shares rules and entries of tables with the old one, so that a
-//! refused growth changes nothing.
+//! Changed maps: each function makes a new tree, so that a refused growth changes nothing. It shares rules, entries of
+//! tables and the anchors off the changed path with the old one, and is the old one where nothing goes.
 
 ghost use Rattle.std.specs.Prelude.{◌≡◌, ◌≤◌, [], IfOk, map, length};
 ghost use Rattle.pf_ruleset.specs.Seen.{rule_of};
 ghost use Rattle.pf_config.specs.Map.{anchor_at, rules_in, tables_in};
-ghost use Rattle.pf_config.specs.Changes.{with_tables, with_rules, placed};
+ghost use Rattle.pf_config.specs.Changes.{with_tables, with_rules, placed, tidied};
 
 use crate::anchor::{Anchor, with_entry};
 use crate::tables::copied_tables;
@@ -87,6 +87,7 @@ pub(crate) fn with_rules(
 }
 
 /// The map with these rules at a path, and no unnamed blocks below it.
+#[tactic(auto, using(crate::proofs::Cut::none_unnamed))]
 pub(crate) fn placed(
     alloc: Global,
     main: &Anchor,
@@ -101,7 +102,23 @@ pub(crate) fn placed(
       rules = map rule_of items.value.items;
     })) }
 {
+    if !main.has_unnamed(path) {
+        return with_rules(alloc, main, path, items);
+    }
     let left = main.without_unnamed(alloc, path)?;
     let next = with_rules(alloc, &left, path, items)?;
+    Ok(next)
+}
+
+/// The map without the tables that no rule refers to.
+#[tactic(auto, using(crate::proofs::Cut::none_sheds), unfolding(crate::specs::Changes::tidied))]
+pub(crate) fn tidied(alloc: Global, all: Anchor) -> Result<Anchor, AllocError>
+    ensures names { IfOk result (λ a. a.names ≡ all.names) }
+    ensures map { IfOk result (λ a. a.anchors ≡ tidied all.anchors) }
+{
+    if !all.has_unused(&all) {
+        return Ok(all);
+    }
+    let next = all.tidied(alloc, &all)?;
     Ok(next)
 }

@@ -19,7 +19,7 @@ ghost use Rattle.pf_config.specs.Trees.{anchor_in, and_then, tree_at, names_of, 
 
 use crate::anchor::Anchor;
 use crate::blocks::blocks_in;
-use crate::changed::{placed, with_tables};
+use crate::changed::{placed, tidied, with_tables};
 use crate::fault::ConfigFault;
 use crate::loading::{any_too_deep, is_too_deep, loaded};
 use crate::paths::copied_path;
@@ -232,25 +232,25 @@ impl Config {
     }
 
     /// Removes the rules of a path, its unnamed blocks, and the tables that no rule refers to any more.
-    #[tactic(auto, unfolding(crate::specs::Changes::flush_rules, crate::specs::Changes::tidied))]
+    #[tactic(auto, unfolding(crate::specs::Changes::flush_rules))]
     pub fn flush_rules(&mut self, path: &[Name]) -> Result<(), ConfigFault>
         ensures { Changes result self.old self.new (Ok (flush_rules self.old path.now)) }
     {
         let items = Rc::new(self.alloc, Vec::new(self.alloc))?;
         let left = placed(self.alloc, &self.main, path, items)?;
-        let next = left.tidied(self.alloc, &left)?;
+        let next = tidied(self.alloc, left)?;
         self.main = next;
         Ok(())
     }
 
     /// Removes what `flush_rules` does, and then all tables of the path.
-    #[tactic(auto, unfolding(crate::specs::Changes::flush_rules, crate::specs::Changes::flush_tables, crate::specs::Changes::tidied))]
+    #[tactic(auto, unfolding(crate::specs::Changes::flush_rules, crate::specs::Changes::flush_tables))]
     pub fn flush_all(&mut self, path: &[Name]) -> Result<(), ConfigFault>
         ensures { Changes result self.old self.new (Ok (flush_all self.old path.now)) }
     {
         let items = Rc::new(self.alloc, Vec::new(self.alloc))?;
         let left = placed(self.alloc, &self.main, path, items)?;
-        let tidy = left.tidied(self.alloc, &left)?;
+        let tidy = tidied(self.alloc, left)?;
         let next = with_tables(self.alloc, &tidy, path, Vec::new(self.alloc))?;
         self.main = next;
         Ok(())

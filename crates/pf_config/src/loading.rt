@@ -2,11 +2,12 @@
 
 ghost use Rattle.std.specs.Prelude.{◌≡◌, [], IfOk, fold, map};
 ghost use Rattle.std.specs.List.{list_any};
-ghost use Rattle.pf_config.specs.Changes.{placed, defined, defined_table, is_too_deep, loaded};
+ghost use Rattle.pf_config.specs.Changes.{placed, defined, defined_table, is_too_deep, loaded, without_unnamed};
 ghost use Rattle.pf_config.specs.Texts.{definition_of};
+ghost use Rattle.pf_config.specs.Trees.{with_text};
 
-use crate::anchor::Anchor;
-use crate::changed::{placed, tables_at, with_tables};
+use crate::anchor::{Anchor, with_entry};
+use crate::changed::{placed, tables_at, tidied};
 use crate::placing::Placing;
 use crate::tables::{named, with_table};
 use pf_ruleset::{TableDef, TableName};
@@ -82,8 +83,48 @@ fn with_definitions(
     Ok(next)
 }
 
+/// The map with a text's rules at its path, and its definitions among the tables there.
+fn with_text(
+    alloc: Global,
+    main: &Anchor,
+    own: &Placing,
+    definitions: &[TableDef],
+) -> Result<Anchor, AllocError>
+    requires { main.now.names ≡ [] }
+    ensures names { IfOk result (λ a. a.names ≡ []) }
+    ensures map { IfOk result (λ a. a.anchors ≡ with_text own.now (map definition_of definitions.now)
+        main.now.anchors) }
+{
+    let items = own.items()?;
+    let old = tables_at(alloc, main, own.path())?;
+    let tables = with_definitions(alloc, old, definitions)?;
+    let next = with_entry(alloc, main, own.path(), items, tables)?;
+    Ok(next)
+}
+
+/// The map with a text's rules and tables at its path, and no unnamed blocks below it.
+#[tactic(auto, using(crate::proofs::Cut::none_unnamed))]
+fn placed_text(
+    alloc: Global,
+    main: &Anchor,
+    own: &Placing,
+    definitions: &[TableDef],
+) -> Result<Anchor, AllocError>
+    requires { main.now.names ≡ [] }
+    ensures names { IfOk result (λ a. a.names ≡ []) }
+    ensures map { IfOk result (λ a. a.anchors ≡ with_text own.now (map definition_of definitions.now)
+        (without_unnamed own.now.path main.now.anchors)) }
+{
+    if !main.has_unnamed(own.path()) {
+        return with_text(alloc, main, own, definitions);
+    }
+    let left = main.without_unnamed(alloc, own.path())?;
+    let next = with_text(alloc, &left, own, definitions)?;
+    Ok(next)
+}
+
 /// The map after a load.
-#[tactic(auto, unfolding(crate::specs::Changes::tidied))]
+#[tactic(auto, using(crate::proofs::Twice::loaded_is))]
 pub(crate) fn loaded(
     alloc: Global,
     main: &Anchor,
@@ -96,12 +137,8 @@ pub(crate) fn loaded(
     ensures map { IfOk result (λ a. a.anchors ≡ loaded own.now (map definition_of definitions.now) blocks.now
         main.now.anchors) }
 {
-    let items = own.items()?;
-    let first = placed(alloc, main, own.path(), items)?;
-    let old = tables_at(alloc, &first, own.path())?;
-    let tables = with_definitions(alloc, old, definitions)?;
-    let next = with_tables(alloc, &first, own.path(), tables)?;
-    let all = with_blocks(alloc, next, blocks)?;
-    let tidy = all.tidied(alloc, &all)?;
+    let first = placed_text(alloc, main, own, definitions)?;
+    let all = with_blocks(alloc, first, blocks)?;
+    let tidy = tidied(alloc, all)?;
     Ok(tidy)
 }

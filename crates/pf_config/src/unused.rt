@@ -4,6 +4,7 @@ ghost use Rattle.std.specs.Prelude.{◌≡◌, [], IfOk, map};
 ghost use Rattle.std.specs.List.{list_any};
 ghost use Rattle.pf_ruleset.specs.Seen.{rule_of};
 ghost use Rattle.pf_config.specs.Changes.{is_at_table, conditions_refer, refers, is_used, used_tables};
+ghost use Rattle.pf_config.specs.Trees.{is_idle};
 
 use crate::anchor::Anchor;
 use crate::tables::copied_table;
@@ -60,6 +61,28 @@ fn is_used(main: &Anchor, path: &[Name], items: &[Item], name: &TableName) -> bo
     } else {
         items_refer(name, items)
     }
+}
+
+/// Whether one of the tables at a path neither persists nor is used.
+pub(crate) fn any_unused(
+    main: &Anchor,
+    path: &[Name],
+    items: &[Item],
+    tables: &[(TableName, Table)],
+) -> bool
+    ensures { result ≡ list_any (is_idle main.now.anchors (record {
+      path = path.now;
+      rules = map rule_of items.now;
+      tables = [];
+    })) tables.now }
+{
+    for entry in tables {
+        let stays = entry.1.persist() || is_used(main, path, items, &entry.0);
+        if !stays {
+            return true;
+        }
+    }
+    false
 }
 
 /// The tables at a path that persist or are used.

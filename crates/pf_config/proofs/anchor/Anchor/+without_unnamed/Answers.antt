@@ -1,10 +1,11 @@
 use Rattle.std.proofs.Common.{◌≡◌, ◌∙◌, ◌+◌, ◌++◌, ap, map, sym, subst, drop, arith, rules, length, length-drop, true, false}
 use Rattle.std.proofs.lemmas.Grind.{common_steps}
+use Rattle.std.proofs.lemmas.List.{length-map}
 use Rattle.pf_ruleset.specs.Seen.{rule_of}
 use Rattle.pf_config.specs.Map.{name_after}
 use Rattle.pf_config.specs.Changes.{without_unnamed, is_some_unnamed}
-use Rattle.pf_config.specs.Trees.{AnchorTree, some_kid, own_entry, below}
-use Rattle.pf_config.proofs.Cut.{Walked, walked_some, unnamed_cuts, unnamed_done, unnamed_gone, next_kid}
+use Rattle.pf_config.specs.Trees.{AnchorTree, shared, any_unnamed, own_entry, below}
+use Rattle.pf_config.proofs.Cut.{Walked, walked_some, unnamed_cuts, unnamed_done, unnamed_gone, next_kid, stays_named}
 use Rattle.pf_config.proofs.anchor.Anchor.+without_unnamed.Goals as goal
 
 pub loop-kid-preserved : goal.loop-kid-preserved
@@ -12,9 +13,22 @@ loop-kid-preserved t c =
     let all = c.deref-kid-items.result.now in
     let i = c.loop-kid.kid-index in
     let k = c.kid-item.result in
-    let next = next_kid all i k (search rules) c.kid-item.is in
-    let more = walked_some c.in_ok-names.names.items (without_unnamed c.args.path.now) (unnamed_cuts c.args.path.now) c.loop-kid.kids.items k c.in_ok-own.own (drop i all) (drop (i + 1) all) all c.loop-kid.invariant next c.in_ok-own.ensures in
-    subst (λ r. Walked c.in_ok-names.names.items (without_unnamed c.args.path.now) r (drop (i + 1) all) all) (sym c.in_ok-push_some.ensures) more
+    let next = ap shared (next_kid all i k (search rules) c.kid-item.is) in
+    let own : c.in_ok-new.field-0.value ≡ c.in_ok-own.own = search rules in
+    let at : c.deref-in-loop-kid-2.result.now ≡ k.value = search rules in
+    let more = walked_some c.in_ok-names.names.items (without_unnamed c.args.path.now) (unnamed_cuts c.args.path.now) (shared c.loop-kid.kids.items) k.value c.in_ok-new.field-0.value (shared (drop i all)) (shared (drop (i + 1) all)) (shared all) c.loop-kid.invariant next (own ∙ c.in_ok-own.ensures ∙ ap {B = AnchorTree} (λ (x : AnchorTree). record { names = x.names; anchors = without_unnamed c.args.path.now x.anchors }) at) in
+    subst (λ r. Walked c.in_ok-names.names.items (without_unnamed c.args.path.now) r (shared (drop (i + 1) all)) (shared all)) (sym c.in_ok-push_some-2.ensures) more
+
+pub loop-kid-preserved-then-not-has_unnamed : goal.loop-kid-preserved-then-not-has_unnamed
+loop-kid-preserved-then-not-has_unnamed t c =
+    let all = c.deref-kid-items.result.now in
+    let i = c.loop-kid.kid-index in
+    let k = c.kid-item.result in
+    let next = ap shared (next_kid all i k (search rules) c.kid-item.is) in
+    let same : c.in_ok-clone.field-0.value ≡ k.value = search rules in
+    let stays : any_unnamed c.args.path.now k.value.anchors ≡ false = search rules in
+    let more = walked_some c.in_ok-names.names.items (without_unnamed c.args.path.now) (unnamed_cuts c.args.path.now) (shared c.loop-kid.kids.items) k.value c.in_ok-clone.field-0.value (shared (drop i all)) (shared (drop (i + 1) all)) (shared all) c.loop-kid.invariant next (same ∙ stays_named c.args.path.now k.value stays) in
+    subst (λ r. Walked c.in_ok-names.names.items (without_unnamed c.args.path.now) r (shared (drop (i + 1) all)) (shared all)) (sym c.in_ok-push_some.ensures) more
 
 pub returns-then-is_unnamed_below : goal.returns-then-is_unnamed_below
 returns-then-is_unnamed_below t c =
@@ -24,7 +38,7 @@ returns-then-is_unnamed_below t c =
     let seen : c.deref-2.result.now ≡ own.names.items = grind (arith, common_steps) in
     let u : is_some_unnamed (name_after q own.names.items) ≡ true = subst (λ p. is_some_unnamed (name_after q p) ≡ true) seen (sym c.is_unnamed_below.ensures ∙ c.if-is_unnamed_below.true) in
     subst (λ (x : AnchorTree). c.in_ok-none.none ≡ record { names = x.names; anchors = without_unnamed q x.anchors }) c.self.view_is
-    (c.in_ok-none.ensures ∙ unnamed_gone own.names.items q c.in_ok-names.names.items (map rule_of own.items.value.items) own.tables.items own.kids.items c.self.invariant.1 u names)
+    (c.in_ok-none.ensures ∙ unnamed_gone own.names.items q c.in_ok-names.names.items (map rule_of own.items.value.items) own.tables.items (shared own.kids.items) c.self.invariant.1 u names)
 
 pub returns : goal.returns
 returns t c =
@@ -35,7 +49,7 @@ returns t c =
     let seen : c.deref-2.result.now ≡ own.names.items = grind (arith, common_steps) in
     let rules : map rule_of c.in_ok-items.items.value.items ≡ map rule_of own.items.value.items = grind (arith, common_steps) in
     let tables : c.in_ok-tables.tables.items ≡ own.tables.items = grind (arith, common_steps) in
-    let z : length (drop c.loop-kid.kid-index all) ≡ 0 = (let n = length-drop c.loop-kid.kid-index all in let m = c.loop-kid-test.false in omega (arith, n, m)) in
+    let z : length (shared (drop c.loop-kid.kid-index all)) ≡ 0 = length-map (drop c.loop-kid.kid-index all) (λ k. k.value) ∙ (let n = length-drop c.loop-kid.kid-index all in let m = c.loop-kid-test.false in omega (arith, n, m)) in
     let u : is_some_unnamed (name_after q own.names.items) ≡ false = subst (λ p. is_some_unnamed (name_after q p) ≡ false) seen (sym c.is_unnamed_below.ensures ∙ c.if-is_unnamed_below.false) in
-    subst (λ (x : AnchorTree). ◌≡◌ {A = AnchorTree} (record { names = c.in_ok-names.names.items; anchors = own_entry c.in_ok-names.names.items (map rule_of c.in_ok-items.items.value.items) c.in_ok-tables.tables.items ++ below c.loop-kid.kids.items }) (record { names = x.names; anchors = without_unnamed q x.anchors })) c.self.view_is
-    (unnamed_done own.names.items q c.in_ok-names.names.items (map rule_of own.items.value.items) (map rule_of c.in_ok-items.items.value.items) own.tables.items c.in_ok-tables.tables.items c.loop-kid.kids.items (drop c.loop-kid.kid-index all) all own.kids.items u names rules tables c.deref-kid-items.ensures.value c.loop-kid.invariant z)
+    subst (λ (x : AnchorTree). ◌≡◌ {A = AnchorTree} (record { names = c.in_ok-names.names.items; anchors = own_entry c.in_ok-names.names.items (map rule_of c.in_ok-items.items.value.items) c.in_ok-tables.tables.items ++ below (shared c.loop-kid.kids.items) }) (record { names = x.names; anchors = without_unnamed q x.anchors })) c.self.view_is
+    (unnamed_done own.names.items q c.in_ok-names.names.items (map rule_of own.items.value.items) (map rule_of c.in_ok-items.items.value.items) own.tables.items c.in_ok-tables.tables.items (shared c.loop-kid.kids.items) (shared (drop c.loop-kid.kid-index all)) (shared all) (shared own.kids.items) u names rules tables (ap shared c.deref-kid-items.ensures.value) c.loop-kid.invariant z)

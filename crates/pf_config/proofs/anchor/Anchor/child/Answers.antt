@@ -2,7 +2,7 @@ use Rattle.std.proofs.Common.{◌≡◌, ◌∙◌, ap, map, subst}
 use Rattle.std.specs.Prelude.{find}
 use Rattle.std.specs.Option.{option_copied}
 use Rattle.pf_ruleset.specs.Seen.{rule_of}
-use Rattle.pf_config.specs.Trees.{AnchorTree, child_at, is_named}
+use Rattle.pf_config.specs.Trees.{AnchorTree, shared, child_at, is_named}
 use Rattle.pf_config.proofs.Treed.{child_is}
 use Rattle.pf_config.proofs.anchor.Anchor.child.Goals as goal
 
@@ -10,4 +10,4 @@ pub returns : goal.returns
 returns c =
     let own = c.self.inside in
     subst (λ (t : AnchorTree). option_copied c.kid_named.result ≡ child_at t c.args.name.now) c.self.view_is
-    (c.kid_named.ensures ∙ ap (find (is_named c.args.name.now)) c.deref.ensures.value ∙ child_is own.names.items c.args.name.now (map rule_of own.items.value.items) own.tables.items own.kids.items c.self.invariant.1)
+    (c.kid_named.ensures ∙ ap (λ ks. find (is_named c.args.name.now) (shared ks)) c.deref.ensures.value ∙ child_is own.names.items c.args.name.now (map rule_of own.items.value.items) own.tables.items (shared own.kids.items) c.self.invariant.1)

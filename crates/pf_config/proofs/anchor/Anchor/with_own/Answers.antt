@@ -1,7 +1,7 @@
-use Rattle.std.proofs.Common.{◌≡◌, ◌∙◌, ◌++◌, [], ap, map, subst, arith}
+use Rattle.std.proofs.Common.{◌≡◌, ◌++◌, [], map, subst, arith}
 use Rattle.std.proofs.lemmas.Grind.{common_steps}
 use Rattle.pf_ruleset.specs.Seen.{rule_of}
-use Rattle.pf_config.specs.Trees.{AnchorTree, placed_in, own_entry, below}
+use Rattle.pf_config.specs.Trees.{AnchorTree, shared, placed_in, own_entry, below}
 use Rattle.pf_config.proofs.Entries.{own_placed}
 use Rattle.pf_config.proofs.anchor.Anchor.with_own.Goals as goal
 
@@ -9,6 +9,6 @@ pub returns : goal.returns
 returns c =
     let own = c.self.inside in
     let names : c.in_ok-names.names.items ≡ own.names.items = grind (arith, common_steps) in
-    let kids : c.loop-kid.kids.items ≡ own.kids.items = grind (arith, common_steps) in
-    subst (λ (t : AnchorTree). ◌≡◌ {A = AnchorTree} (record { names = c.in_ok-names.names.items; anchors = own_entry c.in_ok-names.names.items (map rule_of c.args.items.value.items) c.args.tables.items ++ below c.loop-kid.kids.items }) (placed_in t [] (map rule_of c.args.items.value.items) c.args.tables.items)) c.self.view_is
-    (own_placed own.names.items c.in_ok-names.names.items (map rule_of own.items.value.items) (map rule_of c.args.items.value.items) own.tables.items c.args.tables.items own.kids.items c.loop-kid.kids.items c.self.invariant.1 names kids)
+    let kids : shared c.in_ok-kids.kids.items ≡ (shared own.kids.items) = grind (arith, common_steps) in
+    subst (λ (t : AnchorTree). ◌≡◌ {A = AnchorTree} (record { names = c.in_ok-names.names.items; anchors = own_entry c.in_ok-names.names.items (map rule_of c.args.items.value.items) c.args.tables.items ++ below (shared c.in_ok-kids.kids.items) }) (placed_in t [] (map rule_of c.args.items.value.items) c.args.tables.items)) c.self.view_is
+    (own_placed own.names.items c.in_ok-names.names.items (map rule_of own.items.value.items) (map rule_of c.args.items.value.items) own.tables.items c.args.tables.items (shared own.kids.items) (shared c.in_ok-kids.kids.items) c.self.invariant.1 names kids)
