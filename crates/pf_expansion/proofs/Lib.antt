@@ -4,6 +4,7 @@ mod Families
 pub mod Given
 mod Keeping
 mod Looking
+mod Named
 mod Numbering
 mod Products
 mod Pushed

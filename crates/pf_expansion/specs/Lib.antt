@@ -5,3 +5,4 @@ pub mod Tables
 pub mod Anchors
 pub mod Blocks
 pub mod Numbers
+pub mod Defined

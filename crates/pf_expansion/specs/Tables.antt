@@ -4,8 +4,10 @@ use Rattle.std.specs.Prelude.{Some, None, option_map, nat_lt, if◌then◌else�
 use Rattle.std.specs.List.{list_any}
 use Rattle.std.specs.Str.{bytes_eq}
 use Rattle.std.specs.Ordering.{is_eq, nat_cmp, ordering_then}
+use Rattle.std.specs.Cmp.Lexicographic.{slice_cmp}
+use Rattle.std.specs.Global.{Vec}
 use Rattle.std.specs.declared.cmp.Ordering.{Ordering}
-use Rattle.std.specs.BTreeSet.{BTreeSet, contains}
+use Rattle.std.specs.BTreeSet.{BTreeSet, contains, contains_by}
 use Rattle.pf_addr.specs.Blocks.{Block}
 use Rattle.pf_addr.specs.Order.{bits_of, prefix_cmp, version}
 use Rattle.pf_tokens.specs.Lists.{Elements}
@@ -72,3 +74,8 @@ key_cmp x y = ordering_then (nat_cmp x.0 y.0) (ordering_then (nat_cmp x.1.0 y.1.
 abbrev pub AreKeys : BTreeSet (ℕ × (ℕ × ℕ)) → List TableEntry → Type 0
 AreKeys keys entries = (key : ℕ × (ℕ × ℕ)) → contains key_cmp keys key ≡
     list_any (λ (e : TableEntry). is_eq (key_cmp key (key_of e.prefix))) entries
+
+-- these are the tables' names
+abbrev pub AreNames : BTreeSet (Vec ℕ) → List TableValue → Type 0
+AreNames names tables = (name : List ℕ) →
+    contains_by (λ (k : Vec ℕ). slice_cmp nat_cmp name k.items) names ≡ is_defined tables name

@@ -1,15 +1,17 @@
 //! Tables that a text defines.
 
-ghost use Rattle.std.specs.Prelude.{◌≡◌, map, option_map, IfOk, IfErr, OnOk, None, Some};
+ghost use Rattle.std.specs.Prelude.{◌≡◌, option_map, IfOk, IfErr, OnOk, None, Some};
 ghost use Rattle.pf_ruleset.specs.Rulesets.{table_of};
 ghost use Rattle.pf_statements.specs.Seen.{table_text_of};
 ghost use Rattle.pf_expansion.specs.Causes.{lowest};
-ghost use Rattle.pf_expansion.specs.Tables.{AreKeys, is_defined, kept, key_of, table_causes, table_value, with_first};
+ghost use Rattle.pf_expansion.specs.Defined.{tables_of};
+ghost use Rattle.pf_expansion.specs.Tables.{AreKeys, kept, key_of, table_causes, table_value, with_first};
 
 use crate::cause::Cause;
+use crate::defined_tables::DefinedTables;
 use crate::judge::is_deep;
 use pf_addr::{Addr, Prefix};
-use pf_ruleset::{TableDef, TableEntry, TableName};
+use pf_ruleset::{TableDef, TableEntry};
 use pf_statements::WrittenTable;
 use std::alloc::{AllocError, Global};
 use std::collections::BTreeSet;
@@ -65,34 +67,22 @@ fn kept_entries(
     Ok(Some(found))
 }
 
-/// Whether one of the tables has this name.
-fn is_defined(tables: &[TableDef], name: &TableName) -> bool
-    ensures { result ≡ is_defined (map table_of tables.now) name.now }
-{
-    for table in tables {
-        if table.name.as_bytes() == name.as_bytes() {
-            return true;
-        }
-    }
-    false
-}
-
 /// The table of a statement behind others, with the first entry of each prefix, or the lowest cause that refuses it
 /// (pf.conf(5), TABLES). A growth that is refused is the error.
 pub fn judge_table(
     alloc: Global,
-    tables: &[TableDef],
+    tables: &DefinedTables,
     text: WrittenTable,
 ) -> Result<Result<TableDef, Cause>, AllocError>
     ensures allowed { let said = table_text_of text in
-        IfOk result (λ judged. IfOk judged (λ table. lowest (table_causes (map table_of tables.now) said) ≡ None)) }
+        IfOk result (λ judged. IfOk judged (λ table. lowest (table_causes (tables_of tables.now) said) ≡ None)) }
     ensures table { let said = table_text_of text in IfOk result (λ judged. IfOk judged (λ table. table_of table ≡
         table_value said)) }
     ensures refused { let said = table_text_of text in
-        IfOk result (λ judged. IfErr judged (λ cause. lowest (table_causes (map table_of tables.now) said) ≡
+        IfOk result (λ judged. IfErr judged (λ cause. lowest (table_causes (tables_of tables.now) said) ≡
         Some cause)) }
 {
-    if is_defined(tables, &text.name) {
+    if tables.is_defined(&text.name) {
         return Ok(Err(Cause::Twice));
     }
     let WrittenTable {

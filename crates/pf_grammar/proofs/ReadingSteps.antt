@@ -40,12 +40,7 @@ use Rattle.pf_conditions.specs.Conditions.{ConditionsText}
 use Rattle.pf_grammar.specs.Causes.{setting_causes, statement_cause}
 use Rattle.pf_grammar.specs.Reading.{Sofar, judge, macros_of, answered, taken, defined, meant, unless_fault, nothing, reading, made_if, Fails}
 use Rattle.pf_grammar.specs.Gathering.{Judges}
-use Rattle.pf_ruleset.specs.Rulesets.{table_of}
-use Rattle.pf_ruleset.specs.declared.ruleset.TableDef.{TableDef}
 use Rattle.pf_expansion.specs.Tables.{table_causes}
-
-pub tables_push : (ts : List TableDef) (t : TableDef) → map table_of (ts ++ t ∷ []) ≡ map table_of ts ++ table_of t ∷ []
-tables_push ts t = map-append table_of ts (t ∷ [])
 
 pub items_push : (is : List Item) (i : Item) → items_of (is ++ i ∷ []) ≡ items_of is ++ item_of i ∷ []
 items_push is i = map-append item_of is (i ∷ [])

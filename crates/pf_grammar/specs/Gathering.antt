@@ -13,13 +13,14 @@ use Rattle.pf_ruleset.specs.Items.{Anchors, Filters, Heading}
 use Rattle.pf_ruleset.specs.Seen.{heading_of, items_of}
 use Rattle.pf_grammar.specs.Reading.{Sofar}
 use Rattle.pf_ruleset.specs.Rulesets.{table_of}
+use Rattle.pf_expansion.specs.Defined.{tables_of}
 
 abbrev pub sofar_of : Gathered → Sofar
 sofar_of g = record {
   macros = definitions_of g.macros;
   policy = g.policy;
   skip = g.skip.items;
-  tables = map table_of g.tables.items;
+  tables = tables_of g.tables;
   items = items_of g.items.items;
 }
 

@@ -7,6 +7,7 @@ ghost use Rattle.pf_ruleset.specs.Seen.{heading_of, items_of};
 ghost use Rattle.pf_grammar.specs.Reading.{nothing};
 ghost use Rattle.pf_grammar.specs.Gathering.{sofar_of, with_change};
 
+use pf_expansion::DefinedTables;
 use pf_ruleset::{AnchorHeading, InterfaceName, Item, Policy, Rule, TableDef};
 use pf_tokens::{Macro, Macros};
 use std::alloc::{AllocError, Global};
@@ -18,7 +19,7 @@ pub(crate) struct Gathered {
     /// What a plain `block` does.
     pub(crate) policy: Policy,
     pub(crate) skip: Vec<InterfaceName>,
-    pub(crate) tables: Vec<TableDef>,
+    pub(crate) tables: DefinedTables,
     pub(crate) items: Vec<Item>,
 }
 
@@ -95,13 +96,12 @@ impl Gathered {
             macros: Macros::new(alloc),
             policy: Policy::Drop,
             skip: Vec::new(alloc),
-            tables: Vec::new(alloc),
+            tables: DefinedTables::new(alloc),
             items: Vec::new(alloc),
         }
     }
 
     /// With one statement more.
-    #[tactic(auto, using(crate::proofs::ReadingSteps::tables_push))]
     pub(crate) fn add(&mut self, alloc: Global, change: Change) -> Result<(), AllocError>
         ensures { OnOk result (sofar_of self.new ≡ with_change (sofar_of self.old) change) }
     {
@@ -109,7 +109,7 @@ impl Gathered {
             Change::Defines(made) => self.macros.push(alloc, made)?,
             Change::Sets(policy) => self.policy = policy,
             Change::Skips(names) => push_names(&mut self.skip, names)?,
-            Change::Tables(table) => self.tables.push(table)?,
+            Change::Tables(table) => self.tables.push(alloc, table)?,
             Change::Adds(rules) => push_rules(&mut self.items, rules)?,
             Change::AddsAnchors(headings) => push_anchors(&mut self.items, headings)?,
             Change::AddsItems(items) => push_items(&mut self.items, items)?,

@@ -1,0 +1,7 @@
+-- The tables that a text has defined so far.
+use Rattle.std.specs.Prelude.{List, map}
+use Rattle.pf_ruleset.specs.Rulesets.{TableValue, table_of}
+use Rattle.pf_expansion.specs.declared.defined_tables.DefinedTables.{DefinedTables}
+
+abbrev pub tables_of : DefinedTables → List TableValue
+tables_of tables = map table_of tables.all.items
