@@ -105,19 +105,19 @@ flags_pass (flags.Just set of) k = if k.protocol == 6 then just set of k.flags e
 unfoldable pub is_such : Conditions → PacketValue → Bool
 is_such r k =
     if_set (direction_eq k.direction) r.direction
-    && if_set (on_interface k) r.interface
     && if_set (of_family k.source) r.family
     && if_set (λ n. k.protocol == n) r.protocol
-    && flags_pass r.flags k
     && if_set (λ n. if_there (λ m. m == n) k.icmp_type) r.icmp_type
+    && flags_pass r.flags k
+    && if_set (on_interface k) r.interface
 
 -- what is asked of its two ends
 unfoldable pub is_between : Tables → Conditions → PacketValue → Bool
 is_between tables r k =
-    at_host tables k.source r.source
-    && if_set (λ t. if_there (port_passes t) k.source_port) r.source_port
-    && at_host tables k.destination r.destination
+    if_set (λ t. if_there (port_passes t) k.source_port) r.source_port
     && if_set (λ t. if_there (port_passes t) k.destination_port) r.destination_port
+    && at_host tables k.source r.source
+    && at_host tables k.destination r.destination
 
 -- each condition holds
 unfoldable pub matches : Tables → Conditions → PacketValue → Bool

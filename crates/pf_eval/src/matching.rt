@@ -14,7 +14,7 @@ use pf_ruleset::{
 };
 use pf_words::TcpFlags;
 
-/// Whether each condition holds of the packet.
+/// Whether each condition holds of the packet; those are asked first that cost least.
 #[tactic(auto, unfolding(crate::specs::Matching::matches))]
 pub(crate) fn matches(scope: Scope<'_>, rule: &Conditions, packet: &Packet) -> bool
     ensures { result ≡ matches (tables_of scope.entry) rule.now packet.now }
@@ -27,21 +27,21 @@ fn is_such(rule: &Conditions, packet: &Packet) -> bool
     ensures { result ≡ is_such rule.now packet.now }
 {
     is_direction(rule.direction, packet.direction)
-        && is_interface(&rule.interface, packet)
         && is_family(rule.family, packet.source)
         && is_number(rule.protocol, packet.protocol)
-        && have_flags(rule.flags, packet)
         && is_type(rule.icmp_type, packet.icmp_type)
+        && have_flags(rule.flags, packet)
+        && is_interface(&rule.interface, packet)
 }
 
 #[tactic(auto, unfolding(crate::specs::Matching::is_between))]
 fn is_between(scope: Scope<'_>, rule: &Conditions, packet: &Packet) -> bool
     ensures { result ≡ is_between (tables_of scope.entry) rule.now packet.now }
 {
-    at_host(scope, packet.source, &rule.source)
-        && is_port(rule.source_port, packet.source_port)
-        && at_host(scope, packet.destination, &rule.destination)
+    is_port(rule.source_port, packet.source_port)
         && is_port(rule.destination_port, packet.destination_port)
+        && at_host(scope, packet.source, &rule.source)
+        && at_host(scope, packet.destination, &rule.destination)
 }
 
 fn is_direction(wanted: Option<Direction>, direction: Direction) -> bool

@@ -1,6 +1,6 @@
 //! A packet.
 
-ghost use Rattle.std.specs.Prelude.{◌≡◌, length};
+ghost use Rattle.std.specs.Prelude.{◌≡◌, ◌≤◌, length, take};
 ghost use Rattle.std.specs.List.{list_any};
 ghost use Rattle.std.specs.Str.{bytes_eq};
 ghost use Rattle.pf_eval.specs.Packets.{without_digits, interfaces};
@@ -23,6 +23,10 @@ pub struct Packet {
     pub(crate) destination_port: Option<u16>,
     pub(crate) flags: TcpFlags,
     pub(crate) icmp_type: Option<u8>,
+    /// How many bytes its name has without the digits at its end.
+    pub(crate) stem: usize,
+    ghost within: { stem ≤ length interface },
+    ghost cut: { take stem interface ≡ without_digits interface },
 }
 
 impl Model for Packet {
@@ -50,7 +54,7 @@ impl Packet {
         ensures { result ≡ list_any (λ n. bytes_eq n name.now) (interfaces self.now) }
     {
         let own = self.interface.as_bytes();
-        own == name || without_digits(own) == name || is_among(&self.groups, name)
+        own == name || &own[..self.stem] == name || is_among(&self.groups, name)
     }
 }
 
@@ -64,6 +68,15 @@ fn is_among(names: &[InterfaceName], name: &[u8]) -> bool
         }
     }
     false
+}
+
+/// How many bytes the name has without the digits at its end.
+#[tactic(auto, using(crate::proofs::Digits::stem_first, crate::proofs::Digits::stem_within))]
+pub(crate) fn stem(name: &[u8]) -> usize
+    ensures within { result ≤ length name.now }
+    ensures cut { take result name.now ≡ without_digits name.now }
+{
+    without_digits(name).len()
 }
 
 /// The name without the digits at its end.

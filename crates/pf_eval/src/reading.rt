@@ -7,7 +7,7 @@ ghost use Rattle.pf_eval.specs.Cursors.{Answers, end_of};
 
 use crate::cursor::{Cursor, End, interface_name};
 use crate::fault::PacketFault;
-use crate::packet::Packet;
+use crate::packet::{Packet, stem};
 use crate::word::{has_outer_blank, words};
 use pf_addr::Addr;
 use pf_ruleset::InterfaceName;
@@ -101,9 +101,11 @@ fn packet(alloc: Global, words: &[&[u8]]) -> Result<Packet, PacketFault>
     if !cursor.is_empty() || !agrees(&groups, protocol, source, destination, flags, icmp_type) {
         return Err(PacketFault::BadPacket);
     }
+    let interface = interface_name(alloc, interface)?;
+    let stem = stem(interface.as_bytes());
     Ok(Packet {
         direction,
-        interface: interface_name(alloc, interface)?,
+        interface,
         groups,
         protocol,
         source: source.addr,
@@ -112,6 +114,7 @@ fn packet(alloc: Global, words: &[&[u8]]) -> Result<Packet, PacketFault>
         destination_port: destination.port,
         flags: said_flags(flags),
         icmp_type,
+        stem,
     })
 }
 
