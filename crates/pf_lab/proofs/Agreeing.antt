@@ -1,5 +1,5 @@
 -- Members that have applied equally many positions have one configuration.
-use Rattle.std.proofs.Common.{◌≡◌, ◌∙◌, ℕ, ◌≤◌, List, [], ◌++◌, Option, Some, slice_get, ap, sym, subst, refl}
+use Rattle.std.proofs.Common.{◌≡◌, ◌∙◌, ℕ, ◌≤◌, List, [], Some, ap, sym, subst}
 use Rattle.std.proofs.lemmas.List.{append-nil}
 use Rattle.px_model.specs.Node.{IsEquality, Log}
 use Rattle.px_model.specs.World.{World, NodeState, Event}
@@ -13,11 +13,10 @@ use Rattle.pf_effect.specs.Effect.{empty}
 use Rattle.pf_eval.specs.Verdicts.{judgement}
 use Rattle.px_replica.specs.Made.{same}
 use Rattle.pf_node.specs.Applied.{taken, after}
-use Rattle.pf_node.specs.Nodes.{applied_of, config_of, learned_by}
-use Rattle.pf_lab.specs.Labs.{IsWorld, cluster_of, state_of}
+use Rattle.pf_node.specs.Nodes.{applied_of, config_of}
+use Rattle.pf_lab.specs.Labs.{state_of}
 use Rattle.pf_lab.specs.Same.{LabsAgree, EquallyApplied}
 use Rattle.pf_lab.specs.declared.seat.Seat.{Seat}
-use Rattle.pf_lab.specs.declared.state.Lab.{Lab}
 
 same_exact : IsEquality same
 same_exact = bytes_equality

@@ -1,9 +1,9 @@
 -- What becomes of an event.
-use Rattle.std.proofs.Common.{◌≡◌, ◌∙◌, ap, sym, subst, refl, ℕ, ◌<◌, ◌≤◌, Bool, true, false, cond, nat_lt, nat_le, Option, Some, None, Result, Ok, Err, OnErr, IfOk, ◌&&◌, List, slice_get, arith}
+use Rattle.std.proofs.Common.{◌≡◌, ◌∙◌, ap, sym, subst, refl, ℕ, ◌<◌, ◌≤◌, Bool, true, false, nat_lt, Option, Some, None, Result, Ok, Err, OnErr, IfOk, ◌&&◌, List, slice_get, arith}
 use Rattle.std.proofs.lemmas.Bool.{lt-leb, le-leb, le-ltb, leb-true, cond-true, cond-false}
 use Rattle.std.proofs.lemmas.Option.{slice_get_within}
-use Rattle.px_model.specs.Node.{Input, Meta, Answer}
-use Rattle.px_model.specs.World.{World, NodeState, Action, Event, comes_to, at_member, happens, goes_on, step_in, step_of, emptied, stops_after}
+use Rattle.px_model.specs.Node.{Input}
+use Rattle.px_model.specs.World.{World, NodeState, Action, Event, comes_to, at_member, happens, step_in, step_of, emptied}
 use Rattle.px_model.specs.World.Event.{Runs, StopBefore, StopAfter, Restart}
 use Rattle.px_model.specs.Spelling.{Bytes}
 use Rattle.px_wire.specs.Message.{Group, group}

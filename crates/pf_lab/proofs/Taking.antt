@@ -1,7 +1,7 @@
 -- What comes to one member of a lab happens in the world.
-use Rattle.std.proofs.Common.{◌≡◌, ◌∙◌, sym, ap, subst, refl, ℕ, zero, suc, ◌⊎◌, inl, inr, Bool, true, false, List, [], ◌∷◌, ◌++◌, Some, Result, Ok, Err, OnOk, OnErr, slice_get, length}
+use Rattle.std.proofs.Common.{◌≡◌, ◌∙◌, sym, ap, subst, refl, ℕ, zero, suc, ◌⊎◌, inl, inr, Bool, true, false, cond, List, [], ◌∷◌, ◌++◌, Some, Result, Ok, Err, OnOk, OnErr, slice_get, length, take, drop, get_or, ◌<◌, ◌+◌}
 use Rattle.std.proofs.Math.ListN.{set}
-use Rattle.std.proofs.lemmas.List.{append-nil}
+use Rattle.std.proofs.lemmas.List.{append-nil, drop_more, take-append-drop}
 use Rattle.std.specs.List.{flat_map}
 use Rattle.px_model.specs.Node as node
 use Rattle.px_model.specs.Node.{Input, Answer}
@@ -24,6 +24,10 @@ use Rattle.px_replica.specs.declared.receiving.Received.{Received}
 use Rattle.px_replica.specs.declared.receiving.Received.TheVariants as received
 use Rattle.pf_node.specs.Nodes.{state_in}
 use Rattle.pf_lab.specs.Coming.{IsInput, Came, happenings}
+use Rattle.pf_lab.specs.Outcomes.{are_known, is_bad, Tells}
+use Rattle.pf_lab.specs.declared.event.LabFault.{LabFault}
+use Rattle.pf_lab.specs.declared.event.LabFault.TheVariants as fault
+use Rattle.pf_lab.specs.declared.event.Outcome.{Outcome}
 use Rattle.pf_lab.specs.declared.event.LabEvent.{LabEvent}
 use Rattle.pf_lab.specs.declared.coming.What.{What}
 use Rattle.pf_lab.specs.Labs.{IsAnswered, IsSeat, SeatsAre, state_of, group_of, for_members, cluster_of}
@@ -173,3 +177,43 @@ one_more_event n (y ∷ ys) x w =
     run_append n (happenings y) (flat_map happenings (ys ++ x ∷ [])) w
     ∙ one_more_event n ys x (run same n (happenings y) w)
     ∙ ap (run same n (happenings x)) (sym (run_append n (happenings y) (flat_map happenings ys) w))
+
+-- ---- events that name a member and a message
+
+known_before : (b c d : Bool) → cond b false c ≡ true → (c ≡ true → d ≡ true) → cond b false d ≡ true
+known_before true c d h f = h
+known_before false c d h f = f h
+
+unknown_behind : (b c : Bool) → c ≡ false → cond b false c ≡ false
+unknown_behind true c e = refl
+unknown_behind false c e = e
+
+-- the next one is known too
+pub known_more : (n : ℕ) (xs : List LabEvent) (x : LabEvent) (w : World Bytes) → are_known n xs w ≡ true →
+    is_bad n (run same n (flat_map happenings xs) w) x ≡ false → are_known n (xs ++ x ∷ []) w ≡ true
+known_more n [] x w known good = ap (λ (b : Bool). cond b false true) good
+known_more n (y ∷ ys) x w known good =
+    let v = run same n (happenings y) w in
+    known_before (is_bad n w y) (are_known n ys v) (are_known n (ys ++ x ∷ []) v) known
+    (λ so. known_more n ys x v so (ap (λ (u : World Bytes). is_bad n u x) (sym (run_append n (happenings y) (flat_map happenings ys) w)) ∙ good))
+
+-- the next one isn't
+pub known_no_more : (n : ℕ) (xs : List LabEvent) (x : LabEvent) (ys : List LabEvent) (w : World Bytes) →
+    is_bad n (run same n (flat_map happenings xs) w) x ≡ true → are_known n (xs ++ x ∷ ys) w ≡ false
+known_no_more n [] x ys w bad = ap (λ (b : Bool). cond b false (are_known n ys (run same n (happenings x) w))) bad
+known_no_more n (y ∷ zs) x ys w bad =
+    let v = run same n (happenings y) w in
+    unknown_behind (is_bad n w y) (are_known n (zs ++ x ∷ ys) v)
+    (known_no_more n zs x ys v (ap (λ (u : World Bytes). is_bad n u x) (sym (run_append n (happenings y) (flat_map happenings zs) w)) ∙ bad))
+
+-- 81 comes of an event that isn't known
+pub told_bad : {X : Type 0} (r : Result X LabFault) (f : LabFault) (bad : Bool) (o : Outcome) → r ≡ Err f → r ≡ Err fault.BadEvent → Tells (Err f) bad o → bad ≡ true
+told_bad r fault.BadEvent bad o same is told = told
+told_bad r fault.Memory bad o same is told = absurd cc
+
+-- a list around one of its places
+pub cut_at : (xs : List LabEvent) (i : ℕ) (x : LabEvent) → i < length xs → x ≡ get_or xs i x → take i xs ++ x ∷ drop (i + 1) xs ≡ xs
+cut_at xs i x lt is =
+    ap (λ (z : LabEvent). take i xs ++ z ∷ drop (i + 1) xs) is
+    ∙ ap (λ (zs : List LabEvent). take i xs ++ zs) (sym (drop_more xs i x lt))
+    ∙ take-append-drop i xs

@@ -2,4 +2,5 @@ pub mod Props
 pub mod Coming
 pub mod Labs
 pub mod Outcomes
+pub mod Ever
 pub mod Same

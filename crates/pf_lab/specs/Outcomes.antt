@@ -1,9 +1,10 @@
 -- What becomes of an event.
-use Rattle.std.specs.Prelude.{◌≡◌, ℕ, Bool, true, false, Option, Some, None, Result, Ok, Err, nat_le, if◌then◌else◌}
+use Rattle.std.specs.Prelude.{◌≡◌, ℕ, Bool, true, false, List, [], ◌∷◌, Option, Some, None, Result, Ok, Err}
+use Rattle.std.specs.Prelude.{nat_le, if◌then◌else◌}
 use Rattle.px_model.specs.Node.{Meta, Input, Answer}
 use Rattle.px_model.specs.Node.Input.{Asks, Ticks, Comes}
 use Rattle.px_model.specs.Node.Answer.{Refused, Planned}
-use Rattle.px_model.specs.World.{World, Action, Event, comes_to, step_in}
+use Rattle.px_model.specs.World.{World, Event, comes_to, step_in, run}
 use Rattle.px_model.specs.World.Event.{Runs, StopBefore, StopAfter, Restart}
 use Rattle.px_model.specs.Spelling.{Bytes}
 use Rattle.px_replica.specs.Made.{same}
@@ -12,7 +13,7 @@ use Rattle.pf_lab.specs.declared.event.LabFault.{LabFault}
 use Rattle.pf_lab.specs.declared.event.LabFault.TheVariants as fault
 use Rattle.pf_lab.specs.declared.event.Outcome.{Outcome}
 use Rattle.pf_lab.specs.declared.event.Outcome.TheVariants as outcome
-use Rattle.pf_lab.specs.Coming.{event_of, is_long}
+use Rattle.pf_lab.specs.Coming.{event_of, is_long, happenings}
 
 -- nobody of n members is addressed
 abbrev pub is_nobodys : (n : ℕ) → Option (ℕ × Input Bytes) → Bool
@@ -61,3 +62,8 @@ abbrev pub Tells : Result Outcome LabFault → (bad : Bool) → (becomes : Outco
 Tells (Ok o) bad becomes = (bad ≡ false) × (o ≡ becomes)
 Tells (Err fault.BadEvent) bad becomes = bad ≡ true
 Tells (Err fault.Memory) bad becomes = Unit {0}
+
+-- each event in its turn names a member, and a message that was sent
+abbrev pub are_known : (n : ℕ) → List LabEvent → World Bytes → Bool
+are_known n [] w = true
+are_known n (e ∷ es) w = if is_bad n w e then false else are_known n es (run same n (happenings e) w)

@@ -18,12 +18,16 @@ LabsAgree =
     IsWorld lab (cluster_of n) (world_after same n events) →
     Agree n (world_after same n events) × Once (world_after same n events) × Kept (world_after same n events)
 
+-- of these members, any two that have applied equally many positions have equal configurations, and give equal verdicts
+abbrev pub AreEqual : List Seat → Type 0
+AreEqual seats =
+    (i j : ℕ) (x y : Seat) → slice_get seats i ≡ Some x → slice_get seats j ≡ Some y →
+    applied_of x.node ≡ applied_of y.node →
+    (config_of x.node ≡ config_of y.node) ×
+    ((p : Packet) → judgement (config_of x.node) p ≡ judgement (config_of y.node) p)
+
 -- equal numbers of applied positions give equal configurations and verdicts
 abbrev pub EquallyApplied : Type 0
 EquallyApplied =
     (n : ℕ) → 1 ≤ n → n ≤ 15 → (events : List (Event Bytes)) (lab : Lab) →
-    IsWorld lab (cluster_of n) (world_after same n events) →
-    (i j : ℕ) (x y : Seat) → slice_get lab.seats.items i ≡ Some x → slice_get lab.seats.items j ≡ Some y →
-    applied_of x.node ≡ applied_of y.node →
-    (config_of x.node ≡ config_of y.node) ×
-    ((p : Packet) → judgement (config_of x.node) p ≡ judgement (config_of y.node) p)
+    IsWorld lab (cluster_of n) (world_after same n events) → AreEqual lab.seats.items

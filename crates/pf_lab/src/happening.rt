@@ -1,6 +1,6 @@
 //! What happens to the world of a lab.
 
-ghost use Rattle.std.specs.Prelude.{◌≡◌, ◌≤◌, ◌<◌, IfOk, OnOk, OnErr, Err};
+ghost use Rattle.std.specs.Prelude.{◌≡◌, ◌≤◌, ◌<◌, IfOk, OnOk, OnErr, Err, true, false};
 ghost use Rattle.std.specs.List.{flat_map};
 ghost use Rattle.px_model.specs.Spelling.{Bytes};
 ghost use Rattle.px_model.specs.World.{World, happens, run, start};
@@ -8,7 +8,9 @@ ghost use Rattle.px_model.specs.World.Event.{Runs, StopBefore, StopAfter, Restar
 ghost use Rattle.px_wire.specs.Message.{Group};
 ghost use Rattle.px_replica.specs.Made.{same};
 ghost use Rattle.pf_lab.specs.Coming.{IsNamed, IsOf, action_of, happenings};
-ghost use Rattle.pf_lab.specs.Outcomes.{Tells, is_unknown, outcome_in, is_bad, becomes};
+ghost use Rattle.pf_lab.specs.Outcomes.{Tells, is_unknown, outcome_in, is_bad, becomes, are_known};
+ghost use Rattle.pf_lab.specs.Ever.{ever_of, IsEver, IsAgreed};
+ghost use Rattle.pf_lab.specs.Same.{AreEqual};
 ghost use Rattle.pf_lab.specs.Labs.{IsSeat, IsWorld, cluster_of, state_of, group_of};
 
 use crate::coming::{named, what_comes};
@@ -180,12 +182,23 @@ impl Lab {
     }
 }
 
-/// The world after these events, one after another. It ends with the first that doesn't happen.
+/// The world after these events, one after another: what was ever learned there satisfies the agreement, and members
+/// that have applied equally many positions have one configuration, and give one verdict for every packet.
+///
+/// `BadEvent` exactly where one of the events, in its turn, names no member or no message that was sent, unless memory
+/// is wanting first.
 pub fn lab(alloc: Global, members: u8, events: &[LabEvent]) -> Result<Lab, LabFault>
     requires some { 1 ≤ members }
     requires few { members ≤ 15 }
     ensures world { IfOk result (λ lab. IsWorld lab (cluster_of members)
         (run same members (flat_map happenings events.now) start)) }
+    ensures ever { IfOk result (λ lab. IsEver (ever_of lab.seats.items)
+        (run same members (flat_map happenings events.now) start)) }
+    ensures agreed { IfOk result (λ lab. IsAgreed members
+        (run same members (flat_map happenings events.now) start) (ever_of lab.seats.items)) }
+    ensures equal { IfOk result (λ lab. AreEqual lab.seats.items) }
+    ensures known { OnOk result (are_known members events.now start ≡ true) }
+    ensures unknown { result ≡ Err LabFault.BadEvent → are_known members events.now start ≡ false }
 {
     let mut lab = Lab::new(alloc, members)?;
     for event in events {

@@ -7,7 +7,6 @@ use Rattle.px_model.specs.World.{happens}
 use Rattle.px_model.specs.World.Event.{Runs}
 use Rattle.pf_lab.specs.Coming.{action_of}
 use Rattle.pf_lab.specs.Labs.{SeatsAre, for_members}
-use Rattle.pf_lab.specs.Outcomes.{is_nobodys, is_unknown, outcome_in, Tells}
 use Rattle.pf_lab.proofs.state.Lab.run.Goals as goal
 
 pub returns-clause-happens : goal.returns-clause-happens
