@@ -8,20 +8,44 @@ ghost use Rattle.pf_command.specs.Options.{value_rule, flag_rule, address_rule, 
 use clap::{Arg, ArgAction, Command};
 use std::alloc::{AllocError, Global};
 
+/// What help says of each option.
+const PATH: &str = "An anchor's path, names between slashes; without it the main ruleset";
+
+const FILE: &str = "Loads a text of rules; - is standard input";
+
+const CHECK: &str = "Only reads the text";
+
+const FLUSH: &str = "Empties rules, Tables or all";
+
+const TABLE: &str = "A table at the path";
+
+const CHANGE: &str = "What is done with the table: add, delete, replace, flush, show or test";
+
+const SHOW: &str = "Lists rules, Tables or Anchors";
+
+const ADDRESS: &str =
+    "Prefixes of the table, negated by a ! directly before them; of test single addresses";
+
 /// An option with a value, written by one letter.
-fn valued<'a>(alloc: Global, id: &'a str, letter: char) -> Arg<'a>
+fn valued<'a>(alloc: Global, id: &'a str, letter: char, help: &'a str) -> Arg<'a>
     ensures rule { rule_of result ≡ value_rule id.entry.now letter }
     ensures local { result.global ≡ false }
 {
-    Arg::new(alloc, id).short(letter).action(ArgAction::Set)
+    Arg::new(alloc, id)
+        .short(letter)
+        .action(ArgAction::Set)
+        .help(help)
 }
 
 /// An option without a value, written by one letter.
-fn flag<'a>(alloc: Global, id: &'a str, letter: char) -> Arg<'a>
+fn flag<'a>(alloc: Global, id: &'a str, letter: char, help: &'a str) -> Arg<'a>
     ensures rule { rule_of result ≡ flag_rule id.entry.now letter }
     ensures local { result.global ≡ false }
 {
-    Arg::new(alloc, id).short(letter).action(ArgAction::SetTrue)
+    Arg::new(alloc, id)
+        .short(letter)
+        .action(ArgAction::SetTrue)
+        .help(help)
 }
 
 /// The addresses behind the options.
@@ -32,6 +56,7 @@ fn addresses<'a>(alloc: Global) -> Arg<'a>
     Arg::new(alloc, "address")
         .action(ArgAction::Append)
         .num_args(0..)
+        .help(ADDRESS)
 }
 
 /// Adds one option.
@@ -50,10 +75,10 @@ fn with_anchor<'a>(alloc: Global, command: Command<'a>) -> Result<Command<'a>, A
     ensures app { IfOk result (λ c. app_of c ≡ with_anchor (app_of command.entry)) }
     ensures local { IfOk result (λ c. (out-Command c).has_globals ≡ false) }
 {
-    let command = with_option(command, valued(alloc, "path", 'a'))?;
-    let command = with_option(command, valued(alloc, "file", 'f'))?;
-    let command = with_option(command, flag(alloc, "check", 'n'))?;
-    with_option(command, valued(alloc, "flush", 'F'))
+    let command = with_option(command, valued(alloc, "path", 'a', PATH))?;
+    let command = with_option(command, valued(alloc, "file", 'f', FILE))?;
+    let command = with_option(command, flag(alloc, "check", 'n', CHECK))?;
+    with_option(command, valued(alloc, "flush", 'F', FLUSH))
 }
 
 /// Adds what names a table and its addresses, and what is listed.
@@ -62,9 +87,9 @@ fn with_table<'a>(alloc: Global, command: Command<'a>) -> Result<Command<'a>, Al
     ensures app { IfOk result (λ c. app_of c ≡ with_table (app_of command.entry)) }
     ensures local { IfOk result (λ c. (out-Command c).has_globals ≡ false) }
 {
-    let command = with_option(command, valued(alloc, "table", 't'))?;
-    let command = with_option(command, valued(alloc, "change", 'T'))?;
-    let command = with_option(command, valued(alloc, "show", 's'))?;
+    let command = with_option(command, valued(alloc, "table", 't', TABLE))?;
+    let command = with_option(command, valued(alloc, "change", 'T', CHANGE))?;
+    let command = with_option(command, valued(alloc, "show", 's', SHOW))?;
     with_option(command, addresses(alloc))
 }
 

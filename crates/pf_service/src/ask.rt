@@ -69,7 +69,7 @@ fn read_file(rt: &HostRuntime, alloc: Global, path: &str) -> Result<Vec<u8>, Out
     match read_all(alloc, &mut file) {
         Ok(text) => Ok(text),
         Err(InputFault::Memory) => Err(Outcome::Memory),
-        Err(InputFault::Failed) => Err(Outcome::Refused(40)),
+        Err(InputFault::Failed | InputFault::TooLong) => Err(Outcome::Refused(40)),
     }
 }
 
@@ -81,7 +81,7 @@ fn read_input<R: Read>(alloc: Global, reader: &mut R) -> Result<Vec<u8>, Outcome
     match read_all(alloc, reader) {
         Ok(text) => Ok(text),
         Err(InputFault::Memory) => Err(Outcome::Memory),
-        Err(InputFault::Failed) => Err(Outcome::Unread),
+        Err(InputFault::Failed | InputFault::TooLong) => Err(Outcome::Unread),
     }
 }
 

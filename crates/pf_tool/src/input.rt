@@ -1,6 +1,6 @@
 //! The input of a run.
 
-ghost use Rattle.std.specs.Prelude.{◌≡◌, ◌≢◌, ◌≤◌, ◌<◌, ℕ, List, Option, Ok, true, false};
+ghost use Rattle.std.specs.Prelude.{◌≡◌, ◌≢◌, ◌≤◌, ◌<◌, ℕ, List, Option, Ok, Err, true, false};
 ghost use Rattle.std.specs.Prelude.{length, IfSome, IfOk, IfErr, OnOk};
 ghost use Rattle.std.specs.Io.KnownBytes.{Consumes, IsAtEnd};
 
@@ -19,8 +19,10 @@ const BYTES_MAX: usize = 16_777_216;
 pub enum InputFault {
     /// A growth was refused.
     Memory,
-    /// A read failed, or there is more than 16,777,216 bytes.
+    /// A read failed.
     Failed,
+    /// There are more than 16,777,216 bytes.
+    TooLong,
 }
 
 /// Reads once, onto the end of what was read, and answers whether there may be more.
@@ -31,6 +33,9 @@ fn read_some<R: Read>(reader: &mut R, all: &mut Vec<u8>) -> Result<bool, InputFa
     ensures end { result ≡ Ok false → IsAtEnd (R.remaining reader.new) }
     ensures more { result ≡ Ok true → length all.old.items < length all.new.items }
     ensures few { OnOk result (length all.new.items ≤ 16777216) }
+    ensures long { (first : Option (List ℕ)) → Consumes first (R.remaining reader.old) all.old.items →
+        result ≡ Err InputFault.TooLong → IfSome (R.remaining reader.new) (λ rest.
+        IfSome first (λ input. 16777216 < length input)) }
 {
     let mut buf = [0u8; 4096];
     let Ok(n) = reader.read(&mut buf) else {
@@ -40,17 +45,19 @@ fn read_some<R: Read>(reader: &mut R, all: &mut Vec<u8>) -> Result<bool, InputFa
         return Ok(false);
     }
     if n > BYTES_MAX - all.len() {
-        return Err(InputFault::Failed);
+        return Err(InputFault::TooLong);
     }
     all.extend_from_slice(&buf[..n])
         .map_err(|_| InputFault::Memory)?;
     Ok(true)
 }
 
-/// All that is left to read, up to a limit; more is a failed read.
+/// All that is left to read, up to a limit.
 pub fn read_all<R: Read>(alloc: Global, reader: &mut R) -> Result<Vec<u8>, InputFault>
     ensures whole { IfOk result (λ v. IfSome (R.remaining reader.old) (λ input. v.items ≡ input)) }
     ensures few { IfOk result (λ v. length v.items ≤ 16777216) }
+    ensures long { result ≡ Err InputFault.TooLong → IfSome (R.remaining reader.new) (λ rest.
+        IfSome (R.remaining reader.old) (λ input. 16777216 < length input)) }
 {
     let mut all = Vec::new(alloc);
     for _ in 0..READS_MAX {

@@ -42,7 +42,7 @@ fn answer<R: Read, W: Write>(
     let input = match read_all(alloc, reader) {
         Ok(input) => input,
         Err(InputFault::Memory) => return out_of_memory(writer),
-        Err(InputFault::Failed) => return Status::Failed,
+        Err(InputFault::Failed | InputFault::TooLong) => return Status::Failed,
     };
     let Ok(output) = output_of(alloc, call, &input) else {
         return out_of_memory(writer);

@@ -86,3 +86,77 @@ fn a_failed_write_ends_the_run(rt: HostRuntime) -> Result<(), Fail> {
     assert_eq!(rt; writer.taken, 1);
     Ok(())
 }
+
+/// Fails once, and takes all from then on.
+#[derive(Drop)]
+struct OnceFailingWriter {
+    failed: bool,
+    taken: usize,
+}
+
+impl Write for OnceFailingWriter {
+    fn write(&mut self, buf: &[u8]) -> io::Result<usize> {
+        if !self.failed {
+            self.failed = true;
+            return Err(Error::from(ErrorKind::Other));
+        }
+        self.taken = self.taken.saturating_add(buf.len());
+        Ok(buf.len())
+    }
+
+    fn flush(&mut self) -> io::Result<()> {
+        Ok(())
+    }
+}
+
+#[test]
+fn nothing_is_written_after_a_failed_write(rt: HostRuntime) -> Result<(), Fail> {
+    for words in [
+        ["pfx", "test", SYN_PACKET].as_slice(),
+        &["pfx", "check"],
+        &["pfx", "ctl"],
+        &["pfx", "no such word"],
+    ] {
+        let mut reader = QUICK;
+        let mut writer = OnceFailingWriter {
+            failed: false,
+            taken: 0,
+        };
+        let status = run(rt.alloc(), words, &mut reader, &mut writer);
+        assert_eq!(rt; status, Status::Failed);
+        assert_eq!(rt; writer.taken, 0);
+    }
+    Ok(())
+}
+
+/// Gives so many newlines.
+#[derive(Drop)]
+struct Newlines {
+    left: usize,
+}
+
+impl Read for Newlines {
+    fn read(&mut self, buf: &mut [u8]) -> io::Result<usize> {
+        let given = buf.len().min(self.left);
+        buf.fill(b'\n');
+        self.left -= given;
+        Ok(given)
+    }
+}
+
+#[test]
+fn the_input_has_16777216_bytes_at_most(rt: HostRuntime) -> Result<(), Fail> {
+    for (left, wanted, length) in [
+        (16_777_216, Status::Done, 13),
+        (16_777_217, Status::Failed, 0),
+    ] {
+        let mut reader = Newlines { left };
+        let mut out = Vec::new(rt.alloc());
+        let words = ["pfx", "test", SYN_PACKET];
+        let status = run(rt.alloc(), &words, &mut reader, &mut out);
+        assert_eq!(rt; status, wanted);
+        // `pass default` and a newline, or nothing
+        assert_eq!(rt; out.len(), length);
+    }
+    Ok(())
+}
