@@ -1,59 +1,31 @@
-//! The run.
+//! The run over a record.
+ghost use Rattle.std.specs.Prelude.{◌≡◌};
 
-use crate::cluster::{Event, Members};
+use crate::members::{Members, ask, opened, receive, tick};
+use crate::row::{BEFORE, EVENTS, Event, ROW};
 use pf_node::{Node, NodeFault};
 use px_records::Records;
 use std::alloc::Global;
-
-/// The run. Messages 0 to 2 ask for promises of round 2, 3 to 5 promise, 6 to 8 ask to accept, 9 to 17 are votes.
-/// Its first two events end with the stop.
-pub const ROW: [Event; 22] = [
-    Event::Ask,
-    Event::TickThenStop,
-    Event::Ask,
-    Event::Tick,
-    Event::Deliver(0),
-    Event::Deliver(1),
-    Event::Deliver(2),
-    Event::Deliver(3),
-    Event::Deliver(4),
-    Event::Deliver(5),
-    Event::Deliver(6),
-    Event::Deliver(7),
-    Event::Deliver(8),
-    Event::Deliver(9),
-    Event::Deliver(10),
-    Event::Deliver(11),
-    Event::Deliver(12),
-    Event::Deliver(13),
-    Event::Deliver(14),
-    Event::Deliver(15),
-    Event::Deliver(16),
-    Event::Deliver(17),
-];
-
-/// The events that change the first member's record: both requests, both rounds, the promise that it makes, what it
-/// accepts, and the second member's vote, which makes it learn.
-pub const CHANGES: [usize; 7] = [0, 1, 2, 3, 4, 10, 16];
+use std::test::Fail;
 
 /// How far a run came.
-#[derive(Clone, Copy, Debug, PartialEq, Eq)]
-pub struct Came {
+#[derive(Clone, Copy)]
+pub(crate) struct Came {
     /// How many events happened.
-    pub events: usize,
+    pub(crate) events: usize,
     /// Why the next one didn't.
-    pub fault: Option<NodeFault>,
+    pub(crate) fault: Option<NodeFault>,
     /// The event that didn't happen handed nothing out.
-    pub is_silent: bool,
+    pub(crate) is_silent: bool,
 }
 
 /// The events happen in turn, up to one that is refused.
-pub fn follow<R: Records>(
+fn follow<R: Records + Drop>(
     alloc: Global,
     zero: &mut Node<R>,
-    others: &mut Members,
+    others: &mut Members<R>,
     events: &[Event],
-) -> Result<Came, NodeFault> {
+) -> Result<Came, Fail> {
     let mut happened = 0usize;
     for event in events {
         let mut out = Vec::new(alloc);
@@ -74,4 +46,48 @@ pub fn follow<R: Records>(
         fault: None,
         is_silent: true,
     })
+}
+
+/// A member, started anew with its record.
+fn reopened<R: Records + Drop>(alloc: Global, node: Node<R>) -> Result<Node<R>, Fail> {
+    let m = node.membership();
+    match Node::open(alloc, m, node.close()) {
+        Ok(node) => Ok(node),
+        Err((fault, _)) => Err(Fail::new(fault)),
+    }
+}
+
+/// The first so many events of the run, up to one that is refused: how far it came, and member 0.
+pub(crate) fn run<R: Records + Drop>(
+    alloc: Global,
+    records: R,
+    others: &mut Members<R>,
+    events: usize,
+) -> Result<(Came, Node<R>), Fail>
+    requires { R.members records ≡ 3 }
+{
+    let mut node = opened(alloc, 0, records)?;
+    let came = follow(alloc, &mut node, others, &ROW[..events.min(BEFORE)])?;
+    if came.fault.is_some() || events <= BEFORE {
+        return Ok((came, node));
+    }
+    let mut node = reopened(alloc, node)?;
+    let came = follow(alloc, &mut node, others, &ROW[BEFORE..events.min(EVENTS)])?;
+    Ok((
+        Came {
+            events: came.events.saturating_add(BEFORE),
+            ..came
+        },
+        node,
+    ))
+}
+
+/// Whether every further call of a node is refused as one that has failed, and hands nothing out.
+pub(crate) fn is_closed<R: Records>(alloc: Global, node: &mut Node<R>, bytes: &[u8]) -> bool {
+    let mut out = Vec::new(alloc);
+    let asked = ask(alloc, node);
+    let ticked = tick(node, &mut out);
+    let received = receive(node, bytes, &mut out);
+    let failed = Err(NodeFault::Failed);
+    asked == failed && ticked == failed && received == failed && out.is_empty()
 }

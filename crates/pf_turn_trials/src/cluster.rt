@@ -1,10 +1,11 @@
 ghost use Rattle.std.specs.Prelude.{◌<◌};
 
-use pf_addr::{Addr, parse_prefix};
-use pf_entry::TableName;
+use crate::listing::listing;
+use pf_addr::parse_prefix;
+use pf_entry::{Profile, TableName};
 use pf_eval::{parse_packet, show_verdict};
 use pf_net::UdpWire;
-use pf_node::{Command, Config, Membership, Node};
+use pf_node::{Command, Membership, Node};
 use pf_ruleset::{Path, TableEntry};
 use pf_turn::{Room, turn};
 use px_records::MemoryRecords;
@@ -13,6 +14,12 @@ use std::alloc::Global;
 use std::test::Fail;
 
 const PACKET: &str = "in on em0 proto tcp from 10.0.0.1 port 4000 to 192.0.2.1 port 22 flags S";
+
+/// A table that a rule names.
+const RULES: &str = "table <t> persist { 0.0.0.1 }\nblock from <t>\n";
+
+/// The same table with another address, and rules of an anchor.
+const ANCHOR: &str = "table <t> { 0.0.0.2 }\npass to <t>\nanchor \"a\" {\npass proto tcp\n}\n";
 
 /// An Ask of a load of `block from 10/8` and a newline at main, in the second profile, with the token 1, for member 0
 /// of 3 of cluster 7.
@@ -79,6 +86,15 @@ fn loopback(rt: HostRuntime) -> Result<(), Fail> {
     Ok(())
 }
 
+/// A load of a text at main.
+fn load(alloc: Global, text: &str) -> Result<Command, Fail> {
+    Ok(Command::Load {
+        path: Path::main(alloc),
+        profile: Profile::Two,
+        text: Vec::from_slice(alloc, text.as_bytes())?,
+    })
+}
+
 /// Makes the main ruleset's table `t` hold the address alone.
 fn change(alloc: Global, address: &str) -> Result<Command, Fail> {
     let Some(table) = TableName::new(alloc, b"t")? else {
@@ -96,29 +112,54 @@ fn change(alloc: Global, address: &str) -> Result<Command, Fail> {
     })
 }
 
-/// The address that the table `t` holds, of three.
-fn held(config: &Config) -> Option<(bool, bool, bool)> {
-    match config.table(&[], "t") {
-        Some(table) => Some((
-            table.holds(Addr::V4(1)),
-            table.holds(Addr::V4(2)),
-            table.holds(Addr::V4(3)),
-        )),
-        None => None,
-    }
+/// A member with its wire.
+#[derive(Drop)]
+struct Party {
+    node: Node<MemoryRecords>,
+    wire: FaultyWire<UdpWire>,
+}
+
+/// The member with this number, of whose wire each `k`-th receive and send fails; the command is asked of it.
+fn joined(rt: &HostRuntime, me: u8, k: u64, command: &Command) -> Result<Party, Fail>
+    requires { 0 < k }
+{
+    let members = ["127.0.0.1:39491", "127.0.0.1:39492", "127.0.0.1:39493"];
+    let wire = UdpWire::bind(rt, rt.alloc(), &members, me, 5)?;
+    let mut node = node(rt, me)?;
+    node.ask(command)?;
+    Ok(Party {
+        node,
+        wire: FaultyWire::new(wire, k),
+    })
+}
+
+/// One turn.
+fn pace(party: &mut Party, room: &mut Room) -> Result<(), Fail> {
+    turn(&mut party.node, &mut party.wire, room)?;
+    Ok(())
 }
 
 /// Two nodes that have applied equally much have one configuration.
-fn agree(a: &Node<MemoryRecords>, b: &Node<MemoryRecords>) -> bool {
-    a.applied() != b.applied() || held(a.config()) == held(b.config())
+fn agree(alloc: Global, a: &Party, b: &Party) -> Result<bool, Fail> {
+    if a.node.applied() != b.node.applied() {
+        return Ok(true);
+    }
+    let one = listing(alloc, a.node.config())?;
+    let other = listing(alloc, b.node.config())?;
+    Ok(one.as_str() == other.as_str())
 }
 
-fn all_agree(
-    a: &Node<MemoryRecords>,
-    b: &Node<MemoryRecords>,
-    c: &Node<MemoryRecords>,
+/// A turn of the first, after which any two agree.
+fn pace_among(
+    rt: &HostRuntime,
+    first: &mut Party,
+    second: &Party,
+    third: &Party,
+    room: &mut Room,
 ) -> Result<(), Fail> {
-    if agree(a, b) && agree(b, c) && agree(a, c) {
+    pace(first, room)?;
+    let alloc = rt.alloc();
+    if agree(alloc, first, second)? && agree(alloc, second, third)? && agree(alloc, first, third)? {
         Ok(())
     } else {
         Err(Fail::new("two nodes differ"))
@@ -126,32 +167,28 @@ fn all_agree(
 }
 
 /// 600 turns of three nodes over wires of which each `k`-th receive and send fails: how many commands were applied.
+/// Each of the three commands changes what the others make.
 fn lossy(rt: &HostRuntime, k: u64) -> Result<u32, Fail>
     requires { 0 < k }
 {
-    let members = ["127.0.0.1:39491", "127.0.0.1:39492", "127.0.0.1:39493"];
-    let mut zero = node(rt, 0)?;
-    let mut one = node(rt, 1)?;
-    let mut two = node(rt, 2)?;
-    let mut wire_of_zero = FaultyWire::new(UdpWire::bind(rt, rt.alloc(), &members, 0, 5)?, k);
-    let mut wire_of_one = FaultyWire::new(UdpWire::bind(rt, rt.alloc(), &members, 1, 5)?, k);
-    let mut wire_of_two = FaultyWire::new(UdpWire::bind(rt, rt.alloc(), &members, 2, 5)?, k);
-    zero.ask(&change(rt.alloc(), "0.0.0.1")?)?;
-    one.ask(&change(rt.alloc(), "0.0.0.2")?)?;
-    two.ask(&change(rt.alloc(), "0.0.0.3")?)?;
+    let mut zero = joined(rt, 0, k, &load(rt.alloc(), RULES)?)?;
+    let mut one = joined(rt, 1, k, &load(rt.alloc(), ANCHOR)?)?;
+    let mut two = joined(rt, 2, k, &change(rt.alloc(), "0.0.0.3")?)?;
     let mut room = Room::new(rt.alloc())?;
     for _ in 0..200 {
-        turn(&mut zero, &mut wire_of_zero, &mut room)?;
-        all_agree(&zero, &one, &two)?;
-        turn(&mut one, &mut wire_of_one, &mut room)?;
-        all_agree(&zero, &one, &two)?;
-        turn(&mut two, &mut wire_of_two, &mut room)?;
-        all_agree(&zero, &one, &two)?;
+        pace_among(rt, &mut zero, &one, &two, &mut room)?;
+        pace_among(rt, &mut one, &zero, &two, &mut room)?;
+        pace_among(rt, &mut two, &zero, &one, &mut room)?;
     }
-    if wire_of_zero.failures() == 0 {
+    if zero.wire.failures() == 0 {
         return Err(Fail::new("nothing was lost"));
     }
-    Ok(zero.applied().max(one.applied()).max(two.applied()))
+    Ok(
+        zero.node
+            .applied()
+            .max(one.node.applied())
+            .max(two.node.applied()),
+    )
 }
 
 #[test]

@@ -3,3 +3,5 @@
 
 #[cfg(test)]
 mod cluster;
+#[cfg(test)]
+mod listing;
