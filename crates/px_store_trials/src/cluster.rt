@@ -1,0 +1,196 @@
+//! A worked run of three nodes, each over a database in memory. A command is asked of the first one, which stops as
+//! soon as its next round is recorded, so that what it sends is lost, and starts anew from its database. The same
+//! command is asked again, the clock ticks, and every message is delivered once, in the order in which they were sent.
+
+ghost use Rattle.std.specs.Prelude.{◌≡◌, IfOk};
+
+use pf_eval::{parse_packet, show_verdict};
+use pf_node::{Command, Datagram, Membership, Node, NodeFault};
+use pf_ruleset::Path;
+use px_model::EntryView;
+use px_records::Records;
+use px_sql::{Identity, SqlRecords};
+use sqlite::{Connection, MemStore};
+use std::alloc::Global;
+use std::test::Fail;
+
+const PACKET: &str = "in on em0 proto tcp from 10.0.0.1 port 4000 to 192.0.2.1 port 22 flags S";
+
+/// So many messages there are: three each that ask for promises, promise, and ask to accept, and nine votes.
+const MESSAGES: usize = 18;
+
+/// A load of `block from 10/8` at main.
+fn block(alloc: Global) -> Result<Command, NodeFault> {
+    match Vec::from_slice(alloc, b"block from 10/8\n") {
+        Ok(text) => Ok(Command::Load {
+            path: Path::main(alloc),
+            profile: pf_entry::Profile::Two,
+            text,
+        }),
+        Err(_) => Err(NodeFault::Memory),
+    }
+}
+
+/// A member of the three with its record.
+fn member<R: Records + Drop>(alloc: Global, me: u8, records: R) -> Result<Node<R>, NodeFault>
+    requires { R.members records ≡ 3 }
+{
+    let Some(m) = Membership::new(7, 3, me) else {
+        return Err(NodeFault::Failed);
+    };
+    if m.me() >= m.members() {
+        return Err(NodeFault::Failed);
+    }
+    match Node::open(alloc, m, records) {
+        Ok(node) => Ok(node),
+        Err((fault, _)) => Err(fault),
+    }
+}
+
+/// The first member's record after it was asked the command and its clock has ticked: what it sent is lost.
+fn stopped<R: Records + Drop>(alloc: Global, records: R) -> Result<R, NodeFault>
+    requires { R.members records ≡ 3 }
+{
+    let mut node = member(alloc, 0, records)?;
+    let command = block(alloc)?;
+    node.ask(&command)?;
+    let mut lost = Vec::new(alloc);
+    node.tick(&mut lost)?;
+    Ok(node.close())
+}
+
+/// Messages are on their way.
+fn send(sent: &mut Vec<Datagram>, out: Vec<Datagram>) -> Result<(), NodeFault> {
+    for datagram in out {
+        if sent.push(datagram).is_err() {
+            return Err(NodeFault::Memory);
+        }
+    }
+    Ok(())
+}
+
+/// The message of this number comes to its addressee; what that sends is appended.
+fn deliver<R: Records + Drop>(
+    alloc: Global,
+    nodes: &mut Vec<Node<R>>,
+    sent: &mut Vec<Datagram>,
+    number: usize,
+) -> Result<(), NodeFault> {
+    let mut out = Vec::new(alloc);
+    let Some(datagram) = sent.get(number) else {
+        return Err(NodeFault::Failed);
+    };
+    let to = datagram.to as usize;
+    if to >= nodes.len() {
+        return Err(NodeFault::Failed);
+    }
+    nodes[to].receive(datagram.bytes.as_slice(), &mut out)?;
+    send(sent, out)
+}
+
+/// The command is asked of the first node, its clock ticks, and every message is delivered.
+fn finish<R: Records + Drop>(alloc: Global, nodes: &mut Vec<Node<R>>) -> Result<(), NodeFault> {
+    if nodes.is_empty() {
+        return Err(NodeFault::Failed);
+    }
+    let command = block(alloc)?;
+    nodes[0].ask(&command)?;
+    let mut sent = Vec::new(alloc);
+    nodes[0].tick(&mut sent)?;
+    for number in 0..MESSAGES {
+        deliver(alloc, nodes, &mut sent, number)?;
+    }
+    if sent.len() == MESSAGES {
+        Ok(())
+    } else {
+        Err(NodeFault::Failed)
+    }
+}
+
+/// The three nodes, the run being over.
+fn run<R: Records + Drop>(alloc: Global, zero: R, one: R, two: R) -> Result<Vec<Node<R>>, NodeFault>
+    requires zero { R.members zero ≡ 3 }
+    requires one { R.members one ≡ 3 }
+    requires two { R.members two ≡ 3 }
+{
+    let mut nodes = Vec::new(alloc);
+    if nodes.reserve(3).is_err() {
+        return Err(NodeFault::Memory);
+    }
+    let _zero = nodes.push(member(alloc, 0, zero)?);
+    let _one = nodes.push(member(alloc, 1, one)?);
+    let _two = nodes.push(member(alloc, 2, two)?);
+    finish(alloc, &mut nodes)?;
+    Ok(nodes)
+}
+
+/// The record of a member in a database.
+fn record(
+    alloc: Global,
+    conn: Connection<MemStore>,
+    node: u8,
+) -> Result<SqlRecords<MemStore>, NodeFault>
+    ensures { IfOk result (λ r. ⟦<SqlRecords<MemStore> as Records>⟧.members r ≡ 3) }
+{
+    let identity = Identity {
+        cluster: 7,
+        members: 3,
+        node,
+    };
+    match SqlRecords::adopt(alloc, conn, identity) {
+        Ok(records) => Ok(records),
+        Err(_) => Err(NodeFault::BadStore),
+    }
+}
+
+/// The empty record of a member in a database in memory.
+fn empty(alloc: Global, node: u8) -> Result<SqlRecords<MemStore>, NodeFault>
+    ensures { IfOk result (λ r. ⟦<SqlRecords<MemStore> as Records>⟧.members r ≡ 3) }
+{
+    match Connection::open_in_memory(alloc) {
+        Ok(conn) => record(alloc, conn, node),
+        Err(_) => Err(NodeFault::Store),
+    }
+}
+
+/// The three nodes over databases, the run being over.
+fn nodes(alloc: Global) -> Result<Vec<Node<SqlRecords<MemStore>>>, NodeFault> {
+    let left = stopped(alloc, empty(alloc, 0)?)?;
+    let zero = record(alloc, left.release(), 0)?;
+    run(alloc, zero, empty(alloc, 1)?, empty(alloc, 2)?)
+}
+
+/// Who asked the entry that the node has learned at the first position, and which number it had there.
+fn first<R: Records>(node: &Node<R>) -> Option<(u8, u64)> {
+    let entry = EntryView::read(node.learned(0)?)?;
+    Some((entry.origin(), entry.number()))
+}
+
+/// The node's verdict for a packet from 10.0.0.1.
+fn verdict<R: Records>(alloc: Global, node: &Node<R>) -> Result<String, NodeFault> {
+    let Ok(packet) = parse_packet(alloc, PACKET) else {
+        return Err(NodeFault::Failed);
+    };
+    match show_verdict(alloc, &node.verdict(&packet)) {
+        Ok(line) => Ok(line),
+        Err(_) => Err(NodeFault::Memory),
+    }
+}
+
+/// Whether the node shows what the run comes to: its round, and the second request learned at the first position and
+/// applied.
+fn has_all<R: Records>(alloc: Global, node: &Node<R>, round: u64) -> Result<bool, NodeFault> {
+    let line = verdict(alloc, node)?;
+    let is_there = node.front() == 1 && node.applied() == 1 && node.round() == round;
+    Ok(is_there && first(node) == Some((0, 1)) && line.as_str() == "block drop @0")
+}
+
+#[test]
+fn a_stop_after_the_round(rt: HostRuntime) -> Result<(), Fail> {
+    let nodes = nodes(rt.alloc())?;
+    assert!(rt; nodes.len() == 3);
+    assert!(rt; has_all(rt.alloc(), &nodes[0], 2)?);
+    assert!(rt; has_all(rt.alloc(), &nodes[1], 0)?);
+    assert!(rt; has_all(rt.alloc(), &nodes[2], 0)?);
+    Ok(())
+}
