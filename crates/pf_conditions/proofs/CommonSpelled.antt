@@ -6,15 +6,18 @@ use Rattle.pf_tokens.specs.declared.symbol.Symbol.TheVariants as mark
 use Rattle.pf_tokens.specs.Tokens.{Token, Word}
 use Rattle.pf_tokens.specs.Productions.{◌>>=◌, begins}
 use Rattle.pf_tokens.specs.Lists.{Elements, some_at}
-use Rattle.pf_tokens.specs.Shorter.{bind_some, some_is}
+use Rattle.pf_tokens.specs.inner.Shorter.{bind_some, some_is}
 use Rattle.pf_addr.specs.declared.addr.Family.{Family}
 use Rattle.pf_addr.specs.declared.addr.Family.TheVariants.{Inet, Inet6}
 use Rattle.pf_ruleset.specs.declared.parts.Host.{Host}
 use Rattle.pf_conditions.specs.declared.written.WrittenPort.{WrittenPort}
 use Rattle.pf_conditions.specs.Conditions.{family_at, host_at, port_at, ports_at, Ends, any_host, any_end, spec_at, part_at, end_behind, ends_at, interfaces_at, interface_at, protocols_at, protocol_at, CommonText, common_at}
-use Rattle.pf_conditions.specs.Grammar.{key, IsSome, One, Listed, Braces, IsBehind, Missing, Behind, IsFamily, NoFamily, InetWord, Inet6Word, IsHost, IsPort, IsPart, PartHosts, PartPorts, IsHosts, NoHosts, AllWord, FromPart, ToPart, FromToParts, IsInterface, IsProtocol, IsCommon}
-use Rattle.pf_conditions.proofs.Fronts.{Took, begins_is, rank, not_begun, no_symbol}
-use Rattle.pf_conditions.proofs.ListsSpelled.{Spells, some_spells, behind_given, behind_took, behind_reads}
+use Rattle.pf_tokens.specs.ListGrammar.{IsSome, One, Listed, Braces}
+use Rattle.pf_conditions.specs.Grammar.{key, IsBehind, Missing, Behind, IsFamily, NoFamily, InetWord, Inet6Word, IsHost, IsPort, IsPart, PartHosts, PartPorts, IsHosts, NoHosts, AllWord, FromPart, ToPart, FromToParts, IsInterface, IsProtocol, IsCommon}
+use Rattle.pf_tokens.proofs.Fronts.{Took, begins_is}
+use Rattle.pf_conditions.proofs.Fronts.{rank, not_begun, no_symbol}
+use Rattle.pf_tokens.proofs.ListsSpelled.{Spells, some_spells}
+use Rattle.pf_conditions.proofs.BehindSpelled.{behind_given, behind_took, behind_reads}
 use Rattle.pf_conditions.proofs.PiecesSpelled.{HostEnds, hosts_readable, host_not_port, PortEnds, ports_readable, Anything, interfaces_readable, protocols_readable}
 use Rattle.pf_ruleset.specs.declared.parts.Interface.{Interface}
 use Rattle.pf_conditions.specs.declared.written.Protocol.{Protocol}

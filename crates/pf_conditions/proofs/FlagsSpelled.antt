@@ -10,16 +10,18 @@ use Rattle.pf_tokens.specs.declared.symbol.Symbol.TheVariants as mark
 use Rattle.pf_tokens.specs.Tokens.{Token, Word, Mark}
 use Rattle.pf_tokens.specs.Productions.{Read, ◌>>=◌, begins, begins_symbol, word_at}
 use Rattle.pf_tokens.specs.Lists.{Elements, some_at, list_at}
-use Rattle.pf_tokens.specs.Shorter.{bind_some, some_is}
+use Rattle.pf_tokens.specs.inner.Shorter.{bind_some, some_is}
 use Rattle.pf_words.specs.declared.flags.TcpFlags.{TcpFlags}
 use Rattle.pf_ruleset.specs.declared.parts.FlagTest.{FlagTest}
 use Rattle.pf_ruleset.specs.declared.parts.FlagTest.TheVariants as flags
 use Rattle.pf_conditions.specs.declared.written.WrittenType.{WrittenType}
 use Rattle.pf_words.specs.Words.{icmp_type_of, flags_of, is_letter, no_flags, is_within}
 use Rattle.pf_conditions.specs.Conditions.{if_so, letters_at, just_within, flags_at, type_at, types_at, port_word_at}
-use Rattle.pf_conditions.specs.Grammar.{key, Braces, IsFlags, AnyFlags, NoneOf, SomeOf, IsType, TypeWord, IsTypes, TypeAlone, TypeList}
-use Rattle.pf_conditions.proofs.Fronts.{Took, begins_is, symbol_is, word_is}
-use Rattle.pf_conditions.proofs.ListsSpelled.{Heads, IsPlain, Readable, list_took, list_reads}
+use Rattle.pf_tokens.specs.ListGrammar.{Braces}
+use Rattle.pf_conditions.specs.Grammar.{key, IsFlags, AnyFlags, NoneOf, SomeOf, IsType, TypeWord, IsTypes, TypeAlone, TypeList}
+use Rattle.pf_tokens.proofs.Fronts.{Took, begins_is, symbol_is, word_is}
+use Rattle.pf_tokens.proofs.ListsSpelled.{Heads, Readable, list_took, list_reads}
+use Rattle.pf_tokens.specs.ListGrammar.{IsPlain}
 use Rattle.pf_conditions.proofs.PiecesSpelled.{if_so_is, Anything, port_word_took, port_word_reads}
 
 -- ---- flags

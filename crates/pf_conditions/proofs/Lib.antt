@@ -1,5 +1,5 @@
 pub mod Fronts
-pub mod ListsSpelled
+pub mod BehindSpelled
 pub mod PiecesSpelled
 pub mod CommonSpelled
 pub mod FlagsSpelled

@@ -8,7 +8,7 @@ use Rattle.pf_tokens.specs.Tokens.{Token}
 use Rattle.pf_tokens.specs.Blanks.{blanked}
 use Rattle.pf_tokens.specs.Productions.{Read, ◌>>=◌, begins, begins_symbol, word_at, list_opened}
 use Rattle.pf_tokens.specs.Lists.{Elements, put, elements, list_at, some_at}
-use Rattle.pf_tokens.specs.Shorter.{bind_some, word_shorter}
+use Rattle.pf_tokens.specs.inner.Shorter.{bind_some, word_shorter}
 use Rattle.pf_tokens.proofs.Blanking.{blanked_no_longer}
 use Rattle.pf_words.specs.declared.flags.TcpFlags.{TcpFlags}
 use Rattle.pf_ruleset.specs.declared.parts.FlagTest.{FlagTest}
@@ -16,7 +16,7 @@ use Rattle.pf_ruleset.specs.declared.parts.FlagTest.TheVariants as flags
 use Rattle.pf_conditions.specs.declared.written.WrittenType.{WrittenType}
 use Rattle.pf_words.specs.Words.{icmp_type_of, flags_of, no_flags}
 use Rattle.pf_conditions.specs.Conditions.{if_so, port_word_at, letters_at, just_within, flags_at, type_at, types_at}
-use Rattle.pf_conditions.specs.Shorter.{then_no_longer, value_then, answer_left, drop_no_longer, so_is, port_word_shorter, type_shorter}
+use Rattle.pf_conditions.specs.inner.Shorter.{then_no_longer, value_then, answer_left, drop_no_longer, so_is, port_word_shorter, type_shorter}
 
 -- ---- an option takes a token at least
 

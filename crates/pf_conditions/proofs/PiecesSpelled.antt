@@ -15,7 +15,7 @@ use Rattle.pf_tokens.specs.declared.symbol.Symbol.{Symbol}
 use Rattle.pf_tokens.specs.declared.symbol.Symbol.TheVariants as mark
 use Rattle.pf_tokens.specs.Tokens.{Token, Word, Quoted, Macro, Mark, Newline, Bad}
 use Rattle.pf_tokens.specs.Productions.{Read, ◌>>=◌, begins, begins_symbol, symbol_at, word_at}
-use Rattle.pf_tokens.specs.Shorter.{bind_some, some_is}
+use Rattle.pf_tokens.specs.inner.Shorter.{bind_some, some_is}
 use Rattle.pf_ruleset.specs.declared.parts.Interface.{Interface}
 use Rattle.pf_ruleset.specs.declared.parts.Addresses.{Addresses}
 use Rattle.pf_ruleset.specs.declared.parts.Addresses.TheVariants.{Prefix, Range, Table}
@@ -29,8 +29,9 @@ use Rattle.pf_ruleset.specs.Names.{Name}
 use Rattle.pf_words.specs.Words.{is_reserved, is_interface_name, protocol_of, port_of, is_table_name}
 use Rattle.pf_conditions.specs.Conditions.{if_so, interface_name_at, interface_at, protocol_at, length_at, prefix_behind, range_behind, addresses_at, in_or_not, host_at, port_word_at, tested, one_port, two_ports, lone_test, compared_at, second_at, port_behind, operator_at, port_with, port_at, prefix_at, as_prefix, table_at, set_at}
 use Rattle.pf_conditions.specs.Grammar.{IsInterfaceName, NameWord, NameString, IsInterface, OnInterface, NotOnInterface, IsProtocol, ProtocolWord, IsPrefix, WholeAddress, CutAddress, IsTable, TableSign, IsSet, PrefixSet, RangeSet, TableSet, IsHost, AnyWord, HostIn, HostNotIn, IsOperator, EqualsSign, NotEqualSign, LessSign, LessEqualSign, GreaterSign, GreaterEqualSign, IsBounds, BetweenSign, OutsideSign, IsPort, PortAlone, PortCompared, PortBounds}
-use Rattle.pf_conditions.proofs.Fronts.{Took, begins_is, symbol_is, word_is}
-use Rattle.pf_conditions.proofs.ListsSpelled.{Heads, IsPlain, Readable}
+use Rattle.pf_tokens.proofs.Fronts.{Took, begins_is, symbol_is, word_is}
+use Rattle.pf_tokens.proofs.ListsSpelled.{Heads, Readable}
+use Rattle.pf_tokens.specs.ListGrammar.{IsPlain}
 
 -- ---- tests and results
 

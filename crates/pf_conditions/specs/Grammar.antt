@@ -9,8 +9,8 @@ use Rattle.pf_words.specs.declared.profile.Profile.{Profile}
 use Rattle.pf_tokens.specs.declared.symbol.Symbol.{Symbol}
 use Rattle.pf_tokens.specs.declared.symbol.Symbol.TheVariants as mark
 use Rattle.pf_tokens.specs.Tokens.{Token, Word, Quoted, Mark}
-use Rattle.pf_tokens.specs.Blanks.{blanked}
 use Rattle.pf_tokens.specs.Lists.{Elements}
+use Rattle.pf_tokens.specs.ListGrammar.{sign, IsList, IsSome}
 use Rattle.pf_ruleset.specs.declared.parts.Direction.TheVariants.{In}
 use Rattle.pf_addr.specs.declared.addr.Family.{Family}
 use Rattle.pf_addr.specs.declared.addr.Family.TheVariants.{Inet, Inet6}
@@ -36,41 +36,6 @@ use Rattle.pf_conditions.specs.Conditions.{one_port, two_ports, lone_test, Ends,
 -- a word that stands for itself
 abbrev pub key : List ℕ → List Token
 key word = Word word ∷ []
-
--- a symbol that stands for itself
-abbrev pub sign : Symbol → List Token
-sign symbol = Mark symbol ∷ []
-
--- ---- lists
-
--- [","]
-pub data IsComma : List Token → Type 0 where
-  NoComma : IsComma []
-  CommaSign : IsComma (sign mark.Comma)
-
--- elem {[","] elem}   elem = x | list(x)   with the elements, those of the lists in it among them, and how many lists
--- stand in one another at the deepest
-pub data IsElements {X : Type 0} (Is : List Token → X → Type 0) : List Token → List X → ℕ → Type 0 where
-  LastOne : (ts : List Token) (x : X) → Is ts x → IsElements Is ts (x ∷ []) 0
-  LastList : (ts : List Token) (xs : List X) (d : ℕ) → IsElements Is ts xs d →
-      IsElements Is (sign mark.Open ++ (ts ++ sign mark.Close)) xs (d + 1)
-  OneMore : (ts comma us : List Token) (x : X) (ys : List X) (e : ℕ) → Is ts x → IsComma comma →
-      IsElements Is us ys e → IsElements Is (ts ++ (comma ++ us)) (x ∷ ys) e
-  ListMore : (ts comma us : List Token) (xs ys : List X) (d e : ℕ) → IsElements Is ts xs d → IsComma comma →
-      IsElements Is us ys e → IsElements Is (sign mark.Open ++ (ts ++ (sign mark.Close ++ (comma ++ us)))) (xs ++ ys)
-      (max (d + 1) e)
-
--- list(x) = "{" elem {[","] elem} "}"   where a newline is a blank: the tokens up to the closing brace, and these
--- without newlines
-pub data IsList {X : Type 0} (Is : List Token → X → Type 0) : List Token → Elements X → Type 0 where
-  Braces : (within ts : List Token) (xs : List X) (d : ℕ) → blanked 1 (within ++ sign mark.Close) ≡
-      ts ++ sign mark.Close → IsElements Is ts xs d → IsList Is (sign mark.Open ++ (within ++ sign mark.Close))
-      (record { items = xs; deepest = d + 1 })
-
--- x | list(x)
-pub data IsSome {X : Type 0} (Is : List Token → X → Type 0) : List Token → Elements X → Type 0 where
-  One : (ts : List Token) (x : X) → Is ts x → IsSome Is ts (record { items = x ∷ []; deepest = 0 })
-  Listed : (ts : List Token) (list : Elements X) → IsList Is ts list → IsSome Is ts list
 
 -- [word x]
 pub data IsBehind {X : Type 0} (word : List ℕ) (Is : List Token → X → Type 0) : List Token → Option X →

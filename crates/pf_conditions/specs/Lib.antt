@@ -1,5 +1,5 @@
 pub mod Conditions
 pub mod Seen
-pub mod Shorter
 pub mod Grammar
 pub mod Targets
+pub mod inner

@@ -5,7 +5,7 @@ ghost use Rattle.pf_tokens.specs.Lists.{elements_of};
 ghost use Rattle.pf_tokens.specs.Parsing.{left, later, Reads, Parses};
 ghost use Rattle.pf_conditions.specs.Conditions.{any_host, in_or_not, prefix_behind, prefix_at, range_behind};
 ghost use Rattle.pf_conditions.specs.Conditions.{addresses_at, table_at, set_at, host_at};
-ghost use Rattle.pf_conditions.specs.Shorter.{host_shorter};
+ghost use Rattle.pf_conditions.specs.inner.Shorter.{host_shorter};
 ghost use Rattle.pf_words.specs.Words.{is_table_name};
 ghost use Rattle.pf_ruleset.specs.Names.{name_if};
 

@@ -3,7 +3,7 @@
 ghost use Rattle.std.specs.Prelude.{◌≡◌};
 ghost use Rattle.pf_tokens.specs.Parsing.{left, later, Parses};
 ghost use Rattle.pf_conditions.specs.Conditions.{interface_name_at, interface_at};
-ghost use Rattle.pf_conditions.specs.Shorter.{interface_name_shorter, interface_shorter};
+ghost use Rattle.pf_conditions.specs.inner.Shorter.{interface_name_shorter, interface_shorter};
 
 use pf_ruleset::{Interface, InterfaceName};
 use pf_tokens::{Element, Parser, Stop, Symbol};
@@ -13,7 +13,6 @@ use std::alloc::Global;
 /// The name of an interface or of a group of them: a word or a string.
 #[tactic(auto, unfolding(pf_words::specs::Words::is_interface_name, crate::specs::Conditions::interface_name_at))]
 fn read_interface_name<'t: 's, 's>(
-    alloc: Global,
     profile: Profile,
     parser: &mut Parser<'t, 's>,
 ) -> Result<InterfaceName, Stop>
@@ -26,7 +25,7 @@ fn read_interface_name<'t: 's, 's>(
     if is_reserved(profile, text) {
         return Err(Stop::Syntax);
     }
-    match InterfaceName::new(alloc, text)? {
+    match InterfaceName::new(text) {
         Some(name) => Ok(name),
         None => Err(Stop::Syntax),
     }
@@ -45,7 +44,7 @@ impl Element for InterfaceNameProduction {
         profile: Profile,
         parser: &mut Parser<'t, 's>,
     ) -> Result<InterfaceName, Stop> {
-        read_interface_name(alloc, profile, parser)
+        read_interface_name(profile, parser)
     }
 
     ghost shorter = { interface_name_shorter };
@@ -66,7 +65,7 @@ impl Element for InterfaceProduction {
         parser: &mut Parser<'t, 's>,
     ) -> Result<Interface, Stop> {
         let negated = parser.accept_symbol(Symbol::Not);
-        let name = read_interface_name(alloc, profile, parser)?;
+        let name = read_interface_name(profile, parser)?;
         Ok(Interface { negated, name })
     }
 

@@ -3,7 +3,7 @@
 ghost use Rattle.std.specs.Prelude.{◌≡◌};
 ghost use Rattle.pf_tokens.specs.Parsing.{left, later};
 ghost use Rattle.pf_conditions.specs.Conditions.{family_at, protocol_at};
-ghost use Rattle.pf_conditions.specs.Shorter.{protocol_shorter};
+ghost use Rattle.pf_conditions.specs.inner.Shorter.{protocol_shorter};
 
 use crate::written::Protocol;
 use pf_addr::Family;

@@ -4,7 +4,7 @@ ghost use Rattle.std.specs.Prelude.{◌≡◌};
 ghost use Rattle.pf_tokens.specs.Lists.{elements_of};
 ghost use Rattle.pf_tokens.specs.Parsing.{left, later, Parses};
 ghost use Rattle.pf_conditions.specs.Conditions.{type_at, types_at};
-ghost use Rattle.pf_conditions.specs.Shorter.{type_shorter};
+ghost use Rattle.pf_conditions.specs.inner.Shorter.{type_shorter};
 
 use crate::ports::read_port_word;
 use crate::written::WrittenType;

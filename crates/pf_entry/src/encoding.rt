@@ -5,6 +5,7 @@ ghost use Rattle.std.specs.Prelude.{◌||◌, nat_lt};
 ghost use Rattle.pf_entry.specs.Entry.{is_origin, spelling, EntryBytes};
 ghost use Rattle.pf_entry.specs.Owned.{command_value, entry_value, is_long, is_over};
 ghost use Rattle.pf_entry.specs.declared.fault.EncodeFault.TheVariants.{TooLong};
+ghost use Rattle.pf_entry.specs.declared.limits.TheConstants.{NUMBERS};
 
 use crate::command::{Command, Entry};
 use crate::fault::EncodeFault;
@@ -29,7 +30,7 @@ pub fn encode_asked(
     command: &Command,
 ) -> Result<Vec<u8>, EncodeFault>
     requires origin { IsTrue (is_origin origin) }
-    requires number { number < 2 ^ 48 }
+    requires number { number < NUMBERS }
     ensures spelled { IfOk result (λ v. EntryBytes
         (record { origin = origin; number = number; command = command_value command.now }) v.items) }
     ensures few { OnOk result (is_long (command_value command.now) ≡ false) }

@@ -8,6 +8,7 @@ ghost use Rattle.pf_entry.specs.Entry.{is_table, are_names, in_family, is_addres
 ghost use Rattle.pf_entry.specs.Entry.{family, halves, bits, address, addresses, format, kind, path_of, rest, spelling};
 ghost use Rattle.pf_entry.specs.Views.{address_of};
 ghost use Rattle.pf_entry.specs.Owned.{addresses_value, command_value, entry_value, is_long};
+ghost use Rattle.pf_entry.specs.declared.limits.TheConstants.{ADDRESSES, ENTRY_BYTES};
 
 use crate::command::{Command, Entry};
 use crate::limits::{ADDRESSES, ENTRY_BYTES, HALF};
@@ -87,7 +88,7 @@ fn put_address(out: &mut Vec<u8>, a: &TableEntry) -> Result<(), AllocError>
 }
 
 fn put_addresses(out: &mut Vec<u8>, list: &[TableEntry]) -> Result<(), AllocError>
-    requires { length list.now ≤ 4096 }
+    requires { length list.now ≤ ADDRESSES }
     ensures valid { OnOk result (list_all is_address (addresses_value list.now) ≡ true) }
     ensures bytes { OnOk result (out.new.items ≡ out.old.items ++ addresses (addresses_value list.now)) }
 {
@@ -155,7 +156,7 @@ fn path_of(command: &Command) -> &Path
 }
 
 fn put_text(out: &mut Vec<u8>, text: &[u8]) -> Result<(), AllocError>
-    requires { length text.now ≤ 32768 }
+    requires { length text.now ≤ ENTRY_BYTES }
     ensures { OnOk result (out.new.items ≡ out.old.items ++ to_be_bytes w32 (length text.now) ++ text.now) }
 {
     put_u32(out, text.len() as u32)?;
@@ -164,7 +165,7 @@ fn put_text(out: &mut Vec<u8>, text: &[u8]) -> Result<(), AllocError>
 
 /// A table, and its addresses.
 fn put_change(out: &mut Vec<u8>, table: &TableName, list: &[TableEntry]) -> Result<(), AllocError>
-    requires { length list.now ≤ 4096 }
+    requires { length list.now ≤ ADDRESSES }
     ensures table { is_table table.now ≡ true }
     ensures list { OnOk result (list_all is_address (addresses_value list.now) ≡ true) }
     ensures bytes { OnOk result (out.new.items ≡

@@ -8,7 +8,7 @@ use Rattle.pf_ruleset.specs.declared.rule.Conditions.{Conditions}
 use Rattle.pf_conditions.specs.declared.written.WrittenType.{WrittenType}
 use Rattle.pf_conditions.specs.Conditions.{ConditionsText}
 use Rattle.pf_expansion.specs.Expansion.{Combination, with_family, occurring, host_family, conditions_if, conditions_at, choices, by_type, by_destination_port}
-use Rattle.pf_expansion.specs.Chosen.{host_families}
+use Rattle.pf_expansion.specs.inner.Chosen.{host_families}
 
 -- one family more takes no conflict away
 stays : (f s d x : Option Family) → with_family f (with_family s (with_family d (Some None))) ≡ None → with_family f (with_family s (with_family d (Some x))) ≡ None

@@ -14,7 +14,7 @@ use Rattle.pf_statements.specs.declared.written.WrittenAnchor.{WrittenAnchor}
 use Rattle.pf_statements.specs.declared.written.WrittenHeading.{WrittenHeading}
 use Rattle.pf_statements.specs.Seen.{item_step, item_text_of, item_texts_of, text_of, anchor_text_of, heading_text_of}
 use Rattle.pf_expansion.specs.Blocks.{Path, item_paths, block_paths, target_or_given, unnamed_after}
-use Rattle.pf_expansion.specs.Numbers.{Steps, walk, number_of, Grows, AreBehind, AreNumbered}
+use Rattle.pf_expansion.specs.inner.Numbers.{Steps, walk, number_of, Grows, AreBehind, AreNumbered}
 use Rattle.pf_expansion.proofs.Walking.{walk_append, walk_grows}
 
 abbrev first : List (Option ℕ) → Option ℕ

@@ -12,7 +12,7 @@ use Rattle.pf_ruleset.specs.Names.{Name}
 use Rattle.pf_ruleset.specs.Items.{ItemValue, values_of}
 use Rattle.pf_statements.specs.Statements.{ItemText}
 use Rattle.pf_expansion.specs.Blocks.{Path, item_paths, paths_within, same_path, any_among, comes_again, is_twice, unnamed_in}
-use Rattle.pf_expansion.specs.Numbers.{Steps, step_from, next_of, walk, number_of, is_within, AreWithin, AreApart, is_in, is_marked, has_again, AreNumbered}
+use Rattle.pf_expansion.specs.inner.Numbers.{Steps, step_from, next_of, walk, number_of, is_within, AreWithin, AreApart, is_in, is_marked, has_again, AreNumbered}
 use Rattle.pf_expansion.proofs.Stepping.{not_none, same_value, same_step}
 use Rattle.pf_expansion.proofs.Numbering.{somes, head_same, tail_same, cons_none, all_numbers}
 

@@ -5,7 +5,7 @@ use Rattle.std.proofs.lemmas.List.Sums.{fold-append}
 use Rattle.pf_expansion.proofs.Stepping.{not_none}
 use Rattle.pf_ruleset.specs.Names.{Name}
 use Rattle.pf_expansion.specs.Blocks.{Path}
-use Rattle.pf_expansion.specs.Numbers.{Steps, step_from, next_of, walk, Grows}
+use Rattle.pf_expansion.specs.inner.Numbers.{Steps, step_from, next_of, walk, Grows}
 
 pub walk_none : (m : Steps) (path : Path) → walk m None path ≡ None
 walk_none m [] = refl

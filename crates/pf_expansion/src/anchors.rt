@@ -7,6 +7,7 @@ ghost use Rattle.pf_ruleset.specs.Seen.{heading_of, target_of};
 ghost use Rattle.pf_statements.specs.Seen.{anchor_text_of};
 ghost use Rattle.pf_expansion.specs.Anchors.{heading_from, headings, is_reserved, anchor_causes};
 ghost use Rattle.pf_expansion.specs.Causes.{lowest};
+ghost use Rattle.pf_expansion.specs.declared.judge.TheConstants.{MOST_RULES};
 
 use crate::block_names::is_misnamed;
 use crate::cause::Cause;
@@ -77,7 +78,7 @@ pub fn judge_anchor(
         (anchor_text_of text.now)) ≡ None)) }
     ensures rules { IfOk result (λ judged. IfOk judged (λ hs. map heading_of hs.items ≡
         headings (anchor_text_of text.now))) }
-    ensures few { IfOk result (λ judged. IfOk judged (λ hs. before + length hs.items ≤ 1024)) }
+    ensures few { IfOk result (λ judged. IfOk judged (λ hs. before + length hs.items ≤ MOST_RULES)) }
     ensures refused { IfOk result (λ judged. IfErr judged (λ cause. lowest (anchor_causes before unnamed
         (anchor_text_of text.now)) ≡ Some cause)) }
 {

@@ -8,7 +8,7 @@ ghost use Rattle.pf_ruleset.specs.Items.{values_of};
 ghost use Rattle.pf_ruleset.specs.Seen.{item_of, items_of};
 ghost use Rattle.pf_statements.specs.Seen.{item_text_of, item_texts_of};
 ghost use Rattle.pf_expansion.specs.Blocks.{Path, block_paths, is_twice, item_paths, paths_in, paths_within};
-ghost use Rattle.pf_expansion.specs.Numbers.{AreNumbered, has_again, is_marked};
+ghost use Rattle.pf_expansion.specs.inner.Numbers.{AreNumbered, has_again, is_marked};
 
 use crate::block_names::{target_or_given, unnamed_after, unnamed_in};
 use crate::numbers::Numbers;

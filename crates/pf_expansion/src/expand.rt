@@ -2,7 +2,7 @@
 
 ghost use Rattle.std.specs.Prelude.{◌≡◌, ◌++◌, OnOk, IfOk, is_none};
 ghost use Rattle.std.specs.Option.{option_copied};
-ghost use Rattle.pf_expansion.specs.Chosen.{combination_of, host_families};
+ghost use Rattle.pf_expansion.specs.inner.Chosen.{combination_of, host_families};
 ghost use Rattle.pf_expansion.specs.Expansion.{addresses_family, host_family, type_family, with_family, occurring};
 ghost use Rattle.pf_expansion.specs.Expansion.{families, number_in, test_in, type_in, conditions_with, conditions_at};
 ghost use Rattle.pf_expansion.specs.Expansion.{by_type, by_destination_port, by_destination, by_source_port, by_source};
@@ -122,15 +122,15 @@ fn type_in(icmp_type: Option<WrittenType>) -> Option<u8>
 }
 
 /// The interface once more.
-fn copied(alloc: Global, interface: Option<&Interface>) -> Result<Option<Interface>, AllocError>
-    ensures { IfOk result (λ copy. copy ≡ option_copied interface.entry) }
+fn copied(interface: Option<&Interface>) -> Option<Interface>
+    ensures { result ≡ option_copied interface.entry }
 {
     match interface {
-        Some(interface) => Ok(Some(Interface {
+        Some(interface) => Some(Interface {
             negated: interface.negated,
-            name: interface.name.copied(alloc)?,
-        })),
-        None => Ok(None),
+            name: interface.name.copied(),
+        }),
+        None => None,
     }
 }
 
@@ -169,7 +169,7 @@ fn conditions_with(
 {
     Ok(Conditions {
         direction: text.direction,
-        interface: copied(alloc, chosen.interface)?,
+        interface: copied(chosen.interface),
         family,
         protocol: number_in(chosen.protocol),
         source: copied_host(alloc, chosen.source)?,

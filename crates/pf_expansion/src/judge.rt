@@ -9,6 +9,7 @@ ghost use Rattle.pf_expansion.specs.Causes.{bad_types, lowest, condition_causes}
 ghost use Rattle.pf_expansion.specs.Expansion.{count_of, combinations, combined};
 ghost use Rattle.pf_conditions.specs.Seen.{list_of, conditions_of};
 ghost use Rattle.pf_tokens.specs.Lists.{elements_of};
+ghost use Rattle.pf_expansion.specs.declared.judge.TheConstants.{MOST_RULES};
 
 use crate::cause::Cause;
 use crate::expand::combined;
@@ -233,7 +234,7 @@ pub(crate) fn judge_conditions(
         IfOk judged (λ found. lowest (condition_causes test before reserved (conditions_of text.now)) ≡ None)) }
     ensures found { IfOk result (λ judged. IfOk judged (λ found. found.items ≡
         combined test (conditions_of text.now))) }
-    ensures few { IfOk result (λ judged. IfOk judged (λ found. before + length found.items ≤ 1024)) }
+    ensures few { IfOk result (λ judged. IfOk judged (λ found. before + length found.items ≤ MOST_RULES)) }
     ensures refused { IfOk result (λ judged.
         IfErr judged (λ cause. lowest (condition_causes test before reserved (conditions_of text.now)) ≡
         Some cause)) }

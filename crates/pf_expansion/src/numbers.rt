@@ -1,6 +1,6 @@
 //! Numbers for paths, so that paths are compared as numbers.
 
-ghost use Rattle.pf_expansion.specs.Numbers.{AreApart, AreWithin};
+ghost use Rattle.pf_expansion.specs.inner.Numbers.{AreApart, AreWithin};
 
 use pf_ruleset::Name;
 use std::alloc::{AllocError, Global};
@@ -16,7 +16,7 @@ pub(crate) struct Numbers {
 
 impl Numbers {
     ghost use Rattle.std.specs.Prelude.{◌≡◌, IfOk, OnOk, Some, None};
-    ghost use Rattle.pf_expansion.specs.Numbers.{Grows, step_from, walk};
+    ghost use Rattle.pf_expansion.specs.inner.Numbers.{Grows, step_from, walk};
 
     /// None but the empty path's.
     pub(crate) fn new(alloc: Global) -> Numbers {

@@ -4,6 +4,7 @@ ghost use Rattle.std.specs.Prelude.{◌≡◌, map, IfOk, IfErr, ◌+◌, ◌≤
 ghost use Rattle.pf_expansion.specs.Causes.{lowest, rule_causes};
 ghost use Rattle.pf_expansion.specs.Expansion.{resolved, keeps_state, tested_flags, rule_flags, rule_with, expanded};
 ghost use Rattle.pf_statements.specs.Seen.{text_of};
+ghost use Rattle.pf_expansion.specs.declared.judge.TheConstants.{MOST_RULES};
 
 use crate::cause::Cause;
 use crate::judge::judge_conditions;
@@ -119,7 +120,7 @@ pub fn judge_rule(
         None)) }
     ensures rules { IfOk result (λ judged. IfOk judged (λ rules. rules.items ≡
         expanded policy (text_of text.now))) }
-    ensures few { IfOk result (λ judged. IfOk judged (λ rules. before + length rules.items ≤ 1024)) }
+    ensures few { IfOk result (λ judged. IfOk judged (λ rules. before + length rules.items ≤ MOST_RULES)) }
     ensures refused { IfOk result (λ judged. IfErr judged (λ cause. lowest (rule_causes before (text_of text.now)) ≡
         Some cause)) }
 {

@@ -7,7 +7,7 @@ use Rattle.pf_words.specs.declared.profile.Profile.{Profile}
 use Rattle.pf_words.specs.Words.{is_anchor_text}
 use Rattle.pf_tokens.specs.Tokens.{Token}
 use Rattle.pf_tokens.specs.Lists.{Elements}
-use Rattle.pf_tokens.specs.Shorter.{bind_some, some_is}
+use Rattle.pf_tokens.specs.inner.Shorter.{bind_some, some_is}
 use Rattle.pf_ruleset.specs.Names.{Name, name_if}
 use Rattle.pf_ruleset.specs.Items.{Target}
 use Rattle.pf_ruleset.specs.declared.parts.FlagTest.{FlagTest}

@@ -24,7 +24,7 @@ use Rattle.pf_show.specs.Shown.{line as shown_line, Part, direction_parts, quick
 use Rattle.pf_grammar.specs.declared.fault.Refusal.{Refusal}
 use Rattle.pf_grammar.specs.declared.place.Place.{Place}
 use Rattle.pf_grammar.specs.Causes.{statement_cause}
-use Rattle.pf_grammar.specs.Reading.{Sofar, macros_of, judge, meant, answered}
+use Rattle.pf_grammar.specs.Reading.{Sofar, macros_of, judge, statement_outcome, answered}
 use Rattle.pf_grammar.proofs.Told.{FitsRule, FitsConditions, FitsFlags, direction_tokens, quick_tokens, interface_tokens, family_tokens, protocol_tokens, ends_tokens, type_tokens, flags_tokens, test_of_tokens, option_tokens, common_tokens, written_flags, written_types, written_conditions, direction_told, quick_told, flags_told, common_told, common_split}
 use Rattle.pf_grammar.proofs.Expanded.{combined_again, no_bad_ports, some_combination, not_too_many, no_bad_types}
 use Rattle.pf_grammar.proofs.Parts.{lexed, with_newline, AreParts, OnePart, word_part, line_lexes}
@@ -133,7 +133,7 @@ no_cause place profile tables before h fits free room =
 abbrev pub anchor_added : Policy → List Name → List TableValue → List ItemValue → Heading → Result Sofar Refusal
 anchor_added p skip tables items h = Ok (so_far p skip tables (items ++ item.Anchors h ∷ []))
 
-anchor_meant : (place : Place) (profile : Profile) (p : Policy) (skip : List Name) (tables : List TableValue) (items : List ItemValue) (n : ℕ) (h : Heading) → FitsHeading profile h → is_misnamed (unnamed_in 0 items) h.target ≡ false → length items < 1024 → meant place profile (so_far p skip tables items) n false (anchor_tokens h) ≡ anchor_added p skip tables items h
+anchor_meant : (place : Place) (profile : Profile) (p : Policy) (skip : List Name) (tables : List TableValue) (items : List ItemValue) (n : ℕ) (h : Heading) → FitsHeading profile h → is_misnamed (unnamed_in 0 items) h.target ≡ false → length items < 1024 → statement_outcome place profile (so_far p skip tables items) n false (anchor_tokens h) ≡ anchor_added p skip tables items h
 anchor_meant place profile p skip tables items n h fits free room =
     ap (λ (value : Option Statement). answered n (so_far p skip tables items) value (statement_cause place tables items value)) (anchor_value profile h fits)
     ∙ ap (answered n (so_far p skip tables items) (Some (Anchors (written_anchor h)))) (no_cause place profile tables items h fits free room)

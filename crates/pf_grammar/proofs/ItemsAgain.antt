@@ -11,7 +11,7 @@ use Rattle.pf_tokens.specs.Tokens.{Token, Word, Quoted, Mark, Newline, Placed}
 use Rattle.pf_tokens.specs.Macros.{is_definition, replaced}
 use Rattle.pf_tokens.specs.Faults.{reading_fault}
 use Rattle.pf_tokens.specs.Productions.{begins_symbol}
-use Rattle.pf_tokens.specs.Reading.{◌>>=◌, judged, with_statement, reading_from}
+use Rattle.pf_tokens.specs.Reading.{◌>>=◌, statement_judged, with_statement, reading_from}
 use Rattle.pf_ruleset.specs.declared.parts.Policy.{Policy}
 use Rattle.pf_ruleset.specs.Names.{Name}
 use Rattle.pf_ruleset.specs.Rulesets.{TableValue}
@@ -30,7 +30,7 @@ use Rattle.pf_show.specs.Shown.{shown_rules, target_text}
 use Rattle.pf_grammar.specs.declared.fault.Refusal.{Refusal}
 use Rattle.pf_grammar.specs.declared.place.Place.{Place}
 use Rattle.pf_grammar.specs.Causes.{statement_cause}
-use Rattle.pf_grammar.specs.Reading.{Sofar, macros_of, judge, meant, answered, unless_fault}
+use Rattle.pf_grammar.specs.Reading.{Sofar, macros_of, judge, statement_outcome, answered, unless_fault}
 use Rattle.pf_grammar.proofs.Told.{told_rank, rule_tokens}
 use Rattle.pf_grammar.proofs.Parts.{lexed, at_line}
 use Rattle.pf_grammar.proofs.RuleParts.{more_tokens, rule_line}
@@ -93,7 +93,7 @@ module _ (place : Place) (profile : Profile) (p : Policy) (skip : List Name) (ta
   abbrev added : List ItemValue → Result Sofar Refusal
   added items = Ok (so_far p skip tables (before ++ items))
 
-  is_meant : meant place profile (so_far p skip tables before) n false (item_tokens (Blocks h block)) ≡ added (Blocks h block ∷ [])
+  is_meant : statement_outcome place profile (so_far p skip tables before) n false (item_tokens (Blocks h block)) ≡ added (Blocks h block ∷ [])
   is_meant =
       ap (λ (v : Option Statement). answered n (so_far p skip tables before) v (statement_cause place tables before v)) value
       ∙ ap (answered n (so_far p skip tables before) (Some (AnchorBlocks (written_heading h) (written_block block)))) no_cause
@@ -122,10 +122,10 @@ module _ (place : Place) (profile : Profile) (p : Policy) (skip : List Name) (ta
   pub block_added : reading_fault [] 0 0 (item_tokens (Blocks h block)) ≡ None → with_statement macros_of (judge place profile) (so_far p skip tables before) (placed_item n (Blocks h block)) ≡ added (Blocks h block ∷ [])
   block_added fine =
       let ps = placed_item n (Blocks h block) in
-      ap (λ (w : Bool). judged (judge place profile) (so_far p skip tables before) n w (flat_map (replaced [] w) ps)) no_definition
-      ∙ ap (judged (judge place profile) (so_far p skip tables before) n false) (flattened_none ps false)
-      ∙ ap (λ (ts : List Token). unless_fault n (reading_fault [] 0 0 ts) (meant place profile (so_far p skip tables before) n false ts)) (item_tokens_of n (Blocks h block))
-      ∙ ap (λ (o : Option ReadingFault). unless_fault n o (meant place profile (so_far p skip tables before) n false (item_tokens (Blocks h block)))) fine
+      ap (λ (w : Bool). statement_judged (judge place profile) (so_far p skip tables before) n w (flat_map (replaced [] w) ps)) no_definition
+      ∙ ap (statement_judged (judge place profile) (so_far p skip tables before) n false) (flattened_none ps false)
+      ∙ ap (λ (ts : List Token). unless_fault n (reading_fault [] 0 0 ts) (statement_outcome place profile (so_far p skip tables before) n false ts)) (item_tokens_of n (Blocks h block))
+      ∙ ap (λ (o : Option ReadingFault). unless_fault n o (statement_outcome place profile (so_far p skip tables before) n false (item_tokens (Blocks h block)))) fine
       ∙ is_meant
 
 -- ---- items

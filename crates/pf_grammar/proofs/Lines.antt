@@ -15,7 +15,7 @@ use Rattle.pf_tokens.specs.declared.fault.ReadingFault.{ReadingFault}
 use Rattle.pf_tokens.specs.Faults.{reading_fault, is_bad, is_unknown}
 use Rattle.pf_tokens.specs.Parsing.{tokens_of}
 use Rattle.pf_tokens.specs.Productions.{begins_symbol, is_symbol}
-use Rattle.pf_tokens.specs.Reading.{◌>>=◌, judged, with_statement, reading_from}
+use Rattle.pf_tokens.specs.Reading.{◌>>=◌, statement_judged, with_statement, reading_from}
 use Rattle.pf_grammar.specs.declared.fault.Refusal.{Refusal}
 use Rattle.pf_ruleset.specs.declared.rule.Action.{Action}
 use Rattle.pf_ruleset.specs.declared.rule.Action.TheVariants as act
@@ -40,7 +40,7 @@ use Rattle.pf_ruleset.specs.Names.{Name}
 use Rattle.pf_statements.specs.Statements.{Statement, Rules, value_of}
 use Rattle.pf_grammar.specs.Causes.{statement_cause}
 use Rattle.pf_statements.specs.Grammar.{RuleStatement}
-use Rattle.pf_grammar.specs.Reading.{Sofar, macros_of, judge, meant, answered, unless_fault}
+use Rattle.pf_grammar.specs.Reading.{Sofar, macros_of, judge, statement_outcome, answered, unless_fault}
 use Rattle.pf_show.specs.Shown.{letters}
 use Rattle.pf_conditions.proofs.Fronts.{rank, no_symbol}
 use Rattle.pf_statements.proofs.StatementsSpelled.{statement_reads}
@@ -243,7 +243,7 @@ flattened_none (p ∷ ps) w = ap (λ (qs : List Placed). qs ++ flat_map (replace
 
 -- what the statements so far come to, without macros
 abbrev pub so_far : Policy → List Name → List TableValue → List ItemValue → Sofar
-so_far p skip tables items = record { macros = []; policy = p; skip = skip; tables = tables; items = items }
+so_far p skip tables items = record { macros = []; policy = p; content = record { skip = skip; tables = tables; items = items } }
 
 -- what a statement comes to, from its tokens
 abbrev ended : Place → Profile → Sofar → ℕ → List Placed → Result Sofar Refusal
@@ -328,22 +328,22 @@ rule_value profile r fits = statement_reads profile (rule_tokens r) (Rules (writ
 abbrev pub added : Policy → List Name → List TableValue → List ItemValue → Rule → Result Sofar Refusal
 added p skip tables items r = Ok (so_far p skip tables (items ++ Filters r ∷ []))
 
-rule_meant : (place : Place) (profile : Profile) (p : Policy) (skip : List Name) (tables : List TableValue) (items : List ItemValue) (n : ℕ) (r : Rule) → FitsRule profile r → length items < 1024 → meant place profile (so_far p skip tables items) n false (rule_tokens r) ≡ added p skip tables items r
+rule_meant : (place : Place) (profile : Profile) (p : Policy) (skip : List Name) (tables : List TableValue) (items : List ItemValue) (n : ℕ) (r : Rule) → FitsRule profile r → length items < 1024 → statement_outcome place profile (so_far p skip tables items) n false (rule_tokens r) ≡ added p skip tables items r
 rule_meant place profile p skip tables items n r fits room =
     ap (λ (value : Option Statement). answered n (so_far p skip tables items) value (statement_cause place tables items value)) (rule_value profile r fits)
     ∙ ap (answered n (so_far p skip tables items) (Some (Rules (written r)))) (no_cause place profile tables items r fits room)
     ∙ ap (λ (rs : List Rule). let next : Result Sofar Refusal = Ok (so_far p skip tables (items ++ map (λ (r : Rule). Filters r) rs)) in next) (expanded_again profile p r fits)
 
-judged_some : (place : Place) (profile : Profile) (sofar : Sofar) (n : ℕ) (w : Bool) (t : Token) (ts : List Token) → judged (judge place profile) sofar n w (map (at_line n) (t ∷ ts)) ≡ unless_fault n (reading_fault sofar.macros 0 0 (t ∷ ts)) (meant place profile sofar n w (t ∷ ts))
-judged_some place profile sofar n w t ts = ap (λ (us : List Token). unless_fault n (reading_fault sofar.macros 0 0 (t ∷ us)) (meant place profile sofar n w (t ∷ us))) (tokens_at n ts)
+judged_some : (place : Place) (profile : Profile) (sofar : Sofar) (n : ℕ) (w : Bool) (t : Token) (ts : List Token) → statement_judged (judge place profile) sofar n w (map (at_line n) (t ∷ ts)) ≡ unless_fault n (reading_fault sofar.macros 0 0 (t ∷ ts)) (statement_outcome place profile sofar n w (t ∷ ts))
+judged_some place profile sofar n w t ts = ap (λ (us : List Token). unless_fault n (reading_fault sofar.macros 0 0 (t ∷ us)) (statement_outcome place profile sofar n w (t ∷ us))) (tokens_at n ts)
 
-pub line_judged : (place : Place) (profile : Profile) (p : Policy) (skip : List Name) (tables : List TableValue) (items : List ItemValue) (n : ℕ) (ts : List Token) → 0 < length ts → is_definition (map (at_line n) ts) ≡ false → reading_fault [] 0 0 ts ≡ None → with_statement macros_of (judge place profile) (so_far p skip tables items) (map (at_line n) ts) ≡ meant place profile (so_far p skip tables items) n false ts
+pub line_judged : (place : Place) (profile : Profile) (p : Policy) (skip : List Name) (tables : List TableValue) (items : List ItemValue) (n : ℕ) (ts : List Token) → 0 < length ts → is_definition (map (at_line n) ts) ≡ false → reading_fault [] 0 0 ts ≡ None → with_statement macros_of (judge place profile) (so_far p skip tables items) (map (at_line n) ts) ≡ statement_outcome place profile (so_far p skip tables items) n false ts
 line_judged place profile p skip tables items n [] some plain good = absurd (omega arith)
 line_judged place profile p skip tables items n (t ∷ ts) some plain good =
-    ap (λ (w : Bool). judged (judge place profile) (so_far p skip tables items) n w (flat_map (replaced [] w) (map (at_line n) (t ∷ ts)))) plain
-    ∙ ap (judged (judge place profile) (so_far p skip tables items) n false) (flattened_none (map (at_line n) (t ∷ ts)) false)
+    ap (λ (w : Bool). statement_judged (judge place profile) (so_far p skip tables items) n w (flat_map (replaced [] w) (map (at_line n) (t ∷ ts)))) plain
+    ∙ ap (statement_judged (judge place profile) (so_far p skip tables items) n false) (flattened_none (map (at_line n) (t ∷ ts)) false)
     ∙ judged_some place profile (so_far p skip tables items) n false t ts
-    ∙ ap (λ (o : Option ReadingFault). unless_fault n o (meant place profile (so_far p skip tables items) n false (t ∷ ts))) good
+    ∙ ap (λ (o : Option ReadingFault). unless_fault n o (statement_outcome place profile (so_far p skip tables items) n false (t ∷ ts))) good
 
 some_action : (a : Action) (ts : List Token) → 0 < length (action_tokens a ++ ts)
 some_action act.Pass ts = omega arith

@@ -10,7 +10,7 @@ use Rattle.pf_addr.specs.Spelling.{cut_at}
 use Rattle.pf_addr.proofs.Made.{block_fits, addr_fits, FitsBlock}
 use Rattle.pf_words.specs.declared.profile.Profile.{Profile}
 use Rattle.pf_tokens.specs.Tokens.{Token}
-use Rattle.pf_tokens.specs.Shorter.{some_is}
+use Rattle.pf_tokens.specs.inner.Shorter.{some_is}
 use Rattle.pf_ruleset.specs.declared.parts.Addresses.{Addresses}
 use Rattle.pf_ruleset.specs.declared.parts.Host.{Host}
 use Rattle.pf_ruleset.specs.declared.parts.PortTest.{PortTest}

@@ -11,7 +11,7 @@ use Rattle.pf_tokens.specs.Macros.{Definition, is_definition}
 use Rattle.pf_tokens.specs.Flow.{statement_raw, ending_raw}
 use Rattle.pf_tokens.specs.Parsing.{tokens_of}
 use Rattle.pf_tokens.specs.Productions.{is_end}
-use Rattle.pf_tokens.specs.Reading.{◌>>=◌, judged, reading_from, past_newlines}
+use Rattle.pf_tokens.specs.Reading.{◌>>=◌, statement_judged, reading_from, past_newlines}
 use Rattle.pf_tokens.proofs.Walking.{reading_begins, later_shorter}
 use Rattle.std.specs.Prelude.{nat_lt}
 use Rattle.std.proofs.lemmas.Bool.{or_parts}
@@ -38,8 +38,8 @@ use Rattle.pf_expansion.specs.Causes.{has_too_many, bad_ports, has_no_combinatio
 use Rattle.pf_ruleset.specs.declared.parts.FlagTest.{FlagTest}
 use Rattle.pf_conditions.specs.Conditions.{ConditionsText}
 use Rattle.pf_grammar.specs.Causes.{setting_causes, statement_cause}
-use Rattle.pf_grammar.specs.Reading.{Sofar, judge, macros_of, answered, taken, defined, meant, unless_fault, nothing, reading, made_if, Fails}
-use Rattle.pf_grammar.specs.Gathering.{Judges}
+use Rattle.pf_grammar.specs.Reading.{Sofar, judge, macros_of, answered, after_statement, defined, statement_outcome, unless_fault, nothing, reading, ruleset_if, Fails}
+use Rattle.pf_grammar.specs.inner.Gathering.{Judges}
 use Rattle.pf_expansion.specs.Tables.{table_causes}
 
 pub items_push : (is : List Item) (i : Item) → items_of (is ++ i ∷ []) ≡ items_of is ++ item_of i ∷ []
@@ -66,14 +66,14 @@ module _ (place : Place) (profile : Profile) where
   abbrev pub from : Sofar → List Placed → Result Sofar Refusal
   from sofar ts = reading_from macros_of (judge place profile) sofar [] ts
 
-  one_more : (sofar : Sofar) (line : ℕ) (old ts : List Placed) (defines : Bool) (statement rest : List Placed) → Begun sofar line old ts defines statement rest → from sofar old ≡ (judged (judge place profile) sofar line defines statement >>= λ next. from next rest)
+  one_more : (sofar : Sofar) (line : ℕ) (old ts : List Placed) (defines : Bool) (statement rest : List Placed) → Begun sofar line old ts defines statement rest → from sofar old ≡ (statement_judged (judge place profile) sofar line defines statement >>= λ next. from next rest)
   one_more sofar line old ts defines statement rest b = rw (b.is_defines, b.is_statement, b.is_rest) (reading_begins macros_of (judge place profile) sofar line old ts b.is_past b.is_line)
 
-  without_tokens : (sofar : Sofar) (line : ℕ) (defines : Bool) (statement : List Placed) → is_end (tokens_of statement) ≡ true → judged (judge place profile) sofar line defines statement ≡ Ok sofar
+  without_tokens : (sofar : Sofar) (line : ℕ) (defines : Bool) (statement : List Placed) → is_end (tokens_of statement) ≡ true → statement_judged (judge place profile) sofar line defines statement ≡ Ok sofar
   without_tokens sofar line defines [] e = refl
   without_tokens sofar line defines (p ∷ ps) e = absurd (false≢true e)
 
-  with_tokens : (sofar : Sofar) (line : ℕ) (defines : Bool) (statement : List Placed) → is_end (tokens_of statement) ≡ false → judged (judge place profile) sofar line defines statement ≡ judge place profile sofar line defines statement
+  with_tokens : (sofar : Sofar) (line : ℕ) (defines : Bool) (statement : List Placed) → is_end (tokens_of statement) ≡ false → statement_judged (judge place profile) sofar line defines statement ≡ judge place profile sofar line defines statement
   with_tokens sofar line defines [] e = absurd (false≢true (sym e))
   with_tokens sofar line defines (p ∷ ps) e = refl
 
@@ -94,7 +94,7 @@ pub fails_so : (place : Place) (profile : Profile) (text : List ℕ) (sofar : So
     → Judges sofar (Err fault) (judge place profile sofar line defines statement) → from place profile sofar old ≡ from place profile nothing (tokens text) → Fails fault (reading place profile text)
 unfolding reading
 fails_so place profile text sofar faults.Memory line old ts defines statement rest b e is same = tt
-fails_so place profile text sofar (faults.Refused refusal) line old ts defines statement rest b e is same = ap made_if (sym same ∙ stopped_at place profile sofar refusal line old ts defines statement rest b e is)
+fails_so place profile text sofar (faults.Refused refusal) line old ts defines statement rest b e is same = ap ruleset_if (sym same ∙ stopped_at place profile sofar refusal line old ts defines statement rest b e is)
 
 -- ---- no more than 1,024 rules, and no block that has more
 
@@ -116,7 +116,7 @@ anchors_fine : (hs : List Heading) → list_any is_overfull (map (λ (h : Headin
 anchors_fine [] = refl
 anchors_fine (h ∷ hs) = anchors_fine hs
 
-answered_ok : (line : ℕ) (sofar next : Sofar) (value : Option Statement) (cause : Option Cause) → answered line sofar value cause ≡ Ok next → (cause ≡ None) × (taken sofar value ≡ next)
+answered_ok : (line : ℕ) (sofar next : Sofar) (value : Option Statement) (cause : Option Cause) → answered line sofar value cause ≡ Ok next → (cause ≡ None) × (after_statement sofar value ≡ next)
 answered_ok line sofar next value None e = (refl, cc)
 answered_ok line sofar next value (Some cause) e = absurd (let h = e in cc)
 
@@ -151,39 +151,39 @@ few_headings : (items unnamed : ℕ) (text : AnchorText) → lowest (anchor_caus
 unfolding headings
 few_headings items unnamed text e = omega (arith, few_found (anchor_flags text) items (is_misnamed unnamed text.target) text.conditions e, length-map (combined (anchor_flags text) text.conditions) (heading_with text))
 
-few_taken : (line : ℕ) (place : Place) (sofar next : Sofar) (value : Option Statement) → Room sofar.items → answered line sofar value (statement_cause place sofar.tables sofar.items value) ≡ Ok next → Room next.items
+few_taken : (line : ℕ) (place : Place) (sofar next : Sofar) (value : Option Statement) → Room sofar.content.items → answered line sofar value (statement_cause place sofar.content.tables sofar.content.items value) ≡ Ok next → Room next.content.items
 few_taken line place sofar next None few e = absurd (let h = e in cc)
-few_taken line place sofar next (Some (Sets (SetPolicy policy))) few e = subst (λ (s : Sofar). Room s.items) (answered_ok line sofar next (Some (Sets (SetPolicy policy))) (lowest (setting_causes place (SetPolicy policy))) e).1 few
-few_taken line place sofar next (Some (Sets (SetSkip names))) few e = subst (λ (s : Sofar). Room s.items) (answered_ok line sofar next (Some (Sets (SetSkip names))) (lowest (setting_causes place (SetSkip names))) e).1 few
-few_taken line place sofar next (Some (Tables t)) few e = subst (λ (s : Sofar). Room s.items) (answered_ok line sofar next (Some (Tables t)) (lowest (table_causes sofar.tables t)) e).1 few
+few_taken line place sofar next (Some (Sets (SetPolicy policy))) few e = subst (λ (s : Sofar). Room s.content.items) (answered_ok line sofar next (Some (Sets (SetPolicy policy))) (lowest (setting_causes place (SetPolicy policy))) e).1 few
+few_taken line place sofar next (Some (Sets (SetSkip names))) few e = subst (λ (s : Sofar). Room s.content.items) (answered_ok line sofar next (Some (Sets (SetSkip names))) (lowest (setting_causes place (SetSkip names))) e).1 few
+few_taken line place sofar next (Some (Tables t)) few e = subst (λ (s : Sofar). Room s.content.items) (answered_ok line sofar next (Some (Tables t)) (lowest (table_causes sofar.content.tables t)) e).1 few
 few_taken line place sofar next (Some (Rules text)) few e =
-    let a = answered_ok line sofar next (Some (Rules text)) (lowest (rule_causes (length sofar.items) text)) e in
+    let a = answered_ok line sofar next (Some (Rules text)) (lowest (rule_causes (length sofar.content.items) text)) e in
     let rules = expanded sofar.policy text in
-    subst (λ (s : Sofar). Room s.items) a.1 (room_added sofar.items (map (λ (r : Rule). item.Filters r) rules) few (omega (arith, few_rules sofar.policy (length sofar.items) text a.0, length-map rules (λ (r : Rule). item.Filters r))) (filters_fine rules))
+    subst (λ (s : Sofar). Room s.content.items) a.1 (room_added sofar.content.items (map (λ (r : Rule). item.Filters r) rules) few (omega (arith, few_rules sofar.policy (length sofar.content.items) text a.0, length-map rules (λ (r : Rule). item.Filters r))) (filters_fine rules))
 few_taken line place sofar next (Some (Anchors text)) few e =
-    let a = answered_ok line sofar next (Some (Anchors text)) (lowest (anchor_causes (length sofar.items) (unnamed_in 0 sofar.items) text)) e in
-    subst (λ (s : Sofar). Room s.items) a.1 (room_added sofar.items (map (λ (h : Heading). item.Anchors h) (headings text)) few (omega (arith, few_headings (length sofar.items) (unnamed_in 0 sofar.items) text a.0, length-map (headings text) (λ (h : Heading). item.Anchors h))) (anchors_fine (headings text)))
+    let a = answered_ok line sofar next (Some (Anchors text)) (lowest (anchor_causes (length sofar.content.items) (unnamed_in 0 sofar.content.items) text)) e in
+    subst (λ (s : Sofar). Room s.content.items) a.1 (room_added sofar.content.items (map (λ (h : Heading). item.Anchors h) (headings text)) few (omega (arith, few_headings (length sofar.content.items) (unnamed_in 0 sofar.content.items) text a.0, length-map (headings text) (λ (h : Heading). item.Anchors h))) (anchors_fine (headings text)))
 few_taken line place sofar next (Some (AnchorBlocks heading block)) few e =
     let item = BlockItem heading block in
-    let a = answered_ok line sofar next (Some (AnchorBlocks heading block)) (lowest (block_causes sofar.items item)) e in
-    let values = item_values sofar.policy (unnamed_in 0 sofar.items) item in
-    let many = fifth (item_judged item).ports (item_judged item).combination (item_misnamed (unnamed_in 0 sofar.items) item) (is_twice sofar.items item) ((item_judged item).many || nat_lt 1024 (length sofar.items + (item_judged item).rules)) (item_judged item).types _ _ _ _ _ _ a.0 in
-    let parts = or_parts (item_judged item).many (nat_lt 1024 (length sofar.items + (item_judged item).rules)) many in
-    let fine = item_fine sofar.policy (unnamed_in 0 sofar.items) item parts.0 in
+    let a = answered_ok line sofar next (Some (AnchorBlocks heading block)) (lowest (block_causes sofar.content.items item)) e in
+    let values = item_values sofar.policy (unnamed_in 0 sofar.content.items) item in
+    let many = fifth (item_judged item).ports (item_judged item).combination (item_misnamed (unnamed_in 0 sofar.content.items) item) (is_twice sofar.content.items item) ((item_judged item).many || nat_lt 1024 (length sofar.content.items + (item_judged item).rules)) (item_judged item).types _ _ _ _ _ _ a.0 in
+    let parts = or_parts (item_judged item).many (nat_lt 1024 (length sofar.content.items + (item_judged item).rules)) many in
+    let fine = item_fine sofar.policy (unnamed_in 0 sofar.content.items) item parts.0 in
     let count = fine.count in
-    let room = below (length sofar.items + (item_judged item).rules) parts.1 in
-    subst (λ (s : Sofar). Room s.items) a.1 (room_added sofar.items values few (omega (arith, count, room)) fine.blocks)
+    let room = below (length sofar.content.items + (item_judged item).rules) parts.1 in
+    subst (λ (s : Sofar). Room s.content.items) a.1 (room_added sofar.content.items values few (omega (arith, count, room)) fine.blocks)
 
 ok_is : (x y : Sofar) → (let given : Result Sofar Refusal = Ok x in given ≡ Ok y) → x ≡ y
 ok_is x y e = cc
 
-few_defined : (line : ℕ) (sofar next : Sofar) (read : Result Definition DefinitionFault) → Room sofar.items → defined line sofar read ≡ Ok next → Room next.items
-few_defined line sofar next (Ok definition) few e = subst (λ (s : Sofar). Room s.items) (ok_is (record sofar { macros = sofar.macros ++ definition ∷ [] }) next e) few
+few_defined : (line : ℕ) (sofar next : Sofar) (read : Result Definition DefinitionFault) → Room sofar.content.items → defined line sofar read ≡ Ok next → Room next.content.items
+few_defined line sofar next (Ok definition) few e = subst (λ (s : Sofar). Room s.content.items) (ok_is (record sofar { macros = sofar.macros ++ definition ∷ [] }) next e) few
 few_defined line sofar next (Err defining.Memory) few e = absurd (let h = e in cc)
 few_defined line sofar next (Err defining.Macro) few e = absurd (let h = e in cc)
 few_defined line sofar next (Err defining.Syntax) few e = absurd (let h = e in cc)
 
-few_meant : (place : Place) (profile : Profile) (sofar next : Sofar) (line : ℕ) (defines : Bool) (ts : List Token) → Room sofar.items → meant place profile sofar line defines ts ≡ Ok next → Room next.items
+few_meant : (place : Place) (profile : Profile) (sofar next : Sofar) (line : ℕ) (defines : Bool) (ts : List Token) → Room sofar.content.items → statement_outcome place profile sofar line defines ts ≡ Ok next → Room next.content.items
 few_meant place profile sofar next line true ts few e = few_defined line sofar next _ few e
 few_meant place profile sofar next line false ts few e = few_taken line place sofar next _ few e
 
@@ -191,5 +191,5 @@ unless : (line : ℕ) (fault : Option ReadingFault) (result : Result Sofar Refus
 unless line None result next e = e
 unless line (Some fault) result next e = absurd (let h = e in cc)
 
-pub few_stay : (place : Place) (profile : Profile) (sofar next : Sofar) (line : ℕ) (defines : Bool) (statement : List Placed) → Room sofar.items → judge place profile sofar line defines statement ≡ Ok next → Room next.items
+pub few_stay : (place : Place) (profile : Profile) (sofar next : Sofar) (line : ℕ) (defines : Bool) (statement : List Placed) → Room sofar.content.items → judge place profile sofar line defines statement ≡ Ok next → Room next.content.items
 few_stay place profile sofar next line defines statement few e = few_meant place profile sofar next line defines (tokens_of statement) few (unless line _ _ next e)

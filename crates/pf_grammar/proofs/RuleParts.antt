@@ -33,7 +33,8 @@ use Rattle.pf_ruleset.specs.declared.parts.FlagTest.{FlagTest}
 use Rattle.pf_ruleset.specs.declared.parts.FlagTest.TheVariants as flags
 use Rattle.pf_ruleset.specs.declared.rule.Rule.{Rule}
 use Rattle.pf_words.specs.Words.{is_interface_text, is_interface_name, is_table_text, is_table_name, is_table_byte, is_anchor_byte, begins_with_letter}
-use Rattle.pf_conditions.specs.Grammar.{key, sign}
+use Rattle.pf_tokens.specs.ListGrammar.{sign}
+use Rattle.pf_conditions.specs.Grammar.{key}
 use Rattle.pf_show.specs.Shown.{action_parts, direction_parts, quick_parts, negated_part, negated_parts, interface_parts, family_parts, protocol_parts, addresses_parts, host_parts, test_parts, port_parts, end_parts, ends_parts, type_parts, letter, letters, flags_text, flags_parts, state_parts, condition_parts, rule_parts, line as shown_line}
 use Rattle.pf_grammar.proofs.Numbers.{IsDigit, Digits, decimal_digits, decimal_there}
 use Rattle.pf_grammar.proofs.Told.{FitsAddresses, FitsHost, FitsTest, FitsIf, FitsFlags, FitsType, FitsRule, action_tokens, direction_tokens, quick_tokens, negated_tokens, interface_tokens, family_tokens, protocol_tokens, length_tokens, addresses_tokens, host_tokens, test_tokens, port_tokens, end_tokens, both_tokens, ends_tokens, type_tokens, letters_token, test_of_tokens, flags_tokens, state_tokens, option_tokens, rule_tokens, prefix_tokens, table_tokens}

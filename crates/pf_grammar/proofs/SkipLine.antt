@@ -17,9 +17,10 @@ use Rattle.pf_ruleset.specs.Names.{Name}
 use Rattle.pf_words.specs.Words.{is_interface_name}
 use Rattle.pf_statements.specs.Statements.{SetSkip, Statement, Sets, value_of}
 use Rattle.pf_grammar.specs.Causes.{statement_cause}
-use Rattle.pf_conditions.specs.Grammar.{IsElements, LastOne, OneMore, NoComma, Braces, Listed, IsInterfaceName, NameWord}
+use Rattle.pf_tokens.specs.ListGrammar.{IsElements, LastOne, OneMore, NoComma, Braces, Listed}
+use Rattle.pf_conditions.specs.Grammar.{IsInterfaceName, NameWord}
 use Rattle.pf_statements.specs.Grammar.{SkipSetting, SetStatement}
-use Rattle.pf_grammar.specs.Reading.{Sofar, macros_of, judge, meant, answered}
+use Rattle.pf_grammar.specs.Reading.{Sofar, macros_of, judge, statement_outcome, answered}
 use Rattle.pf_show.specs.Shown.{skip_line}
 use Rattle.pf_statements.proofs.StatementsSpelled.{statement_reads}
 use Rattle.pf_grammar.proofs.Parts.{lexed, at_line, with_newline, AreParts, OnePart, word_part, open_part, close_part, line_lexes}
@@ -84,7 +85,7 @@ skip_value profile name names fits =
 abbrev skipping : Policy → List Name → Result Sofar Refusal
 skipping p names = Ok (so_far p names [] [])
 
-skip_meant : (profile : Profile) (p : Policy) (name : Name) (names : List Name) (n : ℕ) → AreNames profile (name ∷ names) → meant Main profile (so_far p [] [] []) n false (skip_tokens (name ∷ names)) ≡ skipping p (name ∷ names)
+skip_meant : (profile : Profile) (p : Policy) (name : Name) (names : List Name) (n : ℕ) → AreNames profile (name ∷ names) → statement_outcome Main profile (so_far p [] [] []) n false (skip_tokens (name ∷ names)) ≡ skipping p (name ∷ names)
 skip_meant profile p name names n fits =
     ap (λ (value : Option Statement). answered n (so_far p [] [] []) value (statement_cause Main [] [] value)) (skip_value profile name names fits)
 

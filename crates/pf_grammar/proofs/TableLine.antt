@@ -20,7 +20,8 @@ use Rattle.pf_ruleset.specs.declared.parts.Policy.{Policy}
 use Rattle.pf_ruleset.specs.declared.ruleset.TableEntry.{TableEntry}
 use Rattle.pf_ruleset.specs.Names.{Name}
 use Rattle.pf_ruleset.specs.Rulesets.{TableValue}
-use Rattle.pf_conditions.specs.Grammar.{key, IsElements, LastOne, OneMore, NoComma, Braces, TableSign}
+use Rattle.pf_tokens.specs.ListGrammar.{IsElements, LastOne, OneMore, NoComma, Braces}
+use Rattle.pf_conditions.specs.Grammar.{key, TableSign}
 use Rattle.pf_statements.specs.Tables.{TableText, new_table}
 use Rattle.pf_statements.specs.Statements.{Statement, Tables, value_of}
 use Rattle.pf_statements.specs.Grammar.{IsEntry, EntryIn, EntryOut, NoNewline, AreEntries, NoEntries, SomeEntries, AreTableOptions, NoTableOption, PersistOption, ConstOption, EntriesOption, TableOptions, TableStatement}
@@ -30,7 +31,7 @@ use Rattle.pf_show.specs.Shown.{negated_part, entry_part, entries_parts, word_pa
 use Rattle.pf_grammar.specs.declared.fault.Refusal.{Refusal}
 use Rattle.pf_grammar.specs.declared.place.Place.{Place}
 use Rattle.pf_grammar.specs.Causes.{statement_cause}
-use Rattle.pf_grammar.specs.Reading.{Sofar, macros_of, judge, meant, answered}
+use Rattle.pf_grammar.specs.Reading.{Sofar, macros_of, judge, statement_outcome, answered}
 use Rattle.pf_grammar.proofs.Told.{FitsIf, negated_tokens, prefix_tokens, table_tokens, block_told}
 use Rattle.pf_grammar.proofs.Parts.{lexed, at_line, with_newline, IsPart, AreParts, NoPart, OnePart, word_part, open_part, close_part, parts_append, line_lexes}
 use Rattle.pf_grammar.proofs.RuleParts.{one_part, prefix_parts, negated_prefix, table_name_word, table_part}
@@ -279,7 +280,7 @@ not_long (Some es) fits = ap (λ (fs : List TableEntry). nat_lt 4096 (length fs)
 abbrev added : Policy → List Name → List TableValue → TableValue → Result Sofar Refusal
 added p skip before t = Ok (so_far p skip (before ++ t ∷ []) [])
 
-line_meant : (place : Place) (profile : Profile) (p : Policy) (skip : List Name) (before : List TableValue) (n : ℕ) (t : TableValue) → FitsTable profile t → is_defined before t.name ≡ false → meant place profile (so_far p skip before []) n false (line_tokens t) ≡ added p skip before t
+line_meant : (place : Place) (profile : Profile) (p : Policy) (skip : List Name) (before : List TableValue) (n : ℕ) (t : TableValue) → FitsTable profile t → is_defined before t.name ≡ false → statement_outcome place profile (so_far p skip before []) n false (line_tokens t) ≡ added p skip before t
 line_meant place profile p skip before n t fits free =
     ap (λ (value : Option Statement). answered n (so_far p skip before []) value (statement_cause place before [] value)) (line_value profile t fits)
     ∙ rw (free, not_long t.entries fits.entries) (ap (added p skip before) (table_again_value profile t fits))

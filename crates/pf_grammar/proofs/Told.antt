@@ -38,7 +38,8 @@ use Rattle.pf_conditions.specs.declared.written.WrittenType.{WrittenType}
 use Rattle.pf_words.specs.Words.{is_interface_name, is_table_name, is_within, no_flags, flags_with, flags_of, is_reserved, port_of}
 use Rattle.pf_conditions.specs.Conditions.{Ends, one_port, two_ports, lone_test, colon_parts}
 use Rattle.pf_statements.specs.Statements.{Options, no_options, RuleText, has_types, may_keep}
-use Rattle.pf_conditions.specs.Grammar.{key, sign, IsSome, One, IsBehind, Missing, Behind, NameWord, IsInterface, OnInterface, NotOnInterface, IsFamily, NoFamily, InetWord, Inet6Word, IsProtocol, ProtocolWord, IsPrefix, WholeAddress, CutAddress, TableSign, IsSet, PrefixSet, RangeSet, TableSet, IsHost, AnyWord, HostIn, HostNotIn, EqualsSign, NotEqualSign, LessSign, LessEqualSign, GreaterSign, GreaterEqualSign, BetweenSign, OutsideSign, IsPort, PortAlone, PortCompared, PortBounds, IsPart, PartHosts, IsHosts, AllWord, FromToParts, IsFlags, AnyFlags, NoneOf, SomeOf, IsTypes, TypeAlone}
+use Rattle.pf_tokens.specs.ListGrammar.{sign, IsSome, One}
+use Rattle.pf_conditions.specs.Grammar.{key, IsBehind, Missing, Behind, NameWord, IsInterface, OnInterface, NotOnInterface, IsFamily, NoFamily, InetWord, Inet6Word, IsProtocol, ProtocolWord, IsPrefix, WholeAddress, CutAddress, TableSign, IsSet, PrefixSet, RangeSet, TableSet, IsHost, AnyWord, HostIn, HostNotIn, EqualsSign, NotEqualSign, LessSign, LessEqualSign, GreaterSign, GreaterEqualSign, BetweenSign, OutsideSign, IsPort, PortAlone, PortCompared, PortBounds, IsPart, PartHosts, IsHosts, AllWord, FromToParts, IsFlags, AnyFlags, NoneOf, SomeOf, IsTypes, TypeAlone}
 use Rattle.pf_statements.specs.Grammar.{DropWord, ReturnWord, IsAction, PassWord, BlockSaid, IsDirection, NoDirection, InWord, OutWord, IsSaid, Unsaid, Said, NoWord, KeepWord, IsOptions, NoOption, FlagsOption, StateOption, TypesOption, IsRule}
 use Rattle.pf_expansion.specs.Expansion.{host_family, type_family, occurring}
 use Rattle.pf_show.specs.Shown.{letters}

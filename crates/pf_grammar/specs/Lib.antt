@@ -1,4 +1,4 @@
 pub mod Causes
-pub mod Gathering
 pub mod Reading
 pub mod Again
+pub mod inner

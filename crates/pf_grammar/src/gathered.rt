@@ -5,22 +5,28 @@ ghost use Rattle.pf_ruleset.specs.declared.rule.Rule.{Rule as IRule};
 ghost use Rattle.pf_ruleset.specs.Items.{Anchors, Filters, Heading as IHeading};
 ghost use Rattle.pf_ruleset.specs.Seen.{heading_of, items_of};
 ghost use Rattle.pf_grammar.specs.Reading.{nothing};
-ghost use Rattle.pf_grammar.specs.Gathering.{sofar_of, with_change};
+ghost use Rattle.pf_grammar.specs.inner.Gathering.{sofar_of, with_change};
 
 use pf_expansion::DefinedTables;
 use pf_ruleset::{AnchorHeading, InterfaceName, Item, Policy, Rule, TableDef};
 use pf_tokens::{Macro, Macros};
 use std::alloc::{AllocError, Global};
 
-/// What the statements so far come to.
+/// The ruleset that the statements so far come to.
+#[derive(Debug, Drop)]
+pub(crate) struct GatheredRuleset {
+    pub(crate) skip: Vec<InterfaceName>,
+    pub(crate) tables: DefinedTables,
+    pub(crate) items: Vec<Item>,
+}
+
+/// What the statements so far come to: what is the text's alone, and the ruleset.
 #[derive(Debug, Drop)]
 pub(crate) struct Gathered {
     pub(crate) macros: Macros,
     /// What a plain `block` does.
     pub(crate) policy: Policy,
-    pub(crate) skip: Vec<InterfaceName>,
-    pub(crate) tables: DefinedTables,
-    pub(crate) items: Vec<Item>,
+    pub(crate) content: GatheredRuleset,
 }
 
 /// What a statement that isn't refused changes.
@@ -95,9 +101,11 @@ impl Gathered {
         Gathered {
             macros: Macros::new(alloc),
             policy: Policy::Drop,
-            skip: Vec::new(alloc),
-            tables: DefinedTables::new(alloc),
-            items: Vec::new(alloc),
+            content: GatheredRuleset {
+                skip: Vec::new(alloc),
+                tables: DefinedTables::new(alloc),
+                items: Vec::new(alloc),
+            },
         }
     }
 
@@ -108,11 +116,11 @@ impl Gathered {
         match change {
             Change::Defines(made) => self.macros.push(alloc, made)?,
             Change::Sets(policy) => self.policy = policy,
-            Change::Skips(names) => push_names(&mut self.skip, names)?,
-            Change::Tables(table) => self.tables.push(alloc, table)?,
-            Change::Adds(rules) => push_rules(&mut self.items, rules)?,
-            Change::AddsAnchors(headings) => push_anchors(&mut self.items, headings)?,
-            Change::AddsItems(items) => push_items(&mut self.items, items)?,
+            Change::Skips(names) => push_names(&mut self.content.skip, names)?,
+            Change::Tables(table) => self.content.tables.push(alloc, table)?,
+            Change::Adds(rules) => push_rules(&mut self.content.items, rules)?,
+            Change::AddsAnchors(headings) => push_anchors(&mut self.content.items, headings)?,
+            Change::AddsItems(items) => push_items(&mut self.content.items, items)?,
         }
         Ok(())
     }

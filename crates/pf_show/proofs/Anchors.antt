@@ -7,7 +7,7 @@ use Rattle.pf_ruleset.specs.declared.item.Item.{Item}
 use Rattle.pf_ruleset.specs.Items.{Blocks, values_of}
 use Rattle.pf_ruleset.specs.Seen.{items_of, rule_of}
 use Rattle.pf_show.specs.Shown.{line, more_parts, slashed, children_text, target_part, heading_parts, anchor_parts, block_target, block_parts, shown_items, shown_item, shown_block, shown_rules}
-use Rattle.pf_show.specs.Spaced.{spaced, text_if, item_line, item_text, slash_name}
+use Rattle.pf_show.specs.inner.Spaced.{spaced, text_if, item_line, item_text, slash_name}
 use Rattle.pf_show.proofs.Spacing.{spaced_append, more_is}
 
 -- names behind the first one

@@ -9,7 +9,7 @@ use Rattle.pf_ruleset.specs.declared.rule.Rule.{Rule}
 use Rattle.pf_show.specs.Shown.{Part, end_parts, ends_parts, action_parts, direction_parts, quick_parts, condition_parts, flags_parts, state_parts, rule_parts, more_parts, line, letter, skip_line}
 use Rattle.pf_ruleset.specs.Names.{Name}
 use Rattle.std.specs.List.{flat_map}
-use Rattle.pf_show.specs.Spaced.{spaced, joined, text_if, is_any_end}
+use Rattle.pf_show.specs.inner.Spaced.{spaced, joined, text_if, is_any_end}
 
 -- parts behind others
 pub spaced_append : (a b : List Part) → spaced (a ++ b) ≡ spaced a ++ spaced b

@@ -1,2 +1,2 @@
 pub mod Shown
-pub mod Spaced
+pub mod inner

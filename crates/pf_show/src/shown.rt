@@ -6,7 +6,7 @@ ghost use Rattle.pf_show.specs.Shown.{direction_parts, quick_parts, action_parts
 ghost use Rattle.pf_show.specs.Shown.{protocol_parts, host_parts, test_parts, port_parts, end_parts, ends_parts};
 ghost use Rattle.pf_show.specs.Shown.{type_parts, letters, flags_text, flags_parts, state_parts, condition_parts};
 ghost use Rattle.pf_show.specs.Shown.{rule_parts, line, skip_line, shown_items, shown};
-ghost use Rattle.pf_show.specs.Spaced.{spaced, joined, text_if, is_any_end};
+ghost use Rattle.pf_show.specs.inner.Spaced.{spaced, joined, text_if, is_any_end};
 ghost use Rattle.pf_ruleset.specs.Seen.{rule_of};
 
 use crate::items::{ItemLines, ItemTexts};

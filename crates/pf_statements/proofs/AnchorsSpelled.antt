@@ -7,7 +7,7 @@ use Rattle.pf_words.specs.declared.profile.Profile.TheVariants.{One, Two}
 use Rattle.pf_words.specs.Words.{common_reserved, is_among, is_reserved}
 use Rattle.pf_tokens.specs.Tokens.{Token, Word, Quoted, Macro, Mark, Newline, Bad}
 use Rattle.pf_tokens.specs.Productions.{◌>>=◌, starts, option_at}
-use Rattle.pf_tokens.specs.Shorter.{bind_some, some_is}
+use Rattle.pf_tokens.specs.inner.Shorter.{bind_some, some_is}
 use Rattle.pf_addr.specs.declared.addr.Family.{Family}
 use Rattle.pf_ruleset.specs.Items.{Target}
 use Rattle.pf_ruleset.specs.declared.parts.Direction.{Direction}
@@ -15,8 +15,10 @@ use Rattle.pf_ruleset.specs.declared.parts.FlagTest.{FlagTest}
 use Rattle.pf_conditions.specs.Conditions.{Ends, flags_at, common_at, CommonText}
 use Rattle.pf_conditions.specs.Targets.{may_name, target_of, target_behind, target_at}
 use Rattle.pf_conditions.specs.Grammar.{IsFlags, IsBehind, Missing, Behind, IsFamily, NoFamily, InetWord, Inet6Word, IsHosts, NoHosts, AllWord, FromPart, ToPart, FromToParts, IsCommon}
-use Rattle.pf_conditions.proofs.Fronts.{Took, rank, not_begun}
-use Rattle.pf_conditions.proofs.ListsSpelled.{Spells, behind_took, behind_reads}
+use Rattle.pf_tokens.proofs.Fronts.{Took}
+use Rattle.pf_conditions.proofs.Fronts.{rank, not_begun}
+use Rattle.pf_tokens.proofs.ListsSpelled.{Spells}
+use Rattle.pf_conditions.proofs.BehindSpelled.{behind_took, behind_reads}
 use Rattle.pf_conditions.proofs.CommonSpelled.{common_rank, common_reads, common_took, four_parts}
 use Rattle.pf_conditions.proofs.FlagsSpelled.{flags_took, flags_reads}
 use Rattle.pf_conditions.proofs.PiecesSpelled.{Anything}

@@ -9,7 +9,7 @@ use Rattle.pf_tokens.specs.declared.stop.Stop.{Stop}
 use Rattle.pf_tokens.specs.declared.stop.Stop.TheVariants as stops
 use Rattle.pf_tokens.specs.Tokens.{Token, Mark, is_newline}
 use Rattle.pf_tokens.specs.Productions.{Read, ◌>>=◌, begins, begins_symbol, option_at, symbol_at, starts, taken_if}
-use Rattle.pf_tokens.specs.Shorter.{begins_shorter, symbol_shorter}
+use Rattle.pf_tokens.specs.inner.Shorter.{begins_shorter, symbol_shorter}
 use Rattle.pf_tokens.specs.Parsing.{Parses}
 use Rattle.pf_statements.specs.declared.written.WrittenItem.{WrittenItem}
 use Rattle.pf_statements.specs.Options.{is_over}

@@ -6,9 +6,9 @@ use Rattle.pf_words.specs.declared.profile.Profile.{Profile}
 use Rattle.pf_tokens.specs.declared.symbol.Symbol.TheVariants.{Open, Close}
 use Rattle.pf_tokens.specs.Tokens.{Token, Word, Quoted, Macro, Mark, Newline, Bad, is_newline}
 use Rattle.pf_tokens.specs.Productions.{Read, ◌>>=◌, begins, begins_symbol, starts}
-use Rattle.pf_tokens.specs.Shorter.{bind_some, some_is}
+use Rattle.pf_tokens.specs.inner.Shorter.{bind_some, some_is}
 use Rattle.pf_conditions.specs.Conditions.{if_so}
-use Rattle.pf_conditions.proofs.Fronts.{Took, begins_is, symbol_is}
+use Rattle.pf_tokens.proofs.Fronts.{Took, begins_is, symbol_is}
 use Rattle.pf_conditions.proofs.PiecesSpelled.{if_so_is}
 use Rattle.pf_statements.specs.Options.{is_over}
 use Rattle.pf_statements.specs.Anchors.{AnchorText, HeadingText, anchor_with, heading_at}

@@ -7,7 +7,7 @@ use Rattle.pf_words.specs.declared.profile.Profile.{Profile}
 use Rattle.pf_tokens.specs.Tokens.{Token, Word}
 use Rattle.pf_tokens.specs.Productions.{◌>>=◌, begins, option_at}
 use Rattle.pf_tokens.specs.Lists.{Elements}
-use Rattle.pf_tokens.specs.Shorter.{bind_some, some_is}
+use Rattle.pf_tokens.specs.inner.Shorter.{bind_some, some_is}
 use Rattle.pf_ruleset.specs.declared.parts.FlagTest.{FlagTest}
 use Rattle.pf_statements.specs.declared.written.WrittenAction.{WrittenAction}
 use Rattle.pf_conditions.specs.declared.written.WrittenType.{WrittenType}
@@ -17,7 +17,8 @@ use Rattle.pf_statements.specs.Statements.{Options, no_options, flags_option, st
 use Rattle.pf_statements.specs.Directions.{direction_at}
 use Rattle.pf_conditions.specs.Grammar.{IsFlags, IsTypes}
 use Rattle.pf_statements.specs.Grammar.{IsAction, PassWord, BlockWord, BlockSaid, IsKeep, NoWord, KeepWord, IsOptions, NoOption, FlagsOption, StateOption, TypesOption, IsRule}
-use Rattle.pf_conditions.proofs.Fronts.{Took, begins_is, rank, not_begun}
+use Rattle.pf_tokens.proofs.Fronts.{Took, begins_is}
+use Rattle.pf_conditions.proofs.Fronts.{rank, not_begun}
 use Rattle.pf_statements.proofs.Over.{over_follows}
 use Rattle.pf_statements.proofs.RulesSpelled.{action_took, action_reads, direction_took, direction_reads, direction_rank, said_took, said_reads, log_rank, quick_rank}
 use Rattle.pf_conditions.proofs.CommonSpelled.{common_rank, common_reads, common_took}

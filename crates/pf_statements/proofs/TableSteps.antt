@@ -4,8 +4,8 @@ use Rattle.std.specs.Prelude.{is_some}
 use Rattle.pf_words.specs.declared.profile.Profile.{Profile}
 use Rattle.pf_tokens.specs.Tokens.{Token}
 use Rattle.pf_tokens.specs.Productions.{Read, ◌>>=◌, begins}
-use Rattle.pf_tokens.specs.Shorter.{begins_shorter, bind_some}
-use Rattle.pf_conditions.specs.Shorter.{answer_left}
+use Rattle.pf_tokens.specs.inner.Shorter.{begins_shorter, bind_some}
+use Rattle.pf_conditions.specs.inner.Shorter.{answer_left}
 use Rattle.pf_statements.specs.Tables.{TableText, entries_at, listed_option, table_option}
 use Rattle.pf_statements.proofs.TablesSpelled.{entries_shorter}
 

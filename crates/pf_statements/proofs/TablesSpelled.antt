@@ -10,14 +10,16 @@ use Rattle.pf_tokens.specs.Tokens.{Token, Word, Quoted, Macro, Mark, Newline, Ba
 use Rattle.pf_tokens.specs.Blanks.{blanked}
 use Rattle.pf_tokens.specs.Productions.{Read, ◌>>=◌, begins, begins_symbol, is_end, symbol_at, list_opened}
 use Rattle.pf_tokens.specs.Lists.{Elements, list_at}
-use Rattle.pf_tokens.specs.Shorter.{bind_some, some_is}
+use Rattle.pf_tokens.specs.inner.Shorter.{bind_some, some_is}
 use Rattle.pf_addr.specs.Blocks.{Block}
 use Rattle.pf_ruleset.specs.Names.{Name}
 use Rattle.pf_ruleset.specs.declared.ruleset.TableEntry.{TableEntry}
 use Rattle.pf_conditions.specs.Conditions.{prefix_at, table_at}
-use Rattle.pf_conditions.specs.Grammar.{IsElements, LastOne, LastList, OneMore, ListMore, IsList, Braces, IsPrefix, WholeAddress, CutAddress}
-use Rattle.pf_conditions.proofs.Fronts.{Took, begins_is, symbol_is}
-use Rattle.pf_conditions.proofs.ListsSpelled.{Heads, IsPlain, Readable, list_took, list_reads}
+use Rattle.pf_tokens.specs.ListGrammar.{IsElements, LastOne, LastList, OneMore, ListMore, IsList, Braces}
+use Rattle.pf_conditions.specs.Grammar.{IsPrefix, WholeAddress, CutAddress}
+use Rattle.pf_tokens.proofs.Fronts.{Took, begins_is, symbol_is}
+use Rattle.pf_tokens.proofs.ListsSpelled.{Heads, Readable, list_took, list_reads}
+use Rattle.pf_tokens.specs.ListGrammar.{IsPlain}
 use Rattle.pf_conditions.proofs.PiecesSpelled.{prefix_took, prefix_reads, prefix_plain, prefix_some}
 use Rattle.pf_conditions.proofs.PiecesSpelled as pieces
 use Rattle.pf_statements.specs.Options.{to_end}

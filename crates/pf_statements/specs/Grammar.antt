@@ -23,7 +23,8 @@ use Rattle.pf_statements.specs.Anchors.{AnchorText, HeadingText}
 use Rattle.pf_ruleset.specs.Items.{Target}
 use Rattle.pf_words.specs.Words.{is_reserved}
 use Rattle.pf_conditions.specs.Targets.{target_of}
-use Rattle.pf_conditions.specs.Grammar.{key, sign, IsSome, IsInterfaceName, IsFlags, IsTypes, IsCommon, IsList}
+use Rattle.pf_tokens.specs.ListGrammar.{sign, IsSome, IsList}
+use Rattle.pf_conditions.specs.Grammar.{key, IsInterfaceName, IsFlags, IsTypes, IsCommon}
 use Rattle.pf_conditions.specs.Grammar.{IsBehind}
 use Rattle.pf_conditions.specs.Grammar.{IsPrefix, IsTable}
 use Rattle.pf_statements.specs.Tables.{TableText, new_table, no_entries}

@@ -6,7 +6,7 @@ ghost use Rattle.pf_tokens.specs.Parsing.{left, later, Parses};
 ghost use Rattle.pf_statements.specs.Options.{to_end};
 ghost use Rattle.pf_statements.specs.Tables.{new_table, entry_at, empty_at, entries_at, listed_option, table_option};
 ghost use Rattle.pf_statements.specs.Tables.{table_of};
-ghost use Rattle.pf_statements.specs.TableShorter.{entry_shorter};
+ghost use Rattle.pf_statements.specs.inner.TableShorter.{entry_shorter};
 ghost use Rattle.pf_statements.specs.Seen.{table_text_of, Spells};
 
 use crate::written::WrittenTable;

@@ -4,7 +4,7 @@ use Rattle.std.proofs.Common.{arith}
 use Rattle.std.specs.Prelude.{codes, if◌then◌else◌}
 use Rattle.pf_tokens.specs.Tokens.{Token}
 use Rattle.pf_tokens.specs.Productions.{Read, begins, option_at}
-use Rattle.pf_tokens.specs.Shorter.{some_is, begins_shorter, option_no_longer}
+use Rattle.pf_tokens.specs.inner.Shorter.{some_is, begins_shorter, option_no_longer}
 
 -- "yes" | "no"
 unfoldable pub answer_at : List Token → Read Bool

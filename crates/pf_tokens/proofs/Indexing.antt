@@ -13,7 +13,7 @@ use Rattle.std.proofs.lemmas.Cmp.{eq_by_cmp_equiv, nat_list_cmp_total, nat_list_
 use Rattle.std.proofs.lemmas.Map.Text.{is_eq-slice_cmp}
 use Rattle.std.proofs.lemmas.Slice.Eq.{bytes_eq-Decides}
 use Rattle.pf_tokens.specs.Macros.{Definition, text_of}
-use Rattle.pf_tokens.specs.Indexed.{text_at, is_there, place_of, IsIndex, IsWithin}
+use Rattle.pf_tokens.specs.inner.Indexed.{text_at, is_there, place_of, IsIndex, IsWithin}
 use Rattle.pf_tokens.proofs.Pulling.{text_more}
 
 abbrev by_bytes : Vec ℕ → Vec ℕ → Ordering

@@ -14,6 +14,7 @@ pub mod Passing
 pub mod Collecting
 pub mod Parts
 pub mod Written
-pub mod Spelling
+pub mod Fronts
+pub mod ListsSpelled
 pub mod MacroSpelling
 pub mod Table

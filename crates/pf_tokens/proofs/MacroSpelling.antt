@@ -11,7 +11,7 @@ use Rattle.pf_tokens.specs.declared.symbol.Symbol.TheVariants.{Equals}
 use Rattle.pf_tokens.specs.Tokens.{Token, Word, Quoted, Macro, Mark, Newline, Bad, is_name_byte}
 use Rattle.pf_tokens.specs.Macros.{Definition, or_else, text_of}
 use Rattle.pf_tokens.specs.Productions.{symbol_at}
-use Rattle.pf_tokens.specs.Shorter.{some, some_is}
+use Rattle.pf_tokens.specs.inner.Shorter.{some, some_is}
 use Rattle.pf_tokens.specs.Defining.{item_of, is_refused_byte, is_refused_string, with_item, joined_items, text_len, are_items, is_too_long, spelled, defined_as, definition_at}
 use Rattle.pf_words.specs.declared.profile.Profile.{Profile}
 use Rattle.pf_words.specs.Words.{is_reserved}

@@ -6,7 +6,7 @@ use Rattle.std.proofs.lemmas.List.{append-nil}
 use Rattle.pf_tokens.specs.Tokens.{Token, Word, Quoted, Macro, Mark, Newline, Bad, Placed, is_newline, first}
 use Rattle.pf_tokens.specs.Macros.{Definition, replaced, replaced_token, is_some_word, is_equals, is_definition, flattened, depth_after, depth_behind, ends}
 use Rattle.pf_tokens.specs.Flow.{statement_raw, ending_raw}
-use Rattle.pf_tokens.specs.Reading.{◌>>=◌, Judge, judged, with_statement, reading_from, past_newlines}
+use Rattle.pf_tokens.specs.Reading.{◌>>=◌, Judge, statement_judged, with_statement, reading_from, past_newlines}
 
 -- the statement as it is written, behind what has begun, and what follows it
 abbrev pub raw_statement : List Definition → List Placed → List Placed → List Placed
@@ -214,19 +214,19 @@ module _ {S R : Type 0} (macros : S → List Definition) (judge : Judge S R) whe
 
   -- the first statement of a text that doesn't begin with a newline, and what follows it
   pub reading_next : (sofar : S) (p : Placed) (ps : List Placed) → ends 0 p ≡ false
-      → reading_from macros judge sofar [] (p ∷ ps) ≡ (judged judge sofar p.line (is_definition (p ∷ ps)) (statement_raw (macros sofar) (is_definition (p ∷ ps)) 0 (p ∷ ps)) >>= λ next. reading_from macros judge next [] (drop 1 (ending_raw (macros sofar) (is_definition (p ∷ ps)) 0 (p ∷ ps))))
+      → reading_from macros judge sofar [] (p ∷ ps) ≡ (statement_judged judge sofar p.line (is_definition (p ∷ ps)) (statement_raw (macros sofar) (is_definition (p ∷ ps)) 0 (p ∷ ps)) >>= λ next. reading_from macros judge next [] (drop 1 (ending_raw (macros sofar) (is_definition (p ∷ ps)) 0 (p ∷ ps))))
   reading_next sofar p ps e =
       let ds = macros sofar in
       let raw : raw_statement ds [] (p ∷ ps) ≡ p ∷ raw_statement ds (p ∷ []) ps = rw e refl in
-      let statement : with_statement macros judge sofar (raw_statement ds [] (p ∷ ps)) ≡ judged judge sofar p.line (is_definition (p ∷ ps)) (statement_raw ds (is_definition (p ∷ ps)) 0 (p ∷ ps)) =
+      let statement : with_statement macros judge sofar (raw_statement ds [] (p ∷ ps)) ≡ statement_judged judge sofar p.line (is_definition (p ∷ ps)) (statement_raw ds (is_definition (p ∷ ps)) 0 (p ∷ ps)) =
       ap (with_statement macros judge sofar) raw
-      ∙ ap (λ (b : Bool). judged judge sofar p.line b (flattened ds (p ∷ raw_statement ds (p ∷ []) ps))) (definition_own ds p ps)
-      ∙ ap (λ (ts : List Placed). judged judge sofar p.line (is_definition (p ∷ ps)) ts) (ap (flattened ds) (sym raw) ∙ start_statement ds (p ∷ ps)) in
+      ∙ ap (λ (b : Bool). statement_judged judge sofar p.line b (flattened ds (p ∷ raw_statement ds (p ∷ []) ps))) (definition_own ds p ps)
+      ∙ ap (λ (ts : List Placed). statement_judged judge sofar p.line (is_definition (p ∷ ps)) ts) (ap (flattened ds) (sym raw) ∙ start_statement ds (p ∷ ps)) in
       let ending = start_ending ds (p ∷ ps) in
       reading_statement macros judge sofar [] (p ∷ ps)
       ∙ ap (λ (r : Result S R). r >>= λ next. reading_from macros judge next [] (raw_ending ds [] (p ∷ ps))) statement
-      ∙ ap (λ (ts : List Placed). judged judge sofar p.line (is_definition (p ∷ ps)) (statement_raw ds (is_definition (p ∷ ps)) 0 (p ∷ ps)) >>= λ next. reading_from macros judge next [] ts) ending
-      ∙ (λ i. judged judge sofar p.line (is_definition (p ∷ ps)) (statement_raw ds (is_definition (p ∷ ps)) 0 (p ∷ ps)) >>= λ next. behind_newline next (ending_raw ds (is_definition (p ∷ ps)) 0 (p ∷ ps)) (ending_ended ds (is_definition (p ∷ ps)) 0 (p ∷ ps)) i)
+      ∙ ap (λ (ts : List Placed). statement_judged judge sofar p.line (is_definition (p ∷ ps)) (statement_raw ds (is_definition (p ∷ ps)) 0 (p ∷ ps)) >>= λ next. reading_from macros judge next [] ts) ending
+      ∙ (λ i. statement_judged judge sofar p.line (is_definition (p ∷ ps)) (statement_raw ds (is_definition (p ∷ ps)) 0 (p ∷ ps)) >>= λ next. behind_newline next (ending_raw ds (is_definition (p ∷ ps)) 0 (p ∷ ps)) (ending_ended ds (is_definition (p ∷ ps)) 0 (p ∷ ps)) i)
 
   pub reading_past : (sofar : S) (ts : List Placed) → reading_from macros judge sofar [] ts ≡ reading_from macros judge sofar [] (past_newlines ts)
   reading_past sofar [] = refl
@@ -237,15 +237,15 @@ module _ {S R : Type 0} (macros : S → List Definition) (judge : Judge S R) whe
       cases false e more = refl
 
   begins_with : (sofar : S) (line : ℕ) (us : List Placed) → Begun us → Some line ≡ option_map (λ (p : Placed). p.line) (first us)
-      → reading_from macros judge sofar [] us ≡ (judged judge sofar line (is_definition us) (statement_raw (macros sofar) (is_definition us) 0 us) >>= λ next. reading_from macros judge next [] (drop 1 (ending_raw (macros sofar) (is_definition us) 0 us)))
+      → reading_from macros judge sofar [] us ≡ (statement_judged judge sofar line (is_definition us) (statement_raw (macros sofar) (is_definition us) 0 us) >>= λ next. reading_from macros judge next [] (drop 1 (ending_raw (macros sofar) (is_definition us) 0 us)))
   begins_with sofar line _ Nothing e = absurd cc
   begins_with sofar line _ (Begins p ps starts) e =
       let same : line ≡ p.line = cc in
-      reading_next sofar p ps starts ∙ ap (λ (n : ℕ). judged judge sofar n (is_definition (p ∷ ps)) (statement_raw (macros sofar) (is_definition (p ∷ ps)) 0 (p ∷ ps)) >>= λ next. reading_from macros judge next [] (drop 1 (ending_raw (macros sofar) (is_definition (p ∷ ps)) 0 (p ∷ ps)))) (sym same)
+      reading_next sofar p ps starts ∙ ap (λ (n : ℕ). statement_judged judge sofar n (is_definition (p ∷ ps)) (statement_raw (macros sofar) (is_definition (p ∷ ps)) 0 (p ∷ ps)) >>= λ next. reading_from macros judge next [] (drop 1 (ending_raw (macros sofar) (is_definition (p ∷ ps)) 0 (p ∷ ps)))) (sym same)
 
   -- where a statement begins on this line
   pub reading_begins : (sofar : S) (line : ℕ) (old ts : List Placed) → ts ≡ past_newlines old → Some line ≡ option_map (λ (p : Placed). p.line) (first (past_newlines old))
-      → reading_from macros judge sofar [] old ≡ (judged judge sofar line (is_definition ts) (statement_raw (macros sofar) (is_definition ts) 0 ts) >>= λ next. reading_from macros judge next [] (drop 1 (ending_raw (macros sofar) (is_definition ts) 0 ts)))
+      → reading_from macros judge sofar [] old ≡ (statement_judged judge sofar line (is_definition ts) (statement_raw (macros sofar) (is_definition ts) 0 ts) >>= λ next. reading_from macros judge next [] (drop 1 (ending_raw (macros sofar) (is_definition ts) 0 ts)))
   reading_begins sofar line old ts e is_line = reading_past sofar old ∙ rw e (begins_with sofar line (past_newlines old) (past_begun old) is_line)
 
   -- where no statement is left

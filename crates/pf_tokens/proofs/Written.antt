@@ -5,7 +5,7 @@ use Rattle.std.proofs.lemmas.Bool.{false≢true}
 use Rattle.pf_tokens.specs.Tokens.{Token, Word, Quoted, Macro, Mark, Newline, Bad, Placed, is_newline}
 use Rattle.pf_tokens.specs.Macros.{Definition, replaced, replaced_token, is_definition, depth_after, depth_behind, ends}
 use Rattle.pf_tokens.specs.Flow.{statement_raw, ending_raw}
-use Rattle.pf_tokens.specs.Reading.{◌>>=◌, Judge, judged, reading_from}
+use Rattle.pf_tokens.specs.Reading.{◌>>=◌, Judge, statement_judged, reading_from}
 use Rattle.pf_tokens.specs.Lines.{at_line}
 use Rattle.pf_tokens.proofs.Walking.{reading_next}
 
@@ -71,6 +71,6 @@ reading_line {S} {R} macros judge sofar line t ts rest w plain closed defines =
     let all : List Placed = map (at_line line) (t ∷ ts) ++ (at_line line Newline ∷ rest) in
     let next = reading_next macros judge sofar (at_line line t) (map (at_line line) ts ++ (at_line line Newline ∷ rest)) (inner 0 line t parts.0) in
     next
-    ∙ ap (λ (b : Bool). judged judge sofar line b (statement_raw ds b 0 all) >>= λ more. reading_from macros judge more [] (drop 1 (ending_raw ds b 0 all))) defines
-    ∙ ap (λ (ps : List Placed). judged judge sofar line w ps >>= λ more. reading_from macros judge more [] (drop 1 (ending_raw ds w 0 all))) (line_statement ds w line rest 0 (t ∷ ts) plain closed)
+    ∙ ap (λ (b : Bool). statement_judged judge sofar line b (statement_raw ds b 0 all) >>= λ more. reading_from macros judge more [] (drop 1 (ending_raw ds b 0 all))) defines
+    ∙ ap (λ (ps : List Placed). statement_judged judge sofar line w ps >>= λ more. reading_from macros judge more [] (drop 1 (ending_raw ds w 0 all))) (line_statement ds w line rest 0 (t ∷ ts) plain closed)
     ∙ ap (λ (ps : List Placed). judge sofar line w (map (at_line line) (t ∷ ts)) >>= λ more. reading_from macros judge more [] (drop 1 ps)) (line_ending ds w line rest 0 (t ∷ ts) plain closed)

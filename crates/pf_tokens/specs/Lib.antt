@@ -4,7 +4,6 @@ pub mod Lexed
 pub mod Left
 pub mod Macros
 pub mod Defined
-pub mod Indexed
 pub mod Known
 pub mod Blanks
 pub mod Flow
@@ -16,7 +15,7 @@ pub mod Faults
 pub mod Carried
 pub mod Lists
 pub mod Reading
-pub mod Shorter
 pub mod Lines
 pub mod ListGrammar
 pub mod MacroGrammar
+pub mod inner

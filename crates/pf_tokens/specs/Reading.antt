@@ -14,15 +14,15 @@ abbrev pub Judge : Type 0 → Type 0 → Type 0
 Judge S R = S → ℕ → Bool → List Placed → Result S R
 
 -- a statement without tokens is passed over
-abbrev pub judged : {S R : Type 0} → Judge S R → S → ℕ → Bool → List Placed → Result S R
-judged judge sofar line defining [] = Ok sofar
-judged judge sofar line defining (t ∷ ts) = judge sofar line defining (t ∷ ts)
+abbrev pub statement_judged : {S R : Type 0} → Judge S R → S → ℕ → Bool → List Placed → Result S R
+statement_judged judge sofar line defining [] = Ok sofar
+statement_judged judge sofar line defining (t ∷ ts) = judge sofar line defining (t ∷ ts)
 
 -- a statement as it is written
 abbrev pub with_statement : {S R : Type 0} → (S → List Definition) → Judge S R → S → List Placed →
     Result S R
 with_statement macros judge sofar [] = Ok sofar
-with_statement macros judge sofar (p ∷ ps) = judged judge sofar p.line (is_definition (p ∷ ps))
+with_statement macros judge sofar (p ∷ ps) = statement_judged judge sofar p.line (is_definition (p ∷ ps))
     (flattened (macros sofar) (p ∷ ps))
 
 -- What the tokens that follow make of what stands before, and of the statement that has begun: it ends at the first

@@ -10,6 +10,7 @@ ghost use Rattle.pf_tokens.specs.Defining.{definition_at, Defines, Collects};
 ghost use Rattle.pf_tokens.specs.Macros.{Definition};
 ghost use Rattle.pf_tokens.specs.MacroGrammar.{AllRead, IsDefinition, HasMacroFault, HasSyntaxFault};
 ghost use Rattle.pf_tokens.specs.declared.defining.DefinitionFault.TheVariants.{Memory, Macro as MacroFault, Syntax};
+ghost use Rattle.pf_tokens.specs.declared.defining.TheConstants.{TEXT_MAX};
 
 use crate::lexeme::{Lexeme, is_name_byte};
 use crate::macros::Macro;
@@ -100,7 +101,7 @@ fn is_refused_string(lexeme: Lexeme<'_>) -> bool
 
 /// How many bytes the text has with one more item.
 fn len_with(some: bool, text: usize, item: usize) -> usize
-    requires text { text ≤ 4096 }
+    requires text { text ≤ TEXT_MAX }
     requires item { item < 2 ^ 63 }
     ensures { result ≡ len_with some text item }
 {

@@ -1,11 +1,11 @@
 //! Lists in braces.
 
-ghost use Rattle.std.specs.Prelude.{◌≡◌, ◌↔◌, ◌<◌, Some, List, length};
+ghost use Rattle.std.specs.Prelude.{◌≡◌, ◌↔◌, ◌<◌, Bool, Some, List, length};
 ghost use Rattle.pf_words.specs.declared.profile.Profile.{Profile};
 ghost use Rattle.pf_tokens.specs.Tokens.{Token};
 ghost use Rattle.pf_tokens.specs.Productions.{Read};
 ghost use Rattle.pf_tokens.specs.Lists.{Elements, list_at, some_at, elements_of};
-ghost use Rattle.pf_tokens.specs.ListGrammar.{IsElement, IsList};
+ghost use Rattle.pf_tokens.specs.ListGrammar.{IsElement, IsReadAs, IsListBefore};
 ghost use Rattle.pf_tokens.specs.Parsing.{left, later, Parses};
 
 use crate::parser::Parser;
@@ -116,8 +116,10 @@ pub fn some<'t: 's, 's, E: Element>(
     Ok(Listed { items, deepest: 0 })
 }
 
-/// A list is read exactly where the grammar spells it so: what is read is no more than the relation says, and no less.
+/// A list is read exactly where the grammar spells it: what is read is no more than the relation says, and no less. What
+/// spells an element are the tokens that alone are read as it.
 pub fn lists_as_spelled<E: Element>()
-    ensures { (profile : Profile) → IsElement (E.read profile) → ((ts rest : List Token) (l : Elements E.Value) →
-        ((list_at (E.read profile) ts ≡ Some (l, rest)) ↔ IsList (E.read profile) ts l rest)) }
+    ensures { (profile : Profile) (follows : List Token → Bool) → IsElement (E.read profile) follows →
+        (ts rest : List Token) (l : Elements E.Value) →
+        ((list_at (E.read profile) ts ≡ Some (l, rest)) ↔ IsListBefore (IsReadAs (E.read profile)) ts l rest) }
 {}

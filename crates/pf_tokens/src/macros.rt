@@ -2,7 +2,7 @@
 
 ghost use Rattle.std.specs.Prelude.{◌≡◌, map};
 ghost use Rattle.pf_tokens.specs.Defined.{definition_of};
-ghost use Rattle.pf_tokens.specs.Indexed.{IsIndex, IsWithin};
+ghost use Rattle.pf_tokens.specs.inner.Indexed.{IsIndex, IsWithin};
 
 use std::alloc::{AllocError, Global};
 use std::collections::BTreeMap;

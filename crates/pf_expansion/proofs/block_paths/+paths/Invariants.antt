@@ -1,7 +1,7 @@
 use Rattle.std.proofs.Common.{drop}
 use Rattle.pf_statements.specs.Seen.{item_texts_of}
 use Rattle.pf_expansion.specs.Blocks.{Path, block_paths}
-use Rattle.pf_expansion.specs.Numbers.{AreNumbered}
+use Rattle.pf_expansion.specs.inner.Numbers.{AreNumbered}
 use Rattle.pf_expansion.proofs.block_paths.+paths.Given as goal
 
 -- the paths that are left are those of the rules that are left

@@ -2,7 +2,7 @@ use Rattle.std.proofs.Common.{Some, sym, ap, ◌∙◌}
 use Rattle.pf_ruleset.specs.Items.{values_of}
 use Rattle.pf_ruleset.specs.Seen.{items_of}
 use Rattle.pf_expansion.specs.Blocks.{Path}
-use Rattle.pf_expansion.specs.Numbers.{walk}
+use Rattle.pf_expansion.specs.inner.Numbers.{walk}
 use Rattle.pf_expansion.proofs.Stepping.{is_none_from}
 use Rattle.pf_expansion.proofs.Looking.{not_carried, carried_itself, carried_within}
 use Rattle.pf_expansion.proofs.block_paths.+values.Goals as goal

@@ -3,7 +3,7 @@ use Rattle.std.specs.List.{list_any}
 use Rattle.pf_ruleset.specs.Items.{values_of}
 use Rattle.pf_ruleset.specs.Seen.{items_of}
 use Rattle.pf_expansion.specs.Blocks.{paths_within}
-use Rattle.pf_expansion.specs.Numbers.{is_marked}
+use Rattle.pf_expansion.specs.inner.Numbers.{is_marked}
 use Rattle.pf_expansion.proofs.block_paths.+values.Given as goal
 
 -- looked for among the rules that are left

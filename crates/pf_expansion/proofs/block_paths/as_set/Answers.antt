@@ -1,6 +1,6 @@
 use Rattle.std.proofs.Common.{◌≡◌, ◌||◌, Bool, get_or, refl, sym, ap, ◌∙◌}
 use Rattle.std.proofs.lemmas.List.{get_or_default}
-use Rattle.pf_expansion.specs.Numbers.{has_again}
+use Rattle.pf_expansion.specs.inner.Numbers.{has_again}
 use Rattle.pf_expansion.proofs.Looking.{none_in, again_there, again_more, those_more}
 use Rattle.pf_expansion.proofs.block_paths.as_set.Goals as goal
 

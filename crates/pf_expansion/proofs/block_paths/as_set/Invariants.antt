@@ -3,7 +3,7 @@ use Rattle.std.specs.Prelude.{nat_eq}
 use Rattle.std.specs.List.{list_any}
 use Rattle.std.specs.Ordering.{nat_cmp}
 use Rattle.std.specs.BTreeSet.{contains}
-use Rattle.pf_expansion.specs.Numbers.{has_again}
+use Rattle.pf_expansion.specs.inner.Numbers.{has_again}
 use Rattle.pf_expansion.proofs.block_paths.as_set.Given as goal
 
 -- the set has the numbers so far; one comes again where one that is left is in the set, or comes again

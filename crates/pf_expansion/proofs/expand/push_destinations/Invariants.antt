@@ -1,6 +1,6 @@
 use Rattle.std.proofs.Common.{◌≡◌, ◌++◌, drop}
 use Rattle.std.specs.List.{flat_map}
-use Rattle.pf_expansion.specs.Chosen.{combination_of}
+use Rattle.pf_expansion.specs.inner.Chosen.{combination_of}
 use Rattle.pf_expansion.specs.Expansion.{by_destination_port, by_destination}
 use Rattle.pf_conditions.specs.Seen.{conditions_of}
 use Rattle.pf_expansion.proofs.expand.push_destinations.Given as goal

@@ -1,6 +1,6 @@
 use Rattle.std.proofs.Common.{◌≡◌, ◌++◌, drop}
 use Rattle.std.specs.List.{flat_map}
-use Rattle.pf_expansion.specs.Chosen.{combination_of}
+use Rattle.pf_expansion.specs.inner.Chosen.{combination_of}
 use Rattle.pf_expansion.specs.Expansion.{by_source_port, by_source}
 use Rattle.pf_conditions.specs.Seen.{conditions_of}
 use Rattle.pf_expansion.proofs.expand.push_sources.Given as goal

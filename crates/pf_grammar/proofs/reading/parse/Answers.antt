@@ -6,9 +6,9 @@ use Rattle.pf_tokens.specs.Parsing.{tokens_of, placed_left, Later, later, is_def
 use Rattle.pf_tokens.specs.Productions.{is_end}
 use Rattle.pf_tokens.proofs.Walking.{reading_ends}
 use Rattle.pf_grammar.specs.declared.fault.Refusal.{Refusal}
-use Rattle.pf_grammar.specs.Reading.{Sofar, judge, macros_of, reading, made_if, nothing}
+use Rattle.pf_grammar.specs.Reading.{Sofar, judge, macros_of, reading, ruleset_if, nothing}
 use Rattle.pf_ruleset.specs.Rulesets.{RulesetValue, TableValue}
-use Rattle.pf_grammar.specs.Gathering.{sofar_of}
+use Rattle.pf_grammar.specs.inner.Gathering.{sofar_of}
 use Rattle.pf_grammar.proofs.ReadingSteps.{from, Begun, rest_shorter, passed_over, went_on, fails_so, few_stay, Room}
 use Rattle.pf_grammar.proofs.reading.parse.Goals as goal
 
@@ -20,7 +20,7 @@ statements-init c =
     let lines : tokens_left c.lexer-lexer.result ≡ tokens c.args.text.now = c.lexer-lexer.ensures ∙ c.in_ok-joined.ensures in
     record {
       same = ap (λ (s : Sofar). from c.args.place c.args.profile s (tokens_left c.lexer-lexer.result)) c.new-gathered.ensures ∙ ap (λ (ts : List Placed). from c.args.place c.args.profile nothing ts) lines;
-      few = subst (λ (s : Sofar). Room s.items) (sym c.new-gathered.ensures) (omega arith, refl);
+      few = subst (λ (s : Sofar). Room s.content.items) (sym c.new-gathered.ensures) (omega arith, refl);
     }
 
 pub statements-smaller-then-at_end : goal.statements-smaller-then-at_end
@@ -107,9 +107,9 @@ returns-in_err-change c =
     rw (passed.1, passed.2) (fails_so c.args.place c.args.profile c.args.text.now sofar c.in_err-change.field-0.0 c.in-Some.line (tokens_left c.statements.lexer) (tokens_left c.next_statement.new.self) (is_defining c.begin-parser.result) statement rest begun more (rw c.begin-parser.ensures.left at c.in_err-change.ensures.value) c.statements.invariant.same)
 
 abbrev tabled : Sofar → List TableValue → Result RulesetValue Refusal
-tabled sofar ts = Ok (record { skip = sofar.skip; tables = ts; items = sofar.items })
+tabled sofar ts = Ok (record { skip = sofar.content.skip; tables = ts; items = sofar.content.items })
 
 pub returns : goal.returns
 unfolding reading
-returns c = ap made_if (sym c.statements.invariant.same ∙ reading_ends macros_of (judge c.args.place c.args.profile) (sofar_of c.statements.gathered) (tokens_left c.statements.lexer) (sym c.in_default.ensures.line))
+returns c = ap ruleset_if (sym c.statements.invariant.same ∙ reading_ends macros_of (judge c.args.place c.args.profile) (sofar_of c.statements.gathered) (tokens_left c.statements.lexer) (sym c.in_default.ensures.line))
     ∙ ap (tabled (sofar_of c.statements.gathered)) (sym c.into_list.ensures)

@@ -1,5 +1,6 @@
-use Rattle.pf_tokens.proofs.Spelling.{read_as_spelled}
+use Rattle.pf_tokens.proofs.ListsSpelled.{list_spelled, spelled_read}
 use Rattle.pf_tokens.proofs.lists.lists_as_spelled.Goals as goal
 
 pub returns : goal.returns
-returns g c = λ profile is_element ts rest l. read_as_spelled (g.E.Element.read profile) is_element ts rest l
+returns g c = λ profile follows is_element ts rest l.
+    (list_spelled (g.E.Element.read profile) follows is_element ts rest l, spelled_read (g.E.Element.read profile) follows is_element ts rest l)

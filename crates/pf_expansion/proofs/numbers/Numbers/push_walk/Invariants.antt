@@ -1,5 +1,5 @@
 use Rattle.std.proofs.Common.{◌≡◌, Some, take}
-use Rattle.pf_expansion.specs.Numbers.{Grows, walk}
+use Rattle.pf_expansion.specs.inner.Numbers.{Grows, walk}
 use Rattle.pf_expansion.proofs.numbers.Numbers.push_walk.Given as goal
 
 -- the way so far leads here

@@ -1,5 +1,5 @@
 use Rattle.std.proofs.Common.{◌≡◌, Some, drop}
-use Rattle.pf_expansion.specs.Numbers.{walk}
+use Rattle.pf_expansion.specs.inner.Numbers.{walk}
 use Rattle.pf_expansion.proofs.numbers.Numbers.walk.Given as goal
 
 -- the way that is left leads on from here

@@ -1,7 +1,7 @@
 use Rattle.std.proofs.Common.{take}
 use Rattle.std.specs.Fmt.{HasWritten, IsPlainFormatter}
 use Rattle.std.specs.List.{flat_map}
-use Rattle.pf_show.specs.Spaced.{item_line}
+use Rattle.pf_show.specs.inner.Spaced.{item_line}
 use Rattle.pf_show.proofs.items.ItemLinesDisplay.fmt.Given as goal
 
 -- what is written so far are the items so far

@@ -3,7 +3,7 @@ use Rattle.std.proofs.lemmas.List.{map_push, length-map}
 use Rattle.pf_tokens.specs.declared.macros.Macro.{Macro}
 use Rattle.pf_tokens.specs.Macros.{Definition}
 use Rattle.pf_tokens.specs.Defined.{definition_of}
-use Rattle.pf_tokens.specs.Indexed.{IsIndex, IsWithin}
+use Rattle.pf_tokens.specs.inner.Indexed.{IsIndex, IsWithin}
 use Rattle.pf_tokens.proofs.Indexing.{index_more, within_more}
 use Rattle.pf_tokens.proofs.macros.Macros.push.Goals as goal
 

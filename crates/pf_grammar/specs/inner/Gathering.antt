@@ -8,32 +8,34 @@ use Rattle.pf_grammar.specs.declared.fault.Refusal.{Refusal}
 use Rattle.pf_grammar.specs.declared.gathered.Change.{Change}
 use Rattle.pf_grammar.specs.declared.gathered.Change.TheVariants as changes
 use Rattle.pf_grammar.specs.declared.gathered.Gathered.{Gathered}
+use Rattle.pf_grammar.specs.declared.gathered.GatheredRuleset.{GatheredRuleset}
 use Rattle.pf_ruleset.specs.declared.rule.Rule.{Rule}
 use Rattle.pf_ruleset.specs.Items.{Anchors, Filters, Heading}
 use Rattle.pf_ruleset.specs.Seen.{heading_of, items_of}
-use Rattle.pf_grammar.specs.Reading.{Sofar}
-use Rattle.pf_ruleset.specs.Rulesets.{table_of}
+use Rattle.pf_grammar.specs.Reading.{Sofar, with_skip, with_table, with_items}
+use Rattle.pf_ruleset.specs.Rulesets.{RulesetValue, table_of}
 use Rattle.pf_expansion.specs.Defined.{tables_of}
+
+abbrev pub ruleset_in : GatheredRuleset → RulesetValue
+ruleset_in g = record { skip = g.skip.items; tables = tables_of g.tables; items = items_of g.items.items }
 
 abbrev pub sofar_of : Gathered → Sofar
 sofar_of g = record {
   macros = definitions_of g.macros;
   policy = g.policy;
-  skip = g.skip.items;
-  tables = tables_of g.tables;
-  items = items_of g.items.items;
+  content = ruleset_in g.content;
 }
 
 abbrev pub with_change : Sofar → Change → Sofar
 with_change sofar (changes.Defines made) = record sofar { macros = sofar.macros ++ definition_of made ∷ [] }
 with_change sofar (changes.Sets said) = record sofar { policy = said }
-with_change sofar (changes.Skips names) = record sofar { skip = sofar.skip ++ names.items }
-with_change sofar (changes.Tables table) = record sofar { tables = sofar.tables ++ table_of table ∷ [] }
+with_change sofar (changes.Skips names) = with_skip sofar names.items
+with_change sofar (changes.Tables table) = with_table sofar (table_of table)
 with_change sofar (changes.Adds rules) =
-    record sofar { items = sofar.items ++ map (λ (r : Rule). Filters r) rules.items }
+    with_items sofar (map (λ (r : Rule). Filters r) rules.items)
 with_change sofar (changes.AddsAnchors headings) =
-    record sofar { items = sofar.items ++ map (λ (h : Heading). Anchors h) (map heading_of headings.items) }
-with_change sofar (changes.AddsItems items) = record sofar { items = sofar.items ++ items_of items.items }
+    with_items sofar (map (λ (h : Heading). Anchors h) (map heading_of headings.items))
+with_change sofar (changes.AddsItems items) = with_items sofar (items_of items.items)
 
 -- what the statement changes, or its refusal; unless memory ran out
 abbrev pub Judges : Sofar → Result Change ParseFault → Result Sofar Refusal → Type 0

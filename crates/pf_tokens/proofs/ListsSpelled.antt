@@ -12,19 +12,11 @@ use Rattle.pf_tokens.specs.Macros.{depth_after}
 use Rattle.pf_tokens.specs.Blanks.{blanked}
 use Rattle.pf_tokens.specs.Productions.{Read, ◌>>=◌, begins_symbol, is_symbol, list_opened}
 use Rattle.pf_tokens.specs.Lists.{Elements, elements, list_at, some_at, put}
-use Rattle.pf_tokens.specs.Shorter.{bind_some, some_is, symbol_shorter}
-use Rattle.std.specs.Prelude.{bytes_eq}
-use Rattle.std.proofs.lemmas.Slice.Eq.{bytes_eq-Decides}
-use Rattle.pf_tokens.specs.Productions.{begins}
-use Rattle.pf_conditions.specs.Conditions.{behind_word}
-use Rattle.pf_conditions.specs.Grammar.{sign, IsBehind, Missing, Behind, IsComma, NoComma, CommaSign, IsElements, LastOne, LastList, OneMore, ListMore, IsList, Braces, IsSome, One, Listed}
-use Rattle.pf_conditions.proofs.Fronts.{Took, begins_is, symbol_is}
+use Rattle.pf_tokens.specs.inner.Shorter.{bind_some, some_is, symbol_shorter}
+use Rattle.pf_tokens.specs.ListGrammar.{sign, IsComma, NoComma, CommaSign, IsElements, LastOne, LastList, OneMore, ListMore, IsList, Braces, IsSome, One, Listed, IsPlain, IsReadAs, IsElement, IsListBefore}
+use Rattle.pf_tokens.proofs.Fronts.{Took, begins_is, symbol_is}
 
 -- ---- what is asked of an element
-
--- no brace
-abbrev pub IsPlain : Token → Type 0
-IsPlain t = (is_symbol Open t ≡ false) × (is_symbol Close t ≡ false)
 
 -- what an element begins with
 pub record Heads (Ends : List Token → Type 0) (ts : List Token) : Type 0 where
@@ -564,44 +556,35 @@ some_reads readable _ rest _ (Listed ts list is) ends = rw (list_opens ts rest l
 pub some_spells : {X : Type 0} {element : List Token → Read X} {Is : List Token → X → Type 0} {Ends : List Token → Type 0} → Readable element Is Ends → Spells (some_at element) (IsSome Is) Ends
 some_spells readable = record { took = some_took readable; reads = some_reads readable }
 
--- ---- [word x]
+-- ---- elements of any kind
 
--- the word is there, and what it wants
-pub record Given {X : Type 0} (word : List ℕ) (Is : List Token → X → Type 0) (ts : List Token) (y : Option X × List Token) : Type 0 where
-  pub x : X
-  pub piece : List Token
-  pub is : Is piece x
-  pub value : y.0 ≡ Some x
-  pub whole : ts ≡ Word word ∷ (piece ++ y.1)
+not_open_front : (ts rest : List Token) → AllByRecursion IsPlain ts → 0 < length ts → begins_symbol Open (ts ++ rest) ≡ false
+not_open_front [] rest plain h = absurd (omega (arith, h))
+not_open_front (t ∷ ts) rest plain h = plain.0.0
 
-pub behind_given : {X : Type 0} {read : List Token → Read X} {Is : List Token → X → Type 0} {Ends : List Token → Type 0} (word : List ℕ) → Spells read Is Ends → (ts : List Token) (y : Option X × List Token) → begins word ts ≡ true → behind_word word read ts ≡ Some y → Given word Is ts y
-behind_given {X = X} {read = read} {Is = Is} word spells ts y begun e =
-    let e' = subst (λ (b : Bool). cond b (read (drop 1 ts) >>= λ x. Some (Some x.0, x.1)) (Some (None, ts)) ≡ Some y) begun e in
-    let a = bind_some (read (drop 1 ts)) (λ x. Some (Some x.0, x.1)) y e' in
-    let t = spells.took (drop 1 ts) a.0 a.1 in
-    let same = some_is (Some a.0.0, a.0.1) y a.2 in
-    record {
-      x = a.0.0;
-      piece = t.piece;
-      is = t.is;
-      value = ap (λ (z : Option X × List Token). z.0) (sym same);
-      whole = begins_is word ts begun ∙ ap (λ (us : List Token). Word word ∷ us) t.whole ∙ ap (λ (z : Option X × List Token). Word word ∷ (t.piece ++ z.1)) same;
-    }
+not_close_front : (ts rest : List Token) → AllByRecursion IsPlain ts → 0 < length ts → begins_symbol Close (ts ++ rest) ≡ false
+not_close_front [] rest plain h = absurd (omega (arith, h))
+not_close_front (t ∷ ts) rest plain h = plain.0.1
 
-pub behind_took : {X : Type 0} {read : List Token → Read X} {Is : List Token → X → Type 0} {Ends : List Token → Type 0} (word : List ℕ) → Spells read Is Ends → (ts : List Token) (y : Option X × List Token) → behind_word word read ts ≡ Some y → Took (IsBehind word Is) ts y
-behind_took {X = X} {read = read} {Is = Is} word spells ts y e = cases (begins word ts) refl
-  where
-    cases : (b : Bool) → begins word ts ≡ b → Took (IsBehind word Is) ts y
-    cases true begun =
-        let g = behind_given word spells ts y begun e in
-        record { piece = Word word ∷ g.piece; whole = g.whole; is = subst (λ (o : Option X). IsBehind word Is (Word word ∷ g.piece) o) (sym g.value) (Behind g.piece g.x g.is) }
-    cases false other =
-        let e' = subst (λ (b : Bool). cond b (read (drop 1 ts) >>= λ x. Some (Some x.0, x.1)) (Some (None, ts)) ≡ Some y) other e in
-        subst (λ (z : Option X × List Token). Took (IsBehind word Is) ts z) (some_is (None, ts) y e') (record { piece = []; whole = refl; is = Missing })
+readable : {X : Type 0} {read : List Token → Read X} {follows : List Token → Bool} → IsElement read follows → Readable read (IsReadAs read) (λ rest. follows rest ≡ true)
+readable {read = read} is = record {
+  took = λ ts x e. let t = is.front ts x.1 x.0 e in record { piece = t.0; whole = t.1; is = t.2 };
+  reads = λ ts rest x e ends. is.alike ts rest x e ends;
+  heads = λ ts rest x e. record {
+    ends = is.element_follows ts rest x e;
+    not_open = not_open_front ts rest (is.plain ts x e) (is.some ts x e);
+    not_comma = is.no_comma ts rest x e;
+    not_close = not_close_front ts rest (is.plain ts x e) (is.some ts x e);
+  };
+  open_ends = is.open_follows;
+  comma_ends = is.comma_follows;
+  close_ends = is.close_follows;
+  plain = is.plain;
+  some = is.some;
+}
 
-pub same_word : (word : List ℕ) → bytes_eq word word ≡ true
-same_word word = (bytes_eq-Decides word word).1 refl
+pub list_spelled : {X : Type 0} (read : List Token → Read X) (follows : List Token → Bool) → IsElement read follows → (ts rest : List Token) (l : Elements X) → list_at read ts ≡ Some (l, rest) → IsListBefore (IsReadAs read) ts l rest
+list_spelled read follows is ts rest l e = let t = list_took (readable is) ts (l, rest) e in (t.piece, t.whole, t.is)
 
-pub behind_reads : {X : Type 0} {read : List Token → Read X} {Is : List Token → X → Type 0} {Ends : List Token → Type 0} (word : List ℕ) → Spells read Is Ends → (ts rest : List Token) (o : Option X) → IsBehind word Is ts o → begins word rest ≡ false → Ends rest → behind_word word read (ts ++ rest) ≡ Some (o, rest)
-behind_reads word spells _ rest _ Missing other ends = rw other refl
-behind_reads word spells _ rest _ (Behind ts x is) other ends = rw (same_word word, spells.reads ts rest x is ends) refl
+pub spelled_read : {X : Type 0} (read : List Token → Read X) (follows : List Token → Bool) → IsElement read follows → (ts rest : List Token) (l : Elements X) → IsListBefore (IsReadAs read) ts l rest → list_at read ts ≡ Some (l, rest)
+spelled_read read follows is ts rest l own = ap (list_at read) own.1 ∙ list_reads (readable is) own.0 rest l own.2

@@ -45,7 +45,8 @@ AreApart steps = (from : ℕ) (name : Name) (other : ℕ) (another : Name) (at :
 
 -- each number stays
 abbrev pub Grows : Steps → Steps → Type 0
-Grows old new = (from : ℕ) (name : Name) (at : ℕ) → step_from old from name ≡ Some at → step_from new from name ≡ Some at
+Grows old new = (from : ℕ) (name : Name) (at : ℕ) → step_from old from name ≡ Some at →
+    step_from new from name ≡ Some at
 
 -- ---- the numbers of many paths
 
