@@ -1,28 +1,28 @@
 //! Names of interfaces.
 
-ghost use Rattle.std.specs.Prelude.{◌≡◌, IfOk, true, string_bytes};
+ghost use Rattle.std.specs.Prelude.{◌≡◌, ◌≤◌, take, true};
 ghost use Rattle.pf_words.specs.Words.{is_interface_text};
 ghost use Rattle.pf_ruleset.specs.Names.{name_if};
 
-use crate::text::ascii_text;
 use pf_words::is_interface_text;
-use std::alloc::{AllocError, Global};
 use std::marker::Model;
 
 /// The name of an interface or of a group of them: a letter, and up to 14 letters, digits, `_`, `-` and `.`
-/// (pf.conf(5), `on`). It is seen as its bytes.
+/// (pf.conf(5), `on`). It is seen as its bytes, which stand in it: no memory is taken for it.
 #[derive(Debug, Drop)]
 pub struct InterfaceName {
-    text: String,
-    ghost form: { is_interface_text (string_bytes text) ≡ true },
+    bytes: [u8; 15],
+    len: u8,
+    ghost fits: { len ≤ 15 },
+    ghost form: { is_interface_text (take len bytes) ≡ true },
 }
 
 impl Model for InterfaceName {
-    ghost use Rattle.std.specs.Prelude.{List, ℕ, string_bytes};
+    ghost use Rattle.std.specs.Prelude.{List, ℕ, take};
 
     ghost Value = { List ℕ };
 
-    ghost view = { λ n. string_bytes n.text };
+    ghost view = { λ n. take n.len n.bytes };
 }
 
 impl PartialEq for InterfaceName {
@@ -46,16 +46,20 @@ impl Eq for InterfaceName {
 }
 
 impl InterfaceName {
-    /// The name that the bytes are, none where they have another form. A growth that is refused is the error.
-    #[tactic(auto, using(pf_words::proofs::Ascii::interface_text_ascii))]
-    pub fn new(alloc: Global, bytes: &[u8]) -> Result<Option<InterfaceName>, AllocError>
-        ensures { IfOk result (λ name. name ≡ name_if is_interface_text bytes.now) }
+    /// The name that the bytes are, none where they have another form.
+    #[tactic(auto, using(crate::proofs::Texts::interface_text_short))]
+    pub fn new(bytes: &[u8]) -> Option<InterfaceName>
+        ensures { result ≡ name_if is_interface_text bytes.now }
     {
         if !is_interface_text(bytes) {
-            return Ok(None);
+            return None;
         }
-        let text = ascii_text(alloc, bytes)?;
-        Ok(Some(InterfaceName { text }))
+        let mut own = [0u8; 15];
+        own[..bytes.len()].copy_from_slice(bytes);
+        Some(InterfaceName {
+            bytes: own,
+            len: bytes.len() as u8,
+        })
     }
 
     /// Its bytes.
@@ -63,21 +67,27 @@ impl InterfaceName {
         ensures bytes { result.now ≡ self.now }
         ensures form { is_interface_text self.now ≡ true }
     {
-        self.text.as_bytes()
+        &self.bytes[..self.len as usize]
     }
 
     /// The name as text.
+    #[tactic(auto, using(crate::proofs::Texts::interface_text_utf8))]
     pub fn as_str(&self) -> &str
         ensures { result.now ≡ self.now }
     {
-        self.text.as_str()
+        match str::from_utf8(self.as_bytes()) {
+            Ok(text) => text,
+            Err(_) => "",
+        }
     }
 
-    /// The same name once more. A growth that is refused is the error.
-    pub fn copied(&self, alloc: Global) -> Result<InterfaceName, AllocError>
-        ensures { IfOk result (λ name. name ≡ self.now) }
+    /// The same name once more.
+    pub fn copied(&self) -> InterfaceName
+        ensures { result ≡ self.now }
     {
-        let text = String::from_str(alloc, self.text.as_str())?;
-        Ok(InterfaceName { text })
+        InterfaceName {
+            bytes: self.bytes,
+            len: self.len,
+        }
     }
 }
