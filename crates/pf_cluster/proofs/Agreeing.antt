@@ -17,7 +17,7 @@ use Rattle.px_replica.specs.Made.{same}
 use Rattle.pf_config.specs.Map.{Configuration}
 use Rattle.pf_effect.specs.Effect.{empty}
 use Rattle.pf_eval.specs.Verdicts.{judgement}
-use Rattle.pf_node.specs.Applied.{taken, after}
+use Rattle.pf_node.specs.Applied.{entry_applied, after}
 use Rattle.pf_node.specs.Nodes.{applied_of, config_of}
 use Rattle.pf_node.specs.declared.state.Node.{Node}
 use Rattle.pf_cluster.specs.Clusters as clusters
@@ -112,6 +112,6 @@ equally_applied G H g group before more may i j x y mine theirs equal =
     let a = configured x (clusters.after before clusters.begun) early i l.early.nodes mine in
     let b = configured y (clusters.after (before ++ more) clusters.begun) late j l.late.nodes theirs in
     let is : config_of x ≡ config_of y =
-    always_same_state same same_exact n group.few l.before l.more taken empty (applied_of x) i j (config_of x) (config_of y) a
+    always_same_state same same_exact n group.few l.before l.more entry_applied empty (applied_of x) i j (config_of x) (config_of y) a
     (subst (λ (k : ℕ). after (learned_of late j) k ≡ Some (config_of y)) (sym equal) b) in
     (is, λ p. ap (λ (c : Configuration). judgement c p) is)

@@ -12,7 +12,7 @@ use Rattle.pf_config.specs.Map.{Configuration}
 use Rattle.pf_effect.specs.Effect.{empty}
 use Rattle.pf_eval.specs.Verdicts.{judgement}
 use Rattle.px_replica.specs.Made.{same}
-use Rattle.pf_node.specs.Applied.{taken, after}
+use Rattle.pf_node.specs.Applied.{entry_applied, after}
 use Rattle.pf_node.specs.Nodes.{applied_of, config_of}
 use Rattle.pf_lab.specs.Labs.{state_of}
 use Rattle.pf_lab.specs.Same.{LabsAgree, EquallyApplied}
@@ -36,7 +36,7 @@ configured w m x here =
 one_configuration : (n : ℕ) → n ≤ 15 → (events : List (Event Bytes)) (m j k : ℕ) (x y : Configuration) →
     after (learned_of (world_after same n events) m) k ≡ Some x → after (learned_of (world_after same n events) j) k ≡ Some y → x ≡ y
 one_configuration n few events m j k x y ix iy =
-    always_same_state same same_exact n few events [] taken empty k m j x y ix
+    always_same_state same same_exact n few events [] entry_applied empty k m j x y ix
     (subst (λ (es : List (Event Bytes)). after (learned_of (world_after same n es) j) k ≡ Some y) (sym (append-nil events)) iy)
 
 pub equally_applied : EquallyApplied

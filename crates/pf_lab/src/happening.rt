@@ -12,6 +12,7 @@ ghost use Rattle.pf_lab.specs.Outcomes.{Tells, is_unknown, outcome_in, is_bad, b
 ghost use Rattle.pf_lab.specs.Ever.{ever_of, IsEver, IsAgreed};
 ghost use Rattle.pf_lab.specs.Same.{AreEqual};
 ghost use Rattle.pf_lab.specs.Labs.{IsSeat, IsWorld, cluster_of, state_of, group_of};
+ghost use Rattle.px_core.specs.declared.limits.TheConstants.{MEMBERS};
 
 use crate::coming::{named, what_comes};
 use crate::event::{LabAction, LabEvent, LabFault, Outcome};
@@ -143,7 +144,7 @@ impl Lab {
 
 /// A member that starts with an empty record.
 fn seat(alloc: Global, members: u8, m: u8) -> Result<Seat, LabFault>
-    requires few { members ≤ 15 }
+    requires few { members ≤ MEMBERS }
     requires member { m < members }
     ensures seat { IfOk result (λ s. IsSeat start (cluster_of members) m (state_of s) (group_of s)) }
     ensures memory { OnErr result (result ≡ Err LabFault.Memory) }
@@ -163,7 +164,7 @@ impl Lab {
     /// The world as it begins: 1 to 15 members, each with an empty record, and nothing sent.
     pub fn new(alloc: Global, members: u8) -> Result<Lab, LabFault>
         requires some { 1 ≤ members }
-        requires few { members ≤ 15 }
+        requires few { members ≤ MEMBERS }
         ensures world { IfOk result (λ lab. IsWorld lab (cluster_of members) start) }
         ensures memory { OnErr result (result ≡ Err LabFault.Memory) }
     {
@@ -189,7 +190,7 @@ impl Lab {
 /// is wanting first.
 pub fn lab(alloc: Global, members: u8, events: &[LabEvent]) -> Result<Lab, LabFault>
     requires some { 1 ≤ members }
-    requires few { members ≤ 15 }
+    requires few { members ≤ MEMBERS }
     ensures world { IfOk result (λ lab. IsWorld lab (cluster_of members)
         (run same members (flat_map happenings events.now) start)) }
     ensures ever { IfOk result (λ lab. IsEver (ever_of lab.seats.items)

@@ -17,6 +17,7 @@ ghost use Rattle.pf_node.specs.Nodes.{state_in, membership_of, has_failed};
 ghost use Rattle.pf_lab.specs.Coming.{IsInput, IsAskable};
 ghost use Rattle.pf_lab.specs.Outcomes.{outcome_of};
 ghost use Rattle.pf_lab.specs.Labs.{IsAnswered, IsLabs, state_of, group_of};
+ghost use Rattle.px_core.specs.declared.limits.TheConstants.{MEMBERS};
 
 use crate::coming::What;
 use crate::event::{LabFault, Outcome};
@@ -84,7 +85,7 @@ fn tick(node: &mut Node<MemoryRecords>, out: &mut Vec<Datagram>) -> Result<Outco
         (answer (membership_of node.old).members (membership_of node.old).me (state_in node.old) Ticks)) }
     ensures stays { OnErr result (state_in node.new ≡ state_in node.old) }
     ensures memory { OnErr result (result ≡ Err LabFault.Memory) }
-    ensures few { OnOk result (length out.new.items ≤ 15) }
+    ensures few { OnOk result (length out.new.items ≤ MEMBERS) }
     ensures works { has_failed node.new ≡ false }
     ensures sound { IsSound (membership_of node.new).members (state_in node.new).stored }
     ensures group { membership_of node.new ≡ membership_of node.old }
@@ -113,7 +114,7 @@ fn receive(
     ensures told { IfOk result (λ o. o ≡ Outcome.Nothing) }
     ensures stays { OnErr result (state_in node.new ≡ state_in node.old) }
     ensures memory { OnErr result (result ≡ Err LabFault.Memory) }
-    ensures few { OnOk result (length out.new.items ≤ 15) }
+    ensures few { OnOk result (length out.new.items ≤ MEMBERS) }
     ensures works { has_failed node.new ≡ false }
     ensures sound { IsSound (membership_of node.new).members (state_in node.new).stored }
     ensures group { membership_of node.new ≡ membership_of node.old }
@@ -138,7 +139,7 @@ impl Seat {
             (answer (group_of self.old).members (group_of self.old).me (state_in self.old.node) x)) }
         ensures stays { OnErr result (state_in self.new.node ≡ state_in self.old.node) }
         ensures memory { OnErr result (result ≡ Err LabFault.Memory) }
-        ensures few { OnOk result (length out.new.items ≤ 15) }
+        ensures few { OnOk result (length out.new.items ≤ MEMBERS) }
         ensures group { group_of self.new ≡ group_of self.old }
         ensures up { self.new.is_up ≡ self.old.is_up }
     {

@@ -3,7 +3,7 @@
 ghost use Rattle.std.specs.Prelude.{◌≡◌, false};
 ghost use Rattle.px_replica.specs.Seen.{IsSound};
 ghost use Rattle.pf_node.specs.Nodes.{has_failed, membership_of, state_in};
-ghost use Rattle.pf_lab.specs.Props.{sound_prop};
+ghost use Rattle.pf_lab.specs.inner.Props.{sound_prop};
 
 use pf_node::Node;
 use px_records::MemoryRecords;

@@ -13,6 +13,7 @@ ghost use Rattle.px_replica.specs.declared.datagram.Datagram as datagrams;
 ghost use Rattle.pf_lab.specs.Coming.{Came, IsAskable};
 ghost use Rattle.pf_lab.specs.Labs.{SeatsAre, for_members};
 ghost use Rattle.pf_lab.specs.Outcomes.{Tells, is_unknown, outcome_in};
+ghost use Rattle.px_core.specs.declared.limits.TheConstants.{MEMBERS};
 
 use crate::coming::What;
 use crate::event::{LabFault, Outcome};
@@ -38,7 +39,7 @@ pub(crate) fn run_at(
         Tells result (is_unknown g.members w (Runs a)) (outcome_in g.members w (Runs a)) }
     ensures stays { (g : Group) (w : World Bytes) (sent : List datagrams.Datagram) →
         SeatsAre seats.old.items g sent w → OnErr result (SeatsAre seats.new.items g sent w) }
-    ensures few { OnOk result (length out.new.items ≤ 15) }
+    ensures few { OnOk result (length out.new.items ≤ MEMBERS) }
     ensures count { length seats.new.items ≡ length seats.old.items }
     ensures bad { (result ≡ Err LabFault.BadEvent) ↔ (length seats.old.items ≤ m) }
 {

@@ -10,6 +10,7 @@ ghost use Rattle.px_replica.specs.Made.{same};
 ghost use Rattle.pf_lab.specs.Ever.{ever_of, IsEver, IsAgreed};
 ghost use Rattle.pf_lab.specs.Labs.{IsWorld, IsShown, cluster_of};
 ghost use Rattle.pf_lab.specs.declared.seat.Seat.{Seat};
+ghost use Rattle.px_core.specs.declared.limits.TheConstants.{MEMBERS};
 
 use crate::ever::EverLearned;
 use crate::state::Lab;
@@ -52,10 +53,10 @@ impl Lab {
     /// What the members ever learned, those that are stopped too. Takes no memory.
     pub fn ever_learned(&self) -> EverLearned<'_>
         ensures seats { result.seats.now ≡ self.now.seats.items }
-        ensures ever { (n : ℕ) → 1 ≤ n → n ≤ 15 → (events : List (Event Bytes)) →
+        ensures ever { (n : ℕ) → 1 ≤ n → n ≤ MEMBERS → (events : List (Event Bytes)) →
             IsWorld self.now (cluster_of n) (world_after same n events) →
             IsEver (ever_of result.seats.now) (world_after same n events) }
-        ensures agreed { (n : ℕ) → 1 ≤ n → n ≤ 15 → (events : List (Event Bytes)) →
+        ensures agreed { (n : ℕ) → 1 ≤ n → n ≤ MEMBERS → (events : List (Event Bytes)) →
             IsWorld self.now (cluster_of n) (world_after same n events) →
             IsAgreed n (world_after same n events) (ever_of result.seats.now) }
     {

@@ -1,6 +1,7 @@
 //! A script over one lab.
 
 ghost use Rattle.std.specs.Prelude.{◌≤◌, IfOk, IfSome};
+ghost use Rattle.pf_lab_scripts.specs.declared.running.TheConstants.{MEMBERS};
 
 use crate::bench::Bench;
 use crate::numbers::number_in;
@@ -14,7 +15,7 @@ const MEMBERS: u64 = 15;
 
 /// How many members the words `members N` say; none for other words, or unless there are 1 to 15.
 fn members_in(words: &[&str]) -> Option<u8>
-    ensures { IfSome result (λ n. (1 ≤ n) × (n ≤ 15)) }
+    ensures { IfSome result (λ n. (1 ≤ n) × (n ≤ MEMBERS)) }
 {
     let [first, number] = words else {
         return None;
@@ -31,7 +32,7 @@ fn members_in(words: &[&str]) -> Option<u8>
 
 /// How many members the first line says that isn't blank, and what stands behind it; none where it doesn't.
 fn begun(alloc: Global, script: &[u8]) -> Result<Option<(u8, &[u8])>, AllocError>
-    ensures { IfOk result (λ o. IfSome o (λ b. (1 ≤ b.0) × (b.0 ≤ 15))) }
+    ensures { IfOk result (λ o. IfSome o (λ b. (1 ≤ b.0) × (b.0 ≤ MEMBERS))) }
 {
     let mut left = script;
     while let Some((line, rest)) = cut_line(left) {
@@ -52,7 +53,7 @@ fn begun(alloc: Global, script: &[u8]) -> Result<Option<(u8, &[u8])>, AllocError
 /// A lab of so many members, of whose messages nothing is delivered or shown.
 fn new_bench(alloc: Global, members: u8) -> Result<Bench, AllocError>
     requires some { 1 ≤ members }
-    requires few { members ≤ 15 }
+    requires few { members ≤ MEMBERS }
 {
     match Lab::new(alloc, members) {
         Ok(lab) => Ok(Bench {
@@ -82,7 +83,7 @@ fn finish(
 /// Does the lines behind the first.
 fn run_lines(alloc: Global, members: u8, lines: &[u8], out: &mut String) -> Result<(), AllocError>
     requires some { 1 ≤ members }
-    requires few { members ≤ 15 }
+    requires few { members ≤ MEMBERS }
 {
     let mut bench = new_bench(alloc, members)?;
     let mut waiting = None;

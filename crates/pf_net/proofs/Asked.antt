@@ -13,7 +13,7 @@ use Rattle.px_wire.specs.Message.{Group, Lent, Message, DatagramBytes}
 use Rattle.px_wire.specs.Views.{lent_of}
 use Rattle.pf_net.specs.declared.answer.AskAnswer.{AskAnswer}
 use Rattle.pf_net.specs.declared.answer.AskAnswer.TheVariants.{NoAnswer}
-use Rattle.pf_net.specs.Asking.{told, Answers, Hears, Listens}
+use Rattle.pf_net.specs.Asking.{ask_answer, Answers, Hears, Listens}
 
 abbrev seen : (o k : ℕ) → Bytes → node.Entry Bytes
 seen o k c = record { origin = o; number = k; command = c }
@@ -55,7 +55,7 @@ view_lent e bytes (Some v) d same text =
 
 -- a message of the node is the answer that it tells, or none
 pub answers_told : (g : Group) (from me n : ℕ) (bytes : List ℕ) (x : Message) (r : Option AskAnswer) → me ≡ 255 →
-    from ≡ n → DatagramBytes g from me x bytes → r ≡ told x →
+    from ≡ n → DatagramBytes g from me x bytes → r ≡ ask_answer x →
     ((f : ℕ) (y : Message) → DatagramBytes g f me y bytes → (from ≡ f) × (x ≡ y)) → Answers g n (Some bytes) r
 answers_told g from me n bytes x (Some a) e f d t only =
     (x, subst (λ (k : ℕ). DatagramBytes g k 255 x bytes) f (subst (λ (m : ℕ). DatagramBytes g from m x bytes) e d), sym t)
@@ -63,7 +63,7 @@ answers_told g from me n bytes x None e f d t only = λ a is.
     let y = is.0 in
     let at_me : DatagramBytes g n me y bytes = subst (λ (m : ℕ). DatagramBytes g n m y bytes) (sym e) is.1 in
     let same : x ≡ y = (only n y at_me).1 in
-    let bad : None ≡ Some a = t ∙ ap told same ∙ is.2 in
+    let bad : None ≡ Some a = t ∙ ap ask_answer same ∙ is.2 in
     absurd cc
 
 -- ---- waits

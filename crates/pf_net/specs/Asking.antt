@@ -27,23 +27,23 @@ IsAsk g node c bytes = DatagramBytes g 255 node (ask (lent_ask c)) bytes
 -- ---- what is answered
 
 -- what a message answers to the token 1
-abbrev pub told : Message → Option AskAnswer
-told (asked t k) = if t == 1 then Some (Asked k) else None
-told (ask_refused t c) = if t == 1 then Some (Refused c) else None
-told (prepare b p) = None
-told (promise b p a) = None
-told (accept b p e) = None
-told (vote b p e) = None
-told (nack b p q) = None
-told (need p) = None
-told (learned p e) = None
-told (ask e) = None
-told (prepare_all b p) = None
-told (promise_all b p top a) = None
+abbrev pub ask_answer : Message → Option AskAnswer
+ask_answer (asked t k) = if t == 1 then Some (Asked k) else None
+ask_answer (ask_refused t c) = if t == 1 then Some (Refused c) else None
+ask_answer (prepare b p) = None
+ask_answer (promise b p a) = None
+ask_answer (accept b p e) = None
+ask_answer (vote b p e) = None
+ask_answer (nack b p q) = None
+ask_answer (need p) = None
+ask_answer (learned p e) = None
+ask_answer (ask e) = None
+ask_answer (prepare_all b p) = None
+ask_answer (promise_all b p top a) = None
 
 -- the bytes spell a message of the node to one who is no member, and that is the answer
 abbrev pub IsAnswer : Group → (node : ℕ) → List ℕ → AskAnswer → Type 0
-IsAnswer g node bytes a = (x : Message) × DatagramBytes g node 255 x bytes × (told x ≡ Some a)
+IsAnswer g node bytes a = (x : Message) × DatagramBytes g node 255 x bytes × (ask_answer x ≡ Some a)
 
 -- nothing came, or something else
 abbrev pub IsPassedOver : Group → (node : ℕ) → Option (List ℕ) → Type 0

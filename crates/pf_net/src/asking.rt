@@ -7,7 +7,8 @@ ghost use Rattle.pf_entry.specs.Owned.{is_over};
 ghost use Rattle.px_wire.specs.Message.{group};
 ghost use Rattle.px_wire.specs.Views.{lent_of, message_of};
 ghost use Rattle.px_transport.specs.Wires.{Grows};
-ghost use Rattle.pf_net.specs.Asking.{asked_entry, lent_ask, IsAsk, told, Answers, Hears, Listens};
+ghost use Rattle.pf_net.specs.Asking.{asked_entry, lent_ask, IsAsk, ask_answer, Answers, Hears, Listens};
+ghost use Rattle.pf_net.specs.declared.asking.TheConstants.{ASKER};
 
 use crate::answer::AskAnswer;
 use pf_entry::{Command, EncodeFault, encode_asked};
@@ -60,7 +61,7 @@ fn ask_bytes(
     node: u8,
     command: &Command,
 ) -> Result<Vec<u8>, NodeFault>
-    requires asker { m.now.me ≡ 255 }
+    requires asker { m.now.me ≡ ASKER }
     requires member { node < m.now.members }
     ensures spelled { IfOk result (λ v. IsAsk (group m.now) node command.now v.items) }
     ensures long { result ≡ Err NodeFault.TooLong → IsTrue (is_over (asked_entry command.now)) }
@@ -81,8 +82,8 @@ fn ask_bytes(
 }
 
 /// What a message answers to the token.
-fn told(message: &MessageView) -> Option<AskAnswer>
-    ensures { result ≡ told (message_of message.now) }
+fn ask_answer(message: &MessageView) -> Option<AskAnswer>
+    ensures { result ≡ ask_answer (message_of message.now) }
 {
     match message {
         Message::Asked { token, number } => {
@@ -109,18 +110,24 @@ fn told(message: &MessageView) -> Option<AskAnswer>
 
 /// What a datagram answers, if the node sent it and it answers.
 fn answer_in(m: &Membership, node: u8, bytes: &[u8]) -> Option<AskAnswer>
-    requires { m.now.me ≡ 255 }
+    requires { m.now.me ≡ ASKER }
     ensures { Answers (group m.now) node (Some bytes.now) result }
 {
     match decode(m, bytes) {
-        Ok((from, message)) => { if from == node { told(&message) } else { None } }
+        Ok((from, message)) => {
+            if from == node {
+                ask_answer(&message)
+            } else {
+                None
+            }
+        }
         Err(_) => None,
     }
 }
 
 /// Waits once: the node's answer, if it comes.
 fn listen<W: Wire>(m: &Membership, node: u8, wire: &mut W) -> Option<AskAnswer>
-    requires { m.now.me ≡ 255 }
+    requires { m.now.me ≡ ASKER }
     ensures heard { Hears (group m.now) node (W.given wire.old) result (W.given wire.new) }
     ensures quiet { W.handed wire.new ≡ W.handed wire.old }
 {
@@ -133,7 +140,7 @@ fn listen<W: Wire>(m: &Membership, node: u8, wire: &mut W) -> Option<AskAnswer>
 
 /// Waits five times at most: the node's first answer.
 fn listen_on<W: Wire>(m: &Membership, node: u8, wire: &mut W) -> AskAnswer
-    requires { m.now.me ≡ 255 }
+    requires { m.now.me ≡ ASKER }
     ensures heard { Listens (group m.now) node 5 (W.given wire.old) result (W.given wire.new) }
     ensures quiet { W.handed wire.new ≡ W.handed wire.old }
 {
@@ -157,7 +164,7 @@ pub fn ask_once<W: Wire>(
     command: &Command,
     wire: &mut W,
 ) -> Result<AskAnswer, NodeFault>
-    requires asker { m.now.me ≡ 255 }
+    requires asker { m.now.me ≡ ASKER }
     requires member { node < m.now.members }
     ensures sent { OnOk result ((bytes : List ℕ) × IsAsk (group m.now) node command.now bytes ×
         Grows (W.handed wire.old) (node, bytes) (W.handed wire.new)) }

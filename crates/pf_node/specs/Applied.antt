@@ -14,9 +14,9 @@ after_read c None = c
 after_read c (Some e) = after_command c e.command
 
 -- the configuration after the command that an entry spells
-abbrev pub taken : Configuration → Entry Bytes → Configuration
-taken c e = after_read c (reading (spelled e))
+abbrev pub entry_applied : Configuration → Entry Bytes → Configuration
+entry_applied c e = after_read c (reading (spelled e))
 
 -- the configuration after the entries at positions 0 to k-1, from the empty one; none where one of them isn't learned
 abbrev pub after : Log Bytes → (k : ℕ) → Option Configuration
-after log k = state_after taken empty log k
+after log k = state_after entry_applied empty log k

@@ -7,7 +7,7 @@ ghost use Rattle.pf_entry.specs.Views.{command_of};
 ghost use Rattle.px_model.specs.Entries.{entry_of};
 ghost use Rattle.px_model.specs.Step.{front};
 ghost use Rattle.px_replica.specs.Replicas.{learned_by};
-ghost use Rattle.pf_node.specs.Applied.{after, taken};
+ghost use Rattle.pf_node.specs.Applied.{after, entry_applied};
 
 use pf_config::Config;
 use pf_effect::{ApplyFault, apply};
@@ -37,7 +37,7 @@ fn apply_command(
 
 /// The effect of the command that an entry spells.
 fn apply_entry(alloc: Global, config: &mut Config, entry: &Entry) -> Result<(), AllocError>
-    ensures ok { OnOk result (config.new ≡ taken config.old (entry_of entry.now)) }
+    ensures ok { OnOk result (config.new ≡ entry_applied config.old (entry_of entry.now)) }
     ensures err { OnErr result (config.new ≡ config.old) }
 {
     match decode(entry.bytes()) {

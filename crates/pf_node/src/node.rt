@@ -21,6 +21,7 @@ ghost use Rattle.pf_node.specs.Applied.{after};
 ghost use Rattle.pf_node.specs.Asked.{unnamed, bytes_of};
 ghost use Rattle.pf_node.specs.Nodes.{records_of, learned_by, membership_of, has_failed, state_in, config_of};
 ghost use Rattle.pf_node.specs.Nodes.{applied_of, replica_of};
+ghost use Rattle.px_core.specs.declared.limits.TheConstants.{MEMBERS};
 
 use crate::applying::take_up;
 use crate::asking::{asked_bytes, asked_entry};
@@ -133,7 +134,7 @@ impl<R: Records> Node<R> {
             state_in self.new ≡ state_in self.old) }
         ensures volatile { OnErr result ((state_in self.new).volatile ≡ (state_in self.old).volatile) }
         ensures out { OnErr result (out.new.items ≡ out.old.items) }
-        ensures few { OnOk result (length out.new.items ≤ length out.old.items + 15) }
+        ensures few { OnOk result (length out.new.items ≤ length out.old.items + MEMBERS) }
         ensures log { R.is_honest (records_of self.new) → learned_by self.new ≡ learned_by self.old }
         ensures stop { has_failed self.old ≡ false → R.is_honest (records_of self.new) → (left : Record Bytes) →
             R.may_leave (records_of self.new) left →
@@ -187,7 +188,7 @@ impl<R: Records> Node<R> {
             state_in self.new ≡ state_in self.old) }
         ensures volatile { OnErr result ((state_in self.new).volatile ≡ (state_in self.old).volatile) }
         ensures out { OnErr result (out.new.items ≡ out.old.items) }
-        ensures few { OnOk result (length out.new.items ≤ length out.old.items + 15) }
+        ensures few { OnOk result (length out.new.items ≤ length out.old.items + MEMBERS) }
         ensures stop { has_failed self.old ≡ false → R.is_honest (records_of self.new) → (left : Record Bytes) →
             R.may_leave (records_of self.new) left →
             LeavesOneOf (group (membership_of self.old)) (membership_of self.old).me (state_in self.old)

@@ -1,2 +1,2 @@
 pub mod Outcomes
-pub mod Places
+pub mod inner

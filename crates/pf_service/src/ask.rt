@@ -5,7 +5,8 @@ ghost use Rattle.clap.specs.Words.{found_of, rows_of};
 ghost use Rattle.pf_entry.specs.Owned.{command_value};
 ghost use Rattle.pf_command.specs.Asked.{asked, given_in, Change};
 ghost use Rattle.pf_service.specs.declared.outcome.Outcome.TheVariants.{Memory, Refused, Unread};
-ghost use Rattle.pf_service.specs.Places.{has_place};
+ghost use Rattle.pf_service.specs.inner.Places.{has_place};
+ghost use Rattle.pf_service.specs.declared.ask.TheConstants.{ASKER};
 
 use crate::outcome::{Outcome, answer_outcome, fault_outcome};
 use clap::ArgMatches;
@@ -133,7 +134,7 @@ fn asked_over<W: Wire>(
     command: &Command,
     wire: &mut W,
 ) -> Outcome
-    requires asker { m.now.me ≡ 255 }
+    requires asker { m.now.me ≡ ASKER }
     requires member { words.node < m.now.members }
 {
     match ask_once(alloc, m, words.node, command, wire) {
@@ -145,7 +146,7 @@ fn asked_over<W: Wire>(
 /// Who is asked: the cluster and how many members it has, and nobody of them; none where the node is none of them.
 fn membership(words: AskWords<'_>) -> Option<Membership>
     ensures some { IfSome result (λ m. (m.cluster ≡ words.entry.cluster) × (m.members ≡ words.entry.members) ×
-        (m.me ≡ 255)) }
+        (m.me ≡ ASKER)) }
     ensures none { IsSome result ↔ IsTrue (has_place words.entry.node words.entry.members) }
 {
     if words.node >= words.members {
@@ -162,7 +163,7 @@ fn asked(
     m: &Membership,
     command: &Command,
 ) -> Outcome
-    requires asker { m.now.me ≡ 255 }
+    requires asker { m.now.me ≡ ASKER }
     requires member { words.node < m.now.members }
 {
     match bind(rt, alloc, words.to) {

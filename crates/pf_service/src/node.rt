@@ -4,7 +4,7 @@ ghost use Rattle.std.specs.Prelude.{◌≡◌, ◌<◌, ◌⊎◌, ◌↔◌, Er
 ghost use Rattle.std.specs.Prelude.{[], map, option_map, unwrap_or};
 ghost use Rattle.pf_service.specs.declared.outcome.Outcome.TheVariants.{Memory, Refused};
 ghost use Rattle.pf_service.specs.Outcomes.{adopt_outcome};
-ghost use Rattle.pf_service.specs.Places.{is_count, has_place};
+ghost use Rattle.pf_service.specs.inner.Places.{is_count, has_place};
 
 use crate::outcome::{Outcome, fault_outcome};
 use clap::ArgMatches;
@@ -197,8 +197,8 @@ fn node_over<S: Alter>(
     (outcome, node.close().release())
 }
 
-/// What `node` comes to: 40 of its numbers, the store's refusals, 82, and the first refusal of a turn, in this order. The
-/// store is closed, whatever came of it; what a node has committed stands also where closing fails.
+/// What `node` comes to: 40 of its numbers, the store's refusals, 82, and the first refusal of a turn, in this order.
+/// The store is closed, whatever came of it; what a node has committed stands also where closing fails.
 pub(crate) fn node_outcome(rt: &HostRuntime, alloc: Global, words: NodeWords<'_, '_>) -> Outcome
     ensures { has_place words.entry.me (length words.entry.members.now) ≡ false → result ≡ Refused 40 }
 {

@@ -38,8 +38,8 @@ fn outcome_of<R: Read>(
 
 /// What the words `node` and `ask` ask for, the program's name first, with the input and the output that are lent.
 ///
-/// `node` makes turns of a node over UDP, and writes `front F applied A`, or `refused CODE`. `ask` asks a node to take a
-/// command of pfctl's words in, and writes `asked N.NUMBER`, `refused CODE` or `no answer`. Other words are refused.
+/// `node` makes turns of a node over UDP, and writes `front F applied A`, or `refused CODE`. `ask` asks a node to take
+/// a command of pfctl's words in, and writes `asked N.NUMBER`, `refused CODE` or `no answer`. Other words are refused.
 pub fn run_net<S: AsStr, R: Read, W: Write>(
     rt: &HostRuntime,
     alloc: Global,

@@ -1,4 +1,3 @@
 pub mod Status
 pub mod Tool
-pub mod Output
-pub mod Calls
+pub mod inner

@@ -4,8 +4,8 @@ ghost use Rattle.std.specs.Prelude.{◌≡◌, IfOk, map, option_map};
 ghost use Rattle.std.specs.Option.{option_copied};
 ghost use Rattle.clap.specs.Words.{subcommand_rows_of};
 ghost use Rattle.pf_tool.specs.Tool.{packets_in, place_in, place_for, is_ctl, is_lab, called, IsAnswer};
-ghost use Rattle.pf_tool.specs.Calls.{asked};
-ghost use Rattle.pf_tool.specs.Output.{written};
+ghost use Rattle.pf_tool.specs.inner.Calls.{asked};
+ghost use Rattle.pf_tool.specs.inner.Output.{written};
 
 use crate::checking::check_output;
 use crate::output::Output;

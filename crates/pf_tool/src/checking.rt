@@ -2,7 +2,7 @@
 
 ghost use Rattle.std.specs.Prelude.{◌≡◌, IfOk};
 ghost use Rattle.pf_tool.specs.Tool.{check_output};
-ghost use Rattle.pf_tool.specs.Output.{written};
+ghost use Rattle.pf_tool.specs.inner.Output.{written};
 
 use crate::output::{Ending, Output};
 use crate::testing::refusal_line;

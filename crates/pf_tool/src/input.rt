@@ -3,6 +3,7 @@
 ghost use Rattle.std.specs.Prelude.{◌≡◌, ◌≢◌, ◌≤◌, ◌<◌, ℕ, List, Option, Ok, Err, true, false};
 ghost use Rattle.std.specs.Prelude.{length, IfSome, IfOk, IfErr, OnOk};
 ghost use Rattle.std.specs.Io.KnownBytes.{Consumes, IsAtEnd};
+ghost use Rattle.pf_tool.specs.declared.input.TheConstants.{BYTES_MAX};
 
 use crate::status::Status;
 use std::alloc::Global;
@@ -27,15 +28,15 @@ pub enum InputFault {
 
 /// Reads once, onto the end of what was read, and answers whether there may be more.
 fn read_some<R: Read>(reader: &mut R, all: &mut Vec<u8>) -> Result<bool, InputFault>
-    requires { length all.old.items ≤ 16777216 }
+    requires { length all.old.items ≤ BYTES_MAX }
     ensures taken { (first : Option (List ℕ)) → Consumes first (R.remaining reader.old) all.old.items →
         OnOk result (Consumes first (R.remaining reader.new) all.new.items) }
     ensures end { result ≡ Ok false → IsAtEnd (R.remaining reader.new) }
     ensures more { result ≡ Ok true → length all.old.items < length all.new.items }
-    ensures few { OnOk result (length all.new.items ≤ 16777216) }
+    ensures few { OnOk result (length all.new.items ≤ BYTES_MAX) }
     ensures long { (first : Option (List ℕ)) → Consumes first (R.remaining reader.old) all.old.items →
         result ≡ Err InputFault.TooLong → IfSome (R.remaining reader.new) (λ rest.
-        IfSome first (λ input. 16777216 < length input)) }
+        IfSome first (λ input. BYTES_MAX < length input)) }
 {
     let mut buf = [0u8; 4096];
     let Ok(n) = reader.read(&mut buf) else {
@@ -55,9 +56,9 @@ fn read_some<R: Read>(reader: &mut R, all: &mut Vec<u8>) -> Result<bool, InputFa
 /// All that is left to read, up to a limit.
 pub fn read_all<R: Read>(alloc: Global, reader: &mut R) -> Result<Vec<u8>, InputFault>
     ensures whole { IfOk result (λ v. IfSome (R.remaining reader.old) (λ input. v.items ≡ input)) }
-    ensures few { IfOk result (λ v. length v.items ≤ 16777216) }
+    ensures few { IfOk result (λ v. length v.items ≤ BYTES_MAX) }
     ensures long { result ≡ Err InputFault.TooLong → IfSome (R.remaining reader.new) (λ rest.
-        IfSome (R.remaining reader.old) (λ input. 16777216 < length input)) }
+        IfSome (R.remaining reader.old) (λ input. BYTES_MAX < length input)) }
 {
     let mut all = Vec::new(alloc);
     for _ in 0..READS_MAX {

@@ -5,7 +5,7 @@ ghost use Rattle.std.specs.Io.KnownBytes.{Appends};
 ghost use Rattle.clap.specs.Words.{kind_of};
 ghost use Rattle.clap.specs.declared.error.kind.ErrorKind.TheVariants.{OutOfMemory};
 ghost use Rattle.pf_tool.specs.Tool.{line, call_of, Ran};
-ghost use Rattle.pf_tool.specs.Calls.{asked};
+ghost use Rattle.pf_tool.specs.inner.Calls.{asked};
 
 use crate::call::{Call, call_in, output_of};
 use crate::input::{InputFault, read_all};

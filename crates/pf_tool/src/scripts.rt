@@ -3,7 +3,7 @@
 ghost use Rattle.std.specs.Prelude.{◌≡◌, IfOk};
 ghost use Rattle.pf_scripts.specs.Ctl.{printed};
 ghost use Rattle.pf_tool.specs.declared.output.Ending.TheVariants as ending;
-ghost use Rattle.pf_tool.specs.Output.{written};
+ghost use Rattle.pf_tool.specs.inner.Output.{written};
 
 use crate::output::{Ending, Output};
 use pf_lab_scripts::lab;

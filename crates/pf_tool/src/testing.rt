@@ -5,7 +5,7 @@ ghost use Rattle.pf_ruleset.specs.Rulesets.{ruleset_of};
 ghost use Rattle.pf_tool.specs.Tool.{line, refusal_line, verdict_for, verdict_lines, tested_over, nothing_loaded};
 ghost use Rattle.pf_tool.specs.Tool.{refused_load, test_output};
 ghost use Rattle.pf_config.specs.Changes.{load_ruleset};
-ghost use Rattle.pf_tool.specs.Output.{written};
+ghost use Rattle.pf_tool.specs.inner.Output.{written};
 
 use crate::output::{Ending, Output};
 use pf_config::Config;

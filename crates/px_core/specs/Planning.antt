@@ -17,7 +17,7 @@ use Rattle.px_core.specs.declared.plan.Plan.{Plan}
 use Rattle.px_core.specs.declared.plan.CoreFault.{CoreFault}
 use Rattle.px_core.specs.declared.plan.CoreFault.TheVariants as fault
 use Rattle.px_core.specs.declared.state.Core.{Core}
-use Rattle.px_core.specs.Views.{volatile_in, log_in, settled, learning, made, sends_of, HasRoom}
+use Rattle.px_core.specs.Views.{volatile_in, log_in, settled, learning, plan_in, sends_of, HasRoom}
 
 -- What a core stands for: how many members there are, which one it is, what it learned, its volatile part.
 pub record State : Type 0 where
@@ -71,7 +71,7 @@ IsRefusal fault.PositionsSpent answer = answer ≡ Answer.Refused 62
 -- what the core's code gives is this answer
 abbrev pub IsAnswer : Core → Result Plan CoreFault → Answer Bytes → Type 0
 IsAnswer core result answer =
-    MatchResult result (λ plan. answer ≡ Answer.Planned (made core plan)) (λ fault. IsRefusal fault answer)
+    MatchResult result (λ plan. answer ≡ Answer.Planned (plan_in core plan)) (λ fault. IsRefusal fault answer)
 
 -- What a caller sees to: a promise or a vote comes from a member, and a promise is for a position that there is.
 abbrev pub MayComeFrom : (members from : ℕ) → Message EntryView → Type 0

@@ -104,8 +104,8 @@ plan_of n me log v plan = record {
 }
 
 -- the plan, by the core as it stands
-abbrev pub made : Core → Plan → node.Plan Bytes
-made core plan = plan_of core.members core.me (log_in core) (volatile_in core) plan
+abbrev pub plan_in : Core → Plan → node.Plan Bytes
+plan_in core plan = plan_of core.members core.me (log_in core) (volatile_in core) plan
 
 -- ---- room
 

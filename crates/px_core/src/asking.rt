@@ -3,14 +3,14 @@ ghost use Rattle.std.specs.Prelude.{◌≡◌, ℕ, ◌+◌, ◌*◌, ◌^◌, �
 ghost use Rattle.std.specs.Prelude.{map, Some, None, length};
 ghost use Rattle.std.specs.Vec.{vec_len};
 ghost use Rattle.px_model.specs.Node.{Volatile, Log, Answer};
-ghost use Rattle.px_model.specs.Step.{on_ask, on_tick, new_round, use_lead, propose, front, told, positions};
+ghost use Rattle.px_model.specs.Step.{on_ask, on_tick, new_round, use_lead, propose, front, ask_answered, positions};
 ghost use Rattle.px_model.specs.Spelling.{Bytes};
 ghost use Rattle.px_model.specs.Entries.{entry_of, view_of};
 ghost use Rattle.px_core.specs.Logs.{learned_in};
 ghost use Rattle.px_core.specs.declared.state.Core.{Core};
 ghost use Rattle.px_model.specs.Views.{meta_of};
 ghost use Rattle.px_core.specs.Planning.{IsAnswer, IsFor};
-ghost use Rattle.px_core.specs.Views.{plan_of, made, front_in, volatile_in, log_in, attempt_of, lead_of};
+ghost use Rattle.px_core.specs.Views.{plan_of, plan_in, front_in, volatile_in, log_in, attempt_of, lead_of};
 
 use crate::limits::{NUMBERS, POSITIONS, WAITING};
 use crate::plan::{Attempt, CoreFault, Lead, Next, Phase, Plan, Sends};
@@ -169,8 +169,8 @@ impl Core {
     pub(crate) fn ask_from(&self, meta: &Meta, entry: &EntryView) -> Result<Plan, AllocError>
         ensures room { IfOk result (λ plan. IsFor plan self.now) }
         ensures step { IfOk result (λ plan.
-            made self.now plan ≡
-            told self.now.me (view_of entry.now).number (meta_of meta.now).number (volatile_in self.now)
+            plan_in self.now plan ≡
+            ask_answered self.now.me (view_of entry.now).number (meta_of meta.now).number (volatile_in self.now)
             (on_ask self.now.me (meta_of meta.now) (log_in self.now) (volatile_in self.now)
             (view_of entry.now).command)) }
     {

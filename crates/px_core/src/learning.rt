@@ -10,7 +10,7 @@ ghost use Rattle.px_core.specs.Cells.{kept_in};
 ghost use Rattle.px_model.specs.Entries.{entry_of, view_of};
 ghost use Rattle.px_core.specs.Logs.{learned_in};
 ghost use Rattle.px_core.specs.Planning.{IsFor};
-ghost use Rattle.px_core.specs.Views.{plan_of, made, volatile_in, log_in, RoomAt};
+ghost use Rattle.px_core.specs.Views.{plan_of, plan_in, volatile_in, log_in, RoomAt};
 
 use crate::limits::{POSITIONS, WINDOW};
 use crate::plan::{Next, Plan, Sends};
@@ -85,7 +85,7 @@ impl Core {
         requires room { RoomAt position self.now }
         ensures room { IfOk result (λ plan. IsFor plan self.now) }
         ensures step { IfOk result (λ plan.
-            made self.now plan ≡
+            plan_in self.now plan ≡
             on_vote (pointwise nat_eq) self.now.members (log_in self.now) (volatile_in self.now) from ballot position
             (view_of entry.now)) }
     {
@@ -130,7 +130,7 @@ impl Core {
         requires room { RoomAt position self.now }
         ensures room { IfOk result (λ plan. IsFor plan self.now) }
         ensures step { IfOk result (λ plan.
-            made self.now plan ≡
+            plan_in self.now plan ≡
             on_learned (pointwise nat_eq) (log_in self.now) (volatile_in self.now) position (view_of entry.now)) }
     {
         if !self.learner.is_open(position) {

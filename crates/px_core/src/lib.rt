@@ -38,6 +38,6 @@ mod state;
 mod votes;
 mod voting;
 
-pub use limits::{POSITIONS, WAITING, WINDOW};
+pub use limits::{MEMBERS, POSITIONS, WAITING, WINDOW};
 pub use plan::{CoreFault, Plan, Sends};
 pub use state::Core;

@@ -1,5 +1,8 @@
 //! The limits of the protocol.
 
+/// A cluster has so many members at most.
+pub const MEMBERS: u8 = 15;
+
 /// Positions are 0 to 999,999.
 pub const POSITIONS: u32 = 1_000_000;
 

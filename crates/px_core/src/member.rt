@@ -9,6 +9,7 @@ ghost use Rattle.px_model.specs.Fits.{Passes, EntryFits};
 ghost use Rattle.px_model.specs.Spelling.{Bytes};
 ghost use Rattle.px_core.specs.Fitting.{CoreFits};
 ghost use Rattle.px_core.specs.Planning.{state_of, empty_state, MayCome, MayComeFrom};
+ghost use Rattle.px_core.specs.declared.limits.TheConstants.{MEMBERS};
 
 use crate::learning::learned_at;
 use crate::limits::{POSITIONS, WAITING};
@@ -69,7 +70,7 @@ impl Core {
     #[tactic(auto, unfolding(crate::specs::Planning::state_of))]
     pub fn new(alloc: Global, members: u8, me: u8) -> Result<Core, AllocError>
         requires some { 1 ≤ members }
-        requires few { members ≤ 15 }
+        requires few { members ≤ MEMBERS }
         requires member { me < members }
         ensures state { IfOk result (λ core. state_of core ≡ empty_state members me) }
         ensures fits { (test : Bytes → Bool) → IfOk result (λ core. CoreFits test (state_of core)) }
@@ -134,7 +135,7 @@ impl Core {
     pub fn members(&self) -> u8
         ensures members { result ≡ (state_of self.now).members }
         ensures some { 1 ≤ result }
-        ensures few { result ≤ 15 }
+        ensures few { result ≤ MEMBERS }
     {
         self.members
     }

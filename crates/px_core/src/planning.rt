@@ -8,7 +8,7 @@ ghost use Rattle.px_model.specs.Views.{meta_of, slot_of, come_of};
 ghost use Rattle.px_core.specs.Planning.{state_in, state_of, planned, step_with, IsFor, IsRefusal, MayCome};
 ghost use Rattle.px_core.specs.Planning.{MayComeFrom};
 ghost use Rattle.px_core.specs.Fitting.{CoreFits, HandedFits, PlanFits};
-ghost use Rattle.px_core.specs.Views.{made, volatile_in, log_in, RoomToLearn};
+ghost use Rattle.px_core.specs.Views.{plan_in, volatile_in, log_in, RoomToLearn};
 
 use crate::accepting::Acceptor;
 use crate::plan::{CoreFault, Plan};
@@ -49,7 +49,7 @@ impl Core {
         requires room { RoomToLearn message.now self.now }
         ensures room { IfOk result (λ plan. IsFor plan self.now) }
         ensures step { IfOk result (λ plan.
-            made self.now plan ≡
+            plan_in self.now plan ≡
             on_message (pointwise nat_eq) self.now.members self.now.me (meta_of meta.now) (slot_of slot.now) top
             (log_in self.now) (volatile_in self.now) from (come_of message.now)) }
     {
@@ -100,7 +100,7 @@ impl Core {
     ) -> Result<Plan, CoreFault>
         requires { MayCome self.old.members event.now }
         ensures step { MatchResult result
-            (λ plan. step_with (state_in self.old) meta.now slot.now top event.now ≡ Planned (made self.new plan))
+            (λ plan. step_with (state_in self.old) meta.now slot.now top event.now ≡ Planned (plan_in self.new plan))
             (λ fault. IsRefusal fault (step_with (state_in self.old) meta.now slot.now top event.now)) }
         ensures room { IfOk result (λ plan. IsFor plan self.new) }
         ensures state { state_in self.new ≡ state_in self.old }

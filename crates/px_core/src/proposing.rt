@@ -11,7 +11,8 @@ ghost use Rattle.px_core.specs.Logs.{learned_in};
 ghost use Rattle.px_core.specs.declared.state.Core.{Core};
 ghost use Rattle.px_model.specs.Views.{proposal_of, report_of};
 ghost use Rattle.px_core.specs.Planning.{IsFor};
-ghost use Rattle.px_core.specs.Views.{counted_of, plan_of, made, volatile_in, log_in, attempt_of, lead_of};
+ghost use Rattle.px_core.specs.Views.{counted_of, plan_of, plan_in, volatile_in, log_in, attempt_of, lead_of};
+ghost use Rattle.px_core.specs.declared.limits.TheConstants.{MEMBERS};
 
 use crate::accepting::share_proposal;
 use crate::plan::{Attempt, Lead, Next, Phase, Plan, Sends};
@@ -34,7 +35,7 @@ pub(crate) fn idle_plan() -> Plan
 /// Whether more than half of the members are marked.
 #[tactic(auto, unfolding(crate::specs::Views::counted_of))]
 fn majority(members: u8, counted: &[bool; 15]) -> bool
-    requires { members ≤ 15 }
+    requires { members ≤ MEMBERS }
     ensures { result ≡ is_majority members (counted_of counted.now) }
 {
     let mut votes: usize = 0;
@@ -49,7 +50,7 @@ fn majority(members: u8, counted: &[bool; 15]) -> bool
 /// The members with one more.
 #[tactic(auto, using(crate::proofs::Counted::counted_set))]
 fn marked(counted: &[bool; 15], member: u8) -> [bool; 15]
-    requires { member < 15 }
+    requires { member < MEMBERS }
     ensures { counted_of result ≡ put (counted_of counted.now) member true }
 {
     let mut next = *counted;
@@ -60,7 +61,7 @@ fn marked(counted: &[bool; 15], member: u8) -> [bool; 15]
 /// The greatest top told, with this one; a member's counts once.
 #[tactic(auto, unfolding(crate::specs::Views::counted_of))]
 fn greatest_top(counted: &[bool; 15], member: u8, highest: u32, top: u32) -> u32
-    requires { member < 15 }
+    requires { member < MEMBERS }
     ensures { result ≡ (if counted_of counted.now member then highest else max highest top) }
 {
     if counted[member as usize] || top <= highest {
@@ -193,7 +194,7 @@ impl Core {
         requires position { position < positions }
         ensures room { IfOk result (λ plan. IsFor plan self.now) }
         ensures step { IfOk result (λ plan.
-            made self.now plan ≡
+            plan_in self.now plan ≡
             gathered self.now.members self.now.me (volatile_in self.now) ballot position (counted_of counted) top
             (option_map proposal_of best)) }
     {
@@ -232,7 +233,7 @@ impl Core {
         requires position { position < positions }
         ensures room { IfOk result (λ plan. IsFor plan self.now) }
         ensures step { IfOk result (λ plan.
-            made self.now plan ≡
+            plan_in self.now plan ≡
             on_promise_all self.now.members self.now.me (volatile_in self.now) from ballot position top
             (option_map report_of report.now)) }
     {

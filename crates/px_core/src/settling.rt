@@ -13,6 +13,7 @@ ghost use Rattle.px_model.specs.Spelling.{Bytes};
 ghost use Rattle.px_core.specs.Fitting.{CoreFits, PlanFits};
 ghost use Rattle.px_core.specs.Planning.{state_of, planned, settles, IsFor};
 ghost use Rattle.px_core.specs.Views.{attempt_of, volatile_in, log_in, settled, learning, with_learned, HasRoom};
+ghost use Rattle.px_core.specs.declared.limits.TheConstants.{WAITING};
 
 use crate::learning::learned_at;
 use crate::limits::POSITIONS;
@@ -86,7 +87,7 @@ impl Learner {
 impl Proposer {
     /// The entry waits behind the others. There is room for it.
     fn wait(&mut self, entry: Entry)
-        requires { length self.old.waiting.items < 64 }
+        requires { length self.old.waiting.items < WAITING }
         ensures waiting { self.new.waiting.items ≡ self.old.waiting.items ++ entry ∷ [] }
         ensures attempt { self.new.attempt ≡ self.old.attempt }
         ensures lead { self.new.lead ≡ self.old.lead }

@@ -3,6 +3,7 @@ ghost use Rattle.std.specs.Prelude.{◌≡◌, ℕ, ◌+◌, ◌*◌, ◌<◌, �
 ghost use Rattle.std.specs.Prelude.{nat_eq, IfOk};
 ghost use Rattle.px_core.specs.Cells.{kept_in, forgotten_below};
 ghost use Rattle.px_model.specs.Step.{keep, is_majority};
+ghost use Rattle.px_core.specs.declared.limits.TheConstants.{MEMBERS, WINDOW};
 
 use crate::votes::{Cell, Votes};
 use std::alloc::{AllocError, Global};
@@ -34,7 +35,7 @@ impl Votes {
     /// The member's kept ballot at the position, 0 for none.
     pub(crate) fn kept(&self, position: u32, member: u8) -> u64
         requires front { self.now.front ≤ position }
-        requires member { member < 15 }
+        requires member { member < MEMBERS }
         ensures { result ≡ kept_in self.now.front self.now.cells.items position member }
     {
         let cell = self.cells[(position % 64) as usize * 15 + member as usize];
@@ -48,8 +49,8 @@ impl Votes {
     /// Keeps the ballot if it is above the kept one. The position is in the window.
     pub(crate) fn keep(&mut self, position: u32, member: u8, ballot: u64)
         requires front { self.old.front ≤ position }
-        requires window { position < self.old.front + 64 }
-        requires member { member < 15 }
+        requires window { position < self.old.front + WINDOW }
+        requires member { member < MEMBERS }
         ensures kept { kept_in self.new.front self.new.cells.items ≡
             keep (kept_in self.old.front self.old.cells.items) position member ballot }
         ensures front { self.new.front ≡ self.old.front }
@@ -73,7 +74,7 @@ impl Votes {
     /// The ballot that the member would have kept at this position after the voter's vote.
     fn with_vote(&self, position: u32, voter: u8, ballot: u64, member: u8) -> u64
         requires front { self.now.front ≤ position }
-        requires member { member < 15 }
+        requires member { member < MEMBERS }
         ensures { result ≡
             keep (kept_in self.now.front self.now.cells.items) position voter ballot position member }
     {
@@ -88,7 +89,7 @@ impl Votes {
     /// Whether the members whose kept ballot is this one would be a majority after the voter's vote.
     pub(crate) fn would_agree(&self, members: u8, position: u32, voter: u8, ballot: u64) -> bool
         requires front { self.now.front ≤ position }
-        requires members { members ≤ 15 }
+        requires members { members ≤ MEMBERS }
         ensures { result ≡ is_majority members (λ m.
             nat_eq (keep (kept_in self.now.front self.now.cells.items) position voter ballot position m) ballot) }
     {

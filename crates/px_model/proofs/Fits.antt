@@ -7,7 +7,7 @@ use Rattle.px_model.specs.Node.Phase.{Preparing, Accepting}
 use Rattle.px_model.specs.Node.Message.{Prepare, Promise, PrepareAll, PromiseAll, Accept, Vote, Nack, Need, Learned, Asked, AskRefused}
 use Rattle.px_model.specs.Node.Input.{Asks, Ticks, Comes}
 use Rattle.px_model.specs.Node.Answer.{Refused, Planned}
-use Rattle.px_model.specs.Step.{put, positions, promised_at, top, front, in_window, to_all, entry_for, taken_in, on_ask, told, next_round, new_round, use_lead, propose, tick_for, on_tick, on_prepare, on_prepare_all, on_accept, better, choice, phase_two, gathered, promise_in, promise_to, on_promise_all, learn, keep, with_vote, on_vote, on_learned, need_of, on_need, on_nack, is_majority, position_of, step}
+use Rattle.px_model.specs.Step.{put, positions, promised_at, top, front, in_window, to_all, entry_for, taken_in, on_ask, ask_answered, next_round, new_round, use_lead, propose, tick_for, on_tick, on_prepare, on_prepare_all, on_accept, better, choice, phase_two, gathered, promise_in, promise_to, on_promise_all, learn, keep, with_vote, on_vote, on_learned, need_of, on_need, on_nack, is_majority, position_of, step}
 use Rattle.px_model.specs.World.{NodeState, step_of}
 use Rattle.px_model.specs.Law.{Among}
 use Rattle.px_model.specs.Fits.{IsNumber, IsPosition, IsBallot, IsBallotOf, IsPromise, EntryFits, ProposalFits, ReportFits, InputFits, PhaseFits, AttemptFits, LeadFits, VolatileFits, NodeFits, SendsFit, AnswerFits}
@@ -262,7 +262,7 @@ module _ {C : Type 0} (S : C → Type 0) (n : ℕ) (small : n ≤ 15) (me : ℕ)
   -- ---- a command is asked
 
   abbrev Told : (token : ℕ) → Answer C → Type 0
-  Told token a = FinePlan (told me token d.meta.number v a)
+  Told token a = FinePlan (ask_answered me token d.meta.number v a)
 
   taken_fits : (c : C) → S c → length v.waiting < 64 → IsNumber d.meta.number → (sends : List (Envelope C)) → SendsFit S n me sends → FinePlan (record { change = (taken_in me d.meta v c).change; volatile = (taken_in me d.meta v c).volatile; sends = sends })
   taken_fits c fits room low sends sent = record {

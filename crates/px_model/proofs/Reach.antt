@@ -7,7 +7,7 @@ use Rattle.px_model.specs.Node.Phase.{Preparing, Accepting}
 use Rattle.px_model.specs.Node.Message.{Prepare, Promise, PrepareAll, PromiseAll, Accept, Vote, Nack, Need, Learned, Ask, Asked, AskRefused}
 use Rattle.px_model.specs.Node.Input.{Asks, Ticks, Comes}
 use Rattle.px_model.specs.Node.Answer.{Refused, Planned}
-use Rattle.px_model.specs.Step.{put, positions, front, in_window, is_majority, promised_at, commit, on_ask, told, next_round, new_round, use_lead, propose, tick_for, on_tick, on_prepare, on_prepare_all, on_accept, better, choice, phase_two, gathered, promise_in, promise_to, on_promise_all, learn, keep, with_vote, on_vote, on_learned, need_of, on_need, on_nack, step}
+use Rattle.px_model.specs.Step.{put, positions, front, in_window, is_majority, promised_at, commit, on_ask, ask_answered, next_round, new_round, use_lead, propose, tick_for, on_tick, on_prepare, on_prepare_all, on_accept, better, choice, phase_two, gathered, promise_in, promise_to, on_promise_all, learn, keep, with_vote, on_vote, on_learned, need_of, on_need, on_nack, step}
 use Rattle.px_model.specs.Step.{top, nothing_volatile, position_of}
 use Rattle.px_model.specs.Node.{Envelope}
 use Rattle.px_model.specs.World.{World, NodeState, Event, start, comes_to, step_in, moved, goes_on, emptied, stops_after, at_member, happens, run}
@@ -70,7 +70,7 @@ module _ {C : Type 0} (same : C → C → Bool) (n me : ℕ) (meta : Meta) (log 
       (λ f. cond_both (nat_eq (front log) positions) _ _ (λ (z : Answer C). WithinAnswer log z) (λ t. tt)
       (λ g. cond_both (nat_le (2 ^ 48) meta.number) _ _ (λ (z : Answer C). WithinAnswer log z) (λ t. tt) (λ h. tt)))
 
-  told_within : (t k : ℕ) (v : Volatile C) (a : Answer C) → WithinAnswer log a → WithinPlan log (told me t k v a)
+  told_within : (t k : ℕ) (v : Volatile C) (a : Answer C) → WithinAnswer log a → WithinPlan log (ask_answered me t k v a)
   told_within t k v (Refused code) g = tt
   told_within t k v (Planned plan) g = g
 

@@ -6,7 +6,7 @@ use Rattle.px_model.specs.Node.Phase.{Preparing, Accepting}
 use Rattle.px_model.specs.Node.Message.{Prepare, Promise, PrepareAll, PromiseAll, Accept, Vote, Nack, Need, Learned, Ask, Asked, AskRefused}
 use Rattle.px_model.specs.Node.Input.{Asks, Ticks, Comes}
 use Rattle.px_model.specs.Node.Answer.{Refused, Planned}
-use Rattle.px_model.specs.Step.{put, positions, front, in_window, is_majority, promised_at, on_ask, told, next_round, new_round, use_lead, propose, tick_for, on_tick, on_prepare, on_prepare_all, on_accept, better, choice, phase_two, gathered, promise_in, promise_to, on_promise_all, learn, keep, with_vote, on_vote, on_learned, need_of, on_need, on_nack, step, top, position_of}
+use Rattle.px_model.specs.Step.{put, positions, front, in_window, is_majority, promised_at, on_ask, ask_answered, next_round, new_round, use_lead, propose, tick_for, on_tick, on_prepare, on_prepare_all, on_accept, better, choice, phase_two, gathered, promise_in, promise_to, on_promise_all, learn, keep, with_vote, on_vote, on_learned, need_of, on_need, on_nack, step, top, position_of}
 use Rattle.px_model.specs.Rising.{Rises, StepsRise}
 
 abbrev RisesPlan : {C : Type 0} → Record C → Plan C → Type 0
@@ -28,7 +28,7 @@ module _ {C : Type 0} (same : C → C → Bool) (n me : ℕ) (d : Record C) wher
       (λ f. cond_both (nat_eq (front d.learned) positions) _ _ (λ (z : Answer C). RisesAnswer d z) (λ t. tt)
       (λ g. cond_both (nat_le (2 ^ 48) d.meta.number) _ _ (λ (z : Answer C). RisesAnswer d z) (λ t. tt) (λ h. refl)))
 
-  told_rises : (t k : ℕ) (v : Volatile C) (a : Answer C) → RisesAnswer d a → RisesPlan d (told me t k v a)
+  told_rises : (t k : ℕ) (v : Volatile C) (a : Answer C) → RisesAnswer d a → RisesPlan d (ask_answered me t k v a)
   told_rises t k v (Refused code) g = tt
   told_rises t k v (Planned plan) g = g
 

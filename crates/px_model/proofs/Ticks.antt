@@ -7,7 +7,7 @@ use Rattle.px_model.specs.Node.Phase.{Preparing}
 use Rattle.px_model.specs.Node.Input.{Asks, Comes}
 use Rattle.px_model.specs.Node.Message.{PrepareAll, Accept, Need, Ask, Asked, AskRefused}
 use Rattle.px_model.specs.Node.Answer.{Refused, Planned}
-use Rattle.px_model.specs.Step.{commit, positions, front, to_all, next_round, new_round, propose, tick_for, on_tick, entry_for, taken_in, on_ask, told}
+use Rattle.px_model.specs.Step.{commit, positions, front, to_all, next_round, new_round, propose, tick_for, on_tick, entry_for, taken_in, on_ask, ask_answered}
 use Rattle.px_model.specs.World.{World, NodeState, moved, command_of, asked_by}
 use Rattle.px_model.specs.Law.{Among}
 use Rattle.px_model.proofs.Basics.{among_cases, put_same}
@@ -159,10 +159,10 @@ module _ {C : Type 0} (n : ℕ) (w : World C) (h : List (Acceptance C)) (m : ℕ
   ask_ok c = ask_cases (λ (z : Answer C). AnswerOk n w h m (Asks c) z) c (λ code. tt)
       (asked_ok (Asks c) c refl [] (Need 0) (none_sent m (Need 0)) refl (λ w' h'. tt))
 
-  pub told_ok : (from token : ℕ) (c : C) → PlanOk n w h m (Comes from (Ask token c)) (told m token (record_of w m).meta.number (w.nodes m).volatile (on_ask m (record_of w m).meta (record_of w m).learned (w.nodes m).volatile c))
+  pub told_ok : (from token : ℕ) (c : C) → PlanOk n w h m (Comes from (Ask token c)) (ask_answered m token (record_of w m).meta.number (w.nodes m).volatile (on_ask m (record_of w m).meta (record_of w m).learned (w.nodes m).volatile c))
   told_ok from token c =
       let input : Input C = Comes from (Ask token c) in
       let v = (w.nodes m).volatile in
-      ask_cases (λ (z : Answer C). PlanOk n w h m input (told m token (record_of w m).meta.number v z)) c
+      ask_cases (λ (z : Answer C). PlanOk n w h m input (ask_answered m token (record_of w m).meta.number v z)) c
       (λ code. says_ok n w h m input None v _ (AskRefused token code) tt (one_sent m asker (AskRefused token code)) refl (λ q. refl) tt (inv.volatile m))
       (asked_ok input c refl _ (Asked token (record_of w m).meta.number) (one_sent m asker (Asked token (record_of w m).meta.number)) refl (λ w' h'. tt))

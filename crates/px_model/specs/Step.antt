@@ -122,9 +122,9 @@ on_ask me meta learned v c =
     else Planned (taken_in me meta v c)
 
 -- whoever asked from outside is told the number that the entry got, or the refusal
-abbrev pub told : {C : Type 0} → (me token number : ℕ) → Volatile C → Answer C → Plan C
-told me token number v (Refused code) = answered None v me asker (AskRefused token code)
-told me token number v (Planned plan) = answered plan.change plan.volatile me asker (Asked token number)
+abbrev pub ask_answered : {C : Type 0} → (me token number : ℕ) → Volatile C → Answer C → Plan C
+ask_answered me token number v (Refused code) = answered None v me asker (AskRefused token code)
+ask_answered me token number v (Planned plan) = answered plan.change plan.volatile me asker (Asked token number)
 
 -- ---- the proposer begins (2.2, phase 1a; section 3 where a majority has promised for all positions)
 
@@ -362,7 +362,7 @@ on_message same n me meta slot top log v from (Vote b p e) = on_vote same n log 
 on_message same n me meta slot top log v from (Nack b p q) = on_nack v b p q
 on_message same n me meta slot top log v from (Need p) = on_need me log v from p
 on_message same n me meta slot top log v from (Learned p e) = on_learned same log v p e
-on_message same n me meta slot top log v from (Ask t c) = told me t meta.number v (on_ask me meta log v c)
+on_message same n me meta slot top log v from (Ask t c) = ask_answered me t meta.number v (on_ask me meta log v c)
 on_message same n me meta slot top log v from (Asked t k) = idle v
 on_message same n me meta slot top log v from (AskRefused t k) = idle v
 

@@ -1,4 +1,4 @@
 pub mod Records
 pub mod Memory
 pub mod Faulty
-pub mod Props
+pub mod inner

@@ -10,7 +10,7 @@ ghost use Rattle.px_model.specs.Fits.{RecordFits};
 ghost use Rattle.px_records.specs.Records.{IsEnd};
 ghost use Rattle.px_records.specs.Memory.{AllFits, Promises, PutsSlot, PutsEntry, slots_in, learned_in, record_of};
 ghost use Rattle.px_records.specs.Memory.{accepted_with};
-ghost use Rattle.px_records.specs.Props.{AllFits-prop, IsTop-prop, IsEnd-prop};
+ghost use Rattle.px_records.specs.inner.Props.{AllFits-prop, IsTop-prop, IsEnd-prop};
 
 use crate::records::{Records, StoreFault};
 use px_model::{Change, Entry, Meta, Proposal, Slot};

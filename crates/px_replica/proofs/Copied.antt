@@ -6,7 +6,7 @@ use Rattle.px_model.specs.Node.{Entry, Log}
 use Rattle.px_model.specs.Step.{put}
 use Rattle.px_model.proofs.Basics.{put_same, put_other}
 use Rattle.px_model.specs.Spelling.{Bytes}
-use Rattle.px_replica.specs.Copied.{IsCopied}
+use Rattle.px_replica.specs.inner.Copied.{IsCopied}
 
 pub copied_some : (learned log more : Log Bytes) (p : ℕ) (e : Entry Bytes) → IsCopied learned log p → more ≡ put log p (Some e) → Some e ≡ learned p → IsCopied learned more (p + 1)
 copied_some learned log more p e copied is there = record {

@@ -1,8 +1,7 @@
 pub mod Spelled
 pub mod Seen
 pub mod Faults
-pub mod Props
 pub mod Members
 pub mod Made
 pub mod Replicas
-pub mod Copied
+pub mod inner

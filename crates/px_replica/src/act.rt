@@ -17,6 +17,7 @@ ghost use Rattle.px_replica.specs.Faults.{SomeFails};
 ghost use Rattle.px_replica.specs.Made.{answer, running, Makes, LeavesOne};
 ghost use Rattle.px_replica.specs.Members.{volatile_of, log_of, group_of};
 ghost use Rattle.px_replica.specs.Seen.{IsSound};
+ghost use Rattle.px_core.specs.declared.limits.TheConstants.{MEMBERS};
 
 use crate::datagram::Datagram;
 use crate::fault::NodeFault;
@@ -122,7 +123,7 @@ pub(crate) fn act<R: Records>(
     ensures volatile { OnErr result (volatile_of member.new ≡ volatile_of member.old) }
     ensures log { OnErr result (log_of member.new ≡ log_of member.old) }
     ensures out { OnErr result (out.new.items ≡ out.old.items) }
-    ensures few { OnOk result (length out.new.items ≤ length out.old.items + 15) }
+    ensures few { OnOk result (length out.new.items ≤ length out.old.items + MEMBERS) }
     ensures agrees { R.is_honest records.new → OnOk result ((R.stored records.new).learned ≡ log_of member.new) }
     ensures below { (p : ℕ) → p < front (log_of member.old) → log_of member.new p ≡ log_of member.old p }
     ensures front { front (log_of member.old) ≤ front (log_of member.new) }

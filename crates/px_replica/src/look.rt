@@ -14,6 +14,7 @@ ghost use Rattle.px_records.specs.Records.{IsRead, IsStoresFault};
 ghost use Rattle.px_wire.specs.Sent.{is_command};
 ghost use Rattle.px_replica.specs.Faults.{SomeFails};
 ghost use Rattle.px_replica.specs.Seen.{IsSeen, SeenFits, IsSound};
+ghost use Rattle.px_core.specs.declared.limits.TheConstants.{MEMBERS};
 
 use pf_entry::decode;
 use px_core::POSITIONS;
@@ -48,7 +49,7 @@ pub(crate) fn is_spelled(entry: &Entry) -> bool
 
 /// Whether what was accepted there has a spelling.
 fn is_told(members: u8, slot: &Slot) -> bool
-    requires few { members ≤ 15 }
+    requires few { members ≤ MEMBERS }
     requires fits { SlotFits AnyCommand members (slot_of slot.now) }
     ensures { IsTrue result ↔ SlotFits (Passes is_command) members (slot_of slot.now) }
 {
@@ -60,7 +61,7 @@ fn is_told(members: u8, slot: &Slot) -> bool
 
 /// The slot of a position, whose entry has a spelling.
 fn slot_at<R: Records>(records: &mut R, members: u8, position: u32) -> Result<Slot, StoreFault>
-    requires few { members ≤ 15 }
+    requires few { members ≤ MEMBERS }
     requires members { R.members records.old ≡ members }
     ensures ok { R.is_honest records.new → IfOk result (λ s. slot_of s ≡ (R.stored records.new).slots position) }
     ensures fits { IfOk result (λ s. SlotFits (Passes is_command) members (slot_of s)) }
@@ -100,7 +101,7 @@ fn look_beside<R: Records>(
     reads: Reads,
 ) -> Result<(Slot, u32), StoreFault>
     requires works { R.failed records.old ≡ 0 }
-    requires few { members ≤ 15 }
+    requires few { members ≤ MEMBERS }
     requires members { R.members records.old ≡ members }
     ensures ok { R.is_honest records.new →
         IfOk result (λ s. views.IsRead reads (R.stored records.old) (slot_of s.0) s.1) }
@@ -137,7 +138,7 @@ pub(crate) fn look<R: Records>(
     members: u8,
     reads: Reads,
 ) -> Result<Seen, StoreFault>
-    requires few { members ≤ 15 }
+    requires few { members ≤ MEMBERS }
     requires members { R.members records.old ≡ members }
     ensures ok { R.is_honest records.new → IfOk result (λ s. IsSeen (R.stored records.old) reads s) }
     ensures fits { IfOk result (λ s. SeenFits members s) }

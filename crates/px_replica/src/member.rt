@@ -4,7 +4,7 @@ ghost use Rattle.std.specs.Prelude.{◌≡◌, ◌<◌};
 ghost use Rattle.px_core.specs.Planning.{state_of};
 ghost use Rattle.px_core.specs.Fitting.{CoreFits};
 ghost use Rattle.px_wire.specs.Sent.{is_command};
-ghost use Rattle.px_replica.specs.Props.{core_prop};
+ghost use Rattle.px_replica.specs.inner.Props.{core_prop};
 
 use px_core::Core;
 use px_wire::Membership;

@@ -9,11 +9,12 @@ ghost use Rattle.px_model.specs.World.{started};
 ghost use Rattle.px_model.specs.Entries.{entry_of};
 ghost use Rattle.px_records.specs.Records.{IsRead, IsStoresFault};
 ghost use Rattle.px_wire.specs.Sent.{is_command};
-ghost use Rattle.px_replica.specs.Copied.{IsCopied};
+ghost use Rattle.px_replica.specs.inner.Copied.{IsCopied};
 ghost use Rattle.px_replica.specs.Faults.{IsOfStore, SomeFails};
 ghost use Rattle.px_replica.specs.Members.{volatile_of, log_of, group_of};
 ghost use Rattle.px_replica.specs.Replicas.{records_of, learned_by, membership_of, has_failed, state_in};
 ghost use Rattle.px_replica.specs.Seen.{IsSound};
+ghost use Rattle.px_core.specs.declared.limits.TheConstants.{MEMBERS};
 
 use crate::act::store_fault;
 use crate::fault::NodeFault;
@@ -32,7 +33,7 @@ fn learned_at<R: Records>(
     members: u8,
     position: u32,
 ) -> Result<Option<Entry>, StoreFault>
-    requires few { members ≤ 15 }
+    requires few { members ≤ MEMBERS }
     requires members { R.members records.old ≡ members }
     ensures ok { R.is_honest records.new →
         IfOk result (λ e. option_map entry_of e ≡ (R.stored records.new).learned position) }

@@ -15,6 +15,7 @@ ghost use Rattle.px_wire.specs.Sent.{is_command};
 ghost use Rattle.px_replica.specs.Made.{answer, running};
 ghost use Rattle.px_replica.specs.Members.{volatile_of, log_of, group_of, planned_by, IsReady};
 ghost use Rattle.px_replica.specs.Seen.{IsSeen, SeenFits};
+ghost use Rattle.px_core.specs.declared.limits.TheConstants.{MEMBERS};
 
 use crate::look::Seen;
 use crate::member::Member;
@@ -38,7 +39,7 @@ impl Member {
     /// Its group.
     pub(crate) fn group(&self) -> Membership
         ensures group { result ≡ group_of self.now }
-        ensures few { result.members ≤ 15 }
+        ensures few { result.members ≤ MEMBERS }
         ensures here { result.me < result.members }
     {
         self.group

@@ -18,6 +18,7 @@ ghost use Rattle.px_replica.specs.Made.{answer, running, Makes, LeavesOne};
 ghost use Rattle.px_replica.specs.Replicas.{records_of, learned_by, membership_of, has_failed, state_in, Takes};
 ghost use Rattle.px_replica.specs.Replicas.{IsUnspelled, MatchReceived, LeavesOneOf};
 ghost use Rattle.px_replica.specs.Seen.{IsSound};
+ghost use Rattle.px_core.specs.declared.limits.TheConstants.{MEMBERS};
 
 use crate::act::act;
 use crate::datagram::Datagram;
@@ -46,7 +47,7 @@ impl<R: Records> Replica<R> {
         ensures volatile { OnErr result ((state_in self.new).volatile ≡ (state_in self.old).volatile) }
         ensures log { OnErr result (learned_by self.new ≡ learned_by self.old) }
         ensures out { OnErr result (out.new.items ≡ out.old.items) }
-        ensures few { OnOk result (length out.new.items ≤ length out.old.items + 15) }
+        ensures few { OnOk result (length out.new.items ≤ length out.old.items + MEMBERS) }
         ensures number { R.is_honest (records_of self.new) →
             IfOk result (λ k. k ≡ (R.stored (records_of self.old)).meta.number) }
         ensures own { IfErr result IsFromBelow }
@@ -137,7 +138,7 @@ impl<R: Records> Replica<R> {
             state_in self.new ≡ state_in self.old) }
         ensures volatile { OnErr result ((state_in self.new).volatile ≡ (state_in self.old).volatile) }
         ensures out { OnErr result (out.new.items ≡ out.old.items) }
-        ensures few { OnOk result (length out.new.items ≤ length out.old.items + 15) }
+        ensures few { OnOk result (length out.new.items ≤ length out.old.items + MEMBERS) }
         ensures log { R.is_honest (records_of self.new) → learned_by self.new ≡ learned_by self.old }
         ensures below { (p : ℕ) → p < front (learned_by self.old) → learned_by self.new p ≡
             learned_by self.old p }
@@ -183,7 +184,7 @@ impl<R: Records> Replica<R> {
             state_in self.new ≡ state_in self.old) }
         ensures volatile { OnErr result ((state_in self.new).volatile ≡ (state_in self.old).volatile) }
         ensures out { OnErr result (out.new.items ≡ out.old.items) }
-        ensures few { OnOk result (length out.new.items ≤ length out.old.items + 15) }
+        ensures few { OnOk result (length out.new.items ≤ length out.old.items + MEMBERS) }
         ensures below { (p : ℕ) → p < front (learned_by self.old) → learned_by self.new p ≡
             learned_by self.old p }
         ensures front { front (learned_by self.old) ≤ front (learned_by self.new) }

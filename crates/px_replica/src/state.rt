@@ -2,7 +2,7 @@
 
 ghost use Rattle.std.specs.Prelude.{◌≡◌, false};
 ghost use Rattle.px_replica.specs.Members.{log_of, group_of};
-ghost use Rattle.px_replica.specs.Props.{agree_prop};
+ghost use Rattle.px_replica.specs.inner.Props.{agree_prop};
 
 use crate::member::Member;
 use px_records::Records;

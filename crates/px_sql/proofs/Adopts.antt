@@ -12,7 +12,7 @@ use Rattle.px_model.specs.Spelling.{Bytes}
 use Rattle.px_model.specs.World.{nothing_stored}
 use Rattle.px_sql.specs.Formats.{record_at}
 use Rattle.px_sql.specs.Formats.Format.{One, Two, Three}
-use Rattle.px_sql.specs.Making.{Brought, AreBrought}
+use Rattle.px_sql.specs.inner.Making.{Brought, AreBrought}
 use Rattle.px_sql.specs.Adopting.{IsSame, Shows}
 use Rattle.sqlite.specs.Schema.{Schema}
 use Rattle.px_sql.specs.Seen.{number_at, slot_in, learned_in, slot_columns, learned_columns, record_in, rows_at, seen, shown, meta_columns, meta_row, floor_columns, floor_rows, Tells, IsMetaIn, IsFloorIn}

@@ -4,9 +4,8 @@ pub mod Seen
 pub mod Effect
 pub mod Store
 pub mod Ready
-pub mod Bytes
 pub mod View
 pub mod Formats
 pub mod Judging
-pub mod Making
 pub mod Adopting
+pub mod inner

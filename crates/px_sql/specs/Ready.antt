@@ -16,7 +16,7 @@ use Rattle.px_model.specs.Views.{meta_of}
 use Rattle.px_model.specs.declared.record.Meta.{Meta}
 use Rattle.px_records.specs.Records.{Place}
 use Rattle.px_records.specs.Records.Place.{SlotAt, EntryAt}
-use Rattle.px_records.specs.Props.{MetaFits-prop}
+use Rattle.px_records.specs.inner.Props.{MetaFits-prop}
 use Rattle.px_sql.specs.Tables.{schema_3}
 use Rattle.px_sql.specs.Seen.{seen, slot_columns, learned_columns, meta_columns, meta_row, floor_columns, floor_rows}
 use Rattle.px_sql.specs.Seen.{record_in, are_slot_rows, are_learned_rows}

@@ -12,6 +12,7 @@ ghost use Rattle.px_sql.specs.Tables.{floor_params, learned_params};
 ghost use Rattle.px_sql.specs.Seen.{seen, IsKeyed, slot_columns, slot_row, learned_columns, learned_row};
 ghost use Rattle.px_sql.specs.Seen.{meta_columns, meta_row, has_ballot, any_row, IsLast, floor_columns, floor_row};
 ghost use Rattle.px_sql.specs.Effect.{IsIdle, Puts, IsSettled, Stays, LeavesOne, LeavesOld, Serves, IsAlike};
+ghost use Rattle.px_sql.specs.declared.reading.TheConstants.{INTEGERS};
 
 use sqlite::{Alter, Connection, Error, ErrorCode, Row, params};
 
@@ -31,7 +32,7 @@ pub(crate) enum Trouble {
 }
 
 pub(crate) fn signed(n: u64) -> i64
-    requires { n < 2 ^ 63 }
+    requires { n < INTEGERS }
     ensures { result ≡ pos n }
 {
     n as i64
@@ -64,8 +65,8 @@ fn run_meta<S: Alter>(
     round: u64,
     number: u64,
 ) -> Result<usize, Error>
-    requires round { round < 2 ^ 63 }
-    requires number { number < 2 ^ 63 }
+    requires round { round < INTEGERS }
+    requires number { number < INTEGERS }
     ensures runs { HasCleanDisk (state S.Store conn.new) →
         Executes put_meta (meta_params identity.cluster identity.members identity.node round number)
         (state S.Store conn.old) (state S.Store conn.new) result }
@@ -92,8 +93,8 @@ pub(crate) fn put_meta<S: Alter>(
     round: u64,
     number: u64,
 ) -> Result<(), Trouble>
-    requires round { round < 2 ^ 63 }
-    requires number { number < 2 ^ 63 }
+    requires round { round < INTEGERS }
+    requires number { number < INTEGERS }
     ensures ok { HasCleanDisk (state S.Store conn.new) → IsIdle (state S.Store conn.old) →
         OnOk result (Puts 0 1 meta_columns (meta_row 3 identity.cluster identity.members identity.node round number)
         (state S.Store conn.old).now.trees (state S.Store conn.new).now.trees) }
@@ -124,8 +125,8 @@ fn run_slot<S: Alter>(
     ballot: u64,
     entry: &[u8],
 ) -> Result<usize, Error>
-    requires promised { promised < 2 ^ 63 }
-    requires ballot { ballot < 2 ^ 63 }
+    requires promised { promised < INTEGERS }
+    requires ballot { ballot < INTEGERS }
     ensures runs { HasCleanDisk (state S.Store conn.new) →
         Executes put_slot (slot_params position promised ballot entry.now) (state S.Store conn.old)
         (state S.Store conn.new) result }
@@ -147,8 +148,8 @@ pub(crate) fn put_slot<S: Alter>(
     ballot: u64,
     entry: &[u8],
 ) -> Result<(), Trouble>
-    requires promised { promised < 2 ^ 63 }
-    requires ballot { ballot < 2 ^ 63 }
+    requires promised { promised < INTEGERS }
+    requires ballot { ballot < INTEGERS }
     ensures ok { HasCleanDisk (state S.Store conn.new) → IsIdle (state S.Store conn.old) →
         OnOk result (Puts 1 position slot_columns (slot_row position promised ballot entry.now)
         (state S.Store conn.old).now.trees (state S.Store conn.new).now.trees) }
@@ -173,7 +174,7 @@ pub(crate) fn put_slot<S: Alter>(
 }
 
 fn run_floor<S: Alter>(conn: &mut Connection<S>, ballot: u64) -> Result<usize, Error>
-    requires ballot { ballot < 2 ^ 63 }
+    requires ballot { ballot < INTEGERS }
     ensures runs { HasCleanDisk (state S.Store conn.new) → Executes put_floor (floor_params ballot)
         (state S.Store conn.old) (state S.Store conn.new) result }
     ensures survives { Survives (state S.Store conn.old) (state S.Store conn.new) (CommitsBy put_floor
@@ -187,7 +188,7 @@ fn run_floor<S: Alter>(conn: &mut Connection<S>, ballot: u64) -> Result<usize, E
 }
 
 pub(crate) fn put_floor<S: Alter>(conn: &mut Connection<S>, ballot: u64) -> Result<(), Trouble>
-    requires ballot { ballot < 2 ^ 63 }
+    requires ballot { ballot < INTEGERS }
     ensures ok { HasCleanDisk (state S.Store conn.new) → IsIdle (state S.Store conn.old) →
         OnOk result (Puts 2 1 floor_columns (floor_row ballot) (state S.Store conn.old).now.trees
         (state S.Store conn.new).now.trees) }

@@ -16,6 +16,7 @@ ghost use Rattle.px_sql.specs.Formats.Format.{One, Two, Three};
 ghost use Rattle.px_sql.specs.Adopting.{IsSame, IsVerdict, HasFloor, HasEntries};
 ghost use Rattle.px_sql.specs.Judging.{has_rows, rows_in, says_format, says_member, says_numbers, is_member_of};
 ghost use Rattle.px_sql.specs.Judging.{is_owner, row_refusal, refusal_of};
+ghost use Rattle.px_sql.specs.declared.reading.TheConstants.{NUMBERS};
 
 use crate::calls::{Identity, Trouble, cause_of};
 use crate::fault::AdoptFault;
@@ -90,8 +91,8 @@ fn found_in_row(row: &Row) -> Result<Found, ReadFault>
     ensures node { IfOk result (λ f. number_in (column row.now 4) ≡ f.node) }
     ensures round { IfOk result (λ f. number_at 5 (row.now ∷ []) ≡ f.round) }
     ensures number { IfOk result (λ f. number_at 6 (row.now ∷ []) ≡ f.number) }
-    ensures low { IfOk result (λ f. f.round < 2 ^ 48) }
-    ensures most { IfOk result (λ f. f.number ≤ 2 ^ 48) }
+    ensures low { IfOk result (λ f. f.round < NUMBERS) }
+    ensures most { IfOk result (λ f. f.number ≤ NUMBERS) }
 {
     let cluster = number(row, 2)?;
     let members = number(row, 3)?;
@@ -403,8 +404,8 @@ fn judge_row(row: &Row, floor: &[Row], format: u64, identity: Identity) -> Resul
     ensures refused { IfErr result (λ e. IsVerdict e → row_refusal format identity floor.now row.now ≡ Some e) }
     ensures round { IfOk result (λ f. number_at 5 (row.now ∷ []) ≡ f.round) }
     ensures number { IfOk result (λ f. number_at 6 (row.now ∷ []) ≡ f.number) }
-    ensures low { IfOk result (λ f. f.round < 2 ^ 48) }
-    ensures most { IfOk result (λ f. f.number ≤ 2 ^ 48) }
+    ensures low { IfOk result (λ f. f.round < NUMBERS) }
+    ensures most { IfOk result (λ f. f.number ≤ NUMBERS) }
 {
     if !says_format(row, format)? {
         return Err(AdoptFault::StoreVersion);
@@ -439,8 +440,8 @@ fn judge_rows(
     ensures few { IfOk result (λ f. length meta.now < 2) }
     ensures round { IfOk result (λ f. number_at 5 meta.now ≡ f.round) }
     ensures number { IfOk result (λ f. number_at 6 meta.now ≡ f.number) }
-    ensures low { IfOk result (λ f. f.round < 2 ^ 48) }
-    ensures most { IfOk result (λ f. f.number ≤ 2 ^ 48) }
+    ensures low { IfOk result (λ f. f.round < NUMBERS) }
+    ensures most { IfOk result (λ f. f.number ≤ NUMBERS) }
 {
     match meta {
         [] => {
@@ -481,8 +482,8 @@ pub(crate) fn judge(read: &Read, format: u64, identity: Identity) -> Result<Foun
     ensures few { IfOk result (λ f. length read.now.meta.items < 2) }
     ensures round { IfOk result (λ f. number_at 5 read.now.meta.items ≡ f.round) }
     ensures number { IfOk result (λ f. number_at 6 read.now.meta.items ≡ f.number) }
-    ensures low { IfOk result (λ f. f.round < 2 ^ 48) }
-    ensures most { IfOk result (λ f. f.number ≤ 2 ^ 48) }
+    ensures low { IfOk result (λ f. f.round < NUMBERS) }
+    ensures most { IfOk result (λ f. f.number ≤ NUMBERS) }
 {
     let floor = rows_in(&read.floor);
     let has_more = read.has_slot || read.has_entry;

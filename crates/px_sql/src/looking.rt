@@ -2,7 +2,7 @@
 ghost use Rattle.std.specs.Prelude.{◌≡◌, ◌<◌, ◌↔◌, true, Some, Err, OnOk, IfOk};
 ghost use Rattle.sqlite.specs.Held.{state};
 ghost use Rattle.px_records.specs.Records.Place.{SlotAt, EntryAt};
-ghost use Rattle.px_sql.specs.Bytes.{read_in, is_entry_in};
+ghost use Rattle.px_sql.specs.inner.Bytes.{read_in, is_entry_in};
 ghost use Rattle.px_sql.specs.Seen.{seen, slot_columns, learned_columns, slot_with, is_slot, IsLast, EndsAt};
 ghost use Rattle.px_sql.specs.Seen.{has_ballot, any_row};
 ghost use Rattle.px_sql.specs.Effect.{IsAlike};

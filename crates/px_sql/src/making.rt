@@ -4,7 +4,8 @@ ghost use Rattle.sqlite.specs.Held.{state};
 ghost use Rattle.sqlite.specs.State.{HasCleanDisk, ExecutesInside, Survives};
 ghost use Rattle.px_sql.specs.Tables.{no_schema, meta_schema, schema_1, schema_2, schema_3, put_meta, meta_params};
 ghost use Rattle.px_sql.specs.Effect.{LeavesOld, LeavesOneMore};
-ghost use Rattle.px_sql.specs.Making.{Grows, PutsMeta, Brought, LeavesBrought};
+ghost use Rattle.px_sql.specs.inner.Making.{Grows, PutsMeta, Brought, LeavesBrought};
+ghost use Rattle.px_sql.specs.declared.reading.TheConstants.{INTEGERS};
 
 use crate::calls::{Identity, signed};
 use sqlite::{Alter, Connection, Error, Transaction, params};
@@ -83,8 +84,8 @@ fn run_row<S: Alter>(
     round: u64,
     number: u64,
 ) -> Result<usize, Error>
-    requires round { round < 2 ^ 63 }
-    requires number { number < 2 ^ 63 }
+    requires round { round < INTEGERS }
+    requires number { number < INTEGERS }
     ensures same_reference { tx.new.conn.ghost_name ≡ tx.old.conn.ghost_name }
     ensures runs { HasCleanDisk (state S.Store tx.new.conn.now) →
         IsTrue (state S.Store tx.old.conn.now).in_transaction →
@@ -112,8 +113,8 @@ fn set_row<S: Alter>(
     round: u64,
     number: u64,
 ) -> Result<(), Error>
-    requires round { round < 2 ^ 63 }
-    requires number { number < 2 ^ 63 }
+    requires round { round < INTEGERS }
+    requires number { number < INTEGERS }
     ensures same_reference { tx.new.conn.ghost_name ≡ tx.old.conn.ghost_name }
     ensures clean { HasCleanDisk (state S.Store tx.new.conn.now) → HasCleanDisk (state S.Store tx.old.conn.now) }
     ensures crash { HasCleanDisk (state S.Store tx.new.conn.now) →
@@ -155,8 +156,8 @@ pub(crate) fn from_one<S: Alter>(
     number: u64,
 ) -> Result<(), Error>
     requires auto { (state S.Store conn.old).in_transaction ≡ false }
-    requires round { round < 2 ^ 63 }
-    requires number { number < 2 ^ 63 }
+    requires round { round < INTEGERS }
+    requires number { number < INTEGERS }
     ensures clean { HasCleanDisk (state S.Store conn.new) → HasCleanDisk (state S.Store conn.old) }
     ensures crash { HasCleanDisk (state S.Store conn.new) →
         LeavesOneMore (state S.Store conn.old) (state S.Store conn.new) }
@@ -182,8 +183,8 @@ pub(crate) fn from_two<S: Alter>(
     number: u64,
 ) -> Result<(), Error>
     requires auto { (state S.Store conn.old).in_transaction ≡ false }
-    requires round { round < 2 ^ 63 }
-    requires number { number < 2 ^ 63 }
+    requires round { round < INTEGERS }
+    requires number { number < INTEGERS }
     ensures clean { HasCleanDisk (state S.Store conn.new) → HasCleanDisk (state S.Store conn.old) }
     ensures crash { HasCleanDisk (state S.Store conn.new) →
         LeavesOneMore (state S.Store conn.old) (state S.Store conn.new) }
@@ -208,8 +209,8 @@ pub(crate) fn from_three<S: Alter>(
     number: u64,
 ) -> Result<(), Error>
     requires auto { (state S.Store conn.old).in_transaction ≡ false }
-    requires round { round < 2 ^ 63 }
-    requires number { number < 2 ^ 63 }
+    requires round { round < INTEGERS }
+    requires number { number < INTEGERS }
     ensures clean { HasCleanDisk (state S.Store conn.new) → HasCleanDisk (state S.Store conn.old) }
     ensures crash { HasCleanDisk (state S.Store conn.new) →
         LeavesOneMore (state S.Store conn.old) (state S.Store conn.new) }

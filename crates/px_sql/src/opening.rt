@@ -7,6 +7,7 @@ ghost use Rattle.px_sql.specs.Tables.{schema_3};
 ghost use Rattle.px_sql.specs.Seen.{seen, meta_columns, meta_row, floor_columns, floor_rows, is_none_or_ballot};
 ghost use Rattle.px_sql.specs.Effect.{IsIdle, IsSettled, LeavesOld};
 ghost use Rattle.px_sql.specs.Ready.{IsReady, AreBounded};
+ghost use Rattle.px_sql.specs.declared.reading.TheConstants.{NUMBERS};
 
 use crate::calls::{Identity, Trouble, get_floor, get_meta};
 use crate::fault::AdoptFault;
@@ -33,8 +34,8 @@ fn meta_of<S: Alter>(conn: &mut Connection<S>, identity: Identity) -> Result<Num
         OnOk result (IsSettled (state S.Store conn.new)) }
     ensures stays { HasCleanDisk (state S.Store conn.new) → IsIdle (state S.Store conn.old) →
         OnOk result ((state S.Store conn.new).now ≡ (state S.Store conn.old).now) }
-    ensures round { IfOk result (λ m. m.round < 2 ^ 48) }
-    ensures number { IfOk result (λ m. m.number ≤ 2 ^ 48) }
+    ensures round { IfOk result (λ m. m.round < NUMBERS) }
+    ensures number { IfOk result (λ m. m.number ≤ NUMBERS) }
     ensures clean { HasCleanDisk (state S.Store conn.new) → HasCleanDisk (state S.Store conn.old) }
     ensures crash { HasCleanDisk (state S.Store conn.new) → IsIdle (state S.Store conn.old) →
         LeavesOld (state S.Store conn.old) (state S.Store conn.new) }

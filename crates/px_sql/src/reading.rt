@@ -12,8 +12,9 @@ ghost use Rattle.px_sql.specs.Seen.{is_number, is_blob, number_in, bytes_in, is_
 ghost use Rattle.px_sql.specs.Seen.{is_proposal, is_slot, is_slot_row, are_slot_rows, slot_in, slot_with};
 ghost use Rattle.px_sql.specs.Seen.{is_learned_row, are_learned_rows, learned_in, IsEndOf, Tells, IsMetaIn};
 ghost use Rattle.px_sql.specs.Seen.{IsFloorIn};
-ghost use Rattle.px_sql.specs.Bytes.{read_in, is_entry_in};
+ghost use Rattle.px_sql.specs.inner.Bytes.{read_in, is_entry_in};
 ghost use Rattle.px_sql.specs.Judging.{are_floor_rows};
+ghost use Rattle.px_sql.specs.declared.reading.TheConstants.{NUMBERS};
 
 use crate::calls::Identity;
 use px_model::{Entry, EntryView, Proposal, Slot};
@@ -23,6 +24,9 @@ use std::alloc::Global;
 
 /// Rounds and the numbers of entries are below it.
 pub(crate) const NUMBERS: u64 = 281_474_976_710_656;
+
+/// The integers of a store are below it.
+pub(crate) const INTEGERS: u64 = 9_223_372_036_854_775_808;
 
 /// Why a row isn't read: for want of memory, or since no commit writes it.
 #[derive(Clone, Copy, Debug, PartialEq, Eq)]
@@ -230,8 +234,8 @@ fn expect_number(row: &Row, at: usize, wanted: u64) -> Result<(), ReadFault>
 fn meta_in_row(row: &Row, identity: Identity) -> Result<Numbers, ReadFault>
     ensures value { IfOk result (λ m. IsMetaIn identity.cluster identity.members identity.node m.round m.number
         (row.now ∷ [])) }
-    ensures round { IfOk result (λ m. m.round < 2 ^ 48) }
-    ensures number { IfOk result (λ m. m.number ≤ 2 ^ 48) }
+    ensures round { IfOk result (λ m. m.round < NUMBERS) }
+    ensures number { IfOk result (λ m. m.number ≤ NUMBERS) }
 {
     expect_number(row, 0, 1)?;
     expect_number(row, 1, 3)?;
@@ -253,8 +257,8 @@ fn meta_in_row(row: &Row, identity: Identity) -> Result<Numbers, ReadFault>
 pub(crate) fn meta_in_rows(rows: &[Row], identity: Identity) -> Result<Numbers, ReadFault>
     ensures value { IfOk result (λ m. IsMetaIn identity.cluster identity.members identity.node m.round m.number
         rows.now) }
-    ensures round { IfOk result (λ m. m.round < 2 ^ 48) }
-    ensures number { IfOk result (λ m. m.number ≤ 2 ^ 48) }
+    ensures round { IfOk result (λ m. m.round < NUMBERS) }
+    ensures number { IfOk result (λ m. m.number ≤ NUMBERS) }
 {
     match rows {
         [row] => meta_in_row(row, identity),

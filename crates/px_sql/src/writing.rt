@@ -6,6 +6,7 @@ ghost use Rattle.px_sql.specs.Store.{told_of, with_meta, with_floor, with_slot, 
 ghost use Rattle.px_sql.specs.Store.{OnlyReads, LeavesOneOf};
 ghost use Rattle.px_sql.specs.Seen.{slot_with, is_slot};
 ghost use Rattle.px_sql.specs.View.{view_of};
+ghost use Rattle.px_sql.specs.declared.reading.TheConstants.{NUMBERS, INTEGERS};
 
 use crate::calls::{Trouble, put_floor, put_learned, put_meta, put_slot};
 use crate::keeper::SqlRecords;
@@ -27,8 +28,8 @@ pub(crate) fn told(kept: Result<(), Trouble>) -> Result<(), StoreFault>
 impl<S: Alter> SqlRecords<S> {
     pub(crate) fn keep_meta(&mut self, round: u64, number: u64) -> Result<(), Trouble>
         requires none { self.old.failures ≡ 0 }
-        requires r0 { round < 2 ^ 48 }
-        requires r1 { number ≤ 2 ^ 48 }
+        requires r0 { round < NUMBERS }
+        requires r1 { number ≤ NUMBERS }
         ensures ok { (view_of S.Store self.new).is_honest →
             OnOk result ((view_of S.Store self.new).kept ≡ (with_meta (view_of S.Store self.old).kept round number)) }
         ensures memory { (view_of S.Store self.new).is_honest → result ≡ Err Trouble.Memory →
@@ -60,7 +61,7 @@ impl<S: Alter> SqlRecords<S> {
     pub(crate) fn keep_floor(&mut self, ballot: u64) -> Result<(), Trouble>
         requires none { self.old.failures ≡ 0 }
         requires r0 { IsBallot self.old.identity.members ballot }
-        requires r1 { ballot < 2 ^ 63 }
+        requires r1 { ballot < INTEGERS }
         ensures ok { (view_of S.Store self.new).is_honest →
             OnOk result ((view_of S.Store self.new).kept ≡ (with_floor (view_of S.Store self.old).kept ballot)) }
         ensures memory { (view_of S.Store self.new).is_honest → result ≡ Err Trouble.Memory →
@@ -97,8 +98,8 @@ impl<S: Alter> SqlRecords<S> {
         entry: &[u8],
     ) -> Result<(), Trouble>
         requires none { self.old.failures ≡ 0 }
-        requires r0 { promised < 2 ^ 63 }
-        requires r1 { ballot < 2 ^ 63 }
+        requires r0 { promised < INTEGERS }
+        requires r1 { ballot < INTEGERS }
         ensures ok { (view_of S.Store self.new).is_honest → (view_of S.Store self.old).is_good (SlotAt position) →
             OnOk result ((view_of S.Store self.new).kept ≡ (with_slot
             (view_of S.Store self.old).kept position promised ballot entry.now)) }
@@ -194,7 +195,7 @@ impl<S: Alter> SqlRecords<S> {
     /// The row of a slot that is good is put anew, with what was accepted there.
     pub(crate) fn promise(&mut self, position: u32, ballot: u64) -> Result<(), StoreFault>
         requires none { self.old.failures ≡ 0 }
-        requires range { ballot < 2 ^ 63 }
+        requires range { ballot < INTEGERS }
         ensures ok { (view_of S.Store self.new).is_honest →
             OnOk result ((view_of S.Store self.new).kept ≡ with_promise
             (view_of S.Store self.old).kept position ballot) }
@@ -220,7 +221,7 @@ impl<S: Alter> SqlRecords<S> {
         entry: &[u8],
     ) -> Result<(), StoreFault>
         requires none { self.old.failures ≡ 0 }
-        requires range { ballot < 2 ^ 63 }
+        requires range { ballot < INTEGERS }
         ensures ok { (view_of S.Store self.new).is_honest →
             OnOk result ((view_of S.Store self.new).kept ≡ with_slot
             (view_of S.Store self.old).kept position ballot ballot entry.now) }

@@ -2,6 +2,7 @@
 
 ghost use Rattle.std.specs.Prelude.{◌≡◌, ◌<◌, ℕ, length, slice_set};
 ghost use Rattle.px_wire.specs.Message.{Group, Message, HasSpelling, DatagramBytes};
+ghost use Rattle.px_wire.specs.declared.limits.TheConstants.{ADDRESSEE};
 
 use crate::limits::ADDRESSEE;
 
@@ -11,8 +12,8 @@ use crate::limits::ADDRESSEE;
 /// The datagram spells the same message of the same sender, now to this addressee, if the message has a spelling to it
 /// (`what_is_for_all_goes_to_each`).
 pub fn address(datagram: &mut [u8], to: u8)
-    requires { 11 < length datagram.old }
-    ensures bytes { datagram.new ≡ slice_set datagram.old 11 to }
+    requires { ADDRESSEE < length datagram.old }
+    ensures bytes { datagram.new ≡ slice_set datagram.old ADDRESSEE to }
     ensures spelled { (g : Group) (from before : ℕ) (message : Message) →
         DatagramBytes g from before message datagram.old → HasSpelling g from to message →
         DatagramBytes g from to message datagram.new }

@@ -2,6 +2,7 @@
 
 ghost use Rattle.std.specs.Prelude.{◌≡◌, ◌↔◌, ◌<◌, ◌≤◌, ◌+◌, ◌*◌, ◌^◌, ℕ, IfSome};
 ghost use Rattle.std.specs.Prelude.{IsSome};
+ghost use Rattle.px_wire.specs.declared.limits.TheConstants.{NUMBERS, FIRST_BALLOT, BALLOTS};
 
 use crate::limits::{BALLOTS, FIRST_BALLOT};
 
@@ -20,7 +21,7 @@ pub struct Ballot {
 impl Ballot {
     /// The ballot as one number.
     pub fn number(self) -> u64
-        requires { self.round < 2 ^ 48 }
+        requires { self.round < NUMBERS }
         ensures { result ≡ self.round * 256 + self.node }
     {
         self.round * 256 + u64::from(self.node)
@@ -29,7 +30,7 @@ impl Ballot {
     /// The ballot of that number; none where its round isn't 1 to 2^48-1.
     pub fn from_number(number: u64) -> Option<Ballot>
         ensures some { IfSome result (λ b. b.round * 256 + b.node ≡ number) }
-        ensures none { IsSome result ↔ (256 ≤ number) × (number < 2 ^ 56) }
+        ensures none { IsSome result ↔ (FIRST_BALLOT ≤ number) × (number < BALLOTS) }
     {
         if number < FIRST_BALLOT || number >= BALLOTS {
             return None;

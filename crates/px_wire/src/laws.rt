@@ -15,6 +15,7 @@ ghost use Rattle.px_model.specs.Fits.{Passes, EnvelopeFits, EventFits};
 ghost use Rattle.px_model.specs.Spelling.{Bytes};
 ghost use Rattle.px_wire.specs.Sent as sent;
 ghost use Rattle.px_wire.specs.Views.{message_of};
+ghost use Rattle.px_wire.specs.declared.limits.TheConstants.{MEMBERS};
 
 use crate::decoding::decode;
 use crate::fault::WireFault;
@@ -60,7 +61,7 @@ pub fn no_spelling_begins_another()
 /// one, with origin and number.
 pub fn what_fits_has_a_spelling()
     ensures { (g : Group) (from to : ℕ) (message : datagrams.Message) →
-        g.members ≤ 15 → sent.Fits g.members from to message → HasSpelling g from to message }
+        g.members ≤ MEMBERS → sent.Fits g.members from to message → HasSpelling g from to message }
 {}
 
 /// What has a spelling is in these ranges.
@@ -72,14 +73,14 @@ pub fn what_has_a_spelling_fits()
 /// What goes to one member and says nothing of it, has a spelling to each other one.
 pub fn what_is_for_all_goes_to_each()
     ensures { (g : Group) (from to other : ℕ) (message : datagrams.Message) →
-        g.members ≤ 15 → is_for_all message ≡ true → other < g.members →
+        g.members ≤ MEMBERS → is_for_all message ≡ true → other < g.members →
         HasSpelling g from to message → HasSpelling g from other message }
 {}
 
 /// What fits for the members of the log has a spelling as a datagram.
 pub fn what_members_send_has_a_spelling()
     ensures { (g : Group) (x : Envelope Bytes) →
-        g.members ≤ 15 → EnvelopeFits (Passes is_command) g.members x →
+        g.members ≤ MEMBERS → EnvelopeFits (Passes is_command) g.members x →
         HasSpelling g x.sender x.addressee (as_sent x.message) }
 {}
 
@@ -98,7 +99,7 @@ pub fn what_is_heard_was_sent()
 
 /// Whatever happens, every message that was ever sent between members has a spelling, where what is asked has one.
 pub fn all_that_is_sent_has_a_spelling()
-    ensures { (same : Bytes → Bytes → Bool) (g : Group) → 1 ≤ g.members → g.members ≤ 15 →
+    ensures { (same : Bytes → Bytes → Bool) (g : Group) → 1 ≤ g.members → g.members ≤ MEMBERS →
         (events : List (Event Bytes)) → ((e : Event Bytes) → Among events e → EventFits (Passes is_command) e) →
         (x : Envelope Bytes) → Among (world_after same g.members events).sent x →
         HasSpelling g x.sender x.addressee (as_sent x.message) }

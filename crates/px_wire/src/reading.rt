@@ -13,6 +13,7 @@ ghost use Rattle.px_wire.specs.Fields.{need_value, learned_fields, learned_value
 ghost use Rattle.px_wire.specs.Fields.{asked_value, ask_refused_fields, ask_refused_value, prepare_all_fields};
 ghost use Rattle.px_wire.specs.Fields.{prepare_all_value, promise_all_fields, promise_all_value};
 ghost use Rattle.px_wire.specs.Views.{Answers, ReadsField, ReadsEntry, ReadsBody, ReadsDatagram, lent_of, accepted_of};
+ghost use Rattle.px_wire.specs.declared.limits.TheConstants.{ENTRY_BYTES};
 
 use crate::MessageView;
 use crate::fault::WireFault;
@@ -164,7 +165,7 @@ fn top_at(bytes: &[u8], at: usize) -> Result<u32, WireFault>
 fn len_at(bytes: &[u8], at: usize) -> Result<usize, WireFault>
     requires { at < 64 }
     ensures value { ReadsField bytes.now result (len at bytes.now) (u32 at bytes.now) }
-    ensures small { IfOk result (λ n. n ≤ 32768) }
+    ensures small { IfOk result (λ n. n ≤ ENTRY_BYTES) }
 {
     let number = u32_at(bytes, at)?;
     if number == 0 || number > ENTRY_BYTES {
@@ -187,7 +188,7 @@ fn entry_in(bytes: &[u8]) -> Option<EntryView<'_>>
 #[tactic(auto, unfolding(crate::specs::Fields::fault_of))]
 fn entry_of_len(bytes: &[u8], at: usize, len: usize) -> Result<EntryView<'_>, WireFault>
     requires at { at < 128 }
-    requires len { len ≤ 32768 }
+    requires len { len ≤ ENTRY_BYTES }
     ensures { Answers (λ e. Some (lent_of e)) result (fault_of (any_entry at len bytes.now) bytes.now)
         (lent_in (take len (drop at bytes.now))) }
 {

@@ -7,5 +7,5 @@ use Rattle.pf_net.proofs.asking.answer_in.Goals as goal
 
 pub returns-then-from-node : goal.returns-then-from-node
 returns-then-from-node c =
-    answers_told (group c.args.m.now) c.in-Ok.from c.args.m.now.me c.args.node c.args.bytes.now (message_of c.in-Ok.message) c.told.result
-    c.requires (search rules) (search rules) c.told.ensures c.in-Ok.ensures.only
+    answers_told (group c.args.m.now) c.in-Ok.from c.args.m.now.me c.args.node c.args.bytes.now (message_of c.in-Ok.message) c.ask_answer.result
+    c.requires (search rules) (search rules) c.ask_answer.ensures c.in-Ok.ensures.only

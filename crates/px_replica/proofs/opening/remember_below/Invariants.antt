@@ -2,7 +2,7 @@
 use Rattle.std.proofs.Common.{◌≡◌}
 use Rattle.px_model.specs.Step.{nothing_volatile}
 use Rattle.px_records.specs.Records.{IsRead}
-use Rattle.px_replica.specs.Copied.{IsCopied}
+use Rattle.px_replica.specs.inner.Copied.{IsCopied}
 use Rattle.px_replica.specs.Members.{volatile_of, log_of, group_of}
 use Rattle.px_replica.proofs.opening.remember_below.Given as goal
 

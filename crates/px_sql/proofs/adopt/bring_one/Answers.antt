@@ -4,7 +4,7 @@ use Rattle.px_sql.specs.Adopting.{IsVerdict}
 use Rattle.sqlite.specs.Held.{state}
 use Rattle.sqlite.specs.Effect.{Database}
 use Rattle.px_sql.specs.Seen.{number_at}
-use Rattle.px_sql.specs.Making.{Brought, AreBrought}
+use Rattle.px_sql.specs.inner.Making.{Brought, AreBrought}
 use Rattle.px_sql.proofs.Adopts.{at_one, shows_one, alike_few}
 use Rattle.px_sql.proofs.adopt.bring_one.Goals as goal
 use Rattle.px_sql.specs.Formats.{trees_at}

@@ -7,7 +7,7 @@ use Rattle.std.proofs.Math.Bridge.{le_prop}
 use Rattle.px_model.specs.Node.{Entry, Proposal, Slot, Log, Record}
 use Rattle.px_model.specs.Fits.{Passes, IsBallot, EntryFits, ProposalFits, SlotFits, LogFits}
 use Rattle.px_model.specs.Spelling.{Bytes}
-use Rattle.px_records.specs.Props.{IsPromise-prop, MetaFits-prop}
+use Rattle.px_records.specs.inner.Props.{IsPromise-prop, MetaFits-prop}
 use Rattle.px_wire.specs.Sent.{is_command}
 use Rattle.px_replica.specs.Seen.{IsSound}
 
