@@ -11,8 +11,8 @@ use Rattle.pf_ruleset.specs.Items.{AnyRule}
 use Rattle.pf_table.specs.Tables.{TableValue}
 use Rattle.pf_config.specs.Map.{AnchorValue, Path, name_after}
 use Rattle.pf_config.specs.Changes.{is_empty, is_nothing, unless_nothing, is_some_unnamed, without_unnamed, refers, refer, is_used, used_alone, used_tables, tidied_of}
-use Rattle.pf_config.specs.Trees.{AnchorTree, below, own_entry, last_name, IsKid, AreKids, some_kid, and_then, room_after, own_count, any_unnamed, is_idle, sheds, any_sheds}
-use Rattle.pf_config.proofs.Treed.{both_true, bytes_same, begins, begins_more, kid_begins, kids_above, append_nil}
+use Rattle.pf_config.specs.Trees.{AnchorTree, below, own_entry, last_name, IsKid, AreKids, some_kid, and_then, room_after, own_count, any_unnamed, is_idle, sheds, any_sheds, are_apart}
+use Rattle.pf_config.proofs.Treed.{both_true, bytes_same, same_bytes, begins, begins_more, kid_begins, kids_above, append_nil}
 use Rattle.pf_config.proofs.Entries.{below_append, below_some}
 use Rattle.pf_config.proofs.Descents.{begins_chain}
 
@@ -308,3 +308,38 @@ tidied_done whole p n rules rules' tables used done left all ks e f g d h z =
     ∙ ap {B = AnchorTree} (λ x. record { names = n; anchors = x }) (tidied_all whole p n rules tables used done left all e g h z)
     ∙ ap {B = AnchorTree} (λ x. record { names = x; anchors = tidied_of whole (own_entry p rules tables ++ below all) }) e
     ∙ ap {B = AnchorTree} (λ x. record { names = p; anchors = tidied_of whole (own_entry p rules tables ++ below x) }) d
+
+-- ---- anchors off a path
+
+-- what begins with a path that is apart from p doesn't begin with p
+apart_paths : (p k q : Path) → starts_with bytes_eq k p ≡ false → starts_with bytes_eq p k ≡ false → starts_with bytes_eq q k ≡ true → starts_with bytes_eq q p ≡ false
+apart_paths [] k q g h s = cc
+apart_paths (l ∷ p) [] q g h s = cc
+apart_paths (l ∷ p) (x ∷ k) [] g h s = cc
+apart_paths (l ∷ p) (x ∷ k) (y ∷ q) g h s =
+    let both = both_true (bytes_eq x y) (starts_with bytes_eq q k) s in
+    let e : x ≡ y = bytes_same x y both.0 in
+    (elim (bytes_eq l x) as (λ b. bytes_eq l x ≡ b → (b && starts_with bytes_eq k p) ≡ false → (bytes_eq l y && starts_with bytes_eq q p) ≡ false) [
+      | true ↦ λ t f. (let z : l ≡ x = bytes_same l x t in
+          let u : bytes_eq x l ≡ true = subst (λ (n : Name). bytes_eq x n ≡ true) (sym z) (same_bytes x) in
+          let i : starts_with bytes_eq p k ≡ false = subst (λ (b : Bool). (b && starts_with bytes_eq p k) ≡ false) u h in
+          let v : bytes_eq l y ≡ true = subst (λ (n : Name). bytes_eq l n ≡ true) e t in
+          rw v (apart_paths p k q f i both.1))
+      | false ↦ λ t f. (let v : bytes_eq l y ≡ false = subst (λ (n : Name). bytes_eq l n ≡ false) e t in rw v refl)
+    ]) refl g
+
+any_apart : (p k : Path) (es : List AnchorValue) → starts_with bytes_eq k p ≡ false → starts_with bytes_eq p k ≡ false → begins k es ≡ true → any_unnamed p es ≡ false
+any_apart p k [] g h b = refl
+any_apart p k (a ∷ es) g h b =
+    let both = both_true (starts_with bytes_eq a.path k) (begins k es) b in
+    rw (apart_paths p k a.path g h both.0) (any_apart p k es g h both.1)
+
+neither : (a b : Bool) → (not a && not b) ≡ true → (a ≡ false) × (b ≡ false)
+neither true b h = cc
+neither false true h = cc
+neither false false h = (refl, refl)
+
+pub apart_unnamed : (p names : Path) (rules : List AnyRule) (tables : List (Name × TableValue)) (ks : List AnchorTree) → AreKids names ks → are_apart names p ≡ true → any_unnamed p (own_entry names rules tables ++ below ks) ≡ false
+apart_unnamed p names rules tables ks h a =
+    let off = neither (starts_with bytes_eq names p) (starts_with bytes_eq p names) a in
+    any_apart p names (own_entry names rules tables ++ below ks) off.0 off.1 (all_begin names rules tables ks h)

@@ -1,6 +1,6 @@
 -- Walks down the tree, and the parts of the map that they come to.
 use Rattle.std.proofs.Common.{◌≡◌, Bool, true, false, ◌&&◌, ◌||◌, cond, List, [], ◌∷◌, ◌++◌, Option, Some, None, length, drop, refl, sym, subst, ap, ◌∙◌, append_assoc}
-use Rattle.std.specs.Prelude.{if◌then◌else◌, filter, find, fold, not, option_map}
+use Rattle.std.specs.Prelude.{if◌then◌else◌, filter, find, fold, map, not, option_map}
 use Rattle.std.specs.List.{list_all, list_any, starts_with}
 use Rattle.std.specs.Str.{bytes_eq}
 use Rattle.pf_ruleset.specs.Names.{Name}
@@ -140,3 +140,9 @@ kid_is test es p = go (anchor_in es p) refl
     go : (o : Option AnchorTree) → o ≡ anchor_in es p → and_then o (first_kid test) ≡ option_map (followed_by p) (find test (fold put_name [] (names_after p es)))
     go None h = ap (λ ns. option_map (followed_by p) (find test (fold put_name [] ns))) (sym (no_names_found es p h))
     go (Some t) h = let f = names_found es p t h in ap (λ ns. option_map (followed_by t.names) (find test (fold put_name [] ns))) f.1 ∙ ap (λ q. option_map (followed_by q) (find test (fold put_name [] (names_after p es)))) f.0
+
+pub kids_found : (es : List AnchorValue) (p : Path) (t : AnchorTree) → Some t ≡ anchor_in es p → map (followed_by t.names) (fold put_name [] (names_after t.names t.anchors)) ≡ map (followed_by p) (fold put_name [] (names_after p es))
+kids_found es p t h = let f = names_found es p t h in ap (λ ns. map (followed_by t.names) (fold put_name [] ns)) f.1 ∙ ap (λ q. map (followed_by q) (fold put_name [] (names_after p es))) f.0
+
+pub no_kids_found : (es : List AnchorValue) (p : Path) → None ≡ anchor_in es p → [] ≡ map (followed_by p) (fold put_name [] (names_after p es))
+no_kids_found es p h = ap (λ ns. map (followed_by p) (fold put_name [] ns)) (sym (no_names_found es p h))

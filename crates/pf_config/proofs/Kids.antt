@@ -1,7 +1,7 @@
 -- Names in byte order.
 use Rattle.std.proofs.Common.{◌≡◌, ℕ, ◌+◌, ◌<◌, ◌≤◌, Bool, true, false, ◌&&◌, cond, List, [], ◌∷◌, ◌++◌, length, take, drop, Option, Some, None, Ordering, refl, sym, subst, ap, ◌∙◌, arith, rules}
 use Rattle.std.specs.declared.cmp.Ordering.TheVariants.{Less, Equal, Greater}
-use Rattle.std.specs.Prelude.{not, if◌then◌else◌, find, filter, fold, IfSome, option_map}
+use Rattle.std.specs.Prelude.{not, if◌then◌else◌, find, filter, fold, map, IfSome, option_map}
 use Rattle.std.specs.List.{list_all, filter_map}
 use Rattle.std.specs.Ordering.{is_lt, nat_cmp, ordering_reverse}
 use Rattle.std.specs.Cmp.{IsTotalOrder}
@@ -14,7 +14,7 @@ use Rattle.std.specs.Str.{bytes_eq}
 use Rattle.pf_ruleset.specs.Items.{AnyRule}
 use Rattle.pf_table.specs.Tables.{TableValue}
 use Rattle.pf_config.specs.Changes.{is_empty}
-use Rattle.pf_config.specs.Trees.{AnchorTree, below, own_entry, last_name, IsKid, AreKids, part_below, passes, kid_names}
+use Rattle.pf_config.specs.Trees.{AnchorTree, below, own_entry, last_name, IsKid, AreKids, part_below, passes, kid_names, paths_of}
 use Rattle.pf_config.proofs.Treed.{begins, kid_begins, bytes_same, same_bytes, not_longer}
 use Rattle.pf_config.specs.Map.{Configuration, AnchorValue, Path, name_after, names_after, put_name, kids, is_above, followed_by, NextIs}
 
@@ -233,3 +233,11 @@ names_part p (a ∷ es) =
 
 pub kid_above_is : (p : Path) (test : Name → Bool) (rules : List AnyRule) (tables : List (Name × TableValue)) (ks : List AnchorTree) → AreKids p ks → kid_names (find (passes test) ks) ≡ option_map (followed_by p) (find test (fold put_name [] (names_after p (own_entry p rules tables ++ below ks))))
 kid_above_is p test rules tables ks h = find_kid p test ks h ∙ ap (λ ns. option_map (followed_by p) (find test ns)) (sym (kids_are p rules tables ks h))
+
+-- the names of the kids are those that follow the path in the map
+pub paths_are : (p : Path) (rules : List AnyRule) (tables : List (Name × TableValue)) (ks : List AnchorTree) → AreKids p ks → paths_of ks ≡ map (followed_by p) (fold put_name [] (names_after p (own_entry p rules tables ++ below ks)))
+paths_are p rules tables ks h = go ks h ∙ ap (map (followed_by p)) (sym (kids_are p rules tables ks h))
+  where
+    go : (ks : List AnchorTree) → AreKids p ks → paths_of ks ≡ map (followed_by p) (child_names ks)
+    go [] h = refl
+    go (k ∷ ks) h = ap (λ (q : Path). q ∷ paths_of ks) h.0.0 ∙ ap (λ (r : List Path). followed_by p (last_name k.names) ∷ r) (go ks h.2)

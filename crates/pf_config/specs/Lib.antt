@@ -1,7 +1,8 @@
 pub mod Map
+pub mod Ordered
+pub mod SkippedNames
 pub mod Changes
-pub mod Texts
 pub mod Trees
-pub mod TreeFalls
 pub mod Codes
 pub mod PathTexts
+pub mod inner

@@ -133,6 +133,11 @@ abbrev pub kid_names : Option AnchorTree → Option Path
 kid_names None = None
 kid_names (Some k) = Some k.names
 
+-- the full names of these anchors
+abbrev pub paths_of : List AnchorTree → List Path
+paths_of [] = []
+paths_of (k ∷ ks) = k.names ∷ paths_of ks
+
 -- ---- counts
 
 abbrev pub room_after : ℕ → ℕ → Option ℕ
@@ -146,6 +151,10 @@ own_count rules tables = if is_empty rules && is_empty tables then 0 else 1
 -- some path begins with p and an unnamed name
 abbrev pub any_unnamed : Path → List AnchorValue → Bool
 any_unnamed p anchors = list_any (λ (a : AnchorValue). is_some_unnamed (name_after p a.path)) anchors
+
+-- neither of the paths begins with the other
+abbrev pub are_apart : Path → Path → Bool
+are_apart p q = not (starts_with bytes_eq p q) && not (starts_with bytes_eq q p)
 
 -- a table of the entry that goes
 abbrev pub is_idle : List AnchorValue → AnchorValue → Name × TableValue → Bool

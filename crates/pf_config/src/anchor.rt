@@ -6,17 +6,20 @@ ghost use Rattle.std.specs.List.{list_all, list_any, starts_with};
 ghost use Rattle.std.specs.Option.{option_copied};
 ghost use Rattle.std.specs.Str.{bytes_eq};
 ghost use Rattle.pf_ruleset.specs.Seen.{rule_of};
-ghost use Rattle.pf_ruleset.specs.Names.{is_before};
+ghost use Rattle.pf_ruleset.specs.Names.{is_before, begins_below};
 ghost use Rattle.pf_config.specs.Map.{AnchorValue, anchor_at, rules_in, tables_in, named, is_above, put_name};
 ghost use Rattle.pf_config.specs.Map.{name_after, names_after, followed_by};
 ghost use Rattle.pf_config.specs.Changes.{is_empty, is_some_unnamed, without_unnamed, refer, tidied_of};
-ghost use Rattle.pf_config.specs.Trees.{shared, any_unnamed, any_sheds, is_idle};
+ghost use Rattle.pf_config.specs.Trees.{shared, any_unnamed, any_sheds, is_idle, are_apart};
 ghost use Rattle.pf_config.specs.Trees.{child_at, last_name, is_named, kids_before, kids_behind, some_kid, anchors_of};
-ghost use Rattle.pf_config.specs.Trees.{placed_in, TakesPlace, passes, kid_names, room_after, own_count, own_entry};
+ghost use Rattle.pf_config.specs.Trees.{placed_in, TakesPlace, passes, kid_names, paths_of, room_after, own_count};
+ghost use Rattle.pf_config.specs.Trees.{own_entry};
 ghost use Rattle.pf_config.specs.Map.{paths_in};
+ghost use Rattle.pf_config.specs.Ordered.{AreOrdered};
+ghost use Rattle.pf_config.specs.declared.config.TheConstants.{RULES_MAX};
 
 use crate::paths::{copied_path, followed_by};
-use crate::tables::{copied_tables, named};
+use crate::tables::{Tables, named};
 use crate::unused::{any_unused, items_refer, used_tables};
 use pf_ruleset::{Item, Name, TableName};
 use pf_table::Table;
@@ -30,7 +33,7 @@ use std::rc::Rc;
 pub struct Anchor {
     names: Vec<Name>,
     items: Rc<Vec<Item>>,
-    tables: Vec<(TableName, Table)>,
+    tables: Tables,
     kids: Vec<Rc<Anchor>>,
 }
 
@@ -38,13 +41,13 @@ impl Model for Anchor {
     ghost use Rattle.std.specs.Prelude.{map, length, ◌≤◌, ◌++◌};
     ghost use Rattle.pf_ruleset.specs.Seen.{rule_of};
     ghost use Rattle.pf_config.specs.Trees.{AnchorTree, own_entry, below, shared, AreKids, weight};
-    ghost use Rattle.pf_config.specs.TreeFalls.{shared_lighter};
+    ghost use Rattle.pf_config.specs.inner.TreeFalls.{shared_lighter};
 
     ghost Value = { AnchorTree };
 
     ghost view = { λ a. record {
       names = a.names.items;
-      anchors = own_entry a.names.items (map rule_of a.items.value.items) a.tables.items ++ below (shared a.kids.items);
+      anchors = own_entry a.names.items (map rule_of a.items.value.items) a.tables ++ below (shared a.kids.items);
     } };
 
     ghost invariant = { λ a. (length a.items.value.items ≤ 1024) × AreKids a.names.items (shared a.kids.items) };
@@ -52,7 +55,7 @@ impl Model for Anchor {
     ghost size = { λ t. weight (length t.names) t.anchors };
 
     ghost size_decreases = { λ a h. shared_lighter a.names.items (own_entry a.names.items (map rule_of
-        a.items.value.items) a.tables.items) a.kids.items h.1 };
+        a.items.value.items) a.tables) a.kids.items h.1 };
 }
 
 impl Anchor {
@@ -67,7 +70,7 @@ impl Anchor {
     #[tactic(auto, using(crate::proofs::Treed::own_rules))]
     pub fn items(&self) -> &[Item]
         ensures rules { map rule_of result.now ≡ rules_in (anchor_at self.now.names self.now.anchors) }
-        ensures few { length result.now ≤ 1024 }
+        ensures few { length result.now ≤ RULES_MAX }
     {
         &self.items
     }
@@ -75,9 +78,10 @@ impl Anchor {
     /// The tables at its path.
     #[tactic(auto, using(crate::proofs::Treed::own_tables))]
     pub(crate) fn tables(&self) -> &[(TableName, Table)]
-        ensures { result.now ≡ tables_in (anchor_at self.now.names self.now.anchors) }
+        ensures value { result.now ≡ tables_in (anchor_at self.now.names self.now.anchors) }
+        ensures ordered { AreOrdered result.now }
     {
-        &self.tables
+        self.tables.list()
     }
 
     /// The table of that name at its path.
@@ -113,7 +117,7 @@ impl Anchor {
     pub(crate) fn is_nothing(&self) -> bool
         ensures { result ≡ is_empty self.now.anchors }
     {
-        are_empty(&self.items, &self.tables, &self.kids)
+        are_empty(&self.items, self.tables.list(), &self.kids)
     }
 
     /// The anchor of that name directly below. None where no path of the configuration begins with its names.
@@ -121,6 +125,25 @@ impl Anchor {
         ensures { option_copied result ≡ child_at self.now name.now }
     {
         kid_named(&self.kids, name)
+    }
+
+    /// The anchors directly below, in byte order of their names.
+    #[tactic(auto, using(crate::proofs::Kids::paths_are))]
+    pub fn kids(&self) -> &[Rc<Anchor>]
+        ensures { paths_of (shared result.now) ≡ map (followed_by self.now.names)
+            (fold put_name [] (names_after self.now.names self.now.anchors)) }
+    {
+        &self.kids
+    }
+
+    /// Whether it is an unnamed block: the last name of such an anchor begins with `_`.
+    pub fn is_unnamed(&self) -> bool
+        ensures { result ≡ begins_below (last_name self.now.names) }
+    {
+        match last_name(&self.names) {
+            [first, ..] => *first == b'_',
+            [] => false,
+        }
     }
 
     /// The full names of the first anchor directly below, of those with names above this one if one is given.
@@ -136,7 +159,7 @@ impl Anchor {
     pub(crate) fn room_after(&self, room: usize) -> Option<usize>
         ensures { result ≡ room_after room (length self.now.anchors) }
     {
-        let Some(first) = own_room(&self.items, &self.tables, room) else {
+        let Some(first) = own_room(&self.items, self.tables.list(), room) else {
             return None;
         };
         let mut left = first;
@@ -154,18 +177,22 @@ impl Anchor {
         ensures { OnOk result (map (λ p. p.now) paths.new.items
             ≡ map (λ p. p.now) paths.old.items ++ paths_in self.now.anchors) }
     {
-        push_own_path(&self.names, &self.items, &self.tables, paths)?;
+        push_own_path(&self.names, &self.items, self.tables.list(), paths)?;
         for kid in &self.kids {
             kid.push_paths(paths)?;
         }
         Ok(())
     }
 
-    /// Whether one of its paths begins with this one and an unnamed name.
+    /// Whether one of its paths begins with this one and an unnamed name. No anchor is entered that is off the path.
+    #[tactic(auto, using(crate::proofs::Cut::apart_unnamed))]
     pub(crate) fn has_unnamed(&self, path: &[Name]) -> bool
         ensures { result ≡ any_unnamed path.now self.now.anchors }
     {
-        if is_own_unnamed(&self.names, &self.items, &self.tables, path) {
+        if are_apart(&self.names, path) {
+            return false;
+        }
+        if is_own_unnamed(&self.names, &self.items, self.tables.list(), path) {
             return true;
         }
         for kid in &self.kids {
@@ -190,7 +217,7 @@ impl Anchor {
             return Ok(none);
         }
         let items = self.items.clone()?;
-        let tables = copied_tables(alloc, &self.tables)?;
+        let tables = self.tables.copied()?;
         let mut kids = Vec::new(alloc);
         for kid in &self.kids {
             if !kid.has_unnamed(path) {
@@ -227,7 +254,7 @@ impl Anchor {
     pub(crate) fn has_unused(&self, main: &Anchor) -> bool
         ensures { result ≡ any_sheds main.now.anchors self.now.anchors }
     {
-        if any_unused(main, &self.names, &self.items, &self.tables) {
+        if any_unused(main, &self.names, &self.items, self.tables.list()) {
             return true;
         }
         for kid in &self.kids {
@@ -248,7 +275,7 @@ impl Anchor {
     {
         let names = copied_path(alloc, &self.names)?;
         let items = self.items.clone()?;
-        let tables = used_tables(alloc, main, &self.names, &self.items, &self.tables)?;
+        let tables = used_tables(alloc, main, &self.names, &self.items, self.tables.list())?;
         let mut kids = Vec::new(alloc);
         for kid in &self.kids {
             if !kid.has_unused(main) {
@@ -274,7 +301,7 @@ impl Anchor {
         Ok(Anchor {
             names,
             items,
-            tables: Vec::new(alloc),
+            tables: Tables::new(alloc)?,
             kids: Vec::new(alloc),
         })
     }
@@ -284,10 +311,19 @@ impl Anchor {
     pub(crate) fn shared_items(&self) -> Result<Rc<Vec<Item>>, AllocError>
         ensures rules { IfOk result (λ rc. map rule_of rc.value.items ≡
             rules_in (anchor_at self.now.names self.now.anchors)) }
-        ensures few { IfOk result (λ rc. length rc.value.items ≤ 1024) }
+        ensures few { IfOk result (λ rc. length rc.value.items ≤ RULES_MAX) }
     {
         let items = self.items.clone()?;
         Ok(items)
+    }
+
+    /// The tables at its path, shared.
+    #[tactic(auto, using(crate::proofs::Treed::own_tables))]
+    pub(crate) fn shared_tables(&self) -> Result<Tables, AllocError>
+        ensures { IfOk result (λ t. t ≡ tables_in (anchor_at self.now.names self.now.anchors)) }
+    {
+        let tables = self.tables.copied()?;
+        Ok(tables)
     }
 
     /// The same with these rules and tables at its path.
@@ -295,10 +331,10 @@ impl Anchor {
         &self,
         alloc: Global,
         items: Rc<Vec<Item>>,
-        tables: Vec<(TableName, Table)>,
+        tables: Tables,
     ) -> Result<Anchor, AllocError>
-        requires { length items.value.items ≤ 1024 }
-        ensures { IfOk result (λ a. a ≡ placed_in self.now [] (map rule_of items.value.items) tables.items) }
+        requires { length items.value.items ≤ RULES_MAX }
+        ensures { IfOk result (λ a. a ≡ placed_in self.now [] (map rule_of items.value.items) tables) }
     {
         let names = copied_path(alloc, &self.names)?;
         let kids = shared_kids(alloc, &self.kids)?;
@@ -319,7 +355,7 @@ impl Anchor {
     {
         let names = copied_path(alloc, &self.names)?;
         let items = self.items.clone()?;
-        let tables = copied_tables(alloc, &self.tables)?;
+        let tables = self.tables.copied()?;
         let kid = Rc::new(alloc, kid)?;
         let kids = kids_with(alloc, &self.kids, name, kid)?;
         Ok(Anchor {
@@ -395,6 +431,13 @@ fn own_room(items: &[Item], tables: &[(TableName, Table)], room: usize) -> Optio
     } else {
         Some(room - 1)
     }
+}
+
+/// Whether neither of the paths begins with the other.
+fn are_apart(own: &[Name], path: &[Name]) -> bool
+    ensures { result ≡ are_apart own.now path.now }
+{
+    !own.starts_with(path) && !path.starts_with(own)
 }
 
 /// Whether the path begins with the other and an unnamed name.
@@ -518,10 +561,10 @@ pub(crate) fn with_entry(
     anchor: &Anchor,
     rest: &[Name],
     items: Rc<Vec<Item>>,
-    tables: Vec<(TableName, Table)>,
+    tables: Tables,
 ) -> Result<Anchor, AllocError>
-    requires { length items.value.items ≤ 1024 }
-    ensures { IfOk result (λ a. a ≡ placed_in anchor.now rest.now (map rule_of items.value.items) tables.items) }
+    requires { length items.value.items ≤ RULES_MAX }
+    ensures { IfOk result (λ a. a ≡ placed_in anchor.now rest.now (map rule_of items.value.items) tables) }
 {
     match rest {
         [] => anchor.with_own(alloc, items, tables),
@@ -541,13 +584,13 @@ fn kid_with_entry(
     name: &Name,
     more: &[Name],
     items: Rc<Vec<Item>>,
-    tables: Vec<(TableName, Table)>,
+    tables: Tables,
 ) -> Result<Anchor, AllocError>
-    requires { length items.value.items ≤ 1024 }
+    requires { length items.value.items ≤ RULES_MAX }
     ensures { IfOk result (λ a. a ≡ placed_in (record {
       names = anchor.now.names ++ name.now ∷ [];
       anchors = anchors_of (child_at anchor.now name.now);
-    }) more.now (map rule_of items.value.items) tables.items) }
+    }) more.now (map rule_of items.value.items) tables) }
 {
     match anchor.child(name.as_str()) {
         Some(kid) => with_entry(alloc, kid, more, items, tables),

@@ -5,12 +5,12 @@ ghost use Rattle.std.specs.Prelude.{◌≡◌, ◌≤◌, [], IfOk, map, length}
 ghost use Rattle.pf_ruleset.specs.Seen.{rule_of};
 ghost use Rattle.pf_config.specs.Map.{anchor_at, rules_in, tables_in};
 ghost use Rattle.pf_config.specs.Changes.{with_tables, with_rules, placed, tidied};
+ghost use Rattle.pf_config.specs.declared.config.TheConstants.{RULES_MAX};
 
 use crate::anchor::{Anchor, with_entry};
-use crate::tables::copied_tables;
+use crate::tables::Tables;
 use crate::walk::descend;
-use pf_ruleset::{Item, Name, TableName};
-use pf_table::Table;
+use pf_ruleset::{Item, Name};
 use std::alloc::{AllocError, Global};
 use std::rc::Rc;
 
@@ -19,7 +19,7 @@ use std::rc::Rc;
 fn items_at(alloc: Global, main: &Anchor, path: &[Name]) -> Result<Rc<Vec<Item>>, AllocError>
     requires { main.now.names ≡ [] }
     ensures rules { IfOk result (λ rc. map rule_of rc.value.items ≡ rules_in (anchor_at path.now main.now.anchors)) }
-    ensures few { IfOk result (λ rc. length rc.value.items ≤ 1024) }
+    ensures few { IfOk result (λ rc. length rc.value.items ≤ RULES_MAX) }
 {
     match descend(main, path) {
         Some(anchor) => {
@@ -35,20 +35,16 @@ fn items_at(alloc: Global, main: &Anchor, path: &[Name]) -> Result<Rc<Vec<Item>>
 
 /// The tables at a path, which share their entries.
 #[tactic(auto, using(crate::proofs::Descents::main_down, crate::proofs::Descents::found_tables, crate::proofs::Descents::no_tables_found))]
-pub(crate) fn tables_at(
-    alloc: Global,
-    main: &Anchor,
-    path: &[Name],
-) -> Result<Vec<(TableName, Table)>, AllocError>
+pub(crate) fn tables_at(alloc: Global, main: &Anchor, path: &[Name]) -> Result<Tables, AllocError>
     requires { main.now.names ≡ [] }
-    ensures { IfOk result (λ v. v.items ≡ tables_in (anchor_at path.now main.now.anchors)) }
+    ensures { IfOk result (λ t. t ≡ tables_in (anchor_at path.now main.now.anchors)) }
 {
     match descend(main, path) {
         Some(anchor) => {
-            let tables = copied_tables(alloc, anchor.tables())?;
+            let tables = anchor.shared_tables()?;
             Ok(tables)
         }
-        None => Ok(Vec::new(alloc)),
+        None => Tables::new(alloc),
     }
 }
 
@@ -57,11 +53,11 @@ pub(crate) fn with_tables(
     alloc: Global,
     main: &Anchor,
     path: &[Name],
-    tables: Vec<(TableName, Table)>,
+    tables: Tables,
 ) -> Result<Anchor, AllocError>
     requires { main.now.names ≡ [] }
     ensures names { IfOk result (λ a. a.names ≡ []) }
-    ensures map { IfOk result (λ a. a.anchors ≡ with_tables path.now tables.items main.now.anchors) }
+    ensures map { IfOk result (λ a. a.anchors ≡ with_tables path.now tables main.now.anchors) }
 {
     let items = items_at(alloc, main, path)?;
     let next = with_entry(alloc, main, path, items, tables)?;
@@ -76,7 +72,7 @@ pub(crate) fn with_rules(
     items: Rc<Vec<Item>>,
 ) -> Result<Anchor, AllocError>
     requires names { main.now.names ≡ [] }
-    requires few { length items.value.items ≤ 1024 }
+    requires few { length items.value.items ≤ RULES_MAX }
     ensures names { IfOk result (λ a. a.names ≡ []) }
     ensures map { IfOk result (λ a. a.anchors ≡ with_rules path.now (map rule_of items.value.items)
         main.now.anchors) }
@@ -95,7 +91,7 @@ pub(crate) fn placed(
     items: Rc<Vec<Item>>,
 ) -> Result<Anchor, AllocError>
     requires names { main.now.names ≡ [] }
-    requires few { length items.value.items ≤ 1024 }
+    requires few { length items.value.items ≤ RULES_MAX }
     ensures names { IfOk result (λ a. a.names ≡ []) }
     ensures map { IfOk result (λ a. a.anchors ≡ placed main.now.anchors (record {
       path = path.now;

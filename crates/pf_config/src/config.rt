@@ -14,8 +14,11 @@ ghost use Rattle.pf_config.specs.Changes.{Changes, FailsWith, load, flush_rules,
 ghost use Rattle.pf_config.specs.Changes.{add, replace, delete, flush_table, set_table, filled, new_table};
 ghost use Rattle.pf_config.specs.Changes.{load_ruleset};
 ghost use Rattle.pf_ruleset.specs.Rulesets.{ruleset_of};
-ghost use Rattle.pf_config.specs.Texts.{definition_of};
+ghost use Rattle.pf_config.specs.inner.Texts.{definition_of};
+ghost use Rattle.pf_config.specs.Ordered.{AreOrdered};
+ghost use Rattle.pf_config.specs.SkippedNames.{is_listed};
 ghost use Rattle.pf_config.specs.Trees.{anchor_in, and_then, tree_at, names_of, first_kid};
+ghost use Rattle.pf_config.specs.declared.config.TheConstants.{RULES_MAX, ANCHORS_MAX};
 
 use crate::anchor::Anchor;
 use crate::blocks::blocks_in;
@@ -24,7 +27,8 @@ use crate::fault::ConfigFault;
 use crate::loading::{any_too_deep, is_too_deep, loaded};
 use crate::paths::copied_path;
 use crate::placing::Placing;
-use crate::tables::{named, names_of, with_table};
+use crate::skipped::Skipped;
+use crate::tables::{Tables, named, names_of, with_table};
 use crate::walk::descend;
 use pf_ruleset::{InterfaceName, Item, Name, Path, Ruleset, TableDef, TableEntry, TableName};
 use pf_table::Table;
@@ -35,6 +39,9 @@ use std::rc::Rc;
 /// How many paths a configuration has at most.
 const ANCHORS_MAX: usize = 1024;
 
+/// How many rules an anchor has at most.
+pub const RULES_MAX: usize = 1024;
+
 /// How many entries a table has at most.
 const ENTRIES_MAX: usize = 4096;
 
@@ -42,7 +49,7 @@ const ENTRIES_MAX: usize = 4096;
 #[derive(Drop)]
 pub struct Config {
     alloc: Global,
-    skip: Vec<InterfaceName>,
+    skip: Skipped,
     main: Anchor,
 }
 
@@ -52,7 +59,7 @@ impl Model for Config {
 
     ghost Value = { Configuration };
 
-    ghost view = { λ c. record { skip = c.skip.items; anchors = c.main.anchors } };
+    ghost view = { λ c. record { skip = c.skip; anchors = c.main.anchors } };
 
     ghost invariant = { λ c. c.main.names ≡ [] };
 }
@@ -65,7 +72,7 @@ impl Config {
         let main = Anchor::empty(alloc, Vec::new(alloc))?;
         Ok(Config {
             alloc,
-            skip: Vec::new(alloc),
+            skip: Skipped::new(alloc),
             main,
         })
     }
@@ -74,7 +81,14 @@ impl Config {
     pub fn skip(&self) -> &[InterfaceName]
         ensures { result.now ≡ self.now.skip }
     {
-        &self.skip
+        self.skip.names()
+    }
+
+    /// Whether the name is one of an interface that is skipped. Takes the logarithm of their number.
+    pub fn is_skipped(&self, name: &[u8]) -> bool
+        ensures { result ≡ is_listed name.now self.now.skip }
+    {
+        self.skip.contains(name)
     }
 
     /// The anchor at a path: main always, another one exactly where a path of the configuration begins with it.
@@ -89,7 +103,7 @@ impl Config {
     #[tactic(auto, using(crate::proofs::Descents::found_rules, crate::proofs::Descents::no_rules_found), unfolding(crate::specs::Map::rules_at))]
     pub fn items(&self, path: &[Name]) -> &[Item]
         ensures rules { map rule_of result.now ≡ rules_at self.now path.now }
-        ensures few { length result.now ≤ 1024 }
+        ensures few { length result.now ≤ RULES_MAX }
     {
         match self.anchor(path) {
             Some(anchor) => anchor.items(),
@@ -100,7 +114,8 @@ impl Config {
     /// The tables at a path.
     #[tactic(auto, using(crate::proofs::Descents::found_tables, crate::proofs::Descents::no_tables_found), unfolding(crate::specs::Map::tables_at))]
     fn tables(&self, path: &[Name]) -> &[(TableName, Table)]
-        ensures { result.now ≡ tables_at self.now path.now }
+        ensures value { result.now ≡ tables_at self.now path.now }
+        ensures ordered { AreOrdered result.now }
     {
         match self.anchor(path) {
             Some(anchor) => anchor.tables(),
@@ -177,7 +192,7 @@ impl Config {
     pub fn flush_tables(&mut self, path: &[Name]) -> Result<(), ConfigFault>
         ensures { Changes result self.old self.new (Ok (flush_tables self.old path.now)) }
     {
-        let next = with_tables(self.alloc, &self.main, path, Vec::new(self.alloc))?;
+        let next = with_tables(self.alloc, &self.main, path, Tables::new(self.alloc)?)?;
         self.main = next;
         Ok(())
     }
@@ -225,7 +240,7 @@ impl Config {
             return Err(ConfigFault::AnchorsFull);
         }
         if own.path().is_empty() {
-            self.skip = skip;
+            self.skip = Skipped::of(self.alloc, skip)?;
         }
         self.main = next;
         Ok(())
@@ -251,7 +266,7 @@ impl Config {
         let items = Rc::new(self.alloc, Vec::new(self.alloc))?;
         let left = placed(self.alloc, &self.main, path, items)?;
         let tidy = tidied(self.alloc, left)?;
-        let next = with_tables(self.alloc, &tidy, path, Vec::new(self.alloc))?;
+        let next = with_tables(self.alloc, &tidy, path, Tables::new(self.alloc)?)?;
         self.main = next;
         Ok(())
     }
@@ -359,7 +374,7 @@ fn kid_at<'c>(anchor: Option<&'c Anchor>, after: Option<&Name>) -> Option<&'c [N
 
 /// Whether the map has no more entries than it may.
 fn has_room(main: &Anchor) -> bool
-    ensures { result ≡ not (nat_lt 1024 (length main.now.anchors)) }
+    ensures { result ≡ not (nat_lt ANCHORS_MAX (length main.now.anchors)) }
 {
     match main.room_after(ANCHORS_MAX) {
         Some(_) => true,

@@ -10,6 +10,7 @@
 #![tactic(auto)]
 
 mod anchor;
+mod attached;
 mod blocks;
 mod changed;
 mod config;
@@ -18,12 +19,14 @@ mod loading;
 mod path_text;
 mod paths;
 mod placing;
+mod skipped;
+mod table_index;
 mod tables;
 mod unused;
 mod walk;
 
 pub use anchor::Anchor;
-pub use config::Config;
+pub use config::{Config, RULES_MAX};
 pub use fault::ConfigFault;
 pub use path_text::parse_path;
 pub use pf_table::Table;

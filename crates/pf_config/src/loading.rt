@@ -3,14 +3,15 @@
 ghost use Rattle.std.specs.Prelude.{◌≡◌, [], IfOk, fold, map};
 ghost use Rattle.std.specs.List.{list_any};
 ghost use Rattle.pf_config.specs.Changes.{placed, defined, defined_table, is_too_deep, loaded, without_unnamed};
-ghost use Rattle.pf_config.specs.Texts.{definition_of};
+ghost use Rattle.pf_config.specs.inner.Texts.{definition_of};
 ghost use Rattle.pf_config.specs.Trees.{with_text};
 
 use crate::anchor::{Anchor, with_entry};
 use crate::changed::{placed, tables_at, tidied};
 use crate::placing::Placing;
-use crate::tables::{named, with_table};
-use pf_ruleset::{TableDef, TableName};
+use crate::table_index::TableIndex;
+use crate::tables::Tables;
+use pf_ruleset::TableDef;
 use pf_table::Table;
 use std::alloc::{AllocError, Global};
 
@@ -54,13 +55,13 @@ fn with_blocks(alloc: Global, main: Anchor, blocks: &[Placing]) -> Result<Anchor
 fn defined_table(
     alloc: Global,
     definition: &TableDef,
-    tables: &[(TableName, Table)],
+    tables: &TableIndex,
 ) -> Result<Table, AllocError>
     ensures { IfOk result (λ t. t ≡ defined_table tables.now (definition_of definition.now)) }
 {
     match &definition.entries {
         Some(list) => Table::of(alloc, definition.persist, definition.is_const, list),
-        None => match named(tables, definition.name.as_str()) {
+        None => match tables.named(&definition.name) {
             Some(table) => table.flagged(definition.persist, definition.is_const),
             None => Table::new(alloc, definition.persist, definition.is_const),
         },
@@ -70,17 +71,20 @@ fn defined_table(
 /// The tables with each definition in its turn.
 fn with_definitions(
     alloc: Global,
-    tables: Vec<(TableName, Table)>,
+    tables: Tables,
     definitions: &[TableDef],
-) -> Result<Vec<(TableName, Table)>, AllocError>
-    ensures { IfOk result (λ v. v.items ≡ fold defined tables.items (map definition_of definitions.now)) }
+) -> Result<Tables, AllocError>
+    ensures { IfOk result (λ t. t ≡ fold defined tables (map definition_of definitions.now)) }
 {
-    let mut next = tables;
+    if definitions.is_empty() {
+        return Ok(tables);
+    }
+    let mut next = TableIndex::of(alloc, &tables)?;
     for definition in definitions {
         let table = defined_table(alloc, definition, &next)?;
-        next = with_table(alloc, &next, &definition.name, &table)?;
+        next.put(alloc, &definition.name, table)?;
     }
-    Ok(next)
+    next.into_tables(alloc)
 }
 
 /// The map with a text's rules at its path, and its definitions among the tables there.

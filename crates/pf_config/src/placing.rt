@@ -2,6 +2,7 @@
 
 ghost use Rattle.std.specs.Prelude.{◌≡◌, ◌≤◌, IfOk, map, length};
 ghost use Rattle.pf_ruleset.specs.Seen.{rule_of};
+ghost use Rattle.pf_config.specs.declared.config.TheConstants.{RULES_MAX};
 
 use pf_ruleset::{Item, Name};
 use std::alloc::AllocError;
@@ -30,7 +31,7 @@ impl Model for Placing {
 impl Placing {
     /// These rules at a path.
     pub(crate) fn new(path: Vec<Name>, items: Rc<Vec<Item>>) -> Placing
-        requires { length items.value.items ≤ 1024 }
+        requires { length items.value.items ≤ RULES_MAX }
         ensures { result ≡ record { path = path.items; rules = map rule_of items.value.items } }
     {
         Placing { path, items }
@@ -44,7 +45,7 @@ impl Placing {
 
     pub(crate) fn items(&self) -> Result<Rc<Vec<Item>>, AllocError>
         ensures rules { IfOk result (λ rc. map rule_of rc.value.items ≡ self.now.rules) }
-        ensures few { IfOk result (λ rc. length rc.value.items ≤ 1024) }
+        ensures few { IfOk result (λ rc. length rc.value.items ≤ RULES_MAX) }
     {
         self.items.clone()
     }

@@ -5,9 +5,10 @@ ghost use Rattle.std.specs.List.{list_any};
 ghost use Rattle.pf_ruleset.specs.Seen.{rule_of};
 ghost use Rattle.pf_config.specs.Changes.{is_at_table, conditions_refer, refers, is_used, used_tables};
 ghost use Rattle.pf_config.specs.Trees.{is_idle};
+ghost use Rattle.pf_config.specs.Ordered.{AreOrdered};
 
 use crate::anchor::Anchor;
-use crate::tables::copied_table;
+use crate::tables::{Tables, copied_table};
 use pf_ruleset::{Addresses, Conditions, Host, Item, Name, TableName};
 use pf_table::Table;
 use std::alloc::{AllocError, Global};
@@ -86,14 +87,16 @@ pub(crate) fn any_unused(
 }
 
 /// The tables at a path that persist or are used.
+#[tactic(auto, using(crate::proofs::Ordered::ordered_filter))]
 pub(crate) fn used_tables(
     alloc: Global,
     main: &Anchor,
     path: &[Name],
     items: &[Item],
     tables: &[(TableName, Table)],
-) -> Result<Vec<(TableName, Table)>, AllocError>
-    ensures { IfOk result (λ v. v.items ≡ used_tables main.now.anchors (record {
+) -> Result<Tables, AllocError>
+    requires { AreOrdered tables.now }
+    ensures { IfOk result (λ t. t ≡ used_tables main.now.anchors (record {
       path = path.now;
       rules = map rule_of items.now;
       tables = [];
@@ -107,5 +110,5 @@ pub(crate) fn used_tables(
             next.push((name, table))?;
         }
     }
-    Ok(next)
+    Tables::of(alloc, next)
 }

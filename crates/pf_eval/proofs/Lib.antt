@@ -1,7 +1,9 @@
 pub mod Digits
+pub mod SkippedPackets
 pub mod Words
-pub mod Forms
 pub mod Groups
+pub mod Deciding
 pub mod Walks
+pub mod Anchors
 pub mod Spaces
 pub mod PacketSpelled

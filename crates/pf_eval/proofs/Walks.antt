@@ -1,154 +1,67 @@
--- What is left of hits, one part after another.
-use Rattle.std.proofs.Common.{◌≡◌, ℕ, ◌+◌, ◌<◌, ◌≤◌, zero, suc, Bool, true, false, ◌&&◌, ◌||◌, ◌-◌, sub-one, cond, get_or, add-one, drop-cons, List, [], ◌∷◌, ◌++◌, length, map, drop, Option, Some, None, refl, sym, ap, ◌∙◌, arith, rules}
-use Rattle.std.specs.Prelude.{not, if◌then◌else◌, filter, option_map, is_some}
-use Rattle.std.specs.List.{list_any, flat_map}
-use Rattle.pf_config.specs.Map.{Configuration, Path, or_else, rules_at, kids, is_above, followed_by}
-use Rattle.pf_ruleset.specs.Names.{Name, begins_below}
+-- The walks' steps, as the code takes them.
+use Rattle.std.proofs.Common.{◌≡◌, ℕ, ◌+◌, ◌-◌, ◌<◌, ◌≤◌, zero, suc, Bool, true, false, sub-one, get_or, add-one, drop-cons, List, [], ◌∷◌, length, map, drop, Option, Some, None, refl, sym, subst, ap, ◌∙◌, arith, rules}
+use Rattle.std.specs.Prelude.{if◌then◌else◌, nat_le, option_map}
+use Rattle.std.specs.declared.rc.Rc.{Rc}
+use Rattle.pf_config.specs.Map.{Configuration, Path, or_else, rules_at, kids, followed_by}
+use Rattle.pf_config.specs.Trees.{AnchorTree, paths_of, shared}
 use Rattle.pf_ruleset.specs.Items.{AnyRule, FilterRule, AnchorRule, Heading, Target, rule_in}
 use Rattle.pf_ruleset.specs.declared.rule.Rule.{Rule}
 use Rattle.pf_ruleset.specs.declared.item.AnchorRule as anchored
 use Rattle.pf_ruleset.specs.declared.item.Item as item
-use Rattle.pf_ruleset.proofs.Carried.{anchor_is}
-use Rattle.pf_ruleset.specs.Seen.{heading_of, items_of, item_of, rule_of, with_block}
 use Rattle.pf_ruleset.specs.declared.item.Item.{Item}
+use Rattle.pf_ruleset.specs.Seen.{heading_of, items_of, rule_of, with_block}
+use Rattle.pf_ruleset.proofs.Carried.{anchor_is}
 use Rattle.pf_eval.specs.Packets.{PacketValue}
 use Rattle.pf_eval.specs.Matching.{Tables, matches}
-use Rattle.pf_eval.specs.Verdicts.{Hit, Spot, stop_last, marked, rule_hits, hits_with, hits, member_hits, not_too_deep, target_hits, tables_in, no_hits}
-use Rattle.pf_eval.specs.Verdicts.{cut, last, last_spot}
-use Rattle.pf_eval.specs.Outcomes.{Outcome, outcome, joined, ended, nothing}
+use Rattle.pf_eval.specs.Verdicts.{Spot, no_tables}
+use Rattle.pf_eval.specs.inner.TwoWalks.{first_some, last_some, first_rule, last_rule, in_member, ending, quick_spot, other_spot}
+use Rattle.pf_eval.specs.inner.TwoWalks.{called_stop, called_last, rule_stop, rule_last, first_walk, second_walk, stop_at, last_at}
+use Rattle.pf_eval.specs.inner.TwoWalks.{flat_stop, flat_last}
 
-abbrev made : Option Spot → Bool → Outcome
-made last stopped = record { last = last; stopped = stopped }
+-- ---- one depth less
 
-abbrev one : Hit → Outcome
-one h = made (Some h.spot) h.stops
+pub second_none : (c : Configuration) (k : PacketValue) (p : Path) → second_walk 0 c k p ≡ None
+unfolding second_walk
+second_none c k p = refl
 
-else_none : (r : Option Spot) → or_else r None ≡ r
-else_none None = refl
-else_none (Some x) = refl
+pub second_at : (depth : ℕ) (c : Configuration) (k : PacketValue) (p : Path) → 0 < depth → second_walk depth c k p ≡ last_rule (last_at (depth - 1) c k p) 0 (rules_at c p)
+unfolding second_walk
+second_at zero c k p h = absurd (omega arith)
+second_at (suc depth) c k p h = rw sub-one refl
 
-assoc : (la lb ld : Option Spot) (sa sb sd : Bool) → joined (joined (made la sa) (made lb sb)) (made ld sd) ≡ joined (made la sa) (joined (made lb sb) (made ld sd))
-assoc la lb ld true sb sd = refl
-assoc la lb ld false true sd = refl
-assoc la lb None false false sd = refl
-assoc la lb (Some x) false false sd = refl
+pub first_none : (c : Configuration) (k : PacketValue) (p : Path) → first_walk 0 c k p ≡ None
+unfolding first_walk
+first_none c k p = refl
 
-then_assoc : (a b d : Outcome) → joined (joined a b) d ≡ joined a (joined b d)
-then_assoc a b d = assoc a.last b.last d.last a.stopped b.stopped d.stopped
+pub first_at : (depth : ℕ) (c : Configuration) (k : PacketValue) (p : Path) → 0 < depth → first_walk depth c k p ≡ first_rule (stop_at (depth - 1) c k p) 0 (rules_at c p)
+unfolding first_walk
+first_at zero c k p h = absurd (omega arith)
+first_at (suc depth) c k p h = rw sub-one refl
 
-made_nothing : (l : Option Spot) (s : Bool) → joined (made l s) nothing ≡ made l s
-made_nothing l true = refl
-made_nothing l false = refl
+-- ---- nothing is hit at a path with which none begins
 
-pub then_nothing : (a : Outcome) → joined a nothing ≡ a
-then_nothing a = made_nothing a.last a.stopped
+pub second_nothing : (depth : ℕ) (c : Configuration) (k : PacketValue) (p : Path) → rules_at c p ≡ [] → second_walk depth c k p ≡ None
+unfolding second_walk
+second_nothing zero c k p e = refl
+second_nothing (suc depth) c k p e = rw e refl
 
-pub nothing_then : (a : Outcome) → joined nothing a ≡ a
-nothing_then a = ap (λ r. made r a.stopped) (else_none a.last)
+pub first_nothing : (depth : ℕ) (c : Configuration) (k : PacketValue) (p : Path) → rules_at c p ≡ [] → first_walk depth c k p ≡ None
+unfolding first_walk
+first_nothing zero c k p e = refl
+first_nothing (suc depth) c k p e = rw e refl
 
-outcome_cons : (h : Hit) (hs : List Hit) → outcome (h ∷ hs) ≡ joined (one h) (outcome hs)
-outcome_cons h hs = elim (h.stops) as (λ v. made (last (map (λ (h : Hit). h.spot) (if v then h ∷ [] else h ∷ cut hs))) (v || list_any (λ (h : Hit). h.stops) hs) ≡ joined (made (Some h.spot) v) (outcome hs)) [ true ↦ refl | false ↦ refl ]
+pub none_called : (depth : ℕ) (c : Configuration) (k : PacketValue) (q : Path) (children : Bool) → rules_at c q ≡ [] → kids c q ≡ [] → called_last (second_walk depth c k) c q children ≡ None
+none_called depth c k q true e f = ap (λ ns. last_some (in_member (second_walk depth c k)) (map (followed_by q) ns)) f
+none_called depth c k q false e f = elim (nat_le (length q) 8) as (λ b. (if b then second_walk depth c k q else None) ≡ None) [ true ↦ second_nothing depth c k q e | false ↦ refl ]
 
-pub outcome_append : (xs ys : List Hit) → outcome (xs ++ ys) ≡ joined (outcome xs) (outcome ys)
-outcome_append [] ys = sym (nothing_then (outcome ys))
-outcome_append (h ∷ xs) ys =
-    outcome_cons h (xs ++ ys) ∙ ap (joined (one h)) (outcome_append xs ys) ∙ sym (then_assoc (one h) (outcome xs) (outcome ys)) ∙ ap (λ a. joined a (outcome ys)) (sym (outcome_cons h xs))
+none_stops : (depth : ℕ) (c : Configuration) (k : PacketValue) (q : Path) (children : Bool) → rules_at c q ≡ [] → kids c q ≡ [] → called_stop (first_walk depth c k) c q children ≡ None
+none_stops depth c k q true e f = ap (λ ns. first_some (in_member (first_walk depth c k)) (map (followed_by q) ns)) f
+none_stops depth c k q false e f = elim (nat_le (length q) 8) as (λ b. (if b then first_walk depth c k q else None) ≡ None) [ true ↦ first_nothing depth c k q e | false ↦ refl ]
 
-some_cons : (h : Hit) (hs : List Hit) → is_some (last_spot (h ∷ hs)) ≡ true
-some_cons h hs = elim (h.stops) as (λ v. is_some (last (map (λ (h : Hit). h.spot) (if v then h ∷ [] else h ∷ cut hs))) ≡ true) [
-  | true ↦ refl
-  | false ↦ elim (last (map (λ (h : Hit). h.spot) (cut hs))) as (λ r. is_some (or_else r (Some h.spot)) ≡ true) [ None ↦ refl | Some x ↦ refl ]
-]
-
-ended_more : (x : Spot) (s : Bool) (r : Option Spot) (t : Bool) → is_some r ≡ true → joined (made (Some x) s) (ended true (made r t)) ≡ ended true (joined (made (Some x) s) (made r t))
-ended_more x true r t h = refl
-ended_more x false None t h = cc
-ended_more x false (Some y) t h = refl
-
-outcome_stopped : (hs : List Hit) → outcome (stop_last hs) ≡ ended true (outcome hs)
-outcome_stopped [] = refl
-outcome_stopped (h ∷ []) = elim (h.stops) as (λ v. made (Some h.spot) true ≡ ended true (made (last (map (λ (h : Hit). h.spot) (if v then h ∷ [] else h ∷ []))) (v || false))) [ true ↦ refl | false ↦ refl ]
-outcome_stopped (h ∷ g ∷ hs) =
-    outcome_cons h (stop_last (g ∷ hs)) ∙ ap (joined (one h)) (outcome_stopped (g ∷ hs))
-    ∙ ended_more h.spot h.stops (last_spot (g ∷ hs)) (list_any (λ (h : Hit). h.stops) (g ∷ hs)) (some_cons g hs)
-    ∙ ap (ended true) (sym (outcome_cons h (g ∷ hs)))
-
-pub outcome_marked : (quick : Bool) (hs : List Hit) → outcome (marked quick hs) ≡ ended quick (outcome hs)
-outcome_marked true hs = outcome_stopped hs
-outcome_marked false hs = refl
-
--- one rule's hits, and joined those of the rest
-pub rules_step : (w : Outcome) (xs ys : List Hit) → joined (joined w (outcome xs)) (outcome ys) ≡ joined w (outcome (xs ++ ys))
-rules_step w xs ys = then_assoc w (outcome xs) (outcome ys) ∙ ap (joined w) (sym (outcome_append xs ys))
-
-pub stopped_there : (l : Option Spot) (s : Bool) (b : Outcome) → s ≡ true → joined (made l s) b ≡ made l s
-stopped_there l true b h = refl
-stopped_there l false b h = cc
-
-pub hits_none : (c : Configuration) (k : PacketValue) (p : Path) → hits 0 c k p ≡ []
-unfolding hits
-hits_none c k p = refl
-
-pub hits_at : (depth : ℕ) (c : Configuration) (k : PacketValue) (p : Path) → 0 < depth → hits depth c k p ≡ hits_with (tables_in c p) (target_hits (hits (depth - 1) c k) c p) k p 0 (rules_at c p)
-unfolding hits
-hits_at zero c k p h = absurd (omega arith)
-hits_at (suc depth) c k p h = rw sub-one refl
-
--- nothing is at a path with which none begins
-pub nothing_there : (depth : ℕ) (c : Configuration) (k : PacketValue) (p : Path) → rules_at c p ≡ [] → hits depth c k p ≡ []
-unfolding hits
-nothing_there zero c k p e = refl
-nothing_there (suc depth) c k p e = rw e refl
-
-pub all_kids : (names : List Name) → filter (is_above None) names ≡ names
-all_kids [] = refl
-all_kids (n ∷ names) = ap (λ (r : List Name). n ∷ r) (all_kids names)
-
--- a kid that is no unnamed block, and joined the others
-pub member_step : (within : Path → List Hit) (p : Path) (w : Outcome) (n : Name) (names : List Name) → begins_below n ≡ false →
-    joined (joined w (outcome (not_too_deep within (followed_by p n)))) (outcome (member_hits within p names)) ≡ joined w (outcome (member_hits within p (n ∷ names)))
-member_step within p w n names e = rw e (rules_step w (not_too_deep within (followed_by p n)) (member_hits within p names))
-
-pub member_skip : (within : Path → List Hit) (p : Path) (w : Outcome) (n : Name) (names : List Name) → begins_below n ≡ true →
-    joined w (outcome (member_hits within p names)) ≡ joined w (outcome (member_hits within p (n ∷ names)))
-member_skip within p w n names e = rw e refl
-
-member_cons : (within : Path → List Hit) (p : Path) (n : Name) (names : List Name) → (if begins_below n then [] else not_too_deep within (followed_by p n)) ++ member_hits within p names ≡ member_hits within p (n ∷ names)
-member_cons within p n names = elim (begins_below n) as (λ b. (if b then [] else not_too_deep within (followed_by p n)) ++ member_hits within p names ≡ flat_map (not_too_deep within) (map (followed_by p) (cond (not b) (n ∷ filter (λ n. not (begins_below n)) names) (filter (λ n. not (begins_below n)) names)))) [ true ↦ refl | false ↦ refl ]
-
--- a member was entered, and the others above it are left
-pub member_rest : (within : Path → List Hit) (p q : Path) (after : Option Name) (n : Name) (names : List Name) (w f v all : Outcome) →
-    f ≡ outcome (if begins_below n then [] else not_too_deep within q) → v ≡ joined w f →
-    filter (is_above after) names ≡ n ∷ filter (is_above (Some n)) names → q ≡ followed_by p n →
-    joined w (outcome (member_hits within p (filter (is_above after) names))) ≡ all →
-    joined v (outcome (member_hits within p (filter (is_above (Some n)) names))) ≡ all
-member_rest within p q after n names w f v all e_found e_joined next path before =
-    let rest = filter (is_above (Some n)) names in
-    let here : f ≡ outcome (if begins_below n then [] else not_too_deep within (followed_by p n)) = rw path at e_found in
-    rw (e_joined, here) (
-    rules_step w (if begins_below n then [] else not_too_deep within (followed_by p n)) (member_hits within p rest)
-    ∙ ap (λ hs. joined w (outcome hs)) (member_cons within p n rest)
-    ∙ ap (λ ns. joined w (outcome (member_hits within p ns))) (sym next) ∙ before)
-
--- a rule was evaluated, and those behind it are left
-pub rule_rest : (t : Tables) (within : Target → List Hit) (k : PacketValue) (p : Path) (i : ℕ) (items : List Item) (item : Item) (w f v all : Outcome) →
-    i < length items → item ≡ get_or items i item →
-    f ≡ outcome (rule_hits t within k p i (rule_of item)) → v ≡ joined w f →
-    joined w (outcome (hits_with t within k p i (map rule_of (drop i items)))) ≡ all →
-    joined v (outcome (hits_with t within k p (i + 1) (map rule_of (drop (i + 1) items)))) ≡ all
-rule_rest t within k p i items item w f v all lt is e_found e_joined before =
-    let split : drop i items ≡ item ∷ drop (i + 1) items = rw add-one (drop-cons items i item lt ∙ ap (λ (x : Item). x ∷ drop (suc i) items) (sym is)) in
-    rw (e_joined, e_found) (
-    rules_step w (rule_hits t within k p i (rule_of item)) (hits_with t within k p (i + 1) (map rule_of (drop (i + 1) items)))
-    ∙ ap (λ xs. joined w (outcome (hits_with t within k p i (map rule_of xs)))) (sym split) ∙ before)
-
-no_mark : (quick : Bool) → outcome (marked quick []) ≡ nothing
-no_mark true = refl
-no_mark false = refl
-
--- where there is nothing in any anchor an anchor rule comes to nothing
-pub anchor_none : (t : Tables) (k : PacketValue) (p : Path) (i : ℕ) (a : Heading) → outcome (rule_hits t no_hits k p i (AnchorRule a)) ≡ nothing
-anchor_none t k p i a = elim (matches t a.conditions k) as (λ b. outcome (if b then marked a.quick [] else []) ≡ nothing) [ true ↦ no_mark a.quick | false ↦ refl ]
+pub none_ending : (depth : ℕ) (c : Configuration) (k : PacketValue) (q : Path) (children quick : Bool) → rules_at c q ≡ [] → kids c q ≡ [] →
+    ending quick (called_stop (first_walk depth c k) c q children) (called_last (second_walk depth c k) c q children) ≡ None
+none_ending depth c k q children true e f = ap (λ r. or_else r (called_last (second_walk depth c k) c q children)) (none_stops depth c k q children e f) ∙ none_called depth c k q children e f
+none_ending depth c k q children false e f = none_stops depth c k q children e f
 
 -- ---- the rules of the code's items
 
@@ -162,16 +75,96 @@ head_only h (Some items) = refl
 anchor_rule : (a : anchored.AnchorRule) → rule_of (item.Anchor a) ≡ AnchorRule (heading_of a.heading)
 anchor_rule a = ap rule_in (anchor_is a) ∙ head_only (heading_of a.heading) (option_map (λ v. items_of v.value.items) a.block)
 
-pub filter_found : (t u : Tables) (within : Target → List Hit) (k : PacketValue) (p q : Path) (i : ℕ) (r : Rule) (x : Item) → u ≡ t → q ≡ p → x ≡ item.Filter r →
-    outcome (rule_hits u no_hits k q i (FilterRule r)) ≡ outcome (rule_hits t within k p i (rule_of x))
-filter_found t u within k p q i r x e f is =
-    ap (λ v. outcome (rule_hits v no_hits k q i (FilterRule r))) e ∙ ap (λ v. outcome (rule_hits t no_hits k v i (FilterRule r))) f
-    ∙ ap (λ v. outcome (rule_hits t within k p i v)) (sym (ap rule_of is ∙ filter_rule r))
+pub stop_of_filter : (t u : Tables) (stop last : Target → Option Spot) (k : PacketValue) (p q : Path) (i : ℕ) (r : Rule) (x : Item) → u ≡ t → q ≡ p → x ≡ item.Filter r →
+    quick_spot u k q i r ≡ rule_stop t stop last k p i (rule_of x)
+stop_of_filter t u stop last k p q i r x e f is =
+    ap (λ v. quick_spot v k q i r) e ∙ ap (λ v. quick_spot t k v i r) f ∙ ap (rule_stop t stop last k p i) (sym (ap rule_of is ∙ filter_rule r))
 
-pub anchor_found : (t : Tables) (within : Target → List Hit) (k : PacketValue) (p : Path) (i : ℕ) (a : anchored.AnchorRule) (x : Item) → x ≡ item.Anchor a →
-    outcome (rule_hits t within k p 0 (AnchorRule (heading_of a.heading))) ≡ outcome (rule_hits t within k p i (rule_of x))
-anchor_found t within k p i a x is = ap (λ v. outcome (rule_hits t within k p i v)) (sym (ap rule_of is ∙ anchor_rule a))
+pub last_of_filter : (t u : Tables) (last : Target → Option Spot) (k : PacketValue) (p q : Path) (i : ℕ) (r : Rule) (x : Item) → u ≡ t → q ≡ p → x ≡ item.Filter r →
+    other_spot u k q i r ≡ rule_last t last k p i (rule_of x)
+last_of_filter t u last k p q i r x e f is =
+    ap (λ v. other_spot v k q i r) e ∙ ap (λ v. other_spot t k v i r) f ∙ ap (rule_last t last k p i) (sym (ap rule_of is ∙ filter_rule r))
+
+pub stop_of_anchor : (t : Tables) (stop last : Target → Option Spot) (k : PacketValue) (p : Path) (i : ℕ) (a : anchored.AnchorRule) (x : Item) → x ≡ item.Anchor a →
+    rule_stop t stop last k p 0 (AnchorRule (heading_of a.heading)) ≡ rule_stop t stop last k p i (rule_of x)
+stop_of_anchor t stop last k p i a x is = ap (rule_stop t stop last k p i) (sym (ap rule_of is ∙ anchor_rule a))
+
+pub last_of_anchor : (t : Tables) (last : Target → Option Spot) (k : PacketValue) (p : Path) (i : ℕ) (a : anchored.AnchorRule) (x : Item) → x ≡ item.Anchor a →
+    rule_last t last k p 0 (AnchorRule (heading_of a.heading)) ≡ rule_last t last k p i (rule_of x)
+last_of_anchor t last k p i a x is = ap (rule_last t last k p i) (sym (ap rule_of is ∙ anchor_rule a))
 
 -- an anchor rule comes to nothing where there is nothing in any anchor
-pub anchor_nothing : (t : Tables) (k : PacketValue) (p : Path) (i : ℕ) (a : anchored.AnchorRule) (x : Item) → x ≡ item.Anchor a → nothing ≡ outcome (rule_hits t no_hits k p i (rule_of x))
-anchor_nothing t k p i a x is = sym (anchor_none t k p i (heading_of a.heading)) ∙ anchor_found t no_hits k p i a x is
+
+abbrev none : Option Spot
+none = None
+
+no_stop : (k : PacketValue) (i : ℕ) (a : Heading) → flat_stop k i (AnchorRule a) ≡ None
+no_stop k i a = elim (matches no_tables a.conditions k) as (λ b. (if b then ending a.quick none none else none) ≡ none) [ true ↦ elim (a.quick) as (λ v. ending v none none ≡ none) [ true ↦ refl | false ↦ refl ] | false ↦ refl ]
+
+no_last : (k : PacketValue) (i : ℕ) (a : Heading) → flat_last k i (AnchorRule a) ≡ None
+no_last k i a = elim (matches no_tables a.conditions k) as (λ b. (if a.quick then none else (if b then none else none)) ≡ none) [
+  | true ↦ elim (a.quick) as (λ v. (if v then none else none) ≡ none) [ true ↦ refl | false ↦ refl ]
+  | false ↦ elim (a.quick) as (λ v. (if v then none else none) ≡ none) [ true ↦ refl | false ↦ refl ]
+]
+
+pub flat_stop_of_anchor : (k : PacketValue) (i : ℕ) (a : anchored.AnchorRule) (x : Item) → x ≡ item.Anchor a → None ≡ flat_stop k i (rule_of x)
+flat_stop_of_anchor k i a x is = sym (ap (flat_stop k i) (ap rule_of is ∙ anchor_rule a) ∙ no_stop k i (heading_of a.heading))
+
+pub flat_last_of_anchor : (k : PacketValue) (i : ℕ) (a : anchored.AnchorRule) (x : Item) → x ≡ item.Anchor a → None ≡ flat_last k i (rule_of x)
+flat_last_of_anchor k i a x is = sym (ap (flat_last k i) (ap rule_of is ∙ anchor_rule a) ∙ no_last k i (heading_of a.heading))
+
+-- ---- from the back over rules
+
+-- what is found at the back is found in the whole
+rule_deep : (f : ℕ → AnyRule → Option Spot) (j i : ℕ) (items : List Item) (x : Spot) →
+    last_rule f (j + i) (map rule_of (drop i items)) ≡ Some x → last_rule f j (map rule_of items) ≡ Some x
+rule_deep f j zero items x h = let e : j + 0 ≡ j = omega arith in subst (λ n. last_rule f n (map rule_of items) ≡ Some x) e h
+rule_deep f j (suc i) [] x h = h
+rule_deep f j (suc i) (y ∷ items) x h =
+    let e : j + suc i ≡ j + 1 + i = omega arith in
+    ap (λ r. or_else r (f j (rule_of y))) (rule_deep f (j + 1) i items x (subst (λ n. last_rule f n (map rule_of (drop i items)) ≡ Some x) e h))
+
+-- a rule, and those behind it that have no hit
+rule_here : (f : ℕ → AnyRule → Option Spot) (i : ℕ) (items : List Item) (item : Item) →
+    i < length items → item ≡ get_or items i item → last_rule f (i + 1) (map rule_of (drop (i + 1) items)) ≡ None →
+    last_rule f i (map rule_of (drop i items)) ≡ f i (rule_of item)
+rule_here f i items item lt is none =
+    let split : drop i items ≡ item ∷ drop (i + 1) items = rw add-one (drop-cons items i item lt ∙ ap (λ (x : Item). x ∷ drop (suc i) items) (sym is)) in
+    ap (λ xs. last_rule f i (map rule_of xs)) split ∙ ap (λ r. or_else r (f i (rule_of item))) none
+
+rule_found : (f : ℕ → AnyRule → Option Spot) (i : ℕ) (items : List Item) (item : Item) (x : Spot) →
+    i < length items → item ≡ get_or items i item → last_rule f (i + 1) (map rule_of (drop (i + 1) items)) ≡ None →
+    Some x ≡ f i (rule_of item) → Some x ≡ last_rule f 0 (map rule_of items)
+rule_found f i items item x lt is none found =
+    let e : i ≡ 0 + i = omega arith in
+    sym (rule_deep f 0 i items x (subst (λ n. last_rule f n (map rule_of (drop i items)) ≡ Some x) e (rule_here f i items item lt is none ∙ sym found)))
+
+-- the rule before those that have no hit is the last with one
+pub rule_back : (f : ℕ → AnyRule → Option Spot) (left : ℕ) (items : List Item) (item : Item) (x : Spot) →
+    0 < left → left ≤ length items → item ≡ get_or items (left - 1) item → last_rule f left (map rule_of (drop left items)) ≡ None →
+    Some x ≡ f (left - 1) (rule_of item) → Some x ≡ last_rule f 0 (map rule_of items)
+rule_back f left items item x some few is none found =
+    let e : left ≡ left - 1 + 1 = omega (arith, some) in
+    rule_found f (left - 1) items item x (omega (arith, some, few)) is (subst (λ n. last_rule f n (map rule_of (drop n items)) ≡ None) e none) found
+
+-- ---- from the back over anchors
+
+some_deep : {Z : Type 0} → (f : Path → Option Spot) (i : ℕ) (ks : List (Rc AnchorTree Z)) (x : Spot) → last_some f (paths_of (shared (drop i ks))) ≡ Some x → last_some f (paths_of (shared ks)) ≡ Some x
+some_deep f zero ks x h = h
+some_deep f (suc i) [] x h = h
+some_deep f (suc i) (y ∷ ks) x h = ap (λ r. or_else r (f y.value.names)) (some_deep f i ks x h)
+
+some_here : {Z : Type 0} → (f : Path → Option Spot) (i : ℕ) (ks : List (Rc AnchorTree Z)) (kid : Rc AnchorTree Z) →
+    i < length ks → kid ≡ get_or ks i kid → last_some f (paths_of (shared (drop (i + 1) ks))) ≡ None → last_some f (paths_of (shared (drop i ks))) ≡ f kid.value.names
+some_here {Z} f i ks kid lt is none =
+    let split : drop i ks ≡ kid ∷ drop (i + 1) ks = rw add-one (drop-cons ks i kid lt ∙ ap (λ (x : Rc AnchorTree Z). x ∷ drop (suc i) ks) (sym is)) in
+    ap (λ xs. last_some f (paths_of (shared xs))) split ∙ ap (λ r. or_else r (f kid.value.names)) none
+
+-- the anchor before those that have no hit is the last with one
+pub kid_back : {Z : Type 0} → (f : Path → Option Spot) (left : ℕ) (ks : List (Rc AnchorTree Z)) (kid : Rc AnchorTree Z) (x : Spot) →
+    0 < left → left ≤ length ks → kid ≡ get_or ks (left - 1) kid → last_some f (paths_of (shared (drop left ks))) ≡ None →
+    Some x ≡ f kid.value.names → Some x ≡ last_some f (paths_of (shared ks))
+kid_back f left ks kid x some few is none found =
+    let e : left ≡ left - 1 + 1 = omega (arith, some) in
+    let lt : left - 1 < length ks = omega (arith, some, few) in
+    sym (some_deep f (left - 1) ks x (some_here f (left - 1) ks kid lt is (subst (λ n. last_some f (paths_of (shared (drop n ks))) ≡ None) e none) ∙ sym found))

@@ -1,13 +1,18 @@
 -- What a cursor over words has left, and what a reader of words answers.
-use Rattle.std.specs.Prelude.{◌≡◌, List, map, Option, Some, None, Result, Ok, Err}
+use Rattle.std.specs.Prelude.{◌≡◌, List, [], ◌∷◌, option_map, Option, Some, None, Result, Ok, Err}
 use Rattle.pf_eval.specs.declared.cursor.Cursor.{Cursor}
 use Rattle.pf_eval.specs.declared.fault.PacketFault.{PacketFault}
 use Rattle.pf_eval.specs.declared.fault.PacketFault.TheVariants.{Memory, BadPacket}
 use Rattle.pf_eval.specs.declared.cursor.End as code
-use Rattle.pf_eval.specs.PacketTexts.{Word, End}
+use Rattle.pf_eval.specs.PacketTexts.{Word, End, words}
+
+-- the words of a text of which this word, if there is one, and what stands behind it were cut
+abbrev pub cut_words : Option (Word × Word) → List Word
+cut_words None = []
+cut_words (Some cut) = cut.0 ∷ words cut.1
 
 abbrev pub left : Cursor → List Word
-left c = map (λ w. w.now) c.left.now
+left c = cut_words (option_map (λ word. (word.now, c.rest.now)) c.next)
 
 abbrev pub end_of : code.End → End
 end_of e = record { addr = e.addr; port = e.port }

@@ -5,4 +5,4 @@ pub mod Matching
 pub mod Verdicts
 pub mod Seen
 pub mod PacketGrammar
-pub mod Outcomes
+pub mod inner

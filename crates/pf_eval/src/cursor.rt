@@ -5,15 +5,16 @@ ghost use Rattle.std.specs.Prelude.{option_map, codes};
 ghost use Rattle.std.specs.Option.{option_copied};
 ghost use Rattle.pf_eval.specs.PacketTexts.{is_empty, begins, word_at, word_after, value, keyed, optional};
 ghost use Rattle.pf_eval.specs.PacketTexts.{direction_of, name_of, address_of, port_number_of, type_number_of};
-ghost use Rattle.pf_eval.specs.PacketTexts.{groups_at, end_at};
-ghost use Rattle.pf_words.specs.Words.{protocol_of, flags_of, is_interface_text};
+ghost use Rattle.pf_eval.specs.PacketTexts.{groups_at, end_at, words};
+ghost use Rattle.pf_words.specs.Words.{protocol_of, flags_of};
 ghost use Rattle.pf_eval.specs.declared.fault.PacketFault.TheVariants.{Memory};
 ghost use Rattle.pf_eval.specs.Cursors.{left, end_of, Reads, ReadsAll};
 
 use crate::fault::PacketFault;
+use crate::word::first_word;
 use pf_addr::{Addr, parse_bytes};
 use pf_ruleset::{Direction, InterfaceName};
-use pf_words::{Profile, TcpFlags, is_interface_name, parse_decimal, parse_flags, parse_protocol};
+use pf_words::{Profile, TcpFlags, is_reserved, parse_decimal, parse_flags, parse_protocol};
 use std::alloc::Global;
 
 /// An address and its port.
@@ -23,48 +24,44 @@ pub(crate) struct End {
     pub(crate) port: Option<u16>,
 }
 
-/// The name of an interface, which has the form of one. The only error is want of memory.
-pub(crate) fn interface_name(alloc: Global, text: &[u8]) -> Result<InterfaceName, PacketFault>
-    requires { is_interface_text text.now ≡ true }
-    ensures name { IfOk result (λ name. name ≡ text.now) }
-    ensures error { IfErr result (λ e. e ≡ Memory) }
-{
-    match InterfaceName::new(alloc, text)? {
-        Some(name) => Ok(name),
-        None => Err(PacketFault::Memory),
-    }
-}
-
-/// The words that are left to read.
+/// The words that are left to read: the next one, and the text behind it.
 #[derive(Clone, Copy, Debug)]
-pub(crate) struct Cursor<'w, 't> {
-    left: &'w [&'t [u8]],
+pub(crate) struct Cursor<'t> {
+    next: Option<&'t [u8]>,
+    rest: &'t [u8],
 }
 
-impl<'w, 't> Cursor<'w, 't>
-where
-    't: 'w,
-{
-    pub(crate) fn new(words: &'w [&'t [u8]]) -> Cursor<'w, 't>
-        ensures { left result ≡ map (λ w. w.now) words.now }
+impl<'t> Cursor<'t> {
+    /// Before the first word of a text.
+    pub(crate) fn new(text: &'t [u8]) -> Cursor<'t>
+        ensures { left result ≡ words text.now }
     {
-        Cursor { left: words }
+        match first_word(text) {
+            Some((word, rest)) => Cursor {
+                next: Some(word),
+                rest,
+            },
+            None => Cursor {
+                next: None,
+                rest: text,
+            },
+        }
     }
 
     /// Whether no word is left.
     pub(crate) fn is_empty(&self) -> bool
         ensures { result ≡ is_empty (left self.now) }
     {
-        self.left.is_empty()
+        self.next.is_none()
     }
 
     /// Whether this word comes next.
     fn begins(&self, key: &[u8]) -> bool
         ensures { result ≡ begins key.now (left self.now) }
     {
-        match self.left {
-            [] => false,
-            [word, ..] => *word == key,
+        match self.next {
+            None => false,
+            Some(word) => word == key,
         }
     }
 
@@ -72,11 +69,10 @@ where
     fn skip(&mut self)
         ensures { left self.new ≡ drop 1 (left self.old) }
     {
-        if self.left.is_empty() {
+        if self.next.is_none() {
             return;
         }
-        let (_, left) = self.left.split_at(1);
-        *self = Cursor { left };
+        *self = Cursor::new(self.rest);
     }
 
     /// The next word.
@@ -84,10 +80,7 @@ where
         ensures read { Reads (option_copied result) (left self.new) (word_at (left self.old)) }
         ensures taken { IsSome result → length (left self.new) < length (left self.old) }
     {
-        let word = match self.left {
-            [] => return None,
-            [word, ..] => *word,
-        };
+        let word = self.next?;
         self.skip();
         Some(word)
     }
@@ -121,18 +114,16 @@ where
     }
 
     /// The name of an interface behind this word.
-    #[tactic(auto, using(crate::proofs::Forms::interface_name_form), unfolding(crate::specs::PacketTexts::keyed))]
-    pub(crate) fn name_after(&mut self, key: &[u8]) -> Option<&'t [u8]>
-        ensures read { Reads (option_copied result) (left self.new) (keyed key.now name_of (left self.old)) }
-        ensures form { IfSome result (λ name. is_interface_text name.now ≡ true) }
+    #[tactic(auto, unfolding(crate::specs::PacketTexts::keyed, pf_words::specs::Words::is_interface_name))]
+    pub(crate) fn name_after(&mut self, key: &[u8]) -> Option<InterfaceName>
+        ensures read { Reads result (left self.new) (keyed key.now name_of (left self.old)) }
         ensures taken { IsSome result → length (left self.new) < length (left self.old) }
     {
         let word = self.word_after(key)?;
-        if is_interface_name(Profile::One, word) {
-            Some(word)
-        } else {
-            None
+        if is_reserved(Profile::One, word) {
+            return None;
         }
+        InterfaceName::new(word)
     }
 
     /// The groups of the interface.
@@ -145,7 +136,7 @@ where
             let Some(name) = self.name_after(b"group") else {
                 return Err(PacketFault::BadPacket);
             };
-            groups.push(interface_name(alloc, name)?)?;
+            groups.push(name)?;
         }
         Ok(groups)
     }
@@ -167,14 +158,15 @@ where
         parse_bytes(word).ok()
     }
 
-    #[tactic(auto, unfolding(crate::specs::PacketTexts::keyed, crate::specs::PacketTexts::optional))]
+    #[tactic(auto, unfolding(crate::specs::PacketTexts::keyed, crate::specs::PacketTexts::word_after, crate::specs::PacketTexts::optional))]
     fn port(&mut self) -> Option<Option<u16>>
         ensures { Reads result (left self.new) (optional (codes "port") port_number_of (left self.old)) }
     {
         if !self.begins(b"port") {
             return Some(None);
         }
-        let word = self.word_after(b"port")?;
+        self.skip();
+        let word = self.word()?;
         let port = parse_decimal(word, 5, u16::MAX)?;
         Some(Some(port))
     }
@@ -190,27 +182,29 @@ where
     }
 
     /// The flags, if they are said.
-    #[tactic(auto, unfolding(crate::specs::PacketTexts::keyed, crate::specs::PacketTexts::optional))]
+    #[tactic(auto, unfolding(crate::specs::PacketTexts::keyed, crate::specs::PacketTexts::word_after, crate::specs::PacketTexts::optional))]
     pub(crate) fn flags(&mut self) -> Option<Option<TcpFlags>>
         ensures { Reads result (left self.new) (optional (codes "flags") flags_of (left self.old)) }
     {
         if !self.begins(b"flags") {
             return Some(None);
         }
-        let word = self.word_after(b"flags")?;
+        self.skip();
+        let word = self.word()?;
         let flags = parse_flags(word)?;
         Some(Some(flags))
     }
 
     /// The type of ICMP, if it is said.
-    #[tactic(auto, unfolding(crate::specs::PacketTexts::keyed, crate::specs::PacketTexts::optional))]
+    #[tactic(auto, unfolding(crate::specs::PacketTexts::keyed, crate::specs::PacketTexts::word_after, crate::specs::PacketTexts::optional))]
     pub(crate) fn icmp_type(&mut self) -> Option<Option<u8>>
         ensures { Reads result (left self.new) (optional (codes "icmp-type") type_number_of (left self.old)) }
     {
         if !self.begins(b"icmp-type") {
             return Some(None);
         }
-        let word = self.word_after(b"icmp-type")?;
+        self.skip();
+        let word = self.word()?;
         let number = parse_decimal(word, 3, 255)?;
         Some(Some(number as u8))
     }

@@ -1,28 +1,29 @@
 //! The verdict for a packet.
 
-ghost use Rattle.std.specs.Prelude.{◌≡◌, ◌≤◌, [], length, map};
+ghost use Rattle.std.specs.Prelude.{◌≡◌, [], map};
 ghost use Rattle.pf_ruleset.specs.Seen.{rule_of};
-ghost use Rattle.pf_eval.specs.Verdicts.{Decided, judgement, flat_judgement, is_skipped, hits_with, last_spot};
-ghost use Rattle.pf_eval.specs.Verdicts.{no_tables, no_hits};
+ghost use Rattle.pf_eval.specs.Verdicts.{Decided, judgement, flat_judgement, is_skipped, hits, last_spot};
 ghost use Rattle.pf_eval.specs.Seen.{judgement_of};
-ghost use Rattle.pf_eval.specs.Outcomes.{outcome, walked_of};
+ghost use Rattle.pf_eval.specs.inner.TwoWalks.{spot_in};
 
 use crate::answer::{Spot, Verdict};
+use crate::flat::deciding_flat;
+use crate::hit::Hit;
+use crate::others::last_other;
 use crate::packet::Packet;
-use crate::scope::nowhere;
-use crate::walk::{filter, walk};
-use crate::walked::{Walked, joined, nothing};
+use crate::skipping;
+use crate::stops::first_stop;
 use pf_config::Config;
-use pf_ruleset::{Action, InterfaceName, Item, Ruleset};
+use pf_ruleset::{Action, InterfaceName, Ruleset};
 
 /// How deep rules nest: the main ruleset, and the rules of paths of up to 8 names.
 const NESTED: u8 = 9;
 
-/// The verdict that the last hit gives.
-fn decided(found: Walked<'_>) -> Verdict<'_>
-    ensures { judgement_of result ≡ Decided (walked_of found.entry).last }
+/// The verdict that the deciding hit gives.
+fn decided(found: Option<Hit<'_>>) -> Verdict<'_>
+    ensures { judgement_of result ≡ Decided (spot_in found.entry) }
 {
-    let Some(hit) = found.last else {
+    let Some(hit) = found else {
         return Verdict::Default;
     };
     let spot = Spot {
@@ -36,27 +37,19 @@ fn decided(found: Walked<'_>) -> Verdict<'_>
     }
 }
 
-/// What these filter rules come to, without tables and anchors.
-#[tactic(auto, using(crate::proofs::Walks::stopped_there, crate::proofs::Walks::then_nothing, crate::proofs::Walks::nothing_then))]
-fn walk_flat<'r>(items: &'r [Item], packet: &Packet) -> Walked<'r>
-    requires { length items.now ≤ 1024 }
-    ensures { walked_of result ≡ outcome (hits_with no_tables no_hits packet.now [] 0 (map rule_of items.now)) }
+/// The hit that decides: the first that ends the evaluation, else the last.
+#[tactic(auto, using(crate::proofs::Deciding::decided_first, crate::proofs::Deciding::decided_second, crate::proofs::Anchors::anchor_is, crate::proofs::Anchors::anchor_names, crate::proofs::Anchors::main_there))]
+fn deciding<'c>(config: &'c Config, packet: &Packet) -> Option<Hit<'c>>
+    ensures { spot_in result ≡ last_spot (hits 9 config.now packet.now []) }
 {
-    let mut walked = nothing();
-    for (index, item) in items.iter().enumerate() {
-        if walked.stopped {
-            return walked;
-        }
-        let found = match item {
-            Item::Filter(rule) => filter(nowhere(), packet, index as u32, rule),
-            Item::Anchor(_) => nothing(),
-        };
-        walked = joined(walked, found);
+    let main = config.anchor(&[])?;
+    match first_stop(config, main, packet, NESTED) {
+        Some(hit) => Some(hit),
+        None => last_other(config, main, packet, NESTED),
     }
-    walked
 }
 
-/// Whether the packet is on an interface that is skipped.
+/// Whether the packet is on an interface that is skipped: each of them is compared in turn.
 fn is_skipped(skip: &[InterfaceName], packet: &Packet) -> bool
     ensures { result ≡ is_skipped skip.now packet.now }
 {
@@ -76,13 +69,14 @@ fn is_skipped(skip: &[InterfaceName], packet: &Packet) -> bool
 pub fn verdict<'c>(config: &'c Config, packet: &Packet) -> Verdict<'c>
     ensures { judgement_of result ≡ judgement config.now packet.now }
 {
-    if is_skipped(config.skip(), packet) {
+    if skipping::is_skipped(config, packet) {
         return Verdict::Skip;
     }
-    decided(walk(config, &[], packet, NESTED))
+    decided(deciding(config, packet))
 }
 
-/// The verdict of a ruleset for a packet, its tables taken as empty and its anchors passed over.
+/// The verdict of a ruleset for a packet, its tables taken as empty and its anchors passed over. Each skipped interface
+/// is compared in turn, where `verdict` looks the packet's names up.
 pub fn verdict_flat<'r>(ruleset: &'r Ruleset, packet: &Packet) -> Verdict<'r>
     ensures { judgement_of result ≡
         flat_judgement «ruleset».now.skip.items (map rule_of «ruleset».now.items.items) packet.now }
@@ -90,5 +84,5 @@ pub fn verdict_flat<'r>(ruleset: &'r Ruleset, packet: &Packet) -> Verdict<'r>
     if is_skipped(&ruleset.skip, packet) {
         return Verdict::Skip;
     }
-    decided(walk_flat(&ruleset.items, packet))
+    decided(deciding_flat(&ruleset.items, packet))
 }

@@ -1,14 +1,14 @@
 //! Packets from text.
 
-ghost use Rattle.std.specs.Prelude.{◌≡◌, ◌&&◌, map};
+ghost use Rattle.std.specs.Prelude.{◌≡◌, ◌&&◌};
 ghost use Rattle.pf_eval.specs.PacketTexts.{same_family, has_ports, is_there_if, only_if, agrees, said_flags};
-ghost use Rattle.pf_eval.specs.PacketTexts.{packet_at, packet_of};
+ghost use Rattle.pf_eval.specs.PacketTexts.{packet_at, packet_of, words};
 ghost use Rattle.pf_eval.specs.Cursors.{Answers, end_of};
 
-use crate::cursor::{Cursor, End, interface_name};
+use crate::cursor::{Cursor, End};
 use crate::fault::PacketFault;
 use crate::packet::{Packet, stem};
-use crate::word::{has_outer_blank, words};
+use crate::word::has_outer_blank;
 use pf_addr::Addr;
 use pf_ruleset::InterfaceName;
 use pf_words::TcpFlags;
@@ -70,12 +70,12 @@ fn agrees(
         && (protocol == 1 || icmp_type.is_none())
 }
 
-/// The packet of these words.
+/// The packet that the words of a text spell.
 #[tactic(auto, unfolding(crate::specs::PacketTexts::packet_at))]
-fn packet(alloc: Global, words: &[&[u8]]) -> Result<Packet, PacketFault>
-    ensures { Answers result (packet_at (map (λ w. w.now) words.now)) }
+fn packet(alloc: Global, text: &[u8]) -> Result<Packet, PacketFault>
+    ensures { Answers result (packet_at (words text.now)) }
 {
-    let mut cursor = Cursor::new(words);
+    let mut cursor = Cursor::new(text);
     let Some(direction) = cursor.direction() else {
         return Err(PacketFault::BadPacket);
     };
@@ -101,7 +101,6 @@ fn packet(alloc: Global, words: &[&[u8]]) -> Result<Packet, PacketFault>
     if !cursor.is_empty() || !agrees(&groups, protocol, source, destination, flags, icmp_type) {
         return Err(PacketFault::BadPacket);
     }
-    let interface = interface_name(alloc, interface)?;
     let stem = stem(interface.as_bytes());
     Ok(Packet {
         direction,
@@ -129,6 +128,5 @@ pub fn parse_packet(alloc: Global, text: &str) -> Result<Packet, PacketFault>
     if has_outer_blank(bytes) {
         return Err(PacketFault::BadPacket);
     }
-    let words = words(alloc, bytes)?;
-    packet(alloc, &words)
+    packet(alloc, bytes)
 }

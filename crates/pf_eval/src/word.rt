@@ -1,6 +1,7 @@
 //! The words of a packet text.
 
-ghost use Rattle.std.specs.Prelude.{◌≡◌, ◌++◌, IfOk, OnOk, map};
+ghost use Rattle.std.specs.Prelude.{◌≡◌, ◌++◌, IfOk, OnOk, map, option_map};
+ghost use Rattle.pf_eval.specs.Cursors.{cut_words};
 ghost use Rattle.pf_eval.specs.PacketTexts.{is_blank, ended, has_outer_blank, words};
 
 use std::alloc::{AllocError, Global};
@@ -20,6 +21,28 @@ pub(crate) fn has_outer_blank(text: &[u8]) -> bool
         [] => false,
         [.., last] => is_blank(text[0]) || is_blank(*last),
     }
+}
+
+/// The first word of a text, and what stands behind it. A blank that ends the word is gone.
+pub(crate) fn first_word(text: &[u8]) -> Option<(&[u8], &[u8])>
+    ensures { cut_words (option_map (λ cut. (cut.0.now, cut.1.now)) result) ≡ words text.now }
+{
+    let mut start = 0usize;
+    for (i, b) in text.iter().enumerate() {
+        if !is_blank(*b) {
+            continue;
+        }
+        if start < i {
+            return Some((&text[start..i], &text[i + 1..]));
+        }
+        start = i + 1;
+    }
+    if start < text.len() {
+        let (_, word) = text.split_at(start);
+        let (_, none) = text.split_at(text.len());
+        return Some((word, none));
+    }
+    None
 }
 
 /// Puts the word behind those that were found, unless it is empty.

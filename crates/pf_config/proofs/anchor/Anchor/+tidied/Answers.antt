@@ -36,7 +36,7 @@ returns t c =
     let all = c.deref-kid-items.result.now in
     let names : c.in_ok-names.names.items ≡ own.names.items = grind (arith, common_steps) in
     let rules : map rule_of c.in_ok-items.items.value.items ≡ map rule_of own.items.value.items = grind (arith, common_steps) in
-    let used : c.in_ok-tables.tables.items ≡ used_tables whole (record { path = own.names.items; rules = map rule_of own.items.value.items; tables = [] }) own.tables.items = grind (arith, common_steps) in
+    let used : c.in_ok-tables.tables ≡ used_tables whole (record { path = own.names.items; rules = map rule_of own.items.value.items; tables = [] }) own.tables = grind (arith, common_steps) in
     let z : length (shared (drop c.loop-kid.kid-index all)) ≡ 0 = length-map (drop c.loop-kid.kid-index all) (λ k. k.value) ∙ (let n = length-drop c.loop-kid.kid-index all in let m = c.loop-kid-test.false in omega (arith, n, m)) in
-    subst (λ (x : AnchorTree). ◌≡◌ {A = AnchorTree} (record { names = c.in_ok-names.names.items; anchors = own_entry c.in_ok-names.names.items (map rule_of c.in_ok-items.items.value.items) c.in_ok-tables.tables.items ++ below (shared c.loop-kid.kids.items) }) (record { names = x.names; anchors = tidied_of whole x.anchors })) c.self.view_is
-    (tidied_done whole own.names.items c.in_ok-names.names.items (map rule_of own.items.value.items) (map rule_of c.in_ok-items.items.value.items) own.tables.items c.in_ok-tables.tables.items (shared c.loop-kid.kids.items) (shared (drop c.loop-kid.kid-index all)) (shared all) (shared own.kids.items) names rules used (ap shared c.deref-kid-items.ensures.value) c.loop-kid.invariant z)
+    subst (λ (x : AnchorTree). ◌≡◌ {A = AnchorTree} (record { names = c.in_ok-names.names.items; anchors = own_entry c.in_ok-names.names.items (map rule_of c.in_ok-items.items.value.items) c.in_ok-tables.tables ++ below (shared c.loop-kid.kids.items) }) (record { names = x.names; anchors = tidied_of whole x.anchors })) c.self.view_is
+    (tidied_done whole own.names.items c.in_ok-names.names.items (map rule_of own.items.value.items) (map rule_of c.in_ok-items.items.value.items) own.tables c.in_ok-tables.tables (shared c.loop-kid.kids.items) (shared (drop c.loop-kid.kid-index all)) (shared all) (shared own.kids.items) names rules used (ap shared c.deref-kid-items.ensures.value) c.loop-kid.invariant z)

@@ -10,4 +10,4 @@ pub returns : goal.returns
 returns c =
     let own = c.self.inside in
     subst (λ (t : AnchorTree). option_copied c.kid_named.result ≡ child_at t c.args.name.now) c.self.view_is
-    (c.kid_named.ensures ∙ ap (λ ks. find (is_named c.args.name.now) (shared ks)) c.deref.ensures.value ∙ child_is own.names.items c.args.name.now (map rule_of own.items.value.items) own.tables.items (shared own.kids.items) c.self.invariant.1)
+    (c.kid_named.ensures ∙ ap (λ ks. find (is_named c.args.name.now) (shared ks)) c.deref.ensures.value ∙ child_is own.names.items c.args.name.now (map rule_of own.items.value.items) own.tables (shared own.kids.items) c.self.invariant.1)

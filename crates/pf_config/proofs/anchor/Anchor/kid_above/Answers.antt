@@ -12,4 +12,4 @@ returns c =
     let own = c.self.inside in
     let test = is_above (option_copied c.args.after) in
     subst (λ (t : AnchorTree). option_copied c.first_names.result ≡ option_map (followed_by t.names) (find test (fold put_name [] (names_after t.names t.anchors)))) c.self.view_is
-    (c.first_names.ensures ∙ ap (λ ks. kid_names (find (passes test) (shared ks))) c.deref.ensures.value ∙ kid_above_is own.names.items test (map rule_of own.items.value.items) own.tables.items (shared own.kids.items) c.self.invariant.1)
+    (c.first_names.ensures ∙ ap (λ ks. kid_names (find (passes test) (shared ks))) c.deref.ensures.value ∙ kid_above_is own.names.items test (map rule_of own.items.value.items) own.tables (shared own.kids.items) c.self.invariant.1)

@@ -20,6 +20,6 @@ returns c =
     let names : c.in_ok-names.names.items ≡ own.names.items = grind (arith, common_steps) in
     let kids : shared c.in_ok-kids.kids.items ≡ kids_before c.args.name.now (shared own.kids.items) ++ (some_kid c.args.kid ++ kids_behind c.args.name.now (shared own.kids.items)) = grind (arith, common_steps) in
     let rules : map rule_of c.in_ok-items.items.value.items ≡ map rule_of own.items.value.items = grind (arith, common_steps) in
-    let tables : c.in_ok-tables.tables.items ≡ own.tables.items = grind (arith, common_steps) in
-    subst (λ (t : AnchorTree). TakesPlace t c.args.name.now c.args.kid (record { names = c.in_ok-names.names.items; anchors = own_entry c.in_ok-names.names.items (map rule_of c.in_ok-items.items.value.items) c.in_ok-tables.tables.items ++ below (shared c.in_ok-kids.kids.items) })) c.self.view_is
-    (rw (rules, tables) (kid_placed own.names.items c.in_ok-names.names.items c.args.name.now (map rule_of own.items.value.items) own.tables.items (shared own.kids.items) (shared c.in_ok-kids.kids.items) c.args.kid c.self.invariant.1 names kids))
+    let tables : c.in_ok-tables.tables ≡ own.tables = grind (arith, common_steps) in
+    subst (λ (t : AnchorTree). TakesPlace t c.args.name.now c.args.kid (record { names = c.in_ok-names.names.items; anchors = own_entry c.in_ok-names.names.items (map rule_of c.in_ok-items.items.value.items) c.in_ok-tables.tables ++ below (shared c.in_ok-kids.kids.items) })) c.self.view_is
+    (rw (rules, tables) (kid_placed own.names.items c.in_ok-names.names.items c.args.name.now (map rule_of own.items.value.items) own.tables (shared own.kids.items) (shared c.in_ok-kids.kids.items) c.args.kid c.self.invariant.1 names kids))

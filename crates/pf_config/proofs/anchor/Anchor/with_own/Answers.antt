@@ -10,5 +10,5 @@ returns c =
     let own = c.self.inside in
     let names : c.in_ok-names.names.items ≡ own.names.items = grind (arith, common_steps) in
     let kids : shared c.in_ok-kids.kids.items ≡ (shared own.kids.items) = grind (arith, common_steps) in
-    subst (λ (t : AnchorTree). ◌≡◌ {A = AnchorTree} (record { names = c.in_ok-names.names.items; anchors = own_entry c.in_ok-names.names.items (map rule_of c.args.items.value.items) c.args.tables.items ++ below (shared c.in_ok-kids.kids.items) }) (placed_in t [] (map rule_of c.args.items.value.items) c.args.tables.items)) c.self.view_is
-    (own_placed own.names.items c.in_ok-names.names.items (map rule_of own.items.value.items) (map rule_of c.args.items.value.items) own.tables.items c.args.tables.items (shared own.kids.items) (shared c.in_ok-kids.kids.items) c.self.invariant.1 names kids)
+    subst (λ (t : AnchorTree). ◌≡◌ {A = AnchorTree} (record { names = c.in_ok-names.names.items; anchors = own_entry c.in_ok-names.names.items (map rule_of c.args.items.value.items) c.args.tables ++ below (shared c.in_ok-kids.kids.items) }) (placed_in t [] (map rule_of c.args.items.value.items) c.args.tables)) c.self.view_is
+    (own_placed own.names.items c.in_ok-names.names.items (map rule_of own.items.value.items) (map rule_of c.args.items.value.items) own.tables c.args.tables (shared own.kids.items) (shared c.in_ok-kids.kids.items) c.self.invariant.1 names kids)

@@ -2,4 +2,4 @@ use Rattle.std.proofs.Common.{◌≡◌}
 use Rattle.pf_config.proofs.config.Config.table_names.Goals as goal
 
 pub returns : goal.returns
-returns c = rw (← c.tables.ensures) c.names_of.ensures
+returns c = rw (← c.tables.ensures.value) c.names_of.ensures

@@ -5,8 +5,8 @@ use Rattle.pf_eval.proofs.Groups.{prepend}
 use Rattle.pf_eval.proofs.cursor.Cursor.groups.Given as goal
 
 -- the groups so far, and those that are left
-abbrev pub invariant-loop-alloc : goal.invariant-loop-alloc
-invariant-loop-alloc l = prepend l.groups.items (groups_at (left l.self)) ≡ groups_at (left l.fn.self)
+abbrev pub invariant-loop-self : goal.invariant-loop-self
+invariant-loop-self l = prepend l.groups.items (groups_at (left l.self)) ≡ groups_at (left l.fn.self)
 
-abbrev pub decreases-loop-alloc : goal.decreases-loop-alloc
-decreases-loop-alloc l = length (left l.self)
+abbrev pub decreases-loop-self : goal.decreases-loop-self
+decreases-loop-self l = length (left l.self)

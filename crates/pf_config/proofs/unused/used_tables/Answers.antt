@@ -1,0 +1,16 @@
+use Rattle.std.proofs.Common.{rules, ◌≡◌, ◌||◌, [], map, sym, subst, arith}
+use Rattle.std.proofs.lemmas.Grind.{common_steps}
+use Rattle.pf_ruleset.specs.Names.{Name}
+use Rattle.pf_ruleset.specs.Seen.{rule_of}
+use Rattle.pf_table.specs.Tables.{TableValue}
+use Rattle.pf_config.specs.Map.{AnchorValue}
+use Rattle.pf_config.specs.Changes.{is_used, used_tables}
+use Rattle.pf_config.specs.Ordered.{AreOrdered}
+use Rattle.pf_config.proofs.Ordered.{ordered_filter}
+use Rattle.pf_config.proofs.unused.used_tables.Goals as goal
+
+pub of-requires : goal.of-requires
+of-requires c =
+    let own : AnchorValue = record { path = c.args.path.now; rules = map rule_of c.args.items.now; tables = [] } in
+    let whole : c.loop-entry.next.items ≡ used_tables c.args.main.now.anchors own c.args.tables.now = grind (arith, common_steps) in
+    subst AreOrdered (sym whole) (ordered_filter (λ (t : Name × TableValue). t.1.persist || is_used c.args.main.now.anchors own t.0) c.args.tables.now c.requires)

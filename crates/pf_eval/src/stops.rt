@@ -1,0 +1,198 @@
+//! The first walk: the first hit that ends the evaluation. Of the filter rules it tries the quick ones alone.
+
+ghost use Rattle.std.specs.Prelude.{◌≡◌, ◌≤◌, length, map};
+ghost use Rattle.pf_ruleset.specs.Items.{AnchorRule};
+ghost use Rattle.pf_ruleset.specs.Seen.{heading_of, rule_of};
+ghost use Rattle.pf_config.specs.Trees.{paths_of, shared};
+ghost use Rattle.pf_eval.specs.inner.TwoWalks.{shallow, in_member, called_stop, called_last, ending, first_rule, first_some};
+ghost use Rattle.pf_eval.specs.inner.TwoWalks.{IsAnchorOf, first_walk, second_walk, stop_at, spot_in};
+ghost use Rattle.pf_config.specs.declared.config.TheConstants.{RULES_MAX};
+
+use crate::hit::{Hit, quick_hit};
+use crate::matching::matches;
+use crate::others::{DEEPEST, last_called};
+use crate::packet::Packet;
+use crate::scope::scope_at;
+use pf_config::{Anchor, Config};
+use pf_ruleset::{AnchorHeading, Item};
+use std::rc::Rc;
+
+/// The first hit in an anchor that ends the evaluation, where anchor rules nest less deep than this.
+#[cycle(stops)]
+#[tactic(auto, using(crate::proofs::Walks::first_at, crate::proofs::Walks::first_none, crate::proofs::Anchors::own_rules))]
+pub(crate) fn first_stop<'c>(
+    config: &'c Config,
+    anchor: &'c Anchor,
+    packet: &Packet,
+    depth: u8,
+) -> Option<Hit<'c>>
+    requires { IsAnchorOf config.now anchor.now }
+    ensures { spot_in result ≡ first_walk depth config.now packet.now anchor.now.names }
+{
+    if depth == 0 {
+        return None;
+    }
+    of_items(config, anchor, packet, anchor.items(), depth - 1)
+}
+
+/// The first of these rules that ends the evaluation.
+#[cycle(stops)]
+fn of_items<'c>(
+    config: &'c Config,
+    anchor: &'c Anchor,
+    packet: &Packet,
+    items: &[Item],
+    depth: u8,
+) -> Option<Hit<'c>>
+    requires few { length items.now ≤ RULES_MAX }
+    requires at { IsAnchorOf config.now anchor.now }
+    ensures { spot_in result ≡
+        first_rule (stop_at depth config.now packet.now anchor.now.names) 0 (map rule_of items.now) }
+{
+    for (index, item) in items.iter().enumerate() {
+        if let Some(hit) = of_item(config, anchor, packet, index as u32, item, depth) {
+            return Some(hit);
+        }
+    }
+    None
+}
+
+/// The hit by which a rule ends the evaluation.
+#[cycle(stops)]
+#[tactic(auto, using(crate::proofs::Walks::stop_of_filter, crate::proofs::Walks::stop_of_anchor))]
+fn of_item<'c>(
+    config: &'c Config,
+    anchor: &'c Anchor,
+    packet: &Packet,
+    index: u32,
+    item: &Item,
+    depth: u8,
+) -> Option<Hit<'c>>
+    requires { IsAnchorOf config.now anchor.now }
+    ensures { spot_in result ≡ stop_at depth config.now packet.now anchor.now.names index (rule_of item.now) }
+{
+    match item {
+        Item::Filter(rule) => quick_hit(scope_at(config, anchor.names()), packet, index, rule),
+        Item::Anchor(rule) => within(config, anchor, packet, &rule.heading, depth),
+    }
+}
+
+/// The hit by which an anchor rule ends the evaluation.
+#[cycle(stops)]
+#[tactic(auto, using(crate::proofs::Walks::none_ending, crate::proofs::Anchors::below_is, crate::proofs::Anchors::ending_below, crate::proofs::Anchors::no_rules_below, crate::proofs::Anchors::no_kids_below))]
+fn within<'c>(
+    config: &'c Config,
+    anchor: &'c Anchor,
+    packet: &Packet,
+    heading: &AnchorHeading,
+    depth: u8,
+) -> Option<Hit<'c>>
+    requires { IsAnchorOf config.now anchor.now }
+    ensures { spot_in result ≡
+        stop_at depth config.now packet.now anchor.now.names 0 (AnchorRule (heading_of heading.now)) }
+{
+    if !matches(
+        scope_at(config, anchor.names()),
+        &heading.conditions,
+        packet,
+    ) {
+        return None;
+    }
+    let Some(base) = anchor.below(&heading.target.names) else {
+        return None;
+    };
+    ended(config, base, packet, heading, depth)
+}
+
+/// The first hit that ends the evaluation within what an anchor rule evaluates. If the rule is quick, the last hit
+/// there ends it too.
+#[cycle(stops)]
+fn ended<'c>(
+    config: &'c Config,
+    base: &'c Anchor,
+    packet: &Packet,
+    heading: &AnchorHeading,
+    depth: u8,
+) -> Option<Hit<'c>>
+    requires { IsAnchorOf config.now base.now }
+    ensures { spot_in result ≡ ending heading.now.quick
+        (called_stop (first_walk depth config.now packet.now) config.now base.now.names heading.now.target.children)
+        (called_last (second_walk depth config.now packet.now) config.now base.now.names heading.now.target.children) }
+{
+    let stop = stop_called(config, base, packet, heading.target.children, depth);
+    if !heading.quick {
+        return stop;
+    }
+    match stop {
+        Some(hit) => Some(hit),
+        None => last_called(config, base, packet, heading.target.children, depth),
+    }
+}
+
+/// The first hit that ends the evaluation within the anchor, or within those directly attached to it.
+#[cycle(stops)]
+#[tactic(auto, using(crate::proofs::Anchors::own_kids))]
+fn stop_called<'c>(
+    config: &'c Config,
+    base: &'c Anchor,
+    packet: &Packet,
+    children: bool,
+    depth: u8,
+) -> Option<Hit<'c>>
+    requires { IsAnchorOf config.now base.now }
+    ensures { spot_in result ≡
+        called_stop (first_walk depth config.now packet.now) config.now base.now.names children }
+{
+    if children {
+        of_members(config, packet, base.kids(), depth)
+    } else {
+        at(config, base, packet, depth)
+    }
+}
+
+/// The first hit that ends the evaluation within these anchors.
+#[cycle(stops)]
+fn of_members<'c>(
+    config: &'c Config,
+    packet: &Packet,
+    kids: &'c [Rc<Anchor>],
+    depth: u8,
+) -> Option<Hit<'c>>
+    ensures { spot_in result ≡
+        first_some (in_member (first_walk depth config.now packet.now)) (paths_of (shared kids.now)) }
+{
+    for kid in kids {
+        if let Some(hit) = of_member(config, packet, kid, depth) {
+            return Some(hit);
+        }
+    }
+    None
+}
+
+/// The first hit that ends the evaluation within an anchor, none if it is an unnamed block.
+#[cycle(stops)]
+#[tactic(auto, using(crate::proofs::Anchors::anchor_is, crate::proofs::Anchors::anchor_names, crate::proofs::Anchors::no_stop_there))]
+fn of_member<'c>(config: &'c Config, packet: &Packet, kid: &'c Anchor, depth: u8) -> Option<Hit<'c>>
+    ensures { spot_in result ≡ in_member (first_walk depth config.now packet.now) kid.now.names }
+{
+    if kid.is_unnamed() {
+        return None;
+    }
+    match config.anchor(kid.names()) {
+        Some(anchor) => at(config, anchor, packet, depth),
+        None => None,
+    }
+}
+
+/// The first hit in an anchor that ends the evaluation, none if its path is too deep.
+#[cycle(stops)]
+fn at<'c>(config: &'c Config, anchor: &'c Anchor, packet: &Packet, depth: u8) -> Option<Hit<'c>>
+    requires { IsAnchorOf config.now anchor.now }
+    ensures { spot_in result ≡ shallow (first_walk depth config.now packet.now) anchor.now.names }
+{
+    if anchor.names().len() <= DEEPEST {
+        first_stop(config, anchor, packet, depth)
+    } else {
+        None
+    }
+}
