@@ -4,7 +4,8 @@ ghost use Rattle.std.specs.Prelude.{◌≡◌, ◌≤◌, length, map};
 ghost use Rattle.pf_ruleset.specs.Items.{AnchorRule};
 ghost use Rattle.pf_ruleset.specs.Seen.{heading_of, rule_of};
 ghost use Rattle.pf_config.specs.Trees.{paths_of, shared};
-ghost use Rattle.pf_eval.specs.inner.TwoWalks.{shallow, in_member, called_stop, called_last, ending, first_rule, first_some};
+ghost use Rattle.pf_eval.specs.inner.TwoWalks.{shallow, in_member, called_stop, called_last, ending};
+ghost use Rattle.pf_eval.specs.inner.TwoWalks.{first_rule, first_some};
 ghost use Rattle.pf_eval.specs.inner.TwoWalks.{IsAnchorOf, first_walk, second_walk, stop_at, spot_in};
 ghost use Rattle.pf_config.specs.declared.config.TheConstants.{RULES_MAX};
 

@@ -116,8 +116,8 @@ pub fn some<'t: 's, 's, E: Element>(
     Ok(Listed { items, deepest: 0 })
 }
 
-/// A list is read exactly where the grammar spells it: what is read is no more than the relation says, and no less. What
-/// spells an element are the tokens that alone are read as it.
+/// A list is read exactly where the grammar spells it: what is read is no more than the relation says, and no less.
+/// What spells an element are the tokens that alone are read as it.
 pub fn lists_as_spelled<E: Element>()
     ensures { (profile : Profile) (follows : List Token → Bool) → IsElement (E.read profile) follows →
         (ts rest : List Token) (l : Elements E.Value) →
