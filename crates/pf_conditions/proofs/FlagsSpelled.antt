@@ -117,7 +117,7 @@ type_plain _ _ (TypeWord word) = ((refl, refl), tt)
 type_some : (ts : List Token) (x : WrittenType) → IsType ts x → 0 < length ts
 type_some _ _ (TypeWord word) = omega arith
 
-types_readable : (profile : Profile) → Readable (type_at profile) IsType Anything
+pub types_readable : (profile : Profile) → Readable (type_at profile) IsType Anything
 types_readable profile = record {
   took = type_took profile;
   reads = type_reads profile;

@@ -5,3 +5,4 @@ pub mod CommonSpelled
 pub mod FlagsSpelled
 pub mod NoLonger
 pub mod TargetSteps
+pub mod ElementsMet

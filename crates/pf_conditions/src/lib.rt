@@ -7,6 +7,7 @@
 //! - [`read_common`], [`read_flags`] and [`read_types`] read its parts at a parser of `pf_tokens`; [`read_prefix`] and
 //!   [`read_table`], prefixes and names of tables; [`read_target`], the names of an anchor.
 //! - [`InterfaceNameProduction`], the name of an interface, which may stand in a list.
+//! - [`elements_of_lists`]: what may stand in a list is an element as the law of lists asks for one.
 #![tactic(auto)]
 
 mod behind;
@@ -16,6 +17,7 @@ mod ends;
 mod flags;
 mod hosts;
 mod interfaces;
+mod laws;
 mod ports;
 mod protocols;
 mod targets;
@@ -26,6 +28,7 @@ pub use common::read_common;
 pub use flags::read_flags;
 pub use hosts::{read_prefix, read_table};
 pub use interfaces::InterfaceNameProduction;
+pub use laws::elements_of_lists;
 pub use targets::{may_begin_target, read_target};
 pub use types::read_types;
 pub use written::{Common, End, Protocol, WrittenConditions, WrittenPort, WrittenType};

@@ -4,6 +4,7 @@ pub mod OverSteps
 pub mod Over
 pub mod TableSteps
 pub mod TablesSpelled
+pub mod EntriesMet
 pub mod RulesSpelled
 pub mod OptionsSpelled
 pub mod AnchorsSpelled

@@ -29,7 +29,7 @@ use Rattle.pf_statements.specs.Grammar.{IsEntry, EntryIn, EntryOut, AreNewlines,
 -- ---- entries
 
 -- what may follow an entry
-abbrev EntryEnds : List Token → Type 0
+abbrev pub EntryEnds : List Token → Type 0
 EntryEnds rest = begins_symbol Slash rest ≡ false
 
 abbrev made : Bool → Block → TableEntry
@@ -71,7 +71,7 @@ entry_some : (ts : List Token) (x : TableEntry) → IsEntry ts x → 0 < length 
 entry_some _ _ (EntryIn ts block is) = prefix_some ts block is
 entry_some _ _ (EntryOut ts block is) = omega arith
 
-entries_readable : (profile : Profile) → Readable (entry_at profile) IsEntry EntryEnds
+pub entries_readable : (profile : Profile) → Readable (entry_at profile) IsEntry EntryEnds
 entries_readable profile = record {
   took = entry_took profile;
   reads = entry_reads profile;

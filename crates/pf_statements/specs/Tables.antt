@@ -1,6 +1,6 @@
 -- What a table statement says, production by production (pf.conf(5), TABLES).
 use Rattle.std.specs.Prelude.{suc, ◌&&◌, Bool, true, false, List, [], drop, length, Option, Some, None}
-use Rattle.std.specs.Prelude.{is_some, codes, if◌then◌else◌}
+use Rattle.std.specs.Prelude.{is_some, not, codes, if◌then◌else◌}
 use Rattle.pf_words.specs.declared.profile.Profile.{Profile}
 use Rattle.pf_tokens.specs.declared.symbol.Symbol.TheVariants as mark
 use Rattle.pf_tokens.specs.Tokens.{Token}
@@ -27,6 +27,10 @@ entry_at profile ts = do
   let negated = symbol_at mark.Not ts
   block ← prefix_at negated.1
   Some (record { negated = negated.0; prefix = block.0 }, block.1)
+
+-- behind an address a slash begins a length
+abbrev pub may_follow_entry : List Token → Bool
+may_follow_entry rest = not (begins_symbol mark.Slash rest)
 
 -- "{" "}", between which newlines are blanks
 unfoldable pub empty_at : List Token → Bool × List Token

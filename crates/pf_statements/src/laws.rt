@@ -1,7 +1,9 @@
 //! Laws over the definitions.
 
 ghost use Rattle.pf_statements.specs.Grammar.{IsStatement};
+ghost use Rattle.pf_statements.specs.Tables.{entry_at, may_follow_entry};
 ghost use Rattle.pf_statements.specs.Statements.{Statement as IStatement, value_of};
+ghost use Rattle.pf_tokens.specs.ListGrammar.{IsElement};
 ghost use Rattle.pf_tokens.specs.Tokens.{Token};
 ghost use Rattle.pf_words.specs.declared.profile.Profile.{Profile as IProfile};
 ghost use Rattle.std.specs.Prelude.{List, Some, ◌↔◌, ◌≡◌};
@@ -10,4 +12,9 @@ ghost use Rattle.std.specs.Prelude.{List, Some, ◌↔◌, ◌≡◌};
 pub fn reads_the_grammar()
     ensures { (profile : IProfile) (ts : List Token) (s : IStatement) → (value_of profile ts ≡ Some s) ↔
         IsStatement profile ts s }
+{}
+
+/// What may stand in the list of a table is an element as [`pf_tokens::lists_as_spelled`] asks for one.
+pub fn entries_of_tables()
+    ensures { (profile : IProfile) → IsElement (entry_at profile) may_follow_entry }
 {}

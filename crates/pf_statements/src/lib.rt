@@ -5,7 +5,8 @@
 //! - [`read_statement`] reads a statement at a parser of `pf_tokens`: a [`Statement`], which sets something, or is a
 //!   [`WrittenTable`], a [`WrittenRule`], a [`WrittenAnchor`], or a [`WrittenHeading`] with a block of
 //!   [`WrittenItem`]s.
-//! - [`reads_the_grammar`]: a statement is read exactly as the grammar spells it.
+//! - [`reads_the_grammar`]: a statement is read exactly as the grammar spells it; [`entries_of_tables`]: the entries of
+//!   tables are elements as the law of lists asks for them.
 #![tactic(auto)]
 
 mod anchors;
@@ -17,7 +18,7 @@ mod statements;
 mod tables;
 mod written;
 
-pub use laws::reads_the_grammar;
+pub use laws::{entries_of_tables, reads_the_grammar};
 pub use statements::read_statement;
 pub use written::{
     RuleOptions, Setting, Statement, WrittenAction, WrittenAnchor, WrittenHeading, WrittenItem,
