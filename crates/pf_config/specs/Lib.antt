@@ -3,6 +3,7 @@ pub mod Ordered
 pub mod SkippedNames
 pub mod Changes
 pub mod Trees
+pub mod Orders
 pub mod Codes
 pub mod PathTexts
 pub mod inner

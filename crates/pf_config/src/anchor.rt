@@ -16,9 +16,12 @@ ghost use Rattle.pf_config.specs.Trees.{placed_in, TakesPlace, passes, kid_names
 ghost use Rattle.pf_config.specs.Trees.{own_entry};
 ghost use Rattle.pf_config.specs.Map.{paths_in};
 ghost use Rattle.pf_config.specs.Ordered.{AreOrdered};
+ghost use Rattle.pf_config.specs.Orders.{stops_of, others_of};
 ghost use Rattle.pf_config.specs.declared.config.TheConstants.{RULES_MAX};
 
+use crate::order::{Order, order_of};
 use crate::paths::{copied_path, followed_by};
+use crate::place::Place;
 use crate::tables::{Tables, named};
 use crate::unused::{any_unused, items_refer, used_tables};
 use pf_ruleset::{Item, Name, TableName};
@@ -33,6 +36,7 @@ use std::rc::Rc;
 pub struct Anchor {
     names: Vec<Name>,
     items: Rc<Vec<Item>>,
+    order: Rc<Order>,
     tables: Tables,
     kids: Vec<Rc<Anchor>>,
 }
@@ -41,6 +45,7 @@ impl Model for Anchor {
     ghost use Rattle.std.specs.Prelude.{map, length, ◌≤◌, ◌++◌};
     ghost use Rattle.pf_ruleset.specs.Seen.{rule_of};
     ghost use Rattle.pf_config.specs.Trees.{AnchorTree, own_entry, below, shared, AreKids, weight};
+    ghost use Rattle.pf_config.specs.Orders.{IsOrder};
     ghost use Rattle.pf_config.specs.inner.TreeFalls.{shared_lighter};
 
     ghost Value = { AnchorTree };
@@ -50,7 +55,8 @@ impl Model for Anchor {
       anchors = own_entry a.names.items (map rule_of a.items.value.items) a.tables ++ below (shared a.kids.items);
     } };
 
-    ghost invariant = { λ a. (length a.items.value.items ≤ 1024) × AreKids a.names.items (shared a.kids.items) };
+    ghost invariant = { λ a. (length a.items.value.items ≤ 1024) × AreKids a.names.items (shared a.kids.items)
+        × IsOrder (map rule_of a.items.value.items) a.order.value.stops.items a.order.value.others.items };
 
     ghost size = { λ t. weight (length t.names) t.anchors };
 
@@ -73,6 +79,23 @@ impl Anchor {
         ensures few { length result.now ≤ RULES_MAX }
     {
         &self.items
+    }
+
+    /// The places of the rules at its path that may end an evaluation, which are the quick filter rules and the anchor
+    /// rules: the first one first.
+    #[tactic(auto, using(crate::proofs::Treed::own_rules))]
+    pub fn stops(&self) -> &[Place]
+        ensures { result.now ≡ stops_of (rules_in (anchor_at self.now.names self.now.anchors)) }
+    {
+        &self.order.stops
+    }
+
+    /// The places of the rules at its path that aren't quick: the last one first.
+    #[tactic(auto, using(crate::proofs::Treed::own_rules))]
+    pub fn others(&self) -> &[Place]
+        ensures { result.now ≡ others_of (rules_in (anchor_at self.now.names self.now.anchors)) }
+    {
+        &self.order.others
     }
 
     /// The tables at its path.
@@ -217,6 +240,7 @@ impl Anchor {
             return Ok(none);
         }
         let items = self.items.clone()?;
+        let order = self.order.clone()?;
         let tables = self.tables.copied()?;
         let mut kids = Vec::new(alloc);
         for kid in &self.kids {
@@ -230,6 +254,7 @@ impl Anchor {
         Ok(Anchor {
             names,
             items,
+            order,
             tables,
             kids,
         })
@@ -275,6 +300,7 @@ impl Anchor {
     {
         let names = copied_path(alloc, &self.names)?;
         let items = self.items.clone()?;
+        let order = self.order.clone()?;
         let tables = used_tables(alloc, main, &self.names, &self.items, self.tables.list())?;
         let mut kids = Vec::new(alloc);
         for kid in &self.kids {
@@ -288,6 +314,7 @@ impl Anchor {
         Ok(Anchor {
             names,
             items,
+            order,
             tables,
             kids,
         })
@@ -298,9 +325,11 @@ impl Anchor {
         ensures { IfOk result (λ a. a ≡ record { names = names.items; anchors = [] }) }
     {
         let items = Rc::new(alloc, Vec::new(alloc))?;
+        let order = Rc::new(alloc, order_of(alloc, &items)?)?;
         Ok(Anchor {
             names,
             items,
+            order,
             tables: Tables::new(alloc)?,
             kids: Vec::new(alloc),
         })
@@ -337,10 +366,12 @@ impl Anchor {
         ensures { IfOk result (λ a. a ≡ placed_in self.now [] (map rule_of items.value.items) tables) }
     {
         let names = copied_path(alloc, &self.names)?;
+        let order = Rc::new(alloc, order_of(alloc, &items)?)?;
         let kids = shared_kids(alloc, &self.kids)?;
         Ok(Anchor {
             names,
             items,
+            order,
             tables,
             kids,
         })
@@ -355,12 +386,14 @@ impl Anchor {
     {
         let names = copied_path(alloc, &self.names)?;
         let items = self.items.clone()?;
+        let order = self.order.clone()?;
         let tables = self.tables.copied()?;
         let kid = Rc::new(alloc, kid)?;
         let kids = kids_with(alloc, &self.kids, name, kid)?;
         Ok(Anchor {
             names,
             items,
+            order,
             tables,
             kids,
         })

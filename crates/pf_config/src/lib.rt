@@ -5,6 +5,7 @@
 //! - [`Config`]: a skip list, and the anchors from the main ruleset down. Each change is made whole, or refused and
 //!   leaves all as it was.
 //! - [`Anchor`]: what stands at a path and below it.
+//! - [`Place`]: a rule's place in the order in which a verdict walks over rules, with its [`Sieve`].
 //! - [`parse_path`] reads the path of an anchor.
 //! - [`Table`], of the crate below.
 #![tactic(auto)]
@@ -16,9 +17,12 @@ mod changed;
 mod config;
 mod fault;
 mod loading;
+mod order;
 mod path_text;
 mod paths;
+mod place;
 mod placing;
+mod sieve;
 mod skipped;
 mod table_index;
 mod tables;
@@ -30,3 +34,5 @@ pub use config::{Config, RULES_MAX};
 pub use fault::ConfigFault;
 pub use path_text::parse_path;
 pub use pf_table::Table;
+pub use place::{Interval, Place, Sieve};
+pub use sieve::front_bits;

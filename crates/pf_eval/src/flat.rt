@@ -12,6 +12,7 @@ use crate::scope::nowhere;
 use pf_ruleset::Item;
 
 /// The hit of a quick filter rule.
+#[inline(always)]
 #[tactic(auto, using(crate::proofs::Walks::stop_of_filter, crate::proofs::Walks::flat_stop_of_anchor))]
 fn quick_at<'r>(packet: &Packet, index: u32, item: &Item) -> Option<Hit<'r>>
     ensures { spot_in result ≡ flat_stop packet.now index (rule_of item.now) }
@@ -23,6 +24,7 @@ fn quick_at<'r>(packet: &Packet, index: u32, item: &Item) -> Option<Hit<'r>>
 }
 
 /// The hit of a filter rule that isn't quick.
+#[inline(always)]
 #[tactic(auto, using(crate::proofs::Walks::last_of_filter, crate::proofs::Walks::flat_last_of_anchor))]
 fn other_at<'r>(packet: &Packet, index: u32, item: &Item) -> Option<Hit<'r>>
     ensures { spot_in result ≡ flat_last packet.now index (rule_of item.now) }

@@ -18,6 +18,7 @@ pub(crate) struct Hit<'c> {
 }
 
 /// The hit of a filter rule, if it matches.
+#[inline(never)]
 fn rule_hit<'c>(scope: Scope<'c>, packet: &Packet, index: u32, rule: &Rule) -> Option<Hit<'c>>
     ensures { spot_in result ≡ rule_spot (tables_of scope.entry) packet.now scope.entry.path.now index rule.now }
 {
@@ -31,7 +32,8 @@ fn rule_hit<'c>(scope: Scope<'c>, packet: &Packet, index: u32, rule: &Rule) -> O
     })
 }
 
-/// The hit of a quick filter rule, if it matches.
+/// The hit of a quick filter rule, if it matches. Of another one nothing is read but that it isn't quick.
+#[inline(always)]
 pub(crate) fn quick_hit<'c>(
     scope: Scope<'c>,
     packet: &Packet,
@@ -46,7 +48,8 @@ pub(crate) fn quick_hit<'c>(
     rule_hit(scope, packet, index, rule)
 }
 
-/// The hit of a filter rule that isn't quick, if it matches.
+/// The hit of a filter rule that isn't quick, if it matches. Of a quick one nothing else is read.
+#[inline(always)]
 pub(crate) fn other_hit<'c>(
     scope: Scope<'c>,
     packet: &Packet,

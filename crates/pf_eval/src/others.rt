@@ -64,6 +64,7 @@ fn of_items<'c>(
 
 /// The last hit of a rule, none if it is quick.
 #[cycle(others)]
+#[inline(always)]
 #[tactic(auto, using(crate::proofs::Walks::last_of_filter, crate::proofs::Walks::last_of_anchor))]
 fn of_item<'c>(
     config: &'c Config,
@@ -84,6 +85,7 @@ fn of_item<'c>(
 
 /// The last hit within what an anchor rule evaluates, none if the rule is quick.
 #[cycle(others)]
+#[inline(never)]
 #[tactic(auto, using(crate::proofs::Walks::none_called, crate::proofs::Anchors::below_is, crate::proofs::Anchors::last_below, crate::proofs::Anchors::no_rules_below, crate::proofs::Anchors::no_kids_below))]
 fn within<'c>(
     config: &'c Config,

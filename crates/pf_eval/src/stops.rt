@@ -60,6 +60,7 @@ fn of_items<'c>(
 
 /// The hit by which a rule ends the evaluation.
 #[cycle(stops)]
+#[inline(always)]
 #[tactic(auto, using(crate::proofs::Walks::stop_of_filter, crate::proofs::Walks::stop_of_anchor))]
 fn of_item<'c>(
     config: &'c Config,
@@ -80,6 +81,7 @@ fn of_item<'c>(
 
 /// The hit by which an anchor rule ends the evaluation.
 #[cycle(stops)]
+#[inline(never)]
 #[tactic(auto, using(crate::proofs::Walks::none_ending, crate::proofs::Anchors::below_is, crate::proofs::Anchors::ending_below, crate::proofs::Anchors::no_rules_below, crate::proofs::Anchors::no_kids_below))]
 fn within<'c>(
     config: &'c Config,

@@ -2,6 +2,7 @@ use Rattle.std.proofs.Common.{◌≡◌, ◌∙◌, ◌++◌, ◌∷◌, [], ap,
 use Rattle.std.proofs.lemmas.Grind.{common_steps}
 use Rattle.pf_ruleset.specs.Seen.{rule_of}
 use Rattle.pf_config.specs.Trees.{AnchorTree, shared, AreKids, TakesPlace, own_entry, below, kids_before, kids_behind, some_kid}
+use Rattle.pf_config.specs.Orders.{IsOrder}
 use Rattle.pf_config.proofs.Entries.{kids_again, kid_placed}
 use Rattle.pf_config.proofs.anchor.Anchor.with_kid.Goals as goal
 
@@ -12,7 +13,13 @@ invariant_of-result c =
     let kids : shared c.in_ok-kids.kids.items ≡ kids_before c.args.name.now (shared own.kids.items) ++ (some_kid c.args.kid ++ kids_behind c.args.name.now (shared own.kids.items)) = grind (arith, common_steps) in
     let at : c.args.kid.names ≡ own.names.items ++ c.args.name.now ∷ [] = c.requires.names ∙ ap (λ (t : AnchorTree). t.names ++ c.args.name.now ∷ []) (sym c.self.view_is) in
     let again = kids_again own.names.items c.args.name.now c.args.kid (shared own.kids.items) c.self.invariant.1 at c.requires.below in
-    (grind (arith, common_steps), subst (λ p. AreKids p (shared c.in_ok-kids.kids.items)) (sym names) (subst (AreKids own.names.items) (sym kids) again))
+    let rules : map rule_of c.in_ok-items.items.value.items ≡ map rule_of own.items.value.items = grind (arith, common_steps) in
+    let order : c.in_ok-order.order.value ≡ own.order.value = grind (arith, common_steps) in
+    (
+      grind (arith, common_steps),
+      subst (λ p. AreKids p (shared c.in_ok-kids.kids.items)) (sym names) (subst (AreKids own.names.items) (sym kids) again),
+      subst (λ rs. IsOrder rs c.in_ok-order.order.value.stops.items c.in_ok-order.order.value.others.items) (sym rules) (subst (λ o. IsOrder (map rule_of own.items.value.items) o.stops.items o.others.items) (sym order) c.self.invariant.2),
+    )
 
 pub returns : goal.returns
 returns c =

@@ -1,0 +1,33 @@
+//! A rule's place among the rules of a path, and what few compares tell of its conditions.
+
+use pf_addr::Family;
+use pf_ruleset::Direction;
+
+/// The numbers of 32 bits from a first one on: so many as the width says, and one more. Past the greatest number they
+/// go on with 0.
+#[derive(Clone, Copy, Debug)]
+pub struct Interval {
+    pub first: u32,
+    pub width: u32,
+}
+
+/// What few compares tell of a rule's conditions: the rule matches no packet that is outside of one of these.
+#[derive(Clone, Copy, Debug)]
+pub struct Sieve {
+    pub direction: Option<Direction>,
+    pub family: Option<Family>,
+    /// The number of the protocol.
+    pub protocol: Option<u8>,
+    /// The first 32 bits of the source address.
+    pub source: Interval,
+    /// The first 32 bits of the destination address.
+    pub destination: Interval,
+    pub destination_port: Interval,
+}
+
+/// A rule's place among the rules of a path, from 0 on, and its sieve.
+#[derive(Clone, Copy, Debug)]
+pub struct Place {
+    pub index: u32,
+    pub sieve: Sieve,
+}
