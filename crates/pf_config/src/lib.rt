@@ -19,6 +19,7 @@ mod loading;
 mod path_text;
 mod paths;
 mod placing;
+mod referred;
 mod skipped;
 mod table_index;
 mod tables;
