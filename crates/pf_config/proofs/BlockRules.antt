@@ -1,5 +1,5 @@
 -- The rules of a block, and what its ruleset keeps of it.
-use Rattle.std.proofs.Common.{◌≡◌, ℕ, ◌≤◌, Bool, true, false, ◌||◌, List, [], ◌∷◌, ◌++◌, length, map, Option, Some, Result, Ok, Err, OnOk, Vec, Global, zero, suc, ◌+◌, ◌<◌, drop, get_or, add-one, drop-cons, refl, sym, ap, ◌∙◌, arith}
+use Rattle.std.proofs.Common.{◌≡◌, ℕ, ◌≤◌, Bool, true, false, ◌||◌, List, [], ◌∷◌, ◌++◌, length, map, Some, Result, Ok, Err, OnOk, Vec, Global, suc, ◌+◌, ◌<◌, drop, get_or, add-one, drop-cons, refl, sym, ap, ◌∙◌}
 use Rattle.std.specs.Prelude.{nat_lt, option_map}
 use Rattle.std.specs.declared.rc.Rc.{Rc}
 use Rattle.std.specs.List.{list_any}
@@ -7,7 +7,7 @@ use Rattle.std.proofs.lemmas.List.{append_assoc}
 use Rattle.std.proofs.lemmas.Bool.{ltb-false}
 use Rattle.pf_ruleset.specs.declared.item.Item.{Item, Anchor}
 use Rattle.pf_ruleset.specs.declared.item.AnchorRule.{AnchorRule}
-use Rattle.pf_ruleset.specs.Items.{AnyRule, ItemValue, ItemValues, Heading, Blocks, list_of, values_of, is_overfull, any_overfull, rule_in}
+use Rattle.pf_ruleset.specs.Items.{AnyRule, ItemValue, Heading, Blocks, list_of, values_of, is_overfull, any_overfull, rule_in}
 use Rattle.pf_ruleset.specs.Seen.{heading_of, item_of, items_of, rule_of, with_block}
 use Rattle.pf_ruleset.proofs.Carried.{anchor_is}
 use Rattle.pf_ruleset.specs.Names.{Name}

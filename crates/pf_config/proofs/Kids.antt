@@ -1,11 +1,9 @@
 -- Names in byte order.
-use Rattle.std.proofs.Common.{◌≡◌, ℕ, ◌+◌, ◌<◌, ◌≤◌, Bool, true, false, ◌&&◌, cond, List, [], ◌∷◌, ◌++◌, length, take, drop, Option, Some, None, Ordering, refl, sym, subst, ap, ◌∙◌, arith, rules}
+use Rattle.std.proofs.Common.{◌≡◌, Bool, true, false, ◌&&◌, cond, List, [], ◌∷◌, ◌++◌, Option, Some, None, Ordering, refl, sym, subst, ap, ◌∙◌, rules}
 use Rattle.std.specs.declared.cmp.Ordering.TheVariants.{Less, Equal, Greater}
-use Rattle.std.specs.Prelude.{not, if◌then◌else◌, find, filter, fold, map, IfSome, option_map}
+use Rattle.std.specs.Prelude.{if◌then◌else◌, find, filter, fold, map, IfSome, option_map}
 use Rattle.std.specs.List.{list_all, filter_map}
-use Rattle.std.specs.Ordering.{is_lt, nat_cmp, ordering_reverse}
-use Rattle.std.specs.Cmp.{IsTotalOrder}
-use Rattle.std.specs.Cmp.Lexicographic.{slice_cmp}
+use Rattle.std.specs.Ordering.{is_lt, ordering_reverse}
 use Rattle.std.proofs.lemmas.Cmp.{nat_list_cmp_total, tied_itself}
 use Rattle.std.proofs.lemmas.Map.Lookups.{exact_bytes}
 use Rattle.pf_ruleset.specs.Names.{Name, is_before}
@@ -14,8 +12,8 @@ use Rattle.std.specs.Str.{bytes_eq}
 use Rattle.pf_ruleset.specs.Items.{AnyRule}
 use Rattle.pf_table.specs.Tables.{TableValue}
 use Rattle.pf_config.specs.Changes.{is_empty}
-use Rattle.pf_config.specs.Trees.{AnchorTree, below, own_entry, last_name, IsKid, AreKids, part_below, passes, kid_names, paths_of}
-use Rattle.pf_config.proofs.Treed.{begins, kid_begins, bytes_same, same_bytes, not_longer}
+use Rattle.pf_config.specs.Trees.{AnchorTree, below, own_entry, last_name, AreKids, part_below, passes, kid_names, paths_of}
+use Rattle.pf_config.proofs.Treed.{begins, kid_begins, bytes_same, same_bytes}
 use Rattle.pf_config.specs.Map.{Configuration, AnchorValue, Path, name_after, names_after, put_name, kids, is_above, followed_by, NextIs}
 
 is_less : (o : Ordering) → is_lt o ≡ true → o ≡ Less

@@ -1,7 +1,7 @@
 -- Tables in the order of their names.
-use Rattle.std.proofs.Common.{◌≡◌, ℕ, suc, add-one, ◌+◌, ◌-◌, ◌<◌, ◌≤◌, Bool, true, false, ◌&&◌, cond, List, [], ◌∷◌, ◌++◌, Option, Some, None, Ordering, length, take, drop, take-append-drop, drop-cons, take_all, get_or, refl, sym, subst, ap, ◌∙◌, arith, length-drop}
+use Rattle.std.proofs.Common.{◌≡◌, ℕ, suc, add-one, ◌+◌, ◌-◌, ◌<◌, ◌≤◌, Bool, true, false, cond, List, [], ◌∷◌, ◌++◌, Some, None, Ordering, length, take, drop, take-append-drop, drop-cons, take_all, get_or, refl, sym, subst, ap, ◌∙◌, arith, length-drop}
 use Rattle.std.specs.declared.cmp.Ordering.TheVariants.{Less, Equal, Greater}
-use Rattle.std.specs.Prelude.{if◌then◌else◌, filter, fold, option_map}
+use Rattle.std.specs.Prelude.{if◌then◌else◌, filter, option_map}
 use Rattle.std.specs.List.{list_all, AllByRecursion}
 use Rattle.std.specs.List.Sorted.{IsStrictlySortedBy}
 use Rattle.std.specs.Str.{bytes_eq}
@@ -9,7 +9,7 @@ use Rattle.std.specs.Global.{Vec}
 use Rattle.std.specs.Ordering.{is_lt, is_eq, nat_cmp, ordering_reverse, match_ordering}
 use Rattle.std.specs.Cmp.Lexicographic.{slice_cmp}
 use Rattle.std.specs.Map.{keys_of, values_of, lookup}
-use Rattle.std.specs.BTreeMap.{BTreeMap, insert_entry, is_at, get_by}
+use Rattle.std.specs.BTreeMap.{insert_entry, is_at}
 use Rattle.std.proofs.lemmas.Cmp.{nat_list_cmp_total, nat_list_eq_equiv}
 use Rattle.std.proofs.lemmas.Map.Lookups.{exact_bytes}
 use Rattle.std.proofs.lemmas.List.{take_more}
@@ -19,7 +19,7 @@ use Rattle.pf_table.specs.Tables.{TableValue}
 use Rattle.pf_config.specs.Map.{named}
 use Rattle.pf_config.specs.Changes.{with_table, tables_before, tables_behind}
 use Rattle.pf_config.specs.Ordered.{AreOrdered, AreKeyed}
-use Rattle.pf_config.proofs.Treed.{both_true, is_less, never, name_chain, append_nil, before_other}
+use Rattle.pf_config.proofs.Treed.{both_true, is_less, name_chain, before_other}
 
 -- ---- names
 

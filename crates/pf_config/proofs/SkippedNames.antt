@@ -15,17 +15,17 @@ use Rattle.std.proofs.lemmas.Slice.Eq.{bytes_eq-Decides}
 use Rattle.pf_ruleset.specs.Names.{Name}
 use Rattle.pf_config.specs.SkippedNames.{AreNames, is_listed}
 
-abbrev by_bytes : Vec ℕ → Vec ℕ → Ordering
+abbrev pub by_bytes : Vec ℕ → Vec ℕ → Ordering
 by_bytes x y = slice_cmp nat_cmp x.items y.items
 
-abbrev has : BTreeSet (Vec ℕ) → List ℕ → Bool
+abbrev pub has : BTreeSet (Vec ℕ) → List ℕ → Bool
 has known name = contains_by (λ (k : Vec ℕ). slice_cmp nat_cmp name k.items) known
 
 apart : (bs cs ks : List ℕ) → bytes_eq bs cs ≡ false → is_eq (slice_cmp nat_cmp bs ks) ≡ true → is_eq (slice_cmp nat_cmp cs ks) ≡ false
 apart bs cs ks n y = is_eq-slice_cmp cs ks ∙ nat_list_eq_equiv.symm cs ks ∙ sym (nat_list_eq_equiv.congr bs ks cs (sym (is_eq-slice_cmp bs ks) ∙ y)) ∙ n
 
 -- what is found of each name where one is put in
-has_after : (m n : BTreeSet (Vec ℕ)) (bs : List ℕ) → UpdatesBy by_bytes (λ (k : Vec ℕ). slice_cmp nat_cmp bs k.items) m n true → (cs : List ℕ) → has n cs ≡ cond (bytes_eq bs cs) true (has m cs)
+pub has_after : (m n : BTreeSet (Vec ℕ)) (bs : List ℕ) → UpdatesBy by_bytes (λ (k : Vec ℕ). slice_cmp nat_cmp bs k.items) m n true → (cs : List ℕ) → has n cs ≡ cond (bytes_eq bs cs) true (has m cs)
 unfolding KeepsOthers
 has_after m n bs h cs = cases (bytes_eq bs cs) refl
   where

@@ -1,12 +1,11 @@
 -- The changes of a configuration.
-use Rattle.std.specs.Prelude.{◌≡◌, ℕ, Bool, true, false, ◌+◌, ◌&&◌, ◌||◌, List, [], ◌∷◌}
+use Rattle.std.specs.Prelude.{◌≡◌, Bool, true, false, ◌&&◌, ◌||◌, List, [], ◌∷◌}
 use Rattle.std.specs.Prelude.{◌++◌, length, map, filter, fold, not, nat_lt, Option, Some, None, Result, Ok, Err}
-use Rattle.std.specs.Prelude.{if◌then◌else◌, option_map, unwrap_or}
+use Rattle.std.specs.Prelude.{if◌then◌else◌, unwrap_or}
 use Rattle.std.specs.List.{list_any}
 use Rattle.std.specs.Str.{bytes_eq}
 use Rattle.std.specs.Ordering.{is_lt, nat_cmp}
 use Rattle.std.specs.Cmp.Lexicographic.{slice_cmp}
-use Rattle.pf_ruleset.specs.declared.parts.Addresses.{Addresses}
 use Rattle.pf_ruleset.specs.declared.parts.Addresses.TheVariants.{Prefix, Range, Table}
 use Rattle.pf_ruleset.specs.declared.parts.Host.{Host}
 use Rattle.pf_ruleset.specs.declared.parts.Host.TheVariants.{Any, In, NotIn}
@@ -21,7 +20,7 @@ use Rattle.pf_config.specs.declared.fault.ConfigFault.TheVariants.{NoTable, Cons
 use Rattle.pf_config.specs.declared.fault.ConfigFault.TheVariants.{Memory}
 use Rattle.pf_table.specs.Tables.{TableValue}
 use Rattle.pf_table.specs.Contents.{with_entries, contents_of, without_entries}
-use Rattle.pf_config.specs.Map.{Configuration, AnchorValue, Path, path_eq, anchor_at, rules_in, tables_in, named}
+use Rattle.pf_config.specs.Map.{Configuration, AnchorValue, Path, anchor_at, rules_in, tables_in, named}
 use Rattle.pf_config.specs.Map.{table_at, tables_at, name_after}
 
 -- ---- one entry of the map

@@ -1,5 +1,5 @@
 -- A configuration: a skip list, and a map from paths to rules and tables.
-use Rattle.std.specs.Prelude.{◌≡◌, ℕ, Bool, true, false, ◌&&◌, List, [], ◌∷◌, ◌++◌, length, map}
+use Rattle.std.specs.Prelude.{◌≡◌, Bool, true, List, [], ◌∷◌, ◌++◌, length, map}
 use Rattle.std.specs.Prelude.{fold, filter, Option, Some, None, if◌then◌else◌, slice_get, find}
 use Rattle.std.specs.List.{list_any, starts_with, filter_map}
 use Rattle.std.specs.Str.{bytes_eq}

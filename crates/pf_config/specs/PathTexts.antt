@@ -1,6 +1,6 @@
 -- Paths as text: names between slashes, none for the main ruleset.
 use Rattle.std.specs.Prelude.{◌≡◌, ℕ, List, [], ◌∷◌, ◌++◌, ◌==◌, Option, Some, None, Result, Ok}
-use Rattle.std.specs.Prelude.{Err, if◌then◌else◌, option_and_then}
+use Rattle.std.specs.Prelude.{Err, if◌then◌else◌}
 use Rattle.std.specs.List.{list_all}
 use Rattle.pf_words.specs.Words.{is_anchor_text}
 use Rattle.pf_ruleset.specs.Names.{Name, path_if}

@@ -17,11 +17,13 @@ ghost use Rattle.pf_config.specs.Trees.{own_entry};
 ghost use Rattle.pf_config.specs.Map.{paths_in};
 ghost use Rattle.pf_config.specs.Ordered.{AreOrdered};
 ghost use Rattle.pf_config.specs.Orders.{stops_of, others_of};
+ghost use Rattle.pf_config.specs.inner.Referring.{Gains, KnowsAll};
 ghost use Rattle.pf_config.specs.declared.config.TheConstants.{RULES_MAX};
 
 use crate::order::{Order, order_of};
 use crate::paths::{copied_path, followed_by};
 use crate::place::Place;
+use crate::referred::Referred;
 use crate::tables::{Tables, named};
 use crate::unused::{any_unused, items_refer, used_tables};
 use pf_ruleset::{Item, Name, TableName};
@@ -275,15 +277,28 @@ impl Anchor {
         false
     }
 
-    /// Whether a table here or below neither persists nor is referred to by a rule of the whole configuration.
-    pub(crate) fn has_unused(&self, main: &Anchor) -> bool
+    /// Puts the names of the tables that rules here or below refer to. After an error nothing is known of the names.
+    pub(crate) fn put_referred(&self, alloc: Global, names: &mut Referred) -> Result<(), AllocError>
+        ensures { OnOk result (Gains names.old (λ n. list_any (refer n) self.now.anchors) names.new) }
+    {
+        names.put_items(alloc, &self.items)?;
+        for kid in &self.kids {
+            kid.put_referred(alloc, names)?;
+        }
+        Ok(())
+    }
+
+    /// Whether a table here or below neither persists nor is referred to by a rule of the whole configuration. The
+    /// names that its rules refer to are known, or its rules are asked.
+    pub(crate) fn has_unused(&self, main: &Anchor, known: &Option<Referred>) -> bool
+        requires { KnowsAll known.now main.now.anchors }
         ensures { result ≡ any_sheds main.now.anchors self.now.anchors }
     {
-        if any_unused(main, &self.names, &self.items, self.tables.list()) {
+        if any_unused(main, known, &self.names, &self.items, self.tables.list()) {
             return true;
         }
         for kid in &self.kids {
-            if kid.has_unused(main) {
+            if kid.has_unused(main, known) {
                 return true;
             }
         }
@@ -292,7 +307,13 @@ impl Anchor {
 
     /// The same without the tables that no rule of the whole configuration refers to. An anchor below in which nothing
     /// changes is shared.
-    pub(crate) fn tidied(&self, alloc: Global, main: &Anchor) -> Result<Anchor, AllocError>
+    pub(crate) fn tidied(
+        &self,
+        alloc: Global,
+        main: &Anchor,
+        known: &Option<Referred>,
+    ) -> Result<Anchor, AllocError>
+        requires { KnowsAll known.now main.now.anchors }
         ensures { IfOk result (λ a. a ≡ record {
           names = self.now.names;
           anchors = tidied_of main.now.anchors self.now.anchors;
@@ -301,14 +322,21 @@ impl Anchor {
         let names = copied_path(alloc, &self.names)?;
         let items = self.items.clone()?;
         let order = self.order.clone()?;
-        let tables = used_tables(alloc, main, &self.names, &self.items, self.tables.list())?;
+        let tables = used_tables(
+            alloc,
+            main,
+            known,
+            &self.names,
+            &self.items,
+            self.tables.list(),
+        )?;
         let mut kids = Vec::new(alloc);
         for kid in &self.kids {
-            if !kid.has_unused(main) {
+            if !kid.has_unused(main, known) {
                 push_some(&mut kids, kid.clone()?)?;
                 continue;
             }
-            let own = kid.tidied(alloc, main)?;
+            let own = kid.tidied(alloc, main, known)?;
             push_some(&mut kids, Rc::new(alloc, own)?)?;
         }
         Ok(Anchor {

@@ -8,6 +8,7 @@ ghost use Rattle.pf_config.specs.Changes.{with_tables, with_rules, placed, tidie
 ghost use Rattle.pf_config.specs.declared.config.TheConstants.{RULES_MAX};
 
 use crate::anchor::{Anchor, with_entry};
+use crate::referred::gathered;
 use crate::tables::Tables;
 use crate::walk::descend;
 use pf_ruleset::{Item, Name};
@@ -112,9 +113,10 @@ pub(crate) fn tidied(alloc: Global, all: Anchor) -> Result<Anchor, AllocError>
     ensures names { IfOk result (λ a. a.names ≡ all.names) }
     ensures map { IfOk result (λ a. a.anchors ≡ tidied all.anchors) }
 {
-    if !all.has_unused(&all) {
+    let known = gathered(alloc, &all)?;
+    if !all.has_unused(&all, &known) {
         return Ok(all);
     }
-    let next = all.tidied(alloc, &all)?;
+    let next = all.tidied(alloc, &all, &known)?;
     Ok(next)
 }

@@ -22,6 +22,7 @@ mod path_text;
 mod paths;
 mod place;
 mod placing;
+mod referred;
 mod sieve;
 mod skipped;
 mod table_index;

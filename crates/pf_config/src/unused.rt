@@ -1,13 +1,15 @@
 //! Tables that no rule refers to.
 
-ghost use Rattle.std.specs.Prelude.{◌≡◌, [], IfOk, map};
+ghost use Rattle.std.specs.Prelude.{◌≡◌, [], IfOk, filter, map};
 ghost use Rattle.std.specs.List.{list_any};
 ghost use Rattle.pf_ruleset.specs.Seen.{rule_of};
 ghost use Rattle.pf_config.specs.Changes.{is_at_table, conditions_refer, refers, is_used, used_tables};
 ghost use Rattle.pf_config.specs.Trees.{is_idle};
 ghost use Rattle.pf_config.specs.Ordered.{AreOrdered};
+ghost use Rattle.pf_config.specs.inner.Referring.{KnowsAll, goes_by, stays_by};
 
 use crate::anchor::Anchor;
+use crate::referred::{FEW, Referred};
 use crate::tables::{Tables, copied_table};
 use pf_ruleset::{Addresses, Conditions, Host, Item, Name, TableName};
 use pf_table::Table;
@@ -64,13 +66,8 @@ fn is_used(main: &Anchor, path: &[Name], items: &[Item], name: &TableName) -> bo
     }
 }
 
-/// Whether one of the tables at a path neither persists nor is used.
-pub(crate) fn any_unused(
-    main: &Anchor,
-    path: &[Name],
-    items: &[Item],
-    tables: &[(TableName, Table)],
-) -> bool
+/// Whether one of the tables at a path neither persists nor is used, where the rules are asked.
+fn any_unasked(main: &Anchor, path: &[Name], items: &[Item], tables: &[(TableName, Table)]) -> bool
     ensures { result ≡ list_any (is_idle main.now.anchors (record {
       path = path.now;
       rules = map rule_of items.now;
@@ -86,9 +83,48 @@ pub(crate) fn any_unused(
     false
 }
 
-/// The tables at a path that persist or are used.
+/// Whether one of the tables neither persists nor is among the names.
+fn any_unlisted(names: &Referred, tables: &[(TableName, Table)]) -> bool
+    ensures { result ≡ list_any (goes_by names.now) tables.now }
+{
+    for entry in tables {
+        let stays = entry.1.persist() || names.contains(&entry.0);
+        if !stays {
+            return true;
+        }
+    }
+    false
+}
+
+/// Whether one of the tables at a path neither persists nor is used. The names that the rules of the whole
+/// configuration refer to are known, or its rules are asked. An anchor's own are asked: they refer to 2,048 tables at
+/// most, so that it is soon found where there are more.
+#[tactic(auto, using(crate::proofs::Treed::empty_len))]
+pub(crate) fn any_unused(
+    main: &Anchor,
+    known: &Option<Referred>,
+    path: &[Name],
+    items: &[Item],
+    tables: &[(TableName, Table)],
+) -> bool
+    requires { KnowsAll known.now main.now.anchors }
+    ensures { result ≡ list_any (is_idle main.now.anchors (record {
+      path = path.now;
+      rules = map rule_of items.now;
+      tables = [];
+    })) tables.now }
+{
+    if path.is_empty() {
+        if let Some(names) = known {
+            return any_unlisted(names, tables);
+        }
+    }
+    any_unasked(main, path, items, tables)
+}
+
+/// The tables at a path that persist or are used, where the rules are asked.
 #[tactic(auto, using(crate::proofs::Ordered::ordered_filter))]
-pub(crate) fn used_tables(
+fn asked_tables(
     alloc: Global,
     main: &Anchor,
     path: &[Name],
@@ -111,4 +147,54 @@ pub(crate) fn used_tables(
         }
     }
     Tables::of(alloc, next)
+}
+
+/// The tables that persist or are among the names.
+#[tactic(auto, using(crate::proofs::Ordered::ordered_filter))]
+fn listed_tables(
+    alloc: Global,
+    names: &Referred,
+    tables: &[(TableName, Table)],
+) -> Result<Tables, AllocError>
+    requires { AreOrdered tables.now }
+    ensures { IfOk result (λ t. t ≡ filter (stays_by names.now) tables.now) }
+{
+    let mut next = Vec::new(alloc);
+    for entry in tables {
+        if entry.1.persist() || names.contains(&entry.0) {
+            let name = entry.0.copied(alloc)?;
+            let table = copied_table(&entry.1)?;
+            next.push((name, table))?;
+        }
+    }
+    Tables::of(alloc, next)
+}
+
+/// The tables at a path that persist or are used. Where there are many, the names that rules refer to are gathered.
+#[tactic(auto, using(crate::proofs::Treed::empty_len))]
+pub(crate) fn used_tables(
+    alloc: Global,
+    main: &Anchor,
+    known: &Option<Referred>,
+    path: &[Name],
+    items: &[Item],
+    tables: &[(TableName, Table)],
+) -> Result<Tables, AllocError>
+    requires known { KnowsAll known.now main.now.anchors }
+    requires ordered { AreOrdered tables.now }
+    ensures { IfOk result (λ t. t ≡ used_tables main.now.anchors (record {
+      path = path.now;
+      rules = map rule_of items.now;
+      tables = [];
+    }) tables.now) }
+{
+    if path.is_empty() {
+        if let Some(names) = known {
+            return listed_tables(alloc, names, tables);
+        }
+    } else if tables.len() > FEW {
+        let names = Referred::of(alloc, items)?;
+        return listed_tables(alloc, &names, tables);
+    }
+    asked_tables(alloc, main, path, items, tables)
 }

@@ -1,6 +1,6 @@
-use Rattle.std.proofs.Common.{◌≡◌, ◌-◌, length, take, drop, map, rules}
+use Rattle.std.proofs.Common.{◌-◌, length, take, drop, map}
 use Rattle.pf_ruleset.specs.Seen.{rule_of}
-use Rattle.pf_config.proofs.Entries.{placed_begins, takes_place, cons_is}
+use Rattle.pf_config.proofs.Entries.{placed_begins}
 use Rattle.pf_config.proofs.anchor.+entry.Goals as goal
 
 pub with_entry-with_kid-requires-clause-below : goal.with_entry-with_kid-requires-clause-below

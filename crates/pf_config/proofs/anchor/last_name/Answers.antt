@@ -1,4 +1,4 @@
-use Rattle.std.proofs.Common.{◌≡◌, ◌∙◌, rules}
+use Rattle.std.proofs.Common.{◌∙◌, rules}
 use Rattle.pf_config.proofs.Treed.{last_got}
 use Rattle.pf_config.proofs.anchor.last_name.Goals as goal
 

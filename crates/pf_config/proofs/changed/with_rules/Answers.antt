@@ -1,4 +1,4 @@
-use Rattle.std.proofs.Common.{◌≡◌, map, refl}
+use Rattle.std.proofs.Common.{map, refl}
 use Rattle.pf_ruleset.specs.Seen.{rule_of}
 use Rattle.pf_config.specs.Map.{anchor_at, tables_in}
 use Rattle.pf_config.proofs.Entries.{main_placed}

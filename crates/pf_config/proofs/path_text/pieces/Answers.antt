@@ -1,5 +1,5 @@
-use Rattle.std.proofs.Common.{◌∙◌, sym, arith, append_assoc, ◌+◌, rules}
-use Rattle.pf_config.proofs.PathPieces.{piece_grows, piece_ends, piece_begins}
+use Rattle.std.proofs.Common.{arith, rules}
+use Rattle.pf_config.proofs.PathPieces.{piece_grows}
 use Rattle.pf_config.proofs.path_text.pieces.Goals as goal
 
 -- the piece goes on

@@ -1,10 +1,9 @@
 use Rattle.std.proofs.Common.{rules, ◌≡◌, ◌∙◌, map, ap, sym, subst, List}
 use Rattle.pf_ruleset.specs.Items.{AnyRule, rule_in, values_of}
 use Rattle.pf_ruleset.specs.Seen.{items_of, rule_of}
-use Rattle.pf_ruleset.specs.Rulesets.{ruleset_of}
 use Rattle.pf_config.specs.Map.{Path}
 use Rattle.pf_config.specs.inner.Texts.{definition_of}
-use Rattle.pf_config.specs.Changes.{Changes, Block, blocks_in, load_ruleset}
+use Rattle.pf_config.specs.Changes.{Changes, blocks_in}
 use Rattle.pf_config.proofs.BlockRules.{loads_same, same_rules}
 use Rattle.pf_config.proofs.config.Config.load.Goals as goal
 

@@ -1,4 +1,3 @@
-use Rattle.std.proofs.Common.{◌≡◌}
 use Rattle.pf_config.proofs.config.Config.table_names.Goals as goal
 
 pub returns : goal.returns

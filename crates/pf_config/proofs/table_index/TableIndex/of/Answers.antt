@@ -1,4 +1,4 @@
-use Rattle.std.proofs.Common.{rules, ◌≡◌, ◌∙◌, ◌<◌, List, length, ap, sym}
+use Rattle.std.proofs.Common.{rules, ◌≡◌, ◌∙◌, ◌<◌, List, length, ap}
 use Rattle.pf_ruleset.specs.Names.{Name}
 use Rattle.pf_table.specs.Tables.{TableValue}
 use Rattle.pf_config.specs.Changes.{with_table}

@@ -1,4 +1,4 @@
-use Rattle.std.proofs.Common.{rules, ◌≡◌, ◌||◌, [], map, sym, subst, arith}
+use Rattle.std.proofs.Common.{◌≡◌, ◌||◌, [], map, sym, subst, arith}
 use Rattle.std.proofs.lemmas.Grind.{common_steps}
 use Rattle.pf_ruleset.specs.Names.{Name}
 use Rattle.pf_ruleset.specs.Seen.{rule_of}
@@ -7,7 +7,7 @@ use Rattle.pf_config.specs.Map.{AnchorValue}
 use Rattle.pf_config.specs.Changes.{is_used, used_tables}
 use Rattle.pf_config.specs.Ordered.{AreOrdered}
 use Rattle.pf_config.proofs.Ordered.{ordered_filter}
-use Rattle.pf_config.proofs.unused.used_tables.Goals as goal
+use Rattle.pf_config.proofs.unused.asked_tables.Goals as goal
 
 pub of-requires : goal.of-requires
 of-requires c =
