@@ -23,7 +23,7 @@ use Rattle.pf_config.proofs.Treed.{both_true, is_less, name_chain, before_other}
 
 -- ---- names
 
-turned : (x y : Name) → slice_cmp nat_cmp y x ≡ ordering_reverse (slice_cmp nat_cmp x y)
+pub turned : (x y : Name) → slice_cmp nat_cmp y x ≡ ordering_reverse (slice_cmp nat_cmp x y)
 turned x y = nat_list_cmp_total.antisymm y x
 
 back : (x y : Name) → is_before x y ≡ true → is_before y x ≡ false

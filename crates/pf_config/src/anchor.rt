@@ -17,6 +17,7 @@ ghost use Rattle.pf_config.specs.Trees.{own_entry};
 ghost use Rattle.pf_config.specs.Map.{paths_in};
 ghost use Rattle.pf_config.specs.Ordered.{AreOrdered};
 ghost use Rattle.pf_config.specs.Orders.{stops_of, others_of};
+ghost use Rattle.pf_config.specs.inner.KidOrder.{AreInOrder};
 ghost use Rattle.pf_config.specs.inner.Referring.{Gains, KnowsAll};
 ghost use Rattle.pf_config.specs.declared.config.TheConstants.{RULES_MAX};
 
@@ -114,13 +115,6 @@ impl Anchor {
         ensures { option_copied result ≡ named name.now (tables_in (anchor_at self.now.names self.now.anchors)) }
     {
         named(self.tables(), name)
-    }
-
-    /// Whether its last name is this one.
-    fn is_named(&self, name: &str) -> bool
-        ensures { result ≡ is_named name.now self.now }
-    {
-        last_name(&self.names) == name.as_bytes()
     }
 
     /// Whether its last name is before this one.
@@ -662,13 +656,21 @@ fn kid_with_entry(
     }
 }
 
-/// The anchor of that name.
+/// The anchor of that name, which is looked for by halves.
 fn kid_named<'c>(kids: &'c [Rc<Anchor>], name: &str) -> Option<&'c Anchor>
+    requires { AreInOrder (shared kids.now) }
     ensures { option_copied result ≡ find (is_named name.now) (shared kids.now) }
 {
-    for kid in kids {
-        if kid.is_named(name) {
-            return Some(kid);
+    let mut left = kids;
+    while !left.is_empty() {
+        let (front, back) = left.split_at(left.len() / 2);
+        let [middle, behind @ ..] = back else {
+            return None;
+        };
+        match last_name(middle.names()).cmp(name.as_bytes()) {
+            Ordering::Equal => return Some(middle),
+            Ordering::Less => left = behind,
+            Ordering::Greater => left = front,
         }
     }
     None
