@@ -1,5 +1,6 @@
-/* Loaded before the C library (LD_PRELOAD): refuses the allocation whose number REFUSED says, counted from 1, and
- * writes how many there were to the file that ALLOCATIONS names when the process ends. */
+/* Loaded before the C library (LD_PRELOAD): refuses the allocation whose number REFUSED says, counted from 1, and as
+ * many right behind it as MORE says, and writes how many there were to the file that ALLOCATIONS names when the process
+ * ends. */
 #define _GNU_SOURCE
 #include <dlfcn.h>
 #include <errno.h>
@@ -9,10 +10,11 @@
 #include <stdlib.h>
 #include <unistd.h>
 
-static unsigned long count, refused;
+static unsigned long count, refused, more;
 
 static int is_refused(void) {
-  if (++count != refused) return 0;
+  ++count;
+  if (!refused || count < refused || count - refused > more) return 0;
   errno = ENOMEM;
   return 1;
 }
@@ -23,6 +25,8 @@ __attribute__((constructor)) static void begin(void) {
   const char *word = getenv("REFUSED");
   count = 0;
   refused = word ? strtoul(word, NULL, 10) : 0;
+  word = getenv("MORE");
+  more = word ? strtoul(word, NULL, 10) : 0;
 }
 
 __attribute__((destructor)) static void end(void) {

@@ -1,0 +1,77 @@
+//! A datagram that is read and written again.
+
+use px_wire::{Membership, decode, encode};
+use std::alloc::Global;
+use std::io;
+
+/// How often a call is made again before it is given up.
+const TRIES: u8 = 20;
+
+/// What a datagram's message is written as.
+enum Written {
+    /// As so many bytes, which are those that were read.
+    Same(usize),
+    /// As others.
+    Other,
+    /// Memory was wanting.
+    Refused,
+    /// It has no message.
+    Unread,
+}
+
+/// What the message of these bytes is written as.
+fn write_once(alloc: Global, reader: &Membership, bytes: &[u8]) -> Written {
+    let Ok((from, message)) = decode(reader, bytes) else {
+        return Written::Unread;
+    };
+    let Some(sender) = Membership::new(reader.cluster(), reader.members(), from) else {
+        return Written::Unread;
+    };
+    match encode(alloc, &sender, reader.me(), &message) {
+        Err(_) => Written::Refused,
+        Ok(again) if again.as_slice() == bytes => Written::Same(again.len()),
+        Ok(_) => Written::Other,
+    }
+}
+
+/// The bytes with these digits, and so many times `x`.
+fn bytes_of(alloc: Global, digits: &str, more: usize) -> Option<Vec<u8>> {
+    let mut bytes = hex::decode(alloc, digits).ok()?;
+    bytes.reserve(more).ok()?;
+    for _ in 0..more {
+        bytes.push(b'x').ok()?;
+    }
+    Some(bytes)
+}
+
+/// The reader and the bytes of a line behind its first word.
+fn datagram(alloc: Global, line: &str) -> Option<(Membership, Vec<u8>)> {
+    let mut words = line.split(' ');
+    let _form = words.next()?;
+    let _name = words.next()?;
+    let reader = Membership::new(7, 3, words.next()?.parse::<u8>().ok()?)?;
+    let digits = words.next()?;
+    let more = words.next()?.parse::<usize>().ok()?;
+    Some((reader, bytes_of(alloc, digits, more)?))
+}
+
+/// Writes what the line's datagram is written as; where memory is wanting, it is written again.
+pub fn write_again(rt: &HostRuntime, line: &str) -> io::Result<()> {
+    let Some((reader, bytes)) = datagram(rt.alloc(), line) else {
+        return println!(rt; "nothing");
+    };
+    let mut refused = 0u32;
+    for _ in 0..TRIES {
+        match write_once(rt.alloc(), &reader, bytes.as_slice()) {
+            Written::Same(length) => {
+                if refused > 0 {
+                    println!(rt; "memory: receive 0 tick 0 ask 0 encode {refused} late 0")?;
+                }
+                return println!(rt; "{length} bytes as they were read");
+            }
+            Written::Refused => refused = refused.saturating_add(1),
+            Written::Other | Written::Unread => return println!(rt; "wrong"),
+        }
+    }
+    println!(rt; "wrong")
+}
