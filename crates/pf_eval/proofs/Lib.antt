@@ -4,6 +4,8 @@ pub mod Words
 pub mod Groups
 pub mod Deciding
 pub mod Walks
+pub mod Sieves
+pub mod Placed
 pub mod Anchors
 pub mod Spaces
 pub mod PacketSpelled

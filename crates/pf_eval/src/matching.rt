@@ -44,7 +44,8 @@ fn is_between(scope: Scope<'_>, rule: &Conditions, packet: &Packet) -> bool
         && at_host(scope, packet.destination, &rule.destination)
 }
 
-fn is_direction(wanted: Option<Direction>, direction: Direction) -> bool
+/// Whether the packet has the direction that is asked for, if one is.
+pub(crate) fn is_direction(wanted: Option<Direction>, direction: Direction) -> bool
     ensures { result ≡ if_set (direction_eq direction) wanted }
 {
     match (wanted, direction) {
@@ -67,7 +68,8 @@ fn is_interface(wanted: &Option<Interface>, packet: &Packet) -> bool
     }
 }
 
-fn is_family(wanted: Option<Family>, addr: Addr) -> bool
+/// Whether the address is of the family that is asked for, if one is.
+pub(crate) fn is_family(wanted: Option<Family>, addr: Addr) -> bool
     ensures { result ≡ if_set (of_family addr) wanted }
 {
     match (wanted, addr) {
@@ -76,7 +78,8 @@ fn is_family(wanted: Option<Family>, addr: Addr) -> bool
     }
 }
 
-fn is_number(wanted: Option<u8>, number: u8) -> bool
+/// Whether the number is the one that is asked for, if one is.
+pub(crate) fn is_number(wanted: Option<u8>, number: u8) -> bool
     ensures { result ≡ if_set (λ n. number == n) wanted }
 {
     match wanted {

@@ -1,18 +1,20 @@
 //! The second walk, from the back: the last hit of the rules that aren't quick.
 
-ghost use Rattle.std.specs.Prelude.{◌≡◌, ◌≤◌, length, map};
+ghost use Rattle.std.specs.Prelude.{◌≡◌, slice_get};
 ghost use Rattle.pf_ruleset.specs.Items.{AnchorRule};
 ghost use Rattle.pf_ruleset.specs.Seen.{heading_of, rule_of};
+ghost use Rattle.pf_config.specs.Map.{rules_at};
 ghost use Rattle.pf_config.specs.Trees.{paths_of, shared};
-ghost use Rattle.pf_eval.specs.inner.TwoWalks.{shallow, in_member, called_last, last_rule, last_some};
+ghost use Rattle.pf_eval.specs.inner.TwoWalks.{shallow, in_member, called_last, at_place};
+ghost use Rattle.pf_eval.specs.inner.TwoWalks.{some_rule, first_some, last_some};
 ghost use Rattle.pf_eval.specs.inner.TwoWalks.{IsAnchorOf, second_walk, last_at, spot_in};
-ghost use Rattle.pf_config.specs.declared.config.TheConstants.{RULES_MAX};
 
 use crate::hit::{Hit, other_hit};
 use crate::matching::matches;
 use crate::packet::Packet;
 use crate::scope::scope_at;
-use pf_config::{Anchor, Config};
+use crate::sieving::{key_of, passes};
+use pf_config::{Anchor, Config, Place};
 use pf_ruleset::{AnchorHeading, Item};
 use std::rc::Rc;
 
@@ -21,7 +23,7 @@ pub(crate) const DEEPEST: usize = 8;
 
 /// The last hit in an anchor of rules that aren't quick, where anchor rules nest less deep than this.
 #[cycle(others)]
-#[tactic(auto, using(crate::proofs::Walks::second_at, crate::proofs::Walks::second_none, crate::proofs::Anchors::own_rules))]
+#[tactic(auto, using(crate::proofs::Walks::second_none, crate::proofs::Placed::others_are_last))]
 pub(crate) fn last_other<'c>(
     config: &'c Config,
     anchor: &'c Anchor,
@@ -34,37 +36,60 @@ pub(crate) fn last_other<'c>(
     if depth == 0 {
         return None;
     }
-    of_items(config, anchor, packet, anchor.items(), depth - 1)
+    of_places(config, anchor, packet, anchor.others(), depth - 1)
 }
 
-/// The last hit of these rules, looked for from the back.
+/// The first hit of the rules at these places, the last rule first. A rule whose sieve doesn't let the packet pass isn't
+/// looked at.
 #[cycle(others)]
-fn of_items<'c>(
+fn of_places<'c>(
     config: &'c Config,
     anchor: &'c Anchor,
     packet: &Packet,
-    items: &[Item],
+    places: &[Place],
     depth: u8,
 ) -> Option<Hit<'c>>
-    requires few { length items.now ≤ RULES_MAX }
-    requires at { IsAnchorOf config.now anchor.now }
-    ensures { spot_in result ≡
-        last_rule (last_at depth config.now packet.now anchor.now.names) 0 (map rule_of items.now) }
+    requires { IsAnchorOf config.now anchor.now }
+    ensures { spot_in result ≡ first_some (at_place (last_at depth config.now packet.now anchor.now.names)
+        (rules_at config.now anchor.now.names) packet.now) places.now }
 {
-    let mut left = items.len();
-    while left > 0 {
-        let index = left - 1;
-        if let Some(hit) = of_item(config, anchor, packet, index as u32, &items[index], depth) {
+    let key = key_of(packet);
+    for place in places {
+        if !passes(&place.sieve, &key) {
+            continue;
+        }
+        if let Some(hit) = of_index(config, anchor, packet, place.index, depth) {
             return Some(hit);
         }
-        left = index;
     }
     None
 }
 
+/// The last hit of the rule with this index, none if it is quick.
+#[cycle(others)]
+#[inline(never)]
+#[tactic(auto, using(crate::proofs::Anchors::own_rules, crate::proofs::Placed::no_rule))]
+fn of_index<'c>(
+    config: &'c Config,
+    anchor: &'c Anchor,
+    packet: &Packet,
+    index: u32,
+    depth: u8,
+) -> Option<Hit<'c>>
+    requires { IsAnchorOf config.now anchor.now }
+    ensures { spot_in result ≡ some_rule (last_at depth config.now packet.now anchor.now.names index)
+        (slice_get (rules_at config.now anchor.now.names) index) }
+{
+    let items = anchor.items();
+    let at = index as usize;
+    if at >= items.len() {
+        return None;
+    }
+    of_item(config, anchor, packet, index, &items[at], depth)
+}
+
 /// The last hit of a rule, none if it is quick.
 #[cycle(others)]
-#[inline(always)]
 #[tactic(auto, using(crate::proofs::Walks::last_of_filter, crate::proofs::Walks::last_of_anchor))]
 fn of_item<'c>(
     config: &'c Config,
@@ -85,7 +110,6 @@ fn of_item<'c>(
 
 /// The last hit within what an anchor rule evaluates, none if the rule is quick.
 #[cycle(others)]
-#[inline(never)]
 #[tactic(auto, using(crate::proofs::Walks::none_called, crate::proofs::Anchors::below_is, crate::proofs::Anchors::last_below, crate::proofs::Anchors::no_rules_below, crate::proofs::Anchors::no_kids_below))]
 fn within<'c>(
     config: &'c Config,

@@ -1,26 +1,27 @@
-//! The first walk: the first hit that ends the evaluation. Of the filter rules it tries the quick ones alone.
+//! The first walk: the first hit that ends the evaluation. It goes over the quick filter rules and the anchor rules.
 
-ghost use Rattle.std.specs.Prelude.{◌≡◌, ◌≤◌, length, map};
+ghost use Rattle.std.specs.Prelude.{◌≡◌, slice_get};
 ghost use Rattle.pf_ruleset.specs.Items.{AnchorRule};
 ghost use Rattle.pf_ruleset.specs.Seen.{heading_of, rule_of};
+ghost use Rattle.pf_config.specs.Map.{rules_at};
 ghost use Rattle.pf_config.specs.Trees.{paths_of, shared};
 ghost use Rattle.pf_eval.specs.inner.TwoWalks.{shallow, in_member, called_stop, called_last, ending};
-ghost use Rattle.pf_eval.specs.inner.TwoWalks.{first_rule, first_some};
+ghost use Rattle.pf_eval.specs.inner.TwoWalks.{at_place, some_rule, first_some};
 ghost use Rattle.pf_eval.specs.inner.TwoWalks.{IsAnchorOf, first_walk, second_walk, stop_at, spot_in};
-ghost use Rattle.pf_config.specs.declared.config.TheConstants.{RULES_MAX};
 
 use crate::hit::{Hit, quick_hit};
 use crate::matching::matches;
 use crate::others::{DEEPEST, last_called};
 use crate::packet::Packet;
 use crate::scope::scope_at;
-use pf_config::{Anchor, Config};
+use crate::sieving::{key_of, passes};
+use pf_config::{Anchor, Config, Place};
 use pf_ruleset::{AnchorHeading, Item};
 use std::rc::Rc;
 
 /// The first hit in an anchor that ends the evaluation, where anchor rules nest less deep than this.
 #[cycle(stops)]
-#[tactic(auto, using(crate::proofs::Walks::first_at, crate::proofs::Walks::first_none, crate::proofs::Anchors::own_rules))]
+#[tactic(auto, using(crate::proofs::Walks::first_none, crate::proofs::Placed::stops_are_first))]
 pub(crate) fn first_stop<'c>(
     config: &'c Config,
     anchor: &'c Anchor,
@@ -33,34 +34,60 @@ pub(crate) fn first_stop<'c>(
     if depth == 0 {
         return None;
     }
-    of_items(config, anchor, packet, anchor.items(), depth - 1)
+    of_places(config, anchor, packet, anchor.stops(), depth - 1)
 }
 
-/// The first of these rules that ends the evaluation.
+/// The first of the rules at these places that ends the evaluation. A rule whose sieve doesn't let the packet pass isn't
+/// looked at.
 #[cycle(stops)]
-fn of_items<'c>(
+fn of_places<'c>(
     config: &'c Config,
     anchor: &'c Anchor,
     packet: &Packet,
-    items: &[Item],
+    places: &[Place],
     depth: u8,
 ) -> Option<Hit<'c>>
-    requires few { length items.now ≤ RULES_MAX }
-    requires at { IsAnchorOf config.now anchor.now }
-    ensures { spot_in result ≡
-        first_rule (stop_at depth config.now packet.now anchor.now.names) 0 (map rule_of items.now) }
+    requires { IsAnchorOf config.now anchor.now }
+    ensures { spot_in result ≡ first_some (at_place (stop_at depth config.now packet.now anchor.now.names)
+        (rules_at config.now anchor.now.names) packet.now) places.now }
 {
-    for (index, item) in items.iter().enumerate() {
-        if let Some(hit) = of_item(config, anchor, packet, index as u32, item, depth) {
+    let key = key_of(packet);
+    for place in places {
+        if !passes(&place.sieve, &key) {
+            continue;
+        }
+        if let Some(hit) = of_index(config, anchor, packet, place.index, depth) {
             return Some(hit);
         }
     }
     None
 }
 
+/// The hit by which the rule with this index ends the evaluation.
+#[cycle(stops)]
+#[inline(never)]
+#[tactic(auto, using(crate::proofs::Anchors::own_rules, crate::proofs::Placed::no_rule))]
+fn of_index<'c>(
+    config: &'c Config,
+    anchor: &'c Anchor,
+    packet: &Packet,
+    index: u32,
+    depth: u8,
+) -> Option<Hit<'c>>
+    requires { IsAnchorOf config.now anchor.now }
+    ensures { spot_in result ≡ some_rule (stop_at depth config.now packet.now anchor.now.names index)
+        (slice_get (rules_at config.now anchor.now.names) index) }
+{
+    let items = anchor.items();
+    let at = index as usize;
+    if at >= items.len() {
+        return None;
+    }
+    of_item(config, anchor, packet, index, &items[at], depth)
+}
+
 /// The hit by which a rule ends the evaluation.
 #[cycle(stops)]
-#[inline(always)]
 #[tactic(auto, using(crate::proofs::Walks::stop_of_filter, crate::proofs::Walks::stop_of_anchor))]
 fn of_item<'c>(
     config: &'c Config,
@@ -81,7 +108,6 @@ fn of_item<'c>(
 
 /// The hit by which an anchor rule ends the evaluation.
 #[cycle(stops)]
-#[inline(never)]
 #[tactic(auto, using(crate::proofs::Walks::none_ending, crate::proofs::Anchors::below_is, crate::proofs::Anchors::ending_below, crate::proofs::Anchors::no_rules_below, crate::proofs::Anchors::no_kids_below))]
 fn within<'c>(
     config: &'c Config,

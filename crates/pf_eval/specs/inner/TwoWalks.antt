@@ -1,14 +1,16 @@
 -- The verdict by two walks over rules and anchors: the first hit that ends the evaluation, else the last hit.
 use Rattle.std.specs.Prelude.{ℕ, zero, suc, ◌+◌, ◌++◌, Bool, List, [], ◌∷◌, length, map, Option, Some, None}
-use Rattle.std.specs.Prelude.{◌≡◌, nat_le, option_map, if◌then◌else◌}
+use Rattle.std.specs.Prelude.{◌≡◌, nat_le, option_map, slice_get, if◌then◌else◌}
 use Rattle.pf_ruleset.specs.declared.rule.Rule.{Rule}
 use Rattle.pf_ruleset.specs.Names.{begins_below}
 use Rattle.pf_ruleset.specs.Items.{AnyRule, FilterRule, AnchorRule, Target}
 use Rattle.pf_config.specs.Map.{Configuration, Path, rules_at, kids, followed_by, or_else}
 use Rattle.pf_config.specs.Trees.{AnchorTree, anchor_in, last_name}
+use Rattle.pf_config.specs.declared.place.Place.{Place}
 use Rattle.pf_eval.specs.declared.hit.Hit as code
 use Rattle.pf_eval.specs.Packets.{PacketValue}
 use Rattle.pf_eval.specs.Matching.{Tables, matches}
+use Rattle.pf_eval.specs.inner.Sieves.{key_of, passes}
 use Rattle.pf_eval.specs.Verdicts.{Hit, Spot, last, tables_in, no_tables}
 
 -- ---- over hits
@@ -42,6 +44,16 @@ first_rule f i (rule ∷ rules) = or_else (f i rule) (first_rule f (i + 1) rules
 abbrev pub last_rule : (ℕ → AnyRule → Option Spot) → ℕ → List AnyRule → Option Spot
 last_rule f i [] = None
 last_rule f i (rule ∷ rules) = or_else (last_rule f (i + 1) rules) (f i rule)
+
+-- what a rule comes to, if there is one
+abbrev pub some_rule : (AnyRule → Option Spot) → Option AnyRule → Option Spot
+some_rule f None = None
+some_rule f (Some rule) = f rule
+
+-- what the rule at a place comes to: to nothing where its sieve doesn't let the packet pass
+abbrev pub at_place : (ℕ → AnyRule → Option Spot) → List AnyRule → PacketValue → Place → Option Spot
+at_place f rules k place =
+    if passes place.sieve (key_of k) then some_rule (f place.index) (slice_get rules place.index) else None
 
 -- the spot of a filter rule that matches
 abbrev pub rule_spot : Tables → PacketValue → Path → ℕ → Rule → Option Spot

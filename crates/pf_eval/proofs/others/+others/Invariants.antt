@@ -1,44 +1,44 @@
-use Rattle.std.proofs.Common.{◌≡◌, ◌≤◌, length, map, drop, None, ◌+◌, ◌*◌}
-use Rattle.pf_ruleset.specs.Seen.{rule_of}
+use Rattle.std.proofs.Common.{◌≡◌, ◌≤◌, length, drop, None, ◌+◌, ◌*◌}
+use Rattle.pf_config.specs.Map.{rules_at}
 use Rattle.pf_config.specs.Trees.{paths_of, shared}
-use Rattle.pf_eval.specs.inner.TwoWalks.{in_member, last_rule, last_some, second_walk, last_at, IsAnchorOf}
+use Rattle.pf_eval.specs.inner.TwoWalks.{in_member, at_place, first_some, last_some, second_walk, last_at, IsAnchorOf}
+use Rattle.pf_eval.specs.inner.Sieves.{key_of}
 use Rattle.pf_eval.proofs.others.+others.Given as goal
 
 abbrev pub decreases-last_other : goal.decreases-last_other
-decreases-last_other l = 8 * l.depth
+decreases-last_other l = 10 * l.depth
 
 abbrev pub decreases-at : goal.decreases-at
-decreases-at l = 8 * l.depth + 1
+decreases-at l = 10 * l.depth + 1
 
 abbrev pub decreases-of_member : goal.decreases-of_member
-decreases-of_member l = 8 * l.depth + 2
+decreases-of_member l = 10 * l.depth + 2
 
 abbrev pub decreases-of_members : goal.decreases-of_members
-decreases-of_members l = 8 * l.depth + 3
+decreases-of_members l = 10 * l.depth + 3
 
 abbrev pub decreases-last_called : goal.decreases-last_called
-decreases-last_called l = 8 * l.depth + 4
+decreases-last_called l = 10 * l.depth + 4
 
 abbrev pub decreases-within : goal.decreases-within
-decreases-within l = 8 * l.depth + 5
+decreases-within l = 10 * l.depth + 5
 
 abbrev pub decreases-of_item : goal.decreases-of_item
-decreases-of_item l = 8 * l.depth + 6
+decreases-of_item l = 10 * l.depth + 6
 
-abbrev pub decreases-of_items : goal.decreases-of_items
-decreases-of_items l = 8 * l.depth + 7
+abbrev pub decreases-of_index : goal.decreases-of_index
+decreases-of_index l = 10 * l.depth + 7
 
--- none of the rules behind has a hit
-abbrev pub invariant-of_items-loop-left : goal.invariant-of_items-loop-left
-invariant-of_items-loop-left l = record {
-  none : last_rule (last_at l.depth l.config l.packet l.anchor.names) l.left (map rule_of (drop l.left l.items)) ≡ None;
-  few : l.left ≤ length l.items;
-  least : length l.items ≤ 1024;
+abbrev pub decreases-of_places : goal.decreases-of_places
+decreases-of_places l = 10 * l.depth + 8
+
+-- the first hit is among the rules at the places that are left
+abbrev pub invariant-of_places-loop-place : goal.invariant-of_places-loop-place
+invariant-of_places-loop-place l = record {
+  rest : first_some (at_place (last_at l.depth l.config l.packet l.anchor.names) (rules_at l.config l.anchor.names) l.packet) (drop l.place-index l.places) ≡ first_some (at_place (last_at l.depth l.config l.packet l.anchor.names) (rules_at l.config l.anchor.names) l.packet) l.places;
   at : IsAnchorOf l.config l.anchor;
+  key : l.key ≡ key_of l.packet;
 }
-
-abbrev pub decreases-of_items-loop-left : goal.decreases-of_items-loop-left
-decreases-of_items-loop-left l = l.left
 
 -- none of the anchors behind has a hit
 abbrev pub invariant-of_members-loop-left : goal.invariant-of_members-loop-left

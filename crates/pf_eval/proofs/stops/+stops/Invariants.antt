@@ -1,42 +1,46 @@
-use Rattle.std.proofs.Common.{◌≡◌, ◌≤◌, length, map, drop, ◌+◌, ◌*◌}
-use Rattle.pf_ruleset.specs.Seen.{rule_of}
+use Rattle.std.proofs.Common.{◌≡◌, drop, ◌+◌, ◌*◌}
+use Rattle.pf_config.specs.Map.{rules_at}
 use Rattle.pf_config.specs.Trees.{paths_of, shared}
-use Rattle.pf_eval.specs.inner.TwoWalks.{in_member, first_rule, first_some, first_walk, stop_at, IsAnchorOf}
+use Rattle.pf_eval.specs.inner.TwoWalks.{in_member, at_place, first_some, first_walk, stop_at, IsAnchorOf}
+use Rattle.pf_eval.specs.inner.Sieves.{key_of}
 use Rattle.pf_eval.proofs.stops.+stops.Given as goal
 
 abbrev pub decreases-first_stop : goal.decreases-first_stop
-decreases-first_stop l = 9 * l.depth
+decreases-first_stop l = 11 * l.depth
 
 abbrev pub decreases-at : goal.decreases-at
-decreases-at l = 9 * l.depth + 1
+decreases-at l = 11 * l.depth + 1
 
 abbrev pub decreases-of_member : goal.decreases-of_member
-decreases-of_member l = 9 * l.depth + 2
+decreases-of_member l = 11 * l.depth + 2
 
 abbrev pub decreases-of_members : goal.decreases-of_members
-decreases-of_members l = 9 * l.depth + 3
+decreases-of_members l = 11 * l.depth + 3
 
 abbrev pub decreases-stop_called : goal.decreases-stop_called
-decreases-stop_called l = 9 * l.depth + 4
+decreases-stop_called l = 11 * l.depth + 4
 
 abbrev pub decreases-ended : goal.decreases-ended
-decreases-ended l = 9 * l.depth + 5
+decreases-ended l = 11 * l.depth + 5
 
 abbrev pub decreases-within : goal.decreases-within
-decreases-within l = 9 * l.depth + 6
+decreases-within l = 11 * l.depth + 6
 
 abbrev pub decreases-of_item : goal.decreases-of_item
-decreases-of_item l = 9 * l.depth + 7
+decreases-of_item l = 11 * l.depth + 7
 
-abbrev pub decreases-of_items : goal.decreases-of_items
-decreases-of_items l = 9 * l.depth + 8
+abbrev pub decreases-of_index : goal.decreases-of_index
+decreases-of_index l = 11 * l.depth + 8
 
--- the first stop is among the rules that are left
-abbrev pub invariant-of_items-loop-index : goal.invariant-of_items-loop-index
-invariant-of_items-loop-index l = record {
-  rest : first_rule (stop_at l.depth l.config l.packet l.anchor.names) l.index (map rule_of (drop l.index l.items)) ≡ first_rule (stop_at l.depth l.config l.packet l.anchor.names) 0 (map rule_of l.items);
-  few : length l.items ≤ 1024;
+abbrev pub decreases-of_places : goal.decreases-of_places
+decreases-of_places l = 11 * l.depth + 9
+
+-- the first stop is among the rules at the places that are left
+abbrev pub invariant-of_places-loop-place : goal.invariant-of_places-loop-place
+invariant-of_places-loop-place l = record {
+  rest : first_some (at_place (stop_at l.depth l.config l.packet l.anchor.names) (rules_at l.config l.anchor.names) l.packet) (drop l.place-index l.places) ≡ first_some (at_place (stop_at l.depth l.config l.packet l.anchor.names) (rules_at l.config l.anchor.names) l.packet) l.places;
   at : IsAnchorOf l.config l.anchor;
+  key : l.key ≡ key_of l.packet;
 }
 
 -- the first stop is within the anchors that are left
