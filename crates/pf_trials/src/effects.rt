@@ -44,27 +44,59 @@ fn rules(alloc: Global, config: &Config) -> Result<String, Fail> {
     Ok(show_items(alloc, config.items(&[]))?)
 }
 
-#[test]
-fn a_load_is_read_by_its_own_profile(rt: HostRuntime) -> Result<(), Fail> {
-    let alloc = rt.alloc();
-    let mut config = Config::new(alloc)?;
+/// Loads a text that is written in this profile as the main ruleset.
+fn loaded(
+    alloc: Global,
+    config: &mut Config,
+    profile: Profile,
+    text: &[u8],
+) -> Result<Result<Applied, ApplyFault>, Fail> {
+    let command = load(alloc, profile, text)?;
+    applied(alloc, config, command)
+}
+
+/// Refuses a main ruleset that isn't shown so.
+fn expect_rules(alloc: Global, config: &Config, wanted: &str) -> Result<(), Fail> {
+    let shown = rules(alloc, config)?;
+    if shown.as_str() == wanted {
+        Ok(())
+    } else {
+        Err("other rules".into())
+    }
+}
+
+/// Refuses another outcome than the wanted one.
+fn expect_outcome(
+    found: Result<Applied, ApplyFault>,
+    wanted: Result<Applied, ApplyFault>,
+) -> Result<(), Fail> {
+    if found == wanted {
+        Ok(())
+    } else {
+        Err("another outcome".into())
+    }
+}
+
+/// A text with a type of ICMP by its number is refused in the first profile, and changes nothing; in the second it is
+/// taken.
+fn read(alloc: Global, config: &mut Config) -> Result<(), Fail> {
     let nothing = Applied {
         added: 0,
         removed: 0,
     };
-    let first = load(alloc, Profile::One, b"block all\n")?;
-    assert_eq!(rt; applied(alloc, &mut config, first)?, Ok(nothing));
-    let old = load(alloc, Profile::One, ECHO)?;
-    assert_eq!(rt;
-        applied(alloc, &mut config, old)?,
-        Err(ApplyFault::Refused(12, 1))
-    );
-    assert_eq!(rt; rules(alloc, &config)?.as_str(), "block drop all\n");
-    let new = load(alloc, Profile::Two, ECHO)?;
-    assert_eq!(rt; applied(alloc, &mut config, new)?, Ok(nothing));
-    assert_eq!(rt;
-        rules(alloc, &config)?.as_str(),
-        "pass inet proto 1 all icmp-type 8 flags S/SA keep state\n"
-    );
-    Ok(())
+    let first = loaded(alloc, config, Profile::One, b"block all\n")?;
+    expect_outcome(first, Ok(nothing))?;
+    let old = loaded(alloc, config, Profile::One, ECHO)?;
+    expect_outcome(old, Err(ApplyFault::Refused(12, 1)))?;
+    expect_rules(alloc, config, "block drop all\n")?;
+    let new = loaded(alloc, config, Profile::Two, ECHO)?;
+    expect_outcome(new, Ok(nothing))?;
+    let wanted = "pass inet proto 1 all icmp-type 8 flags S/SA keep state\n";
+    expect_rules(alloc, config, wanted)
+}
+
+#[test]
+fn a_load_is_read_by_its_own_profile(rt: HostRuntime) -> Result<(), Fail> {
+    let mut config = Config::new(rt.alloc())?;
+    read(rt.alloc(), &mut config)
 }

@@ -50,6 +50,19 @@ fn load(alloc: Global, config: &mut Config, text: &[u8]) -> Result<(), Fail> {
     }
 }
 
+/// Refuses what isn't so.
+fn expect(is_so: bool, what: &'static str) -> Result<(), Fail> {
+    if is_so { Ok(()) } else { Err(what.into()) }
+}
+
+/// Main's table of that name.
+fn table_of<'c>(config: &'c Config, name: &str) -> Result<&'c Table, Fail> {
+    match config.table(&[], name) {
+        Some(table) => Ok(table),
+        None => Err("no table".into()),
+    }
+}
+
 #[test]
 fn the_most_specific_entry_decides(rt: HostRuntime) -> Result<(), Fail> {
     let alloc = rt.alloc();
@@ -70,62 +83,61 @@ fn the_most_specific_entry_decides(rt: HostRuntime) -> Result<(), Fail> {
     Ok(())
 }
 
-#[test]
-fn a_table_lives_while_it_is_named(rt: HostRuntime) -> Result<(), Fail> {
-    let alloc = rt.alloc();
-    let mut config = Config::new(alloc)?;
-    load(alloc, &mut config, b"table <t> { 10/8 }\nblock from <t>\n")?;
-    let Some(table) = config.table(&[], "t") else {
-        return Err("no table".into());
-    };
-    assert_eq!(rt; table.entry_count(), 1);
-    assert!(rt; config.flush_rules(&[]).is_ok());
-    assert!(rt; config.table(&[], "t").is_none());
+/// A table goes with the last rule that names it, but not where a command made it.
+fn live(alloc: Global, config: &mut Config) -> Result<(), Fail> {
+    load(alloc, config, b"table <t> { 10/8 }\nblock from <t>\n")?;
+    expect(table_of(config, "t")?.entry_count() == 1, "one entry")?;
+    expect(config.flush_rules(&[]).is_ok(), "a flush")?;
+    expect(config.table(&[], "t").is_none(), "the table is gone")?;
     let name = table_name(alloc, "t")?;
     let list = entries(alloc, &["10/8"])?;
-    assert!(rt; config.add(&[], &name, &list).is_ok());
-    assert!(rt; config.flush_rules(&[]).is_ok());
-    let Some(table) = config.table(&[], "t") else {
-        return Err("no table".into());
-    };
-    let [only] = table.part(false, 8) else {
+    expect(config.add(&[], &name, &list).is_ok(), "an addition")?;
+    expect(config.flush_rules(&[]).is_ok(), "another flush")?;
+    let [only] = table_of(config, "t")?.part(false, 8) else {
         return Err("another list".into());
     };
-    assert!(rt; only.prefix == parse_prefix("10.0.0.0/8")?);
-    assert!(rt; !only.negated);
-    Ok(())
+    expect(only.prefix == parse_prefix("10.0.0.0/8")?, "its prefix")?;
+    expect(!only.negated, "not negated")
+}
+
+#[test]
+fn a_table_lives_while_it_is_named(rt: HostRuntime) -> Result<(), Fail> {
+    let mut config = Config::new(rt.alloc())?;
+    live(rt.alloc(), &mut config)
+}
+
+/// The third statement is refused.
+fn refuse(alloc: Global) -> Result<(), Fail> {
+    let text = b"block\npass\nbogus\n";
+    match parse(alloc, text, Place::Main, Profile::Two) {
+        Err(ParseFault::Refused(refusal)) => {
+            expect(
+                refusal.cause.code() == 12 && refusal.line == 3,
+                "12 in line 3",
+            )
+        }
+        _ => Err("the text is accepted".into()),
+    }
+}
+
+/// An addition to a table that is const is refused, and rules and table stay.
+fn stay(alloc: Global, config: &mut Config) -> Result<(), Fail> {
+    let text = b"table <c> persist const { 10/8 }\nblock return\n";
+    load(alloc, config, text)?;
+    let name = table_name(alloc, "c")?;
+    let list = entries(alloc, &["11/8"])?;
+    let refused = config.add(&[], &name, &list);
+    expect(refused == Err(ConfigFault::ConstTable), "a const table")?;
+    refuse(alloc)?;
+    let shown = show_items(alloc, config.items(&[]))?;
+    expect(shown.as_str() == "block return all\n", "the rules")?;
+    expect(table_of(config, "c")?.entry_count() == 1, "one entry")
 }
 
 #[test]
 fn a_refused_command_changes_nothing(rt: HostRuntime) -> Result<(), Fail> {
-    let alloc = rt.alloc();
-    let mut config = Config::new(alloc)?;
-    load(
-        alloc,
-        &mut config,
-        b"table <c> persist const { 10/8 }\nblock return\n",
-    )?;
-    let name = table_name(alloc, "c")?;
-    let list = entries(alloc, &["11/8"])?;
-    let refused = config.add(&[], &name, &list);
-    assert_eq!(rt; refused, Err(ConfigFault::ConstTable));
-    let Err(ParseFault::Refused(refusal)) = parse(
-        alloc,
-        b"block\npass\nbogus\n",
-        Place::Main,
-        Profile::Two,
-    ) else {
-        return Err("the text is accepted".into());
-    };
-    assert_eq!(rt; refusal.cause.code(), 12);
-    assert_eq!(rt; refusal.line, 3);
-    let shown = show_items(alloc, config.items(&[]))?;
-    assert_eq!(rt; shown.as_str(), "block return all\n");
-    let Some(table) = config.table(&[], "c") else {
-        return Err("no table".into());
-    };
-    assert_eq!(rt; table.entry_count(), 1);
-    Ok(())
+    let mut config = Config::new(rt.alloc())?;
+    stay(rt.alloc(), &mut config)
 }
 
 /// 4,096 single addresses.
@@ -143,20 +155,26 @@ fn many(alloc: Global) -> Result<Vec<TableEntry>, Fail> {
     Ok(list)
 }
 
-#[test]
-fn a_table_has_4096_entries_at_most(rt: HostRuntime) -> Result<(), Fail> {
-    let alloc = rt.alloc();
-    let mut config = Config::new(alloc)?;
+/// A table takes 4,096 entries, and no more.
+fn fill(alloc: Global, config: &mut Config) -> Result<(), Fail> {
     let name = table_name(alloc, "t")?;
-    assert!(rt; config.replace(&[], &name, &many(alloc)?).is_ok());
+    expect(
+        config.replace(&[], &name, &many(alloc)?).is_ok(),
+        "4,096 entries",
+    )?;
     let more = entries(alloc, &["11.0.0.1"])?;
     let refused = config.add(&[], &name, &more);
-    assert_eq!(rt; refused, Err(ConfigFault::TableFull));
+    expect(refused == Err(ConfigFault::TableFull), "a full table")?;
     let there = entries(alloc, &["10.0.0.1"])?;
-    assert!(rt; config.add(&[], &name, &there).is_ok());
-    let Some(table) = config.table(&[], "t") else {
-        return Err("no table".into());
-    };
-    assert_eq!(rt; table.entry_count(), 4096);
-    Ok(())
+    expect(config.add(&[], &name, &there).is_ok(), "one that is there")?;
+    expect(
+        table_of(config, "t")?.entry_count() == 4096,
+        "as many entries",
+    )
+}
+
+#[test]
+fn a_table_has_4096_entries_at_most(rt: HostRuntime) -> Result<(), Fail> {
+    let mut config = Config::new(rt.alloc())?;
+    fill(rt.alloc(), &mut config)
 }
