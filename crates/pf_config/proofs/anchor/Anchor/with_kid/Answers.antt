@@ -14,8 +14,7 @@ invariant_of-result c =
     let at : c.args.kid.names ≡ own.names.items ++ c.args.name.now ∷ [] = c.requires.names ∙ ap (λ (t : AnchorTree). t.names ++ c.args.name.now ∷ []) (sym c.self.view_is) in
     let again = kids_again own.names.items c.args.name.now c.args.kid (shared own.kids.items) c.self.invariant.1 at c.requires.below in
     let rules : map rule_of c.in_ok-items.items.value.items ≡ map rule_of own.items.value.items = grind (arith, common_steps) in
-    let order : c.in_ok-order.order.value ≡ own.order.value = grind (arith, common_steps) in
-    (
+    let order : c.in_ok-order.order.value ≡ own.order.value = grind (arith, common_steps) in (
       grind (arith, common_steps),
       subst (λ p. AreKids p (shared c.in_ok-kids.kids.items)) (sym names) (subst (AreKids own.names.items) (sym kids) again),
       subst (λ rs. IsOrder rs c.in_ok-order.order.value.stops.items c.in_ok-order.order.value.others.items) (sym rules) (subst (λ o. IsOrder (map rule_of own.items.value.items) o.stops.items o.others.items) (sym order) c.self.invariant.2),
