@@ -12,9 +12,9 @@ use Rattle.pf_ruleset.specs.declared.parts.PortTest.TheVariants.{Equal, NotEqual
 use Rattle.pf_ruleset.specs.declared.parts.PortTest.TheVariants.{GreaterEqual, FromTo, Between, Outside}
 use Rattle.pf_ruleset.specs.declared.rule.Conditions.{Conditions}
 use Rattle.pf_ruleset.specs.Items.{AnyRule, FilterRule, AnchorRule, conditions_of}
-use Rattle.pf_config.specs.declared.place.Interval.{Interval}
-use Rattle.pf_config.specs.declared.place.Sieve.{Sieve}
-use Rattle.pf_config.specs.declared.place.Place.{Place}
+use Rattle.pf_config.specs.declared.candidate.Interval.{Interval}
+use Rattle.pf_config.specs.declared.candidate.Sieve.{Sieve}
+use Rattle.pf_config.specs.declared.candidate.Candidate.{Candidate}
 
 -- ---- sieves
 
@@ -74,7 +74,7 @@ sieve_of c = record {
   destination_port = port_interval c.destination_port;
 }
 
--- ---- places
+-- ---- candidates
 
 -- the evaluation may end with the rule: a filter rule that is quick, or any anchor rule
 abbrev pub may_stop : AnyRule → Bool
@@ -86,22 +86,23 @@ abbrev pub is_other : AnyRule → Bool
 is_other (FilterRule r) = not r.quick
 is_other (AnchorRule a) = not a.quick
 
-abbrev pub place_at : ℕ → AnyRule → Place
-place_at i rule = record { index = i; sieve = sieve_of (conditions_of rule) }
+abbrev pub candidate_at : ℕ → AnyRule → Candidate
+candidate_at i rule = record { index = i; sieve = sieve_of (conditions_of rule) }
 
--- of rules with the indices from i on, the places of those that pass the test
-abbrev pub places : (AnyRule → Bool) → ℕ → List AnyRule → List Place
-places test i [] = []
-places test i (r ∷ rs) = if test r then place_at i r ∷ places test (i + 1) rs else places test (i + 1) rs
+-- of rules with the indices from i on, those that pass the test
+abbrev pub candidates : (AnyRule → Bool) → ℕ → List AnyRule → List Candidate
+candidates test i [] = []
+candidates test i (r ∷ rs) =
+    if test r then candidate_at i r ∷ candidates test (i + 1) rs else candidates test (i + 1) rs
 
 -- the rules that may end the evaluation, the first one first
-unfoldable pub stops_of : List AnyRule → List Place
-stops_of rules = places may_stop 0 rules
+unfoldable pub stops_of : List AnyRule → List Candidate
+stops_of rules = candidates may_stop 0 rules
 
 -- the rules that aren't quick, the last one first
-unfoldable pub others_of : List AnyRule → List Place
-others_of rules = reverse (places is_other 0 rules)
+unfoldable pub others_of : List AnyRule → List Candidate
+others_of rules = reverse (candidates is_other 0 rules)
 
--- these are the places of the rules
-abbrev pub IsOrder : List AnyRule → (stops others : List Place) → Type 0
+-- the two lists are those of the rules
+abbrev pub IsOrder : List AnyRule → (stops others : List Candidate) → Type 0
 IsOrder rules stops others = (stops ≡ stops_of rules) × (others ≡ others_of rules)

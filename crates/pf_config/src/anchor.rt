@@ -21,9 +21,9 @@ ghost use Rattle.pf_config.specs.inner.KidOrder.{AreInOrder};
 ghost use Rattle.pf_config.specs.inner.Referring.{Gains, KnowsAll};
 ghost use Rattle.pf_config.specs.declared.config.TheConstants.{RULES_MAX};
 
+use crate::candidate::Candidate;
 use crate::order::{Order, order_of};
 use crate::paths::{copied_path, followed_by};
-use crate::place::Place;
 use crate::referred::Referred;
 use crate::tables::{Tables, named};
 use crate::unused::{any_unused, items_refer, used_tables};
@@ -84,18 +84,18 @@ impl Anchor {
         &self.items
     }
 
-    /// The places of the rules at its path that may end an evaluation, which are the quick filter rules and the anchor
-    /// rules: the first one first.
+    /// The rules at its path that may end an evaluation, which are the quick filter rules and the anchor rules: the
+    /// first one first.
     #[tactic(auto, using(crate::proofs::Treed::own_rules))]
-    pub fn stops(&self) -> &[Place]
+    pub fn stops(&self) -> &[Candidate]
         ensures { result.now ≡ stops_of (rules_in (anchor_at self.now.names self.now.anchors)) }
     {
         &self.order.stops
     }
 
-    /// The places of the rules at its path that aren't quick: the last one first.
+    /// The rules at its path that aren't quick: the last one first.
     #[tactic(auto, using(crate::proofs::Treed::own_rules))]
-    pub fn others(&self) -> &[Place]
+    pub fn others(&self) -> &[Candidate]
         ensures { result.now ≡ others_of (rules_in (anchor_at self.now.names self.now.anchors)) }
     {
         &self.order.others

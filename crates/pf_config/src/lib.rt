@@ -5,7 +5,7 @@
 //! - [`Config`]: a skip list, and the anchors from the main ruleset down. Each change is made whole, or refused and
 //!   leaves all as it was.
 //! - [`Anchor`]: what stands at a path and below it.
-//! - [`Place`]: a rule's place in the order in which a verdict walks over rules, with its [`Sieve`].
+//! - [`Candidate`]: a rule as a verdict comes to it, in an order made once at the load: its index, and its [`Sieve`].
 //! - [`parse_path`] reads the path of an anchor.
 //! - [`Table`], of the crate below.
 #![tactic(auto)]
@@ -13,6 +13,7 @@
 mod anchor;
 mod attached;
 mod blocks;
+mod candidate;
 mod changed;
 mod config;
 mod fault;
@@ -20,7 +21,6 @@ mod loading;
 mod order;
 mod path_text;
 mod paths;
-mod place;
 mod placing;
 mod referred;
 mod sieve;
@@ -31,9 +31,9 @@ mod unused;
 mod walk;
 
 pub use anchor::Anchor;
+pub use candidate::{Candidate, Interval, Sieve};
 pub use config::{Config, RULES_MAX};
 pub use fault::ConfigFault;
 pub use path_text::parse_path;
 pub use pf_table::Table;
-pub use place::{Interval, Place, Sieve};
 pub use sieve::front_bits;

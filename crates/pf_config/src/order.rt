@@ -2,24 +2,23 @@
 
 ghost use Rattle.std.specs.Prelude.{◌≡◌, ◌≤◌, IfOk, length, map};
 ghost use Rattle.pf_ruleset.specs.Seen.{rule_of};
-ghost use Rattle.pf_config.specs.Orders.{may_stop, is_other, place_at, stops_of, others_of};
+ghost use Rattle.pf_config.specs.Orders.{may_stop, is_other, candidate_at, stops_of, others_of};
 ghost use Rattle.pf_config.specs.declared.config.TheConstants.{RULES_MAX};
 
-use crate::place::Place;
+use crate::candidate::Candidate;
 use crate::sieve::sieve_of;
 use pf_ruleset::Item;
 use std::alloc::{AllocError, Global};
 
-/// The places of the rules that may end the evaluation, the first one first, and of those that aren't quick, the last
-/// one first.
+/// The rules that may end the evaluation, the first one first, and those that aren't quick, the last one first.
 #[derive(Drop)]
 pub(crate) struct Order {
-    pub(crate) stops: Vec<Place>,
-    pub(crate) others: Vec<Place>,
+    pub(crate) stops: Vec<Candidate>,
+    pub(crate) others: Vec<Candidate>,
 }
 
 /// Whether the evaluation may end with the rule.
-#[tactic(auto, using(crate::proofs::Placed::filter_stops, crate::proofs::Placed::anchor_stops))]
+#[tactic(auto, using(crate::proofs::Candidates::filter_stops, crate::proofs::Candidates::anchor_stops))]
 fn may_stop(item: &Item) -> bool
     ensures { result ≡ may_stop (rule_of item.now) }
 {
@@ -30,7 +29,7 @@ fn may_stop(item: &Item) -> bool
 }
 
 /// Whether the rule isn't quick.
-#[tactic(auto, using(crate::proofs::Placed::filter_other, crate::proofs::Placed::anchor_other))]
+#[tactic(auto, using(crate::proofs::Candidates::filter_other, crate::proofs::Candidates::anchor_other))]
 fn is_other(item: &Item) -> bool
     ensures { result ≡ is_other (rule_of item.now) }
 {
@@ -40,41 +39,41 @@ fn is_other(item: &Item) -> bool
     }
 }
 
-/// The place of the rule with this index.
-fn place_at(index: u32, item: &Item) -> Place
-    ensures { result ≡ place_at index (rule_of item.now) }
+/// The rule with this index, and its sieve.
+fn candidate_at(index: u32, item: &Item) -> Candidate
+    ensures { result ≡ candidate_at index (rule_of item.now) }
 {
-    Place {
+    Candidate {
         index,
         sieve: sieve_of(item.conditions()),
     }
 }
 
-/// The places of the rules that may end the evaluation, the first one first.
+/// The rules that may end the evaluation, the first one first.
 #[tactic(auto, unfolding(crate::specs::Orders::stops_of))]
-fn stops_of(alloc: Global, items: &[Item]) -> Result<Vec<Place>, AllocError>
+fn stops_of(alloc: Global, items: &[Item]) -> Result<Vec<Candidate>, AllocError>
     requires { length items.now ≤ RULES_MAX }
     ensures { IfOk result (λ v. v.items ≡ stops_of (map rule_of items.now)) }
 {
     let mut found = Vec::new(alloc);
     for (index, item) in items.iter().enumerate() {
         if may_stop(item) {
-            found.push(place_at(index as u32, item))?;
+            found.push(candidate_at(index as u32, item))?;
         }
     }
     Ok(found)
 }
 
-/// The places of the rules that aren't quick, the last one first.
+/// The rules that aren't quick, the last one first.
 #[tactic(auto, unfolding(crate::specs::Orders::others_of))]
-fn others_of(alloc: Global, items: &[Item]) -> Result<Vec<Place>, AllocError>
+fn others_of(alloc: Global, items: &[Item]) -> Result<Vec<Candidate>, AllocError>
     requires { length items.now ≤ RULES_MAX }
     ensures { IfOk result (λ v. v.items ≡ others_of (map rule_of items.now)) }
 {
     let mut found = Vec::new(alloc);
     for (index, item) in items.iter().enumerate() {
         if is_other(item) {
-            found.push(place_at(index as u32, item))?;
+            found.push(candidate_at(index as u32, item))?;
         }
     }
     found.reverse();

@@ -5,7 +5,7 @@ pub mod Groups
 pub mod Deciding
 pub mod Walks
 pub mod Sieves
-pub mod Placed
+pub mod Candidates
 pub mod Anchors
 pub mod Spaces
 pub mod PacketSpelled

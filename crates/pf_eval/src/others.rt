@@ -5,7 +5,7 @@ ghost use Rattle.pf_ruleset.specs.Items.{AnchorRule};
 ghost use Rattle.pf_ruleset.specs.Seen.{heading_of, rule_of};
 ghost use Rattle.pf_config.specs.Map.{rules_at};
 ghost use Rattle.pf_config.specs.Trees.{paths_of, shared};
-ghost use Rattle.pf_eval.specs.inner.TwoWalks.{shallow, in_member, called_last, at_place};
+ghost use Rattle.pf_eval.specs.inner.TwoWalks.{shallow, in_member, called_last, candidate_spot};
 ghost use Rattle.pf_eval.specs.inner.TwoWalks.{some_rule, first_some, last_some};
 ghost use Rattle.pf_eval.specs.inner.TwoWalks.{IsAnchorOf, second_walk, last_at, spot_in};
 
@@ -14,7 +14,7 @@ use crate::matching::matches;
 use crate::packet::Packet;
 use crate::scope::scope_at;
 use crate::sieving::{key_of, passes};
-use pf_config::{Anchor, Config, Place};
+use pf_config::{Anchor, Candidate, Config};
 use pf_ruleset::{AnchorHeading, Item};
 use std::rc::Rc;
 
@@ -23,7 +23,7 @@ pub(crate) const DEEPEST: usize = 8;
 
 /// The last hit in an anchor of rules that aren't quick, where anchor rules nest less deep than this.
 #[cycle(others)]
-#[tactic(auto, using(crate::proofs::Walks::second_none, crate::proofs::Placed::others_are_last))]
+#[tactic(auto, using(crate::proofs::Walks::second_none, crate::proofs::Candidates::others_are_last))]
 pub(crate) fn last_other<'c>(
     config: &'c Config,
     anchor: &'c Anchor,
@@ -36,29 +36,29 @@ pub(crate) fn last_other<'c>(
     if depth == 0 {
         return None;
     }
-    of_places(config, anchor, packet, anchor.others(), depth - 1)
+    of_candidates(config, anchor, packet, anchor.others(), depth - 1)
 }
 
-/// The first hit of the rules at these places, the last rule first. A rule whose sieve doesn't let the packet pass isn't
+/// The first hit of these rules, of which the last stands first. A rule whose sieve doesn't let the packet pass isn't
 /// looked at.
 #[cycle(others)]
-fn of_places<'c>(
+fn of_candidates<'c>(
     config: &'c Config,
     anchor: &'c Anchor,
     packet: &Packet,
-    places: &[Place],
+    candidates: &[Candidate],
     depth: u8,
 ) -> Option<Hit<'c>>
     requires { IsAnchorOf config.now anchor.now }
-    ensures { spot_in result ≡ first_some (at_place (last_at depth config.now packet.now anchor.now.names)
-        (rules_at config.now anchor.now.names) packet.now) places.now }
+    ensures { spot_in result ≡ first_some (candidate_spot (last_at depth config.now packet.now anchor.now.names)
+        (rules_at config.now anchor.now.names) packet.now) candidates.now }
 {
     let key = key_of(packet);
-    for place in places {
-        if !passes(&place.sieve, &key) {
+    for candidate in candidates {
+        if !passes(&candidate.sieve, &key) {
             continue;
         }
-        if let Some(hit) = of_index(config, anchor, packet, place.index, depth) {
+        if let Some(hit) = of_index(config, anchor, packet, candidate.index, depth) {
             return Some(hit);
         }
     }
@@ -68,7 +68,7 @@ fn of_places<'c>(
 /// The last hit of the rule with this index, none if it is quick.
 #[cycle(others)]
 #[inline(never)]
-#[tactic(auto, using(crate::proofs::Anchors::own_rules, crate::proofs::Placed::no_rule))]
+#[tactic(auto, using(crate::proofs::Anchors::own_rules, crate::proofs::Candidates::no_rule))]
 fn of_index<'c>(
     config: &'c Config,
     anchor: &'c Anchor,

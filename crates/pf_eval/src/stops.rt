@@ -6,7 +6,7 @@ ghost use Rattle.pf_ruleset.specs.Seen.{heading_of, rule_of};
 ghost use Rattle.pf_config.specs.Map.{rules_at};
 ghost use Rattle.pf_config.specs.Trees.{paths_of, shared};
 ghost use Rattle.pf_eval.specs.inner.TwoWalks.{shallow, in_member, called_stop, called_last, ending};
-ghost use Rattle.pf_eval.specs.inner.TwoWalks.{at_place, some_rule, first_some};
+ghost use Rattle.pf_eval.specs.inner.TwoWalks.{candidate_spot, some_rule, first_some};
 ghost use Rattle.pf_eval.specs.inner.TwoWalks.{IsAnchorOf, first_walk, second_walk, stop_at, spot_in};
 
 use crate::hit::{Hit, quick_hit};
@@ -15,13 +15,13 @@ use crate::others::{DEEPEST, last_called};
 use crate::packet::Packet;
 use crate::scope::scope_at;
 use crate::sieving::{key_of, passes};
-use pf_config::{Anchor, Config, Place};
+use pf_config::{Anchor, Candidate, Config};
 use pf_ruleset::{AnchorHeading, Item};
 use std::rc::Rc;
 
 /// The first hit in an anchor that ends the evaluation, where anchor rules nest less deep than this.
 #[cycle(stops)]
-#[tactic(auto, using(crate::proofs::Walks::first_none, crate::proofs::Placed::stops_are_first))]
+#[tactic(auto, using(crate::proofs::Walks::first_none, crate::proofs::Candidates::stops_are_first))]
 pub(crate) fn first_stop<'c>(
     config: &'c Config,
     anchor: &'c Anchor,
@@ -34,29 +34,28 @@ pub(crate) fn first_stop<'c>(
     if depth == 0 {
         return None;
     }
-    of_places(config, anchor, packet, anchor.stops(), depth - 1)
+    of_candidates(config, anchor, packet, anchor.stops(), depth - 1)
 }
 
-/// The first of the rules at these places that ends the evaluation. A rule whose sieve doesn't let the packet pass isn't
-/// looked at.
+/// The first of these rules that ends the evaluation. A rule whose sieve doesn't let the packet pass isn't looked at.
 #[cycle(stops)]
-fn of_places<'c>(
+fn of_candidates<'c>(
     config: &'c Config,
     anchor: &'c Anchor,
     packet: &Packet,
-    places: &[Place],
+    candidates: &[Candidate],
     depth: u8,
 ) -> Option<Hit<'c>>
     requires { IsAnchorOf config.now anchor.now }
-    ensures { spot_in result ≡ first_some (at_place (stop_at depth config.now packet.now anchor.now.names)
-        (rules_at config.now anchor.now.names) packet.now) places.now }
+    ensures { spot_in result ≡ first_some (candidate_spot (stop_at depth config.now packet.now anchor.now.names)
+        (rules_at config.now anchor.now.names) packet.now) candidates.now }
 {
     let key = key_of(packet);
-    for place in places {
-        if !passes(&place.sieve, &key) {
+    for candidate in candidates {
+        if !passes(&candidate.sieve, &key) {
             continue;
         }
-        if let Some(hit) = of_index(config, anchor, packet, place.index, depth) {
+        if let Some(hit) = of_index(config, anchor, packet, candidate.index, depth) {
             return Some(hit);
         }
     }
@@ -66,7 +65,7 @@ fn of_places<'c>(
 /// The hit by which the rule with this index ends the evaluation.
 #[cycle(stops)]
 #[inline(never)]
-#[tactic(auto, using(crate::proofs::Anchors::own_rules, crate::proofs::Placed::no_rule))]
+#[tactic(auto, using(crate::proofs::Anchors::own_rules, crate::proofs::Candidates::no_rule))]
 fn of_index<'c>(
     config: &'c Config,
     anchor: &'c Anchor,

@@ -1,7 +1,7 @@
 -- Which packets the sieve of a rule lets pass.
 use Rattle.std.specs.Prelude.{ℕ, ◌+◌, ◌-◌, ◌%◌, ◌==◌, ◌&&◌, Bool, Option, Some, None, nat_le, min}
-use Rattle.pf_config.specs.declared.place.Interval.{Interval}
-use Rattle.pf_config.specs.declared.place.Sieve.{Sieve}
+use Rattle.pf_config.specs.declared.candidate.Interval.{Interval}
+use Rattle.pf_config.specs.declared.candidate.Sieve.{Sieve}
 use Rattle.pf_config.specs.Orders.{front_bits}
 use Rattle.pf_eval.specs.declared.key.Key.{Key}
 use Rattle.pf_eval.specs.Packets.{PacketValue}

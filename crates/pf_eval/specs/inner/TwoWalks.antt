@@ -6,7 +6,7 @@ use Rattle.pf_ruleset.specs.Names.{begins_below}
 use Rattle.pf_ruleset.specs.Items.{AnyRule, FilterRule, AnchorRule, Target}
 use Rattle.pf_config.specs.Map.{Configuration, Path, rules_at, kids, followed_by, or_else}
 use Rattle.pf_config.specs.Trees.{AnchorTree, anchor_in, last_name}
-use Rattle.pf_config.specs.declared.place.Place.{Place}
+use Rattle.pf_config.specs.declared.candidate.Candidate.{Candidate}
 use Rattle.pf_eval.specs.declared.hit.Hit as code
 use Rattle.pf_eval.specs.Packets.{PacketValue}
 use Rattle.pf_eval.specs.Matching.{Tables, matches}
@@ -50,10 +50,10 @@ abbrev pub some_rule : (AnyRule → Option Spot) → Option AnyRule → Option S
 some_rule f None = None
 some_rule f (Some rule) = f rule
 
--- what the rule at a place comes to: to nothing where its sieve doesn't let the packet pass
-abbrev pub at_place : (ℕ → AnyRule → Option Spot) → List AnyRule → PacketValue → Place → Option Spot
-at_place f rules k place =
-    if passes place.sieve (key_of k) then some_rule (f place.index) (slice_get rules place.index) else None
+-- what a candidate comes to: to nothing where its sieve doesn't let the packet pass
+abbrev pub candidate_spot : (ℕ → AnyRule → Option Spot) → List AnyRule → PacketValue → Candidate → Option Spot
+candidate_spot f rules k candidate =
+    if passes candidate.sieve (key_of k) then some_rule (f candidate.index) (slice_get rules candidate.index) else None
 
 -- the spot of a filter rule that matches
 abbrev pub rule_spot : Tables → PacketValue → Path → ℕ → Rule → Option Spot

@@ -1,7 +1,7 @@
 use Rattle.std.proofs.Common.{arith}
 use Rattle.pf_eval.specs.inner.TwoWalks.{in_member, second_walk, last_at, hit_of}
 use Rattle.pf_eval.proofs.Anchors.{own_rules}
-use Rattle.pf_eval.proofs.Placed.{some_item}
+use Rattle.pf_eval.proofs.Candidates.{some_item}
 use Rattle.pf_eval.proofs.Walks.{kid_back}
 use Rattle.pf_eval.proofs.others.+others.Goals as goal
 

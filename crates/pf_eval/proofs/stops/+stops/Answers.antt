@@ -3,7 +3,7 @@ use Rattle.pf_eval.specs.Matching.{matches}
 use Rattle.pf_eval.specs.Verdicts.{tables_in}
 use Rattle.pf_eval.specs.inner.TwoWalks.{stop_at}
 use Rattle.pf_eval.proofs.Anchors.{ending_below, own_rules}
-use Rattle.pf_eval.proofs.Placed.{some_item}
+use Rattle.pf_eval.proofs.Candidates.{some_item}
 use Rattle.pf_eval.proofs.stops.+stops.Goals as goal
 
 pub within-returns : goal.within-returns

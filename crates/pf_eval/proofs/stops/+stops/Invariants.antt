@@ -1,7 +1,7 @@
 use Rattle.std.proofs.Common.{◌≡◌, drop, ◌+◌, ◌*◌}
 use Rattle.pf_config.specs.Map.{rules_at}
 use Rattle.pf_config.specs.Trees.{paths_of, shared}
-use Rattle.pf_eval.specs.inner.TwoWalks.{in_member, at_place, first_some, first_walk, stop_at, IsAnchorOf}
+use Rattle.pf_eval.specs.inner.TwoWalks.{in_member, candidate_spot, first_some, first_walk, stop_at, IsAnchorOf}
 use Rattle.pf_eval.specs.inner.Sieves.{key_of}
 use Rattle.pf_eval.proofs.stops.+stops.Given as goal
 
@@ -32,13 +32,13 @@ decreases-of_item l = 11 * l.depth + 7
 abbrev pub decreases-of_index : goal.decreases-of_index
 decreases-of_index l = 11 * l.depth + 8
 
-abbrev pub decreases-of_places : goal.decreases-of_places
-decreases-of_places l = 11 * l.depth + 9
+abbrev pub decreases-of_candidates : goal.decreases-of_candidates
+decreases-of_candidates l = 11 * l.depth + 9
 
--- the first stop is among the rules at the places that are left
-abbrev pub invariant-of_places-loop-place : goal.invariant-of_places-loop-place
-invariant-of_places-loop-place l = record {
-  rest : first_some (at_place (stop_at l.depth l.config l.packet l.anchor.names) (rules_at l.config l.anchor.names) l.packet) (drop l.place-index l.places) ≡ first_some (at_place (stop_at l.depth l.config l.packet l.anchor.names) (rules_at l.config l.anchor.names) l.packet) l.places;
+-- the first stop is among the candidates that are left
+abbrev pub invariant-of_candidates-loop-candidate : goal.invariant-of_candidates-loop-candidate
+invariant-of_candidates-loop-candidate l = record {
+  rest : first_some (candidate_spot (stop_at l.depth l.config l.packet l.anchor.names) (rules_at l.config l.anchor.names) l.packet) (drop l.candidate-index l.candidates) ≡ first_some (candidate_spot (stop_at l.depth l.config l.packet l.anchor.names) (rules_at l.config l.anchor.names) l.packet) l.candidates;
   at : IsAnchorOf l.config l.anchor;
   key : l.key ≡ key_of l.packet;
 }

@@ -1,11 +1,11 @@
--- The walks over places come to what walks over all rules come to.
+-- The walks over candidates come to what walks over all rules come to.
 use Rattle.std.proofs.Common.{◌≡◌, ℕ, ◌+◌, ◌-◌, ◌<◌, ◌≤◌, zero, suc, length, get_or, Bool, true, false, List, [], ◌∷◌, ◌++◌, map, reverse, Option, Some, None, refl, sym, subst, ap, ◌∙◌, arith}
 use Rattle.std.proofs.lemmas.List.{reverse-append}
 use Rattle.std.specs.Prelude.{not, slice_get, if◌then◌else◌}
 use Rattle.pf_config.specs.Map.{Configuration, Path, or_else, rules_at, rules_in, anchor_at}
 use Rattle.pf_config.specs.Trees.{AnchorTree}
-use Rattle.pf_config.specs.declared.place.Place.{Place}
-use Rattle.pf_config.specs.Orders.{may_stop, is_other, place_at, places, sieve_of, stops_of, others_of}
+use Rattle.pf_config.specs.declared.candidate.Candidate.{Candidate}
+use Rattle.pf_config.specs.Orders.{may_stop, is_other, candidate_at, candidates, sieve_of, stops_of, others_of}
 use Rattle.pf_ruleset.specs.Items.{AnyRule, FilterRule, AnchorRule, Target, conditions_of}
 use Rattle.pf_ruleset.specs.declared.item.Item.{Item}
 use Rattle.pf_ruleset.specs.Seen.{rule_of}
@@ -13,7 +13,7 @@ use Rattle.pf_eval.specs.Packets.{PacketValue}
 use Rattle.pf_eval.specs.Matching.{Tables, matches}
 use Rattle.pf_eval.specs.Verdicts.{Spot, tables_in}
 use Rattle.pf_eval.specs.inner.Sieves.{key_of, passes}
-use Rattle.pf_eval.specs.inner.TwoWalks.{first_some, last_some, first_rule, last_rule, some_rule, at_place, ending, rule_stop, rule_last}
+use Rattle.pf_eval.specs.inner.TwoWalks.{first_some, last_some, first_rule, last_rule, some_rule, candidate_spot, ending, rule_stop, rule_last}
 use Rattle.pf_eval.specs.inner.TwoWalks.{first_walk, second_walk, stop_at, last_at, target_stop, target_last, IsAnchorOf}
 use Rattle.pf_eval.proofs.Anchors.{own_rules}
 use Rattle.pf_eval.proofs.Sieves.{not_matched}
@@ -72,10 +72,10 @@ last_quiet t last k p i (AnchorRule a) = (
   λ e. ap (λ m. if a.quick then none else (if m then last a.target else none)) (not_matched t a.conditions k e) ∙ elim (a.quick) as (λ v. (if v then none else none) ≡ none) [ true ↦ refl | false ↦ refl ],
 )
 
--- ---- over places
+-- ---- over candidates
 
-one_place : (test : AnyRule → Bool) (f : ℕ → AnyRule → Option Spot) (k : PacketValue) (whole : List AnyRule) (i : ℕ) (r : AnyRule) → IsQuiet test k f → slice_get whole i ≡ Some r → at_place f whole k (place_at i r) ≡ f i r
-one_place test f k whole i r quiet here =
+one_candidate : (test : AnyRule → Bool) (f : ℕ → AnyRule → Option Spot) (k : PacketValue) (whole : List AnyRule) (i : ℕ) (r : AnyRule) → IsQuiet test k f → slice_get whole i ≡ Some r → candidate_spot f whole k (candidate_at i r) ≡ f i r
+one_candidate test f k whole i r quiet here =
     (elim (passes (sieve_of (conditions_of r)) (key_of k)) as (λ b. passes (sieve_of (conditions_of r)) (key_of k) ≡ b → (if b then some_rule (f i) (slice_get whole i) else none) ≡ f i r) [
       | true ↦ λ e. ap (some_rule (f i)) here
       | false ↦ λ e. sym ((quiet i r).1 e)
@@ -95,13 +95,13 @@ rest_all : (whole : List AnyRule) → IsRest whole 0 whole
 rest_all whole j = let e : j + 0 ≡ j = omega arith in ap (slice_get whole) e
 
 first_from : (test : AnyRule → Bool) (f : ℕ → AnyRule → Option Spot) (k : PacketValue) (whole : List AnyRule) (i : ℕ) (rs : List AnyRule) → IsQuiet test k f → IsRest whole i rs →
-    first_some (at_place f whole k) (places test i rs) ≡ first_rule f i rs
+    first_some (candidate_spot f whole k) (candidates test i rs) ≡ first_rule f i rs
 first_from test f k whole i [] quiet rest = refl
 first_from test f k whole i (r ∷ rs) quiet rest =
     let more = first_from test f k whole (i + 1) rs quiet (rest_next whole i r rs rest) in
-    let here = one_place test f k whole i r quiet (rest_here whole i r rs rest) in
-    (elim (test r) as (λ b. test r ≡ b → first_some (at_place f whole k) (if b then place_at i r ∷ places test (i + 1) rs else places test (i + 1) rs) ≡ or_else (f i r) (first_rule f (i + 1) rs)) [
-      | true ↦ λ e. ap (λ o. or_else o (first_some (at_place f whole k) (places test (i + 1) rs))) here ∙ ap (or_else (f i r)) more
+    let here = one_candidate test f k whole i r quiet (rest_here whole i r rs rest) in
+    (elim (test r) as (λ b. test r ≡ b → first_some (candidate_spot f whole k) (if b then candidate_at i r ∷ candidates test (i + 1) rs else candidates test (i + 1) rs) ≡ or_else (f i r) (first_rule f (i + 1) rs)) [
+      | true ↦ λ e. ap (λ o. or_else o (first_some (candidate_spot f whole k) (candidates test (i + 1) rs))) here ∙ ap (or_else (f i r)) more
       | false ↦ λ e. more ∙ ap (λ o. or_else o (first_rule f (i + 1) rs)) (sym ((quiet i r).0 e))
     ]) refl
 
@@ -114,41 +114,41 @@ or_assoc None b d = refl
 or_assoc (Some x) b d = refl
 
 last_from : (test : AnyRule → Bool) (f : ℕ → AnyRule → Option Spot) (k : PacketValue) (whole : List AnyRule) (i : ℕ) (rs : List AnyRule) → IsQuiet test k f → IsRest whole i rs →
-    last_some (at_place f whole k) (places test i rs) ≡ last_rule f i rs
+    last_some (candidate_spot f whole k) (candidates test i rs) ≡ last_rule f i rs
 last_from test f k whole i [] quiet rest = refl
 last_from test f k whole i (r ∷ rs) quiet rest =
     let more = last_from test f k whole (i + 1) rs quiet (rest_next whole i r rs rest) in
-    let here = one_place test f k whole i r quiet (rest_here whole i r rs rest) in
-    (elim (test r) as (λ b. test r ≡ b → last_some (at_place f whole k) (if b then place_at i r ∷ places test (i + 1) rs else places test (i + 1) rs) ≡ or_else (last_rule f (i + 1) rs) (f i r)) [
-      | true ↦ λ e. ap (or_else (last_some (at_place f whole k) (places test (i + 1) rs))) here ∙ ap (λ o. or_else o (f i r)) more
+    let here = one_candidate test f k whole i r quiet (rest_here whole i r rs rest) in
+    (elim (test r) as (λ b. test r ≡ b → last_some (candidate_spot f whole k) (if b then candidate_at i r ∷ candidates test (i + 1) rs else candidates test (i + 1) rs) ≡ or_else (last_rule f (i + 1) rs) (f i r)) [
+      | true ↦ λ e. ap (or_else (last_some (candidate_spot f whole k) (candidates test (i + 1) rs))) here ∙ ap (λ o. or_else o (f i r)) more
       | false ↦ λ e. more ∙ sym (or_none (last_rule f (i + 1) rs)) ∙ ap (or_else (last_rule f (i + 1) rs)) (sym ((quiet i r).0 e))
     ]) refl
 
-first_append : (g : Place → Option Spot) (xs ys : List Place) → first_some g (xs ++ ys) ≡ or_else (first_some g xs) (first_some g ys)
+first_append : (g : Candidate → Option Spot) (xs ys : List Candidate) → first_some g (xs ++ ys) ≡ or_else (first_some g xs) (first_some g ys)
 first_append g [] ys = refl
 first_append g (x ∷ xs) ys = ap (or_else (g x)) (first_append g xs ys) ∙ sym (or_assoc (g x) (first_some g xs) (first_some g ys))
 
 -- the first from the front of the turned list is the first from the back
-first_turned : (g : Place → Option Spot) (xs : List Place) → first_some g (reverse xs) ≡ last_some g xs
+first_turned : (g : Candidate → Option Spot) (xs : List Candidate) → first_some g (reverse xs) ≡ last_some g xs
 first_turned g [] = refl
 first_turned g (x ∷ xs) =
     ap (first_some g) (reverse-append (x ∷ []) xs) ∙ first_append g (reverse xs) (x ∷ []) ∙ ap (or_else (first_some g (reverse xs))) (or_none (g x)) ∙ ap (λ o. or_else o (g x)) (first_turned g xs)
 
 -- ---- the walks
 
-pub stops_are_first : (depth : ℕ) (c : Configuration) (k : PacketValue) (t : AnchorTree) (found : List Place) → IsAnchorOf c t → 0 < depth → found ≡ stops_of (rules_in (anchor_at t.names t.anchors)) →
-    first_some (at_place (stop_at (depth - 1) c k t.names) (rules_at c t.names) k) found ≡ first_walk depth c k t.names
+pub stops_are_first : (depth : ℕ) (c : Configuration) (k : PacketValue) (t : AnchorTree) (found : List Candidate) → IsAnchorOf c t → 0 < depth → found ≡ stops_of (rules_in (anchor_at t.names t.anchors)) →
+    first_some (candidate_spot (stop_at (depth - 1) c k t.names) (rules_at c t.names) k) found ≡ first_walk depth c k t.names
 unfolding stops_of
 stops_are_first depth c k t found at some is =
-    ap (first_some (at_place (stop_at (depth - 1) c k t.names) (rules_at c t.names) k)) (is ∙ ap (places may_stop 0) (own_rules c t at)) ∙
+    ap (first_some (candidate_spot (stop_at (depth - 1) c k t.names) (rules_at c t.names) k)) (is ∙ ap (candidates may_stop 0) (own_rules c t at)) ∙
     first_from may_stop (stop_at (depth - 1) c k t.names) k (rules_at c t.names) 0 (rules_at c t.names) (stop_quiet (tables_in c t.names) (target_stop (first_walk (depth - 1) c k) c t.names) (target_last (second_walk (depth - 1) c k) c t.names) k t.names) (rest_all (rules_at c t.names)) ∙
     sym (first_at depth c k t.names some)
 
-pub others_are_last : (depth : ℕ) (c : Configuration) (k : PacketValue) (t : AnchorTree) (found : List Place) → IsAnchorOf c t → 0 < depth → found ≡ others_of (rules_in (anchor_at t.names t.anchors)) →
-    first_some (at_place (last_at (depth - 1) c k t.names) (rules_at c t.names) k) found ≡ second_walk depth c k t.names
+pub others_are_last : (depth : ℕ) (c : Configuration) (k : PacketValue) (t : AnchorTree) (found : List Candidate) → IsAnchorOf c t → 0 < depth → found ≡ others_of (rules_in (anchor_at t.names t.anchors)) →
+    first_some (candidate_spot (last_at (depth - 1) c k t.names) (rules_at c t.names) k) found ≡ second_walk depth c k t.names
 unfolding others_of
 others_are_last depth c k t found at some is =
-    ap (first_some (at_place (last_at (depth - 1) c k t.names) (rules_at c t.names) k)) (is ∙ ap (λ rs. reverse (places is_other 0 rs)) (own_rules c t at)) ∙
-    first_turned (at_place (last_at (depth - 1) c k t.names) (rules_at c t.names) k) (places is_other 0 (rules_at c t.names)) ∙
+    ap (first_some (candidate_spot (last_at (depth - 1) c k t.names) (rules_at c t.names) k)) (is ∙ ap (λ rs. reverse (candidates is_other 0 rs)) (own_rules c t at)) ∙
+    first_turned (candidate_spot (last_at (depth - 1) c k t.names) (rules_at c t.names) k) (candidates is_other 0 (rules_at c t.names)) ∙
     last_from is_other (last_at (depth - 1) c k t.names) k (rules_at c t.names) 0 (rules_at c t.names) (last_quiet (tables_in c t.names) (target_last (second_walk (depth - 1) c k) c t.names) k t.names) (rest_all (rules_at c t.names)) ∙
     sym (second_at depth c k t.names some)

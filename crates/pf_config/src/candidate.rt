@@ -1,4 +1,4 @@
-//! A rule's place among the rules of a path, and what few compares tell of its conditions.
+//! A rule as a verdict comes to it: its index, and what few compares tell of its conditions.
 
 use pf_addr::Family;
 use pf_ruleset::Direction;
@@ -25,9 +25,9 @@ pub struct Sieve {
     pub destination_port: Interval,
 }
 
-/// A rule's place among the rules of a path, from 0 on, and its sieve.
+/// A rule that may match: its index among the rules of its path, from 0 on, and its sieve.
 #[derive(Clone, Copy, Debug)]
-pub struct Place {
+pub struct Candidate {
     pub index: u32,
     pub sieve: Sieve,
 }
