@@ -14,6 +14,7 @@ mod attached;
 mod blocks;
 mod changed;
 mod config;
+mod depths;
 mod fault;
 mod loading;
 mod path_text;
