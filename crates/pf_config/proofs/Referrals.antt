@@ -1,19 +1,38 @@
 -- The names of tables that rules refer to, gathered.
-use Rattle.std.proofs.Common.{◌≡◌, ℕ, ◌||◌, Bool, true, false, cond, List, [], ◌∷◌, refl, sym, subst, ap, ◌∙◌}
+use Rattle.std.proofs.Common.{◌≡◌, ℕ, ◌||◌, Bool, true, false, cond, List, [], ◌∷◌, Ordering, refl, sym, subst, ap, ◌∙◌}
 use Rattle.std.specs.List.{list_any}
 use Rattle.std.specs.Str.{bytes_eq}
 use Rattle.std.specs.Global.{Vec}
 use Rattle.std.specs.Ordering.{nat_cmp, is_eq}
+use Rattle.std.specs.Set.{KeepsOthers}
 use Rattle.std.specs.Cmp.Lexicographic.{slice_cmp}
 use Rattle.std.specs.BTreeSet.{BTreeSet, UpdatesBy, Updates, contains_by}
-use Rattle.std.proofs.lemmas.Cmp.{nat_list_eq_equiv}
+use Rattle.std.proofs.lemmas.Cmp.{eq_by_cmp_equiv, nat_list_cmp_total, nat_list_eq_equiv}
+use Rattle.std.proofs.lemmas.Slice.Eq.{bytes_eq-Decides}
 use Rattle.std.proofs.lemmas.Map.Text.{is_eq-slice_cmp}
 use Rattle.pf_ruleset.specs.Names.{Name}
 use Rattle.pf_config.specs.SkippedNames.{is_listed}
 use Rattle.pf_config.specs.inner.Referring.{names_in, Gains, AreJust}
-use Rattle.pf_config.proofs.SkippedNames.{has_after, by_bytes}
 
 -- ---- the set
+
+abbrev by_bytes : Vec ℕ → Vec ℕ → Ordering
+by_bytes x y = slice_cmp nat_cmp x.items y.items
+
+abbrev has : BTreeSet (Vec ℕ) → List ℕ → Bool
+has known name = contains_by (λ (k : Vec ℕ). slice_cmp nat_cmp name k.items) known
+
+apart : (bs cs ks : List ℕ) → bytes_eq bs cs ≡ false → is_eq (slice_cmp nat_cmp bs ks) ≡ true → is_eq (slice_cmp nat_cmp cs ks) ≡ false
+apart bs cs ks n y = is_eq-slice_cmp cs ks ∙ nat_list_eq_equiv.symm cs ks ∙ sym (nat_list_eq_equiv.congr bs ks cs (sym (is_eq-slice_cmp bs ks) ∙ y)) ∙ n
+
+-- what is found of each name where one is put in
+has_after : (m n : BTreeSet (Vec ℕ)) (bs : List ℕ) → UpdatesBy by_bytes (λ (k : Vec ℕ). slice_cmp nat_cmp bs k.items) m n true → (cs : List ℕ) → has n cs ≡ cond (bytes_eq bs cs) true (has m cs)
+unfolding KeepsOthers
+has_after m n bs h cs = cases (bytes_eq bs cs) refl
+  where
+    cases : (b : Bool) → bytes_eq bs cs ≡ b → has n cs ≡ cond b true (has m cs)
+    cases true e = ap (λ (name : List ℕ). has n name) (sym ((bytes_eq-Decides bs cs).0 e)) ∙ h.1
+    cases false e = h.3 _ (λ x y. (eq_by_cmp_equiv nat_list_cmp_total).congr cs x.items y.items) (λ k. apart bs cs k.items e)
 
 -- what is found of a name among the keys
 pub found_is : (n : Name) (m : BTreeSet (Vec ℕ)) → contains_by (λ (k : Vec ℕ). slice_cmp nat_cmp n k.items) m ≡ is_listed n (names_in m.keys)

@@ -1,53 +1,131 @@
--- The set of the names of skipped interfaces, with one name more.
-use Rattle.std.proofs.Common.{◌≡◌, ℕ, ◌+◌, ◌<◌, ◌||◌, Bool, true, false, cond, List, [], ◌∷◌, ◌++◌, length, take, get_or, refl, sym, ap, subst, ◌∙◌}
-use Rattle.std.specs.Prelude.{bytes_eq}
-use Rattle.std.specs.Global.{Vec}
-use Rattle.std.specs.Ordering.{nat_cmp, is_eq}
-use Rattle.std.specs.declared.cmp.Ordering.{Ordering}
+-- The names of skipped interfaces in byte order, and how one of them is found.
+use Rattle.std.proofs.Common.{◌≡◌, ℕ, suc, add-one, ◌+◌, ◌<◌, ◌≤◌, ◌&&◌, ◌||◌, Bool, true, false, List, [], ◌∷◌, ◌++◌, length, take, drop, take-append-drop, get_or, refl, sym, ap, subst, ◌∙◌, arith}
+use Rattle.std.specs.declared.cmp.Ordering.TheVariants.{Less, Equal, Greater}
+use Rattle.std.specs.Prelude.{not}
+use Rattle.std.specs.List.{list_all}
+use Rattle.std.specs.List.Sorted.{IsPermutation, IsSortedBy}
+use Rattle.std.specs.Str.{bytes_eq}
+use Rattle.std.specs.Ordering.{nat_cmp, is_eq, is_lt, ordering_reverse}
+use Rattle.std.specs.Cmp.{IsStrictWeakOrder}
 use Rattle.std.specs.Cmp.Lexicographic.{slice_cmp}
-use Rattle.std.specs.Set.{KeepsOthers}
-use Rattle.std.specs.BTreeSet.{BTreeSet, UpdatesBy, Updates, contains_by}
-use Rattle.std.proofs.lemmas.Cmp.{eq_by_cmp_equiv, nat_list_cmp_total, nat_list_eq_equiv}
-use Rattle.std.proofs.lemmas.List.{take_more}
+use Rattle.std.proofs.lemmas.Cmp.{nat_list_cmp_total}
 use Rattle.std.proofs.lemmas.List.Folds.{list_any-append}
+use Rattle.std.proofs.lemmas.List.Sorted.{list_any-IsPermutation}
+use Rattle.std.proofs.lemmas.List.MinMax.{ranks_by}
 use Rattle.std.proofs.lemmas.Map.Text.{is_eq-slice_cmp}
-use Rattle.std.proofs.lemmas.Slice.Eq.{bytes_eq-Decides}
-use Rattle.pf_ruleset.specs.Names.{Name}
-use Rattle.pf_config.specs.SkippedNames.{AreNames, is_listed}
+use Rattle.pf_ruleset.specs.Names.{Name, is_before}
+use Rattle.pf_config.specs.SkippedNames.{is_listed}
+use Rattle.pf_config.specs.inner.RisingNames.{AreRising, IsIndex}
+use Rattle.pf_config.proofs.Treed.{both_true, before_other, bytes_same, never}
+use Rattle.pf_config.proofs.Ordered.{turned}
 
-abbrev pub by_bytes : Vec ℕ → Vec ℕ → Ordering
-by_bytes x y = slice_cmp nat_cmp x.items y.items
+pub index_none : (rising names : List Name) → rising ≡ [] → names ≡ [] → IsIndex rising names
+index_none rising names h k = rw (h, k) (tt, λ n. refl)
 
-abbrev pub has : BTreeSet (Vec ℕ) → List ℕ → Bool
-has known name = contains_by (λ (k : Vec ℕ). slice_cmp nat_cmp name k.items) known
+-- ---- sorted names
 
-apart : (bs cs ks : List ℕ) → bytes_eq bs cs ≡ false → is_eq (slice_cmp nat_cmp bs ks) ≡ true → is_eq (slice_cmp nat_cmp cs ks) ≡ false
-apart bs cs ks n y = is_eq-slice_cmp cs ks ∙ nat_list_eq_equiv.symm cs ks ∙ sym (nat_list_eq_equiv.congr bs ks cs (sym (is_eq-slice_cmp bs ks) ∙ y)) ∙ n
+pub before_ranks : IsStrictWeakOrder (λ (x y : Name). is_before x y)
+before_ranks = ranks_by nat_list_cmp_total (λ (x : Name). x)
 
--- what is found of each name where one is put in
-pub has_after : (m n : BTreeSet (Vec ℕ)) (bs : List ℕ) → UpdatesBy by_bytes (λ (k : Vec ℕ). slice_cmp nat_cmp bs k.items) m n true → (cs : List ℕ) → has n cs ≡ cond (bytes_eq bs cs) true (has m cs)
-unfolding KeepsOthers
-has_after m n bs h cs = cases (bytes_eq bs cs) refl
+none_lower : (x y : Name) (ns : List Name) → is_before y x ≡ false → list_all (λ (m : Name). not (is_before m y)) ns ≡ true → list_all (λ (m : Name). not (is_before m x)) ns ≡ true
+none_lower x y [] h k = refl
+none_lower x y (n ∷ ns) h k =
+    let both = both_true (not (is_before n y)) (list_all (λ (m : Name). not (is_before m y)) ns) k in
+    rw (before_ranks.chain n y x (not_before (is_before n y) both.0) h) (none_lower x y ns h both.1)
   where
-    cases : (b : Bool) → bytes_eq bs cs ≡ b → has n cs ≡ cond b true (has m cs)
-    cases true e = ap (λ (name : List ℕ). has n name) (sym ((bytes_eq-Decides bs cs).0 e)) ∙ h.1
-    cases false e = h.3 _ (λ x y. (eq_by_cmp_equiv nat_list_cmp_total).congr cs x.items y.items) (λ k. apart bs cs k.items e)
+    not_before : (b : Bool) → not b ≡ true → b ≡ false
+    not_before true e = cc
+    not_before false e = refl
 
-pub names_none : (m : BTreeSet (Vec ℕ)) → m.keys ≡ [] → AreNames m []
-names_none m e = λ name. rw e refl
+rising_each : (ns : List Name) → ((k : ℕ) (d : Name) → suc k < length ns → is_before (get_or ns (suc k) d) (get_or ns k d) ≡ false) → AreRising ns
+rising_each [] h = tt
+rising_each (x ∷ []) h = (refl, tt)
+rising_each (x ∷ y ∷ ns) h =
+    let rest = rising_each (y ∷ ns) (λ k d p. h (suc k) d (omega (arith, p))) in
+    let first : is_before y x ≡ false = h 0 x (omega arith) in
+    (rw first (none_lower x y ns first rest.0), rest)
 
-names_more : (names : List Name) (n : Name) (m k : BTreeSet (Vec ℕ)) (key : Vec ℕ) → key.items ≡ n → Updates by_bytes m k key true → AreNames m names → AreNames k (names ++ n ∷ [])
-names_more names n m k key same set are = λ q. has_after m k n (subst (λ (bs : List ℕ). UpdatesBy by_bytes (λ (x : Vec ℕ). slice_cmp nat_cmp bs x.items) m k true) same set) q
-    ∙ ap (λ (b : Bool). cond (bytes_eq n q) true b) (are q) ∙ cases (bytes_eq n q) (is_listed q names)
-    ∙ sym (list_any-append (λ (x : Name). bytes_eq x q) names (n ∷ []))
+pub rising_sorted : (ns : List Name) → IsSortedBy (λ (x y : Name). is_before x y) ns → AreRising ns
+rising_sorted ns h = rising_each ns (λ k d p. subst (λ j. is_before (get_or ns j d) (get_or ns k d) ≡ false) (add-one k) (h k d (omega arith) (omega (arith, p))))
+
+pub index_sorted : (names old new : List Name) → old ≡ names → IsPermutation old new → AreRising new → IsIndex new names
+index_sorted names old new e moved up = (up, λ n. sym (list_any-IsPermutation (λ (m : Name). bytes_eq m n) old new moved) ∙ ap (is_listed n) e)
+
+-- ---- a name is looked for by halves
+
+not_true : (b : Bool) → not b ≡ true → b ≡ false
+not_true true e = cc
+not_true false e = refl
+
+or_true : (b c : Bool) → (b || (true || c)) ≡ true
+or_true true c = refl
+or_true false c = refl
+
+-- a name with another order to m is another name
+other_front : (x m n : Name) → is_before m x ≡ false → is_before m n ≡ true → bytes_eq x n ≡ false
+other_front x m n h k = (elim (bytes_eq x n) as (λ b. bytes_eq x n ≡ b → b ≡ false) [
+  | true ↦ λ e. (let bad : true ≡ false = sym k ∙ subst (λ (z : Name). is_before m z ≡ false) (bytes_same x n e) h in bad)
+  | false ↦ λ e. refl
+]) refl
+
+other_behind : (y m n : Name) → is_before y m ≡ false → is_before n m ≡ true → bytes_eq y n ≡ false
+other_behind y m n h k = (elim (bytes_eq y n) as (λ b. bytes_eq y n ≡ b → b ≡ false) [
+  | true ↦ λ e. (let bad : true ≡ false = sym k ∙ subst (λ (z : Name). is_before z m ≡ false) (bytes_same y n e) h in bad)
+  | false ↦ λ e. refl
+]) refl
+
+none_front : (n m : Name) (ns behind : List Name) → AreRising (ns ++ m ∷ behind) → is_before m n ≡ true → is_listed n ns ≡ false
+none_front n m [] behind s h = refl
+none_front n m (x ∷ ns) behind s h = rw (other_front x m n (at_end ns s.0) h) (none_front n m ns behind s.1 h)
   where
-    cases : (a b : Bool) → cond a true b ≡ (b || (a || false))
-    cases true true = refl
-    cases true false = refl
-    cases false true = refl
-    cases false false = refl
+    at_end : (ns : List Name) → list_all (λ (y : Name). not (is_before y x)) (ns ++ m ∷ behind) ≡ true → is_before m x ≡ false
+    at_end [] e = not_true (is_before m x) (both_true (not (is_before m x)) (list_all (λ (y : Name). not (is_before y x)) behind) e).0
+    at_end (y ∷ ns) e = at_end ns (both_true (not (is_before y x)) (list_all (λ (z : Name). not (is_before z x)) (ns ++ m ∷ behind)) e).1
 
--- the next of the names
-pub names_next : (names : List Name) (i : ℕ) (n : Name) (m k : BTreeSet (Vec ℕ)) (key : Vec ℕ) → i < length names → n ≡ get_or names i n → key.items ≡ n → Updates by_bytes m k key true → AreNames m (take i names) → AreNames k (take (i + 1) names)
-names_next names i n m k key there f same set are =
-    subst (AreNames k) (sym (take_more names i n there ∙ ap (λ (x : Name). take i names ++ x ∷ []) (sym f))) (names_more (take i names) n m k key same set are)
+none_behind : (n m : Name) (ns : List Name) → list_all (λ (y : Name). not (is_before y m)) ns ≡ true → is_before n m ≡ true → is_listed n ns ≡ false
+none_behind n m [] s h = refl
+none_behind n m (y ∷ ns) s h =
+    let both = both_true (not (is_before y m)) (list_all (λ (z : Name). not (is_before z m)) ns) s in
+    rw (other_behind y m n (not_true (is_before y m) both.0) h) (none_behind n m ns both.1 h)
+
+rising_back : (ns us : List Name) → AreRising (ns ++ us) → AreRising us
+rising_back [] us s = s
+rising_back (n ∷ ns) us s = rising_back ns us s.1
+
+rising_front : (ns us : List Name) → AreRising (ns ++ us) → AreRising ns
+rising_front [] us s = tt
+rising_front (n ∷ ns) us s = (front ns s.0, rising_front ns us s.1)
+  where
+    front : (ns : List Name) → list_all (λ (m : Name). not (is_before m n)) (ns ++ us) ≡ true → list_all (λ (m : Name). not (is_before m n)) ns ≡ true
+    front [] h = refl
+    front (x ∷ ns) h = let both = both_true (not (is_before x n)) (list_all (λ (m : Name). not (is_before m n)) (ns ++ us)) h in rw both.0 (front ns both.1)
+
+or_false : (b : Bool) → (b || false) ≡ b
+or_false true = refl
+or_false false = refl
+
+-- one half of the names is left
+pub record NameHalves (n : Name) (ns front : List Name) (m : Name) (behind : List Name) : Type 0 where
+  pub here : slice_cmp nat_cmp m n ≡ Equal → is_listed n ns ≡ true
+  pub back : slice_cmp nat_cmp m n ≡ Less → is_listed n ns ≡ is_listed n behind
+  pub first : slice_cmp nat_cmp m n ≡ Greater → is_listed n ns ≡ is_listed n front
+  pub rising_behind : AreRising behind
+  pub rising_front : AreRising front
+
+pub name_halves : (n : Name) (i : ℕ) (ns : List Name) (m : Name) (behind : List Name) → AreRising ns → drop i ns ≡ m ∷ behind → NameHalves n ns (take i ns) m behind
+name_halves n i ns m behind s h =
+    let front = take i ns in
+    let e : front ++ m ∷ behind ≡ ns = ap (λ r. take i ns ++ r) (sym h) ∙ take-append-drop i ns in
+    let t : AreRising (front ++ m ∷ behind) = subst AreRising (sym e) s in
+    let b = rising_back front (m ∷ behind) t in
+    let whole : is_listed n ns ≡ (is_listed n front || (bytes_eq m n || is_listed n behind)) = ap (is_listed n) (sym e) ∙ list_any-append (λ (x : Name). bytes_eq x n) front (m ∷ behind) in
+    record {
+      here = λ o. let same : bytes_eq m n ≡ true = sym (is_eq-slice_cmp m n) ∙ ap is_eq o in
+          whole ∙ rw same (or_true (is_listed n front) (is_listed n behind));
+      back = λ o. let less : is_before m n ≡ true = ap is_lt o in
+          whole ∙ rw (none_front n m front behind t less, before_other m n less) refl;
+      first = λ o. let less : is_before n m ≡ true = ap is_lt (turned m n ∙ ap ordering_reverse o) in
+          whole ∙ rw (other_behind m m n (never m) less, none_behind n m behind b.0 less) (or_false (is_listed n front));
+      rising_behind = b.1;
+      rising_front = rising_front front (m ∷ behind) t;
+    }

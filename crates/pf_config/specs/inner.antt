@@ -1,5 +1,7 @@
 -- What only code and proofs use: no contract of a public function needs it.
+pub mod Depths
 pub mod KidOrder
 pub mod Referring
+pub mod RisingNames
 pub mod Texts
 pub mod TreeFalls

@@ -23,6 +23,7 @@ ghost use Rattle.pf_config.specs.declared.config.TheConstants.{RULES_MAX, ANCHOR
 use crate::anchor::Anchor;
 use crate::blocks::blocks_in;
 use crate::changed::{placed, tidied, with_tables};
+use crate::depths::go_too_deep;
 use crate::fault::ConfigFault;
 use crate::loading::{any_too_deep, is_too_deep, loaded};
 use crate::paths::copied_path;
@@ -205,6 +206,16 @@ impl Config {
     /// Refused are 24 a block that is deeper than 8 names, and 23 a configuration of more than 1,024 paths. A refused
     /// load leaves the configuration as it was.
     pub fn load(&mut self, path: &Path, rules: Ruleset) -> Result<(), ConfigFault>
+        ensures { Changes result self.old self.new (load_ruleset self.old path.now (ruleset_of rules)) }
+    {
+        if go_too_deep(path.names(), &rules.items) {
+            return Err(ConfigFault::BadPath);
+        }
+        self.load_blocks(path, rules)
+    }
+
+    /// Loads a ruleset at a path, with the paths of its blocks made.
+    fn load_blocks(&mut self, path: &Path, rules: Ruleset) -> Result<(), ConfigFault>
         ensures { Changes result self.old self.new (load_ruleset self.old path.now (ruleset_of rules)) }
     {
         let Ruleset {

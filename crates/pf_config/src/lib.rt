@@ -16,6 +16,7 @@ mod blocks;
 mod candidate;
 mod changed;
 mod config;
+mod depths;
 mod fault;
 mod loading;
 mod order;

@@ -8,15 +8,13 @@ ghost use Rattle.pf_config.specs.Trees.{with_text};
 
 use crate::anchor::{Anchor, with_entry};
 use crate::changed::{placed, tables_at, tidied};
+use crate::depths::DEEPEST;
 use crate::placing::Placing;
 use crate::table_index::TableIndex;
 use crate::tables::Tables;
 use pf_ruleset::TableDef;
 use pf_table::Table;
 use std::alloc::{AllocError, Global};
-
-/// How deep a path may be.
-const DEEPEST: usize = 8;
 
 /// Whether one of the blocks is too deep.
 pub(crate) fn any_too_deep(blocks: &[Placing]) -> bool

@@ -2,56 +2,52 @@
 
 ghost use Rattle.std.specs.Prelude.{◌≡◌, [], IfOk};
 ghost use Rattle.pf_config.specs.SkippedNames.{is_listed};
+ghost use Rattle.pf_config.specs.inner.RisingNames.{AreRising};
 
 use pf_ruleset::InterfaceName;
 use std::alloc::{AllocError, Global};
-use std::collections::BTreeSet;
+use std::cmp::Ordering;
 use std::marker::Model;
 
-/// Names of interfaces as a text lists them, of which one is found at the logarithm of their number.
+/// Names of interfaces as a text lists them, of which one is found at the logarithm of their number: they stand a second
+/// time in byte order, where one is looked for by halves.
 #[derive(Drop)]
 pub(crate) struct Skipped {
     names: Vec<InterfaceName>,
-    known: BTreeSet<Vec<u8>>,
+    rising: Vec<InterfaceName>,
 }
 
 impl Model for Skipped {
     ghost use Rattle.std.specs.Prelude.{List};
     ghost use Rattle.pf_ruleset.specs.Names.{Name};
-    ghost use Rattle.pf_config.specs.SkippedNames.{AreNames};
+    ghost use Rattle.pf_config.specs.inner.RisingNames.{IsIndex};
 
     ghost Value = { List Name };
 
     ghost view = { λ s. s.names.items };
 
-    ghost invariant = { λ s. AreNames s.known s.names.items };
+    ghost invariant = { λ s. IsIndex s.rising.items s.names.items };
 }
 
 impl Skipped {
     /// None.
-    #[tactic(auto, using(crate::proofs::SkippedNames::names_none))]
+    #[tactic(auto, using(crate::proofs::SkippedNames::index_none))]
     pub(crate) fn new(alloc: Global) -> Skipped
         ensures { result ≡ [] }
     {
         Skipped {
             names: Vec::new(alloc),
-            known: BTreeSet::new(alloc),
+            rising: Vec::new(alloc),
         }
     }
 
     /// These names.
-    #[tactic(auto, using(crate::proofs::SkippedNames::names_none))]
     pub(crate) fn of(alloc: Global, names: Vec<InterfaceName>) -> Result<Skipped, AllocError>
         ensures { IfOk result (λ s. s ≡ names.items) }
     {
-        let mut known = BTreeSet::new(alloc);
-        for name in names.as_slice() {
-            let key = name.as_bytes().to_vec(alloc)?;
-            let Ok(_) = known.insert(key) else {
-                return Err(AllocError);
-            };
-        }
-        Ok(Skipped { names, known })
+        let mut rising = copied_names(alloc, &names)?;
+        rising.sort_unstable_by(|a, b| a.as_bytes().cmp(b.as_bytes()));
+        Ok(Skipped { names, rising })
     }
 
     /// The names.
@@ -65,6 +61,37 @@ impl Skipped {
     pub(crate) fn contains(&self, name: &[u8]) -> bool
         ensures { result ≡ is_listed name.now self.now }
     {
-        self.known.contains(name)
+        is_among(&self.rising, name)
     }
+}
+
+/// The names once more, without room for others.
+fn copied_names(alloc: Global, names: &[InterfaceName]) -> Result<Vec<InterfaceName>, AllocError>
+    ensures { IfOk result (λ v. v.items ≡ names.now) }
+{
+    let mut next = Vec::with_capacity(alloc, names.len())?;
+    for name in names {
+        next.push(name.copied())?;
+    }
+    Ok(next)
+}
+
+/// Whether the name is among these in byte order, where it is looked for by halves.
+fn is_among(names: &[InterfaceName], name: &[u8]) -> bool
+    requires { AreRising names.now }
+    ensures { result ≡ is_listed name.now names.now }
+{
+    let mut left = names;
+    while !left.is_empty() {
+        let (front, back) = left.split_at(left.len() / 2);
+        let [middle, behind @ ..] = back else {
+            return false;
+        };
+        match middle.as_bytes().cmp(name) {
+            Ordering::Equal => return true,
+            Ordering::Less => left = behind,
+            Ordering::Greater => left = front,
+        }
+    }
+    false
 }

@@ -1,10 +1,11 @@
-use Rattle.std.proofs.Common.{rules, ◌≡◌, ◌<◌, length}
-use Rattle.pf_config.proofs.SkippedNames.{names_next}
+use Rattle.std.proofs.Common.{rules, ◌≡◌}
+use Rattle.std.proofs.lemmas.Fn.{always_returns_same}
+use Rattle.pf_ruleset.specs.Names.{Name, is_before}
+use Rattle.pf_config.proofs.SkippedNames.{before_ranks, rising_sorted, index_sorted}
 use Rattle.pf_config.proofs.skipped.Skipped.of.Goals as goal
 
-pub loop-name-preserved : goal.loop-name-preserved
-loop-name-preserved c =
-    let names = c.as_slice-name-items.result.now in
-    let same : c.in_ok-key.key.items ≡ c.name-item.result = search rules in
-    let there : c.loop-name.name-index < length names = search rules in
-    names_next names c.loop-name.name-index c.name-item.result c.loop-name.known c.insert.new.self c.in_ok-key.key there c.name-item.is same c.in-Ok.ensures.updates c.loop-name.invariant
+pub invariant_of-result : goal.invariant_of-result
+invariant_of-result c =
+    let same : c.in_ok-rising.rising.items ≡ c.args.names.items = search rules in
+    let sorted = c.sort_unstable_by.ensures.sorted (λ (x y : Name). is_before x y) before_ranks (always_returns_same _ _ _ (λ a r q k. search rules)) in
+    index_sorted c.args.names.items c.in_ok-rising.rising.items c.sort_unstable_by.new.self.items same c.sort_unstable_by.ensures.permutation (rising_sorted c.sort_unstable_by.new.self.items sorted)
