@@ -1,13 +1,13 @@
 -- Blocks that are too deep, asked of their rules or of their paths.
-use Rattle.std.proofs.Common.{◌≡◌, ℕ, ◌+◌, ◌||◌, Bool, true, false, List, [], ◌∷◌, ◌++◌, length, length-append, map, Result, Err, refl, sym, ap, ◌∙◌}
+use Rattle.std.proofs.Common.{◌≡◌, ◌+◌, ◌||◌, true, ◌++◌, length, length-append, Err, refl, ap, ◌∙◌}
 use Rattle.std.specs.Prelude.{nat_lt}
 use Rattle.std.specs.List.{list_any}
 use Rattle.std.proofs.lemmas.List.Folds.{list_any-append}
-use Rattle.pf_ruleset.specs.Items.{ItemValue, ItemValues, Filters, Anchors, Blocks, no_items, one_more, rule_in, values_of}
+use Rattle.pf_ruleset.specs.Items.{ItemValue, ItemValues, Filters, Anchors, Blocks, no_items, one_more, values_of}
 use Rattle.pf_ruleset.specs.Rulesets as rulesets
 use Rattle.pf_config.specs.declared.fault.ConfigFault.TheVariants.{BadPath}
 use Rattle.pf_config.specs.Map.{Configuration, Path}
-use Rattle.pf_config.specs.Changes.{Block, blocks_of, blocks_in, is_too_deep, load, load_ruleset}
+use Rattle.pf_config.specs.Changes.{blocks_of, blocks_in, is_too_deep, load, load_ruleset}
 use Rattle.pf_config.specs.inner.Depths.{is_deep, any_deep}
 
 mutual
