@@ -1,7 +1,7 @@
 -- What is asked of an item to place it is asked of its rule.
-use Rattle.std.proofs.Common.{◌≡◌, Bool, true, Option, Some, None, List, refl, sym, ap, ◌∙◌, rules}
+use Rattle.std.proofs.Common.{◌≡◌, true, Option, Some, None, List, refl, sym, ap, ◌∙◌, rules}
 use Rattle.std.specs.Prelude.{not, option_map}
-use Rattle.pf_ruleset.specs.Items.{AnyRule, FilterRule, AnchorRule, Heading, rule_in}
+use Rattle.pf_ruleset.specs.Items.{FilterRule, AnchorRule, Heading, rule_in}
 use Rattle.pf_ruleset.specs.declared.rule.Rule.{Rule}
 use Rattle.pf_ruleset.specs.declared.item.AnchorRule as anchored
 use Rattle.pf_ruleset.specs.declared.item.Item as item

@@ -7,7 +7,6 @@ use Rattle.std.proofs.Math.Nat.{mod-lt, div-one, div-div-eq-div-mul}
 use Rattle.pf_addr.specs.Blocks.{agree, in_range}
 use Rattle.pf_addr.specs.declared.addr.Addr.{Addr}
 use Rattle.pf_addr.specs.declared.addr.Addr.TheVariants.{V4, V6}
-use Rattle.pf_ruleset.specs.declared.parts.Addresses.{Addresses}
 use Rattle.pf_ruleset.specs.declared.parts.Addresses.TheVariants.{Prefix, Range, Table}
 use Rattle.pf_ruleset.specs.declared.parts.Host.{Host}
 use Rattle.pf_ruleset.specs.declared.parts.Host.TheVariants.{Any, In, NotIn}
