@@ -80,18 +80,6 @@ pf(const struct rule *r)
 	putchar('\n');
 }
 
-static void
-make_specific(struct rule *r, int n)
-{
-	for (int i = 1; i < n; i++) {
-		if (r[i].slen < 24)
-			r[i].slen = 24;
-		if (r[i].dlen < 24)
-			r[i].dlen = 24;
-		r[i].quick = 0;
-	}
-}
-
 int
 main(int argc, char **argv)
 {

@@ -1,5 +1,5 @@
 /*
- * runs: runs commands in turn, again and again, and prints the median of each one's times.
+ * runs: runs commands in turn, again and again, and prints the median and the least of each one's times.
  *
  *   runs TIMES < list
  *
@@ -130,8 +130,8 @@ main(int argc, char **argv)
 		qsort(c->wall, times, sizeof(double), by_size);
 		qsort(c->cpu, times, sizeof(double), by_size);
 		cpu = c->cpu[times / 2];
-		printf("  %-42s %9.2f ms, %8.3f us a unit, %6ld KB%s\n", c->name, cpu * 1e3,
-		    c->units > 0 ? cpu * 1e6 / c->units : 0, c->memory, c->status ? " (refused)" : "");
+		printf("  %-42s %9.2f ms, %8.3f us a unit, %6ld KB, at least %.2f ms%s\n", c->name, cpu * 1e3,
+		    c->units > 0 ? cpu * 1e6 / c->units : 0, c->memory, c->cpu[0] * 1e3, c->status ? " (refused)" : "");
 	}
 	return 0;
 }

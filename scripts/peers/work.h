@@ -125,6 +125,19 @@ make_rules(uint64_t seed, int n)
 	return r;
 }
 
+/* The same rules, but prefixes of 24 bits or more, and none quick; the first one stays. */
+static inline void
+make_specific(struct rule *r, int n)
+{
+	for (int i = 1; i < n; i++) {
+		if (r[i].slen < 24)
+			r[i].slen = 24;
+		if (r[i].dlen < 24)
+			r[i].dlen = 24;
+		r[i].quick = 0;
+	}
+}
+
 static inline struct packet *
 make_packets(uint64_t seed, const struct rule *r, int nr, int n)
 {
