@@ -4,7 +4,8 @@ ghost use Rattle.std.specs.Prelude.{◌≡◌, ◌≤◌, codes, length, map, tr
 ghost use Rattle.std.specs.List.{list_all};
 ghost use Rattle.std.specs.Char.{is_ascii_digit};
 ghost use Rattle.pf_words.specs.Words.{number_of, decimal_value, named, protocol_of, port_of, icmp_type_of, is_letter};
-ghost use Rattle.pf_words.specs.Words.{are_letters, flags_of, is_among, is_reserved};
+ghost use Rattle.pf_words.specs.Words.{are_letters, flags_of, is_among, is_reserved, begins_with_digit};
+ghost use Rattle.pf_words.specs.Words.{ends_like_reserved};
 
 use crate::flags::TcpFlags;
 use crate::profile::Profile;
@@ -151,10 +152,24 @@ fn octet(text: &[u8]) -> Option<u8>
     }
 }
 
+/// Whether the first byte is a digit. No name of a port, protocol or type begins so.
+fn begins_with_digit(text: &[u8]) -> bool
+    ensures { result ≡ begins_with_digit text.now }
+{
+    match text {
+        [first, ..] => first.is_ascii_digit(),
+        [] => false,
+    }
+}
+
 /// A port: 0 to 65535 in one to five digits, or a name (pf.conf(5), `port`).
+#[tactic(auto, using(crate::proofs::Digits::no_service))]
 pub fn parse_port(text: &[u8]) -> Option<u16>
     ensures { result ≡ port_of text.now }
 {
+    if begins_with_digit(text) {
+        return parse_decimal(text, 5, u16::MAX);
+    }
     match named(&SERVICES, text) {
         Some(number) => Some(number),
         None => parse_decimal(text, 5, u16::MAX),
@@ -162,9 +177,13 @@ pub fn parse_port(text: &[u8]) -> Option<u16>
 }
 
 /// A protocol: 0 to 255 in one to three digits, or a name (pf.conf(5), `proto`).
+#[tactic(auto, using(crate::proofs::Digits::no_protocol))]
 pub fn parse_protocol(text: &[u8]) -> Option<u8>
     ensures { result ≡ protocol_of text.now }
 {
+    if begins_with_digit(text) {
+        return octet(text);
+    }
     match named_octet(&PROTOCOLS, text) {
         Some(number) => Some(number),
         None => octet(text),
@@ -235,11 +254,24 @@ fn is_among(words: &[&str], text: &[u8]) -> bool
     false
 }
 
+/// Whether the last byte is one that ends a reserved word. Most names of interfaces end with a digit.
+fn ends_like_reserved(text: &[u8]) -> bool
+    ensures { result ≡ ends_like_reserved text.now }
+{
+    match text {
+        [.., last] => matches!(*last, b'6' | b'e' | b'g' | b'k'..=b'p' | b'r'..=b't' | b'y'),
+        [] => false,
+    }
+}
+
 /// Whether the profile keeps the word for itself.
-#[tactic(auto, unfolding(crate::specs::Words::is_reserved))]
+#[tactic(auto, using(crate::proofs::Reserved::unending), unfolding(crate::specs::Words::is_reserved))]
 pub fn is_reserved(profile: Profile, text: &[u8]) -> bool
     ensures { result ≡ is_reserved profile text.now }
 {
+    if !ends_like_reserved(text) {
+        return false;
+    }
     match profile {
         Profile::One => is_among(&RESERVED, text),
         Profile::Two => is_among(&RESERVED, text) || text == b"icmp-type".as_slice(),
