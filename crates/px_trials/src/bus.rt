@@ -1,10 +1,15 @@
 //! Members that hear each other's messages when they are delivered, one by one.
 use crate::member::{Member, asked, spelling};
-use crate::shown::shown;
+use crate::shown::Shown;
 use px_core::Sends;
 use px_model::{Entry, EntryView, Event, Message};
 use std::alloc::Global;
 use std::test::Fail;
+
+/// Refuses what isn't so.
+pub(crate) fn expect(is_so: bool, what: &'static str) -> Result<(), Fail> {
+    if is_so { Ok(()) } else { Err(Fail::new(what)) }
+}
 
 /// The members, and all that they sent, in order.
 #[derive(Drop)]
@@ -14,6 +19,27 @@ pub(crate) struct Bus {
     pub(crate) members: Vec<Member>,
     pub(crate) sent: Vec<(u8, u8, usize)>,
     messages: Vec<Message<Entry>>,
+}
+
+/// The message of this place comes to the member: what that sends.
+fn delivered(
+    members: &mut [Member],
+    messages: &[Message<Entry>],
+    sender: u8,
+    to: u8,
+    place: usize,
+) -> Result<Sends, Fail> {
+    let Some(message) = messages.get(place) else {
+        return Err(Fail::new("no such message"));
+    };
+    let Some(member) = members.get_mut(to as usize) else {
+        return Err(Fail::new("no such member"));
+    };
+    let event = Event::Comes {
+        sender,
+        message: message.view(),
+    };
+    member.step(&event)
 }
 
 impl Bus {
@@ -43,68 +69,111 @@ impl Bus {
         self.members.get(member as usize).map(|m| m.core.front())
     }
 
-    fn send(&mut self, sender: u8, sends: Sends) -> Result<(), Fail> {
-        let place = self.messages.len();
-        match sends {
-            Sends::Nothing => {}
-            Sends::One { to, message } => {
-                self.messages.push(message)?;
-                self.sent.push((sender, to, place))?;
-            }
-            Sends::All { message } => {
-                self.messages.push(message)?;
-                for to in 0..self.count {
-                    self.sent.push((sender, to, place))?;
-                }
-            }
+    /// The message of this place goes to one.
+    fn send_one(&mut self, sender: u8, to: u8, place: usize) -> Result<(), Fail> {
+        self.sent.push((sender, to, place))?;
+        Ok(())
+    }
+
+    /// The message of this place goes to every member.
+    fn send_all(&mut self, sender: u8, place: usize) -> Result<(), Fail> {
+        for to in 0..self.count {
+            self.send_one(sender, to, place)?;
         }
         Ok(())
     }
 
-    pub(crate) fn ask(&mut self, member: u8, command: u8) -> Result<(), Fail> {
-        let bytes = spelling(0, 0, command);
-        let sends = self.member(member)?.step(&asked(&bytes)?)?;
+    /// The message is kept: its place.
+    fn keep(&mut self, message: Message<Entry>) -> Result<usize, Fail> {
+        let place = self.messages.len();
+        self.messages.push(message)?;
+        Ok(place)
+    }
+
+    fn send(&mut self, sender: u8, sends: Sends) -> Result<(), Fail> {
+        match sends {
+            Sends::Nothing => Ok(()),
+            Sends::One { to, message } => {
+                let place = self.keep(message)?;
+                self.send_one(sender, to, place)
+            }
+            Sends::All { message } => {
+                let place = self.keep(message)?;
+                self.send_all(sender, place)
+            }
+        }
+    }
+
+    /// The event comes to the member, and what it sends goes onto the bus.
+    fn happen(&mut self, member: u8, event: &Event) -> Result<(), Fail> {
+        let sends = self.member(member)?.step(event)?;
         self.send(member, sends)
     }
 
+    pub(crate) fn ask(&mut self, member: u8, command: u8) -> Result<(), Fail> {
+        let bytes = spelling(0, 0, command);
+        let event = asked(&bytes)?;
+        self.happen(member, &event)
+    }
+
     pub(crate) fn tick(&mut self, member: u8) -> Result<(), Fail> {
-        let sends = self.member(member)?.step(&Event::Ticks)?;
-        self.send(member, sends)
+        self.happen(member, &Event::Ticks)
+    }
+
+    /// Who sent the message of this number, to whom, and its place.
+    fn way(&self, number: usize) -> Result<(u8, u8, usize), Fail> {
+        match self.sent.get(number) {
+            Some(way) => Ok(*way),
+            None => Err(Fail::new("no such message")),
+        }
     }
 
     /// The message of this number comes to its addressee.
     pub(crate) fn deliver(&mut self, number: usize) -> Result<(), Fail> {
-        let Some(&(sender, to, place)) = self.sent.get(number) else {
-            return Err(Fail::new("no such message"));
-        };
-        let Some(message) = self.messages.get(place) else {
-            return Err(Fail::new("no such message"));
-        };
-        let Some(member) = self.members.get_mut(to as usize) else {
-            return Err(Fail::new("no such member"));
-        };
-        let event = Event::Comes {
-            sender,
-            message: message.view(),
-        };
-        let sends = member.step(&event)?;
+        let (sender, to, place) = self.way(number)?;
+        let sends = delivered(&mut self.members, &self.messages, sender, to, place)?;
         self.send(to, sends)
     }
 
     /// The line of the message of this number.
     pub(crate) fn line(&self, number: usize) -> Result<String, Fail> {
-        let Some(&(sender, to, place)) = self.sent.get(number) else {
-            return Err(Fail::new("no such message"));
-        };
+        let (sender, to, place) = self.way(number)?;
         let Some(message) = self.messages.get(place) else {
             return Err(Fail::new("no such message"));
         };
-        let what = shown(self.alloc, message)?;
-        Ok(format!(in self.alloc; "{sender}>{to} {what}")?)
+        Ok(format!(in self.alloc; "{sender}>{to} {}", Shown(message))?)
     }
 }
 
 impl Bus {
+    /// Refuses another number of messages than this one.
+    pub(crate) fn expect_sent(&self, many: usize) -> Result<(), Fail> {
+        expect(self.sent.len() == many, "another number of messages")
+    }
+
+    /// Refuses another first position that the member hasn't learned.
+    pub(crate) fn expect_front(&self, member: u8, front: u32) -> Result<(), Fail> {
+        expect(self.front(member) == Some(front), "another front")
+    }
+
+    /// Refuses another line of the message of this number, and says which one there is.
+    fn expect_line(&self, number: usize, wanted: &str) -> Result<(), Fail> {
+        let line = self.line(number)?;
+        if line.as_str() == wanted {
+            Ok(())
+        } else {
+            Err(Fail::new(line))
+        }
+    }
+
+    /// Refuses other lines of the messages of these numbers.
+    pub(crate) fn expect_lines(&self, lines: &[(usize, &str)]) -> Result<(), Fail> {
+        for (number, wanted) in lines {
+            self.expect_line(*number, wanted)?;
+        }
+        Ok(())
+    }
+
     pub(crate) fn deliver_all(&mut self, numbers: &[usize]) -> Result<(), Fail> {
         for number in numbers {
             self.deliver(*number)?;
@@ -119,9 +188,6 @@ impl Bus {
         sender: u8,
         message: Message<EntryView>,
     ) -> Result<(), Fail> {
-        let sends = self
-            .member(member)?
-            .step(&Event::Comes { sender, message })?;
-        self.send(member, sends)
+        self.happen(member, &Event::Comes { sender, message })
     }
 }

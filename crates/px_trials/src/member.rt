@@ -1,6 +1,9 @@
 //! A member with a plain record.
-use px_core::{Core, CoreFault, Sends};
-use px_model::{Change, EntryView, Event, Meta, Proposal, Reads, Slot};
+ghost use Rattle.std.specs.Prelude.{IfOk};
+ghost use Rattle.px_core.specs.Planning.{IsFor};
+
+use px_core::{Core, CoreFault, Plan, Sends};
+use px_model::{Change, Entry, EntryView, Event, Meta, Proposal, Reads, Slot};
 use std::alloc::Global;
 use std::test::Fail;
 
@@ -38,18 +41,31 @@ fn nothing_there() -> Slot {
     }
 }
 
-/// The slot that an event reads, or the empty one where it reads none.
-fn slot_at<'a>(slots: &'a [Slot], empty: &'a Slot, reads: Reads) -> Option<&'a Slot> {
-    match reads {
-        Reads::Nothing => Some(empty),
-        Reads::Slot { position } => slots.get(position as usize),
-        Reads::SlotAndTop { position } => slots.get(position as usize),
-    }
-}
-
 pub(crate) fn asked(bytes: &[u8]) -> Result<Event<'_>, Fail> {
     let entry = entry(bytes)?;
     Ok(Event::Asks { entry })
+}
+
+/// What the event makes of what is stored; or the refusal.
+fn planned(core: &mut Core, stored: &Stored, event: &Event) -> Result<Result<Plan, CoreFault>, Fail>
+    ensures { IfOk result (λ taken. IfOk taken (λ plan. IsFor plan core.new)) }
+{
+    if !core.takes(event) {
+        return Err(Fail::new("no such event"));
+    }
+    let reads = event.reads();
+    let Some(slot) = stored.read(reads) else {
+        return Err(Fail::new("no such slot"));
+    };
+    Ok(core.plan(&stored.meta, slot, stored.top_for(reads), event))
+}
+
+/// The plan's change is stored, and the core settles.
+fn settled(core: &mut Core, stored: &mut Stored, plan: Plan) -> Result<Sends, Fail>
+    requires { IsFor plan core.old }
+{
+    stored.commit(&plan.change)?;
+    Ok(core.settle(plan))
 }
 
 impl Member {
@@ -76,21 +92,22 @@ impl Member {
 
     /// One step, whole: planned, committed, settled; or the refusal.
     pub(crate) fn take(&mut self, event: &Event) -> Result<Result<Sends, CoreFault>, Fail> {
-        if !self.core.takes(event) {
-            return Err(Fail::new("no such event"));
-        }
-        let reads = event.reads();
-        let top = self.stored.top_for(reads);
-        let Some(slot) = slot_at(&self.stored.slots, &self.stored.empty, reads) else {
-            return Err(Fail::new("no such slot"));
-        };
-        match self.core.plan(&self.stored.meta, slot, top, event) {
+        match planned(&mut self.core, &self.stored, event)? {
             Ok(plan) => {
-                self.stored.commit(&plan.change)?;
-                Ok(Ok(self.core.settle(plan)))
+                let sends = settled(&mut self.core, &mut self.stored, plan)?;
+                Ok(Ok(sends))
             }
             Err(fault) => Ok(Err(fault)),
         }
+    }
+
+    /// Puts these numbers into the record, as by hand.
+    pub(crate) fn put_numbers(&mut self, round: u64, number: u64) {
+        self.stored.meta = Meta {
+            round,
+            number,
+            floor: self.stored.meta.floor,
+        };
     }
 
     pub(crate) fn step(&mut self, event: &Event) -> Result<Sends, Fail> {
@@ -109,14 +126,35 @@ impl Stored {
         Ok(slot)
     }
 
+    /// The proposal takes the place of the slot.
+    fn accept(&mut self, position: u32, ballot: u64, entry: &Entry) -> Result<(), Fail> {
+        let slot = self.slot(position)?;
+        let entry = entry.share()?;
+        *slot = Slot {
+            promised: ballot,
+            accepted: Some(Proposal { ballot, entry }),
+        };
+        Ok(())
+    }
+
     fn commit(&mut self, change: &Option<Change>) -> Result<(), Fail> {
         match change {
-            None => {}
-            Some(Change::Round { round }) => self.meta.round = *round,
-            Some(Change::Number { number }) => self.meta.number = *number,
-            Some(Change::Floor { ballot }) => self.meta.floor = *ballot,
+            None => Ok(()),
+            Some(Change::Round { round }) => {
+                self.meta.round = *round;
+                Ok(())
+            }
+            Some(Change::Number { number }) => {
+                self.meta.number = *number;
+                Ok(())
+            }
+            Some(Change::Floor { ballot }) => {
+                self.meta.floor = *ballot;
+                Ok(())
+            }
             Some(Change::Promised { position, ballot }) => {
                 self.slot(*position)?.promised = *ballot;
+                Ok(())
             }
             Some(
                 Change::Accepted {
@@ -124,19 +162,18 @@ impl Stored {
                     ballot,
                     entry,
                 },
-            ) => {
-                let entry = entry.share()?;
-                *self.slot(*position)? = Slot {
-                    promised: *ballot,
-                    accepted: Some(Proposal {
-                        ballot: *ballot,
-                        entry,
-                    }),
-                };
-            }
-            Some(Change::Learned { .. }) => {}
+            ) => self.accept(*position, *ballot, entry),
+            Some(Change::Learned { .. }) => Ok(()),
         }
-        Ok(())
+    }
+
+    /// The slot that an event reads, or the empty one where it reads none.
+    fn read(&self, reads: Reads) -> Option<&Slot> {
+        match reads {
+            Reads::Nothing => Some(&self.empty),
+            Reads::Slot { position } => self.slots.get(position as usize),
+            Reads::SlotAndTop { position } => self.slots.get(position as usize),
+        }
     }
 
     /// The top, where it is read.

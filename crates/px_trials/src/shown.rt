@@ -1,76 +1,86 @@
 //! Messages as lines: who to whom is written by the bus.
 use px_model::{Entry, Message, Proposal};
-use std::alloc::Global;
-use std::test::Fail;
-
-fn shown_entry(alloc: Global, entry: &Entry) -> Result<String, Fail> {
-    Ok(format!(in alloc; "e{}.{}", entry.origin(), entry.number())?)
-}
+use std::fmt;
 
 /// A ballot by its round and its member.
-fn shown_ballot(alloc: Global, ballot: u64) -> Result<String, Fail> {
-    Ok(format!(in alloc; "b{}.{}", ballot / 256, ballot % 256)?)
+#[derive(Clone, Copy)]
+struct Ballot(u64);
+
+impl fmt::Display for Ballot {
+    fn fmt<W: fmt::Write>(&self, f: &mut fmt::Formatter<W>) -> fmt::Result {
+        write!(f, "b{}.{}", self.0 / 256, self.0 % 256)
+    }
 }
 
-fn shown_proposal(alloc: Global, accepted: &Option<Proposal<Entry>>) -> Result<String, Fail> {
-    let Some(proposal) = accepted else {
-        return Ok(format!(in alloc; "none")?);
-    };
-    let ballot = shown_ballot(alloc, proposal.ballot)?;
-    let entry = shown_entry(alloc, &proposal.entry)?;
-    Ok(format!(in alloc; "{ballot} {entry}")?)
+/// An entry by who asked it, and its number there.
+#[derive(Clone, Copy)]
+struct Named<'a>(&'a Entry);
+
+impl fmt::Display for Named<'_> {
+    fn fmt<W: fmt::Write>(&self, f: &mut fmt::Formatter<W>) -> fmt::Result {
+        write!(f, "e{}.{}", self.0.origin(), self.0.number())
+    }
 }
 
-pub(crate) fn shown(alloc: Global, message: &Message<Entry>) -> Result<String, Fail> {
-    match message {
-        Message::PrepareAll { ballot, position } => {
-            let ballot = shown_ballot(alloc, *ballot)?;
-            Ok(format!(in alloc; "prepareall {ballot} p{position}")?)
+/// What was accepted, if anything was.
+#[derive(Clone, Copy)]
+struct Reported<'a>(&'a Option<Proposal<Entry>>);
+
+impl fmt::Display for Reported<'_> {
+    fn fmt<W: fmt::Write>(&self, f: &mut fmt::Formatter<W>) -> fmt::Result {
+        match self.0 {
+            None => f.write_str("none"),
+            Some(proposal) => write!(f, "{} {}", Ballot(proposal.ballot), Named(&proposal.entry)),
         }
-        Message::PromiseAll {
-            ballot,
-            position,
-            top,
-            accepted,
-        } => {
-            let ballot = shown_ballot(alloc, *ballot)?;
-            let accepted = shown_proposal(alloc, accepted)?;
-            Ok(format!(in alloc; "promiseall {ballot} p{position} {accepted} t{top}")?)
+    }
+}
+
+/// A message.
+#[derive(Clone, Copy)]
+pub(crate) struct Shown<'a>(pub(crate) &'a Message<Entry>);
+
+impl fmt::Display for Shown<'_> {
+    fn fmt<W: fmt::Write>(&self, f: &mut fmt::Formatter<W>) -> fmt::Result {
+        match self.0 {
+            Message::PrepareAll { ballot, position } => {
+                write!(f, "prepareall {} p{position}", Ballot(*ballot))
+            }
+            Message::PromiseAll {
+                ballot,
+                position,
+                top,
+                accepted,
+            } => {
+                let (ballot, accepted) = (Ballot(*ballot), Reported(accepted));
+                write!(f, "promiseall {ballot} p{position} {accepted} t{top}")
+            }
+            Message::Accept {
+                ballot,
+                position,
+                entry,
+            } => write!(f, "accept {} p{position} {}", Ballot(*ballot), Named(entry)),
+            Message::Vote {
+                ballot,
+                position,
+                entry,
+            } => write!(f, "vote {} p{position} {}", Ballot(*ballot), Named(entry)),
+            Message::Nack {
+                ballot,
+                position,
+                promised,
+            } => write!(
+                f,
+                "nack {} p{position} {}",
+                Ballot(*ballot),
+                Ballot(*promised)
+            ),
+            Message::Need { position } => write!(f, "need p{position}"),
+            Message::Learned { position, entry } => {
+                write!(f, "learned p{position} {}", Named(entry))
+            }
+            Message::Asked { token, number } => write!(f, "asked {token} {number}"),
+            Message::AskRefused { token, code } => write!(f, "askrefused {token} {code}"),
+            _ => f.write_str("another"),
         }
-        Message::Accept {
-            ballot,
-            position,
-            entry,
-        } => {
-            let ballot = shown_ballot(alloc, *ballot)?;
-            let entry = shown_entry(alloc, entry)?;
-            Ok(format!(in alloc; "accept {ballot} p{position} {entry}")?)
-        }
-        Message::Vote {
-            ballot,
-            position,
-            entry,
-        } => {
-            let ballot = shown_ballot(alloc, *ballot)?;
-            let entry = shown_entry(alloc, entry)?;
-            Ok(format!(in alloc; "vote {ballot} p{position} {entry}")?)
-        }
-        Message::Nack {
-            ballot,
-            position,
-            promised,
-        } => {
-            let ballot = shown_ballot(alloc, *ballot)?;
-            let promised = shown_ballot(alloc, *promised)?;
-            Ok(format!(in alloc; "nack {ballot} p{position} {promised}")?)
-        }
-        Message::Need { position } => Ok(format!(in alloc; "need p{position}")?),
-        Message::Learned { position, entry } => {
-            let entry = shown_entry(alloc, entry)?;
-            Ok(format!(in alloc; "learned p{position} {entry}")?)
-        }
-        Message::Asked { token, number } => Ok(format!(in alloc; "asked {token} {number}")?),
-        Message::AskRefused { token, code } => Ok(format!(in alloc; "askrefused {token} {code}")?),
-        _ => Ok(format!(in alloc; "another")?),
     }
 }

@@ -1,14 +1,26 @@
 //! Single entries.
 use crate::bytes::ADD;
+use crate::party::{changed, expect};
 use pf_addr::Addr;
-use pf_entry::{CommandView, Profile, decode, encode};
+use pf_entry::{Addresses, CommandView, Entry, Profile, decode, encode};
+use std::alloc::Global;
 use std::test::Fail;
 
+/// The list is of 10.0.0.1 alone.
+fn expect_one(list: Addresses) -> Result<(), Fail> {
+    let mut addresses = list;
+    let first = addresses.next().ok_or("no address")?;
+    expect(!first.negated, "negated")?;
+    let base = first.prefix.base();
+    expect(base == Addr::V4(0x0a00_0001), "another address")?;
+    expect(first.prefix.len() == 32, "another length")?;
+    expect(addresses.next().is_none(), "another one")
+}
+
 #[test]
-fn an_entry_vector(rt: HostRuntime) -> Result<(), Fail> {
-    let entry = decode(&ADD)?;
-    assert_eq!(rt; entry.origin, 0);
-    assert_eq!(rt; entry.number, 0);
+fn an_entry_vector(_rt: HostRuntime) -> Result<(), Fail> {
+    let entry = decode(ADD)?;
+    expect(entry.origin == 0 && entry.number == 0, "another asking")?;
     let CommandView::Add {
         path,
         table,
@@ -17,53 +29,56 @@ fn an_entry_vector(rt: HostRuntime) -> Result<(), Fail> {
     else {
         return Err("another command".into());
     };
-    assert_eq!(rt; path.count(), 0);
-    assert!(rt; table == b"bad".as_slice());
-    let mut addresses = addresses;
-    let first = addresses.next().ok_or("no address")?;
-    assert!(rt; !first.negated);
-    assert!(rt; first.prefix.base() == Addr::V4(0x0a00_0001));
-    assert_eq!(rt; first.prefix.len(), 32);
-    assert!(rt; addresses.next().is_none());
-    Ok(())
+    expect(path.count() == 0, "another path")?;
+    expect(table == b"bad".as_slice(), "another table")?;
+    expect_one(addresses)
 }
 
+const OTHER_FORMAT: &[u8] = b"\x02\0\0\0\0\0\0\0\0\0\x01\0\0\0\0\x05pass\n";
+
 #[test]
-fn an_entry_of_the_other_format(rt: HostRuntime) -> Result<(), Fail> {
-    let bytes: [u8; 21] = [
-        2, 0, 0, 0, 0, 0, 0, 0, 0, 0, 1, 0, 0, 0, 0, 5, 0x70, 0x61, 0x73, 0x73, 0x0a,
-    ];
-    let entry = decode(&bytes)?;
+fn an_entry_of_the_other_format(_rt: HostRuntime) -> Result<(), Fail> {
+    let entry = decode(OTHER_FORMAT)?;
     let CommandView::Load { profile, text, .. } = entry.command else {
         return Err("another command".into());
     };
-    assert!(rt; profile == Profile::Two);
-    assert!(rt; text == b"pass\n".as_slice());
-    Ok(())
+    expect(profile == Profile::Two, "another profile")?;
+    expect(text == b"pass\n".as_slice(), "another text")
+}
+
+/// Refuses bytes put into [`ADD`] that make an entry of it where there is to be none, or the other way round.
+fn expect_entry(alloc: Global, at: usize, put: &[u8], is_entry: bool) -> Result<(), Fail> {
+    let bytes = changed(alloc, ADD, at, put)?;
+    expect(decode(&bytes).is_ok() == is_entry, "another answer")
 }
 
 #[test]
-fn an_add_of_the_other_format_is_no_entry(rt: HostRuntime) {
-    let mut bytes = ADD;
-    bytes[0] = 2;
-    assert!(rt; decode(&bytes).is_err());
+fn an_add_of_the_other_format_is_no_entry(rt: HostRuntime) -> Result<(), Fail> {
+    expect_entry(rt.alloc(), 0, &[2], false)
+}
+
+/// The entry of [`ADD`], owned.
+fn owned(alloc: Global) -> Result<Entry, Fail> {
+    let entry = decode(ADD)?.to_entry(alloc)?;
+    Ok(entry)
+}
+
+/// The same as bytes.
+fn encoded_again(alloc: Global) -> Result<Vec<u8>, Fail> {
+    let entry = owned(alloc)?;
+    let encoded = encode(alloc, &entry);
+    drop(entry);
+    Ok(encoded?)
 }
 
 #[test]
 fn what_is_viewed_is_owned_and_encoded_again(rt: HostRuntime) -> Result<(), Fail> {
-    let entry = decode(&ADD)?.to_entry(rt.alloc())?;
-    let bytes = encode(rt.alloc(), &entry)?;
-    assert!(rt; bytes.as_slice() == ADD.as_slice());
-    Ok(())
+    let bytes = encoded_again(rt.alloc())?;
+    expect(bytes.as_slice() == ADD, "other bytes")
 }
 
 #[test]
-fn a_reserved_word_names_no_table(rt: HostRuntime) {
-    let mut bytes = ADD;
-    bytes[13] = b'a';
-    bytes[14] = b'l';
-    bytes[15] = b'l';
-    assert!(rt; decode(&bytes).is_err());
-    bytes[15] = b'm';
-    assert!(rt; decode(&bytes).is_ok());
+fn a_reserved_word_names_no_table(rt: HostRuntime) -> Result<(), Fail> {
+    expect_entry(rt.alloc(), 13, b"all", false)?;
+    expect_entry(rt.alloc(), 13, b"alm", true)
 }
