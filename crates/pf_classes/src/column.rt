@@ -79,11 +79,13 @@ fn sampled(alloc: Global, numbers: &[u32], most: usize) -> Result<Vec<u32>, Allo
     Ok(found)
 }
 
-/// The first numbers of some of the intervals, in order.
+/// The first numbers of some of the intervals, in order; not 0, where a bucket begins anyway.
 fn firsts(alloc: Global, intervals: &[Interval]) -> Result<Vec<u32>, AllocError> {
     let mut found = Vec::new(alloc);
     for interval in intervals {
-        found.push(interval.first)?;
+        if interval.first > 0 {
+            found.push(interval.first)?;
+        }
     }
     let mut few = sampled(alloc, &found, SAMPLE_MAX)?;
     few.sort_unstable();
