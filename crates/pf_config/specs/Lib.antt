@@ -4,6 +4,8 @@ pub mod SkippedNames
 pub mod Changes
 pub mod Trees
 pub mod Orders
+pub mod Searches
+pub mod Searching
 pub mod Codes
 pub mod PathTexts
 pub mod inner

@@ -21,7 +21,7 @@ ghost use Rattle.pf_config.specs.inner.KidOrder.{AreInOrder};
 ghost use Rattle.pf_config.specs.inner.Referring.{Gains, KnowsAll};
 ghost use Rattle.pf_config.specs.declared.config.TheConstants.{RULES_MAX};
 
-use crate::candidate::Candidate;
+use crate::candidate_list::CandidateList;
 use crate::order::{Order, order_of};
 use crate::paths::{copied_path, followed_by};
 use crate::referred::Referred;
@@ -59,7 +59,7 @@ impl Model for Anchor {
     } };
 
     ghost invariant = { λ a. (length a.items.value.items ≤ 1024) × AreKids a.names.items (shared a.kids.items)
-        × IsOrder (map rule_of a.items.value.items) a.order.value.stops.items a.order.value.others.items };
+        × IsOrder (map rule_of a.items.value.items) a.order.value.stops a.order.value.others };
 
     ghost size = { λ t. weight (length t.names) t.anchors };
 
@@ -87,7 +87,7 @@ impl Anchor {
     /// The rules at its path that may end an evaluation, which are the quick filter rules and the anchor rules: the
     /// first one first.
     #[tactic(auto, using(crate::proofs::Treed::own_rules))]
-    pub fn stops(&self) -> &[Candidate]
+    pub fn stops(&self) -> &CandidateList
         ensures { result.now ≡ stops_of (rules_in (anchor_at self.now.names self.now.anchors)) }
     {
         &self.order.stops
@@ -95,7 +95,7 @@ impl Anchor {
 
     /// The rules at its path that aren't quick: the last one first.
     #[tactic(auto, using(crate::proofs::Treed::own_rules))]
-    pub fn others(&self) -> &[Candidate]
+    pub fn others(&self) -> &CandidateList
         ensures { result.now ≡ others_of (rules_in (anchor_at self.now.names self.now.anchors)) }
     {
         &self.order.others

@@ -1,15 +1,8 @@
 //! A rule as a verdict comes to it: its index, and what few compares tell of its conditions.
 
 use pf_addr::Family;
+use pf_classes::Interval;
 use pf_ruleset::Direction;
-
-/// The numbers of 32 bits from a first one on: so many as the width says, and one more. Past the greatest number they
-/// go on with 0.
-#[derive(Clone, Copy, Debug)]
-pub struct Interval {
-    pub first: u32,
-    pub width: u32,
-}
 
 /// What few compares tell of a rule's conditions: the rule matches no packet that is outside of one of these.
 #[derive(Clone, Copy, Debug)]

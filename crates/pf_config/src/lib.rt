@@ -6,6 +6,7 @@
 //!   leaves all as it was.
 //! - [`Anchor`]: what stands at a path and below it.
 //! - [`Candidate`]: a rule as a verdict comes to it, in an order made once at the load: its index, and its [`Sieve`].
+//! - [`CandidateList`]: these rules one after the other; a [`Search`] finds the few of them that may match.
 //! - [`parse_path`] reads the path of an anchor.
 //! - [`Table`], of the crate below.
 #![tactic(auto)]
@@ -14,6 +15,7 @@ mod anchor;
 mod attached;
 mod blocks;
 mod candidate;
+mod candidate_list;
 mod changed;
 mod config;
 mod depths;
@@ -32,9 +34,11 @@ mod unused;
 mod walk;
 
 pub use anchor::Anchor;
-pub use candidate::{Candidate, Interval, Sieve};
+pub use candidate::{Candidate, Sieve};
+pub use candidate_list::{CandidateList, Search};
 pub use config::{Config, RULES_MAX};
 pub use fault::ConfigFault;
 pub use path_text::parse_path;
+pub use pf_classes::{Interval, is_within};
 pub use pf_table::Table;
 pub use sieve::front_bits;

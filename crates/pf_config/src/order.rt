@@ -6,6 +6,7 @@ ghost use Rattle.pf_config.specs.Orders.{may_stop, is_other, candidate_at, stops
 ghost use Rattle.pf_config.specs.declared.config.TheConstants.{RULES_MAX};
 
 use crate::candidate::Candidate;
+use crate::candidate_list::CandidateList;
 use crate::sieve::sieve_of;
 use pf_ruleset::Item;
 use std::alloc::{AllocError, Global};
@@ -13,8 +14,8 @@ use std::alloc::{AllocError, Global};
 /// The rules that may end the evaluation, the first one first, and those that aren't quick, the last one first.
 #[derive(Drop)]
 pub(crate) struct Order {
-    pub(crate) stops: Vec<Candidate>,
-    pub(crate) others: Vec<Candidate>,
+    pub(crate) stops: CandidateList,
+    pub(crate) others: CandidateList,
 }
 
 /// Whether the evaluation may end with the rule.
@@ -83,10 +84,10 @@ fn others_of(alloc: Global, items: &[Item]) -> Result<Vec<Candidate>, AllocError
 /// The order of these rules.
 pub(crate) fn order_of(alloc: Global, items: &[Item]) -> Result<Order, AllocError>
     requires { length items.now ≤ RULES_MAX }
-    ensures stops { IfOk result (λ o. o.stops.items ≡ stops_of (map rule_of items.now)) }
-    ensures others { IfOk result (λ o. o.others.items ≡ others_of (map rule_of items.now)) }
+    ensures stops { IfOk result (λ o. o.stops ≡ stops_of (map rule_of items.now)) }
+    ensures others { IfOk result (λ o. o.others ≡ others_of (map rule_of items.now)) }
 {
-    let stops = stops_of(alloc, items)?;
-    let others = others_of(alloc, items)?;
+    let stops = CandidateList::of(alloc, stops_of(alloc, items)?)?;
+    let others = CandidateList::of(alloc, others_of(alloc, items)?)?;
     Ok(Order { stops, others })
 }

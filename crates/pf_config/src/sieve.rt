@@ -4,8 +4,9 @@ ghost use Rattle.std.specs.Prelude.{◌≡◌, ◌≤◌};
 ghost use Rattle.pf_config.specs.Orders.{everything, around, between, front_bits, set_interval};
 ghost use Rattle.pf_config.specs.Orders.{host_interval, test_interval, port_interval, sieve_of};
 
-use crate::candidate::{Interval, Sieve};
+use crate::candidate::Sieve;
 use pf_addr::Addr;
+use pf_classes::Interval;
 use pf_ruleset::{Addresses, Conditions, Host, PortTest};
 
 /// All numbers.

@@ -17,7 +17,7 @@ invariant_of-result c =
     let order : c.in_ok-order.order.value ≡ own.order.value = grind (arith, common_steps) in (
       grind (arith, common_steps),
       subst (λ p. AreKids p (shared c.in_ok-kids.kids.items)) (sym names) (subst (AreKids own.names.items) (sym kids) again),
-      subst (λ rs. IsOrder rs c.in_ok-order.order.value.stops.items c.in_ok-order.order.value.others.items) (sym rules) (subst (λ o. IsOrder (map rule_of own.items.value.items) o.stops.items o.others.items) (sym order) c.self.invariant.2),
+      subst (λ rs. IsOrder rs c.in_ok-order.order.value.stops c.in_ok-order.order.value.others) (sym rules) (subst (λ o. IsOrder (map rule_of own.items.value.items) o.stops o.others) (sym order) c.self.invariant.2),
     )
 
 pub returns : goal.returns

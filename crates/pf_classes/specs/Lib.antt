@@ -1,0 +1,4 @@
+pub mod Intervals
+pub mod Rows
+pub mod Columns
+pub mod Classes
