@@ -40,11 +40,11 @@ none_above n (k ∷ ks) h =
     let o : bytes_eq (last_name k.names) n ≡ false = nat_list_eq_equiv.symm (last_name k.names) n ∙ before_other n (last_name k.names) both.0 in
     rw o (none_above n ks both.1)
 
-order_back : (ks js : List AnchorTree) → AreInOrder (ks ++ js) → AreInOrder js
+pub order_back : (ks js : List AnchorTree) → AreInOrder (ks ++ js) → AreInOrder js
 order_back [] js s = s
 order_back (k ∷ ks) js s = order_back ks js s.1
 
-order_front : (ks js : List AnchorTree) → AreInOrder (ks ++ js) → AreInOrder ks
+pub order_front : (ks js : List AnchorTree) → AreInOrder (ks ++ js) → AreInOrder ks
 order_front [] js s = tt
 order_front (k ∷ ks) js s = (front (last_name k.names) ks s.0, order_front ks js s.1)
   where
@@ -78,7 +78,7 @@ pub record KidHalves (n : Name) (ks front : List AnchorTree) (m : AnchorTree) (b
   pub in_order_behind : AreInOrder behind
   pub in_order_first : AreInOrder front
 
-shared_append : {Z : Type 0} (ks js : List (Rc AnchorTree Z)) → shared (ks ++ js) ≡ shared ks ++ shared js
+pub shared_append : {Z : Type 0} (ks js : List (Rc AnchorTree Z)) → shared (ks ++ js) ≡ shared ks ++ shared js
 shared_append [] js = refl
 shared_append (k ∷ ks) js = ap (λ (r : List AnchorTree). k.value ∷ r) (shared_append ks js)
 

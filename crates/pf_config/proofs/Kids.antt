@@ -126,13 +126,13 @@ next_is after c p = (elim (find (is_above after) (kids c p)) as (λ r. find (is_
 
 -- ---- the kids of an anchor are its paths' next names
 
-after_is : (p : Path) (m : Name) (q : Path) → starts_with bytes_eq q (p ++ m ∷ []) ≡ true → name_after p q ≡ Some m
+pub after_is : (p : Path) (m : Name) (q : Path) → starts_with bytes_eq q (p ++ m ∷ []) ≡ true → name_after p q ≡ Some m
 after_is [] m [] h = cc
 after_is [] m (x ∷ q) h = ap Some (sym (bytes_same m x (both_true (bytes_eq m x) true h).0))
 after_is (l ∷ p) m [] h = cc
 after_is (l ∷ p) m (x ∷ q) h = let both = both_true (bytes_eq l x) (starts_with bytes_eq q (p ++ m ∷ [])) h in rw both.0 (after_is p m q both.1)
 
-after_own : (p : Path) → name_after p p ≡ None
+pub after_own : (p : Path) → name_after p p ≡ None
 after_own [] = refl
 after_own (l ∷ p) = rw (same_bytes l) (after_own p)
 

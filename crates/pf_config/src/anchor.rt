@@ -1,7 +1,7 @@
 //! An anchor, with all that stands below it.
 
 ghost use Rattle.std.specs.Prelude.{◌≡◌, ◌≤◌, ◌&&◌, ◌++◌, ◌∷◌, [], true, IfOk, OnOk, map};
-ghost use Rattle.std.specs.Prelude.{find, fold, option_map, length};
+ghost use Rattle.std.specs.Prelude.{find, fold, option_map, length, take, drop, IfSome, is_some};
 ghost use Rattle.std.specs.List.{list_all, list_any, starts_with};
 ghost use Rattle.std.specs.Option.{option_copied};
 ghost use Rattle.std.specs.Str.{bytes_eq};
@@ -124,6 +124,13 @@ impl Anchor {
         last_name(&self.names).cmp(name.as_bytes()) == Ordering::Less
     }
 
+    /// Whether its last name is this one.
+    fn is_named(&self, name: &Name) -> bool
+        ensures { result ≡ is_named name.now self.now }
+    {
+        last_name(&self.names) == name.as_bytes()
+    }
+
     /// Whether its last name is behind this one.
     fn is_behind(&self, name: &Name) -> bool
         ensures { result ≡ is_before name.now (last_name self.now.names) }
@@ -201,6 +208,14 @@ impl Anchor {
             kid.push_paths(paths)?;
         }
         Ok(())
+    }
+
+    /// Whether an unnamed block stands directly below it.
+    #[tactic(auto, using(crate::proofs::Unnamed::kids_unnamed))]
+    pub(crate) fn has_unnamed_kid(&self) -> bool
+        ensures { result ≡ any_unnamed self.now.names self.now.anchors }
+    {
+        any_unnamed(&self.kids)
     }
 
     /// Whether one of its paths begins with this one and an unnamed name. No anchor is entered that is off the path.
@@ -377,18 +392,14 @@ impl Anchor {
         Ok(tables)
     }
 
-    /// The same with these rules and tables at its path.
-    fn with_own(
-        &self,
-        alloc: Global,
-        items: Rc<Vec<Item>>,
-        tables: Tables,
-    ) -> Result<Anchor, AllocError>
-        requires { length items.value.items ≤ RULES_MAX }
-        ensures { IfOk result (λ a. a ≡ placed_in self.now [] (map rule_of items.value.items) tables) }
+    /// The same once more. The anchors below are shared.
+    pub(crate) fn copied(&self, alloc: Global) -> Result<Anchor, AllocError>
+        ensures { IfOk result (λ a. a ≡ self.now) }
     {
         let names = copied_path(alloc, &self.names)?;
-        let order = Rc::new(alloc, order_of(alloc, &items)?)?;
+        let items = self.items.clone()?;
+        let order = self.order.clone()?;
+        let tables = self.tables.copied()?;
         let kids = shared_kids(alloc, &self.kids)?;
         Ok(Anchor {
             names,
@@ -399,19 +410,24 @@ impl Anchor {
         })
     }
 
-    /// The same with this anchor in the place of the one of that name directly below, or without it where the anchor
-    /// holds nothing.
-    fn with_kid(&self, alloc: Global, name: &Name, kid: Anchor) -> Result<Anchor, AllocError>
-        requires names { kid.names ≡ self.now.names ++ name.now ∷ [] }
-        requires below { list_all (λ (a : AnchorValue). starts_with bytes_eq a.path kid.names) kid.anchors ≡ true }
-        ensures { IfOk result (λ t. TakesPlace self.now name.now kid t) }
+    /// The same with these rules and tables at its path.
+    fn with_own(
+        self,
+        alloc: Global,
+        items: Rc<Vec<Item>>,
+        tables: Tables,
+    ) -> Result<Anchor, AllocError>
+        requires { length items.value.items ≤ RULES_MAX }
+        ensures { IfOk result (λ a. a ≡ placed_in self [] (map rule_of items.value.items) tables) }
     {
-        let names = copied_path(alloc, &self.names)?;
-        let items = self.items.clone()?;
-        let order = self.order.clone()?;
-        let tables = self.tables.copied()?;
-        let kid = Rc::new(alloc, kid)?;
-        let kids = kids_with(alloc, &self.kids, name, kid)?;
+        let order = Rc::new(alloc, order_of(alloc, &items)?)?;
+        let Anchor {
+            names,
+            items: _,
+            order: _,
+            tables: _,
+            kids,
+        } = self;
         Ok(Anchor {
             names,
             items,
@@ -521,6 +537,18 @@ fn is_own_unnamed(
     is_unnamed_below(names, path)
 }
 
+/// Whether one of the anchors is an unnamed block.
+fn any_unnamed(kids: &[Rc<Anchor>]) -> bool
+    ensures { result ≡ list_any (passes begins_below) (shared kids.now) }
+{
+    for kid in kids {
+        if kid.is_unnamed() {
+            return true;
+        }
+    }
+    false
+}
+
 /// The last of the names.
 fn last_name(names: &[Name]) -> &[u8]
     ensures { result.now ≡ last_name names.now }
@@ -550,38 +578,6 @@ fn shared_kids(alloc: Global, kids: &[Rc<Anchor>]) -> Result<Vec<Rc<Anchor>>, Al
     Ok(next)
 }
 
-/// Appends the anchors with names before this one.
-fn push_before(
-    next: &mut Vec<Rc<Anchor>>,
-    kids: &[Rc<Anchor>],
-    name: &Name,
-) -> Result<(), AllocError>
-    ensures { OnOk result (shared next.new.items ≡ shared next.old.items ++ kids_before name.now (shared kids.now)) }
-{
-    for kid in kids {
-        if kid.is_before(name) {
-            next.push(kid.clone()?)?;
-        }
-    }
-    Ok(())
-}
-
-/// Appends the anchors with names behind this one.
-fn push_behind(
-    next: &mut Vec<Rc<Anchor>>,
-    kids: &[Rc<Anchor>],
-    name: &Name,
-) -> Result<(), AllocError>
-    ensures { OnOk result (shared next.new.items ≡ shared next.old.items ++ kids_behind name.now (shared kids.now)) }
-{
-    for kid in kids {
-        if kid.is_behind(name) {
-            next.push(kid.clone()?)?;
-        }
-    }
-    Ok(())
-}
-
 /// Appends the anchor, unless it holds nothing.
 fn push_some(next: &mut Vec<Rc<Anchor>>, kid: Rc<Anchor>) -> Result<(), AllocError>
     ensures { OnOk result (shared next.new.items ≡ shared next.old.items ++ some_kid kid.value) }
@@ -592,66 +588,132 @@ fn push_some(next: &mut Vec<Rc<Anchor>>, kid: Rc<Anchor>) -> Result<(), AllocErr
     Ok(())
 }
 
-/// The anchors with this one in the place of the one of that name, or without it where it holds nothing.
-fn kids_with(
-    alloc: Global,
-    kids: &[Rc<Anchor>],
-    name: &Name,
-    kid: Rc<Anchor>,
-) -> Result<Vec<Rc<Anchor>>, AllocError>
-    ensures { IfOk result (λ v. shared v.items ≡ kids_before name.now (shared kids.now) ++
-        (some_kid kid.value ++ kids_behind name.now (shared kids.now))) }
+/// How many of the anchors have names before this one. They are counted by halves.
+fn count_before(kids: &[Rc<Anchor>], name: &Name) -> usize
+    requires { AreInOrder (shared kids.now) }
+    ensures { result ≡ length (kids_before name.now (shared kids.now)) }
 {
-    let mut next = Vec::new(alloc);
-    push_before(&mut next, kids, name)?;
-    push_some(&mut next, kid)?;
-    push_behind(&mut next, kids, name)?;
-    Ok(next)
+    let mut left = kids;
+    let mut count = 0usize;
+    while !left.is_empty() {
+        let half = left.len() / 2;
+        let (front, back) = left.split_at(half);
+        let [middle, behind @ ..] = back else {
+            return count;
+        };
+        if middle.is_before(name) {
+            count += half + 1;
+            left = behind;
+        } else {
+            left = front;
+        }
+    }
+    count
 }
 
-/// The anchor with these rules and tables at a path below it.
-#[cycle(entry)]
+/// Whether the anchor of that name is there. Its place is after those with names before it.
+fn stands_at(kids: &[Rc<Anchor>], at: usize, name: &Name) -> bool
+    requires order { AreInOrder (shared kids.now) }
+    requires place { at ≡ length (kids_before name.now (shared kids.now)) }
+    ensures { result ≡ is_some (find (is_named name.now) (shared kids.now)) }
+{
+    match kids.get(at) {
+        Some(kid) => kid.is_named(name),
+        None => false,
+    }
+}
+
+/// Takes the anchor of that name out from among the others, if it is there.
+fn take_named(kids: &mut Vec<Rc<Anchor>>, at: usize, name: &Name) -> Option<Rc<Anchor>>
+    requires order { AreInOrder (shared kids.old.items) }
+    requires place { at ≡ length (kids_before name.now (shared kids.old.items)) }
+    ensures taken { option_map (λ k. k.value) result ≡ find (is_named name.now) (shared kids.old.items) }
+    ensures left { shared kids.new.items ≡ kids_before name.now (shared kids.old.items) ++
+        kids_behind name.now (shared kids.old.items) }
+{
+    if !stands_at(kids, at, name) {
+        return None;
+    }
+    let kid = kids.remove(at);
+    Some(kid)
+}
+
+/// Puts the anchor in its place among the others, unless it holds nothing.
+fn put_kid(kids: &mut Vec<Rc<Anchor>>, at: usize, kid: Rc<Anchor>) -> Result<(), AllocError>
+    requires { at ≤ length kids.old.items }
+    ensures { OnOk result (shared kids.new.items ≡ take at (shared kids.old.items) ++
+        (some_kid kid.value ++ drop at (shared kids.old.items))) }
+{
+    if kid.is_nothing() {
+        return Ok(());
+    }
+    kids.insert(at, kid)?;
+    Ok(())
+}
+
+/// The anchor itself where nobody shares it, else a copy.
+fn owned(alloc: Global, anchor: Rc<Anchor>) -> Result<Anchor, AllocError>
+    ensures { IfOk result (λ a. a ≡ anchor.value) }
+{
+    match Rc::try_unwrap(anchor) {
+        Ok(own) => Ok(own),
+        Err(shared) => shared.copied(alloc),
+    }
+}
+
+/// The anchor that was taken out, to be changed, or one with nothing in it where none was there.
+fn owned_or_empty(
+    alloc: Global,
+    names: &[Name],
+    name: &Name,
+    kid: Option<Rc<Anchor>>,
+) -> Result<Anchor, AllocError>
+    requires { IfSome kid (λ k. k.value.names ≡ names.now ++ name.now ∷ []) }
+    ensures { IfOk result (λ a. a ≡ record {
+      names = names.now ++ name.now ∷ [];
+      anchors = anchors_of (option_map (λ k. k.value) kid);
+    }) }
+{
+    match kid {
+        Some(kid) => owned(alloc, kid),
+        None => Anchor::empty(alloc, followed_by(alloc, names, name)?),
+    }
+}
+
+/// The anchor with these rules and tables at a path below it. It is taken apart: what nobody else shares is changed in
+/// its place, and what is shared stays as it is.
 pub(crate) fn with_entry(
     alloc: Global,
-    anchor: &Anchor,
+    anchor: Anchor,
     rest: &[Name],
     items: Rc<Vec<Item>>,
     tables: Tables,
 ) -> Result<Anchor, AllocError>
     requires { length items.value.items ≤ RULES_MAX }
-    ensures { IfOk result (λ a. a ≡ placed_in anchor.now rest.now (map rule_of items.value.items) tables) }
+    ensures { IfOk result (λ a. a ≡ placed_in anchor rest.now (map rule_of items.value.items) tables) }
 {
     match rest {
         [] => anchor.with_own(alloc, items, tables),
         [name, more @ ..] => {
-            let kid = kid_with_entry(alloc, anchor, name, more, items, tables)?;
-            let whole = anchor.with_kid(alloc, name, kid)?;
-            Ok(whole)
-        }
-    }
-}
-
-/// The anchor of that name directly below with these rules and tables at a path below it.
-#[cycle(entry)]
-fn kid_with_entry(
-    alloc: Global,
-    anchor: &Anchor,
-    name: &Name,
-    more: &[Name],
-    items: Rc<Vec<Item>>,
-    tables: Tables,
-) -> Result<Anchor, AllocError>
-    requires { length items.value.items ≤ RULES_MAX }
-    ensures { IfOk result (λ a. a ≡ placed_in (record {
-      names = anchor.now.names ++ name.now ∷ [];
-      anchors = anchors_of (child_at anchor.now name.now);
-    }) more.now (map rule_of items.value.items) tables) }
-{
-    match anchor.child(name.as_str()) {
-        Some(kid) => with_entry(alloc, kid, more, items, tables),
-        None => {
-            let kid = Anchor::empty(alloc, followed_by(alloc, anchor.names(), name)?)?;
-            with_entry(alloc, &kid, more, items, tables)
+            let Anchor {
+                names,
+                items: own,
+                order,
+                tables: held,
+                mut kids,
+            } = anchor;
+            let at = count_before(&kids, name);
+            let taken = take_named(&mut kids, at, name);
+            let kid = owned_or_empty(alloc, &names, name, taken)?;
+            let changed = with_entry(alloc, kid, more, items, tables)?;
+            put_kid(&mut kids, at, Rc::new(alloc, changed)?)?;
+            Ok(Anchor {
+                names,
+                items: own,
+                order,
+                tables: held,
+                kids,
+            })
         }
     }
 }

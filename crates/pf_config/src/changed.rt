@@ -4,7 +4,8 @@
 ghost use Rattle.std.specs.Prelude.{◌≡◌, ◌≤◌, [], IfOk, map, length};
 ghost use Rattle.pf_ruleset.specs.Seen.{rule_of};
 ghost use Rattle.pf_config.specs.Map.{anchor_at, rules_in, tables_in};
-ghost use Rattle.pf_config.specs.Changes.{with_tables, with_rules, placed, tidied};
+ghost use Rattle.pf_config.specs.Changes.{with_tables, with_rules, placed, tidied, without_unnamed};
+ghost use Rattle.pf_config.specs.Trees.{any_unnamed};
 ghost use Rattle.pf_config.specs.declared.config.TheConstants.{RULES_MAX};
 
 use crate::anchor::{Anchor, with_entry};
@@ -49,6 +50,17 @@ pub(crate) fn tables_at(alloc: Global, main: &Anchor, path: &[Name]) -> Result<T
     }
 }
 
+/// Whether a path of the map begins with this one and an unnamed name. The anchor at the path alone is asked.
+fn has_unnamed(main: &Anchor, path: &[Name]) -> bool
+    requires { main.now.names ≡ [] }
+    ensures { result ≡ any_unnamed path.now main.now.anchors }
+{
+    match descend(main, path) {
+        Some(anchor) => anchor.has_unnamed_kid(),
+        None => false,
+    }
+}
+
 /// The map with these tables at a path.
 pub(crate) fn with_tables(
     alloc: Global,
@@ -61,49 +73,59 @@ pub(crate) fn with_tables(
     ensures map { IfOk result (λ a. a.anchors ≡ with_tables path.now tables main.now.anchors) }
 {
     let items = items_at(alloc, main, path)?;
-    let next = with_entry(alloc, main, path, items, tables)?;
+    let own = main.copied(alloc)?;
+    let next = with_entry(alloc, own, path, items, tables)?;
     Ok(next)
 }
 
 /// The map with these rules at a path.
-pub(crate) fn with_rules(
+fn with_rules(
     alloc: Global,
-    main: &Anchor,
+    main: Anchor,
     path: &[Name],
     items: Rc<Vec<Item>>,
 ) -> Result<Anchor, AllocError>
-    requires names { main.now.names ≡ [] }
+    requires names { main.names ≡ [] }
     requires few { length items.value.items ≤ RULES_MAX }
     ensures names { IfOk result (λ a. a.names ≡ []) }
-    ensures map { IfOk result (λ a. a.anchors ≡ with_rules path.now (map rule_of items.value.items)
-        main.now.anchors) }
+    ensures map { IfOk result (λ a. a.anchors ≡ with_rules path.now (map rule_of items.value.items) main.anchors) }
 {
-    let tables = tables_at(alloc, main, path)?;
+    let tables = tables_at(alloc, &main, path)?;
     let next = with_entry(alloc, main, path, items, tables)?;
     Ok(next)
 }
 
-/// The map with these rules at a path, and no unnamed blocks below it.
+/// The map with no unnamed blocks below a path.
 #[tactic(auto, using(crate::proofs::Cut::none_unnamed))]
+pub(crate) fn cut(alloc: Global, main: Anchor, path: &[Name]) -> Result<Anchor, AllocError>
+    requires { main.names ≡ [] }
+    ensures names { IfOk result (λ a. a.names ≡ []) }
+    ensures map { IfOk result (λ a. a.anchors ≡ without_unnamed path.now main.anchors) }
+{
+    if !has_unnamed(&main, path) {
+        return Ok(main);
+    }
+    let left = main.without_unnamed(alloc, path)?;
+    Ok(left)
+}
+
+/// The map with these rules at a path, and no unnamed blocks below it.
 pub(crate) fn placed(
     alloc: Global,
-    main: &Anchor,
+    main: Anchor,
     path: &[Name],
     items: Rc<Vec<Item>>,
 ) -> Result<Anchor, AllocError>
-    requires names { main.now.names ≡ [] }
+    requires names { main.names ≡ [] }
     requires few { length items.value.items ≤ RULES_MAX }
     ensures names { IfOk result (λ a. a.names ≡ []) }
-    ensures map { IfOk result (λ a. a.anchors ≡ placed main.now.anchors (record {
+    ensures map { IfOk result (λ a. a.anchors ≡ placed main.anchors (record {
       path = path.now;
       rules = map rule_of items.value.items;
     })) }
 {
-    if !main.has_unnamed(path) {
-        return with_rules(alloc, main, path, items);
-    }
-    let left = main.without_unnamed(alloc, path)?;
-    let next = with_rules(alloc, &left, path, items)?;
+    let left = cut(alloc, main, path)?;
+    let next = with_rules(alloc, left, path, items)?;
     Ok(next)
 }
 

@@ -263,7 +263,7 @@ impl Config {
         ensures { Changes result self.old self.new (Ok (flush_rules self.old path.now)) }
     {
         let items = Rc::new(self.alloc, Vec::new(self.alloc))?;
-        let left = placed(self.alloc, &self.main, path, items)?;
+        let left = placed(self.alloc, self.main.copied(self.alloc)?, path, items)?;
         let next = tidied(self.alloc, left)?;
         self.main = next;
         Ok(())
@@ -275,7 +275,7 @@ impl Config {
         ensures { Changes result self.old self.new (Ok (flush_all self.old path.now)) }
     {
         let items = Rc::new(self.alloc, Vec::new(self.alloc))?;
-        let left = placed(self.alloc, &self.main, path, items)?;
+        let left = placed(self.alloc, self.main.copied(self.alloc)?, path, items)?;
         let tidy = tidied(self.alloc, left)?;
         let next = with_tables(self.alloc, &tidy, path, Tables::new(self.alloc)?)?;
         self.main = next;

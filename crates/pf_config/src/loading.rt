@@ -7,7 +7,7 @@ ghost use Rattle.pf_config.specs.inner.Texts.{definition_of};
 ghost use Rattle.pf_config.specs.Trees.{with_text};
 
 use crate::anchor::{Anchor, with_entry};
-use crate::changed::{placed, tables_at, tidied};
+use crate::changed::{cut, placed, tables_at, tidied};
 use crate::depths::DEEPEST;
 use crate::placing::Placing;
 use crate::table_index::TableIndex;
@@ -44,7 +44,7 @@ fn with_blocks(alloc: Global, main: Anchor, blocks: &[Placing]) -> Result<Anchor
     let mut next = main;
     for block in blocks {
         let items = block.items()?;
-        next = placed(alloc, &next, block.path(), items)?;
+        next = placed(alloc, next, block.path(), items)?;
     }
     Ok(next)
 }
@@ -88,40 +88,35 @@ fn with_definitions(
 /// The map with a text's rules at its path, and its definitions among the tables there.
 fn with_text(
     alloc: Global,
-    main: &Anchor,
+    main: Anchor,
     own: &Placing,
     definitions: &[TableDef],
 ) -> Result<Anchor, AllocError>
-    requires { main.now.names ≡ [] }
+    requires { main.names ≡ [] }
     ensures names { IfOk result (λ a. a.names ≡ []) }
-    ensures map { IfOk result (λ a. a.anchors ≡ with_text own.now (map definition_of definitions.now)
-        main.now.anchors) }
+    ensures map { IfOk result (λ a. a.anchors ≡ with_text own.now (map definition_of definitions.now) main.anchors) }
 {
     let items = own.items()?;
-    let old = tables_at(alloc, main, own.path())?;
+    let old = tables_at(alloc, &main, own.path())?;
     let tables = with_definitions(alloc, old, definitions)?;
     let next = with_entry(alloc, main, own.path(), items, tables)?;
     Ok(next)
 }
 
 /// The map with a text's rules and tables at its path, and no unnamed blocks below it.
-#[tactic(auto, using(crate::proofs::Cut::none_unnamed))]
 fn placed_text(
     alloc: Global,
-    main: &Anchor,
+    main: Anchor,
     own: &Placing,
     definitions: &[TableDef],
 ) -> Result<Anchor, AllocError>
-    requires { main.now.names ≡ [] }
+    requires { main.names ≡ [] }
     ensures names { IfOk result (λ a. a.names ≡ []) }
     ensures map { IfOk result (λ a. a.anchors ≡ with_text own.now (map definition_of definitions.now)
-        (without_unnamed own.now.path main.now.anchors)) }
+        (without_unnamed own.now.path main.anchors)) }
 {
-    if !main.has_unnamed(own.path()) {
-        return with_text(alloc, main, own, definitions);
-    }
-    let left = main.without_unnamed(alloc, own.path())?;
-    let next = with_text(alloc, &left, own, definitions)?;
+    let left = cut(alloc, main, own.path())?;
+    let next = with_text(alloc, left, own, definitions)?;
     Ok(next)
 }
 
@@ -139,7 +134,8 @@ pub(crate) fn loaded(
     ensures map { IfOk result (λ a. a.anchors ≡ loaded own.now (map definition_of definitions.now) blocks.now
         main.now.anchors) }
 {
-    let first = placed_text(alloc, main, own, definitions)?;
+    let old = main.copied(alloc)?;
+    let first = placed_text(alloc, old, own, definitions)?;
     let all = with_blocks(alloc, first, blocks)?;
     let tidy = tidied(alloc, all)?;
     Ok(tidy)

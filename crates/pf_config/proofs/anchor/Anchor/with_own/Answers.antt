@@ -1,5 +1,4 @@
-use Rattle.std.proofs.Common.{◌≡◌, ◌++◌, [], map, subst, arith}
-use Rattle.std.proofs.lemmas.Grind.{common_steps}
+use Rattle.std.proofs.Common.{◌≡◌, ◌++◌, [], map, refl, subst}
 use Rattle.pf_ruleset.specs.Seen.{rule_of}
 use Rattle.pf_config.specs.Trees.{AnchorTree, shared, placed_in, own_entry, below}
 use Rattle.pf_config.proofs.Entries.{own_placed}
@@ -8,7 +7,5 @@ use Rattle.pf_config.proofs.anchor.Anchor.with_own.Goals as goal
 pub returns : goal.returns
 returns c =
     let own = c.self.inside in
-    let names : c.in_ok-names.names.items ≡ own.names.items = grind (arith, common_steps) in
-    let kids : shared c.in_ok-kids.kids.items ≡ (shared own.kids.items) = grind (arith, common_steps) in
-    subst (λ (t : AnchorTree). ◌≡◌ {A = AnchorTree} (record { names = c.in_ok-names.names.items; anchors = own_entry c.in_ok-names.names.items (map rule_of c.args.items.value.items) c.args.tables ++ below (shared c.in_ok-kids.kids.items) }) (placed_in t [] (map rule_of c.args.items.value.items) c.args.tables)) c.self.view_is
-    (own_placed own.names.items c.in_ok-names.names.items (map rule_of own.items.value.items) (map rule_of c.args.items.value.items) own.tables c.args.tables (shared own.kids.items) (shared c.in_ok-kids.kids.items) c.self.invariant.1 names kids)
+    subst (λ (t : AnchorTree). ◌≡◌ {A = AnchorTree} (record { names = own.names.items; anchors = own_entry own.names.items (map rule_of c.args.items.value.items) c.args.tables ++ below (shared own.kids.items) }) (placed_in t [] (map rule_of c.args.items.value.items) c.args.tables)) c.self.view_is
+    (own_placed own.names.items own.names.items (map rule_of own.items.value.items) (map rule_of c.args.items.value.items) own.tables c.args.tables (shared own.kids.items) (shared own.kids.items) c.self.invariant.1 refl refl)

@@ -1,0 +1,12 @@
+use Rattle.std.proofs.Common.{◌≡◌, ◌∙◌, ◌++◌, ◌∷◌, take, drop, ap, rules, false}
+use Rattle.pf_config.specs.Changes.{is_empty}
+use Rattle.pf_config.specs.Trees.{shared}
+use Rattle.pf_config.proofs.KidPlaces.{put_in}
+use Rattle.pf_config.proofs.anchor.put_kid.Goals as goal
+
+pub returns : goal.returns
+returns c =
+    let all = c.args.kids.now.items in
+    let some : is_empty c.args.kid.value.anchors ≡ false = search rules in
+    let new : c.insert.new.self.items ≡ take c.args.at all ++ c.args.kid ∷ drop c.args.at all = search rules in
+    ap shared new ∙ put_in c.args.at all c.args.kid some

@@ -1,0 +1,33 @@
+use Rattle.std.proofs.Common.{◌≡◌, ◌∙◌, ◌<◌, ◌+◌, Some, None, get_or, take, drop, length, length-drop, suc, sym, ap, rules, arith, true, false}
+use Rattle.std.specs.Prelude.{find, is_some}
+use Rattle.pf_config.specs.Trees.{shared, is_named}
+use Rattle.pf_config.proofs.Cut.{next_kid}
+use Rattle.pf_config.proofs.KidPlaces.{left_whole, has_place, taken_out}
+use Rattle.pf_config.proofs.anchor.take_named.Goals as goal
+
+pub returns-then-not-stands_at-clause-left : goal.returns-then-not-stands_at-clause-left
+returns-then-not-stands_at-clause-left c =
+    let none : is_some (find (is_named c.args.name.now) (shared c.args.kids.now.items)) ≡ false = search rules in
+    (left_whole c.args.name.now (shared c.args.kids.now.items) c.requires.order none).1
+
+pub remove-kid-requires : goal.remove-kid-requires
+remove-kid-requires c =
+    let some : is_some (find (is_named c.args.name.now) (shared c.args.kids.now.items)) ≡ true = search rules in
+    let less = has_place c.args.name.now c.args.at c.args.kids.now.items c.requires.order c.requires.place some in
+    search rules
+
+pub returns-clause-taken : goal.returns-clause-taken
+returns-clause-taken c =
+    let all = c.args.kids.now.items in
+    let some : is_some (find (is_named c.args.name.now) (shared all)) ≡ true = search rules in
+    let less = has_place c.args.name.now c.args.at all c.requires.order c.requires.place some in
+    let next = next_kid all c.args.at c.remove-kid.result less c.remove-kid.ensures.value in
+    (taken_out c.args.name.now c.args.at all (drop (c.args.at + 1) all) c.remove-kid.result c.requires.order c.requires.place some next).0
+
+pub returns-clause-left : goal.returns-clause-left
+returns-clause-left c =
+    let all = c.args.kids.now.items in
+    let some : is_some (find (is_named c.args.name.now) (shared all)) ≡ true = search rules in
+    let less = has_place c.args.name.now c.args.at all c.requires.order c.requires.place some in
+    let next = next_kid all c.args.at c.remove-kid.result less c.remove-kid.ensures.value in
+    ap shared c.remove-kid.ensures.by_index.2 ∙ (taken_out c.args.name.now c.args.at all (drop (c.args.at + 1) all) c.remove-kid.result c.requires.order c.requires.place some next).1
