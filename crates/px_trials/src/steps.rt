@@ -109,19 +109,32 @@ fn expect_refusal(member: &mut Member, event: &Event, code: Option<u8>) -> Resul
     expect(refusal_of(taken) == code, "another refusal")
 }
 
-fn refuse(member: &mut Member) -> Result<(), Fail> {
+/// The same of an asking.
+fn expect_asked(member: &mut Member, code: Option<u8>) -> Result<(), Fail> {
     let bytes = spelling(0, 0, 7);
-    let asks = asked(&bytes)?;
-    let _sends = member.step(&asks)?;
+    let event = asked(&bytes)?;
+    expect_refusal(member, &event, code)
+}
+
+/// A command is asked of the member, which takes it in.
+fn ask(member: &mut Member) -> Result<(), Fail> {
+    let bytes = spelling(0, 0, 7);
+    let event = asked(&bytes)?;
+    let _sends = member.step(&event)?;
+    Ok(())
+}
+
+fn refuse(member: &mut Member) -> Result<(), Fail> {
+    ask(member)?;
     member.put_numbers((1 << 48) - 1, 1);
     expect_refusal(member, &Event::Ticks, Some(61))?;
     member.put_numbers((1 << 48) - 1, 1 << 48);
-    expect_refusal(member, &asks, Some(62))?;
+    expect_asked(member, Some(62))?;
     member.put_numbers((1 << 48) - 1, 1);
     for _ in 1..64 {
-        expect_refusal(member, &asks, None)?;
+        expect_asked(member, None)?;
     }
-    expect_refusal(member, &asks, Some(60))
+    expect_asked(member, Some(60))
 }
 
 #[test]
