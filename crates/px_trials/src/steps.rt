@@ -94,7 +94,7 @@ fn a_promise_binds(rt: HostRuntime) -> Result<(), Fail> {
 }
 
 /// The number of the refusal.
-fn refusal_of(taken: Result<Sends, CoreFault>) -> Option<u8> {
+fn refusal_of(taken: &Result<Sends, CoreFault>) -> Option<u8> {
     match taken {
         Err(CoreFault::Full) => Some(60),
         Err(CoreFault::BallotsSpent) => Some(61),
@@ -106,7 +106,9 @@ fn refusal_of(taken: Result<Sends, CoreFault>) -> Option<u8> {
 /// Refuses another outcome of the event than this refusal, none where it is taken.
 fn expect_refusal(member: &mut Member, event: &Event, code: Option<u8>) -> Result<(), Fail> {
     let taken = member.take(event)?;
-    expect(refusal_of(taken) == code, "another refusal")
+    let found = refusal_of(&taken);
+    drop(taken);
+    expect(found == code, "another refusal")
 }
 
 /// The same of an asking.
@@ -120,7 +122,8 @@ fn expect_asked(member: &mut Member, code: Option<u8>) -> Result<(), Fail> {
 fn ask(member: &mut Member) -> Result<(), Fail> {
     let bytes = spelling(0, 0, 7);
     let event = asked(&bytes)?;
-    let _sends = member.step(&event)?;
+    let sends = member.step(&event)?;
+    drop(sends);
     Ok(())
 }
 
@@ -140,7 +143,9 @@ fn refuse(member: &mut Member) -> Result<(), Fail> {
 #[test]
 fn refusals_come_in_order(rt: HostRuntime) -> Result<(), Fail> {
     let mut member = Member::new(rt.alloc(), 3, 0)?;
-    refuse(&mut member)
+    let refused = refuse(&mut member);
+    drop(member);
+    refused
 }
 
 /// A vote comes to the first member.
@@ -204,8 +209,13 @@ fn expect_fifth(core: &Core) -> Result<(), Fail> {
 fn started(alloc: Global) -> Result<Core, Fail> {
     let entry = fifth(alloc)?;
     let mut core = Core::new(alloc, 3, 0)?;
-    core.remember(0, entry)?;
-    Ok(core)
+    match core.remember(0, entry) {
+        Ok(()) => Ok(core),
+        Err(fault) => {
+            drop(core);
+            Err(fault.into())
+        }
+    }
 }
 
 fn start(alloc: Global, member: &mut Member) -> Result<(), Fail> {
