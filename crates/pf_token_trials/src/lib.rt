@@ -5,3 +5,5 @@
 mod addresses;
 #[cfg(test)]
 mod tokens;
+#[cfg(test)]
+mod told;

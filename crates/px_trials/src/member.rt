@@ -64,8 +64,14 @@ fn planned(core: &mut Core, stored: &Stored, event: &Event) -> Result<Result<Pla
 fn settled(core: &mut Core, stored: &mut Stored, plan: Plan) -> Result<Sends, Fail>
     requires { IsFor plan core.old }
 {
-    stored.commit(&plan.change)?;
-    Ok(core.settle(plan))
+    let kept = stored.commit(&plan.change);
+    match kept {
+        Ok(()) => Ok(core.settle(plan)),
+        Err(fail) => {
+            drop(plan);
+            Err(fail)
+        }
+    }
 }
 
 impl Member {

@@ -94,7 +94,7 @@ fn a_promise_binds(rt: HostRuntime) -> Result<(), Fail> {
 }
 
 /// The number of the refusal.
-fn refusal_of(taken: Result<Sends, CoreFault>) -> Option<u8> {
+fn refusal_of(taken: &Result<Sends, CoreFault>) -> Option<u8> {
     match taken {
         Err(CoreFault::Full) => Some(60),
         Err(CoreFault::BallotsSpent) => Some(61),
@@ -106,28 +106,46 @@ fn refusal_of(taken: Result<Sends, CoreFault>) -> Option<u8> {
 /// Refuses another outcome of the event than this refusal, none where it is taken.
 fn expect_refusal(member: &mut Member, event: &Event, code: Option<u8>) -> Result<(), Fail> {
     let taken = member.take(event)?;
-    expect(refusal_of(taken) == code, "another refusal")
+    let found = refusal_of(&taken);
+    drop(taken);
+    expect(found == code, "another refusal")
+}
+
+/// The same of an asking.
+fn expect_asked(member: &mut Member, code: Option<u8>) -> Result<(), Fail> {
+    let bytes = spelling(0, 0, 7);
+    let event = asked(&bytes)?;
+    expect_refusal(member, &event, code)
+}
+
+/// A command is asked of the member, which takes it in.
+fn ask(member: &mut Member) -> Result<(), Fail> {
+    let bytes = spelling(0, 0, 7);
+    let event = asked(&bytes)?;
+    let sends = member.step(&event)?;
+    drop(sends);
+    Ok(())
 }
 
 fn refuse(member: &mut Member) -> Result<(), Fail> {
-    let bytes = spelling(0, 0, 7);
-    let asks = asked(&bytes)?;
-    let _sends = member.step(&asks)?;
+    ask(member)?;
     member.put_numbers((1 << 48) - 1, 1);
     expect_refusal(member, &Event::Ticks, Some(61))?;
     member.put_numbers((1 << 48) - 1, 1 << 48);
-    expect_refusal(member, &asks, Some(62))?;
+    expect_asked(member, Some(62))?;
     member.put_numbers((1 << 48) - 1, 1);
     for _ in 1..64 {
-        expect_refusal(member, &asks, None)?;
+        expect_asked(member, None)?;
     }
-    expect_refusal(member, &asks, Some(60))
+    expect_asked(member, Some(60))
 }
 
 #[test]
 fn refusals_come_in_order(rt: HostRuntime) -> Result<(), Fail> {
     let mut member = Member::new(rt.alloc(), 3, 0)?;
-    refuse(&mut member)
+    let refused = refuse(&mut member);
+    drop(member);
+    refused
 }
 
 /// A vote comes to the first member.
@@ -191,8 +209,13 @@ fn expect_fifth(core: &Core) -> Result<(), Fail> {
 fn started(alloc: Global) -> Result<Core, Fail> {
     let entry = fifth(alloc)?;
     let mut core = Core::new(alloc, 3, 0)?;
-    core.remember(0, entry)?;
-    Ok(core)
+    match core.remember(0, entry) {
+        Ok(()) => Ok(core),
+        Err(fault) => {
+            drop(core);
+            Err(fault.into())
+        }
+    }
 }
 
 fn start(alloc: Global, member: &mut Member) -> Result<(), Fail> {

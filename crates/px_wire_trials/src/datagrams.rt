@@ -152,11 +152,13 @@ fn one_encoding_for_fifteen_members(rt: HostRuntime) -> Result<(), Fail> {
 
 #[test]
 fn a_member_sends_a_need(rt: HostRuntime) -> Result<(), Fail> {
-    let message: Message<Entry> = Message::Need { position: 5 };
     let Some(m) = Membership::new(7, 3, 2) else {
         return Err("three members".into());
     };
-    let bytes = encode_sent(rt.alloc(), &m, 0, &message)?;
+    let message: Message<Entry> = Message::Need { position: 5 };
+    let encoded = encode_sent(rt.alloc(), &m, 0, &message);
+    drop(message);
+    let bytes = encoded?;
     expect(bytes.as_slice() == NEED, "other bytes")
 }
 
