@@ -4,9 +4,9 @@ use Rattle.std.specs.Prelude.{if◌then◌else◌, find, fold, map, not, option_
 use Rattle.std.specs.List.{starts_with}
 use Rattle.std.specs.Str.{bytes_eq}
 use Rattle.pf_ruleset.specs.Names.{Name}
-use Rattle.pf_config.specs.Map.{AnchorValue, Path, anchor_at, path_eq, any_begins, rules_in, tables_in, names_after, put_name, followed_by}
+use Rattle.pf_config.specs.Map.{AnchorValue, Path, anchor_at, path_eq, rules_in, tables_in, names_after, put_name, followed_by}
 use Rattle.pf_config.specs.Changes.{is_empty}
-use Rattle.pf_config.specs.Trees.{AnchorTree, part_below, some_part, child_at, and_then, tree_at, anchor_in, names_of, first_kid}
+use Rattle.pf_config.specs.Trees.{AnchorTree, part_below, some_part, child_at, and_then, tree_at, anchor_in}
 use Rattle.pf_config.proofs.PathFronts.{starts_with_both, own_front}
 use Rattle.pf_config.proofs.Treed.{both_true}
 use Rattle.pf_config.proofs.Kids.{names_part}
@@ -53,10 +53,6 @@ walk_on t (n ∷ p) r = go (child_at t n) (λ k. walk_on k p r)
 
 -- ---- what is found there
 
-part_itself : (es : List AnchorValue) → part_below [] es ≡ es
-part_itself [] = refl
-part_itself (a ∷ es) = ap (λ (r : List AnchorValue). a ∷ r) (part_itself es)
-
 at_part : (p : Path) (es : List AnchorValue) → anchor_at p (part_below p es) ≡ anchor_at p es
 at_part p [] = refl
 at_part p (a ∷ es) =
@@ -78,18 +74,6 @@ pub found_at : (es : List AnchorValue) (p : Path) → own_at (anchor_in es p) �
 found_at es [] = refl
 found_at es (n ∷ r) = some_at (n ∷ r) (part_below (n ∷ r) es) ∙ at_part (n ∷ r) es
 
-any_part : (es : List AnchorValue) (p : Path) → any_begins es p ≡ not (is_empty (part_below p es))
-any_part [] p = refl
-any_part (a ∷ es) p = elim (starts_with bytes_eq a.path p) as (λ b. (b || any_begins es p) ≡ not (is_empty (cond b (a ∷ part_below p es) (part_below p es)))) [ true ↦ refl | false ↦ any_part es p ]
-
-some_names : (p : Path) (fs : List AnchorValue) → names_of (some_part p fs) ≡ (if not (is_empty fs) then Some p else None)
-some_names p [] = refl
-some_names p (f ∷ fs) = refl
-
-pub found_names : (es : List AnchorValue) (p : Path) → names_of (anchor_in es p) ≡ (if any_begins es p then Some p else None)
-found_names es [] = ap (λ b. if b then Some [] else None) (sym (any_part es [] ∙ ap (λ x. not (is_empty x)) (part_itself es)))
-found_names es (n ∷ r) = some_names (n ∷ r) (part_below (n ∷ r) es) ∙ ap (λ b. if b then Some (n ∷ r) else None) (sym (any_part es (n ∷ r)))
-
 -- ---- what the calls answer
 
 pub found_rules : (es : List AnchorValue) (p : Path) (t : AnchorTree) → Some t ≡ anchor_in es p → rules_in (anchor_at t.names t.anchors) ≡ rules_in (anchor_at p es)
@@ -100,11 +84,6 @@ found_tables es p t h = ap (λ o. tables_in (own_at o)) h ∙ ap tables_in (foun
 
 pub nothing_found : (es : List AnchorValue) (p : Path) → None ≡ anchor_in es p → anchor_at p es ≡ None
 nothing_found es p h = sym (found_at es p) ∙ ap own_at (sym h)
-
-pub find_is : (es : List AnchorValue) (p r : Path) → names_of (and_then (anchor_in es p) (λ k. tree_at k r)) ≡ (if any_begins es (p ++ r) then Some (p ++ r) else None)
-find_is es p r =
-    let main : AnchorTree = record { names = []; anchors = es } in
-    ap (λ o. names_of (and_then o (λ k. tree_at k r))) (sym (walk_down es p)) ∙ ap names_of (sym (walk_on main p r) ∙ walk_down es (p ++ r)) ∙ found_names es (p ++ r)
 
 some_fields : (p q : Path) (fs : List AnchorValue) (t : AnchorTree) → Some t ≡ some_part p fs → (t.names ≡ p) × (t.anchors ≡ fs)
 some_fields p q [] t h = cc
@@ -133,13 +112,6 @@ no_rules_found es p h = sym (ap rules_in (nothing_found es p h))
 
 pub no_tables_found : (es : List AnchorValue) (p : Path) → None ≡ anchor_in es p → [] ≡ tables_in (anchor_at p es)
 no_tables_found es p h = sym (ap tables_in (nothing_found es p h))
-
-pub kid_is : (test : Name → Bool) (es : List AnchorValue) (p : Path) → and_then (anchor_in es p) (first_kid test) ≡ option_map (followed_by p) (find test (fold put_name [] (names_after p es)))
-kid_is test es p = go (anchor_in es p) refl
-  where
-    go : (o : Option AnchorTree) → o ≡ anchor_in es p → and_then o (first_kid test) ≡ option_map (followed_by p) (find test (fold put_name [] (names_after p es)))
-    go None h = ap (λ ns. option_map (followed_by p) (find test (fold put_name [] ns))) (sym (no_names_found es p h))
-    go (Some t) h = let f = names_found es p t h in ap (λ ns. option_map (followed_by t.names) (find test (fold put_name [] ns))) f.1 ∙ ap (λ q. option_map (followed_by q) (find test (fold put_name [] (names_after p es)))) f.0
 
 pub kids_found : (es : List AnchorValue) (p : Path) (t : AnchorTree) → Some t ≡ anchor_in es p → map (followed_by t.names) (fold put_name [] (names_after t.names t.anchors)) ≡ map (followed_by p) (fold put_name [] (names_after p es))
 kids_found es p t h = let f = names_found es p t h in ap (λ ns. map (followed_by t.names) (fold put_name [] ns)) f.1 ∙ ap (λ q. map (followed_by q) (fold put_name [] (names_after p es))) f.0

@@ -12,9 +12,9 @@ use Rattle.std.specs.Str.{bytes_eq}
 use Rattle.pf_ruleset.specs.Items.{AnyRule}
 use Rattle.pf_table.specs.Tables.{TableValue}
 use Rattle.pf_config.specs.Changes.{is_empty}
-use Rattle.pf_config.specs.Trees.{AnchorTree, below, own_entry, last_name, AreKids, part_below, passes, kid_names, paths_of}
+use Rattle.pf_config.specs.Trees.{AnchorTree, below, own_entry, last_name, AreKids, part_below, paths_of}
 use Rattle.pf_config.proofs.Treed.{begins, kid_begins, bytes_same, same_bytes}
-use Rattle.pf_config.specs.Map.{Configuration, AnchorValue, Path, name_after, names_after, put_name, kids, is_above, followed_by, NextIs}
+use Rattle.pf_config.specs.Map.{Configuration, AnchorValue, Path, name_after, names_after, put_name, kids, followed_by}
 
 is_less : (o : Ordering) → is_lt o ≡ true → o ≡ Less
 is_less Less h = refl
@@ -38,91 +38,10 @@ same x y h k = exact_bytes x y (neither _ h (ap is_lt (sym (nat_list_cmp_total.a
 back : (x y : Name) → is_before x y ≡ true → is_before y x ≡ false
 back x y h = elim (is_before y x) as (λ b. is_before y x ≡ b → b ≡ false) [ true ↦ λ k. sym (chain x y x h k) ∙ never x | false ↦ λ k. refl ] refl
 
--- each name is before those behind it
-abbrev Sorted : List Name → Type 0
-Sorted [] = Unit {0}
-Sorted (x ∷ xs) = (list_all (is_before x) xs ≡ true) × Sorted xs
-
 both_true : (a b : Bool) → (a && b) ≡ true → (a ≡ true) × (b ≡ true)
 both_true true true h = (refl, refl)
 both_true true false h = cc
 both_true false b h = cc
-
-all_put : (x n : Name) (ms : List Name) → is_before x n ≡ true → list_all (is_before x) ms ≡ true → list_all (is_before x) (put_name ms n) ≡ true
-all_put x n [] h k = rw h refl
-all_put x n (m ∷ ms) h k =
-    let both = both_true (is_before x m) (list_all (is_before x) ms) k in
-    elim (is_before n m) as (λ b. list_all (is_before x) (if b then n ∷ m ∷ ms else (if is_before m n then m ∷ put_name ms n else m ∷ ms)) ≡ true) [
-      | true ↦ (let go : (is_before x n && list_all (is_before x) (m ∷ ms)) ≡ true = rw h k in go)
-      | false ↦ elim (is_before m n) as (λ b. list_all (is_before x) (if b then m ∷ put_name ms n else m ∷ ms) ≡ true) [ true ↦ (let first : is_before x m ≡ true = both.0 in rw first (all_put x n ms h both.1)) | false ↦ k ]
-    ]
-
--- what is before a name is before those behind that name
-all_chain : (x y : Name) (ms : List Name) → is_before x y ≡ true → list_all (is_before y) ms ≡ true → list_all (is_before x) ms ≡ true
-all_chain x y [] h k = refl
-all_chain x y (m ∷ ms) h k = let both = both_true _ _ k in rw (chain x y m h both.0) (all_chain x y ms h both.1)
-
-sorted_put : (n : Name) (ms : List Name) → Sorted ms → Sorted (put_name ms n)
-sorted_put n [] s = (refl, tt)
-sorted_put n (m ∷ ms) s =
-    (elim (is_before n m) as (λ b. is_before n m ≡ b → Sorted (if b then n ∷ m ∷ ms else (if is_before m n then m ∷ put_name ms n else m ∷ ms))) [
-      | true ↦ λ h. (rw h (all_chain n m ms h s.0), s)
-      | false ↦ λ h. (elim (is_before m n) as (λ b. is_before m n ≡ b → Sorted (if b then m ∷ put_name ms n else m ∷ ms)) [
-        | true ↦ λ k. (all_put m n ms k s.0, sorted_put n ms s.1)
-        | false ↦ λ k. s
-      ]) refl
-    ]) refl
-
-sorted_all : (ns acc : List Name) → Sorted acc → Sorted (fold put_name acc ns)
-sorted_all [] acc s = s
-sorted_all (n ∷ ns) acc s = sorted_all ns (put_name acc n) (sorted_put n acc s)
-
--- ---- one kid after another
-
-all_pass : (test : Name → Bool) (k : Name) (ks : List Name) → ((x : Name) → is_before k x ≡ true → test x ≡ true) → list_all (is_before k) ks ≡ true → filter test ks ≡ ks
-all_pass test k [] h s = refl
-all_pass test k (x ∷ ks) h s = let both = both_true _ _ s in rw (h x both.0) (ap (λ (r : List Name). x ∷ r) (all_pass test k ks h both.1))
-
-above_chain : (after : Option Name) (x y : Name) → is_before x y ≡ true → is_above after x ≡ true → is_above after y ≡ true
-above_chain None x y h k = refl
-above_chain (Some m) x y h k = chain m x y k h
-
-found_before : (test : Name → Bool) (k n : Name) (ks : List Name) → list_all (is_before k) ks ≡ true → find test ks ≡ Some n → is_before k n ≡ true
-found_before test k n [] s e = cc
-found_before test k n (x ∷ ks) s e =
-    let both = both_true _ _ s in
-    (elim (test x) as (λ b. cond b (Some x) (find test ks) ≡ Some n → is_before k n ≡ true) [
-      | true ↦ λ f. let same_name : x ≡ n = cc in rw (← same_name) both.0
-      | false ↦ λ f. found_before test k n ks both.1 f
-    ]) e
-
--- those above the first that is above a name are the others above that name
-sorted_above : (after : Option Name) (n : Name) (ks : List Name) → Sorted ks → find (is_above after) ks ≡ Some n → filter (is_above after) ks ≡ n ∷ filter (is_above (Some n)) ks
-sorted_above after n [] s e = cc
-sorted_above after n (k ∷ ks) s e =
-    (elim (is_above after k) as (λ b. is_above after k ≡ b → cond b (Some k) (find (is_above after) ks) ≡ Some n → cond b (k ∷ filter (is_above after) ks) (filter (is_above after) ks) ≡ n ∷ filter (is_above (Some n)) (k ∷ ks)) [
-      | true ↦ λ h f.
-          let same_name : k ≡ n = cc in
-          let here : filter (is_above after) ks ≡ ks = all_pass (is_above after) k ks (λ x l. above_chain after k x l h) s.0 in
-          let there : filter (is_above (Some k)) (k ∷ ks) ≡ ks = rw (never k) (all_pass (is_before k) k ks (λ x l. l) s.0) in
-          let Goal : Name → Type 0 = λ m. k ∷ filter (is_above after) ks ≡ m ∷ filter (is_above (Some m)) (k ∷ ks) in
-          subst Goal same_name (ap (λ (r : List Name). k ∷ r) (here ∙ sym there))
-      | false ↦ λ h f. rw (back k n (found_before (is_above after) k n ks s.0 f)) (sorted_above after n ks s.1 f)
-    ]) refl e
-
-pub kids_above : (after : Option Name) (n : Name) (c : Configuration) (p : Path) → find (is_above after) (kids c p) ≡ Some n → filter (is_above after) (kids c p) ≡ n ∷ filter (is_above (Some n)) (kids c p)
-unfolding kids
-kids_above after n c p e = sorted_above after n (kids c p) (sorted_all (names_after p c.anchors) [] tt) e
-
-none_above : (test : Name → Bool) (ks : List Name) → find test ks ≡ None → filter test ks ≡ []
-none_above test [] e = refl
-none_above test (k ∷ ks) e = (elim (test k) as (λ b. cond b (Some k) (find test ks) ≡ None → cond b (k ∷ filter test ks) (filter test ks) ≡ []) [ true ↦ λ f. cc | false ↦ λ f. none_above test ks f ]) e
-
-pub no_kids_above : (after : Option Name) (c : Configuration) (p : Path) → find (is_above after) (kids c p) ≡ None → filter (is_above after) (kids c p) ≡ []
-no_kids_above after c p e = none_above (is_above after) (kids c p) e
-
-pub next_is : (after : Option Name) (c : Configuration) (p : Path) → IfSome (find (is_above after) (kids c p)) (NextIs after (kids c p))
-next_is after c p = (elim (find (is_above after) (kids c p)) as (λ r. find (is_above after) (kids c p) ≡ r → IfSome r (NextIs after (kids c p))) [ None ↦ λ e. tt | Some n ↦ λ e. kids_above after n c p e ]) refl
 
 -- ---- the kids of an anchor are its paths' next names
 
@@ -211,11 +130,6 @@ kids_are p rules tables ks h = ap (fold put_name []) (names_own p rules tables (
     head p [] h = tt
     head p (k ∷ ks) h = refl
 
--- the names of the first kid that passes
-pub find_kid : (p : Path) (test : Name → Bool) (ks : List AnchorTree) → AreKids p ks → kid_names (find (λ (k : AnchorTree). test (last_name k.names)) ks) ≡ option_map (followed_by p) (find test (child_names ks))
-find_kid p test [] h = refl
-find_kid p test (k ∷ ks) h = elim (test (last_name k.names)) as (λ b. kid_names (cond b (Some k) (find (λ (j : AnchorTree). test (last_name j.names)) ks)) ≡ option_map (followed_by p) (cond b (Some (last_name k.names)) (find test (child_names ks)))) [ true ↦ ap Some h.0.0 | false ↦ find_kid p test ks h.2 ]
-
 -- names after a path are those in the part below it
 pub names_part : (p : Path) (es : List AnchorValue) → names_after p (part_below p es) ≡ names_after p es
 names_part p [] = refl
@@ -228,9 +142,6 @@ names_part p (a ∷ es) =
     go : names_after p (part_below p es) ≡ names_after p es → (r : Option Name) → name_after p a.path ≡ r → names_after p (a ∷ part_below p es) ≡ names_after p (a ∷ es)
     go rest None e = rw e rest
     go rest (Some n) e = rw e (ap (λ (r : List Name). n ∷ r) rest)
-
-pub kid_above_is : (p : Path) (test : Name → Bool) (rules : List AnyRule) (tables : List (Name × TableValue)) (ks : List AnchorTree) → AreKids p ks → kid_names (find (passes test) ks) ≡ option_map (followed_by p) (find test (fold put_name [] (names_after p (own_entry p rules tables ++ below ks))))
-kid_above_is p test rules tables ks h = find_kid p test ks h ∙ ap (λ ns. option_map (followed_by p) (find test ns)) (sym (kids_are p rules tables ks h))
 
 -- the names of the kids are those that follow the path in the map
 pub paths_are : (p : Path) (rules : List AnyRule) (tables : List (Name × TableValue)) (ks : List AnchorTree) → AreKids p ks → paths_of ks ≡ map (followed_by p) (fold put_name [] (names_after p (own_entry p rules tables ++ below ks)))

@@ -71,13 +71,6 @@ paths_in anchors = map (λ (a : AnchorValue). a.path) anchors
 
 -- ---- paths below a path
 
-abbrev pub any_begins : List AnchorValue → Path → Bool
-any_begins anchors p = list_any (λ (a : AnchorValue). starts_with bytes_eq a.path p) anchors
-
--- the path is the front of a path of the map
-unfoldable pub begins_some : Configuration → Path → Bool
-begins_some c p = any_begins c.anchors p
-
 -- the name that follows p in the path, if p is its front and not all of it
 abbrev pub name_after : Path → Path → Option Name
 name_after p q = if starts_with bytes_eq q p then slice_get q (length p) else None
@@ -95,15 +88,6 @@ names_after p anchors = filter_map (λ (a : AnchorValue). name_after p a.path) a
 unfoldable pub kids : Configuration → Path → List Name
 kids c p = fold put_name [] (names_after p c.anchors)
 
--- any name is above none
-abbrev pub is_above : Option Name → Name → Bool
-is_above None n = true
-is_above (Some m) n = is_before m n
-
 -- a path and one name more
 abbrev pub followed_by : Path → Name → Path
 followed_by p n = p ++ n ∷ []
-
--- those above a name are this one and those above it
-abbrev pub NextIs : Option Name → List Name → Name → Type 0
-NextIs after names n = filter (is_above after) names ≡ n ∷ filter (is_above (Some n)) names

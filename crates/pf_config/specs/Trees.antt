@@ -116,22 +116,9 @@ abbrev pub anchor_in : List AnchorValue → Path → Option AnchorTree
 anchor_in anchors [] = Some (record { names = []; anchors = anchors })
 anchor_in anchors (n ∷ r) = some_part (n ∷ r) (part_below (n ∷ r) anchors)
 
--- the names of an anchor that holds something
-abbrev pub names_of : Option AnchorTree → Option Path
-names_of None = None
-names_of (Some t) = if not (is_empty t.anchors) then Some t.names else None
-
 -- its last name passes
 abbrev pub passes : (Name → Bool) → AnchorTree → Bool
 passes test k = test (last_name k.names)
-
--- the path of the first name that passes, of those that follow the anchor's path in the map
-abbrev pub first_kid : (Name → Bool) → AnchorTree → Option Path
-first_kid test t = option_map (followed_by t.names) (find test (fold put_name [] (names_after t.names t.anchors)))
-
-abbrev pub kid_names : Option AnchorTree → Option Path
-kid_names None = None
-kid_names (Some k) = Some k.names
 
 -- the full names of these anchors
 abbrev pub paths_of : List AnchorTree → List Path

@@ -7,12 +7,12 @@ ghost use Rattle.std.specs.Option.{option_copied};
 ghost use Rattle.std.specs.Str.{bytes_eq};
 ghost use Rattle.pf_ruleset.specs.Seen.{rule_of};
 ghost use Rattle.pf_ruleset.specs.Names.{is_before, begins_below};
-ghost use Rattle.pf_config.specs.Map.{AnchorValue, anchor_at, rules_in, tables_in, named, is_above, put_name};
+ghost use Rattle.pf_config.specs.Map.{AnchorValue, anchor_at, rules_in, tables_in, named, put_name};
 ghost use Rattle.pf_config.specs.Map.{name_after, names_after, followed_by};
 ghost use Rattle.pf_config.specs.Changes.{is_empty, is_some_unnamed, without_unnamed, refer, tidied_of};
 ghost use Rattle.pf_config.specs.Trees.{shared, any_unnamed, any_sheds, is_idle, are_apart};
 ghost use Rattle.pf_config.specs.Trees.{child_at, last_name, is_named, kids_before, kids_behind, some_kid, anchors_of};
-ghost use Rattle.pf_config.specs.Trees.{placed_in, TakesPlace, passes, kid_names, paths_of, room_after, own_count};
+ghost use Rattle.pf_config.specs.Trees.{placed_in, passes, paths_of, room_after, own_count};
 ghost use Rattle.pf_config.specs.Trees.{own_entry};
 ghost use Rattle.pf_config.specs.Map.{paths_in};
 ghost use Rattle.pf_config.specs.Ordered.{AreOrdered};
@@ -23,6 +23,7 @@ ghost use Rattle.pf_config.specs.declared.config.TheConstants.{RULES_MAX};
 
 use crate::candidate_list::CandidateList;
 use crate::order::{Order, order_of};
+use crate::own_rules::OwnRules;
 use crate::paths::{copied_path, followed_by};
 use crate::referred::Referred;
 use crate::tables::{Tables, named};
@@ -131,13 +132,6 @@ impl Anchor {
         last_name(&self.names) == name.as_bytes()
     }
 
-    /// Whether its last name is behind this one.
-    fn is_behind(&self, name: &Name) -> bool
-        ensures { result ≡ is_before name.now (last_name self.now.names) }
-    {
-        name.as_bytes().cmp(last_name(&self.names)) == Ordering::Less
-    }
-
     /// Whether it holds nothing.
     #[tactic(auto, using(crate::proofs::Treed::nothing_is))]
     pub(crate) fn is_nothing(&self) -> bool
@@ -170,15 +164,6 @@ impl Anchor {
             [first, ..] => *first == b'_',
             [] => false,
         }
-    }
-
-    /// The full names of the first anchor directly below, of those with names above this one if one is given.
-    pub(crate) fn kid_above(&self, after: Option<&Name>) -> Option<&[Name]>
-        ensures { option_copied result ≡ option_map (followed_by self.now.names)
-            (find (is_above (option_copied after.entry))
-            (fold put_name [] (names_after self.now.names self.now.anchors))) }
-    {
-        first_names(&self.kids, after)
     }
 
     /// How much room is left once its entries have theirs. None where there isn't room for all.
@@ -372,15 +357,15 @@ impl Anchor {
         })
     }
 
-    /// The rules at its path, shared.
+    /// The rules at its path, shared with their order.
     #[tactic(auto, using(crate::proofs::Treed::own_rules))]
-    pub(crate) fn shared_items(&self) -> Result<Rc<Vec<Item>>, AllocError>
-        ensures rules { IfOk result (λ rc. map rule_of rc.value.items ≡
+    pub(crate) fn shared_rules(&self) -> Result<OwnRules, AllocError>
+        ensures { IfOk result (λ r. map rule_of r.items.value.items ≡
             rules_in (anchor_at self.now.names self.now.anchors)) }
-        ensures few { IfOk result (λ rc. length rc.value.items ≤ RULES_MAX) }
     {
         let items = self.items.clone()?;
-        Ok(items)
+        let order = self.order.clone()?;
+        Ok(OwnRules::with(items, order))
     }
 
     /// The tables at its path, shared.
@@ -411,16 +396,9 @@ impl Anchor {
     }
 
     /// The same with these rules and tables at its path.
-    fn with_own(
-        self,
-        alloc: Global,
-        items: Rc<Vec<Item>>,
-        tables: Tables,
-    ) -> Result<Anchor, AllocError>
-        requires { length items.value.items ≤ RULES_MAX }
-        ensures { IfOk result (λ a. a ≡ placed_in self [] (map rule_of items.value.items) tables) }
+    fn with_own(self, rules: OwnRules, tables: Tables) -> Anchor
+        ensures { result ≡ placed_in self [] (map rule_of rules.items.value.items) tables }
     {
-        let order = Rc::new(alloc, order_of(alloc, &items)?)?;
         let Anchor {
             names,
             items: _,
@@ -428,46 +406,14 @@ impl Anchor {
             tables: _,
             kids,
         } = self;
-        Ok(Anchor {
+        let OwnRules { items, order } = rules;
+        Anchor {
             names,
             items,
             order,
             tables,
             kids,
-        })
-    }
-}
-
-/// Whether the anchor's last name is above this one, if there is one.
-fn is_above(after: Option<&Name>, kid: &Anchor) -> bool
-    ensures { result ≡ is_above (option_copied after.entry) (last_name kid.now.names) }
-{
-    match after {
-        None => true,
-        Some(name) => kid.is_behind(name),
-    }
-}
-
-/// The first of the anchors with a name above this one.
-fn first_above<'c>(kids: &'c [Rc<Anchor>], after: Option<&Name>) -> Option<&'c Anchor>
-    ensures { option_copied result ≡ find (passes (is_above (option_copied after.entry))) (shared kids.now) }
-{
-    for kid in kids {
-        if is_above(after, kid) {
-            return Some(kid);
         }
-    }
-    None
-}
-
-/// The full names of the first of the anchors with a name above this one.
-fn first_names<'c>(kids: &'c [Rc<Anchor>], after: Option<&Name>) -> Option<&'c [Name]>
-    ensures { option_copied result ≡ kid_names
-        (find (passes (is_above (option_copied after.entry))) (shared kids.now)) }
-{
-    match first_above(kids, after) {
-        Some(kid) => Some(kid.names()),
-        None => None,
     }
 }
 
@@ -686,18 +632,17 @@ pub(crate) fn with_entry(
     alloc: Global,
     anchor: Anchor,
     rest: &[Name],
-    items: Rc<Vec<Item>>,
+    rules: OwnRules,
     tables: Tables,
 ) -> Result<Anchor, AllocError>
-    requires { length items.value.items ≤ RULES_MAX }
-    ensures { IfOk result (λ a. a ≡ placed_in anchor rest.now (map rule_of items.value.items) tables) }
+    ensures { IfOk result (λ a. a ≡ placed_in anchor rest.now (map rule_of rules.items.value.items) tables) }
 {
     match rest {
-        [] => anchor.with_own(alloc, items, tables),
+        [] => Ok(anchor.with_own(rules, tables)),
         [name, more @ ..] => {
             let Anchor {
                 names,
-                items: own,
+                items,
                 order,
                 tables: held,
                 mut kids,
@@ -705,11 +650,11 @@ pub(crate) fn with_entry(
             let at = count_before(&kids, name);
             let taken = take_named(&mut kids, at, name);
             let kid = owned_or_empty(alloc, &names, name, taken)?;
-            let changed = with_entry(alloc, kid, more, items, tables)?;
+            let changed = with_entry(alloc, kid, more, rules, tables)?;
             put_kid(&mut kids, at, Rc::new(alloc, changed)?)?;
             Ok(Anchor {
                 names,
-                items: own,
+                items,
                 order,
                 tables: held,
                 kids,

@@ -9,6 +9,7 @@ ghost use Rattle.pf_config.specs.Trees.{any_unnamed};
 ghost use Rattle.pf_config.specs.declared.config.TheConstants.{RULES_MAX};
 
 use crate::anchor::{Anchor, with_entry};
+use crate::own_rules::OwnRules;
 use crate::referred::gathered;
 use crate::tables::Tables;
 use crate::walk::descend;
@@ -16,21 +17,20 @@ use pf_ruleset::{Item, Name};
 use std::alloc::{AllocError, Global};
 use std::rc::Rc;
 
-/// The rules at a path, shared.
+/// The rules at a path, shared with their order.
 #[tactic(auto, using(crate::proofs::Descents::main_down, crate::proofs::Descents::found_rules, crate::proofs::Descents::no_rules_found))]
-fn items_at(alloc: Global, main: &Anchor, path: &[Name]) -> Result<Rc<Vec<Item>>, AllocError>
+fn rules_at(alloc: Global, main: &Anchor, path: &[Name]) -> Result<OwnRules, AllocError>
     requires { main.now.names ≡ [] }
-    ensures rules { IfOk result (λ rc. map rule_of rc.value.items ≡ rules_in (anchor_at path.now main.now.anchors)) }
-    ensures few { IfOk result (λ rc. length rc.value.items ≤ RULES_MAX) }
+    ensures { IfOk result (λ r. map rule_of r.items.value.items ≡ rules_in (anchor_at path.now main.now.anchors)) }
 {
     match descend(main, path) {
         Some(anchor) => {
-            let items = anchor.shared_items()?;
-            Ok(items)
+            let rules = anchor.shared_rules()?;
+            Ok(rules)
         }
         None => {
-            let items = Rc::new(alloc, Vec::new(alloc))?;
-            Ok(items)
+            let rules = OwnRules::of(alloc, Rc::new(alloc, Vec::new(alloc))?)?;
+            Ok(rules)
         }
     }
 }
@@ -72,9 +72,9 @@ pub(crate) fn with_tables(
     ensures names { IfOk result (λ a. a.names ≡ []) }
     ensures map { IfOk result (λ a. a.anchors ≡ with_tables path.now tables main.now.anchors) }
 {
-    let items = items_at(alloc, main, path)?;
+    let rules = rules_at(alloc, main, path)?;
     let own = main.copied(alloc)?;
-    let next = with_entry(alloc, own, path, items, tables)?;
+    let next = with_entry(alloc, own, path, rules, tables)?;
     Ok(next)
 }
 
@@ -91,7 +91,8 @@ fn with_rules(
     ensures map { IfOk result (λ a. a.anchors ≡ with_rules path.now (map rule_of items.value.items) main.anchors) }
 {
     let tables = tables_at(alloc, &main, path)?;
-    let next = with_entry(alloc, main, path, items, tables)?;
+    let rules = OwnRules::of(alloc, items)?;
+    let next = with_entry(alloc, main, path, rules, tables)?;
     Ok(next)
 }
 

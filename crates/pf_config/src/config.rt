@@ -1,14 +1,11 @@
 //! The configuration: anchors with their rules and tables.
 
-ghost use Rattle.std.specs.Prelude.{◌≡◌, ◌≤◌, ◌++◌, map, length, not, nat_lt, Some, None};
-ghost use Rattle.std.specs.Prelude.{if◌then◌else◌, option_map, IfSome, IfNone, filter, [], IfOk, MatchResult};
+ghost use Rattle.std.specs.Prelude.{◌≡◌, ◌≤◌, map, length, not, nat_lt};
+ghost use Rattle.std.specs.Prelude.{[], IfOk, MatchResult};
 ghost use Rattle.std.specs.Prelude.{unwrap_or, Ok, false};
 ghost use Rattle.std.specs.Option.{option_copied};
-ghost use Rattle.std.specs.List as std;
 ghost use Rattle.pf_ruleset.specs.Seen.{rule_of};
-ghost use Rattle.pf_config.specs.Map.{rules_at, tables_at, table_at, table_for, table_names, paths_in, begins_some};
-ghost use Rattle.pf_config.specs.Map.{kids, is_above};
-ghost use Rattle.pf_config.specs.Map.{followed_by, NextIs};
+ghost use Rattle.pf_config.specs.Map.{rules_at, tables_at, table_at, table_for, table_names, paths_in};
 ghost use Rattle.pf_table.specs.Contents.{with_entries, contents_of};
 ghost use Rattle.pf_config.specs.Changes.{Changes, FailsWith, load, flush_rules, flush_tables, flush_all};
 ghost use Rattle.pf_config.specs.Changes.{add, replace, delete, flush_table, set_table, filled, new_table};
@@ -17,7 +14,7 @@ ghost use Rattle.pf_ruleset.specs.Rulesets.{ruleset_of};
 ghost use Rattle.pf_config.specs.inner.Texts.{definition_of};
 ghost use Rattle.pf_config.specs.Ordered.{AreOrdered};
 ghost use Rattle.pf_config.specs.SkippedNames.{is_listed};
-ghost use Rattle.pf_config.specs.Trees.{anchor_in, and_then, tree_at, names_of, first_kid};
+ghost use Rattle.pf_config.specs.Trees.{anchor_in};
 ghost use Rattle.pf_config.specs.declared.config.TheConstants.{RULES_MAX, ANCHORS_MAX};
 
 use crate::anchor::Anchor;
@@ -156,36 +153,6 @@ impl Config {
             return Some(table);
         }
         self.table(&[], name)
-    }
-
-    /// The path followed by the rest. None where no path of the configuration begins with it.
-    #[tactic(auto, using(crate::proofs::Descents::find_is, crate::proofs::PathFronts::no_rules, crate::proofs::PathFronts::no_kids), unfolding(crate::specs::Map::begins_some))]
-    pub fn find(&self, path: &[Name], rest: &[Name]) -> Option<&[Name]>
-        ensures no_rules { IfNone result (rules_at self.now (path.now ++ rest.now) ≡ []) }
-        ensures no_kids { IfNone result (kids self.now (path.now ++ rest.now) ≡ []) }
-        ensures value { option_copied result ≡ (if begins_some self.now (path.now ++ rest.now)
-            then Some (path.now ++ rest.now) else None) }
-    {
-        match found(self.anchor(path), rest) {
-            Some(names) => Some(names),
-            None => None,
-        }
-    }
-
-    /// The path of the first anchor directly attached to the path, in byte order, of those above a name if one is
-    /// given.
-    #[tactic(auto, using(crate::proofs::Descents::kid_is, crate::proofs::Kids::next_is, crate::proofs::Kids::no_kids_above), unfolding(crate::specs::Map::kids))]
-    pub fn kid(&self, path: &[Name], after: Option<&Name>) -> Option<&[Name]>
-        ensures first { option_copied result ≡ option_map (followed_by path.now)
-            (std.find (is_above (option_copied after.entry)) (kids self.now path.now)) }
-        ensures next { IfSome (std.find (is_above (option_copied after.entry)) (kids self.now path.now))
-            (NextIs (option_copied after.entry) (kids self.now path.now)) }
-        ensures end { IfNone result (filter (is_above (option_copied after.entry)) (kids self.now path.now) ≡ []) }
-    {
-        match kid_at(self.anchor(path), after) {
-            Some(names) => Some(names),
-            None => None,
-        }
     }
 
     /// Removes all tables of a path.
@@ -362,25 +329,6 @@ impl Config {
         self.main = next;
         Ok(())
     }
-}
-
-/// The names of the anchor at a path below this one, if it holds something.
-fn found<'c>(anchor: Option<&'c Anchor>, rest: &[Name]) -> Option<&'c [Name]>
-    ensures { option_copied result ≡ names_of (and_then (option_copied anchor.entry) (λ t. tree_at t rest.now)) }
-{
-    let at = descend(anchor?, rest)?;
-    if at.is_nothing() {
-        return None;
-    }
-    Some(at.names())
-}
-
-/// The names of the first anchor directly below this one, of those with names above this one.
-fn kid_at<'c>(anchor: Option<&'c Anchor>, after: Option<&Name>) -> Option<&'c [Name]>
-    ensures { option_copied result ≡ and_then (option_copied anchor.entry)
-        (first_kid (is_above (option_copied after.entry))) }
-{
-    anchor?.kid_above(after)
 }
 
 /// Whether the map has no more entries than it may.

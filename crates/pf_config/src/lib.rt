@@ -22,6 +22,7 @@ mod depths;
 mod fault;
 mod loading;
 mod order;
+mod own_rules;
 mod path_text;
 mod paths;
 mod placing;

@@ -9,6 +9,7 @@ ghost use Rattle.pf_config.specs.Trees.{with_text};
 use crate::anchor::{Anchor, with_entry};
 use crate::changed::{cut, placed, tables_at, tidied};
 use crate::depths::DEEPEST;
+use crate::own_rules::OwnRules;
 use crate::placing::Placing;
 use crate::table_index::TableIndex;
 use crate::tables::Tables;
@@ -96,10 +97,10 @@ fn with_text(
     ensures names { IfOk result (λ a. a.names ≡ []) }
     ensures map { IfOk result (λ a. a.anchors ≡ with_text own.now (map definition_of definitions.now) main.anchors) }
 {
-    let items = own.items()?;
+    let rules = OwnRules::of(alloc, own.items()?)?;
     let old = tables_at(alloc, &main, own.path())?;
     let tables = with_definitions(alloc, old, definitions)?;
-    let next = with_entry(alloc, main, own.path(), items, tables)?;
+    let next = with_entry(alloc, main, own.path(), rules, tables)?;
     Ok(next)
 }
 

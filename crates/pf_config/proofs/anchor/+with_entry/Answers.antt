@@ -39,8 +39,8 @@ invariant_of-result t c =
     let more = take (length rest - 1) (drop 1 rest) in
     let at : c.count_before-at.result ≡ length (kids_before n (shared own.kids.items)) = search rules in
     let old = c.in_ok-kid-in-len1-up.kid in
-    let put = put_back own.names.items n more (map rule_of c.args.items.value.items) c.args.tables (shared own.kids.items) (shared c.take_named-taken.new.kids.items) (shared c.put_kid.new.kids.items) c.count_before-at.result old c.in_ok-changed-in-len1-up.changed at c.take_named-taken.ensures.left (search rules) (search rules) (search rules) in
-    (c.anchor.invariant.0, back_kids own.names.items n more (map rule_of own.items.value.items) (map rule_of c.args.items.value.items) own.tables c.args.tables (shared own.kids.items) (shared c.put_kid.new.kids.items) c.anchor.invariant.1 put, c.anchor.invariant.2)
+    let put = put_back own.names.items n more (map rule_of c.args.rules.items.value.items) c.args.tables (shared own.kids.items) (shared c.take_named-taken.new.kids.items) (shared c.put_kid.new.kids.items) c.count_before-at.result old c.in_ok-changed-in-len1-up.changed at c.take_named-taken.ensures.left (search rules) (search rules) (search rules) in
+    (c.anchor.invariant.0, back_kids own.names.items n more (map rule_of own.items.value.items) (map rule_of c.args.rules.items.value.items) own.tables c.args.tables (shared own.kids.items) (shared c.put_kid.new.kids.items) c.anchor.invariant.1 put, c.anchor.invariant.2)
 
 pub returns-in_ok-put_kid-in-len1-up : goal.returns-in_ok-put_kid-in-len1-up
 returns-in_ok-put_kid-in-len1-up t c =
@@ -50,7 +50,7 @@ returns-in_ok-put_kid-in-len1-up t c =
     let more = take (length rest - 1) (drop 1 rest) in
     let at : c.count_before-at.result ≡ length (kids_before n (shared own.kids.items)) = search rules in
     let old = c.in_ok-kid-in-len1-up.kid in
-    let put = put_back own.names.items n more (map rule_of c.args.items.value.items) c.args.tables (shared own.kids.items) (shared c.take_named-taken.new.kids.items) (shared c.put_kid.new.kids.items) c.count_before-at.result old c.in_ok-changed-in-len1-up.changed at c.take_named-taken.ensures.left (search rules) (search rules) (search rules) in
+    let put = put_back own.names.items n more (map rule_of c.args.rules.items.value.items) c.args.tables (shared own.kids.items) (shared c.take_named-taken.new.kids.items) (shared c.put_kid.new.kids.items) c.count_before-at.result old c.in_ok-changed-in-len1-up.changed at c.take_named-taken.ensures.left (search rules) (search rules) (search rules) in
     let cut = cons_is rest n c.in-len1-up.len_at_least c.name-item.is in
-    subst (λ (x : AnchorTree). ◌≡◌ {A = AnchorTree} (record { names = own.names.items; anchors = own_entry own.names.items (map rule_of own.items.value.items) own.tables ++ below (shared c.put_kid.new.kids.items) }) (placed_in x rest (map rule_of c.args.items.value.items) c.args.tables)) c.anchor.view_is
-    (back_placed own.names.items n more rest (map rule_of own.items.value.items) (map rule_of c.args.items.value.items) own.tables c.args.tables (shared own.kids.items) (shared c.put_kid.new.kids.items) c.anchor.invariant.1 cut put)
+    subst (λ (x : AnchorTree). ◌≡◌ {A = AnchorTree} (record { names = own.names.items; anchors = own_entry own.names.items (map rule_of own.items.value.items) own.tables ++ below (shared c.put_kid.new.kids.items) }) (placed_in x rest (map rule_of c.args.rules.items.value.items) c.args.tables)) c.anchor.view_is
+    (back_placed own.names.items n more rest (map rule_of own.items.value.items) (map rule_of c.args.rules.items.value.items) own.tables c.args.tables (shared own.kids.items) (shared c.put_kid.new.kids.items) c.anchor.invariant.1 cut put)
