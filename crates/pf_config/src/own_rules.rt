@@ -17,7 +17,7 @@ pub(crate) struct OwnRules {
     pub(crate) items: Rc<Vec<Item>>,
     pub(crate) order: Rc<Order>,
     ghost few: { length items.value.items ≤ 1024 },
-    ghost ordered: { IsOrder (map rule_of items.value.items) order.value.stops.items order.value.others.items },
+    ghost ordered: { IsOrder (map rule_of items.value.items) order.value.stops order.value.others },
 }
 
 impl OwnRules {
@@ -33,7 +33,7 @@ impl OwnRules {
     /// The rules, and the order that they have.
     pub(crate) fn with(items: Rc<Vec<Item>>, order: Rc<Order>) -> OwnRules
         requires few { length items.value.items ≤ RULES_MAX }
-        requires ordered { IsOrder (map rule_of items.value.items) order.value.stops.items order.value.others.items }
+        requires ordered { IsOrder (map rule_of items.value.items) order.value.stops order.value.others }
         ensures { result.items ≡ items }
     {
         OwnRules { items, order }
