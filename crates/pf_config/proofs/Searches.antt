@@ -1,5 +1,5 @@
 -- What the rows pass over doesn't let the numbers pass.
-use Rattle.std.proofs.Common.{◌≡◌, ℕ, ◌<◌, ◌≤◌, Bool, false, ◌&&◌, List, map, Option, Some, None, ◌∙◌, ap, length, rules}
+use Rattle.std.proofs.Common.{◌≡◌, ℕ, false, ◌&&◌, List, map, Some, ◌∙◌, ap}
 use Rattle.std.specs.Prelude.{slice_get, option_map}
 use Rattle.std.proofs.lemmas.Bool.{and_parts, false_from_ne_true}
 use Rattle.std.proofs.lemmas.Option.{slice_get-map}

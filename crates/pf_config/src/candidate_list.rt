@@ -32,6 +32,7 @@ impl Model for CandidateList {
 
 /// Candidates, and the numbers of a packet that their intervals are asked for: the first 32 bits of its addresses, and
 /// its destination port.
+#[derive(Clone, Copy)]
 pub struct Search<'c> {
     pub(crate) list: &'c [Candidate],
     pub(crate) row: Option<Row<'c>>,

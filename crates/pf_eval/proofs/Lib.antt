@@ -6,6 +6,7 @@ pub mod Deciding
 pub mod Walks
 pub mod Sieves
 pub mod Candidates
+pub mod Searching
 pub mod Anchors
 pub mod Spaces
 pub mod PacketSpelled

@@ -1,12 +1,13 @@
 //! Whether the sieve of a rule lets a packet pass. What it doesn't let pass the rule doesn't match.
 
-ghost use Rattle.std.specs.Prelude.{◌≡◌};
-ghost use Rattle.pf_eval.specs.inner.Sieves.{is_within, port_or_0, key_of, passes};
+ghost use Rattle.std.specs.Prelude.{◌≡◌, MatchOption};
+ghost use Rattle.pf_eval.specs.inner.Sieves.{port_or_0, key_of, passes};
+ghost use Rattle.pf_eval.specs.inner.Searching.{IsSearchFor, NonePasses, PassesFirst};
 
 use crate::key::Key;
 use crate::matching::{is_direction, is_family, is_number};
 use crate::packet::Packet;
-use pf_config::{Interval, Sieve, front_bits};
+use pf_config::{Candidate, Search, Sieve, front_bits, is_within};
 
 /// The port, 0 where there is none.
 fn port_or_0(port: Option<u16>) -> u32
@@ -33,14 +34,6 @@ pub(crate) fn key_of(packet: &Packet) -> Key
     }
 }
 
-/// Whether a number is in the interval.
-#[inline(always)]
-fn is_within(interval: &Interval, number: u32) -> bool
-    ensures { result ≡ is_within interval.now number }
-{
-    number.wrapping_sub(interval.first) <= interval.width
-}
-
 /// Whether a sieve lets a packet with this key pass; that is asked first which lets fewest pass.
 #[inline(always)]
 #[tactic(auto, unfolding(crate::specs::inner::Sieves::passes))]
@@ -53,4 +46,25 @@ pub(crate) fn passes(sieve: &Sieve, key: &Key) -> bool
         && is_number(sieve.protocol, key.protocol)
         && is_direction(sieve.direction, key.direction)
         && is_family(sieve.family, key.from)
+}
+
+/// The place of the first of these candidates, from this place on, whose sieve lets a packet with this key pass.
+pub(crate) fn next_passing(
+    search: &Search<'_>,
+    candidates: &[Candidate],
+    key: &Key,
+    from: usize,
+) -> Option<usize>
+    requires { IsSearchFor candidates.now key.now search.now }
+    ensures { MatchOption result (NonePasses candidates.now key.now from)
+        (λ at. PassesFirst candidates.now key.now from at) }
+{
+    let mut left = from;
+    while let Some(at) = search.next(left) {
+        if passes(&candidates[at].sieve, key) {
+            return Some(at);
+        }
+        left = at + 1;
+    }
+    None
 }

@@ -14,8 +14,8 @@ use crate::matching::matches;
 use crate::others::{DEEPEST, last_called};
 use crate::packet::Packet;
 use crate::scope::scope_at;
-use crate::sieving::{key_of, passes};
-use pf_config::{Anchor, Candidate, Config};
+use crate::sieving::{key_of, next_passing};
+use pf_config::{Anchor, CandidateList, Config};
 use pf_ruleset::{AnchorHeading, Item};
 use std::rc::Rc;
 
@@ -43,7 +43,7 @@ fn of_candidates<'c>(
     config: &'c Config,
     anchor: &'c Anchor,
     packet: &Packet,
-    candidates: &[Candidate],
+    candidates: &CandidateList,
     depth: u8,
 ) -> Option<Hit<'c>>
     requires { IsAnchorOf config.now anchor.now }
@@ -51,13 +51,15 @@ fn of_candidates<'c>(
         (rules_at config.now anchor.now.names) packet.now) candidates.now }
 {
     let key = key_of(packet);
-    for candidate in candidates {
-        if !passes(&candidate.sieve, &key) {
-            continue;
-        }
+    let list = candidates.list();
+    let search = candidates.search(key.source, key.destination, key.destination_port);
+    let mut from = 0;
+    while let Some(at) = next_passing(&search, list, &key, from) {
+        let candidate = &list[at];
         if let Some(hit) = of_index(config, anchor, packet, candidate.index, depth) {
             return Some(hit);
         }
+        from = at + 1;
     }
     None
 }

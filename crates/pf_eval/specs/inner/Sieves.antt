@@ -1,15 +1,11 @@
 -- Which packets the sieve of a rule lets pass.
-use Rattle.std.specs.Prelude.{ℕ, ◌+◌, ◌-◌, ◌%◌, ◌==◌, ◌&&◌, Bool, Option, Some, None, nat_le, min}
-use Rattle.pf_config.specs.declared.candidate.Interval.{Interval}
+use Rattle.std.specs.Prelude.{ℕ, ◌==◌, ◌&&◌, Bool, Option, Some, None, min}
+use Rattle.pf_classes.specs.Intervals.{is_within}
 use Rattle.pf_config.specs.declared.candidate.Sieve.{Sieve}
 use Rattle.pf_config.specs.Orders.{front_bits}
 use Rattle.pf_eval.specs.declared.key.Key.{Key}
 use Rattle.pf_eval.specs.Packets.{PacketValue}
 use Rattle.pf_eval.specs.Matching.{direction_eq, of_family, if_set}
-
--- the number is in the interval: so far from its first one that the width reaches it
-abbrev pub is_within : Interval → ℕ → Bool
-is_within i n = nat_le ((n + (4294967296 - i.first)) % 4294967296) i.width
 
 abbrev pub port_or_0 : Option ℕ → ℕ
 port_or_0 None = 0

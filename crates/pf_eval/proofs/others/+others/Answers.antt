@@ -1,7 +1,9 @@
-use Rattle.std.proofs.Common.{arith}
+use Rattle.std.proofs.Common.{arith, ◌∙◌, sym}
 use Rattle.pf_eval.specs.inner.TwoWalks.{in_member, second_walk, last_at, hit_of}
 use Rattle.pf_eval.proofs.Anchors.{own_rules}
 use Rattle.pf_eval.proofs.Candidates.{some_item}
+use Rattle.pf_eval.proofs.Searching.{found_there, not_there, none_left}
+use Rattle.pf_config.specs.Map.{rules_at}
 use Rattle.pf_eval.proofs.Walks.{kid_back}
 use Rattle.pf_eval.proofs.others.+others.Goals as goal
 
@@ -14,3 +16,27 @@ pub of_index-returns : goal.of_index-returns
 of_index-returns t c =
     let past = c.if-at-items.false in
     some_item (last_at c.args.depth c.args.config.now c.args.packet.now c.args.anchor.now.names c.args.index) c.items-items.result.now _ _ c.args.index c.index-items-at.result _ (omega (arith, past)) c.index-items-at.is c.items-items.ensures.rules (own_rules c.args.config.now c.args.anchor.now c.requires) c.of_item.ensures
+
+pub of_candidates-returns-in-Some-of_index : goal.of_candidates-returns-in-Some-of_index
+of_candidates-returns-in-Some-of_index t c =
+    let f = last_at c.args.depth c.args.config.now c.args.packet.now c.args.anchor.now.names in
+    let kept = c.loop-at.invariant in
+    found_there f (rules_at c.args.config.now c.args.anchor.now.names) c.args.packet.now c.key_of-key.result c.list-list.result.now c.loop-at.from c.in-Some.at _ (hit_of c.in-Some-of_index.hit) _ kept.key c.in-Some.ensures kept.rest c.in-Some-of_index.ensures
+
+pub of_candidates-loop-at-preserved : goal.of_candidates-loop-at-preserved
+of_candidates-loop-at-preserved t c =
+    let f = last_at c.args.depth c.args.config.now c.args.packet.now c.args.anchor.now.names in
+    let kept = c.loop-at.invariant in
+    record {
+      rest = not_there f (rules_at c.args.config.now c.args.anchor.now.names) c.args.packet.now c.key_of-key.result c.list-list.result.now c.loop-at.from c.in-Some.at _ _ kept.key c.in-Some.ensures kept.rest c.in_default-of_index.ensures;
+      at = kept.at;
+      key = kept.key;
+      search = kept.search;
+      within = omega (arith, c.in-Some.ensures.1);
+    }
+
+pub of_candidates-returns : goal.of_candidates-returns
+of_candidates-returns t c =
+    let f = last_at c.args.depth c.args.config.now c.args.packet.now c.args.anchor.now.names in
+    let kept = c.loop-at.invariant in
+    sym (none_left f (rules_at c.args.config.now c.args.anchor.now.names) c.args.packet.now c.key_of-key.result c.list-list.result.now c.loop-at.from kept.key kept.within c.in_default.ensures) ∙ kept.rest

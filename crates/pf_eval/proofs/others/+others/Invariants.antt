@@ -1,7 +1,8 @@
-use Rattle.std.proofs.Common.{◌≡◌, ◌≤◌, length, drop, None, ◌+◌, ◌*◌}
+use Rattle.std.proofs.Common.{◌≡◌, ◌≤◌, length, drop, None, ◌+◌, ◌*◌, ◌-◌}
 use Rattle.pf_config.specs.Map.{rules_at}
 use Rattle.pf_config.specs.Trees.{paths_of, shared}
 use Rattle.pf_eval.specs.inner.TwoWalks.{in_member, candidate_spot, first_some, last_some, second_walk, last_at, IsAnchorOf}
+use Rattle.pf_eval.specs.inner.Searching.{IsSearchFor}
 use Rattle.pf_eval.specs.inner.Sieves.{key_of}
 use Rattle.pf_eval.proofs.others.+others.Given as goal
 
@@ -33,12 +34,17 @@ abbrev pub decreases-of_candidates : goal.decreases-of_candidates
 decreases-of_candidates l = 10 * l.depth + 8
 
 -- the first hit is among the candidates that are left
-abbrev pub invariant-of_candidates-loop-candidate : goal.invariant-of_candidates-loop-candidate
-invariant-of_candidates-loop-candidate l = record {
-  rest : first_some (candidate_spot (last_at l.depth l.config l.packet l.anchor.names) (rules_at l.config l.anchor.names) l.packet) (drop l.candidate-index l.candidates) ≡ first_some (candidate_spot (last_at l.depth l.config l.packet l.anchor.names) (rules_at l.config l.anchor.names) l.packet) l.candidates;
+abbrev pub invariant-of_candidates-loop-at : goal.invariant-of_candidates-loop-at
+invariant-of_candidates-loop-at l = record {
+  rest : first_some (candidate_spot (last_at l.depth l.config l.packet l.anchor.names) (rules_at l.config l.anchor.names) l.packet) (drop l.from l.list) ≡ first_some (candidate_spot (last_at l.depth l.config l.packet l.anchor.names) (rules_at l.config l.anchor.names) l.packet) l.fn.candidates;
   at : IsAnchorOf l.config l.anchor;
   key : l.key ≡ key_of l.packet;
+  search : IsSearchFor l.list l.key l.search;
+  within : l.from ≤ length l.list;
 }
+
+abbrev pub decreases-of_candidates-loop-at : goal.decreases-of_candidates-loop-at
+decreases-of_candidates-loop-at l = length l.list - l.from
 
 -- none of the anchors behind has a hit
 abbrev pub invariant-of_members-loop-left : goal.invariant-of_members-loop-left

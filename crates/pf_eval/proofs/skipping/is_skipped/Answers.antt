@@ -1,4 +1,4 @@
-use Rattle.std.proofs.Common.{rules, ◌≡◌, ◌∙◌, true, false, List, map, sym, subst, ap}
+use Rattle.std.proofs.Common.{rules, ◌≡◌, ◌∙◌, true, false, subst}
 use Rattle.std.specs.List.{list_any}
 use Rattle.pf_ruleset.specs.Names.{Name}
 use Rattle.pf_config.specs.SkippedNames.{is_listed}

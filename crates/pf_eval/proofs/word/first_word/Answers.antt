@@ -1,5 +1,5 @@
-use Rattle.std.proofs.Common.{◌∙◌, sym, arith, ◌+◌}
-use Rattle.pf_eval.proofs.Words.{word_grows, word_ends, word_begins}
+use Rattle.std.proofs.Common.{◌∙◌, sym, arith}
+use Rattle.pf_eval.proofs.Words.{word_grows}
 use Rattle.pf_eval.proofs.word.first_word.Goals as goal
 
 -- the word goes on

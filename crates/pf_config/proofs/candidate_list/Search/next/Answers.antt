@@ -1,7 +1,4 @@
-use Rattle.std.proofs.Common.{◌≡◌, ℕ, ◌<◌, ◌≤◌, false, Some, length, arith}
-use Rattle.std.specs.Prelude.{slice_get}
-use Rattle.pf_config.specs.Searches.{may_pass}
-use Rattle.pf_config.specs.Searching.{PassesOver}
+use Rattle.std.proofs.Common.{arith}
 use Rattle.pf_config.proofs.Searches.{not_held}
 use Rattle.pf_config.proofs.candidate_list.Search.next.Goals as goal
 use Rattle.pf_config.proofs.candidate_list.Search.next.Goals.{in-None, in-Some+in-Some-next}
