@@ -1,8 +1,8 @@
 -- The anchor of a name is taken out from among the others, and put back in its place.
-use Rattle.std.proofs.Common.{◌≡◌, ℕ, ◌+◌, ◌≤◌, Bool, true, false, ◌&&◌, cond, List, [], ◌∷◌, ◌++◌, Option, Some, None, Ordering, length, length-append, length-take-le, take, drop, slice_get, zero, suc, ◌<◌, refl, sym, subst, ap, ◌∙◌, append_assoc, arith, take-append-drop}
+use Rattle.std.proofs.Common.{◌≡◌, ℕ, ◌+◌, ◌≤◌, true, false, cond, List, [], ◌∷◌, ◌++◌, Option, Some, None, Ordering, length, length-append, length-take-le, take, drop, slice_get, zero, suc, ◌<◌, refl, sym, subst, ap, ◌∙◌, arith, take-append-drop}
 use Rattle.std.specs.declared.cmp.Ordering.TheVariants.{Less, Equal, Greater}
 use Rattle.std.specs.declared.rc.Rc.{Rc}
-use Rattle.std.specs.Prelude.{if◌then◌else◌, find, filter, map, is_some, IfSome, option_map}
+use Rattle.std.specs.Prelude.{if◌then◌else◌, find, is_some, IfSome, option_map}
 use Rattle.std.specs.Str.{bytes_eq}
 use Rattle.std.specs.Ordering.{is_lt, nat_cmp, ordering_reverse}
 use Rattle.std.specs.Cmp.Lexicographic.{slice_cmp}
@@ -18,7 +18,7 @@ use Rattle.pf_config.specs.Map.{Path}
 use Rattle.pf_config.specs.Changes.{is_empty}
 use Rattle.pf_config.specs.Trees.{AnchorTree, shared, below, own_entry, last_name, is_named, AreKids, kids_before, kids_behind, some_kid, anchors_of, child_at, placed_in}
 use Rattle.pf_config.specs.inner.KidOrder.{AreInOrder}
-use Rattle.pf_config.proofs.Treed.{both_true, append_nil, bytes_same, same_bytes, name_chain, never, before_other, other_turned, kids_above, kids_above_chain, begins, child_is}
+use Rattle.pf_config.proofs.Treed.{both_true, append_nil, bytes_same, same_bytes, name_chain, before_other, other_turned, kids_above, kids_above_chain, child_is}
 use Rattle.pf_config.proofs.Entries.{kids_again, kid_placed, takes_place, placed_begins}
 use Rattle.pf_config.proofs.KidHalves.{order_back, order_front, shared_append}
 

@@ -1,7 +1,7 @@
 -- Names in byte order.
-use Rattle.std.proofs.Common.{◌≡◌, Bool, true, false, ◌&&◌, cond, List, [], ◌∷◌, ◌++◌, Option, Some, None, Ordering, refl, sym, subst, ap, ◌∙◌, rules}
+use Rattle.std.proofs.Common.{◌≡◌, Bool, true, false, ◌&&◌, cond, List, [], ◌∷◌, ◌++◌, Option, Some, None, Ordering, refl, sym, ap, ◌∙◌, rules}
 use Rattle.std.specs.declared.cmp.Ordering.TheVariants.{Less, Equal, Greater}
-use Rattle.std.specs.Prelude.{if◌then◌else◌, find, filter, fold, map, IfSome, option_map}
+use Rattle.std.specs.Prelude.{if◌then◌else◌, fold, map}
 use Rattle.std.specs.List.{list_all, filter_map}
 use Rattle.std.specs.Ordering.{is_lt, ordering_reverse}
 use Rattle.std.proofs.lemmas.Cmp.{nat_list_cmp_total, tied_itself}
@@ -14,7 +14,7 @@ use Rattle.pf_table.specs.Tables.{TableValue}
 use Rattle.pf_config.specs.Changes.{is_empty}
 use Rattle.pf_config.specs.Trees.{AnchorTree, below, own_entry, last_name, AreKids, part_below, paths_of}
 use Rattle.pf_config.proofs.Treed.{begins, kid_begins, bytes_same, same_bytes}
-use Rattle.pf_config.specs.Map.{Configuration, AnchorValue, Path, name_after, names_after, put_name, kids, followed_by}
+use Rattle.pf_config.specs.Map.{AnchorValue, Path, name_after, names_after, put_name, followed_by}
 
 is_less : (o : Ordering) → is_lt o ≡ true → o ≡ Less
 is_less Less h = refl

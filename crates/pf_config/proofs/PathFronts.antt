@@ -1,10 +1,9 @@
 -- Paths that begin with others.
-use Rattle.std.proofs.Common.{◌≡◌, ◌+◌, Bool, true, false, ◌&&◌, ◌||◌, cond, None, take_all, List, [], ◌∷◌, ◌++◌, length, length-append, take, drop, refl, sym, ap, arith, add-one, Some, slice_get}
+use Rattle.std.proofs.Common.{◌≡◌, true, false, ◌&&◌, take_all, [], ◌∷◌, ◌++◌, length, take, drop, refl, sym, arith}
 use Rattle.std.specs.Bool.{Decides}
 use Rattle.std.specs.List.{starts_with}
 use Rattle.std.specs.Str.{bytes_eq}
 use Rattle.std.proofs.lemmas.Slice.Eq.{bytes_eq-Decides, slice_eq-Decides}
-use Rattle.pf_ruleset.specs.Names.{Name}
 use Rattle.pf_config.specs.Map.{Path, path_eq}
 
 -- a path begins with two, one after the other

@@ -1,7 +1,7 @@
 -- A configuration: a skip list, and a map from paths to rules and tables.
-use Rattle.std.specs.Prelude.{◌≡◌, Bool, true, List, [], ◌∷◌, ◌++◌, length, map}
-use Rattle.std.specs.Prelude.{fold, filter, Option, Some, None, if◌then◌else◌, slice_get, find}
-use Rattle.std.specs.List.{list_any, starts_with, filter_map}
+use Rattle.std.specs.Prelude.{Bool, List, [], ◌∷◌, ◌++◌, length, map}
+use Rattle.std.specs.Prelude.{fold, Option, Some, None, if◌then◌else◌, slice_get, find}
+use Rattle.std.specs.List.{starts_with, filter_map}
 use Rattle.std.specs.Str.{bytes_eq}
 use Rattle.std.specs.Map.{lookup}
 use Rattle.std.specs.Cmp.Lexicographic.{pointwise}

@@ -1,6 +1,6 @@
 -- Anchors as a tree: what each of them holds is a part of the map.
 use Rattle.std.specs.Prelude.{◌≡◌, ℕ, ◌+◌, ◌-◌, Bool, true, false, List, [], ◌∷◌, ◌++◌}
-use Rattle.std.specs.Prelude.{length, filter, Option, Some, None, not, nat_lt, ◌&&◌, find, fold, option_map}
+use Rattle.std.specs.Prelude.{length, filter, Option, Some, None, not, nat_lt, ◌&&◌, fold}
 use Rattle.std.specs.Prelude.{if◌then◌else◌, map, ◌||◌}
 use Rattle.std.specs.List.{list_all, list_any, starts_with}
 use Rattle.std.specs.Str.{bytes_eq}
@@ -8,7 +8,7 @@ use Rattle.std.specs.declared.rc.Rc.{Rc}
 use Rattle.pf_ruleset.specs.Names.{Name, is_before}
 use Rattle.pf_ruleset.specs.Items.{AnyRule}
 use Rattle.pf_table.specs.Tables.{TableValue}
-use Rattle.pf_config.specs.Map.{AnchorValue, Path, anchor_at, tables_in, followed_by, put_name, names_after, name_after}
+use Rattle.pf_config.specs.Map.{AnchorValue, Path, anchor_at, tables_in, name_after}
 use Rattle.pf_config.specs.Changes.{is_empty, is_nothing, unless_nothing, with_anchor, is_some_unnamed, is_used}
 use Rattle.pf_config.specs.Changes.{Block, Definition, defined}
 

@@ -1,8 +1,6 @@
-use Rattle.std.proofs.Common.{◌≡◌, ◌∙◌, ◌-◌, ◌≤◌, ◌++◌, ◌∷◌, [], Option, Some, None, IfSome, length, length-append, take, drop, ap, map, sym, subst, arith, rules}
-use Rattle.std.specs.Prelude.{find}
-use Rattle.std.proofs.lemmas.List.{length-map}
+use Rattle.std.proofs.Common.{◌≡◌, ◌-◌, ◌++◌, length, take, drop, map, sym, subst, rules}
 use Rattle.pf_ruleset.specs.Seen.{rule_of}
-use Rattle.pf_config.specs.Trees.{AnchorTree, shared, is_named, kids_before, kids_behind, own_entry, below, placed_in}
+use Rattle.pf_config.specs.Trees.{AnchorTree, shared, kids_before, own_entry, below, placed_in}
 use Rattle.pf_config.specs.inner.KidOrder.{AreInOrder}
 use Rattle.pf_config.proofs.Entries.{cons_is}
 use Rattle.pf_config.proofs.KidHalves.{kids_in_order}

@@ -1,4 +1,4 @@
-use Rattle.std.proofs.Common.{◌≡◌, ◌∙◌, ◌<◌, ◌+◌, Some, None, get_or, take, drop, length, length-drop, suc, sym, ap, rules, arith, true, false}
+use Rattle.std.proofs.Common.{◌≡◌, ◌∙◌, ◌+◌, drop, ap, rules, true, false}
 use Rattle.std.specs.Prelude.{find, is_some}
 use Rattle.pf_config.specs.Trees.{shared, is_named}
 use Rattle.pf_config.proofs.Cut.{next_kid}

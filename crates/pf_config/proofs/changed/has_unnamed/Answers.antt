@@ -1,5 +1,4 @@
-use Rattle.std.proofs.Common.{◌≡◌, ◌∙◌, Some, None, ap, rules}
-use Rattle.std.specs.Option.{option_copied}
+use Rattle.std.proofs.Common.{◌≡◌, ◌∙◌, Some, None, rules}
 use Rattle.pf_config.specs.Trees.{anchor_in}
 use Rattle.pf_config.proofs.Descents.{main_down}
 use Rattle.pf_config.proofs.Unnamed.{found_unnamed, none_found_unnamed}
