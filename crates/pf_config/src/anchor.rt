@@ -144,7 +144,15 @@ impl Anchor {
     pub fn child(&self, name: &str) -> Option<&Anchor>
         ensures { option_copied result ≡ child_at self.now name.now }
     {
-        kid_named(&self.kids, name)
+        kid_named(&self.kids, name, self.kids.len() / 2)
+    }
+
+    /// The anchor of that name directly below, to which the rule with this index leads: it is looked for first where
+    /// it stands if rules lead to all anchors below.
+    pub(crate) fn target(&self, index: u32, name: &str) -> Option<&Anchor>
+        ensures { option_copied result ≡ child_at self.now name.now }
+    {
+        kid_named(&self.kids, name, self.order.places.of_rule(index))
     }
 
     /// The anchors directly below, in byte order of their names.
@@ -663,21 +671,28 @@ pub(crate) fn with_entry(
     }
 }
 
-/// The anchor of that name, which is looked for by halves.
-fn kid_named<'c>(kids: &'c [Rc<Anchor>], name: &str) -> Option<&'c Anchor>
+/// The anchor of that name, which is looked for at this place first and then by halves.
+fn kid_named<'c>(kids: &'c [Rc<Anchor>], name: &str, place: usize) -> Option<&'c Anchor>
     requires { AreInOrder (shared kids.now) }
     ensures { option_copied result ≡ find (is_named name.now) (shared kids.now) }
 {
     let mut left = kids;
+    let mut at = place;
     while !left.is_empty() {
-        let (front, back) = left.split_at(left.len() / 2);
+        let (front, back) = left.split_at(at.min(left.len() - 1));
         let [middle, behind @ ..] = back else {
             return None;
         };
         match last_name(middle.names()).cmp(name.as_bytes()) {
             Ordering::Equal => return Some(middle),
-            Ordering::Less => left = behind,
-            Ordering::Greater => left = front,
+            Ordering::Less => {
+                at = behind.len() / 2;
+                left = behind;
+            }
+            Ordering::Greater => {
+                at = front.len() / 2;
+                left = front;
+            }
         }
     }
     None

@@ -25,11 +25,18 @@ impl Config {
 }
 
 impl Anchor {
-    /// The anchor at a path below this one: itself where the path has no name. None where no path of the configuration
-    /// begins so.
-    pub fn below(&self, rest: &[Name]) -> Option<&Anchor>
+    /// The anchor that an anchor rule leads to, by the rule's index and the path that it names below this anchor: the
+    /// anchor itself where the path has no name. None where no path of the configuration begins so. Of the index no
+    /// more depends than how soon the first name is found.
+    pub fn below(&self, index: u32, rest: &[Name]) -> Option<&Anchor>
         ensures { option_copied result ≡ tree_at self.now rest.now }
     {
-        descend(self, rest)
+        let [first, names @ ..] = rest else {
+            return Some(self);
+        };
+        match self.target(index, first.as_str()) {
+            Some(kid) => descend(kid, names),
+            None => None,
+        }
     }
 }

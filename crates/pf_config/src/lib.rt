@@ -25,6 +25,7 @@ mod order;
 mod own_rules;
 mod path_text;
 mod paths;
+mod places;
 mod placing;
 mod referred;
 mod sieve;

@@ -7,15 +7,18 @@ ghost use Rattle.pf_config.specs.declared.config.TheConstants.{RULES_MAX};
 
 use crate::candidate::Candidate;
 use crate::candidate_list::CandidateList;
+use crate::places::Places;
 use crate::sieve::sieve_of;
 use pf_ruleset::Item;
 use std::alloc::{AllocError, Global};
 
-/// The rules that may end the evaluation, the first one first, and those that aren't quick, the last one first.
+/// The rules that may end the evaluation, the first one first, and those that aren't quick, the last one first. And
+/// where the anchors may stand that they lead to.
 #[derive(Drop)]
 pub(crate) struct Order {
     pub(crate) stops: CandidateList,
     pub(crate) others: CandidateList,
+    pub(crate) places: Places,
 }
 
 /// Whether the evaluation may end with the rule.
@@ -89,5 +92,10 @@ pub(crate) fn order_of(alloc: Global, items: &[Item]) -> Result<Order, AllocErro
 {
     let stops = CandidateList::of(alloc, stops_of(alloc, items)?)?;
     let others = CandidateList::of(alloc, others_of(alloc, items)?)?;
-    Ok(Order { stops, others })
+    let places = Places::of(alloc, items)?;
+    Ok(Order {
+        stops,
+        others,
+        places,
+    })
 }

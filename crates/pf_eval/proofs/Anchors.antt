@@ -68,7 +68,7 @@ no_kids_below c t r h e = no_kids_there c (t.names ++ r) (e ∙ down c.anchors t
 
 -- ---- where none is nothing is hit
 
-shallow_none : (walk : Path → Option Spot) (q : Path) → walk q ≡ None → None ≡ shallow walk q
+pub shallow_none : (walk : Path → Option Spot) (q : Path) → walk q ≡ None → None ≡ shallow walk q
 shallow_none walk q h = elim (nat_le (length q) 8) as (λ b. None ≡ (if b then walk q else None)) [ true ↦ sym h | false ↦ refl ]
 
 pub no_stop_there : (depth : ℕ) (c : Configuration) (k : PacketValue) (q : Path) → None ≡ anchor_in c.anchors q → None ≡ shallow (first_walk depth c k) q

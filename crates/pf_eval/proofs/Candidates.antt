@@ -1,23 +1,24 @@
 -- The walks over candidates come to what walks over all rules come to.
 use Rattle.std.proofs.Common.{◌≡◌, ℕ, ◌+◌, ◌-◌, ◌<◌, ◌≤◌, zero, suc, length, get_or, Bool, true, false, List, [], ◌∷◌, ◌++◌, map, reverse, Option, Some, None, refl, sym, subst, ap, ◌∙◌, arith}
+use Rattle.std.proofs.lemmas.Bool.{eqb-true}
 use Rattle.std.proofs.lemmas.List.{reverse-append}
-use Rattle.std.specs.Prelude.{not, slice_get, if◌then◌else◌}
-use Rattle.pf_config.specs.Map.{Configuration, Path, or_else, rules_at, rules_in, anchor_at}
-use Rattle.pf_config.specs.Trees.{AnchorTree}
+use Rattle.std.specs.Prelude.{not, ◌==◌, slice_get, if◌then◌else◌}
+use Rattle.pf_config.specs.Map.{Configuration, Path, or_else, rules_at, rules_in, anchor_at, kids}
+use Rattle.pf_config.specs.Trees.{AnchorTree, tree_at}
 use Rattle.pf_config.specs.declared.candidate.Candidate.{Candidate}
 use Rattle.pf_config.specs.Orders.{may_stop, is_other, candidate_at, candidates, sieve_of, stops_of, others_of}
-use Rattle.pf_ruleset.specs.Items.{AnyRule, FilterRule, AnchorRule, Target, conditions_of}
+use Rattle.pf_ruleset.specs.Items.{AnyRule, FilterRule, AnchorRule, Heading, Target, conditions_of}
 use Rattle.pf_ruleset.specs.declared.item.Item.{Item}
 use Rattle.pf_ruleset.specs.Seen.{rule_of}
 use Rattle.pf_eval.specs.Packets.{PacketValue}
 use Rattle.pf_eval.specs.Matching.{Tables, matches}
 use Rattle.pf_eval.specs.Verdicts.{Spot, tables_in}
 use Rattle.pf_eval.specs.inner.Sieves.{key_of, passes}
-use Rattle.pf_eval.specs.inner.TwoWalks.{first_some, last_some, first_rule, last_rule, some_rule, candidate_spot, ending, rule_stop, rule_last}
+use Rattle.pf_eval.specs.inner.TwoWalks.{first_some, last_some, first_rule, last_rule, some_rule, candidate_spot, ending, is_quiet, shallow, called_stop, called_last, rule_stop, rule_last}
 use Rattle.pf_eval.specs.inner.TwoWalks.{first_walk, second_walk, stop_at, last_at, target_stop, target_last, IsAnchorOf}
-use Rattle.pf_eval.proofs.Anchors.{own_rules}
+use Rattle.pf_eval.proofs.Anchors.{own_rules, below_is, below_names, shallow_none, no_rules_below, no_kids_below}
 use Rattle.pf_eval.proofs.Sieves.{not_matched}
-use Rattle.pf_eval.proofs.Walks.{first_at, second_at}
+use Rattle.pf_eval.proofs.Walks.{first_at, second_at, first_none, none_ending}
 
 -- ---- a rule by its index
 
@@ -152,3 +153,46 @@ others_are_last depth c k t found at some is =
     first_turned (candidate_spot (last_at (depth - 1) c k t.names) (rules_at c t.names) k) (candidates is_other 0 (rules_at c t.names)) ∙
     last_from is_other (last_at (depth - 1) c k t.names) k (rules_at c t.names) 0 (rules_at c t.names) (last_quiet (tables_in c t.names) (target_last (second_walk (depth - 1) c k) c t.names) k t.names) (rest_all (rules_at c t.names)) ∙
     sym (second_at depth c k t.names some)
+
+-- ---- anchor rules that come to nothing
+
+-- where no rule can end the evaluation the first walk finds nothing
+idle : (depth : ℕ) (c : Configuration) (k : PacketValue) (t : AnchorTree) → IsAnchorOf c t → [] ≡ stops_of (rules_in (anchor_at t.names t.anchors)) → first_walk depth c k t.names ≡ None
+idle zero c k t at is = first_none c k t.names
+idle (suc depth) c k t at is = sym (stops_are_first (suc depth) c k t [] at (omega arith) is)
+
+no_length : (xs : List Candidate) → (length xs == 0) ≡ true → [] ≡ xs
+no_length [] h = refl
+no_length (x ∷ xs) h = absurd (omega (arith, eqb-true (length (x ∷ xs)) 0 h))
+
+passed : (m quick : Bool) (stop last : Option Spot) → ending quick stop last ≡ None → None ≡ (if m then ending quick stop last else none)
+passed true quick stop last h = sym h
+passed false quick stop last h = refl
+
+pub quiet_rule : (depth : ℕ) (c : Configuration) (k : PacketValue) (t u : AnchorTree) (r : Path) (a : Heading) → IsAnchorOf c t → Some u ≡ tree_at t r → r ≡ a.target.names →
+    is_quiet a.quick a.target.children (stops_of (rules_in (anchor_at u.names u.anchors))) ≡ true → None ≡ stop_at depth c k t.names 0 (AnchorRule a)
+quiet_rule depth c k t u r a at below is quiet =
+    passed (matches (tables_in c t.names) a.conditions k) a.quick (target_stop (first_walk depth c k) c t.names a.target) (target_last (second_walk depth c k) c t.names a.target)
+    (split a.quick a.target.children (no_length found) quiet)
+  where
+    found : List Candidate
+    found = stops_of (rules_in (anchor_at u.names u.anchors))
+
+    walk : Path → Option Spot
+    walk = first_walk depth c k
+
+    here : [] ≡ found → shallow walk (t.names ++ a.target.names) ≡ None
+    here e = ap (shallow walk) (sym (below_names c t u r at below ∙ ap (λ v. t.names ++ v) is)) ∙ sym (shallow_none walk u.names (idle depth c k u (below_is c t u r at below) e))
+
+    split : (quick children : Bool) → ((length found == 0) ≡ true → [] ≡ found) → is_quiet quick children found ≡ true →
+        ending quick (called_stop walk c (t.names ++ a.target.names) children) (called_last (second_walk depth c k) c (t.names ++ a.target.names) children) ≡ None
+    split true children none h = cc
+    split false true none h = cc
+    split false false none h = here (none h)
+
+pub nothing_below : (depth : ℕ) (c : Configuration) (k : PacketValue) (t : AnchorTree) (r : Path) (a : Heading) → IsAnchorOf c t → None ≡ tree_at t r → r ≡ a.target.names →
+    None ≡ stop_at depth c k t.names 0 (AnchorRule a)
+nothing_below depth c k t r a at below is =
+    let e : t.names ++ r ≡ t.names ++ a.target.names = ap (λ v. t.names ++ v) is in
+    passed (matches (tables_in c t.names) a.conditions k) a.quick (target_stop (first_walk depth c k) c t.names a.target) (target_last (second_walk depth c k) c t.names a.target)
+    (none_ending depth c k (t.names ++ a.target.names) a.target.children a.quick (ap (rules_at c) (sym e) ∙ no_rules_below c t r at below) (ap (kids c) (sym e) ∙ no_kids_below c t r at below))

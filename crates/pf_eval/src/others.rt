@@ -106,7 +106,7 @@ fn of_item<'c>(
 {
     match item {
         Item::Filter(rule) => other_hit(scope_at(config, anchor.names()), packet, index, rule),
-        Item::Anchor(rule) => within(config, anchor, packet, &rule.heading, depth),
+        Item::Anchor(rule) => within(config, anchor, packet, index, &rule.heading, depth),
     }
 }
 
@@ -117,6 +117,7 @@ fn within<'c>(
     config: &'c Config,
     anchor: &'c Anchor,
     packet: &Packet,
+    index: u32,
     heading: &AnchorHeading,
     depth: u8,
 ) -> Option<Hit<'c>>
@@ -133,7 +134,7 @@ fn within<'c>(
     {
         return None;
     }
-    let Some(base) = anchor.below(&heading.target.names) else {
+    let Some(base) = anchor.below(index, &heading.target.names) else {
         return None;
     };
     last_called(config, base, packet, heading.target.children, depth)

@@ -3,9 +3,10 @@
 ghost use Rattle.std.specs.Prelude.{◌≡◌, slice_get};
 ghost use Rattle.pf_ruleset.specs.Items.{AnchorRule};
 ghost use Rattle.pf_ruleset.specs.Seen.{heading_of, rule_of};
-ghost use Rattle.pf_config.specs.Map.{rules_at};
+ghost use Rattle.pf_config.specs.Map.{anchor_at, rules_at, rules_in};
+ghost use Rattle.pf_config.specs.Orders.{stops_of};
 ghost use Rattle.pf_config.specs.Trees.{paths_of, shared};
-ghost use Rattle.pf_eval.specs.inner.TwoWalks.{shallow, in_member, called_stop, called_last, ending};
+ghost use Rattle.pf_eval.specs.inner.TwoWalks.{shallow, in_member, called_stop, called_last, ending, is_quiet};
 ghost use Rattle.pf_eval.specs.inner.TwoWalks.{candidate_spot, some_rule, first_some};
 ghost use Rattle.pf_eval.specs.inner.TwoWalks.{IsAnchorOf, first_walk, second_walk, stop_at, spot_in};
 
@@ -103,17 +104,27 @@ fn of_item<'c>(
 {
     match item {
         Item::Filter(rule) => quick_hit(scope_at(config, anchor.names()), packet, index, rule),
-        Item::Anchor(rule) => within(config, anchor, packet, &rule.heading, depth),
+        Item::Anchor(rule) => within(config, anchor, packet, index, &rule.heading, depth),
     }
 }
 
-/// The hit by which an anchor rule ends the evaluation.
+/// Whether no rule of the anchor that a rule leads to can end the evaluation, nor that rule by itself.
+fn is_quiet(heading: &AnchorHeading, base: &Anchor) -> bool
+    ensures { result ≡ is_quiet heading.now.quick heading.now.target.children
+        (stops_of (rules_in (anchor_at base.now.names base.now.anchors))) }
+{
+    !heading.quick && !heading.target.children && base.stops().list().is_empty()
+}
+
+/// The hit by which the anchor rule with this index ends the evaluation. The cheapest look comes first: few anchors have
+/// rules that are quick.
 #[cycle(stops)]
-#[tactic(auto, using(crate::proofs::Walks::none_ending, crate::proofs::Anchors::below_is, crate::proofs::Anchors::ending_below, crate::proofs::Anchors::no_rules_below, crate::proofs::Anchors::no_kids_below))]
+#[tactic(auto, using(crate::proofs::Anchors::below_is))]
 fn within<'c>(
     config: &'c Config,
     anchor: &'c Anchor,
     packet: &Packet,
+    index: u32,
     heading: &AnchorHeading,
     depth: u8,
 ) -> Option<Hit<'c>>
@@ -121,6 +132,12 @@ fn within<'c>(
     ensures { spot_in result ≡
         stop_at depth config.now packet.now anchor.now.names 0 (AnchorRule (heading_of heading.now)) }
 {
+    let Some(base) = anchor.below(index, &heading.target.names) else {
+        return None;
+    };
+    if is_quiet(heading, base) {
+        return None;
+    }
     if !matches(
         scope_at(config, anchor.names()),
         &heading.conditions,
@@ -128,9 +145,6 @@ fn within<'c>(
     ) {
         return None;
     }
-    let Some(base) = anchor.below(&heading.target.names) else {
-        return None;
-    };
     ended(config, base, packet, heading, depth)
 }
 

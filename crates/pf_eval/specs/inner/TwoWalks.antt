@@ -1,6 +1,6 @@
 -- The verdict by two walks over rules and anchors: the first hit that ends the evaluation, else the last hit.
 use Rattle.std.specs.Prelude.{ℕ, zero, suc, ◌+◌, ◌++◌, Bool, List, [], ◌∷◌, length, map, Option, Some, None}
-use Rattle.std.specs.Prelude.{◌≡◌, nat_le, option_map, slice_get, if◌then◌else◌}
+use Rattle.std.specs.Prelude.{◌≡◌, ◌&&◌, ◌==◌, not, nat_le, option_map, slice_get, if◌then◌else◌}
 use Rattle.pf_ruleset.specs.declared.rule.Rule.{Rule}
 use Rattle.pf_ruleset.specs.Names.{begins_below}
 use Rattle.pf_ruleset.specs.Items.{AnyRule, FilterRule, AnchorRule, Target}
@@ -82,6 +82,10 @@ abbrev pub rule_last : Tables → (last : Target → Option Spot) → PacketValu
 rule_last tables last k p i (FilterRule r) = other_spot tables k p i r
 rule_last tables last k p i (AnchorRule a) =
     if a.quick then None else (if matches tables a.conditions k then last a.target else None)
+
+-- an anchor rule that leads to an anchor alone in which no rule can end the evaluation, and that isn't quick
+abbrev pub is_quiet : (quick children : Bool) → (stops : List Candidate) → Bool
+is_quiet quick children stops = not quick && (not children && (length stops == 0))
 
 -- a walk at a path, none where it is deeper than 8 names
 abbrev pub shallow : (Path → Option Spot) → Path → Option Spot

@@ -1,11 +1,13 @@
 use Rattle.std.proofs.Common.{rules, arith, ◌≡◌, ◌∙◌, true, sym}
 use Rattle.pf_eval.specs.Matching.{matches}
 use Rattle.pf_eval.specs.Verdicts.{tables_in}
-use Rattle.pf_eval.specs.inner.TwoWalks.{stop_at, hit_of}
+use Rattle.pf_ruleset.specs.Seen.{heading_of}
+use Rattle.pf_config.specs.Orders.{stops_of}
+use Rattle.pf_eval.specs.inner.TwoWalks.{stop_at, hit_of, is_quiet}
 use Rattle.pf_eval.proofs.Anchors.{ending_below, own_rules}
-use Rattle.pf_eval.proofs.Candidates.{some_item}
+use Rattle.pf_eval.proofs.Candidates.{some_item, nothing_below, quiet_rule}
 use Rattle.pf_eval.proofs.Searching.{found_there, not_there, none_left}
-use Rattle.pf_config.specs.Map.{rules_at}
+use Rattle.pf_config.specs.Map.{anchor_at, rules_at, rules_in}
 use Rattle.pf_eval.proofs.stops.+stops.Goals as goal
 
 pub within-returns : goal.within-returns
@@ -13,6 +15,17 @@ within-returns t c =
     let heading = c.args.heading.now in
     let is : matches (tables_in c.args.config.now c.args.anchor.now.names) heading.conditions c.args.packet.now ≡ true = search rules in
     rw is (c.ended.ensures ∙ ending_below c.args.depth c.args.config.now c.args.packet.now c.args.anchor.now c.in-Some.base.now c.deref.result.now heading.target.names.items heading.quick heading.target.children c.requires c.in-Some.ensures c.deref.ensures.value)
+
+pub within-returns-in_default : goal.within-returns-in_default
+within-returns-in_default t c =
+    nothing_below c.args.depth c.args.config.now c.args.packet.now c.args.anchor.now c.deref.result.now (heading_of c.args.heading.now) c.requires c.in_default.ensures c.deref.ensures.value
+
+pub within-returns-then-is_quiet : goal.within-returns-then-is_quiet
+within-returns-then-is_quiet t c =
+    let base = c.in-Some.base.now in
+    let heading = c.args.heading.now in
+    let quiet : is_quiet heading.quick heading.target.children (stops_of (rules_in (anchor_at base.names base.anchors))) ≡ true = search rules in
+    quiet_rule c.args.depth c.args.config.now c.args.packet.now c.args.anchor.now base c.deref.result.now (heading_of heading) c.requires c.in-Some.ensures c.deref.ensures.value quiet
 
 pub of_index-returns : goal.of_index-returns
 of_index-returns t c =
