@@ -1,8 +1,8 @@
 -- An anchor is looked for by halves among those in the order of their names.
-use Rattle.std.proofs.Common.{◌≡◌, ℕ, true, false, cond, List, [], ◌∷◌, ◌++◌, Some, None, take, drop, take-append-drop, refl, sym, subst, ap, ◌∙◌}
+use Rattle.std.proofs.Common.{◌≡◌, ℕ, zero, suc, true, false, cond, List, [], ◌∷◌, ◌++◌, Some, None, take, drop, take-append-drop, refl, sym, subst, ap, ◌∙◌}
 use Rattle.std.specs.declared.cmp.Ordering.TheVariants.{Less, Equal, Greater}
 use Rattle.std.specs.declared.rc.Rc.{Rc}
-use Rattle.std.specs.Prelude.{find}
+use Rattle.std.specs.Prelude.{find, slice_get}
 use Rattle.std.specs.Str.{bytes_eq}
 use Rattle.std.specs.Ordering.{is_lt, is_eq, nat_cmp, ordering_reverse}
 use Rattle.std.specs.Cmp.Lexicographic.{slice_cmp}
@@ -13,7 +13,7 @@ use Rattle.pf_ruleset.specs.Names.{Name, is_before}
 use Rattle.pf_config.specs.Map.{Path}
 use Rattle.pf_config.specs.Trees.{AnchorTree, AreKids, shared, last_name, is_named}
 use Rattle.pf_config.specs.inner.KidOrder.{AreInOrder}
-use Rattle.pf_config.proofs.Treed.{both_true, name_chain, before_other, kids_above, kids_above_chain}
+use Rattle.pf_config.proofs.Treed.{both_true, name_chain, before_other, kids_above, kids_above_chain, same_bytes}
 use Rattle.pf_config.proofs.Ordered.{turned}
 
 -- the anchors below an anchor stand so
@@ -94,3 +94,18 @@ kid_halves {Z} n i ks m behind s h =
       in_order_behind = (order_back front (m.value ∷ shared behind) t).1;
       in_order_first = order_front front (m.value ∷ shared behind) t;
     }
+
+-- ---- each of them is found by its name
+
+got : (x k : AnchorTree) → Some x ≡ Some k → x ≡ k
+got x k h = cc
+
+above_at : (n : Name) (ks : List AnchorTree) (i : ℕ) (k : AnchorTree) → kids_above n ks ≡ true → slice_get ks i ≡ Some k → is_before n (last_name k.names) ≡ true
+above_at n [] i k h g = cc
+above_at n (x ∷ ks) zero k h g = subst (λ (t : AnchorTree). is_before n (last_name t.names) ≡ true) (got x k g) (both_true (is_before n (last_name x.names)) (kids_above n ks) h).0
+above_at n (x ∷ ks) (suc i) k h g = above_at n ks i k (both_true (is_before n (last_name x.names)) (kids_above n ks) h).1 g
+
+pub kid_found : (ks : List AnchorTree) (i : ℕ) (k : AnchorTree) → AreInOrder ks → slice_get ks i ≡ Some k → find (is_named (last_name k.names)) ks ≡ Some k
+kid_found [] i k s g = cc
+kid_found (x ∷ ks) zero k s g = subst (λ (t : AnchorTree). find (is_named (last_name t.names)) (x ∷ ks) ≡ Some t) (got x k g) (rw (same_bytes (last_name x.names)) refl)
+kid_found (x ∷ ks) (suc i) k s g = rw (before_other (last_name x.names) (last_name k.names) (above_at (last_name x.names) ks i k s.0 g)) (kid_found ks i k s.1 g)

@@ -1,6 +1,6 @@
 -- Anchors as a tree: what each of them holds is a part of the map.
 use Rattle.std.specs.Prelude.{◌≡◌, ℕ, ◌+◌, ◌-◌, Bool, true, false, List, [], ◌∷◌, ◌++◌}
-use Rattle.std.specs.Prelude.{length, filter, Option, Some, None, not, nat_lt, ◌&&◌, fold}
+use Rattle.std.specs.Prelude.{length, filter, Option, Some, None, not, nat_lt, ◌&&◌, fold, slice_get}
 use Rattle.std.specs.Prelude.{if◌then◌else◌, map, ◌||◌}
 use Rattle.std.specs.List.{list_all, list_any, starts_with}
 use Rattle.std.specs.Str.{bytes_eq}
@@ -99,6 +99,10 @@ placed_in t r rules tables = record {
 abbrev pub TakesPlace : AnchorTree → Name → AnchorTree → AnchorTree → Type 0
 TakesPlace t n kid new = (a : AnchorValue) (r : Path) → a.path ≡ t.names ++ n ∷ r → kid.anchors ≡
     with_anchor a (anchors_of (child_at t n)) → new ≡ record { names = t.names; anchors = with_anchor a t.anchors }
+
+-- each of these is the anchor of its last name directly below
+abbrev pub AreBelow : AnchorTree → List AnchorTree → Type 0
+AreBelow t ks = (i : ℕ) (k : AnchorTree) → slice_get ks i ≡ Some k → Some k ≡ child_at t (last_name k.names)
 
 -- ---- walks down
 

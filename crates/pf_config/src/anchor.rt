@@ -12,7 +12,7 @@ ghost use Rattle.pf_config.specs.Map.{name_after, names_after, followed_by};
 ghost use Rattle.pf_config.specs.Changes.{is_empty, is_some_unnamed, without_unnamed, refer, tidied_of};
 ghost use Rattle.pf_config.specs.Trees.{shared, any_unnamed, any_sheds, is_idle, are_apart};
 ghost use Rattle.pf_config.specs.Trees.{child_at, last_name, is_named, kids_before, kids_behind, some_kid, anchors_of};
-ghost use Rattle.pf_config.specs.Trees.{placed_in, passes, paths_of, room_after, own_count};
+ghost use Rattle.pf_config.specs.Trees.{placed_in, passes, paths_of, room_after, own_count, AreBelow};
 ghost use Rattle.pf_config.specs.Trees.{own_entry};
 ghost use Rattle.pf_config.specs.Map.{paths_in};
 ghost use Rattle.pf_config.specs.Ordered.{AreOrdered};
@@ -158,7 +158,8 @@ impl Anchor {
     /// The anchors directly below, in byte order of their names.
     #[tactic(auto, using(crate::proofs::Kids::paths_are))]
     pub fn kids(&self) -> &[Rc<Anchor>]
-        ensures { paths_of (shared result.now) ≡ map (followed_by self.now.names)
+        ensures own { AreBelow self.now (shared result.now) }
+        ensures paths { paths_of (shared result.now) ≡ map (followed_by self.now.names)
             (fold put_name [] (names_after self.now.names self.now.anchors)) }
     {
         &self.kids

@@ -1,13 +1,13 @@
 -- The anchors that the walks go to are those of the configuration.
-use Rattle.std.proofs.Common.{◌≡◌, ℕ, List, [], ◌++◌, map, Option, Some, None, refl, sym, ap, ◌∙◌}
-use Rattle.std.specs.Prelude.{fold, nat_le, length, if◌then◌else◌, Bool, true, false}
+use Rattle.std.proofs.Common.{◌≡◌, ◌<◌, ℕ, zero, suc, length, get_or, arith, List, [], ◌∷◌, ◌++◌, map, Option, Some, None, refl, sym, ap, ◌∙◌}
+use Rattle.std.specs.Prelude.{fold, nat_le, slice_get, if◌then◌else◌, Bool, true, false}
+use Rattle.std.specs.declared.rc.Rc.{Rc}
 use Rattle.pf_config.specs.Map.{AnchorValue, Configuration, Path, rules_at, rules_in, anchor_at, kids, followed_by, names_after, put_name}
-use Rattle.pf_config.specs.Trees.{AnchorTree, anchor_in, and_then, tree_at}
+use Rattle.pf_config.specs.Trees.{AnchorTree, AreBelow, anchor_in, and_then, last_name, shared, tree_at}
 use Rattle.pf_config.proofs.Descents.{walk_down, walk_on, names_found, no_names_found, found_rules, no_rules_found, kids_found}
 use Rattle.pf_eval.specs.Packets.{PacketValue}
 use Rattle.pf_eval.specs.Verdicts.{Spot}
-use Rattle.pf_eval.specs.inner.TwoWalks.{IsAnchorOf, kid_paths, shallow, ending, called_stop, called_last, first_walk, second_walk}
-use Rattle.pf_eval.proofs.Walks.{first_nothing, second_nothing}
+use Rattle.pf_eval.specs.inner.TwoWalks.{IsAnchorOf, AreAnchorsOf, kid_paths, shallow, ending, called_stop, called_last, first_walk, second_walk}
 
 -- what is found at a path is the anchor there
 pub anchor_names : (c : Configuration) (p : Path) (t : AnchorTree) → Some t ≡ anchor_in c.anchors p → t.names ≡ p
@@ -66,13 +66,20 @@ no_rules_below c t r h e = no_rules_there c (t.names ++ r) (e ∙ down c.anchors
 pub no_kids_below : (c : Configuration) (t : AnchorTree) (r : Path) → IsAnchorOf c t → None ≡ tree_at t r → kids c (t.names ++ r) ≡ []
 no_kids_below c t r h e = no_kids_there c (t.names ++ r) (e ∙ down c.anchors t r h)
 
+-- ---- those directly below it
+
+pub kids_are : (c : Configuration) (t : AnchorTree) (ks : List AnchorTree) → IsAnchorOf c t → AreBelow t ks → AreAnchorsOf c ks
+kids_are c t ks h own i k g = below_is c t k (last_name k.names ∷ []) h (ap (λ o. and_then o (λ (j : AnchorTree). tree_at j [])) (own i k g))
+
+kid_got : {Z : Type 0} (ks : List (Rc AnchorTree Z)) (i : ℕ) (kid : Rc AnchorTree Z) → i < length ks → kid ≡ get_or ks i kid → slice_get (shared ks) i ≡ Some kid.value
+kid_got [] i kid lt h = absurd (omega (arith, lt))
+kid_got {Z} (k ∷ ks) zero kid lt h = ap (λ (z : Rc AnchorTree Z). Some z.value) (sym h)
+kid_got (k ∷ ks) (suc i) kid lt h = kid_got ks i kid (omega (arith, lt)) h
+
+pub kid_is : {Z : Type 0} (c : Configuration) (ks : List (Rc AnchorTree Z)) (i : ℕ) (kid : Rc AnchorTree Z) → AreAnchorsOf c (shared ks) → i < length ks → kid ≡ get_or ks i kid → IsAnchorOf c kid.value
+kid_is c ks i kid are lt h = are i kid.value (kid_got ks i kid lt h)
+
 -- ---- where none is nothing is hit
 
 pub shallow_none : (walk : Path → Option Spot) (q : Path) → walk q ≡ None → None ≡ shallow walk q
 shallow_none walk q h = elim (nat_le (length q) 8) as (λ b. None ≡ (if b then walk q else None)) [ true ↦ sym h | false ↦ refl ]
-
-pub no_stop_there : (depth : ℕ) (c : Configuration) (k : PacketValue) (q : Path) → None ≡ anchor_in c.anchors q → None ≡ shallow (first_walk depth c k) q
-no_stop_there depth c k q h = shallow_none (first_walk depth c k) q (first_nothing depth c k q (no_rules_there c q h))
-
-pub no_hit_there : (depth : ℕ) (c : Configuration) (k : PacketValue) (q : Path) → None ≡ anchor_in c.anchors q → None ≡ shallow (second_walk depth c k) q
-no_hit_there depth c k q h = shallow_none (second_walk depth c k) q (second_nothing depth c k q (no_rules_there c q h))

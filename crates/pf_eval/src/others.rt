@@ -7,7 +7,7 @@ ghost use Rattle.pf_config.specs.Map.{rules_at};
 ghost use Rattle.pf_config.specs.Trees.{paths_of, shared};
 ghost use Rattle.pf_eval.specs.inner.TwoWalks.{shallow, in_member, called_last, candidate_spot};
 ghost use Rattle.pf_eval.specs.inner.TwoWalks.{some_rule, first_some, last_some};
-ghost use Rattle.pf_eval.specs.inner.TwoWalks.{IsAnchorOf, second_walk, last_at, spot_in};
+ghost use Rattle.pf_eval.specs.inner.TwoWalks.{IsAnchorOf, AreAnchorsOf, second_walk, last_at, spot_in};
 
 use crate::hit::{Hit, other_hit};
 use crate::matching::matches;
@@ -142,7 +142,7 @@ fn within<'c>(
 
 /// The last hit within the anchor, or within those directly attached to it.
 #[cycle(others)]
-#[tactic(auto, using(crate::proofs::Anchors::own_kids))]
+#[tactic(auto, using(crate::proofs::Anchors::own_kids, crate::proofs::Anchors::kids_are))]
 pub(crate) fn last_called<'c>(
     config: &'c Config,
     base: &'c Anchor,
@@ -163,12 +163,14 @@ pub(crate) fn last_called<'c>(
 
 /// The last hit within these anchors, looked for from the back.
 #[cycle(others)]
+#[tactic(auto, using(crate::proofs::Anchors::kid_is))]
 fn of_members<'c>(
     config: &'c Config,
     packet: &Packet,
     kids: &'c [Rc<Anchor>],
     depth: u8,
 ) -> Option<Hit<'c>>
+    requires { AreAnchorsOf config.now (shared kids.now) }
     ensures { spot_in result ≡
         last_some (in_member (second_walk depth config.now packet.now)) (paths_of (shared kids.now)) }
 {
@@ -185,17 +187,14 @@ fn of_members<'c>(
 
 /// The last hit within an anchor, none if it is an unnamed block.
 #[cycle(others)]
-#[tactic(auto, using(crate::proofs::Anchors::anchor_is, crate::proofs::Anchors::anchor_names, crate::proofs::Anchors::no_hit_there))]
 fn of_member<'c>(config: &'c Config, packet: &Packet, kid: &'c Anchor, depth: u8) -> Option<Hit<'c>>
+    requires { IsAnchorOf config.now kid.now }
     ensures { spot_in result ≡ in_member (second_walk depth config.now packet.now) kid.now.names }
 {
     if kid.is_unnamed() {
         return None;
     }
-    match config.anchor(kid.names()) {
-        Some(anchor) => at(config, anchor, packet, depth),
-        None => None,
-    }
+    at(config, kid, packet, depth)
 }
 
 /// The last hit in an anchor, none if its path is too deep.

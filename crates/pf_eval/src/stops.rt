@@ -8,7 +8,7 @@ ghost use Rattle.pf_config.specs.Orders.{stops_of};
 ghost use Rattle.pf_config.specs.Trees.{paths_of, shared};
 ghost use Rattle.pf_eval.specs.inner.TwoWalks.{shallow, in_member, called_stop, called_last, ending, is_quiet};
 ghost use Rattle.pf_eval.specs.inner.TwoWalks.{candidate_spot, some_rule, first_some};
-ghost use Rattle.pf_eval.specs.inner.TwoWalks.{IsAnchorOf, first_walk, second_walk, stop_at, spot_in};
+ghost use Rattle.pf_eval.specs.inner.TwoWalks.{IsAnchorOf, AreAnchorsOf, first_walk, second_walk, stop_at, spot_in};
 
 use crate::hit::{Hit, quick_hit};
 use crate::matching::matches;
@@ -175,7 +175,7 @@ fn ended<'c>(
 
 /// The first hit that ends the evaluation within the anchor, or within those directly attached to it.
 #[cycle(stops)]
-#[tactic(auto, using(crate::proofs::Anchors::own_kids))]
+#[tactic(auto, using(crate::proofs::Anchors::own_kids, crate::proofs::Anchors::kids_are))]
 fn stop_called<'c>(
     config: &'c Config,
     base: &'c Anchor,
@@ -196,12 +196,14 @@ fn stop_called<'c>(
 
 /// The first hit that ends the evaluation within these anchors.
 #[cycle(stops)]
+#[tactic(auto, using(crate::proofs::Anchors::kid_is))]
 fn of_members<'c>(
     config: &'c Config,
     packet: &Packet,
     kids: &'c [Rc<Anchor>],
     depth: u8,
 ) -> Option<Hit<'c>>
+    requires { AreAnchorsOf config.now (shared kids.now) }
     ensures { spot_in result ≡
         first_some (in_member (first_walk depth config.now packet.now)) (paths_of (shared kids.now)) }
 {
@@ -215,17 +217,14 @@ fn of_members<'c>(
 
 /// The first hit that ends the evaluation within an anchor, none if it is an unnamed block.
 #[cycle(stops)]
-#[tactic(auto, using(crate::proofs::Anchors::anchor_is, crate::proofs::Anchors::anchor_names, crate::proofs::Anchors::no_stop_there))]
 fn of_member<'c>(config: &'c Config, packet: &Packet, kid: &'c Anchor, depth: u8) -> Option<Hit<'c>>
+    requires { IsAnchorOf config.now kid.now }
     ensures { spot_in result ≡ in_member (first_walk depth config.now packet.now) kid.now.names }
 {
     if kid.is_unnamed() {
         return None;
     }
-    match config.anchor(kid.names()) {
-        Some(anchor) => at(config, anchor, packet, depth),
-        None => None,
-    }
+    at(config, kid, packet, depth)
 }
 
 /// The first hit in an anchor that ends the evaluation, none if its path is too deep.

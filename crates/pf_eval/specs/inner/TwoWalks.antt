@@ -155,6 +155,9 @@ flat_last k i rule = rule_last no_tables no_spot k [] i rule
 abbrev pub IsAnchorOf : Configuration → AnchorTree → Type 0
 IsAnchorOf c t = Some t ≡ anchor_in c.anchors t.names
 
+abbrev pub AreAnchorsOf : Configuration → List AnchorTree → Type 0
+AreAnchorsOf c ts = (i : ℕ) (t : AnchorTree) → slice_get ts i ≡ Some t → IsAnchorOf c t
+
 abbrev pub hit_of : code.Hit → Spot
 hit_of h = record { path = h.names.now; index = h.index; action = h.action }
 

@@ -1,7 +1,7 @@
 use Rattle.std.proofs.Common.{◌≡◌, ◌≤◌, length, drop, None, ◌+◌, ◌*◌, ◌-◌}
 use Rattle.pf_config.specs.Map.{rules_at}
 use Rattle.pf_config.specs.Trees.{paths_of, shared}
-use Rattle.pf_eval.specs.inner.TwoWalks.{in_member, candidate_spot, first_some, last_some, second_walk, last_at, IsAnchorOf}
+use Rattle.pf_eval.specs.inner.TwoWalks.{in_member, candidate_spot, first_some, last_some, second_walk, last_at, IsAnchorOf, AreAnchorsOf}
 use Rattle.pf_eval.specs.inner.Searching.{IsSearchFor}
 use Rattle.pf_eval.specs.inner.Sieves.{key_of}
 use Rattle.pf_eval.proofs.others.+others.Given as goal
@@ -51,6 +51,7 @@ abbrev pub invariant-of_members-loop-left : goal.invariant-of_members-loop-left
 invariant-of_members-loop-left l = record {
   none : last_some (in_member (second_walk l.depth l.config l.packet)) (paths_of (shared (drop l.left l.kids))) ≡ None;
   few : l.left ≤ length l.kids;
+  are : AreAnchorsOf l.config (shared l.kids);
 }
 
 abbrev pub decreases-of_members-loop-left : goal.decreases-of_members-loop-left

@@ -1,7 +1,7 @@
 use Rattle.std.proofs.Common.{◌≡◌, ◌≤◌, drop, length, ◌+◌, ◌*◌, ◌-◌}
 use Rattle.pf_config.specs.Map.{rules_at}
 use Rattle.pf_config.specs.Trees.{paths_of, shared}
-use Rattle.pf_eval.specs.inner.TwoWalks.{in_member, candidate_spot, first_some, first_walk, stop_at, IsAnchorOf}
+use Rattle.pf_eval.specs.inner.TwoWalks.{in_member, candidate_spot, first_some, first_walk, stop_at, IsAnchorOf, AreAnchorsOf}
 use Rattle.pf_eval.specs.inner.Searching.{IsSearchFor}
 use Rattle.pf_eval.specs.inner.Sieves.{key_of}
 use Rattle.pf_eval.proofs.stops.+stops.Given as goal
@@ -51,4 +51,7 @@ decreases-of_candidates-loop-at l = length l.list - l.from
 
 -- the first stop is within the anchors that are left
 abbrev pub invariant-of_members-loop-kid : goal.invariant-of_members-loop-kid
-invariant-of_members-loop-kid l = first_some (in_member (first_walk l.depth l.config l.packet)) (paths_of (shared (drop l.kid-index l.kids))) ≡ first_some (in_member (first_walk l.depth l.config l.packet)) (paths_of (shared l.kids))
+invariant-of_members-loop-kid l = record {
+  rest : first_some (in_member (first_walk l.depth l.config l.packet)) (paths_of (shared (drop l.kid-index l.kids))) ≡ first_some (in_member (first_walk l.depth l.config l.packet)) (paths_of (shared l.kids));
+  are : AreAnchorsOf l.config (shared l.kids);
+}
