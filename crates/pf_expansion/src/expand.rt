@@ -416,7 +416,8 @@ pub(crate) fn combined(
 ) -> Result<Vec<Conditions>, AllocError>
     ensures { IfOk result (λ found. found.items ≡ combined test (conditions_of text.now)) }
 {
-    let mut found = Vec::new(alloc);
+    // Most rules have no list.
+    let mut found = Vec::with_capacity(alloc, 1)?;
     let any = Host::Any;
     let nothing = Chosen {
         interface: None,

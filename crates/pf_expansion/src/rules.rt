@@ -100,7 +100,7 @@ pub(crate) fn rules_with(
 ) -> Result<Vec<Rule>, AllocError>
     ensures { IfOk result (λ rules. rules.items ≡ map (rule_with policy (text_of text.now)) found.items) }
 {
-    let mut rules = Vec::new(alloc);
+    let mut rules = Vec::with_capacity(alloc, found.len())?;
     for conditions in found {
         rules.push(rule_with(policy, text, conditions))?;
     }
