@@ -163,3 +163,8 @@ front_within (b ∷ bytes) lexeme len some is_front =
     let takes = front_takes b bytes in
     let same : len ≡ (front (b ∷ bytes)).len = ap (λ (f : Front). f.len) is_front in
     (omega (arith, takes.some, same), omega (arith, takes.within, same))
+
+-- a blank is no token, and no line
+pub blank_passed : (line at b : ℕ) (steps text bytes : List ℕ) → text ≡ b ∷ bytes → b ≡ 32 → tokens_behind 0 (letters_at line (at + 1) steps bytes) ≡ tokens_behind 0 (letters_at line at steps text)
+blank_passed line at b steps text bytes here blank =
+    rw (here, blank) (sym (tokens-front line at 32 steps bytes))

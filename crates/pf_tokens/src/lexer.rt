@@ -101,6 +101,24 @@ impl<'a> Lexer<'a> {
         })
     }
 
+    /// Goes past a blank, if one comes next, as behind most tokens.
+    #[tactic(auto, using(crate::proofs::Lexing::blank_passed), unfolding(crate::specs::Left::tokens_left))]
+    fn pass_blank(&mut self)
+        ensures { tokens_left self.new ≡ tokens_left self.old }
+    {
+        let Some((first, others)) = self.rest.split_first() else {
+            return;
+        };
+        if *first == b' ' {
+            *self = Lexer {
+                rest: others,
+                at: self.at + 1,
+                steps: self.steps,
+                line: self.line,
+            };
+        }
+    }
+
     /// Goes past empty statements. Answers the line of the first token behind them, none where no token is left.
     #[tactic(auto, using(crate::proofs::Passing::passed_none, crate::proofs::Passing::passed_token, crate::proofs::Passing::passed_newline))]
     pub fn next_statement(&mut self) -> Option<u64>
@@ -132,6 +150,7 @@ impl<'a> Lexer<'a> {
     {
         while !self.rest.is_empty() {
             if let Some(token) = self.step() {
+                self.pass_blank();
                 return Some(token);
             }
         }
