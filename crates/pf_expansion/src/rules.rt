@@ -92,6 +92,7 @@ fn rule_with(policy: Policy, text: &WrittenRule, conditions: Conditions) -> Rule
 }
 
 /// The rules with these conditions.
+#[inline(always)]
 pub(crate) fn rules_with(
     alloc: Global,
     policy: Policy,
