@@ -15,6 +15,7 @@ use pf_words::Profile;
 use std::alloc::Global;
 
 /// The interfaces, the family, the protocols and the hosts of a rule or an anchor rule.
+#[inline(always)]
 #[tactic(auto, unfolding(crate::specs::Conditions::common_at, crate::specs::Conditions::interfaces_at, crate::specs::Conditions::protocols_at))]
 pub fn read_common<'t: 's, 's>(
     alloc: Global,

@@ -73,6 +73,7 @@ fn read_end<'t: 's, 's>(
 }
 
 /// The source and the destination.
+#[inline(always)]
 #[tactic(auto, unfolding(pf_tokens::specs::Productions::option_at, crate::specs::Conditions::ends_at))]
 pub(crate) fn read_ends<'t: 's, 's>(
     alloc: Global,

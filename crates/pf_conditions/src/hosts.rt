@@ -35,6 +35,7 @@ pub(crate) fn any_host(alloc: Global) -> Result<Listed<Host>, AllocError>
 }
 
 /// The rest of a prefix behind its address.
+#[inline(always)]
 #[tactic(auto, unfolding(pf_tokens::specs::Productions::symbol_at, crate::specs::Conditions::length_at, crate::specs::Conditions::prefix_behind))]
 fn prefix_behind<'t: 's, 's>(addr: &[u8], parser: &mut Parser<'t, 's>) -> Option<Prefix>
     ensures read { Reads result (left parser.new) (prefix_behind addr.now (left parser.old)) }

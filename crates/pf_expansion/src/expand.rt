@@ -204,6 +204,7 @@ fn push_chosen(
 }
 
 /// The conditions with each type of ICMP.
+#[inline(always)]
 #[tactic(auto, unfolding(crate::specs::Expansion::by_type))]
 fn push_types(
     alloc: Global,
@@ -233,6 +234,7 @@ fn push_types(
 }
 
 /// The conditions with each port of the destination.
+#[inline(always)]
 #[tactic(auto, unfolding(crate::specs::Expansion::by_destination_port))]
 fn push_destination_ports(
     alloc: Global,
@@ -262,6 +264,7 @@ fn push_destination_ports(
 }
 
 /// The conditions between the hosts that are chosen, none where two families occur.
+#[inline(always)]
 fn push_between(
     alloc: Global,
     found: &mut Vec<Conditions>,
@@ -279,6 +282,7 @@ fn push_between(
 }
 
 /// The conditions with each destination.
+#[inline(always)]
 #[tactic(auto, unfolding(crate::specs::Expansion::by_destination))]
 fn push_destinations(
     alloc: Global,
@@ -301,6 +305,7 @@ fn push_destinations(
 }
 
 /// The conditions with each port of the source.
+#[inline(always)]
 #[tactic(auto, unfolding(crate::specs::Expansion::by_source_port))]
 fn push_source_ports(
     alloc: Global,
@@ -330,6 +335,7 @@ fn push_source_ports(
 }
 
 /// The conditions with each source.
+#[inline(always)]
 #[tactic(auto, unfolding(crate::specs::Expansion::by_source))]
 fn push_sources(
     alloc: Global,
@@ -349,6 +355,7 @@ fn push_sources(
 }
 
 /// The conditions with each protocol.
+#[inline(always)]
 #[tactic(auto, unfolding(crate::specs::Expansion::by_protocol))]
 fn push_protocols(
     alloc: Global,
@@ -416,7 +423,8 @@ pub(crate) fn combined(
 ) -> Result<Vec<Conditions>, AllocError>
     ensures { IfOk result (λ found. found.items ≡ combined test (conditions_of text.now)) }
 {
-    let mut found = Vec::new(alloc);
+    // Most rules have no list.
+    let mut found = Vec::with_capacity(alloc, 1)?;
     let any = Host::Any;
     let nothing = Chosen {
         interface: None,

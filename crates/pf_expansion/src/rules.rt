@@ -92,6 +92,7 @@ fn rule_with(policy: Policy, text: &WrittenRule, conditions: Conditions) -> Rule
 }
 
 /// The rules with these conditions.
+#[inline(always)]
 pub(crate) fn rules_with(
     alloc: Global,
     policy: Policy,
@@ -100,7 +101,7 @@ pub(crate) fn rules_with(
 ) -> Result<Vec<Rule>, AllocError>
     ensures { IfOk result (λ rules. rules.items ≡ map (rule_with policy (text_of text.now)) found.items) }
 {
-    let mut rules = Vec::new(alloc);
+    let mut rules = Vec::with_capacity(alloc, found.len())?;
     for conditions in found {
         rules.push(rule_with(policy, text, conditions))?;
     }

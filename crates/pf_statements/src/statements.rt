@@ -60,6 +60,7 @@ fn may_keep(action: WrittenAction, state: Option<bool>) -> bool
 }
 
 /// A filter rule.
+#[inline(always)]
 #[tactic(auto, unfolding(crate::specs::Statements::rule_at))]
 pub(crate) fn read_rule<'t: 's, 's>(
     alloc: Global,
@@ -143,7 +144,7 @@ fn read_setting<'t: 's, 's>(
 }
 
 /// A statement that defines no macro.
-#[tactic(auto, unfolding(pf_tokens::specs::Productions::option_at, crate::specs::Statements::value_of))]
+#[tactic(auto, unfolding(pf_tokens::specs::Productions::option_at, crate::specs::Statements::value_of, crate::specs::Statements::item_at, crate::specs::Statements::item_with))]
 pub fn read_statement<'t: 's, 's>(
     alloc: Global,
     profile: Profile,
@@ -159,6 +160,14 @@ pub fn read_statement<'t: 's, 's>(
     if parser.accept(b"table") {
         let table = read_table_text(alloc, profile, parser)?;
         return Ok(Statement::Tables(table));
+    }
+    if !parser.begins(b"anchor") {
+        // Most statements are rules: none of them goes through an item.
+        let rule = read_rule(alloc, profile, parser)?;
+        if !parser.at_end() {
+            return Err(Stop::Syntax);
+        }
+        return Ok(Statement::Rules(rule));
     }
     let item = read_item(alloc, profile, 0, parser)?;
     if !parser.at_end() {

@@ -8,6 +8,7 @@ use Rattle.pf_tokens.specs.declared.symbol.Symbol.{Symbol}
 use Rattle.pf_tokens.specs.Tokens.{Letter, line_after, is_word_byte, is_name_byte, is_quoted_byte, is_blank, symbol_of, symbol_of_two, Front, quoted_closed, macro_front, longer_symbol, longest, front, placed, tokens_behind}
 use Rattle.pf_tokens.specs.Joined.{passed, letters_at}
 use Rattle.pf_tokens.specs.Lexed.{placed_of, front_of}
+use Rattle.pf_tokens.specs.inner.Begun.{IsWordOn}
 
 pub prefix_len_le : (p : ℕ → Bool) (xs : List ℕ) → prefix_len p xs ≤ length xs
 prefix_len_le p [] = omega arith
@@ -163,3 +164,16 @@ front_within (b ∷ bytes) lexeme len some is_front =
     let takes = front_takes b bytes in
     let same : len ≡ (front (b ∷ bytes)).len = ap (λ (f : Front). f.len) is_front in
     (omega (arith, takes.some, same), omega (arith, takes.within, same))
+
+-- a blank is no token, and no line
+pub blank_passed : (line at b : ℕ) (steps text bytes : List ℕ) → text ≡ b ∷ bytes → b ≡ 32 → tokens_behind 0 (letters_at line (at + 1) steps bytes) ≡ tokens_behind 0 (letters_at line at steps text)
+blank_passed line at b steps text bytes here blank =
+    rw (here, blank) (sym (tokens-front line at 32 steps bytes))
+
+-- a word at the front
+pub word_on : (line at b : ℕ) (steps text bytes : List ℕ) → text ≡ b ∷ bytes → passed at steps ≡ 0 → is_word_byte b ≡ true → IsWordOn line (tokens_behind 0 (letters_at line at steps text))
+word_on line at b steps text bytes here none is_word =
+    rw (here, tokens-front line at b steps bytes)
+    (pick (λ (f : Front). IsWordOn line (placed f.token (line + passed at steps) (tokens_behind 0 (letters_at (line_after line b) (at + f.len) steps (drop f.len (b ∷ bytes)))))) (is_word_byte b) _ _
+    (λ _. (omega (arith, none), refl))
+    (λ other. absurd (false≢true (sym other ∙ is_word))))

@@ -83,7 +83,7 @@ const WORD_BYTES: [bool; 256] = [
 ];
 
 /// Whether the byte may stand in a word.
-fn is_word_byte(b: u8) -> bool
+pub(crate) fn is_word_byte(b: u8) -> bool
     ensures { result ≡ is_word_byte b }
 {
     WORD_BYTES[usize::from(b)]

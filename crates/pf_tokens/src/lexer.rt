@@ -3,7 +3,7 @@
 ghost use Rattle.std.specs.Prelude.{◌≡◌, ◌+◌, ◌<◌, ◌^◌, length};
 ghost use Rattle.pf_tokens.specs.Tokens.{line_after};
 
-use crate::lexeme::{Lexed, front};
+use crate::lexeme::{Lexed, front, is_word_byte};
 
 /// The line of what follows the byte.
 fn line_after(line: u64, b: u8) -> u64
@@ -28,7 +28,7 @@ pub struct Lexer<'a> {
 
 impl<'a> Lexer<'a> {
     ghost use Rattle.std.specs.Prelude.{◌≡◌, ◌+◌, ◌<◌, ◌^◌, ◌++◌, length, option_map, drop, List};
-    ghost use Rattle.std.specs.Prelude.{[], ℕ};
+    ghost use Rattle.std.specs.Prelude.{[], ℕ, IfSome};
     ghost use Rattle.std.specs.Bool.{OnTrue};
     ghost use Rattle.std.specs.Option.{option_to_list};
     ghost use Rattle.pf_tokens.specs.Tokens.{Placed, tokens_behind, plain_tokens, first};
@@ -36,6 +36,7 @@ impl<'a> Lexer<'a> {
     ghost use Rattle.pf_tokens.specs.Joined.{letters_at, passed};
     ghost use Rattle.pf_tokens.specs.Lexed.{placed_of};
     ghost use Rattle.pf_tokens.specs.Left.{tokens_left};
+    ghost use Rattle.pf_tokens.specs.inner.Begun.{IsWordOn};
 
     /// The tokens of a macro's text.
     #[tactic(auto, using(crate::proofs::Joining::letters_plain), unfolding(crate::specs::Left::tokens_left))]
@@ -101,12 +102,48 @@ impl<'a> Lexer<'a> {
         })
     }
 
+    /// Goes past a blank, if one comes next, as behind most tokens.
+    #[tactic(auto, using(crate::proofs::Lexing::blank_passed), unfolding(crate::specs::Left::tokens_left))]
+    fn pass_blank(&mut self)
+        ensures { tokens_left self.new ≡ tokens_left self.old }
+    {
+        let Some((first, others)) = self.rest.split_first() else {
+            return;
+        };
+        if *first == b' ' {
+            *self = Lexer {
+                rest: others,
+                at: self.at + 1,
+                steps: self.steps,
+                line: self.line,
+            };
+        }
+    }
+
+    /// The line of the word that comes next, where it is at the front, as its first byte tells.
+    #[tactic(auto, using(crate::proofs::Lexing::word_on), unfolding(crate::specs::Left::tokens_left))]
+    pub(crate) fn word_line(&mut self) -> Option<u64>
+        ensures left { tokens_left self.new ≡ tokens_left self.old }
+        ensures word { IfSome result (λ line. IsWordOn line (tokens_left self.old)) }
+    {
+        self.pass_steps();
+        let (first, _) = self.rest.split_first()?;
+        if is_word_byte(*first) {
+            Some(self.line)
+        } else {
+            None
+        }
+    }
+
     /// Goes past empty statements. Answers the line of the first token behind them, none where no token is left.
-    #[tactic(auto, using(crate::proofs::Passing::passed_none, crate::proofs::Passing::passed_token, crate::proofs::Passing::passed_newline))]
+    #[tactic(auto, using(crate::proofs::Passing::passed_none, crate::proofs::Passing::passed_token, crate::proofs::Passing::passed_newline, crate::proofs::Passing::passed_word, crate::proofs::Passing::word_passed))]
     pub fn next_statement(&mut self) -> Option<u64>
         ensures line { result ≡ option_map (λ (p : Placed). p.line) (first (past_newlines (tokens_left self.old))) }
         ensures left { tokens_left self.new ≡ past_newlines (tokens_left self.old) }
     {
+        if let Some(line) = self.word_line() {
+            return Some(line);
+        }
         let mut ahead = *self;
         while let Some(token) = ahead.next_token() {
             if !token.is_empty_statement() {
@@ -132,6 +169,7 @@ impl<'a> Lexer<'a> {
     {
         while !self.rest.is_empty() {
             if let Some(token) = self.step() {
+                self.pass_blank();
                 return Some(token);
             }
         }

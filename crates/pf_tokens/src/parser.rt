@@ -144,7 +144,7 @@ where
         ensures { result ≡ begins word.now (left self.now) }
     {
         match self.peek() {
-            Some(Lexeme::Word(text)) => text == word,
+            Some(Lexeme::Word(text)) => text.len() == word.len() && text == word,
             _ => false,
         }
     }

@@ -10,6 +10,7 @@ ghost use Rattle.pf_tokens.specs.Flow.{pulled, pulled_raw};
 ghost use Rattle.pf_tokens.specs.Known.{definitions_of};
 ghost use Rattle.pf_tokens.specs.Pending.{pending, known, at_newline, statement_tokens, Stays, Blanks};
 ghost use Rattle.pf_tokens.specs.Carried.{carried};
+ghost use Rattle.pf_tokens.specs.inner.Begun.{begins_with_equals};
 
 use crate::lexeme::{Lexed, Lexeme};
 use crate::lexer::Lexer;
@@ -35,12 +36,34 @@ where
     't: 's,
 {
     /// At the start of a statement.
-    #[tactic(auto, unfolding(crate::specs::Left::tokens_left))]
+    #[tactic(auto, using(crate::proofs::Beginning::defines_behind, crate::proofs::Beginning::defines_none, crate::proofs::Beginning::defines_not, crate::proofs::Beginning::word_pulled), unfolding(crate::specs::Left::tokens_left, crate::specs::Pending::pending))]
     pub(crate) fn begin(text: Lexer<'t>, macros: &'s Macros) -> Stream<'t, 's>
         ensures pulled { pending result ≡ pulled_raw (definitions_of macros.now)
             (is_definition (tokens_left text.entry)) (tokens_left text.entry) }
         ensures known { known result ≡ definitions_of macros.now }
         ensures defining { result.defining ≡ is_definition (tokens_left text.entry) }
+    {
+        let mut behind = text;
+        let first = behind.next_token();
+        match first {
+            Some(token) if matches!(token.lexeme, Lexeme::Word(_)) => Stream {
+                next: first,
+                line: 0,
+                inside: Lexer::plain(&[]),
+                text: behind,
+                macros,
+                defining: begins_with_equals(behind),
+            },
+            _ => Stream::pulled(text, macros),
+        }
+    }
+
+    /// At the start of a statement that defines no macro.
+    #[tactic(auto, unfolding(crate::specs::Left::tokens_left))]
+    fn pulled(text: Lexer<'t>, macros: &'s Macros) -> Stream<'t, 's>
+        ensures pulled { pending result ≡ pulled_raw (definitions_of macros.now) false (tokens_left text.entry) }
+        ensures known { known result ≡ definitions_of macros.now }
+        ensures defining { result.defining ≡ false }
     {
         let mut stream = Stream {
             next: None,
@@ -48,7 +71,7 @@ where
             inside: Lexer::plain(&[]),
             text,
             macros,
-            defining: is_definition(text),
+            defining: false,
         };
         stream.pull();
         stream
@@ -159,20 +182,17 @@ where
     }
 }
 
-/// Whether a macro is defined by what comes next.
-#[tactic(auto, using(crate::proofs::Beginning::defines_two, crate::proofs::Beginning::defines_none, crate::proofs::Beginning::defines_one, crate::proofs::Beginning::defines_not))]
-fn is_definition(text: Lexer<'_>) -> bool
-    ensures { result ≡ is_definition (tokens_left text.entry) }
+/// Whether `=` comes next. Most often a word does.
+#[tactic(auto, using(crate::proofs::Beginning::equals_one, crate::proofs::Beginning::equals_none, crate::proofs::Beginning::equals_not))]
+fn begins_with_equals(text: Lexer<'_>) -> bool
+    ensures { result ≡ begins_with_equals (tokens_left text.entry) }
 {
     let mut ahead = text;
-    let Some(first) = ahead.next_token() else {
-        return false;
-    };
-    if !matches!(first.lexeme, Lexeme::Word(_)) {
+    if ahead.word_line().is_some() {
         return false;
     }
-    let Some(second) = ahead.next_token() else {
+    let Some(token) = ahead.next_token() else {
         return false;
     };
-    matches!(second.lexeme, Lexeme::Mark(Symbol::Equals))
+    matches!(token.lexeme, Lexeme::Mark(Symbol::Equals))
 }
