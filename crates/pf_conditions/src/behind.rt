@@ -33,7 +33,7 @@ pub(crate) fn read_behind<'t: 's, 's, E: Element>(
 pub(crate) fn lone<E: Drop>(alloc: Global, item: E) -> Result<Listed<E>, AllocError>
     ensures { IfOk result (λ list. elements_of list ≡ record { items = item ∷ []; deepest = 0 }) }
 {
-    let mut items = Vec::new(alloc);
+    let mut items = Vec::with_capacity(alloc, 1)?;
     items.push(item)?;
     Ok(Listed { items, deepest: 0 })
 }

@@ -328,28 +328,26 @@ impl fmt::Display for FlagsText {
             FlagTest::Any => write!(f, "any"),
             // What is asked of the packet that begins a connection, in most rules.
             FlagTest::Just {
-                set:
-                    TcpFlags {
-                        fin: false,
-                        syn: true,
-                        rst: false,
-                        psh: false,
-                        ack: false,
-                        urg: false,
-                        ece: false,
-                        cwr: false,
-                    },
-                of:
-                    TcpFlags {
-                        fin: false,
-                        syn: true,
-                        rst: false,
-                        psh: false,
-                        ack: true,
-                        urg: false,
-                        ece: false,
-                        cwr: false,
-                    },
+                set: TcpFlags {
+                    fin: false,
+                    syn: true,
+                    rst: false,
+                    psh: false,
+                    ack: false,
+                    urg: false,
+                    ece: false,
+                    cwr: false,
+                },
+                of: TcpFlags {
+                    fin: false,
+                    syn: true,
+                    rst: false,
+                    psh: false,
+                    ack: true,
+                    urg: false,
+                    ece: false,
+                    cwr: false,
+                },
             } => write!(f, "S/SA"),
             FlagTest::Just { set, of } => write!(f, "{}/{}", Letters(set), Letters(of)),
         }

@@ -1,11 +1,13 @@
 -- What is left of a statement behind its next token.
-use Rattle.std.proofs.Common.{◌≡◌, ℕ, zero, suc, ◌≤◌, Bool, true, false, List, [], ◌∷◌, drop, map, Option, Some, None, refl, sym, ap, ◌∙◌, arith}
+use Rattle.std.proofs.Common.{◌≡◌, ◌&&◌, ◌==◌, ℕ, zero, suc, ◌≤◌, Bool, true, false, List, [], ◌∷◌, drop, map, Option, Some, None, refl, sym, ap, ◌∙◌, arith}
 use Rattle.std.specs.Prelude.{is_some}
 use Rattle.std.specs.Option.{option_or}
 use Rattle.pf_tokens.specs.declared.lexeme.Lexed.{Lexed}
 use Rattle.pf_tokens.specs.declared.stream.Stream.{Stream}
 use Rattle.pf_tokens.specs.declared.parser.Parser.{Parser}
-use Rattle.pf_tokens.specs.Tokens.{Token, Placed, first, is_newline}
+use Rattle.pf_tokens.specs.Tokens.{Token, Word, Quoted, Macro, Mark, Newline, Bad, Placed, first, is_newline}
+use Rattle.pf_tokens.specs.declared.symbol.Symbol.{Symbol}
+use Rattle.pf_tokens.specs.Productions.{begins, begins_symbol, is_word, is_symbol}
 use Rattle.pf_tokens.specs.Lexed.{token_of, placed_of}
 use Rattle.pf_tokens.specs.Left.{tokens_left}
 use Rattle.pf_tokens.specs.Macros.{Definition, unwritten, depth_after, ends}
@@ -238,3 +240,47 @@ fault_told parser none = cases parser.passed.fault refl
     cases : (o : Option ReadingFault) → parser.passed.fault ≡ o → o ≡ option_or o (rest (tokens_of (placed_left parser)))
     cases (Some fault) e = refl
     cases None e = sym (ap (λ (ps : List Placed). rest (tokens_of ps)) (nothing_placed parser (none (ap is_some e))))
+
+-- ---- the token at hand, where it ends no statement
+
+-- the token that ends a statement is no word and no symbol
+ends_alone : (t : Token) (written outside : Bool) → written && is_newline t && outside ≡ true → (t ≡ Newline)
+ends_alone Newline written outside e = refl
+ends_alone (Word text) true outside e = absurd cc
+ends_alone (Word text) false outside e = absurd cc
+ends_alone (Quoted text) true outside e = absurd cc
+ends_alone (Quoted text) false outside e = absurd cc
+ends_alone (Macro name) true outside e = absurd cc
+ends_alone (Macro name) false outside e = absurd cc
+ends_alone (Mark symbol) true outside e = absurd cc
+ends_alone (Mark symbol) false outside e = absurd cc
+ends_alone Bad true outside e = absurd cc
+ends_alone Bad false outside e = absurd cc
+
+begins_first : (word : List ℕ) (ts : List Token) (t : Token) → first ts ≡ Some t → begins word ts ≡ is_word word t
+begins_first word [] t e = absurd cc
+begins_first word (u ∷ ts) t e = let same : u ≡ t = cc in ap (is_word word) same
+
+symbol_first : (symbol : Symbol) (ts : List Token) (t : Token) → first ts ≡ Some t → begins_symbol symbol ts ≡ is_symbol symbol t
+symbol_first symbol [] t e = absurd cc
+symbol_first symbol (u ∷ ts) t e = let same : u ≡ t = cc in ap (is_symbol symbol) same
+
+pub begins_nothing : (parser : Parser) (word : List ℕ) → parser.stream.next ≡ None → begins word (left parser) ≡ false
+begins_nothing parser word e = ap (begins word) (left_none parser e)
+
+pub symbol_nothing : (parser : Parser) (symbol : Symbol) → parser.stream.next ≡ None → begins_symbol symbol (left parser) ≡ false
+symbol_nothing parser symbol e = ap (begins_symbol symbol) (left_none parser e)
+
+pub begins_at_hand : (parser : Parser) (l : Lexed) (word : List ℕ) → parser.stream.next ≡ Some l → begins word (left parser) ≡ is_word word (token_of l.lexeme)
+begins_at_hand parser l word e = cases (ends parser.depth (placed_of l)) refl
+  where
+    cases : (b : Bool) → ends parser.depth (placed_of l) ≡ b → begins word (left parser) ≡ is_word word (token_of l.lexeme)
+    cases true ended = ap (begins word) (left_end parser l e ended) ∙ sym (ap (is_word word) (ends_alone (token_of l.lexeme) l.written (parser.depth == 0) ended))
+    cases false inner = begins_first word (left parser) (token_of l.lexeme) (left_token parser l e inner)
+
+pub symbol_at_hand : (parser : Parser) (l : Lexed) (symbol : Symbol) → parser.stream.next ≡ Some l → begins_symbol symbol (left parser) ≡ is_symbol symbol (token_of l.lexeme)
+symbol_at_hand parser l symbol e = cases (ends parser.depth (placed_of l)) refl
+  where
+    cases : (b : Bool) → ends parser.depth (placed_of l) ≡ b → begins_symbol symbol (left parser) ≡ is_symbol symbol (token_of l.lexeme)
+    cases true ended = ap (begins_symbol symbol) (left_end parser l e ended) ∙ sym (ap (is_symbol symbol) (ends_alone (token_of l.lexeme) l.written (parser.depth == 0) ended))
+    cases false inner = symbol_first symbol (left parser) (token_of l.lexeme) (left_token parser l e inner)

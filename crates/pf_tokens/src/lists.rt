@@ -111,7 +111,7 @@ pub fn some<'t: 's, 's, E: Element>(
         return list::<E>(alloc, profile, parser);
     }
     let item = E::read(alloc, profile, parser)?;
-    let mut items = Vec::new(alloc);
+    let mut items = Vec::with_capacity(alloc, 1)?;
     items.push(item)?;
     Ok(Listed { items, deepest: 0 })
 }

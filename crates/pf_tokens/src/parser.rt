@@ -5,6 +5,7 @@ ghost use Rattle.pf_tokens.specs.Pending.{at_newline};
 ghost use Rattle.pf_tokens.specs.Lexed.{token_of, placed_of};
 ghost use Rattle.pf_tokens.specs.Macros.{depth_after, ends};
 ghost use Rattle.pf_tokens.specs.Blanks.{open_after};
+ghost use Rattle.pf_tokens.specs.Productions.{is_symbol, is_word};
 
 use crate::fault::ReadingFault;
 use crate::lexeme::{Lexed, Lexeme};
@@ -140,12 +141,14 @@ where
     }
 
     /// Whether the next token is this word.
+    #[tactic(auto, using(crate::proofs::Skipping::begins_at_hand, crate::proofs::Skipping::begins_nothing))]
     pub fn begins(&self, word: &[u8]) -> bool
         ensures { result ≡ begins word.now (left self.now) }
     {
-        match self.peek() {
-            Some(Lexeme::Word(text)) => text.len() == word.len() && text == word,
-            _ => false,
+        // A word ends no statement.
+        match self.stream.next {
+            Some(token) => is_word(token.lexeme, word),
+            None => false,
         }
     }
 
@@ -164,12 +167,13 @@ where
     }
 
     /// Whether the next token is this symbol.
+    #[tactic(auto, using(crate::proofs::Skipping::symbol_at_hand, crate::proofs::Skipping::symbol_nothing))]
     pub fn begins_symbol(&self, symbol: Symbol) -> bool
         ensures { result ≡ begins_symbol symbol (left self.now) }
     {
-        match self.peek() {
-            Some(Lexeme::Mark(found)) => found == symbol,
-            _ => false,
+        match self.stream.next {
+            Some(token) => is_symbol(token.lexeme, symbol),
+            None => false,
         }
     }
 
@@ -276,6 +280,28 @@ where
             None => Lexer::plain(&[]),
             Some(_) => parser.stream.text,
         }
+    }
+}
+
+/// Whether it is this word.
+#[inline(always)]
+fn is_word(lexeme: Lexeme<'_>, word: &[u8]) -> bool
+    ensures { result ≡ is_word word.now (token_of lexeme.entry) }
+{
+    match lexeme {
+        Lexeme::Word(text) => text.len() == word.len() && text == word,
+        _ => false,
+    }
+}
+
+/// Whether it is this symbol.
+#[inline(always)]
+fn is_symbol(lexeme: Lexeme<'_>, symbol: Symbol) -> bool
+    ensures { result ≡ is_symbol symbol (token_of lexeme.entry) }
+{
+    match lexeme {
+        Lexeme::Mark(found) => found == symbol,
+        _ => false,
     }
 }
 
