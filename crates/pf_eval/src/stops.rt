@@ -116,8 +116,8 @@ fn is_quiet(heading: &AnchorHeading, base: &Anchor) -> bool
     !heading.quick && !heading.target.children && base.stops().list().is_empty()
 }
 
-/// The hit by which the anchor rule with this index ends the evaluation. The cheapest look comes first: few anchors have
-/// rules that are quick.
+/// The hit by which the anchor rule with this index ends the evaluation. The cheapest look comes first: few anchors
+/// have rules that are quick.
 #[cycle(stops)]
 #[tactic(auto, using(crate::proofs::Anchors::below_is))]
 fn within<'c>(
