@@ -1,6 +1,6 @@
 -- How the groups of a packet come, a pair of words at a time.
-use Rattle.std.proofs.Common.{◌≡◌, ℕ, true, false, List, [], ◌∷◌, ◌++◌, Option, Some, None, codes, refl, ap, append_assoc}
-use Rattle.pf_eval.specs.PacketTexts.{Word, ◌>>=◌, begins, word_after, keyed, name_of, groups_at, put_name}
+use Rattle.std.proofs.Common.{◌≡◌, ℕ, true, false, List, [], ◌∷◌, ◌++◌, drop, Option, Some, None, codes, refl, ap, append_assoc}
+use Rattle.pf_eval.specs.PacketTexts.{Word, ◌>>=◌, begins, value, name_of, groups_at, put_name}
 
 pub groups_stop : (ws : List Word) → begins (codes "group") ws ≡ false → groups_at ws ≡ Some ([], ws)
 groups_stop [] e = refl
@@ -12,8 +12,8 @@ bind_bind (Some x) f g = refl
 bind_bind None f g = refl
 
 pub groups_step : (ws : List Word) → begins (codes "group") ws ≡ true
-    → groups_at ws ≡ (keyed (codes "group") name_of ws >>= λ g. put_name g.0 (groups_at g.1))
-unfolding keyed word_after
+    → groups_at ws ≡ (value name_of (drop 1 ws) >>= λ g. put_name g.0 (groups_at g.1))
+unfolding value
 groups_step [] e = absurd cc
 groups_step (w ∷ []) e = rw e refl
 groups_step (w ∷ v ∷ ws) e = rw (e, bind_bind {B = List ℕ × List Word} (name_of v) (λ x. Some (x, ws)) (λ g. put_name g.0 (groups_at g.1))) refl

@@ -14,7 +14,7 @@ not_true false e = refl
 -- ---- what is spaced so has these words
 
 -- bytes that are no blanks go on with the word
-grows : (begun word text : List ℕ) → list_all (λ b. not (is_blank b)) word ≡ true → words_from begun (word ++ text) ≡ words_from (begun ++ word) text
+pub grows : (begun word text : List ℕ) → list_all (λ b. not (is_blank b)) word ≡ true → words_from begun (word ++ text) ≡ words_from (begun ++ word) text
 grows begun [] text e = ap (λ (w : List ℕ). words_from w text) (sym (append-nil begun))
 grows begun (b ∷ bs) text e =
     let a = and_parts (not (is_blank b)) (list_all (λ b. not (is_blank b)) bs) e in
@@ -26,7 +26,7 @@ passed : (blanks text : List ℕ) → AreBlanks blanks → words_from [] (blanks
 passed _ text (LastBlank b e) = rw e refl
 passed _ text (MoreBlanks b bs e are) = rw e (passed bs text are)
 
-ended_word : (word : Word) → IsWord word → ended word ≡ word ∷ []
+pub ended_word : (word : Word) → IsWord word → ended word ≡ word ∷ []
 ended_word [] is = absurd (is.some refl)
 ended_word (b ∷ bs) is = refl
 

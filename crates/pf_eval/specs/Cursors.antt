@@ -1,18 +1,23 @@
 -- What a cursor over words has left, and what a reader of words answers.
-use Rattle.std.specs.Prelude.{◌≡◌, List, [], ◌∷◌, option_map, Option, Some, None, Result, Ok, Err}
+use Rattle.std.specs.Prelude.{◌≡◌, ℕ, Bool, false, not, List, [], ◌∷◌, Option, Some, None, Result, Ok, Err}
 use Rattle.pf_eval.specs.declared.cursor.Cursor.{Cursor}
 use Rattle.pf_eval.specs.declared.fault.PacketFault.{PacketFault}
 use Rattle.pf_eval.specs.declared.fault.PacketFault.TheVariants.{Memory, BadPacket}
 use Rattle.pf_eval.specs.declared.cursor.End as code
-use Rattle.pf_eval.specs.PacketTexts.{Word, End, words}
+use Rattle.pf_eval.specs.PacketTexts.{Word, End, is_blank, words}
 
 -- the words of a text of which this word, if there is one, and what stands behind it were cut
 abbrev pub cut_words : Option (Word × Word) → List Word
 cut_words None = []
 cut_words (Some cut) = cut.0 ∷ words cut.1
 
+-- the text begins with a word
+abbrev pub begins_plain : List ℕ → Bool
+begins_plain [] = false
+begins_plain (b ∷ bytes) = not (is_blank b)
+
 abbrev pub left : Cursor → List Word
-left c = cut_words (option_map (λ word. (word.now, c.rest.now)) c.next)
+left c = words c.rest.now
 
 abbrev pub end_of : code.End → End
 end_of e = record { addr = e.addr; port = e.port }

@@ -2,8 +2,10 @@
 
 ghost use Rattle.std.specs.Prelude.{◌≡◌, Some, ◌<◌, drop, length, IsSome, IfSome, IfOk, IfErr, true, map};
 ghost use Rattle.std.specs.Prelude.{option_map, codes};
+ghost use Rattle.std.specs.Prelude.{if◌then◌else◌, not};
+ghost use Rattle.std.specs.List.{list_all};
 ghost use Rattle.std.specs.Option.{option_copied};
-ghost use Rattle.pf_eval.specs.PacketTexts.{is_empty, begins, word_at, word_after, value, keyed, optional};
+ghost use Rattle.pf_eval.specs.PacketTexts.{is_blank, is_empty, begins, word_at, word_after, value, keyed, optional};
 ghost use Rattle.pf_eval.specs.PacketTexts.{direction_of, name_of, address_of, port_number_of, type_number_of};
 ghost use Rattle.pf_eval.specs.PacketTexts.{groups_at, end_at, words};
 ghost use Rattle.pf_words.specs.Words.{protocol_of, flags_of};
@@ -11,7 +13,7 @@ ghost use Rattle.pf_eval.specs.declared.fault.PacketFault.TheVariants.{Memory};
 ghost use Rattle.pf_eval.specs.Cursors.{left, end_of, Reads, ReadsAll};
 
 use crate::fault::PacketFault;
-use crate::word::first_word;
+use crate::word::{behind, first_word};
 use pf_addr::{Addr, parse_bytes};
 use pf_ruleset::{Direction, InterfaceName};
 use pf_words::{Profile, TcpFlags, is_reserved, parse_decimal, parse_flags, parse_protocol};
@@ -24,10 +26,9 @@ pub(crate) struct End {
     pub(crate) port: Option<u16>,
 }
 
-/// The words that are left to read: the next one, and the text behind it.
+/// The words that are left to read, as the text that is left.
 #[derive(Clone, Copy, Debug)]
 pub(crate) struct Cursor<'t> {
-    next: Option<&'t [u8]>,
     rest: &'t [u8],
 }
 
@@ -36,43 +37,31 @@ impl<'t> Cursor<'t> {
     pub(crate) fn new(text: &'t [u8]) -> Cursor<'t>
         ensures { left result ≡ words text.now }
     {
-        match first_word(text) {
-            Some((word, rest)) => Cursor {
-                next: Some(word),
-                rest,
-            },
-            None => Cursor {
-                next: None,
-                rest: text,
-            },
-        }
+        Cursor { rest: text }
     }
 
     /// Whether no word is left.
     pub(crate) fn is_empty(&self) -> bool
         ensures { result ≡ is_empty (left self.now) }
     {
-        self.next.is_none()
+        first_word(self.rest).is_none()
     }
 
-    /// Whether this word comes next.
-    fn begins(&self, key: &[u8]) -> bool
-        ensures { result ≡ begins key.now (left self.now) }
+    /// Goes past this word, if it comes next.
+    #[inline(always)]
+    fn passes(&mut self, key: &[u8]) -> bool
+        requires some { 0 < length key.now }
+        requires plain { list_all (λ b. not (is_blank b)) key.now ≡ true }
+        ensures begins { result ≡ begins key.now (left self.old) }
+        ensures past { left self.new ≡ (if result then drop 1 (left self.old) else left self.old) }
     {
-        match self.next {
+        match behind(self.rest, key) {
+            Some(rest) => {
+                self.rest = rest;
+                true
+            }
             None => false,
-            Some(word) => word == key,
         }
-    }
-
-    /// Goes past a word, if one is left.
-    fn skip(&mut self)
-        ensures { left self.new ≡ drop 1 (left self.old) }
-    {
-        if self.next.is_none() {
-            return;
-        }
-        *self = Cursor::new(self.rest);
     }
 
     /// The next word.
@@ -80,21 +69,23 @@ impl<'t> Cursor<'t> {
         ensures read { Reads (option_copied result) (left self.new) (word_at (left self.old)) }
         ensures taken { IsSome result → length (left self.new) < length (left self.old) }
     {
-        let word = self.next?;
-        self.skip();
+        let (word, rest) = first_word(self.rest)?;
+        self.rest = rest;
         Some(word)
     }
 
     /// The word behind this one.
+    #[inline(always)]
     #[tactic(auto, unfolding(crate::specs::PacketTexts::word_after))]
     fn word_after(&mut self, key: &[u8]) -> Option<&'t [u8]>
+        requires some { 0 < length key.now }
+        requires plain { list_all (λ b. not (is_blank b)) key.now ≡ true }
         ensures read { Reads (option_copied result) (left self.new) (word_after key.now (left self.old)) }
         ensures taken { IsSome result → length (left self.new) < length (left self.old) }
     {
-        if !self.begins(key) {
+        if !self.passes(key) {
             return None;
         }
-        self.skip();
         self.word()
     }
 
@@ -113,17 +104,30 @@ impl<'t> Cursor<'t> {
         }
     }
 
-    /// The name of an interface behind this word.
-    #[tactic(auto, unfolding(crate::specs::PacketTexts::keyed, pf_words::specs::Words::is_interface_name))]
-    pub(crate) fn name_after(&mut self, key: &[u8]) -> Option<InterfaceName>
-        ensures read { Reads result (left self.new) (keyed key.now name_of (left self.old)) }
+    /// The name of an interface.
+    #[tactic(auto, unfolding(crate::specs::PacketTexts::value, pf_words::specs::Words::is_interface_name))]
+    fn name(&mut self) -> Option<InterfaceName>
+        ensures read { Reads result (left self.new) (value name_of (left self.old)) }
         ensures taken { IsSome result → length (left self.new) < length (left self.old) }
     {
-        let word = self.word_after(key)?;
+        let word = self.word()?;
         if is_reserved(Profile::One, word) {
             return None;
         }
         InterfaceName::new(word)
+    }
+
+    /// The name of an interface behind this word.
+    #[tactic(auto, unfolding(crate::specs::PacketTexts::keyed, crate::specs::PacketTexts::value, crate::specs::PacketTexts::word_after))]
+    pub(crate) fn name_after(&mut self, key: &[u8]) -> Option<InterfaceName>
+        requires some { 0 < length key.now }
+        requires plain { list_all (λ b. not (is_blank b)) key.now ≡ true }
+        ensures { Reads result (left self.new) (keyed key.now name_of (left self.old)) }
+    {
+        if !self.passes(key) {
+            return None;
+        }
+        self.name()
     }
 
     /// The groups of the interface.
@@ -132,8 +136,8 @@ impl<'t> Cursor<'t> {
         ensures { ReadsAll (λ v. v.items) result (left self.new) (groups_at (left self.old)) }
     {
         let mut groups = Vec::new(alloc);
-        while self.begins(b"group") {
-            let Some(name) = self.name_after(b"group") else {
+        while self.passes(b"group") {
+            let Some(name) = self.name() else {
                 return Err(PacketFault::BadPacket);
             };
             groups.push(name)?;
@@ -150,8 +154,11 @@ impl<'t> Cursor<'t> {
         parse_protocol(word)
     }
 
+    #[inline(always)]
     #[tactic(auto, unfolding(crate::specs::PacketTexts::keyed))]
     fn address_after(&mut self, key: &[u8]) -> Option<Addr>
+        requires some { 0 < length key.now }
+        requires plain { list_all (λ b. not (is_blank b)) key.now ≡ true }
         ensures { Reads result (left self.new) (keyed key.now address_of (left self.old)) }
     {
         let word = self.word_after(key)?;
@@ -162,18 +169,20 @@ impl<'t> Cursor<'t> {
     fn port(&mut self) -> Option<Option<u16>>
         ensures { Reads result (left self.new) (optional (codes "port") port_number_of (left self.old)) }
     {
-        if !self.begins(b"port") {
+        if !self.passes(b"port") {
             return Some(None);
         }
-        self.skip();
         let word = self.word()?;
         let port = parse_decimal(word, 5, u16::MAX)?;
         Some(Some(port))
     }
 
     /// An address behind this word, and its port.
+    #[inline(always)]
     #[tactic(auto, unfolding(crate::specs::PacketTexts::end_at))]
     pub(crate) fn end(&mut self, key: &[u8]) -> Option<End>
+        requires some { 0 < length key.now }
+        requires plain { list_all (λ b. not (is_blank b)) key.now ≡ true }
         ensures { Reads (option_map end_of result) (left self.new) (end_at key.now (left self.old)) }
     {
         let addr = self.address_after(key)?;
@@ -186,10 +195,9 @@ impl<'t> Cursor<'t> {
     pub(crate) fn flags(&mut self) -> Option<Option<TcpFlags>>
         ensures { Reads result (left self.new) (optional (codes "flags") flags_of (left self.old)) }
     {
-        if !self.begins(b"flags") {
+        if !self.passes(b"flags") {
             return Some(None);
         }
-        self.skip();
         let word = self.word()?;
         let flags = parse_flags(word)?;
         Some(Some(flags))
@@ -200,10 +208,9 @@ impl<'t> Cursor<'t> {
     pub(crate) fn icmp_type(&mut self) -> Option<Option<u8>>
         ensures { Reads result (left self.new) (optional (codes "icmp-type") type_number_of (left self.old)) }
     {
-        if !self.begins(b"icmp-type") {
+        if !self.passes(b"icmp-type") {
             return Some(None);
         }
-        self.skip();
         let word = self.word()?;
         let number = parse_decimal(word, 3, 255)?;
         Some(Some(number as u8))

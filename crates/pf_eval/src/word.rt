@@ -1,8 +1,10 @@
 //! The words of a packet text.
 
-ghost use Rattle.std.specs.Prelude.{◌≡◌, ◌++◌, IfOk, OnOk, map, option_map};
-ghost use Rattle.pf_eval.specs.Cursors.{cut_words};
-ghost use Rattle.pf_eval.specs.PacketTexts.{is_blank, ended, has_outer_blank, words};
+ghost use Rattle.std.specs.Prelude.{◌≡◌, ◌++◌, ◌∷◌, ◌<◌, IfOk, IfSome, OnOk, Some, None, drop, length, map, not, option_map};
+ghost use Rattle.std.specs.Prelude.{if◌then◌else◌, true};
+ghost use Rattle.std.specs.List.{list_all};
+ghost use Rattle.pf_eval.specs.Cursors.{cut_words, begins_plain};
+ghost use Rattle.pf_eval.specs.PacketTexts.{begins, is_blank, ended, has_outer_blank, words};
 
 use std::alloc::{AllocError, Global};
 
@@ -23,26 +25,88 @@ pub(crate) fn has_outer_blank(text: &[u8]) -> bool
     }
 }
 
+/// What stands before the first blank of a text that begins with a word, and what stands behind that blank.
+#[tactic(auto, using(crate::proofs::Words::word_stays, crate::proofs::Words::word_cut, crate::proofs::Words::word_whole))]
+fn cut_word(text: &[u8]) -> (&[u8], &[u8])
+    requires { begins_plain text.now ≡ true }
+    ensures { result.0.now ∷ words result.1.now ≡ words text.now }
+{
+    for (i, b) in text.iter().enumerate() {
+        // one comparison for most bytes
+        if *b > b' ' {
+            continue;
+        }
+        if is_blank(*b) {
+            return (&text[..i], &text[i + 1..]);
+        }
+    }
+    (text, &text[text.len()..])
+}
+
 /// The first word of a text, and what stands behind it. A blank that ends the word is gone.
 pub(crate) fn first_word(text: &[u8]) -> Option<(&[u8], &[u8])>
     ensures { cut_words (option_map (λ cut. (cut.0.now, cut.1.now)) result) ≡ words text.now }
 {
-    let mut start = 0usize;
-    for (i, b) in text.iter().enumerate() {
+    let mut rest = text;
+    while let [b, others @ ..] = rest {
         if !is_blank(*b) {
-            continue;
+            return Some(cut_word(rest));
         }
-        if start < i {
-            return Some((&text[start..i], &text[i + 1..]));
-        }
-        start = i + 1;
-    }
-    if start < text.len() {
-        let (_, word) = text.split_at(start);
-        let (_, none) = text.split_at(text.len());
-        return Some((word, none));
+        rest = others;
     }
     None
+}
+
+/// What stands behind this word and the blank that ends it, where the text begins with them.
+#[inline(always)]
+#[tactic(auto, using(crate::proofs::Words::key_ends, crate::proofs::Words::key_goes_on))]
+fn cut_key<'a>(text: &'a [u8], key: &[u8]) -> Option<&'a [u8]>
+    requires some { 0 < length key.now }
+    requires plain { list_all (λ b. not (is_blank b)) key.now ≡ true }
+    ensures { IfSome result (λ rest. words text.now ≡ key.now ∷ words rest.now) }
+{
+    let len = key.len();
+    if text.len() < len || &text[..len] != key {
+        return None;
+    }
+    if text.len() == len {
+        return Some(&text[len..]);
+    }
+    if is_blank(text[len]) {
+        Some(&text[len + 1..])
+    } else {
+        None
+    }
+}
+
+/// What stands behind this word, if it is the first one of a text that doesn't begin with it: blanks stand before it.
+#[tactic(auto, using(crate::proofs::Words::other_first))]
+fn behind_blanks<'a>(text: &'a [u8], key: &[u8]) -> Option<&'a [u8]>
+    requires { 0 < length key.now }
+    ensures { option_map (λ rest. words rest.now) result ≡ (if begins key.now (words text.now) then
+        Some (drop 1 (words text.now)) else None) }
+{
+    match text {
+        [first, ..] if !is_blank(*first) && *first != key[0] => None,
+        _ => match first_word(text) {
+            Some((word, rest)) if word == key => Some(rest),
+            _ => None,
+        },
+    }
+}
+
+/// What stands behind this word, if it is the first one. Inlined, so that a key's length is known where it is compared.
+#[inline(always)]
+pub(crate) fn behind<'a>(text: &'a [u8], key: &[u8]) -> Option<&'a [u8]>
+    requires some { 0 < length key.now }
+    requires plain { list_all (λ b. not (is_blank b)) key.now ≡ true }
+    ensures { option_map (λ rest. words rest.now) result ≡ (if begins key.now (words text.now) then
+        Some (drop 1 (words text.now)) else None) }
+{
+    match cut_key(text, key) {
+        Some(rest) => Some(rest),
+        None => behind_blanks(text, key),
+    }
 }
 
 /// Puts the word behind those that were found, unless it is empty.

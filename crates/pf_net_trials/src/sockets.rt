@@ -1,6 +1,52 @@
 use pf_net::{BindFault, UdpWire};
 use px_transport::Wire;
+use std::cell::Cell;
+use std::io;
+use std::net::{Net, SocketAddr, TcpListener, TcpStream, UdpSocket};
 use std::test::Fail;
+use std::time::{Clock, Duration};
+
+/// The system's network, and a clock of the test's own in milliseconds, which moves on with each reading. Without a
+/// step it fails.
+#[derive(Clone, Copy)]
+struct Bench<'a> {
+    rt: HostRuntime,
+    now: &'a Cell<u64>,
+    step: Option<u64>,
+}
+
+impl Clock for Bench<'_> {
+    fn monotonic(&self) -> io::Result<Duration> {
+        let Some(step) = self.step else {
+            return Err(io::Error::from(io::ErrorKind::Unsupported));
+        };
+        let now = self.now.get();
+        self.now.set(now.saturating_add(step));
+        Ok(Duration::from_millis(now))
+    }
+
+    fn since_1970(&self) -> io::Result<Duration> {
+        self.monotonic()
+    }
+}
+
+impl Net for Bench<'_> {
+    type Stream = TcpStream;
+
+    type Listener = TcpListener;
+
+    fn bind(&self, addr: SocketAddr) -> io::Result<TcpListener> {
+        Net::bind(&self.rt, addr)
+    }
+
+    fn connect(&self, addr: SocketAddr) -> io::Result<TcpStream> {
+        Net::connect(&self.rt, addr)
+    }
+
+    fn bind_udp(&self, addr: SocketAddr) -> io::Result<UdpSocket> {
+        self.rt.bind_udp(addr)
+    }
+}
 
 #[test]
 fn datagrams_go_between_members_and_who_asks(rt: HostRuntime) -> Result<(), Fail> {
@@ -57,5 +103,131 @@ fn two_members_do_not_share_an_address(rt: HostRuntime) -> Result<(), Fail> {
         Ok(_) => assert!(rt; false),
         Err(fault) => assert_eq!(rt; fault, BindFault::NoSocket),
     }
+    Ok(())
+}
+
+#[test]
+fn a_wait_ends_whatever_comes(rt: HostRuntime) -> Result<(), Fail> {
+    let members = ["127.0.0.1:39475", "127.0.0.1:39476"];
+    let now = Cell::new(5000);
+    let step = Some(400);
+    let bench = Bench {
+        rt,
+        now: &now,
+        step,
+    };
+    let mut one = UdpWire::bind(&bench, rt.alloc(), &members, 0, 1000)?;
+    let mut other = UdpWire::bind(&rt, rt.alloc(), &members, 1, 10)?;
+    let mut room = [0u8; 1];
+    for text in [b"a", b"b", b"c", b"d", b"e"] {
+        assert!(rt; other.send(0, text));
+    }
+    for text in [b"a", b"b", b"c"] {
+        assert_eq!(rt; one.recv(&mut room), Some(1));
+        assert_eq!(rt; room, *text);
+    }
+    assert_eq!(rt; one.recv(&mut room), None);
+    assert_eq!(rt; room, *b"c");
+    assert_eq!(rt; one.recv(&mut room), Some(1));
+    assert_eq!(rt; room, *b"d");
+    assert_eq!(rt; one.recv(&mut room), Some(1));
+    assert_eq!(rt; one.failures(), 0);
+    Ok(())
+}
+
+/// How many datagrams of 150 a member with a wait of 640 ms receives before none is answered, where so many
+/// milliseconds go by between two receives.
+fn received(rt: HostRuntime, members: &[&str], millis: u64) -> Result<u32, Fail> {
+    let now = Cell::new(0);
+    let step = Some(0);
+    let bench = Bench {
+        rt,
+        now: &now,
+        step,
+    };
+    let mut one = UdpWire::bind(&bench, rt.alloc(), members, 0, 640)?;
+    let mut other = UdpWire::bind(&rt, rt.alloc(), members, 1, 10)?;
+    let mut room = [0u8; 1];
+    for _ in 0..150 {
+        if !other.send(0, b"a") {
+            return Err(Fail::new("not sent"));
+        }
+    }
+    for count in 0..150u32 {
+        if one.recv(&mut room).is_none() {
+            return Ok(count);
+        }
+        now.set(now.get().saturating_add(millis));
+    }
+    Ok(150)
+}
+
+#[test]
+fn who_is_slow_receives_64_in_a_wait(rt: HostRuntime) -> Result<(), Fail> {
+    assert_eq!(rt;
+        received(rt, &["127.0.0.1:39477", "127.0.0.1:39478"], 5)?,
+        128
+    );
+    assert_eq!(rt;
+        received(rt, &["127.0.0.1:39487", "127.0.0.1:39488"], 10)?,
+        64
+    );
+    assert_eq!(rt;
+        received(rt, &["127.0.0.1:39497", "127.0.0.1:39498"], 60_000)?,
+        64
+    );
+    Ok(())
+}
+
+#[test]
+fn a_clock_that_fails_or_goes_back_ends_no_wait(rt: HostRuntime) -> Result<(), Fail> {
+    let members = ["127.0.0.1:39485", "127.0.0.1:39486"];
+    let now = Cell::new(1_000_000);
+    let mut other = UdpWire::bind(&rt, rt.alloc(), &members, 1, 10)?;
+    let mut room = [0u8; 1];
+    for step in [None, Some(0)] {
+        let bench = Bench {
+            rt,
+            now: &now,
+            step,
+        };
+        let mut one = UdpWire::bind(&bench, rt.alloc(), &members, 0, 10)?;
+        for text in [b"a", b"b", b"c"] {
+            assert!(rt; other.send(0, text));
+        }
+        for text in [b"a", b"b", b"c"] {
+            assert_eq!(rt; one.recv(&mut room), Some(1));
+            assert_eq!(rt; room, *text);
+            now.set(now.get() / 2);
+        }
+        assert_eq!(rt; one.recv(&mut room), None);
+        assert_eq!(rt; one.failures(), 0);
+    }
+    Ok(())
+}
+
+#[test]
+fn each_receive_of_an_asker_waits(rt: HostRuntime) -> Result<(), Fail> {
+    let members = ["127.0.0.1:39479"];
+    let now = Cell::new(0);
+    let step = Some(60_000);
+    let bench = Bench {
+        rt,
+        now: &now,
+        step,
+    };
+    let mut one = UdpWire::bind(&rt, rt.alloc(), &members, 0, 10)?;
+    let mut asker = UdpWire::bind(&bench, rt.alloc(), &members, 255, 10)?;
+    let mut room = [0u8; 3];
+    assert!(rt; asker.send(0, b"ask"));
+    assert_eq!(rt; one.recv(&mut room), Some(3));
+    for text in [b"one", b"two", b"six"] {
+        assert!(rt; one.send(255, text));
+    }
+    for text in [b"one", b"two", b"six"] {
+        assert_eq!(rt; asker.recv(&mut room), Some(3));
+        assert_eq!(rt; room, *text);
+    }
+    assert_eq!(rt; asker.recv(&mut room), None);
     Ok(())
 }

@@ -116,7 +116,7 @@ fn change_in(alloc: Global, matches: &ArgMatches<'_>, text: &[u8]) -> Result<Com
 }
 
 /// The asker's wire.
-fn bind(rt: &HostRuntime, alloc: Global, to: &str) -> Result<UdpWire, Outcome>
+fn bind(rt: &HostRuntime, alloc: Global, to: &str) -> Result<UdpWire<HostRuntime>, Outcome>
     ensures { OnErr result ((result ≡ Err Memory) ⊎ (result ≡ Err (Refused 82))) }
 {
     match UdpWire::bind(rt, alloc, &[to], ASKER, WAIT_MS) {

@@ -133,7 +133,11 @@ fn identity_of(m: Membership) -> Identity
 }
 
 /// The member's wire.
-fn bind(rt: &HostRuntime, alloc: Global, words: NodeWords<'_, '_>) -> Result<UdpWire, Outcome>
+fn bind(
+    rt: &HostRuntime,
+    alloc: Global,
+    words: NodeWords<'_, '_>,
+) -> Result<UdpWire<HostRuntime>, Outcome>
     ensures { OnErr result ((result ≡ Err Memory) ⊎ (result ≡ Err (Refused 82))) }
 {
     match UdpWire::bind(rt, alloc, words.members, words.me, WAIT_MS) {

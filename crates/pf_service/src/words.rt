@@ -15,7 +15,7 @@ const CLUSTER: &str = "The cluster's number, 0 to 4294967295";
 const STORE: &str = "The file of its record, which is made where there is none";
 
 const TURNS: &str =
-    "How many turns; in each it takes one datagram, or waits 100 ms in vain and ticks";
+    "How many turns; in each it takes one datagram, or a wait of 100 ms ends and it ticks";
 
 const MEMBER: &str =
     "The members' addresses in their order, IPV4:PORT, 1 to 15 of them; a node binds its own";

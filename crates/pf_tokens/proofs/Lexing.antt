@@ -1,11 +1,12 @@
 -- One step of the lexer goes past what stands at the front of the text.
-use Rattle.std.proofs.Common.{◌≡◌, ℕ, zero, suc, ◌+◌, ◌-◌, ◌<◌, ◌≤◌, ◌==◌, Bool, true, false, cond, List, [], ◌∷◌, ◌++◌, length, drop, get_or, map, Option, Some, None, option_map, refl, sym, ap, ◌∙◌, arith, not, eqb-true, length-drop}
+use Rattle.std.proofs.Common.{◌≡◌, ℕ, zero, suc, ◌+◌, ◌-◌, ◌<◌, ◌≤◌, ◌==◌, Bool, true, false, cond, List, [], ◌∷◌, ◌++◌, length, take, drop, get_or, map, Option, Some, None, option_map, refl, sym, ap, ◌∙◌, arith, not, eqb-true, length-drop}
+use Rattle.std.specs.List.{take_while}
 use Rattle.std.specs.List.{prefix_len}
 use Rattle.std.specs.Option.{option_to_list}
 use Rattle.std.proofs.lemmas.Bool.{false≢true}
 use Rattle.pf_tokens.specs.declared.lexeme.Lexeme.{Lexeme}
 use Rattle.pf_tokens.specs.declared.symbol.Symbol.{Symbol}
-use Rattle.pf_tokens.specs.Tokens.{Letter, line_after, is_word_byte, is_name_byte, is_quoted_byte, is_blank, symbol_of, symbol_of_two, Front, quoted_closed, macro_front, longer_symbol, longest, front, placed, tokens_behind}
+use Rattle.pf_tokens.specs.Tokens.{Letter, Word, line_after, is_word_byte, is_name_byte, is_quoted_byte, is_blank, symbol_of, symbol_of_two, Front, quoted_closed, macro_front, longer_symbol, longest, front, placed, tokens_behind}
 use Rattle.pf_tokens.specs.Joined.{passed, letters_at}
 use Rattle.pf_tokens.specs.Lexed.{placed_of, front_of}
 use Rattle.pf_tokens.specs.inner.Begun.{IsWordOn}
@@ -177,3 +178,16 @@ word_on line at b steps text bytes here none is_word =
     (pick (λ (f : Front). IsWordOn line (placed f.token (line + passed at steps) (tokens_behind 0 (letters_at (line_after line b) (at + f.len) steps (drop f.len (b ∷ bytes)))))) (is_word_byte b) _ _
     (λ _. (omega (arith, none), refl))
     (λ other. absurd (false≢true (sym other ∙ is_word))))
+
+pub word_step : (line at len : ℕ) (steps text : List ℕ) → 0 < length text → passed at steps ≡ 0 → is_word_byte (get_or text 0 0) ≡ true → len ≡ prefix_len is_word_byte text
+    → tokens_behind 0 (letters_at line at steps text) ≡ record { token = Word (take len text); line = line; written = true } ∷ tokens_behind 0 (letters_at line (at + len) steps (drop len text))
+word_step line at len steps [] some none is_word is_len = absurd (omega arith)
+word_step line at len steps (b ∷ bytes) some none is_word is_len =
+    let front_is : front (b ∷ bytes) ≡ record { token = Some (Word (take_while is_word_byte (b ∷ bytes))); len = prefix_len is_word_byte (b ∷ bytes) } = rw is_word refl in
+    let same : line + 0 ≡ line = omega arith in
+    let stays : line_after line b ≡ line = same_line is_word_byte line b refl is_word in
+    tokens-front line at b steps bytes ∙ rw (front_is, none, same, stays, is_len) refl
+
+pub word_within : (len : ℕ) (text : List ℕ) → len ≡ prefix_len is_word_byte text → len ≤ length text
+word_within len text e = rw e (prefix_len_le is_word_byte text)
+

@@ -14,7 +14,7 @@ use Rattle.pf_tokens.specs.Productions.{Read, ◌>>=◌, begins_symbol, is_symbo
 use Rattle.pf_tokens.specs.Lists.{Elements, elements, list_at, some_at, put}
 use Rattle.pf_tokens.specs.inner.Shorter.{bind_some, some_is, symbol_shorter}
 use Rattle.pf_tokens.specs.ListGrammar.{sign, IsComma, NoComma, CommaSign, IsElements, LastOne, LastList, OneMore, ListMore, IsList, Braces, IsSome, One, Listed, IsPlain, IsReadAs, IsElement, IsListBefore}
-use Rattle.pf_tokens.proofs.Fronts.{Took, begins_is, symbol_is}
+use Rattle.pf_tokens.proofs.Fronts.{Took, symbol_is}
 
 -- ---- what is asked of an element
 

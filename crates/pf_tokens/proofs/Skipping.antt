@@ -1,13 +1,13 @@
 -- What is left of a statement behind its next token.
 use Rattle.std.proofs.Common.{◌≡◌, ◌&&◌, ◌==◌, ℕ, zero, suc, ◌≤◌, Bool, true, false, List, [], ◌∷◌, drop, map, Option, Some, None, refl, sym, ap, ◌∙◌, arith}
-use Rattle.std.specs.Prelude.{is_some}
+use Rattle.std.specs.Prelude.{is_some, option_map}
 use Rattle.std.specs.Option.{option_or}
 use Rattle.pf_tokens.specs.declared.lexeme.Lexed.{Lexed}
 use Rattle.pf_tokens.specs.declared.stream.Stream.{Stream}
 use Rattle.pf_tokens.specs.declared.parser.Parser.{Parser}
 use Rattle.pf_tokens.specs.Tokens.{Token, Word, Quoted, Macro, Mark, Newline, Bad, Placed, first, is_newline}
 use Rattle.pf_tokens.specs.declared.symbol.Symbol.{Symbol}
-use Rattle.pf_tokens.specs.Productions.{begins, begins_symbol, is_word, is_symbol}
+use Rattle.pf_tokens.specs.Productions.{begins, begins_symbol, is_word, is_symbol, word_of, word_at, name_of, name_at}
 use Rattle.pf_tokens.specs.Lexed.{token_of, placed_of}
 use Rattle.pf_tokens.specs.Left.{tokens_left}
 use Rattle.pf_tokens.specs.Macros.{Definition, unwritten, depth_after, ends}
@@ -284,3 +284,79 @@ symbol_at_hand parser l symbol e = cases (ends parser.depth (placed_of l)) refl
     cases : (b : Bool) → ends parser.depth (placed_of l) ≡ b → begins_symbol symbol (left parser) ≡ is_symbol symbol (token_of l.lexeme)
     cases true ended = ap (begins_symbol symbol) (left_end parser l e ended) ∙ sym (ap (is_symbol symbol) (ends_alone (token_of l.lexeme) l.written (parser.depth == 0) ended))
     cases false inner = symbol_first symbol (left parser) (token_of l.lexeme) (left_token parser l e inner)
+
+-- ---- a word or a string at hand
+
+abbrev IsText : Token → Type 0
+IsText t = is_some (name_of t) ≡ true
+
+text_no_newline : (t : Token) → IsText t → is_newline t ≡ false
+text_no_newline (Word text) is = refl
+text_no_newline (Quoted text) is = refl
+text_no_newline (Macro name) is = absurd cc
+text_no_newline (Mark symbol) is = absurd cc
+text_no_newline Newline is = absurd cc
+text_no_newline Bad is = absurd cc
+
+text_depth : (t : Token) (depth : ℕ) → IsText t → depth_after depth t ≡ depth
+text_depth (Word text) depth is = refl
+text_depth (Quoted text) depth is = refl
+text_depth (Macro name) depth is = absurd cc
+text_depth (Mark symbol) depth is = absurd cc
+text_depth Newline depth is = absurd cc
+text_depth Bad depth is = absurd cc
+
+text_open : (t : Token) (braces : ℕ) → IsText t → open_after braces t ≡ braces
+text_open t zero is = refl
+text_open t (suc n) is = text_depth t (suc n) is
+
+pub text_inner : (l : Lexed) (depth : ℕ) → IsText (token_of l.lexeme) → ends depth (placed_of l) ≡ false
+text_inner l depth is = none l.written (token_of l.lexeme) (text_no_newline (token_of l.lexeme) is)
+  where
+    none : (written : Bool) (t : Token) → is_newline t ≡ false → written && is_newline t && (depth == 0) ≡ false
+    none true t e = rw e refl
+    none false t e = refl
+
+pub text_nested : (t : Token) (braces depth : ℕ) → IsText t → braces ≤ depth → braces ≤ depth_after depth t
+text_nested t braces depth is le = rw (text_depth t depth is) le
+
+pub text_passed : (parser new : Parser) (l : Lexed) → parser.stream.next ≡ Some l → IsText (token_of l.lexeme)
+    → left new ≡ blanked parser.braces (drop 1 (tokens_of (placed_left parser))) → left parser ≡ token_of l.lexeme ∷ left new
+text_passed parser new l at_hand is taken =
+    left_is parser l at_hand (text_inner l parser.depth is)
+    ∙ ap (λ (n : ℕ). token_of l.lexeme ∷ blanked n (drop 1 (tokens_of (placed_left parser)))) (text_open (token_of l.lexeme) parser.braces is)
+    ∙ sym (ap (λ (ts : List Token). token_of l.lexeme ∷ ts) taken)
+
+-- what is read of the first token alone isn't read where it can't be read of the token at hand
+reads_none : (read : List Token → Option (List ℕ × List Token)) (of : Token → Option (List ℕ)) → read [] ≡ None → of Newline ≡ None
+    → ((t : Token) (ts : List Token) → read (t ∷ ts) ≡ option_map (λ (text : List ℕ). (text, ts)) (of t))
+    → (parser : Parser) (l : Lexed) → parser.stream.next ≡ Some l → of (token_of l.lexeme) ≡ None → read (left parser) ≡ None
+reads_none read of none newline there parser l e bad = cases (ends parser.depth (placed_of l)) refl
+  where
+    front : (ts : List Token) → first ts ≡ Some (token_of l.lexeme) → read ts ≡ None
+    front [] h = absurd cc
+    front (t ∷ ts) h = let same : t ≡ token_of l.lexeme = cc in there t ts ∙ ap (λ (u : Token). option_map (λ (text : List ℕ). (text, ts)) (of u)) same ∙ ap (option_map (λ (text : List ℕ). (text, ts))) bad
+
+    cases : (b : Bool) → ends parser.depth (placed_of l) ≡ b → read (left parser) ≡ None
+    cases true ended = ap read (left_end parser l e ended) ∙ none
+    cases false inner = front (left parser) (left_token parser l e inner)
+
+pub word_nothing : (parser : Parser) → parser.stream.next ≡ None → word_at (left parser) ≡ None
+word_nothing parser e = ap word_at (left_none parser e)
+
+pub word_none : (parser : Parser) (l : Lexed) → parser.stream.next ≡ Some l → word_of (token_of l.lexeme) ≡ None → word_at (left parser) ≡ None
+word_none parser l e bad = reads_none word_at word_of refl refl (λ t ts. refl) parser l e bad
+
+pub name_nothing : (parser : Parser) → parser.stream.next ≡ None → name_at (left parser) ≡ None
+name_nothing parser e = ap name_at (left_none parser e)
+
+pub name_none : (parser : Parser) (l : Lexed) → parser.stream.next ≡ Some l → name_of (token_of l.lexeme) ≡ None → name_at (left parser) ≡ None
+name_none parser l e bad = reads_none name_at name_of refl refl (λ t ts. refl) parser l e bad
+
+pub word_is_text : (t : Token) (text : List ℕ) → word_of t ≡ Some text → IsText t
+word_is_text (Word text) _ e = refl
+word_is_text (Quoted text) _ e = absurd cc
+word_is_text (Macro name) _ e = absurd cc
+word_is_text (Mark symbol) _ e = absurd cc
+word_is_text Newline _ e = absurd cc
+word_is_text Bad _ e = absurd cc

@@ -1,6 +1,6 @@
 -- Macro statements as the grammar spells them, and the faults of those that define nothing (pf.conf(5), MACROS). It
 -- knows nothing of how a statement is read.
-use Rattle.std.specs.Prelude.{◌≡◌, ◌<◌, ◌≤◌, ℕ, Bool, true, false, List, [], ◌∷◌, ◌++◌}
+use Rattle.std.specs.Prelude.{◌≡◌, ◌<◌, ◌≤◌, ℕ, true, false, List, [], ◌∷◌, ◌++◌}
 use Rattle.std.specs.Prelude.{length}
 use Rattle.pf_tokens.specs.declared.symbol.Symbol.TheVariants.{Equals}
 use Rattle.pf_tokens.specs.Tokens.{Token, Word, Quoted, Macro, Mark, is_name_byte}

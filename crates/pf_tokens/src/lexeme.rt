@@ -90,7 +90,7 @@ pub(crate) fn is_word_byte(b: u8) -> bool
 }
 
 /// How many bytes the word at the front has.
-fn word_len(text: &[u8]) -> usize
+pub(crate) fn word_len(text: &[u8]) -> usize
     ensures { result ≡ prefix_len is_word_byte text.now }
 {
     text.iter().take_while(|b| is_word_byte(**b)).count()

@@ -3,7 +3,7 @@
 ghost use Rattle.std.specs.Prelude.{◌≡◌, ◌+◌, ◌<◌, ◌^◌, length};
 ghost use Rattle.pf_tokens.specs.Tokens.{line_after};
 
-use crate::lexeme::{Lexed, front, is_word_byte};
+use crate::lexeme::{Lexed, Lexeme, front, is_word_byte, word_len};
 
 /// The line of what follows the byte.
 fn line_after(line: u64, b: u8) -> u64
@@ -27,8 +27,8 @@ pub struct Lexer<'a> {
 }
 
 impl<'a> Lexer<'a> {
-    ghost use Rattle.std.specs.Prelude.{◌≡◌, ◌+◌, ◌<◌, ◌^◌, ◌++◌, length, option_map, drop, List};
-    ghost use Rattle.std.specs.Prelude.{[], ℕ, IfSome};
+    ghost use Rattle.std.specs.Prelude.{◌≡◌, ◌+◌, ◌<◌, ◌^◌, ◌++◌, ◌∷◌, length, option_map, drop, List};
+    ghost use Rattle.std.specs.Prelude.{[], ℕ, IfSome, None};
     ghost use Rattle.std.specs.Bool.{OnTrue};
     ghost use Rattle.std.specs.Option.{option_to_list};
     ghost use Rattle.pf_tokens.specs.Tokens.{Placed, tokens_behind, plain_tokens, first};
@@ -102,6 +102,34 @@ impl<'a> Lexer<'a> {
         })
     }
 
+    /// The word at the front, if one stands there, as most tokens do.
+    #[tactic(auto, using(crate::proofs::Lexing::word_step, crate::proofs::Lexing::word_within), unfolding(crate::specs::Left::tokens_left))]
+    fn word(&mut self) -> Option<Lexed<'a>>
+        ensures word { IfSome result (λ t. tokens_left self.old ≡ placed_of t ∷ tokens_left self.new) }
+        ensures none { result ≡ None → tokens_left self.new ≡ tokens_left self.old }
+        ensures rest { result ≡ None → self.new.rest.now ≡ self.old.rest.now }
+    {
+        self.pass_steps();
+        let (first, _) = self.rest.split_first()?;
+        if !is_word_byte(*first) {
+            return None;
+        }
+        let line = self.line;
+        let len = word_len(self.rest);
+        let (text, rest) = self.rest.split_at(len);
+        *self = Lexer {
+            rest,
+            at: self.at + len,
+            steps: self.steps,
+            line,
+        };
+        Some(Lexed {
+            lexeme: Lexeme::Word(text),
+            line,
+            written: true,
+        })
+    }
+
     /// Goes past a blank, if one comes next, as behind most tokens.
     #[tactic(auto, using(crate::proofs::Lexing::blank_passed), unfolding(crate::specs::Left::tokens_left))]
     fn pass_blank(&mut self)
@@ -167,6 +195,10 @@ impl<'a> Lexer<'a> {
         ensures token { option_map placed_of result ≡ first (tokens_left self.old) }
         ensures left { tokens_left self.new ≡ drop 1 (tokens_left self.old) }
     {
+        if let Some(token) = self.word() {
+            self.pass_blank();
+            return Some(token);
+        }
         while !self.rest.is_empty() {
             if let Some(token) = self.step() {
                 self.pass_blank();

@@ -5,7 +5,8 @@ ghost use Rattle.pf_tokens.specs.Pending.{at_newline};
 ghost use Rattle.pf_tokens.specs.Lexed.{token_of, placed_of};
 ghost use Rattle.pf_tokens.specs.Macros.{depth_after, ends};
 ghost use Rattle.pf_tokens.specs.Blanks.{open_after};
-ghost use Rattle.pf_tokens.specs.Productions.{is_symbol, is_word};
+ghost use Rattle.pf_tokens.specs.Productions.{is_symbol, is_word, name_of, word_of};
+ghost use Rattle.std.specs.Option.{option_copied};
 
 use crate::fault::ReadingFault;
 use crate::lexeme::{Lexed, Lexeme};
@@ -36,7 +37,7 @@ impl<'t, 's> Parser<'t, 's>
 where
     't: 's,
 {
-    ghost use Rattle.std.specs.Prelude.{◌≡◌, ◌<◌, ◌≤◌, drop, map, option_map, Some, false};
+    ghost use Rattle.std.specs.Prelude.{◌≡◌, ◌∷◌, ◌<◌, ◌≤◌, drop, is_some, map, option_map, Some, false, true};
     ghost use Rattle.std.specs.Option.{option_copied};
     ghost use Rattle.pf_tokens.specs.Tokens.{first, is_newline};
     ghost use Rattle.pf_tokens.specs.Lexed.{token_of, placed_of};
@@ -47,7 +48,8 @@ where
     ghost use Rattle.pf_tokens.specs.Known.{definitions_of};
     ghost use Rattle.pf_tokens.specs.Faults.{reading_fault};
     ghost use Rattle.pf_tokens.specs.Defining.{item_of};
-    ghost use Rattle.pf_tokens.specs.Productions.{begins, begins_symbol, option_at, symbol_at, word_at, name_at};
+    ghost use Rattle.pf_tokens.specs.Productions.{begins, begins_symbol, option_at, symbol_at, word_at};
+    ghost use Rattle.pf_tokens.specs.Productions.{name_at, name_of};
     ghost use Rattle.pf_tokens.specs.Productions.{is_end, taken_if, list_opened};
     ghost use Rattle.pf_tokens.specs.Parsing.{tokens_of, definitions, is_defining, placed_left, left, later, Reads};
 
@@ -107,6 +109,7 @@ where
     }
 
     /// Takes the token at hand, behind which so many braces of the list are open.
+    #[inline(always)]
     fn take(&mut self, token: Lexed<'s>, braces: u8)
         requires at_hand { self.old.stream.next ≡ Some token }
         requires inner { ends self.old.depth (placed_of token) ≡ false }
@@ -140,6 +143,29 @@ where
         }
     }
 
+    /// Goes past the token at hand, a word or a string: it ends no statement, opens no brace and closes none.
+    #[tactic(auto, using(crate::proofs::Skipping::text_inner, crate::proofs::Skipping::text_nested, crate::proofs::Skipping::text_passed))]
+    fn pass(&mut self, token: Lexed<'s>)
+        requires at_hand { self.old.stream.next ≡ Some token }
+        requires text { is_some (name_of (token_of token.lexeme)) ≡ true }
+        ensures left { left self.old ≡ token_of token.entry.lexeme ∷ left self.new }
+        ensures later { later self.new ≡ later self.old }
+        ensures definitions { definitions self.new ≡ definitions self.old }
+    {
+        match token.lexeme {
+            // made again, so that nothing more is asked of its kind
+            Lexeme::Word(text) => {
+                let word = Lexed {
+                    lexeme: Lexeme::Word(text),
+                    line: token.line,
+                    written: token.written,
+                };
+                self.take(word, self.braces);
+            }
+            _ => self.take(token, self.braces),
+        }
+    }
+
     /// Whether the next token is this word.
     #[tactic(auto, using(crate::proofs::Skipping::begins_at_hand, crate::proofs::Skipping::begins_nothing))]
     pub fn begins(&self, word: &[u8]) -> bool
@@ -153,17 +179,20 @@ where
     }
 
     /// Goes past this word, if it comes next.
-    #[tactic(auto, unfolding(crate::specs::Productions::option_at))]
+    #[inline(always)]
+    #[tactic(auto, using(crate::proofs::Skipping::begins_at_hand, crate::proofs::Skipping::begins_nothing), unfolding(crate::specs::Productions::option_at))]
     pub fn accept(&mut self, word: &[u8]) -> bool
         ensures read { (result, left self.new) ≡ option_at word.now (left self.old) }
         ensures later { later self.new ≡ later self.old }
         ensures definitions { definitions self.new ≡ definitions self.old }
     {
-        let found = self.begins(word);
-        if found {
-            self.skip();
+        match self.stream.next {
+            Some(token) if is_word(token.lexeme, word) => {
+                self.pass(token);
+                true
+            }
+            _ => false,
         }
-        found
     }
 
     /// Whether the next token is this symbol.
@@ -205,28 +234,28 @@ where
     }
 
     /// A word.
+    #[tactic(auto, using(crate::proofs::Skipping::word_nothing, crate::proofs::Skipping::word_none, crate::proofs::Skipping::word_is_text))]
     pub fn word(&mut self) -> Option<&'s [u8]>
         ensures read { Reads (option_copied result) (left self.new) (word_at (left self.old)) }
         ensures later { later self.new ≡ later self.old }
         ensures definitions { definitions self.new ≡ definitions self.old }
     {
-        let Some(Lexeme::Word(text)) = self.peek() else {
-            return None;
-        };
-        self.skip();
+        let token = self.stream.next?;
+        let text = word_in(token.lexeme)?;
+        self.pass(token);
         Some(text)
     }
 
     /// The text of a word or a string.
+    #[tactic(auto, using(crate::proofs::Skipping::name_nothing, crate::proofs::Skipping::name_none))]
     pub fn name(&mut self) -> Option<&'s [u8]>
         ensures read { Reads (option_copied result) (left self.new) (name_at (left self.old)) }
         ensures later { later self.new ≡ later self.old }
         ensures definitions { definitions self.new ≡ definitions self.old }
     {
-        let (Lexeme::Word(text) | Lexeme::Quoted(text)) = self.peek()? else {
-            return None;
-        };
-        self.skip();
+        let token = self.stream.next?;
+        let text = name_in(token.lexeme)?;
+        self.pass(token);
         Some(text)
     }
 
@@ -291,6 +320,28 @@ fn is_word(lexeme: Lexeme<'_>, word: &[u8]) -> bool
     match lexeme {
         Lexeme::Word(text) => text.len() == word.len() && text == word,
         _ => false,
+    }
+}
+
+/// The text of a word.
+#[inline(always)]
+fn word_in<'s>(lexeme: Lexeme<'s>) -> Option<&'s [u8]>
+    ensures { option_copied result ≡ word_of (token_of lexeme.entry) }
+{
+    match lexeme {
+        Lexeme::Word(text) => Some(text),
+        _ => None,
+    }
+}
+
+/// The text of a word or a string.
+#[inline(always)]
+fn name_in<'s>(lexeme: Lexeme<'s>) -> Option<&'s [u8]>
+    ensures { option_copied result ≡ name_of (token_of lexeme.entry) }
+{
+    match lexeme {
+        Lexeme::Word(text) | Lexeme::Quoted(text) => Some(text),
+        _ => None,
     }
 }
 

@@ -116,7 +116,7 @@ fn change(alloc: Global, address: &str) -> Result<Command, Fail> {
 #[derive(Drop)]
 struct Party {
     node: Node<MemoryRecords>,
-    wire: FaultyWire<UdpWire>,
+    wire: FaultyWire<UdpWire<HostRuntime>>,
 }
 
 /// The member with this number, of whose wire each `k`-th receive and send fails; the command is asked of it.
