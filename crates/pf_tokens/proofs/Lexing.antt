@@ -190,4 +190,3 @@ word_step line at len steps (b ∷ bytes) some none is_word is_len =
 
 pub word_within : (len : ℕ) (text : List ℕ) → len ≡ prefix_len is_word_byte text → len ≤ length text
 word_within len text e = rw e (prefix_len_le is_word_byte text)
-
