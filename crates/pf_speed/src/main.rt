@@ -1,11 +1,15 @@
 //! Look-ups in a table of 4,096 entries, to be timed (`scripts/table-speed`): a third single addresses, a third of 24
 //! bits (IPv6: 64), a third shorter, a tenth of them negated. The words say the family (4 or 6), how often the table is
 //! made, and how many addresses are looked up.
+//!
+//! Where one word alone is a number, the texts of packets are read, to be timed (`scripts/packet-speed`): each other word,
+//! as often as the number says.
 #![tactic(auto)]
 
 ghost use Rattle.std.specs.Prelude.{◌≤◌};
 
 use pf_addr::{Addr, Prefix};
+use pf_eval::parse_packet;
 use pf_ruleset::TableEntry;
 use pf_table::Table;
 use std::alloc::{AllocError, Global};
@@ -117,14 +121,30 @@ fn numbers_of(rt: &HostRuntime) -> io::Result<Vec<u32>> {
     Ok(numbers)
 }
 
+/// How often a word was read as a packet, where each is read so many times.
+fn packets_read(rt: &HostRuntime, rounds: u32) -> io::Result<u32> {
+    let alloc = rt.alloc();
+    let mut read = 0u32;
+    for word in std::env::args(rt)? {
+        for _ in 0..rounds {
+            if parse_packet(alloc, word.as_str()).is_ok() {
+                read = read.wrapping_add(1);
+            }
+        }
+    }
+    Ok(read)
+}
+
 fn main(rt: HostRuntime) -> ExitCode {
     let Ok(numbers) = numbers_of(&rt) else {
         return ExitCode::from(2);
     };
-    let [family, builds, lookups] = numbers.as_slice() else {
-        return ExitCode::from(2);
+    let found = match numbers.as_slice() {
+        [rounds] => packets_read(&rt, *rounds).ok(),
+        [family, builds, lookups] => found_after(rt.alloc(), *family == 6, *builds, *lookups).ok(),
+        _ => return ExitCode::from(2),
     };
-    let Ok(found) = found_after(rt.alloc(), *family == 6, *builds, *lookups) else {
+    let Some(found) = found else {
         return ExitCode::from(1);
     };
     match println!(&rt; "found {found}") {
