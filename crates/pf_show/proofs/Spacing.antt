@@ -6,7 +6,8 @@ use Rattle.pf_ruleset.specs.declared.parts.Host.{Host}
 use Rattle.pf_ruleset.specs.declared.parts.Host.TheVariants as host
 use Rattle.pf_ruleset.specs.declared.parts.PortTest.{PortTest}
 use Rattle.pf_ruleset.specs.declared.rule.Rule.{Rule}
-use Rattle.pf_show.specs.Shown.{Part, end_parts, ends_parts, action_parts, direction_parts, quick_parts, condition_parts, flags_parts, state_parts, rule_parts, more_parts, line, letter, skip_line}
+use Rattle.pf_ruleset.specs.declared.rule.Conditions.{Conditions}
+use Rattle.pf_show.specs.Shown.{Part, end_parts, ends_parts, action_parts, interface_parts, family_parts, protocol_parts, type_parts, direction_parts, quick_parts, condition_parts, flags_parts, state_parts, rule_parts, more_parts, line, letter, skip_line}
 use Rattle.pf_ruleset.specs.Names.{Name}
 use Rattle.std.specs.List.{flat_map}
 use Rattle.pf_show.specs.inner.Spaced.{spaced, joined, text_if, is_any_end}
@@ -15,6 +16,12 @@ use Rattle.pf_show.specs.inner.Spaced.{spaced, joined, text_if, is_any_end}
 pub spaced_append : (a b : List Part) → spaced (a ++ b) ≡ spaced a ++ spaced b
 spaced_append [] b = refl
 spaced_append (part ∷ parts) b = ap (λ t. 32 ∷ t) (rw (spaced_append parts b) (rw append_assoc refl))
+
+-- the conditions, part for part
+pub conditions_are : (c : Conditions) → spaced (condition_parts c) ≡ spaced (interface_parts c.interface) ++ (spaced (family_parts c.family) ++ (spaced (protocol_parts c.protocol)
+    ++ (spaced (ends_parts c.source c.source_port c.destination c.destination_port) ++ spaced (type_parts c.icmp_type))))
+unfolding condition_parts
+conditions_are c = simp (spaced_append, append_assoc)
 
 -- a newline stands behind the parts
 pub more_is : (parts : List Part) → more_parts parts ≡ spaced parts ++ 10 ∷ []

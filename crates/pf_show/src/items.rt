@@ -10,7 +10,7 @@ ghost use Rattle.pf_show.specs.inner.Spaced.{spaced, item_line, item_text, slash
 
 use crate::shown::{ConditionParts, DirectionPart, FlagsParts, QuickPart, RuleLine, text_if};
 use pf_ruleset::{Action, AnchorHeading, Item, Name, Target};
-use std::fmt;
+use std::fmt::{self, Display};
 
 /// Names, each behind a slash.
 #[derive(Clone, Copy)]
@@ -175,7 +175,7 @@ fn write_item<W: fmt::Write>(item: &Item, f: &mut fmt::Formatter<W>) -> fmt::Res
     ensures { WritesOnOk W.write_str_gives f.old result (item_text item.now) f.new }
 {
     match item {
-        Item::Filter(rule) => write!(f, "{}", RuleLine(rule)),
+        Item::Filter(rule) => RuleLine(rule).fmt(f),
         Item::Anchor(anchor) => match &anchor.block {
             None => write!(f, "{}", AnchorLine(&anchor.heading)),
             Some(block) => write_block(&anchor.heading, block.as_slice(), f),

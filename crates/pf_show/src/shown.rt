@@ -18,7 +18,7 @@ use pf_ruleset::{
 };
 use pf_words::TcpFlags;
 use std::alloc::{AllocError, Global};
-use std::fmt;
+use std::fmt::{self, Display};
 
 /// What a rule does.
 #[derive(Clone, Copy)]
@@ -29,9 +29,9 @@ impl fmt::Display for ActionWords {
 
     fn fmt<W: fmt::Write>(&self, f: &mut fmt::Formatter<W>) -> fmt::Result {
         match self.0 {
-            Action::Pass => write!(f, "pass"),
-            Action::Drop => write!(f, "block drop"),
-            Action::Return => write!(f, "block return"),
+            Action::Pass => f.write_str("pass"),
+            Action::Drop => f.write_str("block drop"),
+            Action::Return => f.write_str("block return"),
         }
     }
 }
@@ -45,8 +45,8 @@ impl fmt::Display for DirectionPart {
 
     fn fmt<W: fmt::Write>(&self, f: &mut fmt::Formatter<W>) -> fmt::Result {
         match self.0 {
-            Some(Direction::In) => write!(f, " in"),
-            Some(Direction::Out) => write!(f, " out"),
+            Some(Direction::In) => f.write_str(" in"),
+            Some(Direction::Out) => f.write_str(" out"),
             None => Ok(()),
         }
     }
@@ -60,7 +60,11 @@ impl fmt::Display for QuickPart {
     ghost output = { λ q. Some (spaced (quick_parts q.0)) };
 
     fn fmt<W: fmt::Write>(&self, f: &mut fmt::Formatter<W>) -> fmt::Result {
-        if self.0 { write!(f, " quick") } else { Ok(()) }
+        if self.0 {
+            f.write_str(" quick")
+        } else {
+            Ok(())
+        }
     }
 }
 
@@ -75,12 +79,8 @@ impl fmt::Display for InterfaceParts<'_> {
         let Some(interface) = self.0 else {
             return Ok(());
         };
-        let name = interface.name.as_str();
-        if interface.negated {
-            write!(f, " on !{name}")
-        } else {
-            write!(f, " on {name}")
-        }
+        f.write_str(if interface.negated { " on !" } else { " on " })?;
+        f.write_str(interface.name.as_str())
     }
 }
 
@@ -93,8 +93,8 @@ impl fmt::Display for FamilyPart {
 
     fn fmt<W: fmt::Write>(&self, f: &mut fmt::Formatter<W>) -> fmt::Result {
         match self.0 {
-            Some(Family::Inet) => write!(f, " inet"),
-            Some(Family::Inet6) => write!(f, " inet6"),
+            Some(Family::Inet) => f.write_str(" inet"),
+            Some(Family::Inet6) => f.write_str(" inet6"),
             None => Ok(()),
         }
     }
@@ -109,7 +109,10 @@ impl fmt::Display for ProtocolParts {
 
     fn fmt<W: fmt::Write>(&self, f: &mut fmt::Formatter<W>) -> fmt::Result {
         match self.0 {
-            Some(number) => write!(f, " proto {number}"),
+            Some(number) => {
+                f.write_str(" proto ")?;
+                f.write(number)
+            }
             None => Ok(()),
         }
     }
@@ -124,8 +127,11 @@ impl fmt::Display for HostParts<'_> {
 
     fn fmt<W: fmt::Write>(&self, f: &mut fmt::Formatter<W>) -> fmt::Result {
         match self.0 {
-            Host::Any => write!(f, " any"),
-            Host::In(Addresses::Prefix(prefix)) => write!(f, " {prefix}"),
+            Host::Any => f.write_str(" any"),
+            Host::In(Addresses::Prefix(prefix)) => {
+                f.write_str(" ")?;
+                prefix.fmt(f)
+            }
             Host::In(Addresses::Range(range)) => write!(f, " {range}"),
             Host::In(Addresses::Table(name)) => write!(f, " <{}>", name.as_str()),
             Host::NotIn(Addresses::Prefix(prefix)) => write!(f, " !{prefix}"),
@@ -144,7 +150,10 @@ impl fmt::Display for TestParts {
 
     fn fmt<W: fmt::Write>(&self, f: &mut fmt::Formatter<W>) -> fmt::Result {
         match self.0 {
-            PortTest::Equal(n) => write!(f, " = {n}"),
+            PortTest::Equal(n) => {
+                f.write_str(" = ")?;
+                f.write(n)
+            }
             PortTest::NotEqual(n) => write!(f, " != {n}"),
             PortTest::Less(n) => write!(f, " < {n}"),
             PortTest::LessEqual(n) => write!(f, " <= {n}"),
@@ -166,7 +175,10 @@ impl fmt::Display for PortParts {
 
     fn fmt<W: fmt::Write>(&self, f: &mut fmt::Formatter<W>) -> fmt::Result {
         match self.0 {
-            Some(test) => write!(f, " port{}", TestParts(test)),
+            Some(test) => {
+                f.write_str(" port")?;
+                TestParts(test).fmt(f)
+            }
             None => Ok(()),
         }
     }
@@ -200,12 +212,9 @@ impl fmt::Display for SourceParts<'_> {
     ghost output = { λ e. Some (spaced (end_parts (codes "from") e.0.host.now e.0.port)) };
 
     fn fmt<W: fmt::Write>(&self, f: &mut fmt::Formatter<W>) -> fmt::Result {
-        write!(
-            f,
-            " from{}{}",
-            HostParts(self.0.host),
-            PortParts(self.0.port)
-        )
+        f.write_str(" from")?;
+        HostParts(self.0.host).fmt(f)?;
+        PortParts(self.0.port).fmt(f)
     }
 }
 
@@ -219,7 +228,9 @@ impl fmt::Display for DestinationParts<'_> {
     ghost output = { λ e. Some (spaced (end_parts (codes "to") e.0.host.now e.0.port)) };
 
     fn fmt<W: fmt::Write>(&self, f: &mut fmt::Formatter<W>) -> fmt::Result {
-        write!(f, " to{}{}", HostParts(self.0.host), PortParts(self.0.port))
+        f.write_str(" to")?;
+        HostParts(self.0.host).fmt(f)?;
+        PortParts(self.0.port).fmt(f)
     }
 }
 
@@ -230,18 +241,34 @@ struct EndsParts<'a> {
     destination: End<'a>,
 }
 
+/// The same where they aren't both any, one behind the other.
+#[derive(Clone, Copy)]
+struct EndTexts<'a>(EndsParts<'a>);
+
+impl fmt::Display for EndTexts<'_> {
+    ghost use Rattle.std.specs.Prelude.{◌++◌, codes};
+
+    ghost output = { λ e. Some (spaced (end_parts (codes "from") e.0.source.host.now e.0.source.port) ++
+        spaced (end_parts (codes "to") e.0.destination.host.now e.0.destination.port)) };
+
+    #[inline(always)]
+    fn fmt<W: fmt::Write>(&self, f: &mut fmt::Formatter<W>) -> fmt::Result {
+        SourceParts(self.0.source).fmt(f)?;
+        DestinationParts(self.0.destination).fmt(f)
+    }
+}
+
 impl fmt::Display for EndsParts<'_> {
     ghost output = { λ e.
         Some (spaced (ends_parts e.source.host.now e.source.port e.destination.host.now e.destination.port)) };
 
     #[tactic(auto, using(crate::proofs::Spacing::ends_are, crate::proofs::Spacing::spaced_append))]
     fn fmt<W: fmt::Write>(&self, f: &mut fmt::Formatter<W>) -> fmt::Result {
-        let source = SourceParts(self.source);
-        let destination = DestinationParts(self.destination);
+        let ends = EndTexts(*self);
         if is_any(self.source) && is_any(self.destination) {
-            write!(f, " all")
+            f.write_str(" all")
         } else {
-            write!(f, "{source}{destination}")
+            ends.fmt(f)
         }
     }
 }
@@ -261,18 +288,22 @@ impl fmt::Display for TypeParts {
     }
 }
 
-/// The conditions that stand from the interface to the type of ICMP.
+/// The same, one behind another.
 #[derive(Clone, Copy)]
-pub(crate) struct ConditionParts<'a>(pub(crate) &'a Conditions);
+struct ConditionTexts<'a>(&'a Conditions);
 
-impl fmt::Display for ConditionParts<'_> {
-    ghost output = { λ c. Some (spaced (condition_parts c.0.now)) };
+impl fmt::Display for ConditionTexts<'_> {
+    ghost use Rattle.std.specs.Prelude.{◌++◌};
 
-    #[tactic(auto, using(crate::proofs::Spacing::spaced_append), unfolding(crate::specs::Shown::condition_parts))]
+    ghost output = { λ c. Some (spaced (interface_parts c.0.now.interface) ++ (spaced (family_parts c.0.now.family) ++
+        (spaced (protocol_parts c.0.now.protocol) ++ (spaced (ends_parts c.0.now.source c.0.now.source_port
+        c.0.now.destination c.0.now.destination_port) ++ spaced (type_parts c.0.now.icmp_type))))) };
+
+    #[inline(always)]
     fn fmt<W: fmt::Write>(&self, f: &mut fmt::Formatter<W>) -> fmt::Result {
-        let interface = InterfaceParts(&self.0.interface);
-        let family = FamilyPart(self.0.family);
-        let protocol = ProtocolParts(self.0.protocol);
+        InterfaceParts(&self.0.interface).fmt(f)?;
+        FamilyPart(self.0.family).fmt(f)?;
+        ProtocolParts(self.0.protocol).fmt(f)?;
         let ends = EndsParts {
             source: End {
                 host: &self.0.source,
@@ -283,8 +314,21 @@ impl fmt::Display for ConditionParts<'_> {
                 port: self.0.destination_port,
             },
         };
-        let icmp_type = TypeParts(self.0.icmp_type);
-        write!(f, "{interface}{family}{protocol}{ends}{icmp_type}")
+        ends.fmt(f)?;
+        TypeParts(self.0.icmp_type).fmt(f)
+    }
+}
+
+/// The conditions that stand from the interface to the type of ICMP.
+#[derive(Clone, Copy)]
+pub(crate) struct ConditionParts<'a>(pub(crate) &'a Conditions);
+
+impl fmt::Display for ConditionParts<'_> {
+    ghost output = { λ c. Some (spaced (condition_parts c.0.now)) };
+
+    #[tactic(auto, using(crate::proofs::Spacing::conditions_are))]
+    fn fmt<W: fmt::Write>(&self, f: &mut fmt::Formatter<W>) -> fmt::Result {
+        ConditionTexts(self.0).fmt(f)
     }
 }
 
@@ -325,7 +369,7 @@ impl fmt::Display for FlagsText {
 
     fn fmt<W: fmt::Write>(&self, f: &mut fmt::Formatter<W>) -> fmt::Result {
         match self.0 {
-            FlagTest::Any => write!(f, "any"),
+            FlagTest::Any => f.write_str("any"),
             // What is asked of the packet that begins a connection, in most rules.
             FlagTest::Just {
                 set: TcpFlags {
@@ -348,7 +392,7 @@ impl fmt::Display for FlagsText {
                     ece: false,
                     cwr: false,
                 },
-            } => write!(f, "S/SA"),
+            } => f.write_str("S/SA"),
             FlagTest::Just { set, of } => write!(f, "{}/{}", Letters(set), Letters(of)),
         }
     }
@@ -367,9 +411,11 @@ impl fmt::Display for FlagsParts {
     fn fmt<W: fmt::Write>(&self, f: &mut fmt::Formatter<W>) -> fmt::Result {
         let test = self.test;
         match (self.action, test) {
-            (Action::Pass, _) => write!(f, " flags {}", FlagsText(test)),
-            (_, FlagTest::Any) => Ok(()),
-            (_, FlagTest::Just { .. }) => write!(f, " flags {}", FlagsText(test)),
+            (Action::Drop | Action::Return, FlagTest::Any) => Ok(()),
+            _ => {
+                f.write_str(" flags ")?;
+                FlagsText(test).fmt(f)
+            }
         }
     }
 }
@@ -386,10 +432,59 @@ impl fmt::Display for StateParts {
 
     fn fmt<W: fmt::Write>(&self, f: &mut fmt::Formatter<W>) -> fmt::Result {
         match self.action {
-            Action::Pass if self.keeps => write!(f, " keep state"),
-            Action::Pass => write!(f, " no state"),
+            Action::Pass if self.keeps => f.write_str(" keep state"),
+            Action::Pass => f.write_str(" no state"),
             Action::Drop | Action::Return => Ok(()),
         }
+    }
+}
+
+/// The end of a rule's line from its conditions on, one part behind another.
+#[derive(Clone, Copy)]
+struct TailTexts<'a>(&'a Rule);
+
+impl fmt::Display for TailTexts<'_> {
+    ghost use Rattle.std.specs.Prelude.{◌∷◌, ◌++◌, []};
+
+    ghost output = { λ r. Some (spaced (condition_parts r.0.now.conditions) ++
+        (spaced (flags_parts r.0.now.action r.0.now.conditions.flags) ++
+        (spaced (state_parts r.0.now.action r.0.now.keeps_state) ++ 10 ∷ []))) };
+
+    #[inline(always)]
+    fn fmt<W: fmt::Write>(&self, f: &mut fmt::Formatter<W>) -> fmt::Result {
+        ConditionParts(&self.0.conditions).fmt(f)?;
+        let flags = FlagsParts {
+            action: self.0.action,
+            test: self.0.conditions.flags,
+        };
+        flags.fmt(f)?;
+        let state = StateParts {
+            action: self.0.action,
+            keeps: self.0.keeps_state,
+        };
+        state.fmt(f)?;
+        f.write_str("\n")
+    }
+}
+
+/// A rule's line, one part behind another.
+#[derive(Clone, Copy)]
+struct RuleTexts<'a>(&'a Rule);
+
+impl fmt::Display for RuleTexts<'_> {
+    ghost use Rattle.std.specs.Prelude.{◌∷◌, ◌++◌, []};
+
+    ghost output = { λ r. Some (joined (action_parts r.0.now.action) ++
+        (spaced (direction_parts r.0.now.conditions.direction) ++ (spaced (quick_parts r.0.now.quick) ++
+        (spaced (condition_parts r.0.now.conditions) ++ (spaced (flags_parts r.0.now.action r.0.now.conditions.flags) ++
+        (spaced (state_parts r.0.now.action r.0.now.keeps_state) ++ 10 ∷ [])))))) };
+
+    #[inline(always)]
+    fn fmt<W: fmt::Write>(&self, f: &mut fmt::Formatter<W>) -> fmt::Result {
+        ActionWords(self.0.action).fmt(f)?;
+        DirectionPart(self.0.conditions.direction).fmt(f)?;
+        QuickPart(self.0.quick).fmt(f)?;
+        TailTexts(self.0).fmt(f)
     }
 }
 
@@ -400,21 +495,9 @@ pub(crate) struct RuleLine<'a>(pub(crate) &'a Rule);
 impl fmt::Display for RuleLine<'_> {
     ghost output = { λ r. Some (line (rule_parts r.0.now)) };
 
-    #[tactic(auto, using(crate::proofs::Spacing::rule_line), unfolding(crate::specs::Shown::rule_parts))]
+    #[tactic(auto, using(crate::proofs::Spacing::rule_line))]
     fn fmt<W: fmt::Write>(&self, f: &mut fmt::Formatter<W>) -> fmt::Result {
-        let action = ActionWords(self.0.action);
-        let direction = DirectionPart(self.0.conditions.direction);
-        let quick = QuickPart(self.0.quick);
-        let conditions = ConditionParts(&self.0.conditions);
-        let flags = FlagsParts {
-            action: self.0.action,
-            test: self.0.conditions.flags,
-        };
-        let state = StateParts {
-            action: self.0.action,
-            keeps: self.0.keeps_state,
-        };
-        writeln!(f, "{action}{direction}{quick}{conditions}{flags}{state}")
+        RuleTexts(self.0).fmt(f)
     }
 }
 
