@@ -2,9 +2,10 @@
 use Rattle.std.proofs.Common.{◌≡◌, ℕ, ◌<◌, Bool, true, false, cond, List, [], ◌∷◌, ◌++◌, length, drop, map, Option, Some, None, option_map, refl, sym, ap, ◌∙◌, arith}
 use Rattle.std.specs.Prelude.{bytes_eq}
 use Rattle.pf_tokens.specs.declared.lexeme.Lexed.{Lexed}
-use Rattle.pf_tokens.specs.Tokens.{Placed, first}
+use Rattle.pf_tokens.specs.Tokens.{Placed, first, plain_tokens}
 use Rattle.pf_tokens.specs.Lexed.{placed_of}
-use Rattle.pf_tokens.specs.Macros.{Definition, text_of, or_else, unwritten, replaced}
+use Rattle.pf_tokens.specs.Macros.{Definition, text_of, or_else, unwritten, text_tokens, replaced}
+use Rattle.pf_tokens.specs.inner.Indexed.{HasTokensOf}
 use Rattle.pf_tokens.specs.Flow.{pulled_raw, pulled}
 use Rattle.std.specs.Prelude.{is_some}
 use Rattle.pf_tokens.specs.declared.stream.Stream.{Stream}
@@ -19,6 +20,17 @@ text_more (x ∷ ds) d name = rw (text_more ds d name) (hides (bytes_eq d.name n
     hides : (b : Bool) → or_else (cond b (Some d.text) (text_of ds name)) (cond (bytes_eq x.name name) (Some x.text) None) ≡ cond b (Some d.text) (or_else (text_of ds name) (cond (bytes_eq x.name name) (Some x.text) None))
     hides true = refl
     hides false = refl
+
+pub first_none : (ts : List Placed) → first ts ≡ None → ts ≡ []
+first_none [] none = refl
+first_none (t ∷ ts) none = absurd cc
+
+-- a macro's text counts by its tokens alone
+pub same_tokens : (p : Placed) (one other : Option (List ℕ)) → HasTokensOf one other → text_tokens p one ≡ text_tokens p other
+same_tokens p None None same = refl
+same_tokens p None (Some text) same = absurd cc
+same_tokens p (Some text) None same = absurd cc
+same_tokens p (Some text) (Some there) same = let tokens : plain_tokens text ≡ plain_tokens there = cc in ap (map (unwritten p.line)) tokens
 
 pub inside_taken : (line : ℕ) (l next : Lexed) (ts rest : List Placed) → option_map placed_of (Some l) ≡ first ts → rest ≡ drop 1 ts → placed_of next ≡ unwritten line (placed_of l) → behind (Some next) (map (unwritten line) rest) ≡ map (unwritten line) ts
 inside_taken line l next [] rest is_first is_rest is_next = absurd cc

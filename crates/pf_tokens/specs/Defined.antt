@@ -1,5 +1,5 @@
 -- A macro without where it lies in memory.
-use Rattle.pf_tokens.specs.declared.macros.Macro.{Macro}
+use Rattle.pf_tokens.specs.declared.macro_text.Macro.{Macro}
 use Rattle.pf_tokens.specs.Macros.{Definition}
 
 abbrev pub definition_of : Macro → Definition

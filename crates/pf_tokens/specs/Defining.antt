@@ -6,7 +6,7 @@ use Rattle.std.specs.List.{list_any, list_all}
 use Rattle.pf_tokens.specs.declared.defining.DefinitionFault.{DefinitionFault}
 use Rattle.pf_tokens.specs.declared.defining.DefinitionFault.TheVariants as faults
 use Rattle.pf_tokens.specs.declared.defining.Items.{Items}
-use Rattle.pf_tokens.specs.declared.macros.Macro as macros
+use Rattle.pf_tokens.specs.declared.macro_text.Macro as macros
 use Rattle.pf_tokens.specs.declared.symbol.Symbol.TheVariants.{Equals}
 use Rattle.pf_tokens.specs.Tokens.{Token, Word, Quoted, Macro, Mark, Newline, Bad, is_name_byte}
 use Rattle.pf_tokens.specs.Macros.{Definition, text_of}

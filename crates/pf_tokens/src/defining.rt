@@ -13,7 +13,7 @@ ghost use Rattle.pf_tokens.specs.declared.defining.DefinitionFault.TheVariants.{
 ghost use Rattle.pf_tokens.specs.declared.defining.TheConstants.{TEXT_MAX};
 
 use crate::lexeme::{Lexeme, is_name_byte};
-use crate::macros::Macro;
+use crate::macro_text::Macro;
 use crate::parser::Parser;
 use crate::symbol::Symbol;
 use pf_words::{Profile, is_reserved};
@@ -174,7 +174,7 @@ pub fn definition<'t: 's, 's>(
         return Err(DefinitionFault::Syntax);
     }
     let name = name.to_vec(alloc)?;
-    Ok(Macro { name, text })
+    Ok(Macro::new(name, text))
 }
 
 /// A macro statement defines a macro exactly where the grammar spells that macro so and its name, its strings and the

@@ -4,15 +4,9 @@ ghost use Rattle.std.specs.Prelude.{◌≡◌, map};
 ghost use Rattle.pf_tokens.specs.Defined.{definition_of};
 ghost use Rattle.pf_tokens.specs.inner.Indexed.{IsIndex, IsWithin};
 
+use crate::macro_text::Macro;
 use std::alloc::{AllocError, Global};
 use std::collections::BTreeMap;
-
-/// A macro and its text (`pf.conf(5)`, MACROS).
-#[derive(Debug, Drop)]
-pub struct Macro {
-    pub(crate) name: Vec<u8>,
-    pub(crate) text: Vec<u8>,
-}
 
 /// The macros that are known, in the order of their definitions.
 #[derive(Debug, Drop)]
@@ -28,6 +22,7 @@ impl Macros {
     ghost use Rattle.std.specs.Prelude.{◌≡◌, ◌++◌, ◌∷◌, [], OnOk};
     ghost use Rattle.std.specs.Option.{option_copied};
     ghost use Rattle.pf_tokens.specs.Macros.{text_of};
+    ghost use Rattle.pf_tokens.specs.inner.Indexed.{HasTokensOf};
     ghost use Rattle.pf_tokens.specs.Defined.{definition_of};
     ghost use Rattle.pf_tokens.specs.Known.{definitions_of};
 
@@ -64,5 +59,18 @@ impl Macros {
         let at = self.last.get(name)?;
         let one = self.all.get(*at)?;
         Some(one.text.as_slice())
+    }
+
+    /// A text with the tokens of the last macro of that name, with no byte where there is none of them.
+    pub(crate) fn tokens_of(&self, name: &[u8]) -> Option<&[u8]>
+        ensures { HasTokensOf (option_copied result) (text_of (definitions_of self.now) name.now) }
+    {
+        let at = self.last.get(name)?;
+        let one = self.all.get(*at)?;
+        if one.is_blank() {
+            Some(&[])
+        } else {
+            Some(one.text.as_slice())
+        }
     }
 }

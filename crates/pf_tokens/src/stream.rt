@@ -77,13 +77,14 @@ where
         stream
     }
 
-    /// The text of a macro that is to be replaced.
+    /// A text with the tokens of a macro that is to be replaced.
+    #[tactic(auto, using(crate::proofs::Pulling::same_tokens))]
     fn replacement(&self, token: Lexed<'t>) -> Option<&'s [u8]>
         ensures { text_tokens (placed_of token.entry) (option_copied result) ≡
             replaced (known self.now) self.now.defining (placed_of token.entry) }
     {
         match token.lexeme {
-            Lexeme::Macro(name) if !self.defining => self.macros.text_of(name),
+            Lexeme::Macro(name) if !self.defining => self.macros.tokens_of(name),
             _ => None,
         }
     }

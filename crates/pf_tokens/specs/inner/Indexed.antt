@@ -5,7 +5,12 @@ use Rattle.std.specs.Ordering.{nat_cmp}
 use Rattle.std.specs.Cmp.Lexicographic.{slice_cmp}
 use Rattle.std.specs.BTreeMap.{BTreeMap, get_by}
 use Rattle.std.specs.Global.{Vec}
+use Rattle.pf_tokens.specs.Tokens.{plain_tokens}
 use Rattle.pf_tokens.specs.Macros.{Definition, text_of}
+
+-- both texts are there and have the same tokens, or neither is there
+abbrev pub HasTokensOf : Option (List ℕ) → Option (List ℕ) → Type 0
+HasTokensOf one other = option_map plain_tokens one ≡ option_map plain_tokens other
 
 -- the text of the definition at the place
 abbrev pub text_at : List Definition → Option ℕ → Option (List ℕ)

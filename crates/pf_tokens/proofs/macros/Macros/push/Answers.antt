@@ -1,6 +1,6 @@
 use Rattle.std.proofs.Common.{rules, ◌≡◌, ◌∙◌, ◌++◌, ◌∷◌, [], List, length, map, sym, ap, subst}
 use Rattle.std.proofs.lemmas.List.{map_push, length-map}
-use Rattle.pf_tokens.specs.declared.macros.Macro.{Macro}
+use Rattle.pf_tokens.specs.declared.macro_text.Macro.{Macro}
 use Rattle.pf_tokens.specs.Macros.{Definition}
 use Rattle.pf_tokens.specs.Defined.{definition_of}
 use Rattle.pf_tokens.specs.inner.Indexed.{IsIndex, IsWithin}
