@@ -241,7 +241,7 @@ struct EndsParts<'a> {
     destination: End<'a>,
 }
 
-/// The same where they aren't both any, one behind the other.
+/// Both ends of a rule that aren't both any, one behind the other.
 #[derive(Clone, Copy)]
 struct EndTexts<'a>(EndsParts<'a>);
 
@@ -288,7 +288,7 @@ impl fmt::Display for TypeParts {
     }
 }
 
-/// The same, one behind another.
+/// The conditions from the interface to the type of ICMP, one behind another.
 #[derive(Clone, Copy)]
 struct ConditionTexts<'a>(&'a Conditions);
 
