@@ -1,7 +1,7 @@
 //! The words of a packet text.
 
-ghost use Rattle.std.specs.Prelude.{◌≡◌, ◌++◌, ◌∷◌, ◌<◌, IfOk, IfSome, OnOk, Some, None, drop, length, map, not, option_map};
-ghost use Rattle.std.specs.Prelude.{if◌then◌else◌, true};
+ghost use Rattle.std.specs.Prelude.{◌≡◌, ◌++◌, ◌∷◌, ◌<◌, IfOk, IfSome, OnOk, Some, None, drop, length, map};
+ghost use Rattle.std.specs.Prelude.{if◌then◌else◌, not, option_map, true};
 ghost use Rattle.std.specs.List.{list_all};
 ghost use Rattle.pf_eval.specs.Cursors.{cut_words, begins_plain};
 ghost use Rattle.pf_eval.specs.PacketTexts.{begins, is_blank, ended, has_outer_blank, words};

@@ -155,6 +155,7 @@ where
     }
 
     /// Goes past newlines where braces of a list are open, so many braces being open in all.
+    #[inline(always)]
     pub(crate) fn pass_newlines(&mut self, braces: u8, depth: u8, passed: Passed) -> Passed
         requires { braces ≤ depth }
         ensures blanks { Blanks braces (known self.old) self.old.defining (pending self.old) (pending self.new) }
