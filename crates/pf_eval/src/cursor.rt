@@ -16,7 +16,9 @@ use crate::fault::PacketFault;
 use crate::word::{behind, first_word};
 use pf_addr::{Addr, parse_bytes};
 use pf_ruleset::{Direction, InterfaceName};
-use pf_words::{Profile, TcpFlags, is_reserved, parse_decimal, parse_flags, parse_protocol};
+use pf_words::{
+    Profile, TcpFlags, is_reserved, is_same_word, parse_decimal, parse_flags, parse_protocol,
+};
 use std::alloc::Global;
 
 /// An address and its port.
@@ -95,9 +97,9 @@ impl<'t> Cursor<'t> {
         ensures { Reads result (left self.new) (value direction_of (left self.old)) }
     {
         let word = self.word()?;
-        if word == b"in".as_slice() {
+        if is_same_word(word, b"in") {
             Some(Direction::In)
-        } else if word == b"out".as_slice() {
+        } else if is_same_word(word, b"out") {
             Some(Direction::Out)
         } else {
             None

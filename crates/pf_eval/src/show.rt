@@ -36,7 +36,10 @@ impl fmt::Display for PathText<'_> {
     fn fmt<W: fmt::Write>(&self, f: &mut fmt::Formatter<W>) -> fmt::Result {
         match self.0 {
             [] => Ok(()),
-            [first, others @ ..] => write!(f, "{}{}", first.as_str(), MoreNames(others)),
+            [first, others @ ..] => {
+                f.write_str(first.as_str())?;
+                MoreNames(others).fmt(f)
+            }
         }
     }
 }
@@ -51,7 +54,9 @@ impl fmt::Display for Place<'_> {
     ghost output = { λ p. Some (shown_spot (spot_of Pass p.0)) };
 
     fn fmt<W: fmt::Write>(&self, f: &mut fmt::Formatter<W>) -> fmt::Result {
-        write!(f, " {}@{}", PathText(self.0.names), self.0.index)
+        f.write_str(" ")?;
+        PathText(self.0.names).fmt(f)?;
+        write!(f, "@{}", self.0.index)
     }
 }
 
@@ -60,11 +65,20 @@ impl fmt::Display for Verdict<'_> {
 
     fn fmt<W: fmt::Write>(&self, f: &mut fmt::Formatter<W>) -> fmt::Result {
         match *self {
-            Verdict::Skip => write!(f, "pass skip"),
-            Verdict::Default => write!(f, "pass default"),
-            Verdict::Pass(spot) => write!(f, "pass{}", Place(spot)),
-            Verdict::Drop(spot) => write!(f, "block drop{}", Place(spot)),
-            Verdict::Return(spot) => write!(f, "block return{}", Place(spot)),
+            Verdict::Skip => f.write_str("pass skip"),
+            Verdict::Default => f.write_str("pass default"),
+            Verdict::Pass(spot) => {
+                f.write_str("pass")?;
+                Place(spot).fmt(f)
+            }
+            Verdict::Drop(spot) => {
+                f.write_str("block drop")?;
+                Place(spot).fmt(f)
+            }
+            Verdict::Return(spot) => {
+                f.write_str("block return")?;
+                Place(spot).fmt(f)
+            }
         }
     }
 }

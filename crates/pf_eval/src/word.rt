@@ -6,6 +6,7 @@ ghost use Rattle.std.specs.List.{list_all};
 ghost use Rattle.pf_eval.specs.Cursors.{cut_words, begins_plain};
 ghost use Rattle.pf_eval.specs.PacketTexts.{begins, is_blank, ended, has_outer_blank, words};
 
+use pf_words::is_same_word;
 use std::alloc::{AllocError, Global};
 
 /// Whether the byte is a space or a tab.
@@ -66,7 +67,7 @@ fn cut_key<'a>(text: &'a [u8], key: &[u8]) -> Option<&'a [u8]>
     ensures { IfSome result (λ rest. words text.now ≡ key.now ∷ words rest.now) }
 {
     let len = key.len();
-    if text.len() < len || &text[..len] != key {
+    if text.len() < len || !is_same_word(&text[..len], key) {
         return None;
     }
     if text.len() == len {
@@ -89,7 +90,7 @@ fn behind_blanks<'a>(text: &'a [u8], key: &[u8]) -> Option<&'a [u8]>
     match text {
         [first, ..] if !is_blank(*first) && *first != key[0] => None,
         _ => match first_word(text) {
-            Some((word, rest)) if word == key => Some(rest),
+            Some((word, rest)) if is_same_word(word, key) => Some(rest),
             _ => None,
         },
     }

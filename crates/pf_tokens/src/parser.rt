@@ -1,6 +1,6 @@
 //! The core of a descent: the tokens of one statement, from one to the next.
 
-ghost use Rattle.std.specs.Prelude.{◌≡◌, ◌<◌, ◌≤◌, bytes_eq, false};
+ghost use Rattle.std.specs.Prelude.{◌≡◌, ◌<◌, ◌≤◌, false};
 ghost use Rattle.pf_tokens.specs.Pending.{at_newline};
 ghost use Rattle.pf_tokens.specs.Lexed.{token_of, placed_of};
 ghost use Rattle.pf_tokens.specs.Macros.{depth_after, ends};
@@ -15,6 +15,7 @@ use crate::macros::Macros;
 use crate::passed::{Passed, depth_after};
 use crate::stream::Stream;
 use crate::symbol::Symbol;
+use pf_words::is_same_word;
 
 /// The tokens of one statement, in which macros are replaced.
 ///
@@ -312,21 +313,13 @@ where
     }
 }
 
-/// Whether they are the same bytes. Words are short, so that each is asked for itself.
-#[inline(always)]
-fn are_same(text: &[u8], word: &[u8]) -> bool
-    ensures { result ≡ bytes_eq text.now word.now }
-{
-    text.len() == word.len() && text.iter().eq(word)
-}
-
 /// Whether it is this word.
 #[inline(always)]
 fn is_word(lexeme: Lexeme<'_>, word: &[u8]) -> bool
     ensures { result ≡ is_word word.now (token_of lexeme.entry) }
 {
     match lexeme {
-        Lexeme::Word(text) => are_same(text, word),
+        Lexeme::Word(text) => is_same_word(text, word),
         _ => false,
     }
 }

@@ -5,7 +5,7 @@
 //! - [`parse_protocol`], [`parse_port`], [`parse_icmp_type`] and [`parse_decimal`] read numbers, or names that stand
 //!   for them.
 //! - [`parse_flags`] reads the letters of [`TcpFlags`].
-//! - [`is_reserved`] tells the words of the grammar from names; [`is_interface_name`], [`is_table_name`] and
+//! - [`is_same_word`] compares words; [`is_reserved`] tells the words of the grammar from names; [`is_interface_name`], [`is_table_name`] and
 //!   [`is_anchor_text`] say what forms names have.
 #![tactic(auto)]
 
@@ -20,5 +20,6 @@ pub use names::{
 };
 pub use profile::Profile;
 pub use words::{
-    is_reserved, parse_decimal, parse_flags, parse_icmp_type, parse_port, parse_protocol,
+    is_reserved, is_same_word, parse_decimal, parse_flags, parse_icmp_type, parse_port,
+    parse_protocol,
 };

@@ -1,6 +1,6 @@
 //! Words that stand for numbers, for flags and for names.
 
-ghost use Rattle.std.specs.Prelude.{◌≡◌, ◌≤◌, codes, length, map, true, IfSome};
+ghost use Rattle.std.specs.Prelude.{◌≡◌, ◌≤◌, bytes_eq, codes, length, map, true, IfSome};
 ghost use Rattle.std.specs.List.{list_all};
 ghost use Rattle.std.specs.Char.{is_ascii_digit};
 ghost use Rattle.pf_words.specs.Words.{number_of, decimal_value, named, protocol_of, port_of, icmp_type_of, is_letter};
@@ -118,12 +118,21 @@ pub fn parse_decimal(text: &[u8], digits: usize, most: u16) -> Option<u16>
     }
 }
 
+/// Whether the text is this word, byte for byte. Words are short: each byte is asked for itself, and where the word is
+/// known when this is compiled, so is their number.
+#[inline(always)]
+pub fn is_same_word(text: &[u8], word: &[u8]) -> bool
+    ensures { result ≡ bytes_eq text.now word.now }
+{
+    text.len() == word.len() && text.iter().eq(word)
+}
+
 /// The number of the name in the table.
 fn named(table: &[(&str, u16)], text: &[u8]) -> Option<u16>
     ensures { result ≡ named (map (λ r. (r.0.now, r.1)) table.now) text.now }
 {
     for (name, number) in table {
-        if text == name.as_bytes() {
+        if is_same_word(text, name.as_bytes()) {
             return Some(*number);
         }
     }
@@ -135,7 +144,7 @@ fn named_octet(table: &[(&str, u8)], text: &[u8]) -> Option<u8>
     ensures { result ≡ named (map (λ r. (r.0.now, r.1)) table.now) text.now }
 {
     for (name, number) in table {
-        if text == name.as_bytes() {
+        if is_same_word(text, name.as_bytes()) {
             return Some(*number);
         }
     }
@@ -247,7 +256,7 @@ fn is_among(words: &[&str], text: &[u8]) -> bool
     ensures { result ≡ is_among (map (λ w. w.now) words.now) text.now }
 {
     for word in words {
-        if text == word.as_bytes() {
+        if is_same_word(text, word.as_bytes()) {
             return true;
         }
     }
@@ -274,6 +283,6 @@ pub fn is_reserved(profile: Profile, text: &[u8]) -> bool
     }
     match profile {
         Profile::One => is_among(&RESERVED, text),
-        Profile::Two => is_among(&RESERVED, text) || text == b"icmp-type".as_slice(),
+        Profile::Two => is_among(&RESERVED, text) || is_same_word(text, b"icmp-type"),
     }
 }
