@@ -1,5 +1,5 @@
 -- What stands before a parser: tokens that have been replaced already, and those of the text.
-use Rattle.std.specs.Prelude.{◌≡◌, ◌≤◌, ℕ, Bool, false, List, [], ◌∷◌, map, Option, Some, None}
+use Rattle.std.specs.Prelude.{◌≡◌, ◌≤◌, ℕ, Bool, false, List, [], ◌∷◌, map, Option, Some, None, is_some}
 use Rattle.pf_tokens.specs.declared.lexeme.Lexed.{Lexed}
 use Rattle.pf_tokens.specs.declared.stream.Stream.{Stream}
 use Rattle.pf_tokens.specs.Tokens.{Token, Placed, is_newline}
@@ -7,6 +7,7 @@ use Rattle.pf_tokens.specs.Lexed.{placed_of, token_of}
 use Rattle.pf_tokens.specs.Left.{tokens_left}
 use Rattle.pf_tokens.specs.Macros.{Definition, unwritten}
 use Rattle.pf_tokens.specs.Known.{definitions_of}
+use Rattle.pf_tokens.specs.Productions.{name_of}
 use Rattle.pf_tokens.specs.Blanks.{blanked}
 use Rattle.pf_tokens.specs.Flow.{statement_left, ending_left}
 
@@ -33,6 +34,16 @@ known stream = definitions_of stream.macros.now
 abbrev pub at_newline : Option Lexed → Bool
 at_newline None = false
 at_newline (Some t) = is_newline (token_of t.lexeme)
+
+-- whether a word or a string is at hand
+abbrev pub at_text : Option Lexed → Bool
+at_text None = false
+at_text (Some t) = is_some (name_of (token_of t.lexeme))
+
+-- the token at hand, if there is one
+abbrev pub at_hand : Option Lexed → List Token
+at_hand None = []
+at_hand (Some t) = token_of t.lexeme ∷ []
 
 -- the tokens of the statement, where these are pending and so many braces are open
 abbrev pub statement_tokens : List Definition → Bool → ℕ → List Placed × List Placed → List Token

@@ -38,8 +38,9 @@ impl<'t, 's> Parser<'t, 's>
 where
     't: 's,
 {
-    ghost use Rattle.std.specs.Prelude.{◌≡◌, ◌∷◌, ◌<◌, ◌≤◌, drop, is_some, map, option_map, Some, false, true};
+    ghost use Rattle.std.specs.Prelude.{◌≡◌, ◌∷◌, ◌++◌, ◌<◌, ◌≤◌, drop, map, option_map, Some, false, true};
     ghost use Rattle.std.specs.Option.{option_copied};
+    ghost use Rattle.pf_tokens.specs.Pending.{at_hand, at_text};
     ghost use Rattle.pf_tokens.specs.Tokens.{first, is_newline};
     ghost use Rattle.pf_tokens.specs.Lexed.{token_of, placed_of};
     ghost use Rattle.pf_tokens.specs.Left.{tokens_left};
@@ -146,13 +147,15 @@ where
 
     /// Goes past the token at hand, a word or a string: it ends no statement, opens no brace and closes none.
     #[tactic(auto, using(crate::proofs::Skipping::text_inner, crate::proofs::Skipping::text_nested, crate::proofs::Skipping::text_passed))]
-    fn pass(&mut self, token: Lexed<'s>)
-        requires at_hand { self.old.stream.next ≡ Some token }
-        requires text { is_some (name_of (token_of token.lexeme)) ≡ true }
-        ensures left { left self.old ≡ token_of token.entry.lexeme ∷ left self.new }
+    fn pass(&mut self)
+        requires { at_text self.old.stream.next ≡ true }
+        ensures left { left self.old ≡ at_hand self.old.stream.next ++ left self.new }
         ensures later { later self.new ≡ later self.old }
         ensures definitions { definitions self.new ≡ definitions self.old }
     {
+        let Some(token) = self.stream.next else {
+            return;
+        };
         match token.lexeme {
             // made again, so that nothing more is asked of its kind
             Lexeme::Word(text) => {
@@ -189,7 +192,7 @@ where
     {
         match self.stream.next {
             Some(token) if is_word(token.lexeme, word) => {
-                self.pass(token);
+                self.pass();
                 true
             }
             _ => false,
@@ -243,7 +246,7 @@ where
     {
         let token = self.stream.next?;
         let text = word_in(token.lexeme)?;
-        self.pass(token);
+        self.pass();
         Some(text)
     }
 
@@ -256,7 +259,7 @@ where
     {
         let token = self.stream.next?;
         let text = name_in(token.lexeme)?;
-        self.pass(token);
+        self.pass();
         Some(text)
     }
 

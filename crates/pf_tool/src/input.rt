@@ -26,9 +26,14 @@ pub enum InputFault {
     TooLong,
 }
 
-/// Reads once, onto the end of what was read, and answers whether there may be more.
-fn read_some<R: Read>(reader: &mut R, all: &mut Vec<u8>) -> Result<bool, InputFault>
-    requires { length all.old.items ≤ BYTES_MAX }
+/// Reads once, by way of the room, onto the end of what was read, and answers whether there may be more.
+fn read_some<R: Read>(
+    reader: &mut R,
+    room: &mut [u8],
+    all: &mut Vec<u8>,
+) -> Result<bool, InputFault>
+    requires room { 0 < length room.old }
+    requires few { length all.old.items ≤ BYTES_MAX }
     ensures taken { (first : Option (List ℕ)) → Consumes first (R.remaining reader.old) all.old.items →
         OnOk result (Consumes first (R.remaining reader.new) all.new.items) }
     ensures end { result ≡ Ok false → IsAtEnd (R.remaining reader.new) }
@@ -38,8 +43,7 @@ fn read_some<R: Read>(reader: &mut R, all: &mut Vec<u8>) -> Result<bool, InputFa
         result ≡ Err InputFault.TooLong → IfSome (R.remaining reader.new) (λ rest.
         IfSome first (λ input. BYTES_MAX < length input)) }
 {
-    let mut buf = [0u8; 4096];
-    let Ok(n) = reader.read(&mut buf) else {
+    let Ok(n) = reader.read(room) else {
         return Err(InputFault::Failed);
     };
     if n == 0 {
@@ -48,7 +52,7 @@ fn read_some<R: Read>(reader: &mut R, all: &mut Vec<u8>) -> Result<bool, InputFa
     if n > BYTES_MAX - all.len() {
         return Err(InputFault::TooLong);
     }
-    all.extend_from_slice(&buf[..n])
+    all.extend_from_slice(&room[..n])
         .map_err(|_| InputFault::Memory)?;
     Ok(true)
 }
@@ -61,8 +65,9 @@ pub fn read_all<R: Read>(alloc: Global, reader: &mut R) -> Result<Vec<u8>, Input
         IfSome (R.remaining reader.old) (λ input. BYTES_MAX < length input)) }
 {
     let mut all = Vec::new(alloc);
+    let mut room = [0u8; 4096];
     for _ in 0..READS_MAX {
-        if !read_some(reader, &mut all)? {
+        if !read_some(reader, &mut room, &mut all)? {
             return Ok(all);
         }
     }
