@@ -110,12 +110,12 @@ impl<'a> Lexer<'a> {
         ensures rest { result ≡ None → self.new.rest.now ≡ self.old.rest.now }
     {
         self.pass_steps();
-        let (first, _) = self.rest.split_first()?;
+        let (first, others) = self.rest.split_first()?;
         if !is_word_byte(*first) {
             return None;
         }
         let line = self.line;
-        let len = word_len(self.rest);
+        let len = 1 + word_len(others);
         let (text, rest) = self.rest.split_at(len);
         *self = Lexer {
             rest,
