@@ -1,27 +1,20 @@
 //! The calls of a node.
 
-ghost use Rattle.std.specs.Prelude.{◌≡◌, ◌≢◌, ◌⊎◌, ◌↔◌, ◌<◌, ◌≤◌, true, false, Err};
-ghost use Rattle.std.specs.Prelude.{IfErr, IfOk, OnErr, OnOk};
-ghost use Rattle.std.specs.Prelude.{◌+◌, IsTrue, Some, [], length, option_map};
+ghost use Rattle.std.specs.Prelude.{◌≡◌, ◌≢◌, ◌⊎◌, ◌≤◌, true, false, Err, IfOk, OnOk, IsTrue, Some, [], option_map};
 ghost use Rattle.pf_entry.specs.Owned.{is_over};
 ghost use Rattle.pf_eval.specs.Seen.{judgement_of};
 ghost use Rattle.pf_eval.specs.Verdicts.{judgement};
-ghost use Rattle.px_model.specs.Node.{Record};
 ghost use Rattle.px_model.specs.Node.Input.{Asks, Ticks};
 ghost use Rattle.px_model.specs.Step.{front, nothing_volatile, positions};
-ghost use Rattle.px_model.specs.Spelling.{Bytes, spelled};
+ghost use Rattle.px_model.specs.Spelling.{spelled};
 ghost use Rattle.px_model.specs.Entries.{view_of};
-ghost use Rattle.px_wire.specs.Message.{group};
 ghost use Rattle.px_wire.specs.Sent.{is_command};
-ghost use Rattle.px_replica.specs.Faults.{IsRefusedBy, IsStoreFault, IsReceiveFault, SomeFails};
-ghost use Rattle.px_replica.specs.Made.{answer, Makes, LeavesOne};
-ghost use Rattle.px_replica.specs.Replicas.{Takes, IsUnspelled, MatchReceived, LeavesOneOf};
-ghost use Rattle.px_replica.specs.Seen.{IsSound};
+ghost use Rattle.px_replica.specs.Calls.{Call, Receives};
+ghost use Rattle.px_replica.specs.Replicas.{MatchReceived};
 ghost use Rattle.pf_node.specs.Applied.{after};
 ghost use Rattle.pf_node.specs.Asked.{unnamed, bytes_of};
 ghost use Rattle.pf_node.specs.Nodes.{records_of, learned_by, membership_of, has_failed, state_in, config_of};
 ghost use Rattle.pf_node.specs.Nodes.{applied_of, replica_of};
-ghost use Rattle.px_core.specs.declared.limits.TheConstants.{MEMBERS};
 
 use crate::applying::take_up;
 use crate::asking::{asked_bytes, asked_entry};
@@ -40,35 +33,14 @@ impl<R: Records> Node<R> {
     /// where every position is learned or every number used: then, and where memory is wanting, all is as it was.
     /// `Store` and `BadStore` are the record's; after either the node is failed, and answers `Failed` before all else.
     pub fn ask(&mut self, command: &Command) -> Result<u64, NodeFault>
-        ensures made { R.is_honest (records_of self.new) → OnOk result (Makes (group (membership_of self.old))
-            (membership_of self.old).me (state_in self.old) (state_in self.new) (Asks (bytes_of command.now)) [] []) }
+        ensures call { Call (replica_of self.old) (replica_of self.new) (Asks (bytes_of command.now)) [] [] result }
         ensures number { R.is_honest (records_of self.new) →
             IfOk result (λ k. k ≡ (R.stored (records_of self.old)).meta.number) }
-        ensures refused { R.is_honest (records_of self.new) → IfErr result (λ e. IsRefusedBy e
-            (answer (membership_of self.old).members (membership_of self.old).me (state_in self.old)
-            (Asks (bytes_of command.now)))) }
-        ensures failed { (result ≡ Err NodeFault.Failed) ↔ (has_failed self.old ≡ true) }
         ensures long { result ≡ Err NodeFault.TooLong → IsTrue (is_over (unnamed command.now)) }
         ensures short { has_failed self.old ≡ false → IsTrue (is_over (unnamed command.now)) →
             (result ≡ Err NodeFault.TooLong) ⊎ (result ≡ Err NodeFault.Memory) }
-        ensures stays { R.is_honest (records_of self.new) → OnErr result (result ≢ Err NodeFault.Store →
-            state_in self.new ≡ state_in self.old) }
-        ensures volatile { OnErr result ((state_in self.new).volatile ≡ (state_in self.old).volatile) }
-        ensures front { front (learned_by self.old) ≤ front (learned_by self.new) }
-        ensures stop { has_failed self.old ≡ false → R.is_honest (records_of self.new) → (left : Record Bytes) →
-            R.may_leave (records_of self.new) left →
-            LeavesOne (membership_of self.old).members (membership_of self.old).me (state_in self.old)
-            (Asks (bytes_of command.now)) left }
-        ensures fails { has_failed self.old ≡ false → ((has_failed self.new ≡ true) ↔ IsStoreFault result) }
-        ensures why { R.is_honest (records_of self.new) →
-            IsSound (membership_of self.old).members (R.stored (records_of self.old)) →
-            IsStoreFault result → SomeFails R.may_fail }
-        ensures sound { R.is_honest (records_of self.new) →
-            IsSound (membership_of self.old).members (R.stored (records_of self.old)) →
-            OnOk result (IsSound (membership_of self.old).members (R.stored (records_of self.new))) }
         ensures applied { applied_of self.new ≡ applied_of self.old }
         ensures config { config_of self.new ≡ config_of self.old }
-        ensures membership { membership_of self.new ≡ membership_of self.old }
     {
         if self.replica.has_failed() {
             return Err(NodeFault::Failed);
@@ -86,34 +58,13 @@ impl<R: Records> Node<R> {
     /// The same of a command as it is spelled; the entry's origin and number don't count.
     pub fn ask_entry(&mut self, entry: &EntryView) -> Result<u64, NodeFault>
         requires { is_command (view_of entry.now).command ≡ true }
-        ensures made { R.is_honest (records_of self.new) → OnOk result (Makes (group (membership_of self.old))
-            (membership_of self.old).me (state_in self.old) (state_in self.new) (Asks (view_of entry.now).command)
-            [] []) }
+        ensures call { Call (replica_of self.old) (replica_of self.new) (Asks (view_of entry.now).command) [] []
+            result }
         ensures number { R.is_honest (records_of self.new) →
             IfOk result (λ k. k ≡ (R.stored (records_of self.old)).meta.number) }
-        ensures refused { R.is_honest (records_of self.new) → IfErr result (λ e. IsRefusedBy e
-            (answer (membership_of self.old).members (membership_of self.old).me (state_in self.old)
-            (Asks (view_of entry.now).command))) }
-        ensures failed { (result ≡ Err NodeFault.Failed) ↔ (has_failed self.old ≡ true) }
         ensures long { result ≢ Err NodeFault.TooLong }
-        ensures stays { R.is_honest (records_of self.new) → OnErr result (result ≢ Err NodeFault.Store →
-            state_in self.new ≡ state_in self.old) }
-        ensures volatile { OnErr result ((state_in self.new).volatile ≡ (state_in self.old).volatile) }
-        ensures front { front (learned_by self.old) ≤ front (learned_by self.new) }
-        ensures stop { has_failed self.old ≡ false → R.is_honest (records_of self.new) → (left : Record Bytes) →
-            R.may_leave (records_of self.new) left →
-            LeavesOne (membership_of self.old).members (membership_of self.old).me (state_in self.old)
-            (Asks (view_of entry.now).command) left }
-        ensures fails { has_failed self.old ≡ false → ((has_failed self.new ≡ true) ↔ IsStoreFault result) }
-        ensures why { R.is_honest (records_of self.new) →
-            IsSound (membership_of self.old).members (R.stored (records_of self.old)) →
-            IsStoreFault result → SomeFails R.may_fail }
-        ensures sound { R.is_honest (records_of self.new) →
-            IsSound (membership_of self.old).members (R.stored (records_of self.old)) →
-            OnOk result (IsSound (membership_of self.old).members (R.stored (records_of self.new))) }
         ensures applied { applied_of self.new ≡ applied_of self.old }
         ensures config { config_of self.new ≡ config_of self.old }
-        ensures membership { membership_of self.new ≡ membership_of self.old }
     {
         self.replica.ask(entry)
     }
@@ -124,32 +75,12 @@ impl<R: Records> Node<R> {
     /// `Memory` also where what was learned can't be applied: then there was no event. `BallotsSpent` where a round is
     /// needed and every one is used; the rest is as for `ask`.
     pub fn tick(&mut self, out: &mut Vec<Datagram>) -> Result<(), NodeFault>
-        ensures made { R.is_honest (records_of self.new) → OnOk result (Makes (group (membership_of self.old))
-            (membership_of self.old).me (state_in self.old) (state_in self.new) Ticks out.old.items out.new.items) }
-        ensures refused { R.is_honest (records_of self.new) → IfErr result (λ e. IsRefusedBy e
-            (answer (membership_of self.old).members (membership_of self.old).me (state_in self.old) Ticks)) }
-        ensures failed { (result ≡ Err NodeFault.Failed) ↔ (has_failed self.old ≡ true) }
+        ensures call { Call (replica_of self.old) (replica_of self.new) Ticks out.old.items out.new.items result }
         ensures long { result ≢ Err NodeFault.TooLong }
-        ensures stays { R.is_honest (records_of self.new) → OnErr result (result ≢ Err NodeFault.Store →
-            state_in self.new ≡ state_in self.old) }
-        ensures volatile { OnErr result ((state_in self.new).volatile ≡ (state_in self.old).volatile) }
-        ensures out { OnErr result (out.new.items ≡ out.old.items) }
-        ensures few { OnOk result (length out.new.items ≤ length out.old.items + MEMBERS) }
         ensures log { R.is_honest (records_of self.new) → learned_by self.new ≡ learned_by self.old }
-        ensures stop { has_failed self.old ≡ false → R.is_honest (records_of self.new) → (left : Record Bytes) →
-            R.may_leave (records_of self.new) left →
-            LeavesOne (membership_of self.old).members (membership_of self.old).me (state_in self.old) Ticks left }
-        ensures fails { has_failed self.old ≡ false → ((has_failed self.new ≡ true) ↔ IsStoreFault result) }
-        ensures why { R.is_honest (records_of self.new) →
-            IsSound (membership_of self.old).members (R.stored (records_of self.old)) →
-            IsStoreFault result → SomeFails R.may_fail }
-        ensures sound { R.is_honest (records_of self.new) →
-            IsSound (membership_of self.old).members (R.stored (records_of self.old)) →
-            OnOk result (IsSound (membership_of self.old).members (R.stored (records_of self.new))) }
         ensures grows { applied_of self.old ≤ applied_of self.new }
         ensures applied { R.is_honest (records_of self.new) →
             OnOk result (applied_of self.new ≡ front (learned_by self.new)) }
-        ensures membership { membership_of self.new ≡ membership_of self.old }
     {
         if self.replica.has_failed() {
             return Err(NodeFault::Failed);
@@ -172,36 +103,11 @@ impl<R: Records> Node<R> {
     /// outside is answered, a refusal with `AskRefused`. `Memory`, `Store`, `BadStore` and `Failed` are as for `ask`;
     /// no other fault comes.
     pub fn receive(&mut self, bytes: &[u8], out: &mut Vec<Datagram>) -> Result<Received, NodeFault>
-        ensures made { R.is_honest (records_of self.new) → IfOk result (λ r. MatchReceived r
-            (Takes (group (membership_of self.old)) (membership_of self.old).me (state_in self.old)
-            (state_in self.new) bytes.now out.old.items out.new.items)
-            (state_in self.new ≡ state_in self.old)) }
+        ensures received { Receives (replica_of self.old) (replica_of self.new) bytes.now out.old.items out.new.items
+            result }
         ensures ignored { IfOk result (λ r. MatchReceived r (Unit {0})
-            (IsUnspelled (group (membership_of self.old)) (membership_of self.old).me bytes.now ×
-            (out.new.items ≡ out.old.items) × (replica_of self.new ≡ replica_of self.old) ×
-            (config_of self.new ≡ config_of self.old) × (applied_of self.new ≡ applied_of self.old))) }
-        ensures spelled { has_failed self.old ≡ false → OnErr result
-            (IsUnspelled (group (membership_of self.old)) (membership_of self.old).me bytes.now → ⊥) }
-        ensures unrefused { R.is_honest (records_of self.new) → IfErr result IsReceiveFault }
-        ensures failed { (result ≡ Err NodeFault.Failed) ↔ (has_failed self.old ≡ true) }
-        ensures stays { R.is_honest (records_of self.new) → OnErr result (result ≢ Err NodeFault.Store →
-            state_in self.new ≡ state_in self.old) }
-        ensures volatile { OnErr result ((state_in self.new).volatile ≡ (state_in self.old).volatile) }
-        ensures out { OnErr result (out.new.items ≡ out.old.items) }
-        ensures few { OnOk result (length out.new.items ≤ length out.old.items + MEMBERS) }
-        ensures stop { has_failed self.old ≡ false → R.is_honest (records_of self.new) → (left : Record Bytes) →
-            R.may_leave (records_of self.new) left →
-            LeavesOneOf (group (membership_of self.old)) (membership_of self.old).me (state_in self.old)
-            bytes.now left }
-        ensures fails { has_failed self.old ≡ false → ((has_failed self.new ≡ true) ↔ IsStoreFault result) }
-        ensures why { R.is_honest (records_of self.new) →
-            IsSound (membership_of self.old).members (R.stored (records_of self.old)) →
-            IsStoreFault result → SomeFails R.may_fail }
-        ensures sound { R.is_honest (records_of self.new) →
-            IsSound (membership_of self.old).members (R.stored (records_of self.old)) →
-            OnOk result (IsSound (membership_of self.old).members (R.stored (records_of self.new))) }
+            ((config_of self.new ≡ config_of self.old) × (applied_of self.new ≡ applied_of self.old))) }
         ensures grows { applied_of self.old ≤ applied_of self.new }
-        ensures membership { membership_of self.new ≡ membership_of self.old }
     {
         match self.replica.receive(bytes, out) {
             Ok(Received::Done) => {

@@ -1,10 +1,11 @@
 //! A node from its record.
 
 ghost use Rattle.std.specs.Prelude.{◌≡◌, ◌≢◌, ◌<◌, IfErr, IfOk, OnOk, false};
+ghost use Rattle.px_model.specs.Node.{Record};
+ghost use Rattle.px_model.specs.Spelling.{Bytes};
 ghost use Rattle.px_model.specs.Step.{front};
 ghost use Rattle.px_model.specs.World.{started};
-ghost use Rattle.px_replica.specs.Faults.{IsOfStore, SomeFails};
-ghost use Rattle.px_replica.specs.Seen.{IsSound};
+ghost use Rattle.px_replica.specs.Calls.{OpenRefused};
 ghost use Rattle.px_replica.specs.Replicas as replicas;
 ghost use Rattle.pf_node.specs.Nodes.{records_of, learned_by, membership_of, has_failed, state_in, applied_of};
 
@@ -58,10 +59,10 @@ impl<R: Records> Node<R> {
         ensures applied { IfOk result (λ n. applied_of n ≡ front (learned_by n)) }
         ensures works { IfOk result (λ n. has_failed n ≡ false) }
         ensures membership { IfOk result (λ n. membership_of n ≡ m) }
-        ensures kept { IfErr result (λ e. R.is_honest e.1 → e.0 ≢ NodeFault.Store → R.stored e.1 ≡
-            R.stored records) }
-        ensures why { IfErr result (λ e. R.is_honest e.1 → IsSound m.members (R.stored records) →
-            IsOfStore e.0 → SomeFails R.may_fail) }
+        ensures was { IfOk result (λ n. R.is_honest (records_of n) → R.is_honest records) }
+        ensures stop { IfOk result (λ n. R.is_honest (records_of n) → (left : Record Bytes) →
+            R.may_leave (records_of n) left → R.may_leave records left) }
+        ensures refused { IfErr result (λ e. OpenRefused R.Records m.members records e.0 e.1) }
     {
         let replica = match Replica::open(alloc, m, records) {
             Ok(replica) => replica,

@@ -1,6 +1,6 @@
 //! A core at its beginning, what a restart brings back and takes, and what is asked of a core.
 ghost use Rattle.std.specs.Prelude.{◌≡◌, ◌≤◌, ◌<◌, IfOk, OnOk, OnErr, IsTrue, ◌↔◌, option_map};
-ghost use Rattle.std.specs.Prelude.{Some, None, [], Bool};
+ghost use Rattle.std.specs.Prelude.{Some, None, [], Bool, length, is_some};
 ghost use Rattle.px_model.specs.Step.{nothing_volatile, front, put, positions};
 ghost use Rattle.px_model.specs.Entries.{entry_of};
 ghost use Rattle.px_core.specs.Cells.{kept_in};
@@ -128,6 +128,30 @@ impl Core {
         ensures { option_map (λ e. entry_of e.now) result ≡ (state_of self.now).learned position }
     {
         learned_at(&self.learner.learned, position)
+    }
+
+    /// How many commands wait to be proposed, 64 at most.
+    #[tactic(auto, unfolding(crate::specs::Planning::state_of))]
+    pub fn waiting(&self) -> usize
+        ensures { result ≡ length (state_of self.now).volatile.waiting }
+    {
+        self.proposer.waiting.len()
+    }
+
+    /// Whether an attempt is under way: a command is being proposed, and its outcome isn't known yet.
+    #[tactic(auto, unfolding(crate::specs::Planning::state_of))]
+    pub fn is_attempting(&self) -> bool
+        ensures { result ≡ is_some (state_of self.now).volatile.attempt }
+    {
+        self.proposer.attempt.is_some()
+    }
+
+    /// Whether the member has the lead: a majority has promised it all positions from one on.
+    #[tactic(auto, unfolding(crate::specs::Planning::state_of))]
+    pub fn is_leading(&self) -> bool
+        ensures { result ≡ is_some (state_of self.now).volatile.lead }
+    {
+        self.proposer.lead.is_some()
     }
 
     /// How many members there are, 1 to 15.

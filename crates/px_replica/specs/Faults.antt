@@ -72,3 +72,14 @@ IsReceiveFault fault.TooLong = ⊥
 IsReceiveFault fault.Full = ⊥
 IsReceiveFault fault.BallotsSpent = ⊥
 IsReceiveFault fault.PositionsSpent = ⊥
+
+-- what an opening can be refused with
+abbrev pub IsOpenFault : NodeFault → Type 0
+IsOpenFault fault.Memory = Unit {0}
+IsOpenFault fault.Store = Unit {0}
+IsOpenFault fault.BadStore = Unit {0}
+IsOpenFault fault.Failed = ⊥
+IsOpenFault fault.TooLong = ⊥
+IsOpenFault fault.Full = ⊥
+IsOpenFault fault.BallotsSpent = ⊥
+IsOpenFault fault.PositionsSpent = ⊥

@@ -4,4 +4,5 @@ pub mod Faults
 pub mod Members
 pub mod Made
 pub mod Replicas
+pub mod Calls
 pub mod inner

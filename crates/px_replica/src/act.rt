@@ -8,10 +8,11 @@ ghost use Rattle.px_model.specs.Node.{Record};
 ghost use Rattle.px_model.specs.Step.{commit, front};
 ghost use Rattle.px_model.specs.Fits.{Passes, ChangeFits, InputFits};
 ghost use Rattle.px_model.specs.Spelling.{Bytes};
-ghost use Rattle.px_model.specs.Views.{change_of, input_of};
+ghost use Rattle.px_model.specs.Views.{change_of, input_of, reads_of};
 ghost use Rattle.px_records.specs.Records.{Rises};
 ghost use Rattle.px_wire.specs.Message.{group};
 ghost use Rattle.px_wire.specs.Sent.{is_command};
+ghost use Rattle.px_replica.specs.Calls.{AreBad};
 ghost use Rattle.px_replica.specs.Faults.{fault_of_store, fault_of_core, IsRefusedBy, IsFromBelow, IsStoreFault};
 ghost use Rattle.px_replica.specs.Faults.{SomeFails};
 ghost use Rattle.px_replica.specs.Made.{answer, running, Makes, LeavesOne};
@@ -133,6 +134,8 @@ pub(crate) fn act<R: Records>(
     ensures counts { (result ≡ Err NodeFault.Store) ↔ (0 < R.failed records.new) }
     ensures why { R.is_honest records.new → IsSound (group_of member.old).members (R.stored records.old) →
         IsStoreFault result → SomeFails R.may_fail }
+    ensures bad { R.is_honest records.new → result ≡ Err NodeFault.BadStore →
+        AreBad R.Records records.old (group_of member.old).members (reads_of (input_of event.now)) }
     ensures sound { R.is_honest records.new → IsSound (group_of member.old).members (R.stored records.old) →
         OnOk result (IsSound (group_of member.old).members (R.stored records.new)) }
     ensures same { R.members records.new ≡ R.members records.old }

@@ -11,13 +11,14 @@ ghost use Rattle.px_model.specs.Spelling.{Bytes, spelled};
 ghost use Rattle.px_model.specs.Step.{top, positions};
 ghost use Rattle.px_model.specs.Views as views;
 ghost use Rattle.px_records.specs.Records.{IsRead, IsStoresFault};
+ghost use Rattle.px_records.specs.Records.Place.{LastSlot};
 ghost use Rattle.px_wire.specs.Sent.{is_command};
+ghost use Rattle.px_replica.specs.Calls.{IsBadSlot, AreBad};
 ghost use Rattle.px_replica.specs.Faults.{SomeFails};
 ghost use Rattle.px_replica.specs.Seen.{IsSeen, SeenFits, IsSound};
 ghost use Rattle.px_core.specs.declared.limits.TheConstants.{MEMBERS};
 
 use pf_entry::decode;
-use px_core::POSITIONS;
 use px_model::{Entry, Meta, Reads, Slot};
 use px_records::{Records, StoreFault};
 
@@ -69,6 +70,8 @@ fn slot_at<R: Records>(records: &mut R, members: u8, position: u32) -> Result<Sl
     ensures counts { (result ≡ Err StoreFault.Failed) ↔ (0 < R.failed records.new) }
     ensures why { R.is_honest records.new → IsSound members (R.stored records.old) →
         IsStoresFault result → SomeFails R.may_fail }
+    ensures bad { R.is_honest records.new → result ≡ Err StoreFault.BadStore →
+        IsBadSlot R.Records records.old members position }
     ensures same { R.members records.new ≡ R.members records.old }
 {
     let slot = records.read_slot(position)?;
@@ -85,13 +88,11 @@ fn top_of<R: Records>(records: &mut R) -> Result<u32, StoreFault>
     ensures read { IsRead R.is_honest R.stored R.may_leave R.failed R.is_good records.old records.new }
     ensures counts { (result ≡ Err StoreFault.Failed) ↔ (0 < R.failed records.new) }
     ensures why { R.is_honest records.new → IsStoresFault result → SomeFails R.may_fail }
+    ensures bad { R.is_honest records.new → result ≡ Err StoreFault.BadStore →
+        R.is_good records.old LastSlot → ⊥ }
     ensures same { R.members records.new ≡ R.members records.old }
 {
-    let top = records.read_top()?;
-    if top > POSITIONS {
-        return Err(StoreFault::BadStore);
-    }
-    Ok(top)
+    records.read_top()
 }
 
 /// The slot and the top where they are read, else an empty slot and 0.
@@ -110,6 +111,8 @@ fn look_beside<R: Records>(
     ensures counts { (result ≡ Err StoreFault.Failed) ↔ (0 < R.failed records.new) }
     ensures why { R.is_honest records.new → IsSound members (R.stored records.old) →
         IsStoresFault result → SomeFails R.may_fail }
+    ensures bad { R.is_honest records.new → result ≡ Err StoreFault.BadStore →
+        AreBad R.Records records.old members reads }
     ensures same { R.members records.new ≡ R.members records.old }
 {
     match reads {
@@ -146,6 +149,8 @@ pub(crate) fn look<R: Records>(
     ensures counts { (result ≡ Err StoreFault.Failed) ↔ (0 < R.failed records.new) }
     ensures why { R.is_honest records.new → IsSound members (R.stored records.old) →
         IsStoresFault result → SomeFails R.may_fail }
+    ensures bad { R.is_honest records.new → result ≡ Err StoreFault.BadStore →
+        AreBad R.Records records.old members reads }
     ensures same { R.members records.new ≡ R.members records.old }
 {
     let meta = records.read_meta()?;

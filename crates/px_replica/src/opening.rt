@@ -4,12 +4,16 @@ ghost use Rattle.std.specs.Prelude.{◌≡◌, ◌≢◌, ◌≤◌, ◌<◌, �
 ghost use Rattle.std.specs.Prelude.{IfOk, IfSome, OnOk, None, false};
 ghost use Rattle.std.specs.Prelude.{option_map};
 ghost use Rattle.px_model.specs.Fits.{Passes, EntryFits};
+ghost use Rattle.px_model.specs.Node.{Record};
+ghost use Rattle.px_model.specs.Spelling.{Bytes};
 ghost use Rattle.px_model.specs.Step.{nothing_volatile, positions};
 ghost use Rattle.px_model.specs.World.{started};
 ghost use Rattle.px_model.specs.Entries.{entry_of};
 ghost use Rattle.px_records.specs.Records.{IsRead, IsStoresFault};
+ghost use Rattle.px_records.specs.Records.Place.{LastEntry};
 ghost use Rattle.px_wire.specs.Sent.{is_command};
 ghost use Rattle.px_replica.specs.inner.Copied.{IsCopied};
+ghost use Rattle.px_replica.specs.Calls.{IsBadEntry, HasBadEntry, OpenRefused};
 ghost use Rattle.px_replica.specs.Faults.{IsOfStore, SomeFails};
 ghost use Rattle.px_replica.specs.Members.{volatile_of, log_of, group_of};
 ghost use Rattle.px_replica.specs.Replicas.{records_of, learned_by, membership_of, has_failed, state_in};
@@ -21,7 +25,6 @@ use crate::fault::NodeFault;
 use crate::look::is_spelled;
 use crate::member::Member;
 use crate::state::Replica;
-use px_core::POSITIONS;
 use px_model::Entry;
 use px_records::{Records, StoreFault};
 use px_wire::Membership;
@@ -42,6 +45,8 @@ fn learned_at<R: Records>(
     ensures counts { (result ≡ Err StoreFault.Failed) ↔ (0 < R.failed records.new) }
     ensures why { R.is_honest records.new → IsSound members (R.stored records.old) →
         IsStoresFault result → SomeFails R.may_fail }
+    ensures bad { R.is_honest records.new → result ≡ Err StoreFault.BadStore →
+        IsBadEntry R.Records records.old members position }
     ensures same { R.members records.new ≡ R.members records.old }
 {
     match records.read_learned(position)? {
@@ -72,6 +77,8 @@ fn remember_at<R: Records>(
     ensures counts { (result ≡ Err StoreFault.Failed) ↔ (0 < R.failed records.new) }
     ensures why { R.is_honest records.new → IsSound (group_of member.old).members (R.stored records.old) →
         IsStoresFault result → SomeFails R.may_fail }
+    ensures bad { R.is_honest records.new → result ≡ Err StoreFault.BadStore →
+        IsBadEntry R.Records records.old (group_of member.old).members position }
     ensures same { R.members records.new ≡ R.members records.old }
     ensures volatile { volatile_of member.new ≡ volatile_of member.old }
     ensures group { group_of member.new ≡ group_of member.old }
@@ -103,6 +110,8 @@ fn remember_below<R: Records>(
     ensures counts { (result ≡ Err StoreFault.Failed) ↔ (0 < R.failed records.new) }
     ensures why { R.is_honest records.new → IsSound (group_of member.old).members (R.stored records.old) →
         IsStoresFault result → SomeFails R.may_fail }
+    ensures bad { R.is_honest records.new → result ≡ Err StoreFault.BadStore →
+        HasBadEntry R.Records records.old (group_of member.old).members }
     ensures same { R.members records.new ≡ R.members records.old }
     ensures volatile { volatile_of member.new ≡ volatile_of member.old }
     ensures group { group_of member.new ≡ group_of member.old }
@@ -125,13 +134,10 @@ fn learned_end<R: Records>(records: &mut R) -> Result<u32, StoreFault>
     ensures counts { (result ≡ Err StoreFault.Failed) ↔ (0 < R.failed records.new) }
     ensures why { (n : ℕ) → R.is_honest records.new → IsSound n (R.stored records.old) →
         IsStoresFault result → SomeFails R.may_fail }
+    ensures bad { R.is_honest records.new → result ≡ Err StoreFault.BadStore → R.is_good records.old LastEntry → ⊥ }
     ensures same { R.members records.new ≡ R.members records.old }
 {
-    let end = records.read_learned_end()?;
-    if end > POSITIONS {
-        return Err(StoreFault::BadStore);
-    }
-    Ok(end)
+    records.read_learned_end()
 }
 
 /// Reads the round and all that was learned. Answers the round.
@@ -146,6 +152,8 @@ fn read_kept<R: Records>(records: &mut R, member: &mut Member) -> Result<u64, St
     ensures counts { (result ≡ Err StoreFault.Failed) ↔ (0 < R.failed records.new) }
     ensures why { R.is_honest records.new → IsSound (group_of member.old).members (R.stored records.old) →
         IsStoresFault result → SomeFails R.may_fail }
+    ensures bad { R.is_honest records.new → result ≡ Err StoreFault.BadStore →
+        HasBadEntry R.Records records.old (group_of member.old).members }
     ensures same { R.members records.new ≡ R.members records.old }
     ensures volatile { volatile_of member.new ≡ volatile_of member.old }
     ensures group { group_of member.new ≡ group_of member.old }
@@ -177,10 +185,10 @@ impl<R: Records> Replica<R> {
             (R.stored records).learned) }
         ensures works { IfOk result (λ r. has_failed r ≡ false) }
         ensures membership { IfOk result (λ r. membership_of r ≡ m) }
-        ensures kept { IfErr result (λ e. R.is_honest e.1 → e.0 ≢ NodeFault.Store → R.stored e.1 ≡
-            R.stored records) }
-        ensures why { IfErr result (λ e. R.is_honest e.1 → IsSound m.members (R.stored records) →
-            IsOfStore e.0 → SomeFails R.may_fail) }
+        ensures was { IfOk result (λ r. R.is_honest (records_of r) → R.is_honest records) }
+        ensures stop { IfOk result (λ r. R.is_honest (records_of r) → (left : Record Bytes) →
+            R.may_leave (records_of r) left → R.may_leave records left) }
+        ensures refused { IfErr result (λ e. OpenRefused R.Records m.members records e.0 e.1) }
     {
         let mut records = records;
         let mut member = match Member::new(alloc, m) {
