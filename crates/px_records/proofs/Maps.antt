@@ -1,7 +1,7 @@
 -- Records in memory, after a change.
-use Rattle.std.proofs.Common.{◌≡◌, ◌≤◌, ◌<◌, ◌+◌, ◌⊎◌, inl, inr, ℕ, zero, suc, true, false, None, Some, IsSome, Result, Ok, Err, OnOk, OnErr, refl, sym, ap, subst, ◌∙◌, arith, nat_eq}
+use Rattle.std.proofs.Common.{◌≡◌, ◌≤◌, ◌<◌, ◌+◌, ◌⊎◌, inl, inr, ℕ, zero, suc, true, false, Option, None, Some, IsSome, Result, Ok, Err, OnOk, OnErr, refl, sym, ap, subst, ◌∙◌, arith, nat_eq}
 use Rattle.std.proofs.Math.Path.{fun_ext}
-use Rattle.std.proofs.lemmas.Bool.{cases_lt, eq-eqb, ne_eqb}
+use Rattle.std.proofs.lemmas.Bool.{cases_lt, eq-eqb, ne_eqb, false≢true}
 use Rattle.std.specs.BTreeMap.{BTreeMap}
 use Rattle.px_model.specs.Node.{Slot, Entry, Log}
 use Rattle.px_model.specs.Step.{put}
@@ -67,3 +67,11 @@ module _ (old new : Log Bytes) (q : ℕ) (e : Entry Bytes) (done : (p : ℕ) →
 
 pub end_same : (old new : Log Bytes) → ((p : ℕ) → new p ≡ old p) → (end : ℕ) → IsEnd old end → IsEnd new end
 end_same old new same end h = subst (λ (f : Log Bytes). IsEnd f end) (sym (fun_ext same)) h
+
+-- what is learned stands below the bound of positions
+pub end_within : (bound : ℕ) (log : Log Bytes) → ((p : ℕ) (e : Entry Bytes) → log p ≡ Some e → p < bound) → (end : ℕ) → IsEnd log end → end ≤ bound
+end_within bound log fits zero h = omega arith
+end_within bound log fits (suc last) h = last_within (log last) refl h.0 where
+  last_within : (a : Option (Entry Bytes)) → log last ≡ a → IsSome a → suc last ≤ bound
+  last_within None e some = absurd (false≢true some)
+  last_within (Some x) e some = let lt = fits last x e in omega (arith, lt)

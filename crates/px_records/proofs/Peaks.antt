@@ -36,6 +36,10 @@ bounded : {C : Type 0} (slots : ℕ → Slot C) (n : ℕ) → top_below slots n 
 bounded slots zero = rw (none_below slots) (omega arith)
 bounded slots (suc n) = rw (below_is slots n (slots n).accepted refl) (low (slots n).accepted (top_below slots n) n (bounded slots n))
 
+pub top_within : {C : Type 0} (slots : ℕ → Slot C) → top slots ≤ positions
+unfolding top
+top_within slots = bounded slots positions
+
 -- what the top is where p accepts something and the rest is as it was
 abbrev Raised : (p n before after : ℕ) → Type 0
 Raised p n before after = (n ≤ p → after ≡ before) × ((p < n → before ≤ p + 1 → after ≡ p + 1) × (p < n → p + 1 ≤ before → after ≡ before))

@@ -11,10 +11,13 @@ use Rattle.px_model.specs.Node.Change.{NewRound, NewNumber, NewFloor, NewPromise
 use Rattle.px_model.specs.Step.{commit}
 use Rattle.px_model.specs.Spelling.{Bytes}
 
--- what a call reads: the slot of a position, the entry learned there
+-- what a call reads: the slot of a position, the entry learned there, the last row with an accepted proposal, the last
+-- row with a learned entry
 pub data Place : Type 0 where
   SlotAt : (position : ℕ) → Place
   EntryAt : (position : ℕ) → Place
+  LastSlot : Place
+  LastEntry : Place
 
 -- the row at the position that this is one more than, if there is one, is good
 abbrev pub NamesGood : (Place → Type 0) → (ℕ → Place) → (end : ℕ) → Type 0

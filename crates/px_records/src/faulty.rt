@@ -70,6 +70,8 @@ impl<R: Records> Records for FaultyRecords<R> {
 
     ghost settled = { λ r honest none. R.settled r.inner honest (none_inside r.has_failed (R.failed r.inner) none) };
 
+    ghost stays = { λ r honest none. R.stays r.inner honest (none_inside r.has_failed (R.failed r.inner) none) };
+
     fn failures(&self) -> u64 {
         if self.has_failed {
             return 1;

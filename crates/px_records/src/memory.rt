@@ -1,4 +1,5 @@
 ghost use Rattle.std.specs.Prelude.{◌≡◌, ◌<◌, ◌≤◌, ℕ, Some, Err, IfOk, OnOk, OnErr, option_map};
+ghost use Rattle.std.proofs.Common.{refl};
 ghost use Rattle.std.specs.Ordering.{nat_cmp};
 ghost use Rattle.std.specs.BTreeMap.{get};
 ghost use Rattle.px_model.specs.Bounds.{AnyCommand};
@@ -159,6 +160,8 @@ impl Records for MemoryRecords {
     ghost is_good = { λ r x. Unit {0} };
 
     ghost settled = { λ r honest none d left. left };
+
+    ghost stays = { λ r honest none. refl };
 
     fn failures(&self) -> u64 {
         0

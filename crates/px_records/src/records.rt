@@ -1,14 +1,14 @@
-ghost use Rattle.std.specs.Prelude.{◌≡◌, ◌<◌, ◌↔◌, ℕ, Some, Err, IfOk, OnOk, IfSome};
+ghost use Rattle.std.specs.Prelude.{◌≡◌, ◌<◌, ◌≤◌, ◌↔◌, ℕ, Some, Err, IfOk, OnOk, IfSome};
 ghost use Rattle.px_model.specs.Bounds.{AnyCommand};
 ghost use Rattle.px_model.specs.Node.{Record};
-ghost use Rattle.px_model.specs.Step.{commit as committed, top};
+ghost use Rattle.px_model.specs.Step.{commit as committed, top, positions};
 ghost use Rattle.px_model.specs.Spelling.{Bytes};
 ghost use Rattle.px_model.specs.Fits.{MetaFits, SlotFits, EntryFits, ChangeFits};
 ghost use Rattle.px_model.specs.Entries.{entry_of};
 ghost use Rattle.px_model.specs.Views.{meta_of, slot_of, change_of};
 ghost use Rattle.px_records.specs.Records.{learned_of, Place, NamesGood, IsEnd, Rises};
 ghost use Rattle.px_records.specs.Records.{IsStoresFault, IsRead, LeavesOne};
-ghost use Rattle.px_records.specs.Records.Place.{SlotAt, EntryAt};
+ghost use Rattle.px_records.specs.Records.Place.{SlotAt, EntryAt, LastSlot, LastEntry};
 
 use px_model::{Change, Entry, Meta, Slot};
 use thiserror::Error;
@@ -88,7 +88,10 @@ pub trait Records {
     /// commit writes, or one whose position isn't below 1,000,000.
     fn read_top(&mut self) -> Result<u32, StoreFault>
         ensures ok { is_honest self.new → IfOk result (λ t. t ≡ top (stored self.new).slots) }
-        ensures good { is_honest self.new → IfOk result (λ t. NamesGood (is_good self.new) SlotAt t) }
+        ensures good { is_honest self.new → OnOk result (is_good self.new LastSlot) }
+        ensures bad { is_honest self.new → result ≡ Err StoreFault.BadStore → is_good self.old LastSlot → ⊥ }
+        ensures within { IfOk result (λ t. t ≤ positions) }
+        ensures named { is_honest self.new → IfOk result (λ t. NamesGood (is_good self.new) SlotAt t) }
         ensures read { IsRead is_honest stored may_leave failed is_good self.old self.new }
         ensures counts { (result ≡ Err StoreFault.Failed) ↔ (0 < failed self.new) }
         ensures why { IsStoresFault result → may_fail self.old }
@@ -112,7 +115,10 @@ pub trait Records {
     /// writes, or one whose position isn't below 1,000,000.
     fn read_learned_end(&mut self) -> Result<u32, StoreFault>
         ensures ok { is_honest self.new → IfOk result (λ end. IsEnd (stored self.new).learned end) }
-        ensures good { is_honest self.new → IfOk result (λ end. NamesGood (is_good self.new) EntryAt end) }
+        ensures good { is_honest self.new → OnOk result (is_good self.new LastEntry) }
+        ensures bad { is_honest self.new → result ≡ Err StoreFault.BadStore → is_good self.old LastEntry → ⊥ }
+        ensures within { IfOk result (λ end. end ≤ positions) }
+        ensures named { is_honest self.new → IfOk result (λ end. NamesGood (is_good self.new) EntryAt end) }
         ensures read { IsRead is_honest stored may_leave failed is_good self.old self.new }
         ensures counts { (result ≡ Err StoreFault.Failed) ↔ (0 < failed self.new) }
         ensures why { IsStoresFault result → may_fail self.old }
@@ -139,4 +145,7 @@ pub trait Records {
     // While no call has failed a stop leaves the record as it stands.
     ghost settled: { (r : Self) → is_honest r → failed r ≡ 0 → (d : Record Bytes) → may_leave r d →
         d ≡ stored r };
+
+    // And it leaves that at the least.
+    ghost stays: { (r : Self) → is_honest r → failed r ≡ 0 → may_leave r (stored r) };
 }

@@ -1,6 +1,11 @@
 -- What the last row says of the record.
-use Rattle.std.proofs.Common.{◌≡◌, inl, inr, ℕ, pos, zero, suc, ◌<◌, List, [], ◌∷◌, map, Bool, true, false, None, Some, IsSome, Ordering, Less, Equal, Greater, refl, sym, ap, ◌∙◌, arith}
-use Rattle.std.specs.Ordering.{is_gt, is_eq, int_cmp}
+use Rattle.std.proofs.Common.{◌≡◌, inl, inr, ℕ, pos, zero, suc, ◌<◌, List, [], ◌∷◌, map, Bool, true, false, None, Some, IsSome, Ordering, Less, Equal, Greater, refl, sym, ap, subst, ◌∙◌, arith}
+use Rattle.std.specs.Ordering.{is_gt, is_eq, int_cmp, ordering_reverse}
+use Rattle.sqlite.specs.declared.types.Value.{Value}
+use Rattle.sqlite.specs.Tree.{Trees}
+use Rattle.px_records.specs.Records.Place.{SlotAt, EntryAt, LastSlot, LastEntry}
+use Rattle.px_sql.specs.Ready.{is_good, IsSlotGood, IsEntryGood}
+use Rattle.px_sql.proofs.Stored.{slot_keyed, learned_keyed}
 use Rattle.std.proofs.lemmas.Bool.{cases_lt, cases_Bool, le-ltb}
 use Rattle.sqlite.specs.declared.types.Value.TheVariants.{Int}
 use Rattle.sqlite_value.specs.Order.{Row, column, value_cmp}
@@ -13,7 +18,7 @@ use Rattle.px_model.specs.Spelling.{Bytes}
 use Rattle.px_records.specs.Records.{IsEnd}
 use Rattle.px_records.proofs.Peaks.{below_is, nothing_top}
 use Rattle.px_sql.specs.Entries.{entry_of}
-use Rattle.px_sql.specs.Seen.{rows_at, seen, shown, slot_columns, learned_columns, slot_in, learned_in, accepted_in, number_in, bytes_in, has_ballot, any_row, EndsAt}
+use Rattle.px_sql.specs.Seen.{rows_at, seen, shown, slot_columns, learned_columns, slot_in, learned_in, accepted_in, number_in, bytes_in, has_ballot, any_row, EndsAt, IsKeyed, IsLastGood}
 use Rattle.px_sql.proofs.Puts.{has_filter}
 use Rattle.px_sql.proofs.Tops.{filter_has}
 use Rattle.px_sql.proofs.Above.{greater}
@@ -101,3 +106,35 @@ end_is rows (suc n) (within, (r, has, there, key), most) = (
   full_in (rows_at rows n) r (has_filter (has_rowid (pos n)) rows r has (rw key (same_key n))),
   λ p up. empty_in (rows_at rows p) (λ x h. let e : true ≡ false = none_over any_row rows n most p (omega (arith, up)) x h in absurd cc),
 )
+
+-- ---- the last row is good
+
+-- where one row shows a key, that is the row's
+only_key : (columns : List ℕ) → ((y : Row) → column (shown columns y) 0 ≡ column y 0) → (p : ℕ) (rows : List Row) (r : Row) → Has rows r → IsKeyed p (map (shown columns) rows) → column r 0 ≡ Int (pos p)
+only_key columns keeps p [] r has key = absurd has
+only_key columns keeps p (y ∷ []) r (inl same) key = ap (λ z. column z 0) same ∙ sym (keeps y) ∙ key
+only_key columns keeps p (y ∷ []) r (inr none) key = absurd none
+only_key columns keeps p (y ∷ z ∷ more) r has key = absurd key
+
+neither : (o : Ordering) → is_gt o ≡ false → is_gt (ordering_reverse o) ≡ false → is_eq o ≡ true
+neither Less a b = absurd cc
+neither Equal a b = refl
+neither Greater a b = absurd cc
+
+last_good : (test : Row → Bool) (columns : List ℕ) → ((y : Row) → column (shown columns y) 0 ≡ column y 0) → (good : ℕ → Type 0) (rows : List Row) → ((p : ℕ) → good p → IsKeyed p (seen columns rows p))
+    → (t : ℕ) → EndsAt test rows t → ((p : ℕ) → t ≡ suc p → good p) → IsLastGood test good rows
+last_good test columns keeps good rows keys zero none named r (has, there, greatest) = absurd (let e : true ≡ false = sym there ∙ none r has in cc)
+last_good test columns keeps good rows keys (suc n) (within, (s, also, passes, at), most) named r (has, there, greatest) =
+    let low = most r has there in
+    let high : is_gt (value_cmp (Int (pos n)) (column r 0)) ≡ false = subst (λ (v : Value). is_gt (value_cmp v (column r 0)) ≡ false) at (greatest s also passes) in
+    let even = neither (value_cmp (column r 0) (Int (pos n))) low (sym (ap is_gt (value_cmp_total.antisymm _ _)) ∙ high) in
+    let is = named n refl in
+    (n, within, only_key columns keeps n (rows_at rows n) r (has_filter (has_rowid (pos n)) rows r has even) (keys n is), is)
+
+pub last_slot : (members : ℕ) (db : Trees) (t : ℕ) → EndsAt has_ballot (db 1) t → ((p : ℕ) → t ≡ suc p → is_good members db (SlotAt p)) → is_good members db LastSlot
+last_slot members db t ends named =
+    last_good has_ballot slot_columns (λ y. refl) (IsSlotGood members (db 1)) (db 1) (λ p good. slot_keyed members p (seen slot_columns (db 1) p) good) t ends named
+
+pub last_entry : (members : ℕ) (db : Trees) (t : ℕ) → EndsAt any_row (db 3) t → ((p : ℕ) → t ≡ suc p → is_good members db (EntryAt p)) → is_good members db LastEntry
+last_entry members db t ends named =
+    last_good any_row learned_columns (λ y. refl) (IsEntryGood members (db 3)) (db 3) (λ p good. learned_keyed members p (seen learned_columns (db 3) p) good) t ends named

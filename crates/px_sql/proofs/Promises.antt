@@ -32,7 +32,7 @@ told_memory (Err Failed) e = absurd cc
 -- ---- a read, and then a change
 
 pub keeps_then : {a b c : Stored} → Keeps a b → Keeps b c → Keeps a c
-keeps_then h k = record { same = k.same ∙ h.same; rows = λ x good. k.rows x (h.rows x good) }
+keeps_then h k = record { same = k.same ∙ h.same; rows = λ x good. k.rows x (h.rows x good); back = λ x good. h.back x (k.back x good) }
 
 pub ok_then : (f : Record Bytes → Record Bytes) (s m t : Stored) → Keeps s m → (r : Result (Unit {0}) Trouble) → OnOk r (t.kept ≡ f m.kept) → OnOk (told_of r) (t.kept ≡ f s.kept)
 ok_then f s m t was r h = told_ok r (t.kept ≡ f m.kept) (t.kept ≡ f s.kept) (λ e. e ∙ ap f was.same) h

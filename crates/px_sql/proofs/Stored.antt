@@ -61,6 +61,7 @@ keeps o members f g old new same =
     let e : new.committed.trees ≡ old.committed.trees = ap (λ (d : Database). d.trees) same in record {
       same = ap (λ (t : Trees). record_in t) e;
       rows = λ x good. subst (λ (t : Trees). is_good members t x) (sym e) good;
+      back = λ x good. subst (λ (t : Trees). is_good members t x) e good;
     }
 
 pub reads : (o : Schema) (members f g : ℕ) (old new : State) → (HasCleanDisk new → HasCleanDisk old) → (HasCleanDisk new × (o ≡ schema_3) → g ≡ 0 → new.committed ≡ old.committed) → (HasCleanDisk new × (o ≡ schema_3) → LeavesOld old new)

@@ -1,5 +1,6 @@
 -- A connection as the keeper of a record.
-use Rattle.std.specs.Prelude.{◌≡◌, ℕ, true, false, [], ◌∷◌}
+use Rattle.std.specs.Prelude.{◌≡◌, ℕ, List, true, false, [], ◌∷◌}
+use Rattle.sqlite_value.specs.Order.{Row}
 use Rattle.std.specs.Coded.{×_prop, coded_list}
 use base.Stored.{Coded-set}
 use mathlib.Core.Bool.{Bool-set}
@@ -15,11 +16,11 @@ use Rattle.px_model.specs.Fits.{MetaFits}
 use Rattle.px_model.specs.Views.{meta_of}
 use Rattle.px_model.specs.declared.record.Meta.{Meta}
 use Rattle.px_records.specs.Records.{Place}
-use Rattle.px_records.specs.Records.Place.{SlotAt, EntryAt}
+use Rattle.px_records.specs.Records.Place.{SlotAt, EntryAt, LastSlot, LastEntry}
 use Rattle.px_records.specs.inner.Props.{MetaFits-prop}
 use Rattle.px_sql.specs.Tables.{schema_3}
 use Rattle.px_sql.specs.Seen.{seen, slot_columns, learned_columns, meta_columns, meta_row, floor_columns, floor_rows}
-use Rattle.px_sql.specs.Seen.{record_in, are_slot_rows, are_learned_rows}
+use Rattle.px_sql.specs.Seen.{record_in, are_slot_rows, are_learned_rows, has_ballot, any_row, IsLastGood}
 use Rattle.px_sql.specs.Store.{Stored}
 use Rattle.px_sql.specs.declared.calls.Identity.{Identity}
 
@@ -52,10 +53,19 @@ AreBounded id m = MetaFits id.members (meta_of m)
 pub AreBounded-prop : (id : Identity) (m : Meta) → IsProp (AreBounded id m)
 AreBounded-prop id m = MetaFits-prop id.members (meta_of m)
 
+-- the rows of a position are those that commits write
+abbrev pub IsSlotGood : (members : ℕ) → List Row → (position : ℕ) → Type 0
+IsSlotGood members rows p = are_slot_rows members p (seen slot_columns rows p) ≡ true
+
+abbrev pub IsEntryGood : (members : ℕ) → List Row → (position : ℕ) → Type 0
+IsEntryGood members rows p = are_learned_rows members p (seen learned_columns rows p) ≡ true
+
 -- the rows read there are those that commits write
 abbrev pub is_good : (members : ℕ) → Trees → Place → Type 0
-is_good members db (SlotAt p) = are_slot_rows members p (seen slot_columns (db 1) p) ≡ true
-is_good members db (EntryAt p) = are_learned_rows members p (seen learned_columns (db 3) p) ≡ true
+is_good members db (SlotAt p) = IsSlotGood members (db 1) p
+is_good members db (EntryAt p) = IsEntryGood members (db 3) p
+is_good members db LastSlot = IsLastGood has_ballot (IsSlotGood members (db 1)) (db 1)
+is_good members db LastEntry = IsLastGood any_row (IsEntryGood members (db 3)) (db 3)
 
 -- what is said of values holds where the disk keeps what was written and the tables that were found are the four
 abbrev pub IsHonest : Schema → State → Type 0

@@ -245,3 +245,14 @@ EndsAt test rows zero = (r : Row) → Has rows r → test r ≡ false
 EndsAt test rows (suc n) =
     (n < positions) × ((r : Row) × Has rows r × (test r ≡ true) × (column r 0 ≡ Int (pos n)))
     × ((x : Row) → Has rows x → test x ≡ true → is_gt (value_cmp (column x 0) (Int (pos n))) ≡ false)
+
+-- the row passes, and none that passes has a greater position
+abbrev pub IsGreatest : (Row → Bool) → List Row → Row → Type 0
+IsGreatest test rows r =
+    Has rows r × (test r ≡ true)
+    × ((x : Row) → Has rows x → test x ≡ true → is_gt (value_cmp (column x 0) (column r 0)) ≡ false)
+
+-- the last row that passes, if there is one, has a position below 1,000,000, and what is there is good
+abbrev pub IsLastGood : (Row → Bool) → (good : ℕ → Type 0) → List Row → Type 0
+IsLastGood test good rows =
+    (r : Row) → IsGreatest test rows r → (p : ℕ) × (p < positions) × (column r 0 ≡ Int (pos p)) × good p

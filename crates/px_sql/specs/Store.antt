@@ -27,6 +27,7 @@ pub record Stored : Type 1 where
 pub record Keeps (old new : Stored) : Type 0 where
   pub same : new.kept ≡ old.kept
   pub rows : (x : Place) → old.is_good x → new.is_good x
+  pub back : (x : Place) → new.is_good x → old.is_good x
 
 -- a read: nothing differs while no call has failed, and a stop leaves what it left before
 pub record OnlyReads (old new : Stored) : Type 0 where

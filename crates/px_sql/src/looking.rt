@@ -1,7 +1,8 @@
 //! Reads by a position, and what is last.
-ghost use Rattle.std.specs.Prelude.{◌≡◌, ◌<◌, ◌↔◌, true, Some, Err, OnOk, IfOk};
+ghost use Rattle.std.specs.Prelude.{◌≡◌, ◌<◌, ◌≤◌, ◌↔◌, true, Some, Err, OnOk, IfOk};
 ghost use Rattle.sqlite.specs.Held.{state};
-ghost use Rattle.px_records.specs.Records.Place.{SlotAt, EntryAt};
+ghost use Rattle.px_model.specs.Step.{positions};
+ghost use Rattle.px_records.specs.Records.Place.{SlotAt, EntryAt, LastSlot, LastEntry};
 ghost use Rattle.px_sql.specs.inner.Bytes.{read_in, is_entry_in};
 ghost use Rattle.px_sql.specs.Seen.{seen, slot_columns, learned_columns, slot_with, is_slot, IsLast, EndsAt};
 ghost use Rattle.px_sql.specs.Seen.{has_ballot, any_row};
@@ -160,6 +161,9 @@ impl<S: Alter> SqlRecords<S> {
     pub(crate) fn top_at(&mut self) -> Result<u32, StoreFault>
         ensures value { (view_of S.Store self.new).is_honest →
             IfOk result (λ t. EndsAt has_ballot ((state S.Store self.new.conn).committed.trees 1) t) }
+        ensures bad { (view_of S.Store self.new).is_honest → result ≡ Err StoreFault.BadStore →
+            (view_of S.Store self.old).is_good LastSlot → ⊥ }
+        ensures within { IfOk result (λ t. t ≤ positions) }
         ensures reads { OnlyReads (view_of S.Store self.old) (view_of S.Store self.new) }
         ensures counts { (result ≡ Err StoreFault.Failed) ↔ (0 < self.new.failures) }
         ensures later { 0 < self.old.failures → self.new ≡ self.old }
@@ -180,6 +184,9 @@ impl<S: Alter> SqlRecords<S> {
     pub(crate) fn end_at(&mut self) -> Result<u32, StoreFault>
         ensures value { (view_of S.Store self.new).is_honest →
             IfOk result (λ t. EndsAt any_row ((state S.Store self.new.conn).committed.trees 3) t) }
+        ensures bad { (view_of S.Store self.new).is_honest → result ≡ Err StoreFault.BadStore →
+            (view_of S.Store self.old).is_good LastEntry → ⊥ }
+        ensures within { IfOk result (λ t. t ≤ positions) }
         ensures reads { OnlyReads (view_of S.Store self.old) (view_of S.Store self.new) }
         ensures counts { (result ≡ Err StoreFault.Failed) ↔ (0 < self.new.failures) }
         ensures later { 0 < self.old.failures → self.new ≡ self.old }

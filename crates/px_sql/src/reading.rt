@@ -4,6 +4,7 @@ ghost use Rattle.std.specs.Prelude.{◌≡◌, ◌≢◌, ℕ, true, false, [], 
 ghost use Rattle.std.specs.Prelude.{◌<◌, ◌≤◌, ◌^◌};
 ghost use Rattle.sqlite_value.specs.Order.{column};
 ghost use Rattle.px_model.specs.Bounds.{AnyCommand};
+ghost use Rattle.px_model.specs.Step.{positions};
 ghost use Rattle.px_model.specs.Entries.{entry_of as stands_for};
 ghost use Rattle.px_model.specs.Views.{slot_of};
 ghost use Rattle.px_model.specs.Fits.{EntryFits, SlotFits};
@@ -201,6 +202,7 @@ pub(crate) fn entry_in_rows(
 pub(crate) fn end_in_rows(rows: &[Row]) -> Result<u32, ReadFault>
     ensures value { IfOk result (λ t. IsEndOf rows.now t) }
     ensures bad { result ≡ Err ReadFault.Bad → (t : ℕ) → IsEndOf rows.now t → ⊥ }
+    ensures within { IfOk result (λ t. t ≤ positions) }
 {
     match rows {
         [] => Ok(0),

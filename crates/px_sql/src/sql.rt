@@ -1,6 +1,6 @@
 //! The keeper's calls.
 ghost use Rattle.std.specs.Prelude.{◌≡◌};
-ghost use Rattle.std.proofs.Common.{◌∙◌, ap};
+ghost use Rattle.std.proofs.Common.{◌∙◌, ap, refl};
 ghost use Rattle.sqlite.specs.Held.{state};
 ghost use Rattle.sqlite.specs.Tree.{Trees};
 ghost use Rattle.px_sql.specs.Seen.{record_in};
@@ -30,6 +30,8 @@ impl<S: Alter> Records for SqlRecords<S> {
 
     ghost settled = { λ r honest none d left. left.2 ∙ ap (λ (t : Trees). record_in t)
         (S.Store.settled r.conn.store left.0 (r.ready none honest.0 honest.1).1.1.0 left.1) };
+
+    ghost stays = { λ r honest none. (_, S.Store.stays r.conn.store (r.ready none honest.0 honest.1).1.1.0, refl) };
 
     fn failures(&self) -> u64 {
         self.failures

@@ -20,3 +20,8 @@ returns-clause-stop g c = λ honest.
     stop_then (λ (d : Record Bytes). with_slot d c.args.position c.args.ballot c.args.ballot c.args.entry.now)
     (view_of g.S.Store c.args.self.now) (view_of g.S.Store c.good_slot.new.self) (view_of g.S.Store c.keep_slot.new.self)
     keeps (c.good_slot.ensures.reads.leaves mid) (c.keep_slot.ensures.stop honest (search rules))
+
+pub returns-in_err-_slot-clause-memory : goal.returns-in_err-_slot-clause-memory
+returns-in_err-_slot-clause-memory g c = λ honest is.
+    let none : c.good_slot.new.self.failures ≡ 0 = search rules in
+    c.good_slot.ensures.reads.keeps honest none

@@ -43,3 +43,8 @@ returns-clause-stop g c = λ honest.
     let is = promise_is m.kept c.args.position c.args.ballot c.in_ok-slot.slot.promised c.in_ok-slot.slot.ballot c.as_slice.result.now read in
     stop_then (λ (d : Record Bytes). with_promise d c.args.position c.args.ballot) s m t keeps (c.good_slot.ensures.reads.leaves mid)
     (subst (λ (d : Record Bytes). LeavesOneOf d m t) is (c.keep_slot.ensures.stop honest (c.in_ok-slot.ensures.good mid)))
+
+pub returns-in_err-slot-clause-memory : goal.returns-in_err-slot-clause-memory
+returns-in_err-slot-clause-memory g c = λ honest is.
+    let none : c.good_slot.new.self.failures ≡ 0 = search rules in
+    c.good_slot.ensures.reads.keeps honest none

@@ -1,12 +1,15 @@
-use Rattle.std.proofs.Common.{◌≡◌, rules, sym, subst}
+use Rattle.std.proofs.Common.{ℕ, suc, ◌-◌, arith, ◌≡◌, rules, sym, subst}
 use Rattle.sqlite.specs.Held.{state}
 use Rattle.px_model.specs.Node.{Record}
 use Rattle.px_model.specs.Spelling.{Bytes}
 use Rattle.px_records.specs.Records.{IsEnd}
 use Rattle.px_sql.specs.Seen.{EndsAt, any_row}
+use Rattle.px_records.specs.Records.Place.{EntryAt, LastEntry}
+use Rattle.px_sql.specs.Ready.{is_good, IsEntryGood}
+use Rattle.px_sql.proofs.Ends.{last_named}
 use Rattle.px_sql.specs.View.{view_of}
 use Rattle.px_sql.proofs.Promises.{only_then}
-use Rattle.px_sql.proofs.Highest.{end_is}
+use Rattle.px_sql.proofs.Highest.{end_is, last_entry}
 use Rattle.px_sql.proofs.sql.SqlRecordsRecords.read_learned_end.Goals as goal
 
 pub returns-then-end-eq0-clause-ok : goal.returns-then-end-eq0-clause-ok
@@ -33,3 +36,21 @@ returns-clause-ok g c = λ honest.
     let same = (c.entry_at.ensures.reads.keeps honest last).same in
     let is = end_is ((state g.S.Store c.end_at.new.self.conn).committed.trees 3) c.in_ok-end.end (c.in_ok-end.ensures.value mid) in
     subst (λ (d : Record Bytes). IsEnd d.learned c.in_ok-end.end) (sym same) is
+
+pub returns-in_err-_entry-clause-bad : goal.returns-in_err-_entry-clause-bad
+returns-in_err-_entry-clause-bad g c = λ honest is good.
+    let none : c.end_at.new.self.failures ≡ 0 = search rules in
+    let mid = c.entry_at.ensures.reads.was honest in
+    let now = (c.end_at.ensures.reads.keeps mid none).rows LastEntry good in
+    let tree = (state g.S.Store c.end_at.new.self.conn).committed.trees 3 in
+    let here = last_named any_row (IsEntryGood c.end_at.new.self.identity.members tree) tree c.in_ok-end.end (c.in_ok-end.ensures.value mid) now (c.in_ok-end.end - 1) (search rules) in
+    search rules
+
+pub returns-clause-good : goal.returns-clause-good
+returns-clause-good g c = λ honest.
+    let last : c.entry_at.new.self.failures ≡ 0 = search rules in
+    let mid = c.entry_at.ensures.reads.was honest in
+    let keeps = c.entry_at.ensures.reads.keeps honest last in
+    let db = (state g.S.Store c.end_at.new.self.conn).committed.trees in
+    let named : (p : ℕ) → c.in_ok-end.end ≡ suc p → is_good c.end_at.new.self.identity.members db (EntryAt p) = λ p is. let q : c.in_ok-end.end - 1 ≡ p = omega (arith, is) in keeps.back (EntryAt p) (subst (λ (n : ℕ). is_good c.entry_at.new.self.identity.members (state g.S.Store c.entry_at.new.self.conn).committed.trees (EntryAt n)) q (c.in_ok-_entry.ensures.good honest)) in
+    keeps.rows LastEntry (last_entry c.end_at.new.self.identity.members db c.in_ok-end.end (c.in_ok-end.ensures.value mid) named)
