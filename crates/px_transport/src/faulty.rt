@@ -1,14 +1,14 @@
 //! A wire that fails at times.
 
-ghost use Rattle.std.specs.Prelude.{◌≡◌, ◌<◌, ◌≤◌, ◌+◌, ℕ, List, None, false, IfSome, length, option_map};
+ghost use Rattle.std.specs.Prelude.{◌≡◌, ◌<◌, ◌≤◌, ◌+◌, ℕ, List, None, false, IfSome, IsTrue, length, option_map};
 ghost use Rattle.std.specs.Prelude.{take};
-ghost use Rattle.px_transport.specs.Wires.{Gives, Counts};
-ghost use Rattle.px_transport.specs.Faulty.{inner_of, recvs_left, sends_left, period_of, failures_of};
+ghost use Rattle.px_transport.specs.Wires.{Gives, Grows, Counts, one_more};
+ghost use Rattle.px_transport.specs.Faulty.{inner_of, recvs_left, sends_left, period_of, missed_of, failures_of};
 
 use crate::wire::Wire;
 
-/// A wire of which each `k`-th receive and each `k`-th send fails, and doesn't come to the wire below: for tests of
-/// what lost datagrams do.
+/// A wire of which each `k`-th receive and each `k`-th send fails, is counted, and doesn't come to the wire below; the
+/// others are that wire's. A poll is a receive; a wait never fails. For tests of what lost datagrams do.
 #[derive(Drop)]
 pub struct FaultyWire<W> {
     inner: W,
@@ -28,6 +28,7 @@ impl<W: Wire> FaultyWire<W> {
         ensures period { period_of result ≡ k }
         ensures recvs { recvs_left result ≡ k }
         ensures sends { sends_left result ≡ k }
+        ensures missed { missed_of result ≡ 0 }
     {
         FaultyWire {
             inner,
@@ -51,6 +52,24 @@ impl<W: Wire> FaultyWire<W> {
         } = self;
         inner
     }
+
+    /// Counts a receive: whether it is one that fails.
+    fn misses_recv(&mut self) -> bool
+        ensures missed { IsTrue result → (recvs_left self.old ≤ 1) × (recvs_left self.new ≡ period_of self.old) ×
+            (missed_of self.new ≡ one_more (missed_of self.old)) }
+        ensures passed { result ≡ false → (recvs_left self.new + 1 ≡ recvs_left self.old) ×
+            (1 < recvs_left self.old) × (missed_of self.new ≡ missed_of self.old) }
+        ensures rest { (inner_of self.new ≡ inner_of self.old) × (sends_left self.new ≡ sends_left self.old) ×
+            (period_of self.new ≡ period_of self.old) }
+    {
+        if self.recvs_left <= 1 {
+            self.recvs_left = self.period;
+            self.missed = self.missed.saturating_add(1);
+            return true;
+        }
+        self.recvs_left -= 1;
+        false
+    }
 }
 
 impl<W: Wire> Wire for FaultyWire<W> {
@@ -63,29 +82,60 @@ impl<W: Wire> Wire for FaultyWire<W> {
 
     fn recv(&mut self, into: &mut [u8]) -> Option<usize>
         ensures missed { recvs_left self.old ≤ 1 → (result ≡ None) × (inner_of self.new ≡ inner_of self.old) ×
-            (recvs_left self.new ≡ period_of self.old) }
-        ensures passed { 1 < recvs_left self.old → recvs_left self.new + 1 ≡ recvs_left self.old }
+            (recvs_left self.new ≡ period_of self.old) × (missed_of self.new ≡ one_more (missed_of self.old)) }
+        ensures passed { 1 < recvs_left self.old → (recvs_left self.new + 1 ≡ recvs_left self.old) ×
+            (missed_of self.new ≡ missed_of self.old) }
         ensures rest { (sends_left self.new ≡ sends_left self.old) × (period_of self.new ≡ period_of self.old) }
         ensures fits { IfSome result (λ n. n ≤ length into.new) }
         ensures given { Gives (W.given (inner_of self.old)) (option_map (λ n. take n into.new) result)
             (W.given (inner_of self.new)) }
-        ensures quiet { Unit {0} }
+        ensures quiet { W.handed (inner_of self.new) ≡ W.handed (inner_of self.old) }
         ensures counts { failures_of (W.failed (inner_of self.old)) self.old ≤
             failures_of (W.failed (inner_of self.new)) self.new }
     {
-        if self.recvs_left <= 1 {
-            self.recvs_left = self.period;
-            self.missed = self.missed.saturating_add(1);
+        if self.misses_recv() {
             return None;
         }
-        self.recvs_left -= 1;
         self.inner.recv(into)
+    }
+
+    fn poll(&mut self, into: &mut [u8]) -> Option<usize>
+        ensures missed { recvs_left self.old ≤ 1 → (result ≡ None) × (inner_of self.new ≡ inner_of self.old) ×
+            (recvs_left self.new ≡ period_of self.old) × (missed_of self.new ≡ one_more (missed_of self.old)) }
+        ensures passed { 1 < recvs_left self.old → (recvs_left self.new + 1 ≡ recvs_left self.old) ×
+            (missed_of self.new ≡ missed_of self.old) }
+        ensures rest { (sends_left self.new ≡ sends_left self.old) × (period_of self.new ≡ period_of self.old) }
+        ensures fits { IfSome result (λ n. n ≤ length into.new) }
+        ensures given { Gives (W.given (inner_of self.old)) (option_map (λ n. take n into.new) result)
+            (W.given (inner_of self.new)) }
+        ensures quiet { W.handed (inner_of self.new) ≡ W.handed (inner_of self.old) }
+        ensures counts { failures_of (W.failed (inner_of self.old)) self.old ≤
+            failures_of (W.failed (inner_of self.new)) self.new }
+    {
+        if self.misses_recv() {
+            return None;
+        }
+        self.inner.poll(into)
+    }
+
+    fn wait(&mut self, milliseconds: u32)
+        ensures rest { (sends_left self.new ≡ sends_left self.old) × (recvs_left self.new ≡ recvs_left self.old) ×
+            (period_of self.new ≡ period_of self.old) × (missed_of self.new ≡ missed_of self.old) }
+        ensures given { W.given (inner_of self.new) ≡ W.given (inner_of self.old) }
+        ensures quiet { W.handed (inner_of self.new) ≡ W.handed (inner_of self.old) }
+        ensures counts { failures_of (W.failed (inner_of self.old)) self.old ≤
+            failures_of (W.failed (inner_of self.new)) self.new }
+    {
+        self.inner.wait(milliseconds);
     }
 
     fn send(&mut self, to: u8, bytes: &[u8]) -> bool
         ensures missed { sends_left self.old ≤ 1 → (result ≡ false) × (inner_of self.new ≡ inner_of self.old) ×
-            (sends_left self.new ≡ period_of self.old) }
-        ensures passed { 1 < sends_left self.old → sends_left self.new + 1 ≡ sends_left self.old }
+            (sends_left self.new ≡ period_of self.old) × (missed_of self.new ≡ one_more (missed_of self.old)) }
+        ensures passed { 1 < sends_left self.old → (sends_left self.new + 1 ≡ sends_left self.old) ×
+            (missed_of self.new ≡ missed_of self.old) ×
+            Grows (W.handed (inner_of self.old)) (to, bytes.now) (W.handed (inner_of self.new)) ×
+            Counts result (W.failed (inner_of self.old)) (W.failed (inner_of self.new)) }
         ensures rest { (recvs_left self.new ≡ recvs_left self.old) × (period_of self.new ≡ period_of self.old) }
         ensures quiet { W.given (inner_of self.new) ≡ W.given (inner_of self.old) }
         ensures counts { Counts result (failures_of (W.failed (inner_of self.old)) self.old)

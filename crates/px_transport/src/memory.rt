@@ -97,6 +97,24 @@ impl Wire for MemoryWire {
         Some(n)
     }
 
+    fn poll(&mut self, into: &mut [u8]) -> Option<usize>
+        ensures next { IsNext (coming_of self.old) (length into.old) (option_map (λ n. take n into.new) result)
+            (coming_of self.new) }
+        ensures fits { IfSome result (λ n. n ≤ length into.new) }
+        ensures given { Gives (given_of self.old) (option_map (λ n. take n into.new) result) (given_of self.new) }
+        ensures quiet { handed_of self.new ≡ handed_of self.old }
+        ensures counts { self.old.failures ≤ self.new.failures }
+    {
+        self.recv(into)
+    }
+
+    fn wait(&mut self, _milliseconds: u32)
+        ensures stays { coming_of self.new ≡ coming_of self.old }
+        ensures given { given_of self.new ≡ given_of self.old }
+        ensures quiet { handed_of self.new ≡ handed_of self.old }
+        ensures counts { self.new.failures ≡ self.old.failures }
+    {}
+
     fn send(&mut self, to: u8, bytes: &[u8]) -> bool {
         let kept = self.keep(to, bytes).is_ok();
         if !kept {

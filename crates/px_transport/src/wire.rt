@@ -6,7 +6,7 @@ ghost use Rattle.px_transport.specs.Wires.{Gives, Grows, Counts};
 /// Where datagrams come from and go to. Members are told apart by their numbers; 255 is whoever sent the datagram that
 /// came last. A datagram that isn't sent is lost, as it may be on its way: nothing else follows from it.
 pub trait Wire {
-    // what `recv` gave so far, where the wire tells
+    // what `recv` and `poll` gave so far, where the wire tells
     ghost given: { Self → Option (List (List ℕ)) };
 
     // what `send` was handed so far, with for whom, where the wire tells
@@ -23,13 +23,26 @@ pub trait Wire {
         ensures quiet { handed self.new ≡ handed self.old }
         ensures counts { failed self.old ≤ failed self.new };
 
+    /// Takes a datagram that has come already, as `recv` does, and waits for none.
+    fn poll(&mut self, into: &mut [u8]) -> Option<usize>
+        ensures fits { IfSome result (λ n. n ≤ length into.new) }
+        ensures given { Gives (given self.old) (option_map (λ n. take n into.new) result) (given self.new) }
+        ensures quiet { handed self.new ≡ handed self.old }
+        ensures counts { failed self.old ≤ failed self.new };
+
+    /// Waits until something has come or so many milliseconds have passed, and takes nothing.
+    fn wait(&mut self, milliseconds: u32)
+        ensures given { given self.new ≡ given self.old }
+        ensures quiet { handed self.new ≡ handed self.old }
+        ensures counts { failed self.old ≤ failed self.new };
+
     /// Sends the bytes to a member, or with 255 to whoever sent the datagram that came last. Whether they were sent.
     fn send(&mut self, to: u8, bytes: &[u8]) -> bool
         ensures handed { Grows (handed self.old) (to, bytes.now) (handed self.new) }
         ensures quiet { given self.new ≡ given self.old }
         ensures counts { Counts result (failed self.old) (failed self.new) };
 
-    /// How many sends were answered `false`, and how many faults `recv` met, up to 2^64 - 1.
+    /// How many sends were answered `false`, and how many faults the receives and waits met, up to 2^64 - 1.
     fn failures(&self) -> u64
         ensures { result ≡ failed self.now };
 }
