@@ -6,7 +6,7 @@ use Rattle.px_model.specs.Node.Answer.{Refused, Planned}
 use Rattle.px_model.specs.World.{World, NodeState, Event, Learning, start, run, happens, comes_to, at_member, goes_on, stops_after, emptied, step_in, learned_by}
 use Rattle.px_model.specs.World.Event.{Runs, StopBefore, StopAfter, Restart}
 use Rattle.px_model.specs.Law as law
-use Rattle.px_model.specs.Law.{Among, learned_of, world_after}
+use Rattle.px_model.specs.Law.{Among, NoneTwice, learned_of, world_after}
 use Rattle.px_model.specs.Spelling.{Bytes}
 use Rattle.px_model.proofs.Basics.{among_right}
 use Rattle.px_model.proofs.Reading.{bytes_equality}
@@ -22,7 +22,7 @@ use Rattle.pf_node.specs.Nodes.{applied_of, config_of}
 use Rattle.pf_node.specs.declared.state.Node.{Node}
 use Rattle.pf_cluster.specs.Clusters as clusters
 use Rattle.pf_cluster.specs.Clusters.{Cluster}
-use Rattle.pf_cluster.specs.Promised.{HistoriesAreRuns, NodesAgree, NeverDiffer, EquallyApplied, IsNode, HasLearned}
+use Rattle.pf_cluster.specs.Promised.{HistoriesAreRuns, NodesAgree, LearnWhatWasAsked, NeverDiffer, EquallyApplied, IsNode, HasLearned}
 use Rattle.pf_cluster.proofs.Following.{from_start, in_turn}
 
 same_exact : IsEquality same
@@ -36,6 +36,21 @@ agree g group history may =
     let r = from_start g group history may in
     let n = g.members in
     (r, always_agree same same_exact n group.few r.events, always_once same same_exact n group.few r.events, always_kept same same_exact n group.few r.events)
+
+pub learn_what_was_asked : LearnWhatWasAsked
+learn_what_was_asked g group history may =
+    let r = from_start g group history may in
+    let n = g.members in
+    let agree = always_agree same same_exact n group.few r.events in
+    let kept = always_kept same same_exact n group.few r.events in
+    let once = always_once same same_exact n group.few r.events in
+    (
+      λ m p e has. subst (λ (z : List (Entry Bytes)). Among z e) r.world.asked
+          (agree.was_asked m p e (kept.was_learned m p e (ap (λ (f : ℕ → NodeState Bytes). (f m).stored.learned p) r.world.nodes ∙ has))),
+      subst NoneTwice r.world.asked once.asked_once,
+      λ e f one two. once.one_name e f (subst (λ (z : List (Entry Bytes)). Among z e) (sym r.world.asked) one)
+          (subst (λ (z : List (Entry Bytes)). Among z f) (sym r.world.asked) two),
+    )
 
 -- ---- what was learned stays learned
 

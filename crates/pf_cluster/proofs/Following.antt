@@ -1,15 +1,19 @@
 -- What happens to nodes happens in the world.
-use Rattle.std.proofs.Common.{◌≡◌, ◌∙◌, sym, ap, subst, refl, ℕ, ◌<◌, ◌≤◌, true, false, ◌&&◌, nat_lt, List, [], ◌∷◌, ◌++◌, Option, Some, lt-ltb, arith, inl, inr}
+use Rattle.std.proofs.Common.{◌≡◌, ◌∙◌, sym, ap, subst, refl, ℕ, ◌+◌, ◌<◌, ◌≤◌, true, false, ◌&&◌, nat_lt, nat_eq, List, [], ◌∷◌, ◌++◌, Option, Some, None, lt-ltb, arith, inl, inr}
+use Rattle.std.specs.Prelude.{IfSome}
 use Rattle.std.proofs.lemmas.Bool.{and_from, cond-true}
 use Rattle.std.proofs.lemmas.List.{append-nil}
 use Rattle.px_model.specs.Node as node
-use Rattle.px_model.specs.Node.{Envelope, Input, Answer, Plan, Record, asker}
+use Rattle.px_model.specs.Node.{Envelope, Entry, Input, Answer, Plan, Record, Change, asker}
+use Rattle.px_model.specs.Node.Change.{NewRound, NewNumber, NewFloor, NewPromise, NewAccepted, NewLearned}
 use Rattle.px_model.specs.Node.Answer.{Refused, Planned}
 use Rattle.px_model.specs.Node.Input.{Asks, Ticks, Comes}
 use Rattle.px_model.specs.Node.Message.{Prepare, Promise, PrepareAll, PromiseAll, Accept, Vote, Nack, Need, Learned, Ask, Asked, AskRefused}
 use Rattle.px_model.specs.Step.{put, commit}
 use Rattle.px_model.specs.World as world
-use Rattle.px_model.specs.World.{World, NodeState, Action, Event, comes_to, at_member, goes_on, step_in, step_of, happens, run, to_members, emptied, stops_after, follows, started, start}
+use Rattle.px_model.specs.World.{World, NodeState, Action, Event, comes_to, at_member, goes_on, step_in, step_of, happens, run, to_members, emptied, stops_after, follows, started, start, command_of, asked_by}
+use Rattle.px_model.specs.Rising.{Rises}
+use Rattle.px_model.proofs.Rising.{steps_rise}
 use Rattle.px_model.specs.World.Event.{Runs, StopBefore, StopAfter, Restart}
 use Rattle.px_model.specs.Spelling.{Bytes}
 use Rattle.px_wire.specs.Message.{Group, DatagramBytes}
@@ -17,10 +21,11 @@ use Rattle.px_wire.specs.Members.{as_sent, Passing}
 use Rattle.px_replica.specs.Made.{same, answer}
 use Rattle.px_replica.specs.Spelled.{AreSpelled}
 use Rattle.px_replica.specs.declared.datagram.Datagram.{Datagram}
-use Rattle.pf_lab.specs.Labs.{for_members}
-use Rattle.pf_lab.proofs.Telling.{are_append, are_members, comes_spelled, one_message}
+use Rattle.px_replica.specs.Lives.{stopped, IsInput}
+use Rattle.px_replica.specs.Spelled.{for_members}
+use Rattle.px_replica.proofs.Telling.{are_append, are_members, comes_spelled, one_message}
 use Rattle.pf_cluster.specs.Clusters as clusters
-use Rattle.pf_cluster.specs.Clusters.{Cluster, Happening, begun, stopped, WasSent, MayCome, MayHappen, next, after, MayAllHappen}
+use Rattle.pf_cluster.specs.Clusters.{Cluster, Happening, begun, asked_of, WasSent, MayCome, MayHappen, next, after, MayAllHappen}
 use Rattle.pf_cluster.specs.Clusters.Happening.{Calls, Stops, Opens}
 use Rattle.pf_cluster.specs.Promised.{IsWorld, IsGroup, IsRun}
 
@@ -73,6 +78,38 @@ comes_in g w sent m (Comes sender message) few told may = elim may.1 [
       (asked_from g w m message few (subst (λ (k : ℕ). Passing g.members k m message) is may.0))
 ]
 
+-- ---- what is asked
+
+-- a record whose number stays took nothing in
+none_asked : (m : ℕ) (d e : Record Bytes) (command : Option Bytes) → e.meta.number ≡ d.meta.number → asked_of m d e command ≡ []
+none_asked m d e None same = refl
+none_asked m d e (Some c) same =
+    cond-true (nat_eq e.meta.number d.meta.number) [] _ (subst (λ (k : ℕ). nat_eq k d.meta.number ≡ true) (sym same) (nat_eq-refl d.meta.number))
+
+-- a record whose number goes up took the command in
+one_asked : (m k : ℕ) (d : Record Bytes) (command : Option Bytes) → k ≡ d.meta.number + 1 →
+    asked_of m d (commit (Some (NewNumber k)) d) command ≡ asked_by m d.meta command (Some (NewNumber k))
+one_asked m k d None next = refl
+one_asked m k d (Some c) next =
+    cond-false (nat_eq k d.meta.number) [] _ (false_from_ne_true (nat_eq k d.meta.number) (λ e. omega (arith, next, nat_eq-sound k d.meta.number e)))
+
+-- what a step adds to what was ever asked is read off the record before and after
+asked_same : (m : ℕ) (d : Record Bytes) (change : Option (Change Bytes)) (command : Option Bytes) →
+    IfSome change (λ x. Rises d x) → asked_of m d (commit change d) command ≡ asked_by m d.meta command change
+asked_same m d None None rises = refl
+asked_same m d None (Some c) rises = none_asked m d d (Some c) refl
+asked_same m d (Some (NewRound r)) None rises = refl
+asked_same m d (Some (NewRound r)) (Some c) rises = none_asked m d (commit (Some (NewRound r)) d) (Some c) refl
+asked_same m d (Some (NewNumber k)) command rises = one_asked m k d command rises
+asked_same m d (Some (NewFloor b)) None rises = refl
+asked_same m d (Some (NewFloor b)) (Some c) rises = none_asked m d (commit (Some (NewFloor b)) d) (Some c) refl
+asked_same m d (Some (NewPromise p b)) None rises = refl
+asked_same m d (Some (NewPromise p b)) (Some c) rises = none_asked m d (commit (Some (NewPromise p b)) d) (Some c) refl
+asked_same m d (Some (NewAccepted p b e)) None rises = refl
+asked_same m d (Some (NewAccepted p b e)) (Some c) rises = none_asked m d (commit (Some (NewAccepted p b e)) d) (Some c) refl
+asked_same m d (Some (NewLearned p e)) None rises = refl
+asked_same m d (Some (NewLearned p e)) (Some c) rises = none_asked m d (commit (Some (NewLearned p e)) d) (Some c) refl
+
 -- ---- one thing that happens
 
 pub record Follows (g : Group) (c : Cluster) (w : World Bytes) : Type 0 where
@@ -108,12 +145,18 @@ called g c w m x t out few is may =
     acts n m w come.action x (λ k y. goes_on w k y (step_in same n w k y)) come.comes (tested g c w m is.nodes may.0)
     ∙ ap (goes_on w m x) (answered n m w (c.nodes m) x plan here makes.steps) in
     let state : follows (w.nodes m) plan ≡ t = ap (λ (z : NodeState Bytes). follows z plan) here ∙ sym makes.follows in
+    let d = (c.nodes m).stored in
+    let asks = asked_same m d plan.change (command_of x) (steps_rise same n m (c.nodes m) x plan makes.steps) in
     record {
       events = Runs come.action ∷ [];
       world = subst (λ (z : World Bytes). IsWorld g (next c (Calls m x t out)) z) (sym e) (record {
         nodes = ap (λ (f : ℕ → NodeState Bytes). put f m (follows (w.nodes m) plan)) is.nodes ∙ ap (put c.nodes m) state;
         sent = are_append g w.sent (to_members plan.sends) c.sent (for_members out) is.sent
             (are_members g plan.sends out (subst (λ (z : List Datagram). AreSpelled g plan.sends z) (sym makes.handed) makes.spelled));
+        asked = ap (λ (z : NodeState Bytes). asked_by m z.stored.meta (command_of x) plan.change ++ w.asked) here
+            ∙ ap (λ (z : List (Entry Bytes)). z ++ w.asked) (sym asks)
+            ∙ ap (λ (z : NodeState Bytes). asked_of m d z.stored (command_of x) ++ w.asked) (sym makes.follows)
+            ∙ ap (λ (z : List (Entry Bytes)). asked_of m d t.stored (command_of x) ++ z) is.asked;
       });
     }
 
@@ -142,6 +185,8 @@ cut_short g c w m x left few is may =
             world = subst (λ (z : World Bytes). IsWorld g (next c (Stops m x left)) z) (sym e) (record {
               nodes = put_down c w m (w.nodes m).stored left is.nodes (stored ∙ sym was);
               sent = sent;
+              asked = is.asked ∙ ap (λ (z : List (Entry Bytes)). z ++ c.asked) (sym (none_asked m (c.nodes m).stored left (command_of x)
+                  (ap (λ (z : Record Bytes). z.meta.number) was)));
             });
           })
       | inr done ↦ (
@@ -155,6 +200,11 @@ cut_short g c w m x left few is may =
               nodes = put_down c w m (commit plan.change (w.nodes m).stored) left is.nodes
                   (ap (commit plan.change) stored ∙ sym done.2);
               sent = sent;
+              asked = ap (λ (z : Record Bytes). asked_by m z.meta (command_of x) plan.change ++ w.asked) stored
+                  ∙ ap (λ (z : List (Entry Bytes)). z ++ w.asked) (sym (asked_same m (c.nodes m).stored plan.change (command_of x)
+                      (steps_rise same n m (c.nodes m) x plan done.1)))
+                  ∙ ap (λ (z : Record Bytes). asked_of m (c.nodes m).stored z (command_of x) ++ w.asked) (sym done.2)
+                  ∙ ap (λ (z : List (Entry Bytes)). asked_of m (c.nodes m).stored left (command_of x) ++ z) is.asked;
             });
           })
     ]
@@ -169,6 +219,7 @@ opened g c w m is below =
       world = subst (λ (z : World Bytes). IsWorld g (next c (Opens m)) z) (sym e) (record {
         nodes = ap (λ (f : ℕ → NodeState Bytes). put f m (started (f m).stored)) is.nodes;
         sent = subst (λ (z : List (Envelope Bytes)). AreSpelled g z c.sent) (sym (append-nil w.sent)) is.sent;
+        asked = is.asked;
       });
     }
 
@@ -197,7 +248,7 @@ all g (h ∷ hs) c w few is may =
 
 pub from_start : (g : Group) → IsGroup g → (hs : List Happening) → MayAllHappen g hs begun → IsRun g (after hs begun)
 from_start g group hs may =
-    let f = all g hs begun start group.few (record { nodes = refl; sent = tt }) may in
+    let f = all g hs begun start group.few (record { nodes = refl; sent = tt; asked = refl }) may in
     record { events = f.events; world = f.world }
 
 -- what happens later happens in the world later
@@ -220,7 +271,7 @@ pub in_turn : (g : Group) → IsGroup g → (hs more : List Happening) → MayAl
     Later g (after hs begun) (after (hs ++ more) begun)
 in_turn g group hs more may =
     let parts = split g hs more begun may in
-    let f = all g hs begun start group.few (record { nodes = refl; sent = tt }) parts.0 in
+    let f = all g hs begun start group.few (record { nodes = refl; sent = tt; asked = refl }) parts.0 in
     let s = all g more (after hs begun) (run same g.members f.events start) group.few f.world parts.1 in
     record {
       before = f.events;

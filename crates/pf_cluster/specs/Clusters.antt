@@ -1,30 +1,37 @@
 -- Nodes over any records, and what may happen to them, in the words of a node's contracts.
-use Rattle.std.specs.Prelude.{◌≡◌, ◌⊎◌, ◌<◌, ℕ, true, false, List, [], ◌∷◌, ◌++◌, Some}
-use Rattle.std.specs.Prelude.{slice_get}
+use Rattle.std.specs.Prelude.{◌≡◌, ◌⊎◌, ◌<◌, ℕ, true, List, [], ◌∷◌, ◌++◌, Option, None, Some}
+use Rattle.std.specs.Prelude.{slice_get, nat_eq, if◌then◌else◌}
 use Rattle.px_model.specs.Node as node
-use Rattle.px_model.specs.Node.{Record, Input, asker}
+use Rattle.px_model.specs.Node.{Record, Input, Entry, asker}
 use Rattle.px_model.specs.Node.Input.{Asks, Ticks, Comes}
-use Rattle.px_model.specs.Step.{put, nothing_volatile}
-use Rattle.px_model.specs.World.{NodeState, nothing_stored, started}
+use Rattle.px_model.specs.Step.{put}
+use Rattle.px_model.specs.World.{NodeState, nothing_stored, started, command_of}
 use Rattle.px_model.specs.Spelling.{Bytes}
 use Rattle.px_wire.specs.Message.{Group, DatagramBytes}
 use Rattle.px_wire.specs.Members.{as_sent, Passing}
+use Rattle.px_replica.specs.Lives.{stopped, IsInput}
 use Rattle.px_replica.specs.Made.{Makes, LeavesOne}
+use Rattle.px_replica.specs.Spelled.{for_members}
 use Rattle.px_replica.specs.declared.datagram.Datagram.{Datagram}
-use Rattle.pf_lab.specs.Labs.{for_members}
 
--- The members' records and volatile parts, and all datagrams that were ever handed out to members, in order.
+-- The members' records and volatile parts, all datagrams that were ever handed out to members, in order, and all entries
+-- whose commands were ever asked and taken in, the last one first.
 pub record Cluster : Type 0 where
   pub nodes : (member : ℕ) → NodeState Bytes
   pub sent : List Datagram
+  pub asked : List (Entry Bytes)
 
 -- nodes that were opened with empty records
 abbrev pub begun : Cluster
-begun = record { nodes = λ m. started nothing_stored; sent = [] }
+begun = record { nodes = λ m. started nothing_stored; sent = []; asked = [] }
 
--- a node that doesn't run, with what its record was left as
-abbrev pub stopped : Record Bytes → NodeState Bytes
-stopped d = record { is_up = false; stored = d; volatile = nothing_volatile }
+-- A command that is asked of a member is taken in where the member's next number goes up: its entry has the number that
+-- was the next one.
+abbrev pub asked_of : (m : ℕ) → (before after : Record Bytes) → Option Bytes → List (Entry Bytes)
+asked_of m d e None = []
+asked_of m d e (Some command) =
+    if nat_eq e.meta.number d.meta.number then [] else
+    (record { origin = m; number = d.meta.number; command = command } ∷ [])
 
 -- What happens to a member.
 pub data Happening : Type 0 where
@@ -43,13 +50,16 @@ pub record WasSent (g : Group) (sent : List Datagram) (m sender : ℕ) (message 
   pub to_it : datagram.to ≡ m
   pub spelled : DatagramBytes g sender m (as_sent message) datagram.bytes.items
 
+-- what comes as a datagram was handed out to the member, or is a request from outside
+abbrev pub IsDelivered : Group → List Datagram → (m : ℕ) → Input Bytes → Type 0
+IsDelivered g sent m (Asks command) = Unit {0}
+IsDelivered g sent m Ticks = Unit {0}
+IsDelivered g sent m (Comes sender message) = WasSent g sent m sender message ⊎ (sender ≡ asker)
+
 -- What may come to a member: a command that is asked, its clock, a message that was sent to it, or a request from
 -- outside.
 abbrev pub MayCome : Group → List Datagram → (m : ℕ) → Input Bytes → Type 0
-MayCome g sent m (Asks command) = Unit {0}
-MayCome g sent m Ticks = Unit {0}
-MayCome g sent m (Comes sender message) =
-    Passing g.members sender m message × (WasSent g sent m sender message ⊎ (sender ≡ asker))
+MayCome g sent m x = IsInput g m x × IsDelivered g sent m x
 
 -- a member that runs
 pub record Runs (g : Group) (c : Cluster) (m : ℕ) : Type 0 where
@@ -66,9 +76,17 @@ MayHappen g c (Opens m) = m < g.members
 
 -- how the cluster stands then
 abbrev pub next : Cluster → Happening → Cluster
-next c (Calls m x t out) = record { nodes = put c.nodes m t; sent = c.sent ++ for_members out }
-next c (Stops m x left) = record { nodes = put c.nodes m (stopped left); sent = c.sent }
-next c (Opens m) = record { nodes = put c.nodes m (started (c.nodes m).stored); sent = c.sent }
+next c (Calls m x t out) = record {
+  nodes = put c.nodes m t;
+  sent = c.sent ++ for_members out;
+  asked = asked_of m (c.nodes m).stored t.stored (command_of x) ++ c.asked;
+}
+next c (Stops m x left) = record {
+  nodes = put c.nodes m (stopped left);
+  sent = c.sent;
+  asked = asked_of m (c.nodes m).stored left (command_of x) ++ c.asked;
+}
+next c (Opens m) = record c { nodes = put c.nodes m (started (c.nodes m).stored) }
 
 -- one after the other
 abbrev pub after : List Happening → Cluster → Cluster

@@ -2,7 +2,7 @@
 use Rattle.std.specs.Prelude.{◌≡◌, ℕ, ◌≤◌, false, List, ◌++◌, Some}
 use Rattle.px_model.specs.Node.{Entry}
 use Rattle.px_model.specs.World.{World, Event}
-use Rattle.px_model.specs.Law.{Agree, Once, Kept, world_after}
+use Rattle.px_model.specs.Law.{Among, NoneTwice, Agree, Once, Kept, world_after}
 use Rattle.px_model.specs.Spelling.{Bytes}
 use Rattle.px_records.specs.declared.records.Records.{Ghosts}
 use Rattle.px_wire.specs.Message.{Group}
@@ -14,10 +14,12 @@ use Rattle.pf_node.specs.declared.state.Node.{Node}
 use Rattle.pf_node.specs.Nodes.{applied_of, config_of, has_failed, records_of, state_in}
 use Rattle.pf_cluster.specs.Clusters.{Cluster, Happening, begun, after, MayAllHappen}
 
--- the cluster is this world: its members are the world's, and its datagrams spell the world's messages, in order
+-- The cluster is this world: its members are the world's, its datagrams spell the world's messages, in order, and what
+-- was asked is what was asked in the world.
 pub record IsWorld (g : Group) (c : Cluster) (w : World Bytes) : Type 0 where
   pub nodes : w.nodes ≡ c.nodes
   pub sent : AreSpelled g w.sent c.sent
+  pub asked : w.asked ≡ c.asked
 
 -- a cluster has 1 to 15 members
 pub record IsGroup (g : Group) : Type 0 where
@@ -45,6 +47,16 @@ NodesAgree =
 -- the member of the cluster has the entry as learned
 abbrev pub HasLearned : Cluster → (member position : ℕ) → Entry Bytes → Type 0
 HasLearned c m p e = (c.nodes m).stored.learned p ≡ Some e
+
+-- Whatever happens: what a member has as learned was asked and taken in before, and no entry was taken in twice; two
+-- that were, with one origin and one number, are one.
+abbrev pub LearnWhatWasAsked : Type 0
+LearnWhatWasAsked =
+    (g : Group) → IsGroup g → (history : List Happening) → MayAllHappen g history begun →
+    ((m p : ℕ) (e : Entry Bytes) → HasLearned (after history begun) m p e → Among (after history begun).asked e) ×
+    NoneTwice (after history begun).asked ×
+    ((e f : Entry Bytes) → Among (after history begun).asked e → Among (after history begun).asked f →
+    e.origin ≡ f.origin → e.number ≡ f.number → e ≡ f)
 
 -- At a moment one member has an entry as learned, at that moment or later another has one: at one position they are one
 -- entry, and one entry is at one position.

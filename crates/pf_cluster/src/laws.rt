@@ -1,6 +1,7 @@
 //! What holds of every cluster of nodes.
 
-ghost use Rattle.pf_cluster.specs.Promised.{HistoriesAreRuns, NodesAgree, NeverDiffer, EquallyApplied};
+ghost use Rattle.pf_cluster.specs.Promised.{HistoriesAreRuns, NodesAgree, LearnWhatWasAsked, NeverDiffer};
+ghost use Rattle.pf_cluster.specs.Promised.{EquallyApplied};
 
 use px_records::Records;
 
@@ -17,6 +18,11 @@ pub fn histories_are_runs()
 /// at two positions, and nothing learned is lost.
 pub fn nodes_agree()
     ensures { NodesAgree }
+{}
+
+/// A node learns nothing but what was asked of a node and taken in, and nothing is taken in twice.
+pub fn nodes_learn_what_was_asked()
+    ensures { LearnWhatWasAsked }
 {}
 
 /// At whatever moments: two nodes never have different entries as learned at a position, nor one entry at two

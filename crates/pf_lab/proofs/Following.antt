@@ -17,8 +17,9 @@ use Rattle.px_wire.specs.Message.{Group, group}
 use Rattle.px_replica.specs.Made.{same, answer}
 use Rattle.px_replica.specs.Spelled.{AreSpelled}
 use Rattle.px_replica.specs.declared.datagram.Datagram.{Datagram}
-use Rattle.pf_lab.specs.Labs.{IsAnswered, IsSeat, AreWorld, for_members}
-use Rattle.pf_lab.proofs.Telling.{are_append, are_members}
+use Rattle.px_replica.specs.Spelled.{for_members}
+use Rattle.pf_lab.specs.Labs.{IsAnswered, IsSeat, AreWorld}
+use Rattle.px_replica.proofs.Telling.{are_append, are_members}
 
 -- ---- one action in the world
 

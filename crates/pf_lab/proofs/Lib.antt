@@ -1,5 +1,4 @@
 pub mod Following
-pub mod Telling
 pub mod Taking
 pub mod Agreeing
 pub mod Learnings

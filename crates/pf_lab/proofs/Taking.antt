@@ -30,9 +30,10 @@ use Rattle.pf_lab.specs.declared.event.LabFault.TheVariants as fault
 use Rattle.pf_lab.specs.declared.event.Outcome.{Outcome}
 use Rattle.pf_lab.specs.declared.event.LabEvent.{LabEvent}
 use Rattle.pf_lab.specs.declared.coming.What.{What}
-use Rattle.pf_lab.specs.Labs.{IsAnswered, IsSeat, SeatsAre, state_of, group_of, for_members, cluster_of}
+use Rattle.px_replica.specs.Spelled.{for_members}
+use Rattle.pf_lab.specs.Labs.{IsAnswered, IsSeat, SeatsAre, state_of, group_of, cluster_of}
 use Rattle.pf_lab.specs.declared.seat.Seat.{Seat}
-use Rattle.pf_lab.proofs.Telling.{one_message}
+use Rattle.px_replica.proofs.Telling.{one_message}
 use Rattle.pf_lab.proofs.Following.{lab_runs, lab_same, lab_stops_after, emptied_state}
 
 -- ---- answers

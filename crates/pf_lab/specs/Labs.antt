@@ -6,7 +6,7 @@ use Rattle.px_model.specs.World.{World, NodeState, follows}
 use Rattle.px_model.specs.Spelling.{Bytes}
 use Rattle.px_wire.specs.declared.membership.Membership.{Membership}
 use Rattle.px_wire.specs.Message.{Group, group}
-use Rattle.px_replica.specs.Spelled.{AreSpelled}
+use Rattle.px_replica.specs.Spelled.{AreSpelled, for_members}
 use Rattle.px_replica.specs.declared.datagram.Datagram.{Datagram}
 use Rattle.px_replica.specs.declared.fault.NodeFault.{NodeFault}
 use Rattle.px_replica.specs.declared.fault.NodeFault.TheVariants as fault
@@ -23,10 +23,6 @@ state_of s = record { is_up = s.is_up; stored = (state_in s.node).stored; volati
 
 abbrev pub group_of : Seat → Membership
 group_of s = membership_of s.node
-
--- the datagrams that go to members
-abbrev pub for_members : List Datagram → List Datagram
-for_members out = filter (λ (d : Datagram). not (nat_eq d.to asker)) out
 
 -- a member did what the model answers: nothing where it refuses, else the plan
 abbrev pub IsAnswered : Group → Answer Bytes → (s t : NodeState Bytes) → List Datagram → Type 0

@@ -11,7 +11,8 @@ ghost use Rattle.px_wire.specs.Message.{Group};
 ghost use Rattle.px_replica.specs.Made.{same};
 ghost use Rattle.px_replica.specs.declared.datagram.Datagram as datagrams;
 ghost use Rattle.pf_lab.specs.Coming.{Came, IsAskable};
-ghost use Rattle.pf_lab.specs.Labs.{SeatsAre, for_members};
+ghost use Rattle.px_replica.specs.Spelled.{for_members};
+ghost use Rattle.pf_lab.specs.Labs.{SeatsAre};
 ghost use Rattle.pf_lab.specs.Outcomes.{Tells, is_unknown, outcome_in};
 ghost use Rattle.px_core.specs.declared.limits.TheConstants.{MEMBERS};
 

@@ -1,6 +1,6 @@
 //! The calls of a node.
 
-ghost use Rattle.std.specs.Prelude.{◌≡◌, ◌≢◌, ◌⊎◌, ◌≤◌, true, false, Err, IfOk, OnOk, IsTrue, Some, [], option_map};
+ghost use Rattle.std.specs.Prelude.{◌≡◌, ◌≢◌, ◌⊎◌, ◌≤◌, true, false, Err, IfOk, OnOk, IsTrue, Some, [], option_map, length, is_some};
 ghost use Rattle.pf_entry.specs.Owned.{is_over};
 ghost use Rattle.pf_eval.specs.Seen.{judgement_of};
 ghost use Rattle.pf_eval.specs.Verdicts.{judgement};
@@ -10,6 +10,7 @@ ghost use Rattle.px_model.specs.Spelling.{spelled};
 ghost use Rattle.px_model.specs.Entries.{view_of};
 ghost use Rattle.px_wire.specs.Sent.{is_command};
 ghost use Rattle.px_replica.specs.Calls.{Call, Receives};
+ghost use Rattle.px_replica.specs.Faults.{fault_of};
 ghost use Rattle.px_replica.specs.Replicas.{MatchReceived};
 ghost use Rattle.pf_node.specs.Applied.{after};
 ghost use Rattle.pf_node.specs.Asked.{unnamed, bytes_of};
@@ -33,7 +34,8 @@ impl<R: Records> Node<R> {
     /// where every position is learned or every number used: then, and where memory is wanting, all is as it was.
     /// `Store` and `BadStore` are the record's; after either the node is failed, and answers `Failed` before all else.
     pub fn ask(&mut self, command: &Command) -> Result<u64, NodeFault>
-        ensures call { Call (replica_of self.old) (replica_of self.new) (Asks (bytes_of command.now)) [] [] result }
+        ensures call { Call (replica_of self.old) (replica_of self.new) (Asks (bytes_of command.now)) [] []
+            (fault_of result) }
         ensures number { R.is_honest (records_of self.new) →
             IfOk result (λ k. k ≡ (R.stored (records_of self.old)).meta.number) }
         ensures long { result ≡ Err NodeFault.TooLong → IsTrue (is_over (unnamed command.now)) }
@@ -59,7 +61,7 @@ impl<R: Records> Node<R> {
     pub fn ask_entry(&mut self, entry: &EntryView) -> Result<u64, NodeFault>
         requires { is_command (view_of entry.now).command ≡ true }
         ensures call { Call (replica_of self.old) (replica_of self.new) (Asks (view_of entry.now).command) [] []
-            result }
+            (fault_of result) }
         ensures number { R.is_honest (records_of self.new) →
             IfOk result (λ k. k ≡ (R.stored (records_of self.old)).meta.number) }
         ensures long { result ≢ Err NodeFault.TooLong }
@@ -75,7 +77,8 @@ impl<R: Records> Node<R> {
     /// `Memory` also where what was learned can't be applied: then there was no event. `BallotsSpent` where a round is
     /// needed and every one is used; the rest is as for `ask`.
     pub fn tick(&mut self, out: &mut Vec<Datagram>) -> Result<(), NodeFault>
-        ensures call { Call (replica_of self.old) (replica_of self.new) Ticks out.old.items out.new.items result }
+        ensures call { Call (replica_of self.old) (replica_of self.new) Ticks out.old.items out.new.items
+            (fault_of result) }
         ensures long { result ≢ Err NodeFault.TooLong }
         ensures log { R.is_honest (records_of self.new) → learned_by self.new ≡ learned_by self.old }
         ensures grows { applied_of self.old ≤ applied_of self.new }
@@ -132,6 +135,27 @@ impl<R: Records> Node<R> {
         ensures within { result ≤ positions }
     {
         self.replica.front()
+    }
+
+    /// How many commands wait to be proposed, 64 at most.
+    pub fn waiting(&self) -> usize
+        ensures { result ≡ length (state_in self.now).volatile.waiting }
+    {
+        self.replica.waiting()
+    }
+
+    /// Whether an attempt is under way: a command is being proposed, and its outcome isn't known yet.
+    pub fn is_attempting(&self) -> bool
+        ensures { result ≡ is_some (state_in self.now).volatile.attempt }
+    {
+        self.replica.is_attempting()
+    }
+
+    /// Whether the node has the lead: a majority has promised it all positions from one on.
+    pub fn is_leading(&self) -> bool
+        ensures { result ≡ is_some (state_in self.now).volatile.lead }
+    {
+        self.replica.is_leading()
     }
 
     /// How many positions are applied, at most `front`.

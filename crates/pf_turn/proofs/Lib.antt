@@ -1,1 +1,2 @@
-pub mod Given
+mod Given
+mod Chains

@@ -1,6 +1,6 @@
 -- What a datagram spells is a message as it was sent, and what its step comes to.
 use Rattle.std.proofs.Common.{◌≡◌, ◌∙◌, ℕ, ◌≤◌, ◌^◌, List, [], refl, sym, ap, subst}
-use Rattle.std.specs.Prelude.{OnOk, Result, Ok, Err, nat_le, nat_eq, length}
+use Rattle.std.specs.Prelude.{nat_le, nat_eq, length}
 use Rattle.std.proofs.lemmas.Bool.{cond_both}
 use Rattle.px_model.specs.Node as node
 use Rattle.px_model.specs.Node.{Record, Volatile, Meta, Log, Plan, Answer, Input, Envelope}
@@ -101,9 +101,9 @@ asks_send_nothing n me s c plan h =
     sym (ap sends_of h) ∙ ask_sends_nothing me s.stored.meta s.stored.learned s.volatile c
 
 -- nothing is sent for a command that is asked by a call
-pub ask_makes : {E : Type 0} (r : Result ℕ E) (g : Group) (me : ℕ) (s t : NodeState Bytes) (c : Bytes) (old new : List Datagram) →
-    OnOk r (Makes g me s t (Asks c) old new) → OnOk r (Makes g me s t (Asks c) [] [])
-ask_makes (Ok k) g me s t c old new m = record {
+pub ask_makes : (g : Group) (me : ℕ) (s t : NodeState Bytes) (c : Bytes) (old new : List Datagram) →
+    Makes g me s t (Asks c) old new → Makes g me s t (Asks c) [] []
+ask_makes g me s t c old new m = record {
   plan = m.plan;
   steps = m.steps;
   follows = m.follows;
@@ -111,7 +111,6 @@ ask_makes (Ok k) g me s t c old new m = record {
   handed = refl;
   spelled = subst (λ (xs : List (Envelope Bytes)). AreSpelled g xs []) (sym (asks_send_nothing g.members me s c m.plan m.steps)) tt;
 }
-ask_makes (Err e) g me s t c old new m = tt
 
 -- a tick learns nothing
 pub tick_learned : (g : Group) (me : ℕ) (s t : NodeState Bytes) (old new : List Datagram) → Makes g me s t Ticks old new →

@@ -5,3 +5,5 @@ pub mod Planned
 pub mod Copied
 pub mod Steps
 pub mod Heard
+pub mod Called
+pub mod Telling

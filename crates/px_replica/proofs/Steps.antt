@@ -1,6 +1,6 @@
 -- What a committed step leaves.
 use Rattle.std.proofs.Common.{◌≡◌, ◌↔◌, ℕ, zero, suc, ◌≤◌, ◌<◌, true, inl, inr, Option, Some, None, refl, subst, arith}
-use Rattle.std.specs.Prelude.{IfSome, Ok, Err, max, is_some}
+use Rattle.std.specs.Prelude.{IfSome, Result, Ok, Err, max, is_some}
 use Rattle.std.proofs.Math.Nat.{le-max_right}
 use Rattle.px_model.specs.Node.{Record, Change, Plan, Input}
 use Rattle.px_model.specs.Node.Change.{NewRound, NewNumber, NewFloor, NewPromise, NewAccepted, NewLearned}
@@ -88,3 +88,19 @@ stores_fault store.Memory (inl e) = absurd cc
 stores_fault store.Memory (inr e) = absurd cc
 stores_fault store.Failed e = inl refl
 stores_fault store.BadStore e = inr refl
+
+-- whichever call it is that finds a bad row
+pub bad_row : {X Y : Type 0} (f : StoreFault) → ◌≡◌ {A = Result X StoreFault} (Err f) (Err store.BadStore) →
+    ◌≡◌ {A = Result Y StoreFault} (Err f) (Err store.BadStore)
+bad_row store.Memory e = absurd cc
+bad_row store.Failed e = absurd cc
+bad_row store.BadStore e = refl
+
+-- a call that finds a bad row leaves no failure
+pub bad_unfailed : {X : Type 0} (n : ℕ) (f : StoreFault) → ◌≡◌ {A = Result X StoreFault} (Err f) (Err store.BadStore) →
+    (◌≡◌ {A = Result X StoreFault} (Err f) (Err store.Failed) ↔ (0 < n)) → n ≡ 0
+bad_unfailed zero f e counts = refl
+bad_unfailed (suc n) store.Memory e counts = absurd cc
+bad_unfailed {X} (suc n) store.Failed e counts = absurd cc
+bad_unfailed {X} (suc n) store.BadStore e counts =
+    let h : ◌≡◌ {A = Result X StoreFault} (Err store.BadStore) (Err store.Failed) = counts.1 (omega arith) in cc

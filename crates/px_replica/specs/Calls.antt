@@ -1,6 +1,6 @@
 -- What a call on a member with its record did, by what it answered.
 use Rattle.std.specs.Prelude.{◌≡◌, ◌≢◌, ◌⊎◌, ◌↔◌, ◌<◌, ◌≤◌, ◌+◌, ℕ, true, false, List, length, Result, Ok, Err}
-use Rattle.std.specs.Prelude.{IfOk, IfErr, IfSome, OnOk, OnErr}
+use Rattle.std.specs.Prelude.{Option, Some, None, IsSome, IfOk, IfErr, IfSome}
 use Rattle.px_model.specs.Node as node
 use Rattle.px_model.specs.Node.{Record, Input}
 use Rattle.px_model.specs.Node.Input.{Comes}
@@ -17,7 +17,7 @@ use Rattle.px_wire.specs.declared.fault.WireFault.{WireFault}
 use Rattle.px_wire.specs.Message.{group, DatagramBytes}
 use Rattle.px_wire.specs.Members.{as_sent, Passing}
 use Rattle.px_wire.specs.Sent.{is_command}
-use Rattle.px_replica.specs.Faults.{IsRefusedBy, IsOfStore, IsStoreFault, IsReceiveFault, IsOpenFault, SomeFails}
+use Rattle.px_replica.specs.Faults.{fault_of, IsRefusedBy, IsOfStore, IsOfTheStore, IsReceiveFault, IsOpenFault, SomeFails}
 use Rattle.px_replica.specs.Made.{answer, Makes, LeavesOne}
 use Rattle.px_replica.specs.Replicas.{records_of, learned_by, membership_of, has_failed, state_in, IsUnspelled}
 use Rattle.px_replica.specs.Seen.{IsSound}
@@ -52,43 +52,44 @@ AreBad G r n (reads.SlotAndTop p) = IsBadSlot G r n p ⊎ (G.is_good r LastSlot 
 -- ---- calls
 
 -- A call for an input, from one state of the member to another; `old` is what was to be sent before it, `new` what is
--- after it. What is said of values holds where the record is honest as the call ends.
-pub record Call {R X : Type 0} {G : Ghosts R} (s t : Replica R G) (x : Input Bytes) (old new : List Datagram)
-    (result : Result X NodeFault) : Type 0 where
+-- after it; `answered` is the fault, if there is one. What is said of values holds where the record is honest as the
+-- call ends.
+pub record Call {R : Type 0} {G : Ghosts R} (s t : Replica R G) (x : Input Bytes) (old new : List Datagram)
+    (answered : Option NodeFault) : Type 0 where
   -- an honest record was honest before
   pub was : G.is_honest (records_of t) → G.is_honest (records_of s)
-  -- Ok: the step of the model was made, and its messages are to be sent
-  pub made : G.is_honest (records_of t) → OnOk result
-      (Makes (group (membership_of s)) (membership_of s).me (state_in s) (state_in t) x old new)
+  -- without a fault the step of the model was made, and its messages are to be sent
+  pub made : G.is_honest (records_of t) → answered ≡ None →
+      Makes (group (membership_of s)) (membership_of s).me (state_in s) (state_in t) x old new
   -- a refusal is the model's
-  pub refused : G.is_honest (records_of t) → IfErr result
+  pub refused : G.is_honest (records_of t) → IfSome answered
       (λ e. IsRefusedBy e (answer (membership_of s).members (membership_of s).me (state_in s) x))
   -- after a fault nothing is sent, and all is as it was; but after a failure the record may have the change
-  pub silent : OnErr result (new ≡ old)
-  pub volatile : OnErr result ((state_in t).volatile ≡ (state_in s).volatile)
-  pub stays : G.is_honest (records_of t) → OnErr result (result ≢ Err fault.Store → state_in t ≡ state_in s)
+  pub silent : IsSome answered → new ≡ old
+  pub volatile : IsSome answered → (state_in t).volatile ≡ (state_in s).volatile
+  pub stays : G.is_honest (records_of t) → IsSome answered → answered ≢ Some fault.Store → state_in t ≡ state_in s
   -- whenever the member stops meanwhile, its record is left as it was, or with the change of the step
   pub stop : has_failed s ≡ false → G.is_honest (records_of t) → (left : Record Bytes) →
       G.may_leave (records_of t) left →
       LeavesOne (membership_of s).members (membership_of s).me (state_in s) x left
   -- 80 comes from a failed member and from no other, and nothing changes then
-  pub failed : (result ≡ Err fault.Failed) ↔ (has_failed s ≡ true)
+  pub failed : (answered ≡ Some fault.Failed) ↔ (has_failed s ≡ true)
   pub still : has_failed s ≡ true → t ≡ s
   -- 70 and 72 make it a failed one: 70 comes where a call on the record failed and nowhere else, 72 only for a bad row
-  pub fails : has_failed s ≡ false → ((has_failed t ≡ true) ↔ IsStoreFault result)
-  pub counts : has_failed s ≡ false → ((result ≡ Err fault.Store) ↔ (0 < G.failed (records_of t)))
-  pub bad : G.is_honest (records_of t) → result ≡ Err fault.BadStore →
+  pub fails : has_failed s ≡ false → ((has_failed t ≡ true) ↔ IsOfTheStore answered)
+  pub counts : has_failed s ≡ false → ((answered ≡ Some fault.Store) ↔ (0 < G.failed (records_of t)))
+  pub bad : G.is_honest (records_of t) → answered ≡ Some fault.BadStore →
       AreBad G (records_of s) (membership_of s).members (reads_of x)
   pub why : G.is_honest (records_of t) → IsSound (membership_of s).members (G.stored (records_of s)) →
-      IsStoreFault result → SomeFails G.may_fail
+      IsOfTheStore answered → SomeFails G.may_fail
   -- a record of which every row can be told stays one
   pub sound : G.is_honest (records_of t) → IsSound (membership_of s).members (G.stored (records_of s)) →
-      OnOk result (IsSound (membership_of s).members (G.stored (records_of t)))
+      answered ≡ None → IsSound (membership_of s).members (G.stored (records_of t))
   -- what was learned below the first gap stays, and the gap doesn't fall back
   pub below : (p : ℕ) → p < front (learned_by s) → learned_by t p ≡ learned_by s p
   pub front : front (learned_by s) ≤ front (learned_by t)
   -- a call sends to each member once at most
-  pub few : OnOk result (length new ≤ length old + MEMBERS)
+  pub few : answered ≡ None → length new ≤ length old + MEMBERS
   pub membership : membership_of t ≡ membership_of s
 
 -- ---- datagrams
@@ -119,7 +120,7 @@ pub record IsTaken {R : Type 0} {G : Ghosts R} (s t : Replica R G) (bytes : Byte
   pub message : node.Message Bytes
   pub passes : Passing (membership_of s).members sender (membership_of s).me message
   pub spelled : DatagramBytes (group (membership_of s)) sender (membership_of s).me (as_sent message) bytes
-  pub call : Call s t (Comes sender message) old new result
+  pub call : Call s t (Comes sender message) old new (fault_of result)
   pub answered : IfOk result (λ r. r ≡ received.Done)
   pub unrefused : G.is_honest (records_of t) → IfErr result IsReceiveFault
 
@@ -142,5 +143,5 @@ pub record OpenRefused {R : Type 0} (G : Ghosts R) (members : ℕ) (given : R) (
   pub counts : G.failed given ≡ 0 → ((e ≡ fault.Store) ↔ (0 < G.failed back))
   pub bad : G.is_honest back → e ≡ fault.BadStore → HasBadEntry G given members
   pub why : G.is_honest back → IsSound members (G.stored given) → IsOfStore e → SomeFails G.may_fail
-  pub members : G.members back ≡ G.members given
+  pub same : G.members back ≡ G.members given
   pub few : IsOpenFault e

@@ -1,5 +1,5 @@
 -- Faults of the layers below, as a node answers them.
-use Rattle.std.specs.Prelude.{◌≡◌, Result, Ok, Err}
+use Rattle.std.specs.Prelude.{◌≡◌, Option, Some, None, Result, Ok, Err}
 use Rattle.px_model.specs.Node.{Answer}
 use Rattle.px_model.specs.Node.Answer.{Refused}
 use Rattle.px_model.specs.Spelling.{Bytes}
@@ -57,6 +57,16 @@ IsOfStore fault.PositionsSpent = ⊥
 abbrev pub IsStoreFault : {X : Type 0} → Result X NodeFault → Type 0
 IsStoreFault (Ok x) = ⊥
 IsStoreFault (Err e) = IsOfStore e
+
+-- the fault that a call answers, if it does
+abbrev pub fault_of : {X : Type 0} → Result X NodeFault → Option NodeFault
+fault_of (Ok x) = None
+fault_of (Err e) = Some e
+
+-- 70 or 72 was answered
+abbrev pub IsOfTheStore : Option NodeFault → Type 0
+IsOfTheStore None = ⊥
+IsOfTheStore (Some e) = IsOfStore e
 
 -- one of these records may fail
 abbrev pub SomeFails : {R : Type 0} → (R → Type 0) → Type 0

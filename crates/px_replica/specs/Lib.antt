@@ -5,4 +5,5 @@ pub mod Members
 pub mod Made
 pub mod Replicas
 pub mod Calls
+pub mod Lives
 pub mod inner

@@ -1,7 +1,7 @@
 -- Messages on their way as bytes.
-use Rattle.std.specs.Prelude.{◌≡◌, ℕ, List, [], ◌∷◌}
+use Rattle.std.specs.Prelude.{◌≡◌, ℕ, not, nat_eq, filter, List, [], ◌∷◌}
 use Rattle.px_model.specs.Node as node
-use Rattle.px_model.specs.Node.{Envelope}
+use Rattle.px_model.specs.Node.{Envelope, asker}
 use Rattle.px_model.specs.Fits.{Passes, EnvelopeFits}
 use Rattle.px_model.specs.Spelling.{Bytes}
 use Rattle.px_wire.specs.Message.{Group, DatagramBytes}
@@ -25,3 +25,7 @@ AreSpelled g [] [] = Unit {0}
 AreSpelled g [] (d ∷ ds) = ⊥
 AreSpelled g (x ∷ xs) [] = ⊥
 AreSpelled g (x ∷ xs) (d ∷ ds) = IsSpelled g x d × AreSpelled g xs ds
+
+-- the datagrams that go to members; what goes to an asker is nobody's to deliver
+abbrev pub for_members : List Datagram → List Datagram
+for_members out = filter (λ (d : Datagram). not (nat_eq d.to asker)) out

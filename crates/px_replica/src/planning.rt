@@ -1,7 +1,7 @@
 //! What a member does on an event, and what it keeps.
 
 ghost use Rattle.std.specs.Prelude.{◌≡◌, ◌≤◌, ◌<◌, ℕ, IfOk, IfSome, OnOk, OnErr, MatchResult};
-ghost use Rattle.std.specs.Prelude.{option_map, Some, None};
+ghost use Rattle.std.specs.Prelude.{option_map, Some, None, length, is_some};
 ghost use Rattle.px_model.specs.Node.{Record};
 ghost use Rattle.px_model.specs.Node.Answer.{Planned};
 ghost use Rattle.px_model.specs.Step.{front, put, positions, nothing_volatile};
@@ -58,6 +58,27 @@ impl Member {
         ensures { option_map (λ e. entry_of e.now) result ≡ log_of self.now position }
     {
         self.core.learned(position)
+    }
+
+    /// How many commands wait to be proposed.
+    pub(crate) fn waiting(&self) -> usize
+        ensures { result ≡ length (volatile_of self.now).waiting }
+    {
+        self.core.waiting()
+    }
+
+    /// Whether an attempt is under way.
+    pub(crate) fn is_attempting(&self) -> bool
+        ensures { result ≡ is_some (volatile_of self.now).attempt }
+    {
+        self.core.is_attempting()
+    }
+
+    /// Whether it has the lead.
+    pub(crate) fn is_leading(&self) -> bool
+        ensures { result ≡ is_some (volatile_of self.now).lead }
+    {
+        self.core.is_leading()
     }
 
     /// What the member does on this event, where what was read is the record's.

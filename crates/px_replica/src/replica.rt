@@ -1,6 +1,6 @@
 //! The calls of a member with its record.
 
-ghost use Rattle.std.specs.Prelude.{◌≡◌, ◌≢◌, ◌<◌, true, false, Err, IfErr, IfOk, [], option_map};
+ghost use Rattle.std.specs.Prelude.{◌≡◌, ◌≢◌, ◌<◌, ◌≤◌, true, false, Err, IfErr, IfOk, OnErr, [], option_map, length, is_some};
 ghost use Rattle.px_model.specs.Node.Input.{Asks, Ticks};
 ghost use Rattle.px_model.specs.Step.{front, nothing_volatile, positions};
 ghost use Rattle.px_model.specs.Entries.{entry_of, view_of};
@@ -8,7 +8,7 @@ ghost use Rattle.px_model.specs.Fits.{Passes, InputFits};
 ghost use Rattle.px_model.specs.Views.{input_of};
 ghost use Rattle.px_wire.specs.Sent.{is_command};
 ghost use Rattle.px_replica.specs.Calls.{Call, Receives};
-ghost use Rattle.px_replica.specs.Faults.{IsFromBelow};
+ghost use Rattle.px_replica.specs.Faults.{fault_of, IsFromBelow};
 ghost use Rattle.px_replica.specs.Replicas.{records_of, learned_by, membership_of, has_failed, state_in};
 
 use crate::act::act;
@@ -26,10 +26,12 @@ impl<R: Records> Replica<R> {
         requires works { has_failed self.old ≡ false }
         requires event { InputFits (Passes is_command) (membership_of self.old).members (membership_of self.old).me
             (input_of event.now) }
-        ensures call { Call self.old self.new (input_of event.now) out.old.items out.new.items result }
+        ensures call { Call self.old self.new (input_of event.now) out.old.items out.new.items
+            (fault_of result) }
         ensures number { R.is_honest (records_of self.new) →
             IfOk result (λ k. k ≡ (R.stored (records_of self.old)).meta.number) }
         ensures own { IfErr result IsFromBelow }
+        ensures log { OnErr result (learned_by self.new ≡ learned_by self.old) }
     {
         match act(self.alloc, &mut self.records, &mut self.member, event, out) {
             Ok(acted) => {
@@ -52,7 +54,7 @@ impl<R: Records> Replica<R> {
     /// either the replica is failed, and answers `Failed` to every call.
     pub fn ask(&mut self, entry: &EntryView) -> Result<u64, NodeFault>
         requires { is_command (view_of entry.now).command ≡ true }
-        ensures call { Call self.old self.new (Asks (view_of entry.now).command) [] [] result }
+        ensures call { Call self.old self.new (Asks (view_of entry.now).command) [] [] (fault_of result) }
         ensures number { R.is_honest (records_of self.new) →
             IfOk result (λ k. k ≡ (R.stored (records_of self.old)).meta.number) }
         ensures long { result ≢ Err NodeFault.TooLong }
@@ -67,7 +69,7 @@ impl<R: Records> Replica<R> {
     /// The clock ticks. What is sent is appended after the commit. Refused with `BallotsSpent` where a round is needed
     /// and every one is used; the rest is as for `ask`.
     pub fn tick(&mut self, out: &mut Vec<Datagram>) -> Result<(), NodeFault>
-        ensures call { Call self.old self.new Ticks out.old.items out.new.items result }
+        ensures call { Call self.old self.new Ticks out.old.items out.new.items (fault_of result) }
         ensures long { result ≢ Err NodeFault.TooLong }
         ensures log { R.is_honest (records_of self.new) → learned_by self.new ≡ learned_by self.old }
     {
@@ -121,6 +123,27 @@ impl<R: Records> Replica<R> {
             result ≡ (R.stored (records_of self.now)).meta.round }
     {
         self.round
+    }
+
+    /// How many commands wait to be proposed, 64 at most.
+    pub fn waiting(&self) -> usize
+        ensures { result ≡ length (state_in self.now).volatile.waiting }
+    {
+        self.member.waiting()
+    }
+
+    /// Whether an attempt is under way: a command is being proposed, and its outcome isn't known yet.
+    pub fn is_attempting(&self) -> bool
+        ensures { result ≡ is_some (state_in self.now).volatile.attempt }
+    {
+        self.member.is_attempting()
+    }
+
+    /// Whether the member has the lead: a majority has promised it all positions from one on.
+    pub fn is_leading(&self) -> bool
+        ensures { result ≡ is_some (state_in self.now).volatile.lead }
+    {
+        self.member.is_leading()
     }
 
     /// Who takes part, and which member this is.

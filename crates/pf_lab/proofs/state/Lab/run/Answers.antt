@@ -6,7 +6,8 @@ use Rattle.px_replica.specs.Made.{same}
 use Rattle.px_model.specs.World.{happens}
 use Rattle.px_model.specs.World.Event.{Runs}
 use Rattle.pf_lab.specs.Coming.{action_of}
-use Rattle.pf_lab.specs.Labs.{SeatsAre, for_members}
+use Rattle.px_replica.specs.Spelled.{for_members}
+use Rattle.pf_lab.specs.Labs.{SeatsAre}
 use Rattle.pf_lab.proofs.state.Lab.run.Goals as goal
 
 pub returns-clause-happens : goal.returns-clause-happens

@@ -1,41 +1,57 @@
 -- the message that was decoded was sent
-use Rattle.std.proofs.Common.{inr}
+use Rattle.std.proofs.Common.{inl, inr, refl, sym, subst}
 use Rattle.px_model.specs.Views.{come_of}
+use Rattle.px_wire.specs.Message.{group, DatagramBytes}
+use Rattle.px_wire.specs.declared.membership.Membership.{Membership}
 use Rattle.px_replica.specs.Replicas.{membership_of, state_in}
 use Rattle.px_replica.proofs.Heard.{heard, comes_unrefused}
 use Rattle.px_replica.proofs.state.Replica.receive.Goals as goal
 
-pub returns-in-Ok-step-clause-made : goal.returns-in-Ok-step-clause-made
-returns-in-Ok-step-clause-made g c honest =
+pub returns-in-Ok-step : goal.returns-in-Ok-step
+returns-in-Ok-step g c =
     let m = membership_of c.args.self.now in
     let h = heard m c.group.result c.in-Ok.sender c.in-Ok.message c.args.bytes.now c.group.ensures.group c.in-Ok.ensures.found c.in-Ok.ensures.fits in
     record {
-      sender = c.in-Ok.sender;
-      message = come_of c.in-Ok.message;
-      passes = h.0;
-      spelled = h.1;
-      makes = c.in-Ok-step.ensures.made honest;
+      received = inr (inr (record {
+        works = c.if-self.false;
+        sender = c.in-Ok.sender;
+        message = come_of c.in-Ok.message;
+        passes = h.0;
+        spelled = h.1;
+        call = c.in-Ok-step.ensures.call;
+        answered = refl;
+        unrefused = λ honest. tt;
+      }));
     }
 
-pub returns-in-Ok-step-clause-stop : goal.returns-in-Ok-step-clause-stop
-returns-in-Ok-step-clause-stop g c works honest left may =
+pub returns-in-Err-step : goal.returns-in-Err-step
+returns-in-Err-step g c =
     let m = membership_of c.args.self.now in
     let h = heard m c.group.result c.in-Ok.sender c.in-Ok.message c.args.bytes.now c.group.ensures.group c.in-Ok.ensures.found c.in-Ok.ensures.fits in
-    inr (c.in-Ok.sender, come_of c.in-Ok.message, h.0, h.1, c.step.ensures.stop honest left may)
+    let e = c.in-Err-step.ensures in
+    record {
+      received = inr (inr (record {
+        works = c.if-self.false;
+        sender = c.in-Ok.sender;
+        message = come_of c.in-Ok.message;
+        passes = h.0;
+        spelled = h.1;
+        call = e.call;
+        answered = tt;
+        unrefused = λ honest.
+            comes_unrefused m.members m.me c.in-Ok.sender (state_in c.args.self.now) (come_of c.in-Ok.message) c.in-Err-step.fault e.own (e.call.refused honest);
+      }));
+    }
 
-pub returns-in-Err-step-clause-spelled : goal.returns-in-Err-step-clause-spelled
-returns-in-Err-step-clause-spelled g c works none =
-    let m = membership_of c.args.self.now in
-    let h = heard m c.group.result c.in-Ok.sender c.in-Ok.message c.args.bytes.now c.group.ensures.group c.in-Ok.ensures.found c.in-Ok.ensures.fits in
-    none c.in-Ok.sender _ h.1
-
-pub returns-in-Err-step-clause-unrefused : goal.returns-in-Err-step-clause-unrefused
-returns-in-Err-step-clause-unrefused g c honest =
-    let m = membership_of c.args.self.now in
-    comes_unrefused m.members m.me c.in-Ok.sender (state_in c.args.self.now) (come_of c.in-Ok.message) c.in-Err-step.fault c.in-Err-step.ensures.own (c.in-Err-step.ensures.refused honest)
-
-pub returns-in-Err-step-clause-stop : goal.returns-in-Err-step-clause-stop
-returns-in-Err-step-clause-stop g c works honest left may =
-    let m = membership_of c.args.self.now in
-    let h = heard m c.group.result c.in-Ok.sender c.in-Ok.message c.args.bytes.now c.group.ensures.group c.in-Ok.ensures.found c.in-Ok.ensures.fits in
-    inr (c.in-Ok.sender, come_of c.in-Ok.message, h.0, h.1, c.step.ensures.stop honest left may)
+pub returns-in-Err : goal.returns-in-Err
+returns-in-Err g c = record {
+  received = inr (inl (record {
+    works = c.if-self.false;
+    unspelled = λ from x spells. c.in-Err.ensures.only from x
+        (subst (λ (z : Membership). DatagramBytes (group z) from z.me x c.args.bytes.now) (sym c.group.ensures.group) spells);
+    fault = c.in-Err.fault;
+    answered = refl;
+    still = refl;
+    silent = refl;
+  }));
+}

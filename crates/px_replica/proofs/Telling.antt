@@ -11,8 +11,7 @@ use Rattle.px_wire.specs.Members.{as_sent, as_heard, Passing}
 use Rattle.px_wire.proofs.Fronts.{no_front}
 use Rattle.px_wire.proofs.Members.{heard_as_sent}
 use Rattle.px_replica.specs.declared.datagram.Datagram.{Datagram}
-use Rattle.px_replica.specs.Spelled.{IsSpelled, AreSpelled}
-use Rattle.pf_lab.specs.Labs.{for_members}
+use Rattle.px_replica.specs.Spelled.{IsSpelled, AreSpelled, for_members}
 use Rattle.std.proofs.lemmas.List.{append-nil}
 
 pub are_append : (g : Group) (xs ys : List (Envelope Bytes)) (ds es : List Datagram) →

@@ -1,0 +1,71 @@
+-- Turns one after the other.
+use Rattle.std.proofs.Common.{◌≡◌, ◌∙◌, ℕ, zero, suc, List, [], Option, Some, None, Bool, true, false, refl, sym, subst}
+use Rattle.std.specs.Prelude.{option_map, take, is_some, not}
+use Rattle.px_model.specs.Spelling.{Bytes}
+use Rattle.px_records.specs.declared.records.Records.{Ghosts}
+use Rattle.px_replica.specs.declared.fault.NodeFault.{NodeFault}
+use Rattle.px_replica.specs.declared.state.Replica.{Replica}
+use Rattle.px_transport.specs.Wires.{GrowsBy, Gives}
+use Rattle.pf_turn.specs.Turns.{Acts, Stand, Turned, Same, Turns, Ends, Served, handed_over}
+
+pub same_then : {R : Type 0} {G : Ghosts R} (x y z : Stand G) → Same x y → Same y z → Same x z
+same_then x y z s t = record {
+  replica = t.replica ∙ s.replica;
+  given = t.given ∙ s.given;
+  handed = t.handed ∙ s.handed;
+}
+
+pub same_all : {R : Type 0} {G : Ghosts R} (x : Stand G) → Same x x
+same_all x = record { replica = refl; given = refl; handed = refl }
+
+-- nothing is done first
+pub turned_from : {R : Type 0} {G : Ghosts R} (x y z : Stand G) (a : Option NodeFault) → Same x y → Turned y z a → Turned x z a
+turned_from {R} {G} x y z a s d = record {
+  came = d.came;
+  gave = subst (λ (u : Option (List Bytes)). Gives u d.came z.given) s.given d.gave;
+  out = d.out;
+  acts = subst (λ (u : Replica R G). Acts u z.replica d.came d.out a) s.replica d.acts;
+  sent = subst (λ (u : Option (List (ℕ × Bytes))). GrowsBy u (handed_over d.out) z.handed) s.handed d.sent;
+}
+
+ends_from : {R : Type 0} {G : Ghosts R} (x y z : Stand G) (a : Option NodeFault) → Same x y → Ends y z a → Ends x z a
+ends_from x y z None s e = same_then x y z s e
+ends_from x y z (Some f) s e = turned_from x y z (Some f) s e
+
+-- so many turns led to a stand like this one
+record LeadTo {R : Type 0} {G : Ghosts R} (x z : Stand G) : Type 0 where
+  turns : ℕ
+  then : Stand G
+  made : Turns turns x then
+  same : Same then z
+
+turns_then : {R : Type 0} {G : Ghosts R} (m n : ℕ) (x y' y z : Stand G) → Turns m x y' → Same y' y → Turns n y z → LeadTo x z
+turns_then m zero x y' y z a s t = record { turns = m; then = y'; made = a; same = same_then y' y z s t }
+turns_then m (suc n) x y' y z a s (w, t, d) =
+    let l = turns_then m n x y' y w a s t in
+    record {
+      turns = suc l.turns;
+      then = z;
+      made = (l.then, l.made, turned_from l.then w z None l.same d);
+      same = same_all z;
+    }
+
+-- one run of turns behind the other
+pub served_then : {R : Type 0} {G : Ghosts R} (x y z : Stand G) (a : Option NodeFault) → Served x y None → Served y z a → Served x z a
+served_then x y z a s t =
+    let l = turns_then s.turns t.turns x s.then y t.then s.made s.last t.made in
+    record { turns = l.turns; then = l.then; made = l.made; last = ends_from l.then t.then z a l.same t.last }
+
+pub served_none : {R : Type 0} {G : Ghosts R} (x y : Stand G) → Same x y → Served x y None
+served_none x y s = record { turns = zero; then = x; made = same_all x; last = s }
+
+pub served_turn : {R : Type 0} {G : Ghosts R} (x y : Stand G) (a : Option NodeFault) → Turned x y a → Served x y a
+served_turn x y None d = record { turns = suc zero; then = y; made = (x, same_all x, d); last = same_all y }
+served_turn x y (Some e) d = record { turns = zero; then = x; made = same_all x; last = d }
+
+-- nothing came
+pub given_none : (old new : Option (List (List ℕ))) (room : List ℕ) (len : Option ℕ) → Gives old (option_map (λ n. take n room) len) new →
+    (r : Bool) → is_some len ≡ not r → r ≡ true → new ≡ old
+given_none old new room None g r e f = g
+given_none old new room (Some n) g true e f = absurd (cc)
+given_none old new room (Some n) g false e f = absurd (cc)

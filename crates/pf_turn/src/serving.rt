@@ -1,0 +1,105 @@
+//! What a node does between two waits.
+
+ghost use Rattle.std.specs.Prelude.{◌≡◌, ◌≤◌, IfSome, length, option_map, take};
+ghost use Rattle.px_replica.specs.Faults.{fault_of};
+ghost use Rattle.pf_node.specs.Nodes.{applied_of};
+ghost use Rattle.px_transport.specs.Wires.{Gives};
+ghost use Rattle.pf_turn.specs.Turns.{Turned, Served, standing};
+
+use crate::room::Room;
+use crate::turning::{act, came, send_all};
+use pf_node::Node;
+use px_records::Records;
+use px_replica::NodeFault;
+use px_transport::Wire;
+
+/// Takes a datagram that has come, which is written over the front of the bytes.
+fn poll<W: Wire>(wire: &mut W, bytes: &mut Vec<u8>) -> Option<usize>
+    ensures fits { IfSome result (λ n. n ≤ length bytes.new.items) }
+    ensures given { Gives (W.given wire.old) (option_map (λ n. take n bytes.new.items) result) (W.given wire.new) }
+    ensures quiet { W.handed wire.new ≡ W.handed wire.old }
+    ensures whole { length bytes.new.items ≡ length bytes.old.items }
+{
+    wire.poll(bytes.as_mut_slice())
+}
+
+/// The clock ticks, whatever has come, and what is to be sent is handed to the wire: a turn for which nothing came.
+pub fn tick_now<R: Records, W: Wire>(
+    node: &mut Node<R>,
+    wire: &mut W,
+    room: &mut Room,
+) -> Result<(), NodeFault>
+    ensures turned { Turned (standing W.Wire node.old wire.old) (standing W.Wire node.new wire.new)
+        (fault_of result) }
+    ensures grows { applied_of node.old ≤ applied_of node.new }
+{
+    room.out.clear();
+    let result = act(node, None, &mut room.out);
+    send_all(wire, room.out.as_slice());
+    result
+}
+
+/// One datagram that has come is taken: whether there was one.
+fn take_one<R: Records, W: Wire>(
+    node: &mut Node<R>,
+    wire: &mut W,
+    room: &mut Room,
+) -> Result<bool, NodeFault>
+    ensures served { Served (standing W.Wire node.old wire.old) (standing W.Wire node.new wire.new)
+        (fault_of result) }
+    ensures grows { applied_of node.old ≤ applied_of node.new }
+{
+    room.out.clear();
+    let len = poll(wire, &mut room.bytes);
+    if len.is_none() {
+        return Ok(false);
+    }
+    let result = act(node, came(&room.bytes, len), &mut room.out);
+    send_all(wire, room.out.as_slice());
+    match result {
+        Ok(()) => Ok(true),
+        Err(fault) => Err(fault),
+    }
+}
+
+/// Takes what has come, one datagram after the other, so many at most: how many there were.
+fn drain<R: Records, W: Wire>(
+    node: &mut Node<R>,
+    wire: &mut W,
+    room: &mut Room,
+    most: u32,
+) -> Result<u32, NodeFault>
+    ensures served { Served (standing W.Wire node.old wire.old) (standing W.Wire node.new wire.new)
+        (fault_of result) }
+    ensures grows { applied_of node.old ≤ applied_of node.new }
+{
+    for taken in 0..most {
+        if !take_one(node, wire, room)? {
+            return Ok(taken);
+        }
+    }
+    Ok(most)
+}
+
+/// What a node does between two waits: it takes what has come, so many datagrams at most, and then its clock ticks if
+/// that is due. These are turns of the node and nothing else, in whatever order the network and the clock ask for them.
+/// Answers how many datagrams there were.
+///
+/// The faults are those of [`Node::receive`] and [`Node::tick`]; after one nothing is to be sent.
+pub fn serve<R: Records, W: Wire>(
+    node: &mut Node<R>,
+    wire: &mut W,
+    room: &mut Room,
+    most: u32,
+    is_due: bool,
+) -> Result<u32, NodeFault>
+    ensures served { Served (standing W.Wire node.old wire.old) (standing W.Wire node.new wire.new)
+        (fault_of result) }
+    ensures grows { applied_of node.old ≤ applied_of node.new }
+{
+    let taken = drain(node, wire, room, most)?;
+    if is_due {
+        tick_now(node, wire, room)?;
+    }
+    Ok(taken)
+}
