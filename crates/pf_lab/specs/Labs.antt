@@ -1,6 +1,6 @@
 -- When a lab is a world.
-use Rattle.std.specs.Prelude.{◌≡◌, ℕ, true, false, not, nat_eq, List, [], length, slice_get, filter, Some}
-use Rattle.px_model.specs.Node.{Answer, asker}
+use Rattle.std.specs.Prelude.{◌≡◌, ℕ, true, false, List, [], length, slice_get, Some}
+use Rattle.px_model.specs.Node.{Answer}
 use Rattle.px_model.specs.Node.Answer.{Refused, Planned}
 use Rattle.px_model.specs.World.{World, NodeState, follows}
 use Rattle.px_model.specs.Spelling.{Bytes}

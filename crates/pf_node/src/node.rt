@@ -1,6 +1,7 @@
 //! The calls of a node.
 
-ghost use Rattle.std.specs.Prelude.{◌≡◌, ◌≢◌, ◌⊎◌, ◌≤◌, true, false, Err, IfOk, OnOk, IsTrue, Some, [], option_map, length, is_some};
+ghost use Rattle.std.specs.Prelude.{◌≡◌, ◌≢◌, ◌⊎◌, ◌<◌, ◌≤◌, true, false, Err, IfOk, OnOk, IsTrue, Some, []};
+ghost use Rattle.std.specs.Prelude.{option_map, length, is_some};
 ghost use Rattle.pf_entry.specs.Owned.{is_over};
 ghost use Rattle.pf_eval.specs.Seen.{judgement_of};
 ghost use Rattle.pf_eval.specs.Verdicts.{judgement};

@@ -1,10 +1,11 @@
 -- Calls, from one form to another.
-use Rattle.std.proofs.Common.{◌≡◌, ◌≢◌, ◌∙◌, ◌↔◌, ◌<◌, ℕ, suc, List, [], Option, Some, None, IsSome, Result, Ok, Err, refl, sym, ap, subst, inl, inr, arith}
+use Rattle.std.proofs.Common.{◌≡◌, ◌≢◌, ◌∙◌, ◌↔◌, ◌<◌, ◌≤◌, ℕ, suc, List, [], Option, Some, None, IsSome, Result, Ok, Err, refl, sym, ap, subst, inl, inr, arith}
 use Rattle.std.specs.Prelude.{IfSome}
 use Rattle.px_model.specs.Node.{Record, Entry}
 use Rattle.px_model.specs.Node.Input.{Asks}
 use Rattle.px_model.specs.Fits.{Passes, EntryFits}
 use Rattle.px_model.specs.Spelling.{Bytes}
+use Rattle.px_model.specs.Step.{front}
 use Rattle.px_records.specs.Records.{IsRead, IsStoresFault}
 use Rattle.px_records.specs.Records.Place.{EntryAt, LastEntry}
 use Rattle.px_records.specs.declared.records.Records.{Ghosts}
@@ -12,13 +13,14 @@ use Rattle.px_records.specs.declared.records.StoreFault.{StoreFault}
 use Rattle.px_records.specs.declared.records.StoreFault.TheVariants as store
 use Rattle.px_wire.specs.Message.{group}
 use Rattle.px_wire.specs.Sent.{is_command}
-use Rattle.px_replica.specs.Calls.{Call, IsBadEntry, HasBadEntry, OpenRefused}
+use Rattle.px_replica.specs.Calls.{Call, Receives, IsBadEntry, HasBadEntry, OpenRefused}
 use Rattle.px_replica.specs.Faults.{fault_of, fault_of_store, IsOfStore, IsOpenFault, SomeFails}
-use Rattle.px_replica.specs.Replicas.{membership_of, state_in}
+use Rattle.px_replica.specs.Replicas.{learned_by, membership_of, state_in}
 use Rattle.px_replica.specs.Seen.{IsSound}
 use Rattle.px_replica.specs.declared.datagram.Datagram.{Datagram}
 use Rattle.px_replica.specs.declared.fault.NodeFault.{NodeFault}
 use Rattle.px_replica.specs.declared.fault.NodeFault.TheVariants as fault
+use Rattle.px_replica.specs.declared.receiving.Received.{Received}
 use Rattle.px_replica.specs.declared.state.Replica.{Replica}
 use Rattle.px_replica.proofs.Heard.{ask_makes}
 
@@ -116,3 +118,25 @@ open_refused {R} {X} G members given back f e is read counts bad why same = reco
   same = same;
   few = open_fault f e is;
 }
+
+-- ---- what was learned
+
+unmoved : {R : Type 0} {G : Ghosts R} (s t : Replica R G) → t ≡ s → (p : ℕ) → learned_by t p ≡ learned_by s p
+unmoved {R} {G} s t is p = ap (λ (r : Replica R G). learned_by r p) is
+
+-- what was learned below the first gap stays, whatever becomes of a datagram
+pub received_below : {R : Type 0} {G : Ghosts R} (s t : Replica R G) (bytes : Bytes) (old new : List Datagram)
+    (result : Result Received NodeFault) → Receives s t bytes old new result →
+    (p : ℕ) → p < front (learned_by s) → learned_by t p ≡ learned_by s p
+received_below s t bytes old new result (inl lost) p h = unmoved s t lost.still p
+received_below s t bytes old new result (inr (inl passed)) p h = unmoved s t passed.still p
+received_below s t bytes old new result (inr (inr taken)) p h = taken.call.below p h
+
+pub received_front : {R : Type 0} {G : Ghosts R} (s t : Replica R G) (bytes : Bytes) (old new : List Datagram)
+    (result : Result Received NodeFault) → Receives s t bytes old new result →
+    front (learned_by s) ≤ front (learned_by t)
+received_front {R} {G} s t bytes old new result (inl lost) =
+    subst (λ (r : Replica R G). front (learned_by s) ≤ front (learned_by r)) (sym lost.still) (omega arith)
+received_front {R} {G} s t bytes old new result (inr (inl passed)) =
+    subst (λ (r : Replica R G). front (learned_by s) ≤ front (learned_by r)) (sym passed.still) (omega arith)
+received_front s t bytes old new result (inr (inr taken)) = taken.call.front

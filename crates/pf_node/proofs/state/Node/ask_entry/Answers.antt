@@ -8,6 +8,6 @@ pub invariant_of-self : goal.invariant_of-self
 invariant_of-self g c =
     let n = c.args.self.now in
     record {
-      configured = after_kept (learned_by n.replica) (learned_by c.ask.new.self) n.applied n.config n.configured n.behind c.ask.ensures.below;
-      behind = omega (arith, n.behind, c.ask.ensures.front);
+      configured = after_kept (learned_by n.replica) (learned_by c.ask.new.self) n.applied n.config n.configured n.behind c.ask.ensures.call.below;
+      behind = omega (arith, n.behind, c.ask.ensures.call.front);
     }

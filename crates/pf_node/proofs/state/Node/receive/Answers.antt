@@ -1,18 +1,28 @@
 -- what was learned below the front stays
 use Rattle.std.proofs.Common.{arith}
 use Rattle.px_replica.specs.Replicas.{learned_by}
+use Rattle.px_replica.proofs.Called.{received_below, received_front}
 use Rattle.pf_node.proofs.Following.{after_kept}
 use Rattle.pf_node.proofs.state.Node.receive.Goals as goal
 
 pub take_up-taken-requires-clause-configured : goal.take_up-taken-requires-clause-configured
 take_up-taken-requires-clause-configured g c =
     let n = c.args.self.now in
-    after_kept (learned_by n.replica) (learned_by c.receive.new.self) n.applied n.config n.configured n.behind c.receive.ensures.below
+    after_kept (learned_by n.replica) (learned_by c.receive.new.self) n.applied n.config n.configured n.behind
+    (received_below n.replica c.receive.new.self _ _ _ _ c.receive.ensures.received)
+
+pub take_up-taken-requires-clause-behind : goal.take_up-taken-requires-clause-behind
+take_up-taken-requires-clause-behind g c =
+    let n = c.args.self.now in
+    let h = received_front n.replica c.receive.new.self _ _ _ _ c.receive.ensures.received in
+    omega (arith, n.behind, h)
 
 pub invariant_of-self-in-Err-1 : goal.invariant_of-self-in-Err-1
 invariant_of-self-in-Err-1 g c =
     let n = c.args.self.now in
+    let h = received_front n.replica c.receive.new.self _ _ _ _ c.receive.ensures.received in
     record {
-      configured = after_kept (learned_by n.replica) (learned_by c.receive.new.self) n.applied n.config n.configured n.behind c.receive.ensures.below;
-      behind = omega (arith, n.behind, c.receive.ensures.front);
+      configured = after_kept (learned_by n.replica) (learned_by c.receive.new.self) n.applied n.config n.configured n.behind
+          (received_below n.replica c.receive.new.self _ _ _ _ c.receive.ensures.received);
+      behind = omega (arith, n.behind, h);
     }

@@ -8,6 +8,6 @@ pub invariant_of-self-2 : goal.invariant_of-self-2
 invariant_of-self-2 g c =
     let n = c.args.self.now in
     record {
-      configured = after_kept (learned_by n.replica) (learned_by c.tick.new.self) c.take_up.new.applied c.take_up.new.config c.take_up.ensures.configured c.take_up.ensures.behind c.tick.ensures.below;
-      behind = omega (arith, c.take_up.ensures.behind, c.tick.ensures.front);
+      configured = after_kept (learned_by n.replica) (learned_by c.tick.new.self) c.take_up.new.applied c.take_up.new.config c.take_up.ensures.configured c.take_up.ensures.behind c.tick.ensures.call.below;
+      behind = omega (arith, c.take_up.ensures.behind, c.tick.ensures.call.front);
     }
