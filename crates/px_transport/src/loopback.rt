@@ -1,7 +1,7 @@
 //! A wire that keeps what a member sends to itself.
 
-ghost use Rattle.std.specs.Prelude.{◌≡◌, ◌≢◌, ◌⊎◌, ◌≤◌, ◌<◌, ◌++◌, ℕ, List, [], ◌∷◌, None, true, Option, OnOk, OnErr, IfSome};
-ghost use Rattle.std.specs.Prelude.{length, option_map, take};
+ghost use Rattle.std.specs.Prelude.{◌≡◌, ◌≢◌, ◌⊎◌, ◌≤◌, ◌<◌, ◌++◌, ℕ, List, [], ◌∷◌, None, Option, true};
+ghost use Rattle.std.specs.Prelude.{OnOk, OnErr, IfSome, length, option_map, take};
 ghost use Rattle.px_transport.specs.Wires.{Gives, Grows, Counts};
 ghost use Rattle.px_transport.specs.Memory.{IsNext};
 ghost use Rattle.px_transport.specs.Loopback.{below_of, me_of, kept_of, given_past, handed_past, IsKept};
