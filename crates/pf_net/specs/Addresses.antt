@@ -1,6 +1,6 @@
--- The address of a member: an IPv4 address, a colon, and a port.
+-- The address of a member: an IP address, a colon, and a port.
 use Rattle.std.specs.Prelude.{ℕ, Bool, not, ◌==◌, ◌+◌, List, length, take, drop, Option, Some, None, Result, Ok, Err}
-use Rattle.std.specs.Prelude.{if◌then◌else◌}
+use Rattle.std.specs.Prelude.{if◌then◌else◌, slice_index}
 use Rattle.std.specs.List.{prefix_len}
 use Rattle.pf_addr.specs.declared.addr.Addr.{Addr}
 use Rattle.pf_addr.specs.declared.addr.Addr.TheVariants.{V4, V6}
@@ -12,21 +12,43 @@ use Rattle.pf_net.specs.declared.address.Address.{Address}
 abbrev pub is_no_colon : ℕ → Bool
 is_no_colon b = not (b == 58)
 
--- of an IPv4 address
-abbrev pub ip_in : Result Addr AddrFault → Option ℕ
-ip_in (Ok (V4 bits)) = Some bits
-ip_in (Ok (V6 bits)) = None
-ip_in (Err fault) = None
+abbrev pub is_no_bracket : ℕ → Bool
+is_no_bracket b = not (b == 93)
+
+-- an IPv4 address, and an IPv6 address
+abbrev pub four_in : Result Addr AddrFault → Option Addr
+four_in (Ok (V4 bits)) = Some (V4 bits)
+four_in (Ok (V6 bits)) = None
+four_in (Err fault) = None
+
+abbrev pub six_in : Result Addr AddrFault → Option Addr
+six_in (Ok (V4 bits)) = None
+six_in (Ok (V6 bits)) = Some (V6 bits)
+six_in (Err fault) = None
 
 -- both are there, and the port isn't 0
-abbrev pub joined : Option ℕ → Option ℕ → Option Address
+abbrev pub joined : Option Addr → Option ℕ → Option Address
 joined None port = None
 joined (Some ip) None = None
 joined (Some ip) (Some port) = if port == 0 then None else Some (record { ip = ip; port = port })
 
--- parted at the first colon; the port has one to five digits
-unfoldable pub address_of : List ℕ → Option Address
-address_of text =
+-- the port behind the colon at this place: one to five digits
+abbrev pub port_behind : ℕ → List ℕ → Option ℕ
+port_behind colon text = number_of 5 65535 (drop (colon + 1) text)
+
+-- an IPv4 address parted from its port at the first colon
+unfoldable pub four_of : List ℕ → Option Address
+four_of text =
     let colon = prefix_len is_no_colon text in
-    if colon == length text then None
-    else joined (ip_in (addr_of (take colon text))) (number_of 5 65535 (drop (colon + 1) text))
+    if colon == length text then None else joined (four_in (addr_of (take colon text))) (port_behind colon text)
+
+-- what stands behind an opening bracket: an IPv6 address up to the closing one, which a colon follows (RFC 3986, 3.2.2)
+unfoldable pub six_of : List ℕ → Option Address
+six_of text =
+    let end = prefix_len is_no_bracket text in
+    if slice_index text (end + 1) == 58 then joined (six_in (addr_of (take end text))) (port_behind (end + 1) text)
+    else None
+
+-- an IPv6 address stands in brackets
+unfoldable pub address_of : List ℕ → Option Address
+address_of text = if slice_index text 0 == 91 then six_of (drop 1 text) else four_of text

@@ -1,20 +1,25 @@
 //! Datagrams over a UDP socket.
 
-ghost use Rattle.std.specs.Prelude.{◌≡◌, ◌⊎◌, ◌<◌, ◌≤◌, Some, None, Err, IfOk, OnErr, map, length};
+ghost use Rattle.std.specs.Prelude.{◌≡◌, ◌⊎◌, ◌<◌, ◌≤◌, ◌==◌, Some, None, Err, false, IfOk, IfSome, OnErr, IsTrue};
+ghost use Rattle.std.specs.Prelude.{map, length, slice_index};
+ghost use Rattle.px_transport.specs.Wires.{one_more};
 ghost use Rattle.pf_net.specs.declared.udp.BindFault.TheVariants.{Memory};
 ghost use Rattle.pf_net.specs.Addresses.{address_of};
-ghost use Rattle.pf_net.specs.Members.{peers_of, me_of};
+ghost use Rattle.pf_net.specs.Members.{peers_of, me_of, strangers_of, Drops};
 
 use crate::address::{Address, parse_address};
 use px_transport::Wire;
 use std::alloc::{AllocError, AllocFailed, Global};
 use std::io::ErrorKind;
-use std::net::{Ipv4Addr, Net, SocketAddr, SocketAddrV4, UdpSocket};
+use std::net::{IpAddr, Ipv4Addr, Net, SocketAddr, UdpSocket};
 use std::time::{Clock, Duration, Instant};
 use thiserror::Error;
 
 /// The number of whoever is no member.
 const ASKER: u8 = 255;
+
+/// Where a datagram has its sender's number.
+const FROM_PLACE: usize = 10;
 
 /// The part of a member's wait that the time between two receives counts as at most.
 const PART: u32 = 64;
@@ -52,6 +57,9 @@ impl<T: Drop> From<AllocFailed<T>> for BindFault {
 /// Each receive of an asker waits on its own. A member's wait goes on from receive to receive until it has passed, and
 /// then none is answered, whatever has come: that stays for the next receive, with which a new wait begins. Of the time
 /// between two receives no more than a 64th of the wait counts, so that slow turns alone end none before 64 datagrams.
+///
+/// A datagram that comes from elsewhere than a member's address is given as an empty one, which is nobody's, and is
+/// counted, unless its sender's number is 255, of one who asks.
 #[derive(Drop)]
 pub struct UdpWire<C> {
     socket: UdpSocket,
@@ -63,8 +71,12 @@ pub struct UdpWire<C> {
     left: Duration,
     /// When a member received the last datagram of this wait.
     since: Option<Instant>,
-    /// Where the datagram received last came from.
+    /// Where the datagram given last came from.
     last: Option<SocketAddr>,
+    /// How long the socket waits, where it does.
+    timeout: Duration,
+    is_blocking: bool,
+    strangers: u64,
     failures: u64,
 }
 
@@ -82,23 +94,32 @@ fn addresses(alloc: Global, texts: &[&str]) -> Result<Vec<Address>, BindFault>
     Ok(peers)
 }
 
-/// Where a member listens, or an asker: at any free port.
+/// Where a member listens, or an asker: at any free port, with addresses of the kind that the first is of.
 fn own_address(peers: &[Address], me: u8) -> Option<SocketAddr> {
-    if me == ASKER {
-        return Some(SocketAddr::V4(SocketAddrV4::new(Ipv4Addr::new(0, 0, 0, 0), 0)));
+    if me != ASKER {
+        return match peers.get(usize::from(me)) {
+            Some(address) => Some(address.socket()),
+            None => None,
+        };
     }
-    match peers.get(usize::from(me)) {
-        Some(address) => Some(address.socket()),
-        None => None,
+    match peers.first() {
+        Some(address) => Some(address.any_port()),
+        None => Some(SocketAddr::new(IpAddr::V4(Ipv4Addr::UNSPECIFIED), 0)),
     }
+}
+
+/// Whether a datagram is of one who asks and is no member, by the sender's number in it.
+fn is_asking(datagram: &[u8]) -> bool
+    ensures { result ≡ (slice_index datagram.now 10 == 255) }
+{
+    datagram.len() > FROM_PLACE && datagram[FROM_PLACE] == ASKER
 }
 
 impl<R: Net + Clock + Copy> UdpWire<R> {
     /// A wire of a member, which listens at its address of these, or with 255 of an asker on any free port, of whom the
     /// first address takes every send. A wait is so many milliseconds long.
     ///
-    /// An address is an IPv4 address, `:` and a port 1 to 65535 in 1 to 5 digits. `NoSocket` where one isn't, or where
-    /// the system refuses the socket.
+    /// An address is as `parse_address` reads it. `NoSocket` where one isn't, or where the system refuses the socket.
     pub fn bind(
         rt: &R,
         alloc: Global,
@@ -109,6 +130,7 @@ impl<R: Net + Clock + Copy> UdpWire<R> {
         requires wait { 0 < wait_ms }
         ensures peers { IfOk result (λ w. map (λ t. address_of t.now) addrs.now ≡ map Some (peers_of w)) }
         ensures me { IfOk result (λ w. me_of w ≡ me) }
+        ensures strangers { IfOk result (λ w. strangers_of w ≡ 0) }
     {
         let peers = addresses(alloc, addrs)?;
         let Some(own) = own_address(peers.as_slice(), me) else {
@@ -130,8 +152,83 @@ impl<R: Net + Clock + Copy> UdpWire<R> {
             left: wait,
             since: None,
             last: None,
+            timeout: wait,
+            is_blocking: true,
+            strangers: 0,
             failures: 0,
         })
+    }
+}
+
+impl<C> UdpWire<C> {
+    /// How many datagrams were dropped that came from elsewhere than a member's address, up to 2^64 - 1.
+    pub fn strangers(&self) -> u64
+        ensures { result ≡ strangers_of self.now }
+    {
+        self.strangers
+    }
+
+    /// Counts a fault.
+    fn count_failure(&mut self)
+        ensures failures { self.old.failures ≤ self.new.failures }
+        ensures strangers { self.new.strangers ≡ self.old.strangers }
+    {
+        self.failures = self.failures.saturating_add(1);
+    }
+
+    /// Counts what a receive or a wait met, unless nothing came in time.
+    fn met(&mut self, kind: ErrorKind)
+        ensures failures { self.old.failures ≤ self.new.failures }
+        ensures strangers { self.new.strangers ≡ self.old.strangers }
+    {
+        if kind != ErrorKind::WouldBlock && kind != ErrorKind::TimedOut {
+            self.count_failure();
+        }
+    }
+
+    /// Whether the socket waits from now on, or doesn't, as is asked.
+    fn set_blocking(&mut self, is_blocking: bool) -> bool
+        ensures failures { self.old.failures ≤ self.new.failures }
+        ensures strangers { self.new.strangers ≡ self.old.strangers }
+    {
+        if self.is_blocking != is_blocking {
+            if self.socket.set_nonblocking(!is_blocking).is_err() {
+                self.count_failure();
+                return false;
+            }
+            self.is_blocking = is_blocking;
+        }
+        true
+    }
+
+    /// Whether the socket waits so long from now on.
+    fn set_timeout(&mut self, timeout: Duration) -> bool
+        ensures failures { self.old.failures ≤ self.new.failures }
+        ensures strangers { self.new.strangers ≡ self.old.strangers }
+    {
+        if self.timeout != timeout {
+            if self.socket.set_read_timeout(Some(timeout)).is_err() {
+                self.count_failure();
+                return false;
+            }
+            self.timeout = timeout;
+        }
+        true
+    }
+
+    /// What is given of a datagram: all its bytes, or none of a stranger's, which is counted.
+    fn admit(&mut self, from: SocketAddr, datagram: &[u8]) -> usize
+        ensures failures { self.new.failures ≡ self.old.failures }
+        ensures given { (result ≡ length datagram.now) × (strangers_of self.new ≡ strangers_of self.old) ⊎
+            (result ≡ 0) × ((slice_index datagram.now 10 == 255) ≡ false) ×
+            (strangers_of self.new ≡ one_more (strangers_of self.old)) }
+    {
+        if is_asking(datagram) || self.peers.as_slice().contains(&Address::of_socket(from)) {
+            self.last = Some(from);
+            return datagram.len();
+        }
+        self.strangers = self.strangers.saturating_add(1);
+        0
     }
 }
 
@@ -149,7 +246,8 @@ impl<C: Clock> UdpWire<C> {
 
     /// Takes the time between two readings off what is left of the wait, or the most that counts.
     fn pass(&mut self, from: Option<Instant>, to: Option<Instant>, most: Duration)
-        ensures { self.new.failures ≡ self.old.failures }
+        ensures failures { self.new.failures ≡ self.old.failures }
+        ensures strangers { self.new.strangers ≡ self.old.strangers }
     {
         if let (Some(from), Some(to)) = (from, to) {
             let passed = to.duration_since(from).min(most);
@@ -159,7 +257,8 @@ impl<C: Clock> UdpWire<C> {
 
     /// Ends the wait.
     fn end_wait(&mut self)
-        ensures { self.new.failures ≡ self.old.failures }
+        ensures failures { self.new.failures ≡ self.old.failures }
+        ensures strangers { self.new.strangers ≡ self.old.strangers }
     {
         self.left = self.wait;
         self.since = None;
@@ -167,18 +266,22 @@ impl<C: Clock> UdpWire<C> {
 
     /// Whether any of the wait is left. The socket waits no longer than that.
     fn is_waiting(&mut self, now: Option<Instant>) -> bool
-        ensures { self.old.failures ≤ self.new.failures }
+        ensures failures { self.old.failures ≤ self.new.failures }
+        ensures strangers { self.new.strangers ≡ self.old.strangers }
     {
-        if self.me == ASKER {
-            return true;
+        if self.me != ASKER {
+            self.pass(self.since, now, self.wait / PART);
+            if self.left.is_zero() {
+                return false;
+            }
         }
-        self.pass(self.since, now, self.wait / PART);
-        if self.left.is_zero() {
-            return false;
-        }
-        if self.socket.set_read_timeout(Some(self.left)).is_err() {
-            self.failures = self.failures.saturating_add(1);
-        }
+        let _is_blocking = self.set_blocking(true);
+        let timeout = if self.me == ASKER {
+            self.wait
+        } else {
+            self.left
+        };
+        let _is_set = self.set_timeout(timeout);
         true
     }
 
@@ -210,7 +313,13 @@ impl<C: Clock> Wire for UdpWire<C> {
 
     ghost failed = { λ w. w.failures };
 
-    fn recv(&mut self, into: &mut [u8]) -> Option<usize> {
+    fn recv(&mut self, into: &mut [u8]) -> Option<usize>
+        ensures dropped { Drops (strangers_of self.old) result (strangers_of self.new) }
+        ensures fits { IfSome result (λ n. n ≤ length into.new) }
+        ensures given { Unit {0} }
+        ensures quiet { Unit {0} }
+        ensures counts { self.old.failures ≤ self.new.failures }
+    {
         let began = self.now();
         if !self.is_waiting(began) {
             self.end_wait();
@@ -218,19 +327,47 @@ impl<C: Clock> Wire for UdpWire<C> {
         }
         match self.socket.recv_from(into) {
             Ok((n, from)) => {
-                self.last = Some(from);
                 self.since = self.now();
                 self.pass(began, self.since, self.wait);
-                Some(n)
+                Some(self.admit(from, &into[..n]))
             }
             Err(error) => {
-                let kind = error.kind();
-                if kind != ErrorKind::WouldBlock && kind != ErrorKind::TimedOut {
-                    self.failures = self.failures.saturating_add(1);
-                }
+                self.met(error.kind());
                 self.end_wait();
                 None
             }
+        }
+    }
+
+    fn poll(&mut self, into: &mut [u8]) -> Option<usize>
+        ensures dropped { Drops (strangers_of self.old) result (strangers_of self.new) }
+        ensures fits { IfSome result (λ n. n ≤ length into.new) }
+        ensures given { Unit {0} }
+        ensures quiet { Unit {0} }
+        ensures counts { self.old.failures ≤ self.new.failures }
+    {
+        if !self.set_blocking(false) {
+            return None;
+        }
+        match self.socket.recv_from(into) {
+            Ok((n, from)) => Some(self.admit(from, &into[..n])),
+            Err(error) => {
+                self.met(error.kind());
+                None
+            }
+        }
+    }
+
+    fn wait(&mut self, milliseconds: u32) {
+        if milliseconds == 0 || !self.set_blocking(true) {
+            return;
+        }
+        if !self.set_timeout(Duration::from_millis(u64::from(milliseconds))) {
+            return;
+        }
+        let mut room = [0u8; 1];
+        if let Err(error) = self.socket.peek_from(&mut room) {
+            self.met(error.kind());
         }
     }
 

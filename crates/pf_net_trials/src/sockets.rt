@@ -1,4 +1,5 @@
-use pf_net::{BindFault, UdpWire};
+use pf_addr::Addr;
+use pf_net::{BindFault, UdpWire, parse_address};
 use px_transport::Wire;
 use std::cell::Cell;
 use std::io;
@@ -48,6 +49,9 @@ impl Net for Bench<'_> {
     }
 }
 
+/// A datagram of one who asks: 255 stands where its sender's number does.
+const ASK: [u8; 11] = [0, 0, 0, 0, 0, 0, 0, 0, 0, 0, 255];
+
 #[test]
 fn datagrams_go_between_members_and_who_asks(rt: HostRuntime) -> Result<(), Fail> {
     let members = ["127.0.0.1:39471", "127.0.0.1:39472"];
@@ -59,8 +63,9 @@ fn datagrams_go_between_members_and_who_asks(rt: HostRuntime) -> Result<(), Fail
     assert!(rt; one.send(1, b"hello"));
     assert_eq!(rt; other.recv(&mut room), Some(5));
     assert_eq!(rt; room, *b"hello\0\0\0");
-    assert!(rt; asker.send(1, b"ask"));
-    assert_eq!(rt; one.recv(&mut room), Some(3));
+    let mut long = [0u8; 20];
+    assert!(rt; asker.send(1, &ASK));
+    assert_eq!(rt; one.recv(&mut long), Some(11));
     assert!(rt; one.send(255, b"an answer"));
     assert_eq!(rt; asker.recv(&mut room), Some(8));
     assert_eq!(rt; room, *b"an answe");
@@ -218,9 +223,10 @@ fn each_receive_of_an_asker_waits(rt: HostRuntime) -> Result<(), Fail> {
     };
     let mut one = UdpWire::bind(&rt, rt.alloc(), &members, 0, 10)?;
     let mut asker = UdpWire::bind(&bench, rt.alloc(), &members, 255, 10)?;
+    let mut long = [0u8; 20];
     let mut room = [0u8; 3];
-    assert!(rt; asker.send(0, b"ask"));
-    assert_eq!(rt; one.recv(&mut room), Some(3));
+    assert!(rt; asker.send(0, &ASK));
+    assert_eq!(rt; one.recv(&mut long), Some(11));
     for text in [b"one", b"two", b"six"] {
         assert!(rt; one.send(255, text));
     }
@@ -229,5 +235,101 @@ fn each_receive_of_an_asker_waits(rt: HostRuntime) -> Result<(), Fail> {
         assert_eq!(rt; room, *text);
     }
     assert_eq!(rt; asker.recv(&mut room), None);
+    Ok(())
+}
+
+#[test]
+fn a_poll_takes_what_has_come_and_waits_for_none(rt: HostRuntime) -> Result<(), Fail> {
+    let members = ["127.0.0.1:39461", "127.0.0.1:39462"];
+    let mut one = UdpWire::bind(&rt, rt.alloc(), &members, 0, 60_000)?;
+    let mut other = UdpWire::bind(&rt, rt.alloc(), &members, 1, 10)?;
+    let mut room = [0u8; 5];
+    assert_eq!(rt; one.poll(&mut room), None);
+    assert!(rt; other.send(0, b"first"));
+    assert!(rt; other.send(0, b"later"));
+    assert!(rt; other.send(0, b"last"));
+    one.wait(60_000);
+    one.wait(60_000);
+    assert_eq!(rt; one.poll(&mut room), Some(5));
+    assert_eq!(rt; room, *b"first");
+    assert_eq!(rt; one.recv(&mut room), Some(5));
+    assert_eq!(rt; room, *b"later");
+    assert_eq!(rt; one.poll(&mut room), Some(4));
+    assert_eq!(rt; one.poll(&mut room), None);
+    one.wait(1);
+    one.wait(0);
+    assert_eq!(rt; one.poll(&mut room), None);
+    assert_eq!(rt; one.failures(), 0);
+    Ok(())
+}
+
+#[test]
+fn a_stranger_is_dropped_unless_it_asks(rt: HostRuntime) -> Result<(), Fail> {
+    let members = ["127.0.0.1:39463", "127.0.0.1:39464"];
+    let elsewhere = ["127.0.0.1:39463", "127.0.0.1:39465"];
+    let mut one = UdpWire::bind(&rt, rt.alloc(), &members, 0, 1000)?;
+    let mut other = UdpWire::bind(&rt, rt.alloc(), &members, 1, 10)?;
+    let mut stranger = UdpWire::bind(&rt, rt.alloc(), &elsewhere, 1, 10)?;
+    let mut forged = ASK;
+    forged[10] = 1;
+    let mut room = [0u8; 20];
+    assert!(rt; stranger.send(0, &forged));
+    assert_eq!(rt; one.recv(&mut room), Some(0));
+    assert!(rt; stranger.send(0, b"short"));
+    one.wait(1000);
+    assert_eq!(rt; one.poll(&mut room), Some(0));
+    assert_eq!(rt; one.strangers(), 2);
+    assert!(rt; stranger.send(0, &ASK));
+    assert_eq!(rt; one.recv(&mut room), Some(11));
+    assert!(rt; other.send(0, &forged));
+    assert_eq!(rt; one.recv(&mut room), Some(11));
+    assert_eq!(rt; one.strangers(), 2);
+    assert_eq!(rt; one.failures(), 0);
+    Ok(())
+}
+
+#[test]
+fn an_ipv6_address_stands_in_brackets(rt: HostRuntime) -> Result<(), Fail> {
+    let Some(address) = parse_address("[2001:db8::1]:4711") else {
+        return Err(Fail::new("an address"));
+    };
+    assert_eq!(rt;
+        address.ip,
+        Addr::V6(0x2001_0db8_0000_0000_0000_0000_0000_0001)
+    );
+    assert_eq!(rt; address.port, 4711);
+    for text in [
+        "[2001:db8::1]",
+        "[2001:db8::1]:",
+        "[2001:db8::1]:0",
+        "[2001:db8::1]4711",
+        "[2001:db8::1:4711",
+        "2001:db8::1]:4711",
+        "[127.0.0.1]:4711",
+        "[]:4711",
+        "[",
+        "[2001:db8::1] :4711",
+        "[2001:db8::g]:4711",
+    ] {
+        assert!(rt; parse_address(text).is_none());
+    }
+    Ok(())
+}
+
+/// What comes from one member to the other over IPv6, where the machine has it.
+#[test]
+fn datagrams_go_over_ipv6(rt: HostRuntime) -> Result<(), Fail> {
+    let members = ["[::1]:39466", "[::1]:39467"];
+    let Ok(mut one) = UdpWire::bind(&rt, rt.alloc(), &members, 0, 1000) else {
+        return Ok(());
+    };
+    let mut other = UdpWire::bind(&rt, rt.alloc(), &members, 1, 10)?;
+    let mut asker = UdpWire::bind(&rt, rt.alloc(), &members[..1], 255, 10)?;
+    let mut room = [0u8; 20];
+    assert!(rt; other.send(0, b"hello"));
+    assert_eq!(rt; one.recv(&mut room), Some(5));
+    assert!(rt; asker.send(0, &ASK));
+    assert_eq!(rt; one.recv(&mut room), Some(11));
+    assert_eq!(rt; one.strangers(), 0);
     Ok(())
 }

@@ -1,3 +1,4 @@
 pub mod Wires
 pub mod Memory
 pub mod Faulty
+pub mod Loopback

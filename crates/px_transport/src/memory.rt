@@ -5,6 +5,7 @@ ghost use Rattle.std.specs.Prelude.{take};
 ghost use Rattle.px_transport.specs.Wires.{Gives, Grows};
 ghost use Rattle.px_transport.specs.Memory.{given_of, handed_of, coming_of, IsNext};
 
+use crate::cutting::put;
 use crate::wire::Wire;
 use std::alloc::{AllocError, Global};
 
@@ -20,18 +21,6 @@ pub struct MemoryWire {
     is_whole: bool,
     failures: u64,
     alloc: Global,
-}
-
-/// Cuts the datagram to the room that there is, and writes it there: how many bytes it has.
-fn put(datagram: &mut Vec<u8>, into: &mut [u8]) -> usize
-    ensures fits { result ≤ length into.new }
-    ensures written { take result into.new ≡ datagram.new.items }
-    ensures cut { datagram.new.items ≡ take (length into.old) datagram.old.items }
-{
-    datagram.truncate(into.len());
-    let n = datagram.len();
-    into[..n].copy_from_slice(datagram.as_slice());
-    n
 }
 
 impl MemoryWire {

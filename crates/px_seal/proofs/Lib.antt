@@ -1,0 +1,4 @@
+mod Apart
+mod Filling
+mod Grouping
+mod Openings

@@ -1,0 +1,9 @@
+pub mod Hmac
+pub mod Held
+pub mod Seals
+pub mod Keyed
+pub mod Groups
+pub mod Wiring
+pub mod Laws
+pub mod Texts
+pub mod Outside
