@@ -1,7 +1,7 @@
 -- What happens to nodes happens in the world.
 use Rattle.std.proofs.Common.{◌≡◌, ◌∙◌, sym, ap, subst, refl, ℕ, ◌+◌, ◌<◌, ◌≤◌, true, false, ◌&&◌, nat_lt, nat_eq, List, [], ◌∷◌, ◌++◌, Option, Some, None, lt-ltb, arith, inl, inr}
 use Rattle.std.specs.Prelude.{IfSome}
-use Rattle.std.proofs.lemmas.Bool.{and_from, cond-true}
+use Rattle.std.proofs.lemmas.Bool.{and_from, cond-true, cond-false, false_from_ne_true, eqb-true, eq-eqb}
 use Rattle.std.proofs.lemmas.List.{append-nil}
 use Rattle.px_model.specs.Node as node
 use Rattle.px_model.specs.Node.{Envelope, Entry, Input, Answer, Plan, Record, Change, asker}
@@ -83,15 +83,15 @@ comes_in g w sent m (Comes sender message) few told may = elim may.1 [
 -- a record whose number stays took nothing in
 none_asked : (m : ℕ) (d e : Record Bytes) (command : Option Bytes) → e.meta.number ≡ d.meta.number → asked_of m d e command ≡ []
 none_asked m d e None same = refl
-none_asked m d e (Some c) same =
-    cond-true (nat_eq e.meta.number d.meta.number) [] _ (subst (λ (k : ℕ). nat_eq k d.meta.number ≡ true) (sym same) (nat_eq-refl d.meta.number))
+none_asked m d e (Some c) same = cond-true (nat_eq e.meta.number d.meta.number) [] _ (eq-eqb e.meta.number d.meta.number same)
 
 -- a record whose number goes up took the command in
 one_asked : (m k : ℕ) (d : Record Bytes) (command : Option Bytes) → k ≡ d.meta.number + 1 →
     asked_of m d (commit (Some (NewNumber k)) d) command ≡ asked_by m d.meta command (Some (NewNumber k))
 one_asked m k d None next = refl
 one_asked m k d (Some c) next =
-    cond-false (nat_eq k d.meta.number) [] _ (false_from_ne_true (nat_eq k d.meta.number) (λ e. omega (arith, next, nat_eq-sound k d.meta.number e)))
+    cond-false (nat_eq k d.meta.number) [] _
+    (false_from_ne_true (nat_eq k d.meta.number) (λ e. let same = eqb-true k d.meta.number e in omega (arith, next, same)))
 
 -- what a step adds to what was ever asked is read off the record before and after
 asked_same : (m : ℕ) (d : Record Bytes) (change : Option (Change Bytes)) (command : Option Bytes) →

@@ -1,6 +1,7 @@
 -- What comes to one member of a lab happens in the world.
-use Rattle.std.proofs.Common.{◌≡◌, ◌∙◌, sym, ap, subst, refl, ℕ, zero, suc, ◌⊎◌, inl, inr, Bool, true, false, cond, List, [], ◌∷◌, ◌++◌, Some, Result, Ok, Err, OnOk, OnErr, slice_get, length, take, drop, get_or, ◌<◌, ◌+◌}
+use Rattle.std.proofs.Common.{◌≡◌, ◌≢◌, ◌∙◌, sym, ap, subst, refl, ℕ, zero, suc, ◌⊎◌, inl, inr, Bool, true, false, cond, List, [], ◌∷◌, ◌++◌, Option, Some, None, Result, Ok, Err, OnOk, OnErr, slice_get, length, take, drop, get_or, ◌<◌, ◌+◌}
 use Rattle.std.proofs.Math.ListN.{set}
+use Rattle.std.proofs.lemmas.Bool.{false_from_ne_true}
 use Rattle.std.proofs.lemmas.List.{append-nil, drop_more, take-append-drop}
 use Rattle.std.specs.List.{flat_map}
 use Rattle.px_model.specs.Node as node
@@ -17,11 +18,17 @@ use Rattle.px_wire.specs.Members.{as_sent, Passing}
 use Rattle.px_wire.specs.Sent.{is_command}
 use Rattle.px_replica.specs.Made.{same, answer, Makes}
 use Rattle.px_replica.specs.Seen.{IsSound}
-use Rattle.px_replica.specs.Replicas.{Takes, IsUnspelled, MatchReceived}
+use Rattle.px_records.specs.declared.records.Records.{Ghosts}
+use Rattle.px_replica.specs.Calls.{Call, Receives}
+use Rattle.px_replica.specs.Faults.{IsOfStore, IsOfTheStore, SomeFails}
+use Rattle.px_replica.specs.Replicas as replicas
+use Rattle.px_replica.specs.Replicas.{records_of, membership_of, has_failed}
+use Rattle.px_replica.specs.declared.fault.NodeFault.{NodeFault}
+use Rattle.px_replica.specs.declared.fault.NodeFault.TheVariants as faults
+use Rattle.px_replica.specs.declared.state.Replica.{Replica}
 use Rattle.px_replica.specs.Spelled.{AreSpelled}
 use Rattle.px_replica.specs.declared.datagram.Datagram.{Datagram}
 use Rattle.px_replica.specs.declared.receiving.Received.{Received}
-use Rattle.px_replica.specs.declared.receiving.Received.TheVariants as received
 use Rattle.pf_node.specs.Nodes.{state_in}
 use Rattle.pf_lab.specs.Coming.{IsInput, Came, happenings}
 use Rattle.pf_lab.specs.Outcomes.{are_known, is_bad, Tells}
@@ -46,18 +53,56 @@ answered_made g me s t x old new m none =
     (m.follows, subst (λ (z : List Datagram). AreSpelled g m.plan.sends z) (sym all) m.spelled)
 
 -- a message that comes is the one that the bytes spell
-pub received_answered : (g : Group) (me : ℕ) (s t : NodeState Bytes) (bytes : List ℕ) (old new : List Datagram) (r : Received)
-    (I : Type 0) (from : ℕ) (message : node.Message Bytes) → old ≡ [] →
-    MatchReceived r (Takes g me s t bytes old new) (t ≡ s) →
-    MatchReceived r (Unit {0}) I → (I → IsUnspelled g me bytes) →
-    Passing g.members from me message → DatagramBytes g from me (as_sent message) bytes →
-    IsAnswered g (answer g.members me s (Comes from message)) s t new
-received_answered g me s t bytes old new received.Done I from message none takes un none_spelled passes spells =
-    subst (λ (x : Input Bytes). IsAnswered g (answer g.members me s x) s t new)
-    (one_message g me takes.sender from takes.message message bytes takes.passes passes takes.spelled spells)
-    (answered_made g me s t (Comes takes.sender takes.message) old new takes.makes none)
-received_answered g me s t bytes old new (received.Ignored fault) I from message none takes un none_spelled passes spells =
-    absurd (none_spelled un from (as_sent message) spells)
+pub received_answered : {R : Type 0} {G : Ghosts R} (x y : Replica R G) (bytes : List ℕ) (old new : List Datagram) (r : Received)
+    (from : ℕ) (message : node.Message Bytes) → old ≡ [] → has_failed x ≡ false → G.is_honest (records_of y) →
+    Receives x y bytes old new (Ok r) →
+    Passing (membership_of x).members from (membership_of x).me message →
+    DatagramBytes (group (membership_of x)) from (membership_of x).me (as_sent message) bytes →
+    IsAnswered (group (membership_of x)) (answer (membership_of x).members (membership_of x).me (replicas.state_in x) (Comes from message))
+    (replicas.state_in x) (replicas.state_in y) new
+received_answered x y bytes old new r from message none works honest (inl lost) passes spells =
+    let is : true ≡ false = sym lost.failed ∙ works in absurd (cc)
+received_answered x y bytes old new r from message none works honest (inr (inl passed)) passes spells =
+    absurd (passed.unspelled from (as_sent message) spells)
+received_answered x y bytes old new r from message none works honest (inr (inr taken)) passes spells =
+    let g = group (membership_of x) in
+    let me = (membership_of x).me in
+    let s = replicas.state_in x in
+    let t = replicas.state_in y in
+    subst (λ (z : Input Bytes). IsAnswered g (answer g.members me s z) s t new)
+    (one_message g me taken.sender from taken.message message bytes taken.passes passes taken.spelled spells)
+    (answered_made g me s t (Comes taken.sender taken.message) old new (taken.call.made honest refl) none)
+
+-- ---- refusals of a record that never fails
+
+-- a call that such a record refuses leaves the member as it was
+pub record IsUnmoved {R : Type 0} {G : Ghosts R} (x y : Replica R G) : Type 0 where
+  pub state : replicas.state_in y ≡ replicas.state_in x
+  pub works : has_failed y ≡ false
+  pub membership : membership_of y ≡ membership_of x
+
+no_store : (e : NodeFault) → (IsOfStore e → ⊥) → Some e ≢ Some faults.Store
+no_store e never is = never (subst (λ (o : Option NodeFault). IsOfTheStore o) (sym is) tt)
+
+pub call_unmoved : {R : Type 0} {G : Ghosts R} (x y : Replica R G) (i : Input Bytes) (old new : List Datagram) (e : NodeFault) →
+    has_failed x ≡ false → G.is_honest (records_of y) → IsSound (membership_of x).members (replicas.state_in x).stored →
+    (SomeFails G.may_fail → ⊥) → Call x y i old new (Some e) → IsUnmoved x y
+call_unmoved x y i old new e works honest sound never call =
+    let none : IsOfStore e → ⊥ = λ of. never (call.why honest sound of) in
+    record {
+      state = call.stays honest refl (no_store e none);
+      works = false_from_ne_true (has_failed y) (λ h. none ((call.fails works).0 h));
+      membership = call.membership;
+    }
+
+pub received_unmoved : {R : Type 0} {G : Ghosts R} (x y : Replica R G) (bytes : List ℕ) (old new : List Datagram) (e : NodeFault) →
+    has_failed x ≡ false → G.is_honest (records_of y) → IsSound (membership_of x).members (replicas.state_in x).stored →
+    (SomeFails G.may_fail → ⊥) → Receives x y bytes old new (Err e) → IsUnmoved x y
+received_unmoved x y bytes old new e works honest sound never (inl lost) =
+    let is : true ≡ false = sym lost.failed ∙ works in absurd (cc)
+received_unmoved x y bytes old new e works honest sound never (inr (inl passed)) = absurd (let h = passed.answered in cc)
+received_unmoved x y bytes old new e works honest sound never (inr (inr taken)) =
+    call_unmoved x y (Comes taken.sender taken.message) old new e works honest sound never taken.call
 
 -- ---- one of the members
 

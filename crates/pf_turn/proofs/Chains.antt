@@ -63,6 +63,10 @@ pub served_turn : {R : Type 0} {G : Ghosts R} (x y : Stand G) (a : Option NodeFa
 served_turn x y None d = record { turns = suc zero; then = y; made = (x, same_all x, d); last = same_all y }
 served_turn x y (Some e) d = record { turns = zero; then = x; made = same_all x; last = d }
 
+-- one turn more
+pub served_on : {R : Type 0} {G : Ghosts R} (x y z : Stand G) (a : Option NodeFault) → Served x y None → Turned y z a → Served x z a
+served_on x y z a s d = served_then x y z a s (served_turn y z a d)
+
 -- nothing came
 pub given_none : (old new : Option (List (List ℕ))) (room : List ℕ) (len : Option ℕ) → Gives old (option_map (λ n. take n room) len) new →
     (r : Bool) → is_some len ≡ not r → r ≡ true → new ≡ old

@@ -74,8 +74,10 @@ fn drain<R: Records, W: Wire>(
     ensures grows { applied_of node.old ≤ applied_of node.new }
 {
     for taken in 0..most {
-        if !take_one(node, wire, room)? {
-            return Ok(taken);
+        match take_one(node, wire, room) {
+            Ok(true) => {}
+            Ok(false) => return Ok(taken),
+            Err(fault) => return Err(fault),
         }
     }
     Ok(most)
@@ -97,9 +99,15 @@ pub fn serve<R: Records, W: Wire>(
         (fault_of result) }
     ensures grows { applied_of node.old ≤ applied_of node.new }
 {
-    let taken = drain(node, wire, room, most)?;
-    if is_due {
-        tick_now(node, wire, room)?;
+    let taken = match drain(node, wire, room, most) {
+        Ok(taken) => taken,
+        Err(fault) => return Err(fault),
+    };
+    if !is_due {
+        return Ok(taken);
     }
-    Ok(taken)
+    match tick_now(node, wire, room) {
+        Ok(()) => Ok(taken),
+        Err(fault) => Err(fault),
+    }
 }

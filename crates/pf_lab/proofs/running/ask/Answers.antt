@@ -9,4 +9,4 @@ pub returns-in-Err-clause-told : goal.returns-in-Err-clause-told
 returns-in-Err-clause-told c =
     let n = c.args.node.now in
     let p = membership_of n in
-    c.refused.ensures.asks (answer p.members p.me (state_in n) (Asks (view_of c.args.entry.now).command)) (state_in n).stored.meta (view_of c.args.entry.now).command (c.in-Err.ensures.refused tt)
+    c.refused.ensures.asks (answer p.members p.me (state_in n) (Asks (view_of c.args.entry.now).command)) (state_in n).stored.meta (view_of c.args.entry.now).command (c.in-Err.ensures.call.refused tt)

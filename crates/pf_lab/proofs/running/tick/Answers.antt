@@ -8,4 +8,4 @@ pub returns-in-Err-clause-told : goal.returns-in-Err-clause-told
 returns-in-Err-clause-told c =
     let n = c.args.node.now in
     let p = membership_of n in
-    c.refused.ensures.ticks (answer p.members p.me (state_in n) Ticks) (state_in n).stored.meta (c.in-Err.ensures.refused tt)
+    c.refused.ensures.ticks (answer p.members p.me (state_in n) Ticks) (state_in n).stored.meta (c.in-Err.ensures.call.refused tt)

@@ -1,0 +1,36 @@
+-- the turn of what had come, or none
+use Rattle.std.proofs.Common.{refl, option_map}
+use Rattle.pf_turn.proofs.Given.{given_on, handed_on}
+use Rattle.pf_turn.proofs.Chains.{served_none, served_turn, given_none}
+use Rattle.pf_turn.proofs.serving.take_one.Goals as goal
+
+pub returns-then-is_none-clause-served : goal.returns-then-is_none-clause-served
+returns-then-is_none-clause-served g c = served_none _ _ (record {
+  replica = refl;
+  given = given_none _ _ c.poll-len.new.bytes.items c.poll-len.result c.poll-len.ensures.given c.is_none.result c.is_none.ensures c.if-is_none.true;
+  handed = c.poll-len.ensures.quiet;
+})
+
+pub returns-in-Ok-clause-served : goal.returns-in-Ok-clause-served
+returns-in-Ok-clause-served g c =
+    served_turn _ _ _ (record {
+      came = option_map (λ b. b.now) c.came.result;
+      gave = given_on (g.W.Wire.given c.args.wire.now) (g.W.Wire.given c.poll-len.new.wire) (g.W.Wire.given c.send_all.new.wire)
+          c.poll-len.new.bytes.items c.deref.result.now c.poll-len.result _ c.poll-len.ensures.given c.came.ensures c.deref.ensures.value c.send_all.ensures.given;
+      out = c.act-result.new.out.items;
+      acts = c.in-Ok.ensures.acts;
+      sent = handed_on (g.W.Wire.handed c.args.wire.now) (g.W.Wire.handed c.poll-len.new.wire) (g.W.Wire.handed c.send_all.new.wire)
+          c.act-result.new.out.items c.as_slice.result.now c.poll-len.ensures.quiet c.as_slice.ensures.value c.send_all.ensures.handed;
+    })
+
+pub returns-in-Err-clause-served : goal.returns-in-Err-clause-served
+returns-in-Err-clause-served g c =
+    served_turn _ _ _ (record {
+      came = option_map (λ b. b.now) c.came.result;
+      gave = given_on (g.W.Wire.given c.args.wire.now) (g.W.Wire.given c.poll-len.new.wire) (g.W.Wire.given c.send_all.new.wire)
+          c.poll-len.new.bytes.items c.deref.result.now c.poll-len.result _ c.poll-len.ensures.given c.came.ensures c.deref.ensures.value c.send_all.ensures.given;
+      out = c.act-result.new.out.items;
+      acts = c.in-Err.ensures.acts;
+      sent = handed_on (g.W.Wire.handed c.args.wire.now) (g.W.Wire.handed c.poll-len.new.wire) (g.W.Wire.handed c.send_all.new.wire)
+          c.act-result.new.out.items c.as_slice.result.now c.poll-len.ensures.quiet c.as_slice.ensures.value c.send_all.ensures.handed;
+    })
