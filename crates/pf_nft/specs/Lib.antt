@@ -1,0 +1,2 @@
+pub mod Subset
+pub mod Cuts
