@@ -35,7 +35,7 @@ in_part p q x some =
       ]
     ]
 
-agree_in : (f : Family) (len n : ℕ) (base : Addr) → agree len (address f n) base ≡ (family_eq (family_of base) f
+pub agree_in : (f : Family) (len n : ℕ) (base : Addr) → agree len (address f n) base ≡ (family_eq (family_of base) f
     && (nat_le (cleared (width base) len (bits_of base)) n && nat_le n (cleared (width base) len (bits_of base) + (2 ^ (width base - len) - 1))))
 unfolding agree
 agree_in Inet len n (V4 y) = in_part (2 ^ (32 - len)) (front 32 len y) n (pow_pos (32 - len))

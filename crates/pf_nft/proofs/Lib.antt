@@ -1,1 +1,5 @@
 pub mod Cutting
+pub mod Choices
+pub mod FoundSets
+pub mod Asked
+pub mod Running

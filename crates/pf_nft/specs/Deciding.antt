@@ -1,0 +1,25 @@
+-- What the rendered ruleset is promised to decide.
+use Rattle.std.specs.Prelude.{◌≡◌, ℕ, ◌==◌, true, Option, Some, nat_le}
+use Rattle.pf_addr.specs.Blocks.{FitsAddr}
+use Rattle.pf_config.specs.Map.{Configuration}
+use Rattle.pf_eval.specs.Packets.{PacketValue}
+use Rattle.pf_eval.specs.PacketTexts.{same_family, has_ports, is_there_if, only_if}
+use Rattle.pf_eval.specs.Matching.{if_set}
+use Rattle.pf_eval.specs.Verdicts.{judgement}
+use Rattle.pf_nft.specs.Subset.{Base}
+use Rattle.pf_nft.specs.Evaluation.{run}
+use Rattle.pf_nft.specs.Rendering.{Machine, groups_in, rendered, decision_of}
+
+-- a packet on an interface of the machine, which has that interface's groups, and whose parts go together: both ends are
+-- of one family; ports are there for TCP and UDP and for no other, and are numbers of 16 bits; a type is there for ICMP
+-- alone
+pub record IsPacketOn (m : Machine) (k : PacketValue) : Type 0 where
+  pub interface : groups_in m k.interface ≡ Some k.groups
+  pub family : same_family k.source k.destination ≡ true
+  pub source : FitsAddr k.source
+  pub destination : FitsAddr k.destination
+  pub source_port : is_there_if (has_ports k.protocol) k.source_port ≡ true
+  pub destination_port : is_there_if (has_ports k.protocol) k.destination_port ≡ true
+  pub source_number : if_set (λ n. nat_le n 65535) k.source_port ≡ true
+  pub destination_number : if_set (λ n. nat_le n 65535) k.destination_port ≡ true
+  pub icmp_type : only_if (k.protocol == 1) k.icmp_type ≡ true
