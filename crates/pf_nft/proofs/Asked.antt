@@ -1,8 +1,7 @@
 -- Some alternative of a rule's conditions holds exactly if all of them do.
-use Rattle.std.proofs.Common.{◌≡◌, ℕ, ◌+◌, ◌-◌, ◌<◌, ◌≤◌, ◌==◌, Bool, true, false, ◌&&◌, ◌||◌, List, [], ◌∷◌, ◌++◌, map, Option, Some, None, option_map, is_some, unwrap_or, refl, sym, subst, ap, ◌∙◌, arith, inl, inr, add-one-le}
-use Rattle.std.specs.Prelude.{not, nat_lt, nat_le, find, filter, if◌then◌else◌}
-use Rattle.std.specs.List.{list_any, list_all}
-use Rattle.std.specs.Map.{lookup}
+use Rattle.std.proofs.Common.{◌≡◌, ℕ, ◌+◌, ◌≤◌, ◌==◌, Bool, true, false, ◌&&◌, ◌||◌, List, [], ◌∷◌, Option, Some, None, option_map, is_some, unwrap_or, refl, sym, subst, ap, ◌∙◌, arith, inl, inr}
+use Rattle.std.specs.Prelude.{not, nat_le, filter, if◌then◌else◌}
+use Rattle.std.specs.List.{list_any}
 use Rattle.std.specs.Str.{bytes_eq}
 use Rattle.std.proofs.lemmas.Bool.{cases_eq, cases_lt, eq-eqb, ne_eqb, leb-true, le-leb, lt-leb, lt-ltb, le-ltb, false≢true}
 use Rattle.std.proofs.lemmas.Bool.Decides.{nat_tests}
@@ -11,7 +10,7 @@ use Rattle.pf_addr.specs.declared.addr.Addr.{Addr}
 use Rattle.pf_addr.specs.declared.addr.Addr.TheVariants.{V4, V6}
 use Rattle.pf_addr.specs.declared.addr.Family.{Family}
 use Rattle.pf_addr.specs.declared.addr.Family.TheVariants.{Inet, Inet6}
-use Rattle.pf_addr.specs.Blocks.{Block, Span, FitsAddr, family_of, in_prefix, in_range}
+use Rattle.pf_addr.specs.Blocks.{FitsAddr, family_of, in_range}
 use Rattle.pf_addr.specs.Order.{bits_of}
 use Rattle.pf_words.specs.declared.flags.TcpFlags.{TcpFlags}
 use Rattle.pf_ruleset.specs.declared.parts.Direction.{Direction}
@@ -27,21 +26,21 @@ use Rattle.pf_ruleset.specs.declared.parts.FlagTest.{FlagTest}
 use Rattle.pf_ruleset.specs.declared.parts.FlagTest.TheVariants as flags
 use Rattle.pf_ruleset.specs.declared.rule.Conditions.{Conditions}
 use Rattle.pf_ruleset.specs.Names.{Name}
-use Rattle.pf_table.specs.Tables.{TableValue, in_table, bool_eq}
+use Rattle.pf_table.specs.Tables.{TableValue, in_table}
 use Rattle.pf_config.specs.Map.{Configuration, Path, table_at, or_else}
 use Rattle.pf_config.proofs.Treed.{bytes_same, same_bytes}
 use Rattle.pf_eval.specs.Packets.{PacketValue, interfaces}
 use Rattle.pf_eval.specs.PacketTexts.{same_family, has_ports, is_there_if, only_if}
 use Rattle.pf_eval.specs.Matching.{direction_eq, if_set, if_there, on_interface, of_family, in_some, in_addresses, at_host, port_passes, flag_passes, just, flags_pass, is_such, is_between, matches}
 use Rattle.pf_eval.specs.Verdicts.{tables_in}
-use Rattle.pf_nft.specs.Subset.{Side, Source, Destination, Where, From, InSet, Match, NamedSet, family_eq, AtPort, OnInterface, SetName}
-use Rattle.pf_nft.specs.Cuts.{is_within, address, top, first_of, last_of, elements}
+use Rattle.pf_nft.specs.Subset.{Side, Source, Destination, Where, From, InSet, NamedSet, family_eq}
+use Rattle.pf_nft.specs.Cuts.{is_within, address, top, first_of, last_of}
 use Rattle.pf_nft.specs.Evaluation.{holds, turned, in_place, address_at, port_at, masked, flags_masked}
-use Rattle.pf_nft.specs.Alternatives.{Alternative, both}
+use Rattle.pf_nft.specs.Alternatives.{both}
 use Rattle.pf_nft.specs.Rendering.{Machine, always, groups_in, names_of, names_in, known, interfaces_with, direction_alternatives, family_alternatives, protocol_alternatives, type_alternatives, masked_by, flag_alternatives, on_some, is_meant, interface_alternatives}
-use Rattle.pf_nft.specs.Rendering.{PortSpan, port_span, on_ports, port_alternatives, owner_of, place_of, of_place, off_place, host_alternatives, such_alternatives, end_alternatives, alternatives, sets_of}
+use Rattle.pf_nft.specs.Rendering.{PortSpan, port_span, on_ports, port_alternatives, place_of, of_place, off_place, host_alternatives, such_alternatives, end_alternatives, alternatives, sets_of}
 use Rattle.pf_nft.specs.Deciding.{IsPacketOn}
-use Rattle.pf_nft.proofs.Cutting.{contains_in, elements_hold, agree_in}
+use Rattle.pf_nft.proofs.Cutting.{elements_hold, agree_in}
 use Rattle.pf_nft.proofs.Choices.{any_holds, choice_holds, both_hold, and_false}
 use Rattle.pf_nft.proofs.FoundSets.{set_of_table}
 
@@ -92,8 +91,16 @@ flag_masked false false false = refl
 
 just_masked : (here set of : TcpFlags) → flags_masked here of (masked_by of set) ≡ just set of here
 unfolding just
-just_masked here set of = rw (flag_masked here.fin of.fin set.fin, flag_masked here.syn of.syn set.syn, flag_masked here.rst of.rst set.rst, flag_masked here.psh of.psh set.psh,
-    flag_masked here.ack of.ack set.ack, flag_masked here.urg of.urg set.urg, flag_masked here.ece of.ece set.ece, flag_masked here.cwr of.cwr set.cwr) refl
+just_masked here set of = rw (
+  flag_masked here.fin of.fin set.fin,
+  flag_masked here.syn of.syn set.syn,
+  flag_masked here.rst of.rst set.rst,
+  flag_masked here.psh of.psh set.psh,
+  flag_masked here.ack of.ack set.ack,
+  flag_masked here.urg of.urg set.urg,
+  flag_masked here.ece of.ece set.ece,
+  flag_masked here.cwr of.cwr set.cwr,
+) refl
 
 of_tcp : (is b : Bool) → ((is && ((is && b) && true)) || ((not is && true) || false)) ≡ (if is then b else true)
 of_tcp true true = refl
@@ -116,17 +123,17 @@ on_one sets k (n ∷ ns) = alone (list_any (bytes_eq k.interface) (n ∷ ns))
 filtered : (test : Name → Bool) (n : Name) (ns : List Name) → list_any (bytes_eq n) (filter test ns) ≡ (list_any (bytes_eq n) ns && test n)
 filtered test n [] = refl
 filtered test n (m ∷ ms) = (elim (bytes_eq n m) as (λ v. bytes_eq n m ≡ v → list_any (bytes_eq n) (if test m then m ∷ filter test ms else filter test ms) ≡ ((v || list_any (bytes_eq n) ms) && test n)) [
-    | true ↦ λ e. (let same : n ≡ m = bytes_same n m e in
-        subst (λ x. list_any (bytes_eq n) (if test x then m ∷ filter test ms else filter test ms) ≡ test n) same
-        (elim (test n) as (λ w. test n ≡ w → list_any (bytes_eq n) (if w then m ∷ filter test ms else filter test ms) ≡ w) [
-          | true ↦ λ f. rw e refl
-          | false ↦ λ f. filtered test n ms ∙ rw f (and_false (list_any (bytes_eq n) ms))
-        ] refl))
-    | false ↦ λ e. (elim (test m) as (λ w. list_any (bytes_eq n) (if w then m ∷ filter test ms else filter test ms) ≡ (list_any (bytes_eq n) ms && test n)) [
-        | true ↦ rw e (filtered test n ms)
-        | false ↦ filtered test n ms
-      ])
-  ]) refl
+  | true ↦ λ e. (let same : n ≡ m = bytes_same n m e in
+      subst (λ x. list_any (bytes_eq n) (if test x then m ∷ filter test ms else filter test ms) ≡ test n) same
+      (elim (test n) as (λ w. test n ≡ w → list_any (bytes_eq n) (if w then m ∷ filter test ms else filter test ms) ≡ w) [
+        | true ↦ λ f. rw e refl
+        | false ↦ λ f. filtered test n ms ∙ rw f (and_false (list_any (bytes_eq n) ms))
+      ] refl))
+  | false ↦ λ e. (elim (test m) as (λ w. list_any (bytes_eq n) (if w then m ∷ filter test ms else filter test ms) ≡ (list_any (bytes_eq n) ms && test n)) [
+    | true ↦ rw e (filtered test n ms)
+    | false ↦ filtered test n ms
+  ])
+]) refl
 
 turned_bytes : (m n : Name) → bytes_eq m n ≡ true → bytes_eq n m ≡ true
 turned_bytes m n e = subst (λ x. bytes_eq x m ≡ true) (bytes_same m n e) (same_bytes m)
@@ -134,9 +141,9 @@ turned_bytes m n e = subst (λ x. bytes_eq x m ≡ true) (bytes_same m n e) (sam
 pub is_known : (m : Machine) (name : Name) (groups : List Name) → groups_in m name ≡ Some groups → list_any (bytes_eq name) (known m) ≡ true
 is_known [] name groups h = absurd cc
 is_known (i ∷ m) name groups h = (elim (bytes_eq i.0 name) as (λ v. bytes_eq i.0 name ≡ v → (if v then Some i.1 else groups_in m name) ≡ Some groups → (bytes_eq name i.0 || list_any (bytes_eq name) (known m)) ≡ true) [
-    | true ↦ λ e g. rw (turned_bytes i.0 name e) refl
-    | false ↦ λ e g. (let more : list_any (bytes_eq name) (known m) ≡ true = is_known m name groups g in rw more (elim (bytes_eq name i.0) as (λ w. (w || true) ≡ true) [ true ↦ refl | false ↦ refl ]))
-  ]) refl h
+  | true ↦ λ e g. rw (turned_bytes i.0 name e) refl
+  | false ↦ λ e g. (let more : list_any (bytes_eq name) (known m) ≡ true = is_known m name groups g in rw more (elim (bytes_eq name i.0) as (λ w. (w || true) ≡ true) [ true ↦ refl | false ↦ refl ]))
+]) refl h
 
 -- a packet is on one of the interfaces whose names pass exactly if its names pass
 pub on_passing : (sets : List NamedSet) (m : Machine) (k : PacketValue) (test : List Name → Bool) → groups_in m k.interface ≡ Some k.groups →
@@ -167,33 +174,33 @@ for_ports : (sets : List NamedSet) (k : PacketValue) (side : Side) (o : Option P
 unfolding holds
 for_ports sets k side None = sym (and_false (has_ports k.protocol))
 for_ports sets k side (Some s) = elim (k.protocol == 6) as (λ v. ((v && (in_span (Some s) (port_at side k) && true)) || (((k.protocol == 17) && (in_span (Some s) (port_at side k) && true)) || false)) ≡ ((v || (k.protocol == 17)) && in_span (Some s) (port_at side k))) [
-    | true ↦ (elim (in_span (Some s) (port_at side k)) as (λ h. ((h && true) || (((k.protocol == 17) && (h && true)) || false)) ≡ h) [ true ↦ refl | false ↦ ap (λ v. v || false) (and_false (k.protocol == 17)) ])
-    | false ↦ (elim (k.protocol == 17) as (λ v. ((v && (in_span (Some s) (port_at side k) && true)) || false) ≡ (v && in_span (Some s) (port_at side k))) [ true ↦ alone (in_span (Some s) (port_at side k)) | false ↦ refl ])
-  ]
+  | true ↦ (elim (in_span (Some s) (port_at side k)) as (λ h. ((h && true) || (((k.protocol == 17) && (h && true)) || false)) ≡ h) [ true ↦ refl | false ↦ ap (λ v. v || false) (and_false (k.protocol == 17)) ])
+  | false ↦ (elim (k.protocol == 17) as (λ v. ((v && (in_span (Some s) (port_at side k) && true)) || false) ≡ (v && in_span (Some s) (port_at side k))) [ true ↦ alone (in_span (Some s) (port_at side k)) | false ↦ refl ])
+]
 
 port_matched : (t : PortTest) (port : ℕ) → port ≤ 65535 → passes_span (port_span t) port ≡ port_passes t port
 unfolding port_passes
 port_matched (Equal n) port h = grind (arith, nat_tests)
 port_matched (NotEqual n) port h = grind (arith, nat_tests)
 port_matched (Less n) port h = elim (cases_eq n 0) [
-    | inl e ↦ rw (eq-eqb n 0 e) (grind (arith, nat_tests))
-    | inr e ↦ rw (ne_eqb n 0 e) (grind (arith, nat_tests))
-  ]
+  | inl e ↦ rw (eq-eqb n 0 e) (grind (arith, nat_tests))
+  | inr e ↦ rw (ne_eqb n 0 e) (grind (arith, nat_tests))
+]
 port_matched (LessEqual n) port h = grind (arith, nat_tests)
 port_matched (Greater n) port h = grind (arith, nat_tests)
 port_matched (GreaterEqual n) port h = grind (arith, nat_tests)
 port_matched (FromTo a b) port h = elim (cases_lt b a) [
-    | inl e ↦ rw (lt-leb a b e) (grind (arith, nat_tests))
-    | inr e ↦ rw (le-leb a b e) (grind (arith, nat_tests))
-  ]
+  | inl e ↦ rw (lt-leb a b e) (grind (arith, nat_tests))
+  | inr e ↦ rw (le-leb a b e) (grind (arith, nat_tests))
+]
 port_matched (Between a b) port h = elim (cases_lt (a + 1) b) [
-    | inl e ↦ rw (lt-ltb (a + 1) b e) (grind (arith, nat_tests))
-    | inr e ↦ rw (le-ltb (a + 1) b e) (grind (arith, nat_tests))
-  ]
+  | inl e ↦ rw (lt-ltb (a + 1) b e) (grind (arith, nat_tests))
+  | inr e ↦ rw (le-ltb (a + 1) b e) (grind (arith, nat_tests))
+]
 port_matched (Outside a b) port h = elim (cases_lt b a) [
-    | inl e ↦ rw (lt-leb a b e) (grind (arith, nat_tests))
-    | inr e ↦ rw (le-leb a b e) (grind (arith, nat_tests))
-  ]
+  | inl e ↦ rw (lt-leb a b e) (grind (arith, nat_tests))
+  | inr e ↦ rw (le-leb a b e) (grind (arith, nat_tests))
+]
 
 by_port : (has : Bool) (o : Option PortSpan) (p : Option ℕ) (test : ℕ → Bool) → is_there_if has p ≡ true → if_set (λ n. nat_le n 65535) p ≡ true → ((n : ℕ) → n ≤ 65535 → passes_span o n ≡ test n) → (has && in_span o p) ≡ if_there test p
 by_port true o None test h few f = absurd (false≢true h)
@@ -302,7 +309,7 @@ such_hold c m k r on =
     let i = interface_alternatives m r.interface in
     both_hold s k (both (both (both (both d f) p) t) l) i
     ∙ ap (λ v. v && any_holds s k i) (both_hold s k (both (both (both d f) p) t) l ∙ ap (λ v. v && any_holds s k l) (both_hold s k (both (both d f) p) t
-      ∙ ap (λ v. v && any_holds s k t) (both_hold s k (both d f) p ∙ ap (λ v. v && any_holds s k p) (both_hold s k d f))))
+    ∙ ap (λ v. v && any_holds s k t) (both_hold s k (both d f) p ∙ ap (λ v. v && any_holds s k p) (both_hold s k d f))))
     ∙ rw (direction_holds s k r.direction, family_holds_too s k r.family, protocol_holds_too s k r.protocol, type_holds s k r.icmp_type on.icmp_type, flags_hold s k r.flags, interface_holds s m k r.interface on.interface) refl
 
 ends_hold : (c : Configuration) (m : Machine) (p : Path) (k : PacketValue) (r : Conditions) → IsPacketOn m k → any_holds (sets_of c) k (end_alternatives c p r) ≡ is_between (tables_in c p) r k
@@ -314,8 +321,12 @@ ends_hold c m p k r on =
     let h = host_alternatives c p Source r.source in
     let g = host_alternatives c p Destination r.destination in
     both_hold s k (both (both x y) h) g ∙ ap (λ v. v && any_holds s k g) (both_hold s k (both x y) h ∙ ap (λ v. v && any_holds s k h) (both_hold s k x y))
-    ∙ rw (port_holds s k Source r.source_port on.source_port on.source_number, port_holds s k Destination r.destination_port on.destination_port on.destination_number,
-      host_holds c p k Source r.source (λ f. refl) on.source, host_holds c p k Destination r.destination (λ f. same_families k.source k.destination f on.family) on.destination) refl
+    ∙ rw (
+      port_holds s k Source r.source_port on.source_port on.source_number,
+      port_holds s k Destination r.destination_port on.destination_port on.destination_number,
+      host_holds c p k Source r.source (λ f. refl) on.source,
+      host_holds c p k Destination r.destination (λ f. same_families k.source k.destination f on.family) on.destination,
+    ) refl
 
 -- some alternative of a rule holds exactly if the rule matches
 pub rule_holds : (c : Configuration) (m : Machine) (p : Path) (k : PacketValue) (r : Conditions) → IsPacketOn m k → any_holds (sets_of c) k (alternatives c m k.direction p r) ≡ matches (tables_in c p) r k

@@ -1,6 +1,6 @@
 -- Which alternatives hold: one of two lists joined exactly if one of each.
-use Rattle.std.proofs.Common.{◌≡◌, ℕ, ◌==◌, Bool, true, false, ◌&&◌, ◌||◌, List, [], ◌∷◌, ◌++◌, Option, Some, None, refl, sym, subst, ap, ◌∙◌, arith, inl, inr}
-use Rattle.std.specs.Prelude.{not, if◌then◌else◌}
+use Rattle.std.proofs.Common.{◌≡◌, ◌==◌, Bool, true, false, ◌&&◌, ◌||◌, List, [], ◌∷◌, ◌++◌, Option, Some, None, refl, sym, ap, ◌∙◌, arith, inl, inr}
+use Rattle.std.specs.Prelude.{not}
 use Rattle.std.specs.List.{list_any, list_all, flat_map}
 use Rattle.std.proofs.lemmas.Bool.{cases_eq, eq-eqb, ne_eqb}
 use Rattle.std.proofs.lemmas.Bool.Decides.{nat_tests}
@@ -111,18 +111,18 @@ protocols_both k AnyProtocol (Only m) = refl
 protocols_both k AnyProtocol NotTcp = refl
 protocols_both k (Only n) AnyProtocol = and_true (k.protocol == n)
 protocols_both k (Only n) (Only m) = elim (cases_eq n m) [
-    | inl e ↦ rw (eq-eqb n m e) (grind (arith, nat_tests))
-    | inr e ↦ rw (ne_eqb n m e) (grind (arith, nat_tests))
-  ]
+  | inl e ↦ rw (eq-eqb n m e) (grind (arith, nat_tests))
+  | inr e ↦ rw (ne_eqb n m e) (grind (arith, nat_tests))
+]
 protocols_both k (Only n) NotTcp = elim (cases_eq n 6) [
-    | inl e ↦ rw (eq-eqb n 6 e) (grind (arith, nat_tests))
-    | inr e ↦ rw (ne_eqb n 6 e) (grind (arith, nat_tests))
-  ]
+  | inl e ↦ rw (eq-eqb n 6 e) (grind (arith, nat_tests))
+  | inr e ↦ rw (ne_eqb n 6 e) (grind (arith, nat_tests))
+]
 protocols_both k NotTcp AnyProtocol = and_true (not (k.protocol == 6))
 protocols_both k NotTcp (Only n) = elim (cases_eq n 6) [
-    | inl e ↦ rw (eq-eqb n 6 e) (grind (arith, nat_tests))
-    | inr e ↦ rw (ne_eqb n 6 e) (grind (arith, nat_tests))
-  ]
+  | inl e ↦ rw (eq-eqb n 6 e) (grind (arith, nat_tests))
+  | inr e ↦ rw (ne_eqb n 6 e) (grind (arith, nat_tests))
+]
 protocols_both k NotTcp NotTcp = and_same (not (k.protocol == 6))
 
 made_hold : (sets : List NamedSet) (k : PacketValue) (v w : Bool) (f : Option (Option Family)) (q : Option Protocol) (tests : List Match) → FamilyIs k v f → ProtocolIs k w q →
@@ -134,8 +134,8 @@ made_hold sets k v w (Some f) (Some q) tests e h = rw (e, h) (elim (v && (w && l
 joined_hold : (sets : List NamedSet) (k : PacketValue) (a b : Alternative) → any_holds sets k (joined a b) ≡ (choice_holds sets k a && choice_holds sets k b)
 joined_hold sets k a b =
     made_hold sets k (family_holds k a.family && family_holds k b.family) (protocol_holds k a.protocol && protocol_holds k b.protocol)
-      (both_families a.family b.family) (both_protocols a.protocol b.protocol) (a.tests ++ b.tests)
-      (families_both k a.family b.family) (protocols_both k a.protocol b.protocol)
+    (both_families a.family b.family) (both_protocols a.protocol b.protocol) (a.tests ++ b.tests)
+    (families_both k a.family b.family) (protocols_both k a.protocol b.protocol)
     ∙ ap (λ v. (family_holds k a.family && family_holds k b.family) && ((protocol_holds k a.protocol && protocol_holds k b.protocol) && v)) (list_all-append (holds sets k) a.tests b.tests)
     ∙ shuffled (family_holds k a.family) (family_holds k b.family) (protocol_holds k a.protocol) (protocol_holds k b.protocol) (list_all (holds sets k) a.tests) (list_all (holds sets k) b.tests)
 

@@ -1,5 +1,5 @@
 -- The set of a table is found by its name.
-use Rattle.std.proofs.Common.{◌≡◌, ℕ, Bool, true, false, ◌&&◌, List, [], ◌∷◌, ◌++◌, Option, Some, None, option_map, refl, sym, subst, ap, ◌∙◌}
+use Rattle.std.proofs.Common.{◌≡◌, Bool, true, false, ◌&&◌, List, [], ◌∷◌, ◌++◌, Option, Some, None, option_map, refl, sym, ap, ◌∙◌}
 use Rattle.std.specs.Prelude.{find, if◌then◌else◌}
 use Rattle.std.specs.List.{flat_map}
 use Rattle.std.specs.Map.{lookup}
@@ -8,7 +8,7 @@ use Rattle.pf_addr.specs.declared.addr.Family.{Family}
 use Rattle.pf_addr.specs.declared.addr.Family.TheVariants.{Inet, Inet6}
 use Rattle.pf_ruleset.specs.Names.{Name}
 use Rattle.pf_table.specs.Tables.{TableValue}
-use Rattle.pf_config.specs.Map.{Configuration, AnchorValue, Path, path_eq, anchor_at, tables_in, tables_at, table_at, named, or_else}
+use Rattle.pf_config.specs.Map.{Configuration, AnchorValue, Path, path_eq, anchor_at, tables_in, tables_at, table_at, or_else}
 use Rattle.pf_nft.specs.Subset.{SetName, Interval, NamedSet}
 use Rattle.pf_nft.specs.Cuts.{elements}
 use Rattle.pf_nft.specs.Evaluation.{is_set, elements_in}
@@ -42,24 +42,24 @@ same_owner : (o p : Path) (name : Name) (f : Family) (ts : List (Name × TableVa
 same_owner o p name f [] t e h = absurd cc
 same_owner o p name Inet (u ∷ ts) t e h = rw e ((elim (bytes_eq u.0 name) as (λ v. Some t ≡ (if v then Some u.1 else lookup (λ n. bytes_eq n name) ts) →
     option_map (λ (s : NamedSet). s.elements) (if true && v && true then Some (record { name = name_at o u.0 Inet; elements = elements Inet u.1.entries }) else
-      (if true && v && false then Some (record { name = name_at o u.0 Inet6; elements = elements Inet6 u.1.entries }) else find (is_set (name_at p name Inet)) (flat_map (table_sets o) ts))) ≡ Some (elements Inet t.entries)) [
-    | true ↦ λ g. ap (option_map (λ (x : TableValue). elements Inet x.entries)) (sym g)
-    | false ↦ λ g. same_owner o p name Inet ts t e g
-  ]) h)
+    (if true && v && false then Some (record { name = name_at o u.0 Inet6; elements = elements Inet6 u.1.entries }) else find (is_set (name_at p name Inet)) (flat_map (table_sets o) ts))) ≡ Some (elements Inet t.entries)) [
+      | true ↦ λ g. ap (option_map (λ (x : TableValue). elements Inet x.entries)) (sym g)
+      | false ↦ λ g. same_owner o p name Inet ts t e g
+    ]) h)
 same_owner o p name Inet6 (u ∷ ts) t e h = rw e ((elim (bytes_eq u.0 name) as (λ v. Some t ≡ (if v then Some u.1 else lookup (λ n. bytes_eq n name) ts) →
     option_map (λ (s : NamedSet). s.elements) (if true && v && false then Some (record { name = name_at o u.0 Inet; elements = elements Inet u.1.entries }) else
-      (if true && v && true then Some (record { name = name_at o u.0 Inet6; elements = elements Inet6 u.1.entries }) else find (is_set (name_at p name Inet6)) (flat_map (table_sets o) ts))) ≡ Some (elements Inet6 t.entries)) [
-    | true ↦ λ g. ap (option_map (λ (x : TableValue). elements Inet6 x.entries)) (sym g)
-    | false ↦ λ g. same_owner o p name Inet6 ts t e g
-  ]) h)
+    (if true && v && true then Some (record { name = name_at o u.0 Inet6; elements = elements Inet6 u.1.entries }) else find (is_set (name_at p name Inet6)) (flat_map (table_sets o) ts))) ≡ Some (elements Inet6 t.entries)) [
+      | true ↦ λ g. ap (option_map (λ (x : TableValue). elements Inet6 x.entries)) (sym g)
+      | false ↦ λ g. same_owner o p name Inet6 ts t e g
+    ]) h)
 
 among : (p : Path) (name : Name) (f : Family) (anchors : List AnchorValue) (t : TableValue) → Some t ≡ lookup (λ n. bytes_eq n name) (tables_in (anchor_at p anchors)) →
     found (name_at p name f) (flat_map anchor_sets anchors) ≡ Some (elements f t.entries)
 among p name f [] t h = absurd cc
 among p name f (a ∷ anchors) t h =
     found_append (name_at p name f) (anchor_sets a) (flat_map anchor_sets anchors) ∙ (elim (path_eq a.path p) as (λ v. path_eq a.path p ≡ v →
-      Some t ≡ lookup (λ n. bytes_eq n name) (tables_in (if v then Some a else anchor_at p anchors)) →
-      or_else (found (name_at p name f) (anchor_sets a)) (found (name_at p name f) (flat_map anchor_sets anchors)) ≡ Some (elements f t.entries)) [
+    Some t ≡ lookup (λ n. bytes_eq n name) (tables_in (if v then Some a else anchor_at p anchors)) →
+    or_else (found (name_at p name f) (anchor_sets a)) (found (name_at p name f) (flat_map anchor_sets anchors)) ≡ Some (elements f t.entries)) [
       | true ↦ λ e g. ap (λ o. or_else o (found (name_at p name f) (flat_map anchor_sets anchors))) (same_owner a.path p name f a.tables t e g)
       | false ↦ λ e g. ap (λ o. or_else o (found (name_at p name f) (flat_map anchor_sets anchors))) (other_owner a.path p name f a.tables e) ∙ among p name f anchors t g
     ]) refl h

@@ -1,11 +1,8 @@
 -- What a rule asks of a packet, as lists of matches of which one has to hold.
-use Rattle.std.specs.Prelude.{ℕ, Bool, true, false, ◌==◌, ◌&&◌, List, [], ◌∷◌, ◌++◌, Option, Some, None, if◌then◌else◌}
-use Rattle.std.specs.List.{list_any, list_all, flat_map}
+use Rattle.std.specs.Prelude.{ℕ, true, false, ◌==◌, List, [], ◌∷◌, ◌++◌, Option, Some, None, if◌then◌else◌}
+use Rattle.std.specs.List.{flat_map}
 use Rattle.pf_addr.specs.declared.addr.Family.{Family}
-use Rattle.pf_eval.specs.Packets.{PacketValue}
-use Rattle.pf_eval.specs.Matching.{of_family, if_set}
-use Rattle.pf_nft.specs.Subset.{Match, OfFamily, OfProtocol, NamedSet, family_eq}
-use Rattle.pf_nft.specs.Evaluation.{holds}
+use Rattle.pf_nft.specs.Subset.{Match, OfFamily, OfProtocol, family_eq}
 
 -- what is asked of the protocol
 pub data Protocol : Type 0 where

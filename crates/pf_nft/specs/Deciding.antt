@@ -1,14 +1,10 @@
 -- What the rendered ruleset is promised to decide.
-use Rattle.std.specs.Prelude.{◌≡◌, ℕ, ◌==◌, true, Option, Some, nat_le}
+use Rattle.std.specs.Prelude.{◌≡◌, ◌==◌, true, Some, nat_le}
 use Rattle.pf_addr.specs.Blocks.{FitsAddr}
-use Rattle.pf_config.specs.Map.{Configuration}
 use Rattle.pf_eval.specs.Packets.{PacketValue}
 use Rattle.pf_eval.specs.PacketTexts.{same_family, has_ports, is_there_if, only_if}
 use Rattle.pf_eval.specs.Matching.{if_set}
-use Rattle.pf_eval.specs.Verdicts.{judgement}
-use Rattle.pf_nft.specs.Subset.{Base}
-use Rattle.pf_nft.specs.Evaluation.{run}
-use Rattle.pf_nft.specs.Rendering.{Machine, groups_in, rendered, decision_of}
+use Rattle.pf_nft.specs.Rendering.{Machine, groups_in}
 
 -- a packet on an interface of the machine, which has that interface's groups, and whose parts go together: both ends are
 -- of one family; ports are there for TCP and UDP and for no other, and are numbers of 16 bits; a type is there for ICMP

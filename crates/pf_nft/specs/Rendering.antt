@@ -1,13 +1,12 @@
 -- A configuration as a ruleset of nftables, for a machine whose interfaces are known, and for one direction.
-use Rattle.std.specs.Prelude.{ℕ, ◌+◌, ◌-◌, Bool, true, false, ◌==◌, ◌&&◌, ◌||◌, List, [], ◌∷◌, ◌++◌, Option, Some, None}
+use Rattle.std.specs.Prelude.{ℕ, ◌+◌, ◌-◌, Bool, true, false, ◌==◌, ◌&&◌, List, [], ◌∷◌, ◌++◌, Option, Some, None}
 use Rattle.std.specs.Prelude.{length, map, filter, reverse, not, nat_le, nat_lt, option_map, is_some, unwrap_or, if◌then◌else◌}
 use Rattle.std.specs.List.{list_any, flat_map}
 use Rattle.std.specs.Map.{lookup}
 use Rattle.std.specs.Str.{bytes_eq}
-use Rattle.pf_addr.specs.declared.addr.Addr.{Addr}
 use Rattle.pf_addr.specs.declared.addr.Family.{Family}
 use Rattle.pf_addr.specs.declared.addr.Family.TheVariants.{Inet, Inet6}
-use Rattle.pf_addr.specs.Blocks.{Block, Span, family_of}
+use Rattle.pf_addr.specs.Blocks.{family_of}
 use Rattle.pf_addr.specs.Order.{bits_of}
 use Rattle.pf_words.specs.declared.flags.TcpFlags.{TcpFlags}
 use Rattle.pf_ruleset.specs.declared.parts.Direction.{Direction}
@@ -26,15 +25,15 @@ use Rattle.pf_ruleset.specs.declared.rule.Rule.{Rule}
 use Rattle.pf_ruleset.specs.declared.rule.Action.{Action}
 use Rattle.pf_ruleset.specs.declared.rule.Action.TheVariants as act
 use Rattle.pf_ruleset.specs.Names.{Name, begins_below}
-use Rattle.pf_ruleset.specs.Items.{AnyRule, FilterRule, AnchorRule, Target, Heading}
+use Rattle.pf_ruleset.specs.Items.{AnyRule, FilterRule, AnchorRule, Target}
 use Rattle.pf_table.specs.Tables.{TableValue}
 use Rattle.pf_config.specs.Map.{Configuration, AnchorValue, Path, anchor_at, table_at, kids, followed_by}
-use Rattle.pf_eval.specs.Packets.{PacketValue, without_digits}
+use Rattle.pf_eval.specs.Packets.{without_digits}
 use Rattle.pf_eval.specs.Matching.{direction_eq}
 use Rattle.pf_eval.specs.Verdicts as pf
-use Rattle.pf_nft.specs.Subset.{SetName, NamedSet, Side, Source, Destination, Where, From, InSet}
+use Rattle.pf_nft.specs.Subset.{NamedSet, Side, Source, Destination, Where, From, InSet}
 use Rattle.pf_nft.specs.Subset.{Match, OnInterface, AtAddress, AtPort, WithFlags, OfType}
-use Rattle.pf_nft.specs.Subset.{Pass, Forward, Backward, ChainName, Base, At, Note, Unknown, Skip, Default, Spot}
+use Rattle.pf_nft.specs.Subset.{Forward, Backward, ChainName, Base, At, Note, Unknown, Skip, Default, Spot}
 use Rattle.pf_nft.specs.Subset.{Outcome, Accept, Drop, Reject, Decision, Statement, Ends, Jump, NftRule, Chain, NftRuleset}
 use Rattle.pf_nft.specs.Subset.{family_eq}
 use Rattle.pf_nft.specs.Evaluation.{turned}

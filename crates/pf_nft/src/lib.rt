@@ -3,4 +3,4 @@
 
 mod laws;
 
-pub use laws::sets_hold_tables;
+pub use laws::{rendered_as_judged, sets_hold_tables};
