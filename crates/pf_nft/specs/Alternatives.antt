@@ -2,13 +2,10 @@
 use Rattle.std.specs.Prelude.{ℕ, true, false, ◌==◌, List, [], ◌∷◌, ◌++◌, Option, Some, None, if◌then◌else◌}
 use Rattle.std.specs.List.{flat_map}
 use Rattle.pf_addr.specs.declared.addr.Family.{Family}
-use Rattle.pf_nft.specs.Subset.{Match, OfFamily, OfProtocol, family_eq}
-
 -- what is asked of the protocol
-pub data Protocol : Type 0 where
-  AnyProtocol : Protocol
-  Only : (number : ℕ) → Protocol
-  NotTcp : Protocol
+pub use Rattle.pf_nft.specs.declared.alternative.Protocol.{Protocol}
+pub use Rattle.pf_nft.specs.declared.alternative.Protocol.TheVariants.{AnyProtocol, Only, NotTcp}
+use Rattle.pf_nft.specs.Subset.{Match, OfFamily, OfProtocol, family_eq}
 
 -- what is asked of the family and of the protocol, and what else
 pub record Alternative : Type 0 where

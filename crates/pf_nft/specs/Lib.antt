@@ -4,3 +4,4 @@ pub mod Evaluation
 pub mod Alternatives
 pub mod Rendering
 pub mod Deciding
+pub mod Seen

@@ -6,6 +6,17 @@ use Rattle.pf_addr.specs.declared.addr.Family.TheVariants.{Inet, Inet6}
 use Rattle.pf_words.specs.declared.flags.TcpFlags.{TcpFlags}
 use Rattle.pf_ruleset.specs.Names.{Name}
 use Rattle.pf_config.specs.Map.{Path}
+-- from the first number to the last
+pub use Rattle.pf_nft.specs.declared.subset.Interval.{Interval}
+-- of the two ends of a packet
+pub use Rattle.pf_nft.specs.declared.subset.Side.{Side}
+pub use Rattle.pf_nft.specs.declared.subset.Side.TheVariants.{Source, Destination}
+-- of the chains of a path one holds what may end the evaluation, forwards, and one the rest, backwards
+pub use Rattle.pf_nft.specs.declared.subset.Pass.{Pass}
+pub use Rattle.pf_nft.specs.declared.subset.Pass.TheVariants.{Forward, Backward}
+-- accept, drop, or reject: with tcp reset, or icmpx port-unreachable
+pub use Rattle.pf_nft.specs.declared.subset.Outcome.{Outcome}
+pub use Rattle.pf_nft.specs.declared.subset.Outcome.TheVariants.{Accept, Drop, Reject}
 
 -- ---- sets (nft(8), SETS)
 
@@ -21,21 +32,11 @@ pub record SetName : Type 0 where
   pub table : Name
   pub family : Family
 
--- from the first number to the last
-pub record Interval : Type 0 where
-  pub low : ℕ
-  pub high : ℕ
-
 pub record NamedSet : Type 0 where
   pub name : SetName
   pub elements : List Interval
 
 -- ---- expressions that match (nft(8), PAYLOAD EXPRESSIONS, META EXPRESSIONS)
-
--- of the two ends of a packet
-pub data Side : Type 0 where
-  Source : Side
-  Destination : Side
 
 -- low-high, or @name
 pub data Where : Type 0 where
@@ -60,11 +61,6 @@ pub data Match : Type 0 where
 
 -- ---- rules and chains (nft(8), CHAINS, RULES)
 
--- of the chains of a path one holds what may end the evaluation, forwards, and one the rest, backwards
-pub data Pass : Type 0 where
-  Forward : Pass
-  Backward : Pass
-
 pub data ChainName : Type 0 where
   -- the chain at the hook
   Base : ChainName
@@ -80,12 +76,6 @@ pub data Note : Type 0 where
   Default : Note
   -- path@index
   Spot : (path : Path) (index : ℕ) → Note
-
--- accept, drop, or reject: with tcp reset, or icmpx port-unreachable
-pub data Outcome : Type 0 where
-  Accept : Outcome
-  Drop : Outcome
-  Reject : Outcome
 
 pub record Decision : Type 0 where
   pub outcome : Outcome
