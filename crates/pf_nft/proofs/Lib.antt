@@ -1,5 +1,6 @@
 pub mod Cutting
 pub mod Choices
 pub mod FoundSets
-pub mod Asked
+pub mod Matched
 pub mod Running
+pub mod Widths

@@ -29,7 +29,7 @@ use Rattle.pf_nft.specs.Rendering.{interfaces_with, on_some, is_skipped}
 use Rattle.pf_nft.specs.Deciding.{IsPacketOn}
 use Rattle.pf_nft.proofs.Choices.{any_holds, choice_holds, all_matches}
 use Rattle.pf_nft.proofs.FoundSets.{find_append}
-use Rattle.pf_nft.proofs.Asked.{rule_holds, on_passing, is_known}
+use Rattle.pf_nft.proofs.Matched.{rule_holds, on_passing, is_known}
 
 -- ---- lists of rules
 
@@ -405,6 +405,7 @@ default = record { outcome = Accept; note = Default }
 at_hook : (c : Configuration) (m : Machine) (k : PacketValue) (depth : ℕ) → IsPacketOn m k →
     run_rules (sets_of c) k (run depth (rendered c m k.direction) k) (base_chain c m).rules
     ≡ Some (decision_of (if skipped_packet c.skip k then Skipped else Decided (last_spot (hits depth c k []))))
+unfolding is_skipped
 at_hook c m k depth on =
     let jumped = run depth (rendered c m k.direction) k in
     let jumps = jump_rules (always ∷ []) (main_chains c) in

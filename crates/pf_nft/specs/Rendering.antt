@@ -38,6 +38,8 @@ use Rattle.pf_nft.specs.Subset.{Outcome, Accept, Drop, Reject, Decision, Stateme
 use Rattle.pf_nft.specs.Subset.{family_eq}
 use Rattle.pf_nft.specs.Evaluation.{turned}
 use Rattle.pf_nft.specs.Cuts.{first_of, last_of, elements}
+-- from one port to another, or, negated, every other
+pub use Rattle.pf_nft.specs.declared.asked.PortSpan.{PortSpan}
 use Rattle.pf_nft.specs.Alternatives.{Alternative, AnyProtocol, Only, NotTcp, matches_of, both}
 
 -- ---- the machine
@@ -123,12 +125,6 @@ interface_alternatives m None = always ∷ []
 interface_alternatives m (Some i) = on_some (interfaces_with (is_meant i) m)
 
 -- ---- ports
-
--- from one port to another, or, negated, every other
-pub record PortSpan : Type 0 where
-  pub low : ℕ
-  pub high : ℕ
-  pub negated : Bool
 
 abbrev pub ports_from : (low high : ℕ) → Option PortSpan
 ports_from low high = Some (record { low = low; high = high; negated = false })
@@ -296,7 +292,7 @@ abbrev pub ending : Outcome → Note → List Match → NftRule
 ending outcome note matches = record { matches = matches; statement = Ends (record { outcome = outcome; note = note }) }
 
 -- one of the names is in the skip list
-abbrev pub is_skipped : List Name → List Name → Bool
+unfoldable pub is_skipped : List Name → List Name → Bool
 is_skipped skip names = list_any (λ n. list_any (λ m. bytes_eq m n) names) skip
 
 abbrev pub skip_rules : Configuration → Machine → List NftRule

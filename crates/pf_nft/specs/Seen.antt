@@ -9,6 +9,8 @@ use Rattle.pf_nft.specs.declared.subset.Match.TheVariants as match
 use Rattle.pf_nft.specs.declared.alternative.Alternative as code_alternative
 use Rattle.pf_nft.specs.Subset.{SetName, NamedSet, Where, From, InSet, Match, OnInterface, OfFamily, OfProtocol, AtAddress, AtPort, WithFlags, OfType}
 use Rattle.pf_nft.specs.Alternatives.{Alternative}
+use Rattle.pf_nft.specs.declared.machine.MachineInterface.{MachineInterface}
+use Rattle.pf_nft.specs.Rendering.{Machine}
 
 abbrev pub set_name_of : code_set.SetName → SetName
 set_name_of n = record { owner = n.owner.now; table = n.table.now; family = n.family }
@@ -31,3 +33,6 @@ match_of (match.OfType number) = OfType number
 
 abbrev pub alternative_of : code_alternative.Alternative → Alternative
 alternative_of a = record { family = a.family; protocol = a.protocol; tests = map match_of a.tests.items }
+
+abbrev pub machine_of : List MachineInterface → Machine
+machine_of m = map (λ (i : MachineInterface). (i.name, i.groups.items)) m
