@@ -1,18 +1,20 @@
 -- The set of a table is found by its name.
-use Rattle.std.proofs.Common.{◌≡◌, Bool, true, false, ◌&&◌, List, [], ◌∷◌, ◌++◌, Option, Some, None, option_map, refl, sym, ap, ◌∙◌}
+use Rattle.std.proofs.Common.{◌≡◌, Bool, true, false, ◌&&◌, List, [], ◌∷◌, ◌++◌, Option, Some, None, option_map, map, ◌||◌, refl, sym, ap, ◌∙◌}
 use Rattle.std.specs.Prelude.{find, if◌then◌else◌}
-use Rattle.std.specs.List.{flat_map}
+use Rattle.std.specs.List.{flat_map, list_any}
 use Rattle.std.specs.Map.{lookup}
 use Rattle.std.specs.Str.{bytes_eq}
 use Rattle.pf_addr.specs.declared.addr.Family.{Family}
 use Rattle.pf_addr.specs.declared.addr.Family.TheVariants.{Inet, Inet6}
 use Rattle.pf_ruleset.specs.Names.{Name}
 use Rattle.pf_table.specs.Tables.{TableValue}
-use Rattle.pf_config.specs.Map.{Configuration, AnchorValue, Path, path_eq, anchor_at, tables_in, tables_at, table_at, or_else}
+use Rattle.pf_config.specs.Map.{Configuration, AnchorValue, Path, path_eq, anchor_at, tables_in, tables_at, table_at, table_names, paths_in, or_else}
 use Rattle.pf_nft.specs.Subset.{SetName, Interval, NamedSet}
 use Rattle.pf_nft.specs.Cuts.{elements}
 use Rattle.pf_nft.specs.Evaluation.{is_set, elements_in}
-use Rattle.pf_nft.specs.Rendering.{table_sets, anchor_sets, sets_of}
+use Rattle.pf_nft.specs.Rendering.{entries_in, table_set, table_sets, path_sets, sets_of}
+use Rattle.pf_config.proofs.Treed.{path_itself, path_same, bytes_same}
+use Rattle.std.proofs.lemmas.Bool.{false≢true}
 
 pub find_append : {X : Type 0} (test : X → Bool) (xs ys : List X) → find test (xs ++ ys) ≡ or_else (find test xs) (find test ys)
 find_append test [] ys = refl
@@ -32,43 +34,58 @@ found_append n xs ys = ap (option_map (λ (s : NamedSet). s.elements)) (find_app
 abbrev name_at : Path → Name → Family → SetName
 name_at p name f = record { owner = p; table = name; family = f }
 
--- of a path whose name is another's, none is found
-other_owner : (o p : Path) (name : Name) (f : Family) (ts : List (Name × TableValue)) → path_eq o p ≡ false → found (name_at p name f) (flat_map (table_sets o) ts) ≡ None
-other_owner o p name f [] e = refl
-other_owner o p name f (t ∷ ts) e = rw e (other_owner o p name f ts e)
+-- of another path none is found
+other_owner : (c : Configuration) (o p : Path) (name : Name) (f : Family) (ns : List Name) → path_eq o p ≡ false → found (name_at p name f) (flat_map (table_sets c o) ns) ≡ None
+other_owner c o p name f [] e = refl
+other_owner c o p name f (n ∷ ns) e = rw e (other_owner c o p name f ns e)
 
-same_owner : (o p : Path) (name : Name) (f : Family) (ts : List (Name × TableValue)) (t : TableValue) → path_eq o p ≡ true → Some t ≡ lookup (λ n. bytes_eq n name) ts →
-    found (name_at p name f) (flat_map (table_sets o) ts) ≡ Some (elements f t.entries)
-same_owner o p name f [] t e h = absurd cc
-same_owner o p name Inet (u ∷ ts) t e h = rw e ((elim (bytes_eq u.0 name) as (λ v. Some t ≡ (if v then Some u.1 else lookup (λ n. bytes_eq n name) ts) →
-    option_map (λ (s : NamedSet). s.elements) (if true && v && true then Some (record { name = name_at o u.0 Inet; elements = elements Inet u.1.entries }) else
-    (if true && v && false then Some (record { name = name_at o u.0 Inet6; elements = elements Inet6 u.1.entries }) else find (is_set (name_at p name Inet)) (flat_map (table_sets o) ts))) ≡ Some (elements Inet t.entries)) [
-      | true ↦ λ g. ap (option_map (λ (x : TableValue). elements Inet x.entries)) (sym g)
-      | false ↦ λ g. same_owner o p name Inet ts t e g
-    ]) h)
-same_owner o p name Inet6 (u ∷ ts) t e h = rw e ((elim (bytes_eq u.0 name) as (λ v. Some t ≡ (if v then Some u.1 else lookup (λ n. bytes_eq n name) ts) →
-    option_map (λ (s : NamedSet). s.elements) (if true && v && false then Some (record { name = name_at o u.0 Inet; elements = elements Inet u.1.entries }) else
-    (if true && v && true then Some (record { name = name_at o u.0 Inet6; elements = elements Inet6 u.1.entries }) else find (is_set (name_at p name Inet6)) (flat_map (table_sets o) ts))) ≡ Some (elements Inet6 t.entries)) [
-      | true ↦ λ g. ap (option_map (λ (x : TableValue). elements Inet6 x.entries)) (sym g)
-      | false ↦ λ g. same_owner o p name Inet6 ts t e g
-    ]) h)
+here : (c : Configuration) (p : Path) (name n : Name) (f : Family) (rest : List NamedSet) → bytes_eq n name ≡ true → found (name_at p name f) (table_set c p n Inet ∷ table_set c p n Inet6 ∷ rest) ≡ Some (elements f (entries_in (table_at c p n)))
+here c p name n Inet rest e = rw (path_itself p, e) refl
+here c p name n Inet6 rest e = rw (path_itself p, e) refl
 
-among : (p : Path) (name : Name) (f : Family) (anchors : List AnchorValue) (t : TableValue) → Some t ≡ lookup (λ n. bytes_eq n name) (tables_in (anchor_at p anchors)) →
-    found (name_at p name f) (flat_map anchor_sets anchors) ≡ Some (elements f t.entries)
-among p name f [] t h = absurd cc
-among p name f (a ∷ anchors) t h =
-    found_append (name_at p name f) (anchor_sets a) (flat_map anchor_sets anchors) ∙ (elim (path_eq a.path p) as (λ v. path_eq a.path p ≡ v →
-    Some t ≡ lookup (λ n. bytes_eq n name) (tables_in (if v then Some a else anchor_at p anchors)) →
-    or_else (found (name_at p name f) (anchor_sets a)) (found (name_at p name f) (flat_map anchor_sets anchors)) ≡ Some (elements f t.entries)) [
-      | true ↦ λ e g. ap (λ o. or_else o (found (name_at p name f) (flat_map anchor_sets anchors))) (same_owner a.path p name f a.tables t e g)
-      | false ↦ λ e g. ap (λ o. or_else o (found (name_at p name f) (flat_map anchor_sets anchors))) (other_owner a.path p name f a.tables e) ∙ among p name f anchors t g
-    ]) refl h
+not_here : (c : Configuration) (p : Path) (name n : Name) (f : Family) (rest : List NamedSet) → bytes_eq n name ≡ false → found (name_at p name f) (table_set c p n Inet ∷ table_set c p n Inet6 ∷ rest) ≡ found (name_at p name f) rest
+not_here c p name n Inet rest e = rw (path_itself p, e) refl
+not_here c p name n Inet6 rest e = rw (path_itself p, e) refl
+
+same_owner : (c : Configuration) (p : Path) (name : Name) (f : Family) (ns : List Name) → list_any (λ n. bytes_eq n name) ns ≡ true →
+    found (name_at p name f) (flat_map (table_sets c p) ns) ≡ Some (elements f (entries_in (table_at c p name)))
+same_owner c p name f [] h = absurd (false≢true h)
+same_owner c p name f (n ∷ ns) h = (elim (bytes_eq n name) as (λ v. bytes_eq n name ≡ v → (v || list_any (λ n. bytes_eq n name) ns) ≡ true → found (name_at p name f) (flat_map (table_sets c p) (n ∷ ns)) ≡ Some (elements f (entries_in (table_at c p name)))) [
+    | true ↦ λ e g. here c p name n f (flat_map (table_sets c p) ns) e ∙ ap (λ x. Some (elements f (entries_in (table_at c p x)))) (bytes_same n name e)
+    | false ↦ λ e g. not_here c p name n f (flat_map (table_sets c p) ns) e ∙ same_owner c p name f ns g
+  ]) refl h
+
+among : (c : Configuration) (p : Path) (name : Name) (f : Family) (qs : List Path) → list_any (λ q. path_eq q p) qs ≡ true → list_any (λ n. bytes_eq n name) (table_names c p) ≡ true →
+    found (name_at p name f) (flat_map (path_sets c) qs) ≡ Some (elements f (entries_in (table_at c p name)))
+among c p name f [] h g = absurd (false≢true h)
+among c p name f (q ∷ qs) h g = found_append (name_at p name f) (path_sets c q) (flat_map (path_sets c) qs) ∙ (elim (path_eq q p) as (λ v. path_eq q p ≡ v → (v || list_any (λ q. path_eq q p) qs) ≡ true →
+    or_else (found (name_at p name f) (path_sets c q)) (found (name_at p name f) (flat_map (path_sets c) qs)) ≡ Some (elements f (entries_in (table_at c p name)))) [
+    | true ↦ λ e k. ap (λ o. or_else o (found (name_at p name f) (flat_map (path_sets c) qs)))
+        (ap (λ x. found (name_at p name f) (path_sets c x)) (path_same q p e) ∙ same_owner c p name f (table_names c p) g)
+    | false ↦ λ e k. ap (λ o. or_else o (found (name_at p name f) (flat_map (path_sets c) qs))) (other_owner c q p name f (table_names c q) e) ∙ among c p name f qs k g
+  ]) refl h
 
 its_elements : (o : Option NamedSet) (is : List Interval) → option_map (λ (s : NamedSet). s.elements) o ≡ Some is → elements_in o ≡ is
 its_elements None is h = absurd cc
 its_elements (Some s) is h = cc
 
+-- what a look-up finds is among the names
+is_named : (name : Name) (ts : List (Name × TableValue)) (t : TableValue) → Some t ≡ lookup (λ n. bytes_eq n name) ts → list_any (λ n. bytes_eq n name) (map (λ (t : Name × TableValue). t.0) ts) ≡ true
+is_named name [] t h = absurd cc
+is_named name (u ∷ ts) t h = (elim (bytes_eq u.0 name) as (λ v. Some t ≡ (if v then Some u.1 else lookup (λ n. bytes_eq n name) ts) → (v || list_any (λ n. bytes_eq n name) (map (λ (t : Name × TableValue). t.0) ts)) ≡ true) [
+    | true ↦ λ g. refl
+    | false ↦ λ g. is_named name ts t g
+  ]) h
+
+is_path : (p : Path) (anchors : List AnchorValue) (name : Name) (t : TableValue) → Some t ≡ lookup (λ n. bytes_eq n name) (tables_in (anchor_at p anchors)) → list_any (λ q. path_eq q p) (paths_in anchors) ≡ true
+is_path p [] name t h = absurd cc
+is_path p (a ∷ anchors) name t h = (elim (path_eq a.path p) as (λ v. Some t ≡ lookup (λ n. bytes_eq n name) (tables_in (if v then Some a else anchor_at p anchors)) → (v || list_any (λ q. path_eq q p) (paths_in anchors)) ≡ true) [
+    | true ↦ λ g. refl
+    | false ↦ λ g. is_path p anchors name t g
+  ]) h
+
 -- the set of a path's table has the elements of that table
 pub set_of_table : (c : Configuration) (p : Path) (name : Name) (f : Family) (t : TableValue) → Some t ≡ table_at c p name → elements_in (find (is_set (name_at p name f)) (sets_of c)) ≡ elements f t.entries
 unfolding sets_of tables_at
-set_of_table c p name f t h = its_elements (find (is_set (name_at p name f)) (flat_map anchor_sets c.anchors)) (elements f t.entries) (among p name f c.anchors t h)
+set_of_table c p name f t h = its_elements (find (is_set (name_at p name f)) (flat_map (path_sets c) (paths_in c.anchors))) (elements f t.entries)
+    (among c p name f (paths_in c.anchors) (is_path p c.anchors name t h) (is_named name (tables_in (anchor_at p c.anchors)) t h) ∙ ap (λ o. Some (elements f (entries_in o))) (sym h))

@@ -3,12 +3,13 @@ use Rattle.std.proofs.Common.{◌≡◌, ℕ, zero, suc, ◌+◌, Bool, true, fa
 use Rattle.std.specs.Prelude.{not, nat_le, find, filter, if◌then◌else◌}
 use Rattle.std.specs.List.{list_any, list_all}
 use Rattle.std.specs.Str.{bytes_eq}
-use Rattle.std.proofs.lemmas.Bool.{false≢true}
+use Rattle.std.proofs.lemmas.Bool.{false≢true, true≢false}
 use Rattle.pf_ruleset.specs.declared.rule.Rule.{Rule}
 use Rattle.pf_ruleset.specs.declared.parts.Direction.{Direction}
 use Rattle.pf_ruleset.specs.Names.{Name, begins_below}
 use Rattle.pf_ruleset.specs.Items.{AnyRule, FilterRule, AnchorRule, Target}
-use Rattle.pf_config.specs.Map.{Configuration, AnchorValue, Path, path_eq, anchor_at, rules_in as rules_of, rules_at, kids, followed_by, or_else}
+use Rattle.pf_config.specs.Map.{Configuration, AnchorValue, Path, path_eq, anchor_at, paths_in, rules_in as rules_of, rules_at, kids, followed_by, or_else}
+use Rattle.pf_config.specs.Changes.{is_empty}
 use Rattle.pf_config.specs.Trees.{last_name}
 use Rattle.pf_config.proofs.Treed.{path_same}
 use Rattle.pf_eval.specs.Packets.{PacketValue, interfaces}
@@ -117,65 +118,71 @@ decided_if false a = refl
 
 -- ---- which chain a name finds
 
-other_chain : (c : Configuration) (m : Machine) (d : Direction) (p : Path) (anchors : List AnchorValue) → find (is_chain (At Backward p)) (map (forward_chain c m d) anchors) ≡ None
-other_chain c m d p [] = refl
-other_chain c m d p (a ∷ anchors) = other_chain c m d p anchors
+other_forward : (c : Configuration) (m : Machine) (d : Direction) (p : Path) (qs : List Path) → find (is_chain (At Backward p)) (map (forward_chain c m d) qs) ≡ None
+other_forward c m d p [] = refl
+other_forward c m d p (q ∷ qs) = other_forward c m d p qs
 
-found_forward : (c : Configuration) (m : Machine) (d : Direction) (p : Path) (anchors : List AnchorValue) → find (is_chain (At Forward p)) (map (forward_chain c m d) anchors) ≡ option_map (forward_chain c m d) (anchor_at p anchors)
-found_forward c m d p [] = refl
-found_forward c m d p (a ∷ anchors) = elim (path_eq a.path p) as (λ v. (if v then Some (forward_chain c m d a) else find (is_chain (At Forward p)) (map (forward_chain c m d) anchors)) ≡ option_map (forward_chain c m d) (if v then Some a else anchor_at p anchors)) [
-  | true ↦ refl
-  | false ↦ found_forward c m d p anchors
-]
-
-found_backward : (c : Configuration) (m : Machine) (d : Direction) (p : Path) (anchors : List AnchorValue) → find (is_chain (At Backward p)) (map (backward_chain c m d) anchors) ≡ option_map (backward_chain c m d) (anchor_at p anchors)
-found_backward c m d p [] = refl
-found_backward c m d p (a ∷ anchors) = elim (path_eq a.path p) as (λ v. (if v then Some (backward_chain c m d a) else find (is_chain (At Backward p)) (map (backward_chain c m d) anchors)) ≡ option_map (backward_chain c m d) (if v then Some a else anchor_at p anchors)) [
-  | true ↦ refl
-  | false ↦ found_backward c m d p anchors
-]
-
-other_backward : (c : Configuration) (m : Machine) (d : Direction) (p : Path) (anchors : List AnchorValue) → find (is_chain (At Forward p)) (map (backward_chain c m d) anchors) ≡ None
+other_backward : (c : Configuration) (m : Machine) (d : Direction) (p : Path) (qs : List Path) → find (is_chain (At Forward p)) (map (backward_chain c m d) qs) ≡ None
 other_backward c m d p [] = refl
-other_backward c m d p (a ∷ anchors) = other_backward c m d p anchors
+other_backward c m d p (q ∷ qs) = other_backward c m d p qs
+
+found_forward : (c : Configuration) (m : Machine) (d : Direction) (p : Path) (qs : List Path) →
+    find (is_chain (At Forward p)) (map (forward_chain c m d) qs) ≡ (if list_any (λ q. path_eq q p) qs then Some (forward_chain c m d p) else None)
+found_forward c m d p [] = refl
+found_forward c m d p (q ∷ qs) = (elim (path_eq q p) as (λ v. path_eq q p ≡ v → (if v then Some (forward_chain c m d q) else find (is_chain (At Forward p)) (map (forward_chain c m d) qs))
+    ≡ (if v || list_any (λ q. path_eq q p) qs then Some (forward_chain c m d p) else None)) [
+    | true ↦ λ e. ap (λ x. Some (forward_chain c m d x)) (path_same q p e)
+    | false ↦ λ e. found_forward c m d p qs
+  ]) refl
+
+found_backward : (c : Configuration) (m : Machine) (d : Direction) (p : Path) (qs : List Path) →
+    find (is_chain (At Backward p)) (map (backward_chain c m d) qs) ≡ (if list_any (λ q. path_eq q p) qs then Some (backward_chain c m d p) else None)
+found_backward c m d p [] = refl
+found_backward c m d p (q ∷ qs) = (elim (path_eq q p) as (λ v. path_eq q p ≡ v → (if v then Some (backward_chain c m d q) else find (is_chain (At Backward p)) (map (backward_chain c m d) qs))
+    ≡ (if v || list_any (λ q. path_eq q p) qs then Some (backward_chain c m d p) else None)) [
+    | true ↦ λ e. ap (λ x. Some (backward_chain c m d x)) (path_same q p e)
+    | false ↦ λ e. found_backward c m d p qs
+  ]) refl
 
 chain_or : (o : Option Chain) → or_else o None ≡ o
 chain_or None = refl
 chain_or (Some x) = refl
 
--- what is found at a path stands there
-stands_at : (p : Path) (anchors : List AnchorValue) (a : AnchorValue) → anchor_at p anchors ≡ Some a → a.path ≡ p
-stands_at p [] a h = absurd cc
-stands_at p (x ∷ anchors) a h = (elim (path_eq x.path p) as (λ v. path_eq x.path p ≡ v → (if v then Some x else anchor_at p anchors) ≡ Some a → a.path ≡ p) [
-  | true ↦ λ e g. (let same : x ≡ a = cc in subst (λ (y : AnchorValue). y.path ≡ p) same (path_same x.path p e))
-  | false ↦ λ e g. stands_at p anchors a g
-]) refl h
+-- where no entry is there are no rules
+no_path : (p : Path) (anchors : List AnchorValue) → list_any (λ q. path_eq q p) (paths_in anchors) ≡ false → rules_of (anchor_at p anchors) ≡ []
+no_path p [] h = refl
+no_path p (a ∷ anchors) h = (elim (path_eq a.path p) as (λ v. (v || list_any (λ q. path_eq q p) (paths_in anchors)) ≡ false → rules_of (if v then Some a else anchor_at p anchors) ≡ []) [
+    | true ↦ λ g. absurd (true≢false g)
+    | false ↦ λ g. no_path p anchors g
+  ]) h
 
-forward_at : (c : Configuration) (m : Machine) (d : Direction) (p : Path) (o : Option AnchorValue) → ((a : AnchorValue) → o ≡ Some a → a.path ≡ p) →
-    rules_in (option_map (forward_chain c m d) o) ≡ forward_rules (forward_rule c m d p) 0 (rules_of o)
-forward_at c m d p None h = refl
-forward_at c m d p (Some a) h = ap (λ q. forward_rules (forward_rule c m d q) 0 a.rules) (h a refl)
-
-backward_at : (c : Configuration) (m : Machine) (d : Direction) (p : Path) (o : Option AnchorValue) → ((a : AnchorValue) → o ≡ Some a → a.path ≡ p) →
-    rules_in (option_map (backward_chain c m d) o) ≡ backward_rules (backward_rule c m d p) 0 (rules_of o)
-backward_at c m d p None h = refl
-backward_at c m d p (Some a) h = ap (λ q. backward_rules (backward_rule c m d q) 0 a.rules) (h a refl)
+no_rules : (c : Configuration) (p : Path) → list_any (λ q. path_eq q p) (paths_in c.anchors) ≡ false → rules_at c p ≡ []
+unfolding rules_at
+no_rules c p h = no_path p c.anchors h
 
 forward_found : (c : Configuration) (m : Machine) (d : Direction) (p : Path) → rules_in (find (is_chain (At Forward p)) (chains_of c m d)) ≡ forward_rules (forward_rule c m d p) 0 (rules_at c p)
-unfolding chains_of rules_at
+unfolding chains_of
 forward_found c m d p =
-    ap rules_in (find_append (is_chain (At Forward p)) (map (forward_chain c m d) c.anchors) (map (backward_chain c m d) c.anchors)
-    ∙ ap (or_else (find (is_chain (At Forward p)) (map (forward_chain c m d) c.anchors))) (other_backward c m d p c.anchors)
-    ∙ chain_or (find (is_chain (At Forward p)) (map (forward_chain c m d) c.anchors)) ∙ found_forward c m d p c.anchors)
-    ∙ forward_at c m d p (anchor_at p c.anchors) (λ a e. stands_at p c.anchors a e)
+    let qs = paths_in c.anchors in
+    ap rules_in (find_append (is_chain (At Forward p)) (map (forward_chain c m d) qs) (map (backward_chain c m d) qs)
+      ∙ ap (or_else (find (is_chain (At Forward p)) (map (forward_chain c m d) qs))) (other_backward c m d p qs)
+      ∙ chain_or (find (is_chain (At Forward p)) (map (forward_chain c m d) qs)) ∙ found_forward c m d p qs)
+    ∙ (elim (list_any (λ q. path_eq q p) qs) as (λ v. list_any (λ q. path_eq q p) qs ≡ v → rules_in (if v then Some (forward_chain c m d p) else None) ≡ forward_rules (forward_rule c m d p) 0 (rules_at c p)) [
+      | true ↦ λ e. refl
+      | false ↦ λ e. sym (ap (forward_rules (forward_rule c m d p) 0) (no_rules c p e))
+    ]) refl
 
 backward_found : (c : Configuration) (m : Machine) (d : Direction) (p : Path) → rules_in (find (is_chain (At Backward p)) (chains_of c m d)) ≡ backward_rules (backward_rule c m d p) 0 (rules_at c p)
-unfolding chains_of rules_at
+unfolding chains_of
 backward_found c m d p =
-    ap rules_in (find_append (is_chain (At Backward p)) (map (forward_chain c m d) c.anchors) (map (backward_chain c m d) c.anchors)
-    ∙ ap (λ o. or_else o (find (is_chain (At Backward p)) (map (backward_chain c m d) c.anchors))) (other_chain c m d p c.anchors)
-    ∙ found_backward c m d p c.anchors)
-    ∙ backward_at c m d p (anchor_at p c.anchors) (λ a e. stands_at p c.anchors a e)
+    let qs = paths_in c.anchors in
+    ap rules_in (find_append (is_chain (At Backward p)) (map (forward_chain c m d) qs) (map (backward_chain c m d) qs)
+      ∙ ap (λ o. or_else o (find (is_chain (At Backward p)) (map (backward_chain c m d) qs))) (other_forward c m d p qs)
+      ∙ found_backward c m d p qs)
+    ∙ (elim (list_any (λ q. path_eq q p) qs) as (λ v. list_any (λ q. path_eq q p) qs ≡ v → rules_in (if v then Some (backward_chain c m d p) else None) ≡ backward_rules (backward_rule c m d p) 0 (rules_at c p)) [
+      | true ↦ λ e. refl
+      | false ↦ λ e. sym (ap (backward_rules (backward_rule c m d p) 0) (no_rules c p e))
+    ]) refl
 
 -- ---- what an anchor rule evaluates
 
@@ -185,16 +192,20 @@ Decides pass jumped walk = (q : Path) → jumped (At pass q) ≡ decided_in (wal
 
 -- where nothing is, the walk comes to nothing
 abbrev IsNothing : Configuration → (Path → Option PfSpot) → Type 0
-IsNothing c walk = (q : Path) → is_some (anchor_at q c.anchors) ≡ false → walk q ≡ None
+IsNothing c walk = (q : Path) → rules_at c q ≡ [] → walk q ≡ None
+
+is_nothing : (rules : List AnyRule) → not (is_empty rules) ≡ false → rules ≡ []
+is_nothing [] h = refl
+is_nothing (r ∷ rs) h = absurd (true≢false h)
 
 unchained : (c : Configuration) (walk : Path → Option PfSpot) (q : Path) → IsNothing c walk → is_chained c q ≡ false → shallow walk q ≡ None
-unchained c walk q nothing h = (elim (nat_le (length q) 8) as (λ v. (v && is_some (anchor_at q c.anchors)) ≡ false → (if v then walk q else None) ≡ None) [
-  | true ↦ λ e. nothing q e
+unchained c walk q nothing h = (elim (nat_le (length q) 8) as (λ v. (v && not (is_empty (rules_at c q))) ≡ false → (if v then walk q else None) ≡ None) [
+  | true ↦ λ e. nothing q (is_nothing (rules_at c q) e)
   | false ↦ λ e. refl
 ]) h
 
 chained : (c : Configuration) (walk : Path → Option PfSpot) (q : Path) → is_chained c q ≡ true → shallow walk q ≡ walk q
-chained c walk q h = (elim (nat_le (length q) 8) as (λ v. (v && is_some (anchor_at q c.anchors)) ≡ true → (if v then walk q else None) ≡ walk q) [
+chained c walk q h = (elim (nat_le (length q) 8) as (λ v. (v && not (is_empty (rules_at c q))) ≡ true → (if v then walk q else None) ≡ walk q) [
   | true ↦ λ e. refl
   | false ↦ λ e. absurd (false≢true e)
 ]) h
@@ -355,17 +366,13 @@ all_backward sets k jumped f g is i (rule ∷ rules) =
 
 -- ---- the walks
 
-nothing_at : (c : Configuration) (q : Path) → is_some (anchor_at q c.anchors) ≡ false → rules_at c q ≡ []
-unfolding rules_at
-nothing_at c q h = (elim (anchor_at q c.anchors) as (λ o. is_some o ≡ false → rules_of o ≡ []) [ None ↦ λ e. refl | Some a ↦ λ e. absurd cc ]) h
-
 second_runs : (c : Configuration) (m : Machine) (k : PacketValue) → IsPacketOn m k → (depth : ℕ) (p : Path) → run depth (rendered c m k.direction) k (At Backward p) ≡ decided_in (second_walk depth c k p)
 unfolding run second_walk
 second_runs c m k on zero p = refl
 second_runs c m k on (suc depth) p =
     ap (run_rules (sets_of c) k (run depth (rendered c m k.direction) k)) (backward_found c m k.direction p)
     ∙ all_backward (sets_of c) k (run depth (rendered c m k.direction) k) (backward_rule c m k.direction p) (rule_last (tables_in c p) (target_last (second_walk depth c k) c p) k p)
-    (backward_runs c m k (run depth (rendered c m k.direction) k) (second_walk depth c k) p on (λ q. second_runs c m k on depth q) (λ q e. second_nothing depth c k q (nothing_at c q e))) 0 (rules_at c p)
+    (backward_runs c m k (run depth (rendered c m k.direction) k) (second_walk depth c k) p on (λ q. second_runs c m k on depth q) (λ q e. second_nothing depth c k q e)) 0 (rules_at c p)
 
 first_runs : (c : Configuration) (m : Machine) (k : PacketValue) → IsPacketOn m k → (depth : ℕ) (p : Path) → run depth (rendered c m k.direction) k (At Forward p) ≡ decided_in (first_walk depth c k p)
 unfolding run first_walk
@@ -375,8 +382,8 @@ first_runs c m k on (suc depth) p =
     ∙ all_forward (sets_of c) k (run depth (rendered c m k.direction) k) (forward_rule c m k.direction p)
     (rule_stop (tables_in c p) (target_stop (first_walk depth c k) c p) (target_last (second_walk depth c k) c p) k p)
     (forward_runs c m k (run depth (rendered c m k.direction) k) (first_walk depth c k) (second_walk depth c k) p on
-    (λ q. first_runs c m k on depth q) (λ q e. first_nothing depth c k q (nothing_at c q e))
-    (λ q. second_runs c m k on depth q) (λ q e. second_nothing depth c k q (nothing_at c q e))) 0 (rules_at c p)
+    (λ q. first_runs c m k on depth q) (λ q e. first_nothing depth c k q e)
+    (λ q. second_runs c m k on depth q) (λ q e. second_nothing depth c k q e)) 0 (rules_at c p)
 
 -- ---- the chain at the hook
 
@@ -389,10 +396,10 @@ mains : (c : Configuration) (m : Machine) (k : PacketValue) (depth : ℕ) → Is
     first_chain (run depth (rendered c m k.direction) k) (main_chains c) ≡ decided_in (last_spot (hits depth c k []))
 mains c m k depth on =
     let jumped = run depth (rendered c m k.direction) k in
-    (elim (is_some (anchor_at [] c.anchors)) as (λ v. is_some (anchor_at [] c.anchors) ≡ v → first_chain jumped (if v then At Forward [] ∷ At Backward [] ∷ [] else []) ≡ decided_in (or_else (first_walk depth c k []) (second_walk depth c k []))) [
-      | true ↦ λ e. ap (or_else (jumped (At Forward []))) (or_none (jumped (At Backward []))) ∙ ap (λ o. or_else o (jumped (At Backward []))) (first_runs c m k on depth [])
+    (elim (rules_at c []) as (λ rs. rules_at c [] ≡ rs → first_chain jumped (if is_empty rs then [] else At Forward [] ∷ At Backward [] ∷ []) ≡ decided_in (or_else (first_walk depth c k []) (second_walk depth c k []))) [
+      | [] ↦ λ e. sym (ap (λ o. decided_in (or_else o (second_walk depth c k []))) (first_nothing depth c k [] e) ∙ ap decided_in (second_nothing depth c k [] e))
+      | r ∷ rs ↦ λ e. ap (or_else (jumped (At Forward []))) (or_none (jumped (At Backward []))) ∙ ap (λ o. or_else o (jumped (At Backward []))) (first_runs c m k on depth [])
           ∙ ap (or_else (decided_in (first_walk depth c k []))) (second_runs c m k on depth []) ∙ sym (decided_or (first_walk depth c k []) (second_walk depth c k []))
-      | false ↦ λ e. sym (ap (λ o. decided_in (or_else o (second_walk depth c k []))) (first_nothing depth c k [] (nothing_at c [] e)) ∙ ap decided_in (second_nothing depth c k [] (nothing_at c [] e)))
     ]) refl ∙ ap decided_in (two_walks depth c k [])
 
 or_default : (o : Option PfSpot) → or_else (decided_in o) (Some (record { outcome = Accept; note = Default })) ≡ Some (decision_of (Decided o))

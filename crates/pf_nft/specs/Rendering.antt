@@ -27,7 +27,9 @@ use Rattle.pf_ruleset.specs.declared.rule.Action.TheVariants as act
 use Rattle.pf_ruleset.specs.Names.{Name, begins_below}
 use Rattle.pf_ruleset.specs.Items.{AnyRule, FilterRule, AnchorRule, Target}
 use Rattle.pf_table.specs.Tables.{TableValue}
-use Rattle.pf_config.specs.Map.{Configuration, AnchorValue, Path, anchor_at, table_at, kids, followed_by}
+use Rattle.pf_config.specs.Changes.{is_empty}
+use Rattle.pf_config.specs.Map.{Configuration, Path, rules_at, table_at, table_names, paths_in, kids, followed_by}
+use Rattle.pf_ruleset.specs.declared.ruleset.TableEntry.{TableEntry}
 use Rattle.pf_eval.specs.Packets.{without_digits}
 use Rattle.pf_eval.specs.Matching.{direction_eq}
 use Rattle.pf_eval.specs.Verdicts as pf
@@ -226,9 +228,9 @@ filter_rules xs p i r =
 abbrev pub jump_rules : List Alternative → List ChainName → List NftRule
 jump_rules xs chains = flat_map (λ a. map (λ n. with_statement (Jump n) a) chains) xs
 
--- paths that a jump may lead to: some rule or table is there, and they are at most 8 names deep
+-- paths that a jump may lead to: some rule is there, and they are at most 8 names deep
 abbrev pub is_chained : Configuration → Path → Bool
-is_chained c q = nat_le (length q) 8 && is_some (anchor_at q c.anchors)
+is_chained c q = nat_le (length q) 8 && not (is_empty (rules_at c q))
 
 -- the paths that an anchor rule evaluates, in their order
 abbrev pub targets_of : Configuration → Path → Target → List Path
@@ -271,17 +273,11 @@ backward_rules f i (rule ∷ rules) = backward_rules f (i + 1) rules ++ f i rule
 
 -- ---- the ruleset
 
-abbrev pub forward_chain : Configuration → Machine → Direction → AnchorValue → Chain
-forward_chain c m d a = record {
-  name = At Forward a.path;
-  rules = forward_rules (forward_rule c m d a.path) 0 a.rules;
-}
+abbrev pub forward_chain : Configuration → Machine → Direction → Path → Chain
+forward_chain c m d p = record { name = At Forward p; rules = forward_rules (forward_rule c m d p) 0 (rules_at c p) }
 
-abbrev pub backward_chain : Configuration → Machine → Direction → AnchorValue → Chain
-backward_chain c m d a = record {
-  name = At Backward a.path;
-  rules = backward_rules (backward_rule c m d a.path) 0 a.rules;
-}
+abbrev pub backward_chain : Configuration → Machine → Direction → Path → Chain
+backward_chain c m d p = record { name = At Backward p; rules = backward_rules (backward_rule c m d p) 0 (rules_at c p) }
 
 -- what stands on no interface of the list is dropped
 abbrev pub unknown_matches : List Name → List Match
@@ -300,7 +296,7 @@ skip_rules c m = map (with_statement (Ends (record { outcome = Accept; note = Sk
     (on_some (interfaces_with (is_skipped c.skip) m))
 
 abbrev pub main_chains : Configuration → List ChainName
-main_chains c = if is_some (anchor_at [] c.anchors) then At Forward [] ∷ At Backward [] ∷ [] else []
+main_chains c = if is_empty (rules_at c []) then [] else At Forward [] ∷ At Backward [] ∷ []
 
 abbrev pub base_chain : Configuration → Machine → Chain
 base_chain c m = record {
@@ -309,21 +305,30 @@ base_chain c m = record {
       ++ (jump_rules (always ∷ []) (main_chains c) ++ ending Accept Default [] ∷ []));
 }
 
--- the two sets of a table
-abbrev pub table_sets : Path → Name × TableValue → List NamedSet
-table_sets owner t =
-    record { name = record { owner = owner; table = t.0; family = Inet }; elements = elements Inet t.1.entries }
-    ∷ record { name = record { owner = owner; table = t.0; family = Inet6 }; elements = elements Inet6 t.1.entries }
-    ∷ []
+-- the entries of a table, none if there is none
+abbrev pub entries_in : Option TableValue → List TableEntry
+entries_in None = []
+entries_in (Some t) = t.entries
 
-abbrev pub anchor_sets : AnchorValue → List NamedSet
-anchor_sets a = flat_map (table_sets a.path) a.tables
+abbrev pub table_set : Configuration → Path → Name → Family → NamedSet
+table_set c p n f = record {
+  name = record { owner = p; table = n; family = f };
+  elements = elements f (entries_in (table_at c p n));
+}
+
+-- the two sets of a table
+abbrev pub table_sets : Configuration → Path → Name → List NamedSet
+table_sets c p n = table_set c p n Inet ∷ table_set c p n Inet6 ∷ []
+
+abbrev pub path_sets : Configuration → Path → List NamedSet
+path_sets c p = flat_map (table_sets c p) (table_names c p)
 
 unfoldable pub sets_of : Configuration → List NamedSet
-sets_of c = flat_map anchor_sets c.anchors
+sets_of c = flat_map (path_sets c) (paths_in c.anchors)
 
 unfoldable pub chains_of : Configuration → Machine → Direction → List Chain
-chains_of c m d = base_chain c m ∷ (map (forward_chain c m d) c.anchors ++ map (backward_chain c m d) c.anchors)
+chains_of c m d =
+    base_chain c m ∷ (map (forward_chain c m d) (paths_in c.anchors) ++ map (backward_chain c m d) (paths_in c.anchors))
 
 -- the ruleset of a configuration for packets of a direction
 abbrev pub rendered : Configuration → Machine → Direction → NftRuleset
