@@ -4,3 +4,4 @@ pub mod FoundSets
 pub mod Matched
 pub mod Running
 pub mod Widths
+pub mod Depths

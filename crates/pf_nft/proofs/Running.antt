@@ -406,10 +406,7 @@ or_default : (o : Option PfSpot) → or_else (decided_in o) (Some (record { outc
 or_default None = refl
 or_default (Some s) = refl
 
-default : Decision
-default = record { outcome = Accept; note = Default }
-
-at_hook : (c : Configuration) (m : Machine) (k : PacketValue) (depth : ℕ) → IsPacketOn m k →
+pub at_hook : (c : Configuration) (m : Machine) (k : PacketValue) (depth : ℕ) → IsPacketOn m k →
     run_rules (sets_of c) k (run depth (rendered c m k.direction) k) (base_chain c m).rules
     ≡ Some (decision_of (if skipped_packet c.skip k then Skipped else Decided (last_spot (hits depth c k []))))
 unfolding is_skipped
@@ -428,7 +425,3 @@ at_hook c m k depth on =
     (run_jumps (sets_of c) k jumped (always ∷ []) (main_chains c) ∙ mains c m k depth on) ∙ or_default hs)
     ∙ (elim (is_skipped c.skip (interfaces k)) as (λ v. or_else (if v then Some (record { outcome = Accept; note = Skip }) else None) (Some (decision_of (Decided hs))) ≡ Some (decision_of (if v then Skipped else Decided hs))) [ true ↦ refl | false ↦ refl ])
     )
-
-pub rendered_decides : (c : Configuration) (m : Machine) (k : PacketValue) → IsPacketOn m k → run 10 (rendered c m k.direction) k Base ≡ Some (decision_of (judgement c k))
-unfolding run chains_of
-rendered_decides c m k on = at_hook c m k 9 on
