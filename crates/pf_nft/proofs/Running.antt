@@ -24,7 +24,7 @@ use Rattle.pf_nft.specs.Subset.{Pass, Forward, Backward, ChainName, Base, At, De
 use Rattle.pf_nft.specs.Subset.{Spot, Accept, Skip, Default}
 use Rattle.pf_nft.specs.Evaluation.{holds, run, run_rules, result_of, rules_in, is_chain}
 use Rattle.pf_nft.specs.Alternatives.{Alternative}
-use Rattle.pf_nft.specs.Rendering.{Machine, always, known, alternatives, with_statement, outcome_of, filter_rules, jump_rules, is_chained, targets_of, chained_targets, forward_chains, backward_chains}
+use Rattle.pf_nft.specs.Rendering.{jump_each, Machine, always, known, alternatives, with_statement, outcome_of, filter_rules, jump_rules, is_chained, targets_of, chained_targets, forward_chains, backward_chains}
 use Rattle.pf_nft.specs.Rendering.{forward_rule, backward_rule, forward_rules, backward_rules, forward_chain, backward_chain, unknown_matches, skip_rules, main_chains, base_chain, sets_of, chains_of, rendered, decision_of}
 use Rattle.pf_nft.specs.Rendering.{interfaces_with, on_some, is_skipped}
 use Rattle.pf_nft.specs.Deciding.{IsPacketOn}
@@ -59,6 +59,7 @@ again false w d = refl
 -- one statement under each alternative
 run_each : (sets : List NamedSet) (k : PacketValue) (jumped : ChainName → Option Decision) (s : Statement) (xs : List Alternative) →
     run_rules sets k jumped (map (with_statement s) xs) ≡ (if any_holds sets k xs then result_of jumped s else None)
+unfolding with_statement
 run_each sets k jumped s [] = refl
 run_each sets k jumped s (x ∷ xs) =
     ap (λ v. or_else (if v then result_of jumped s else None) (run_rules sets k jumped (map (with_statement s) xs))) (all_matches sets k x)
@@ -85,6 +86,7 @@ none_if false = refl
 -- jumps under one alternative
 jumps_one : (sets : List NamedSet) (k : PacketValue) (jumped : ChainName → Option Decision) (a : Alternative) (ns : List ChainName) →
     run_rules sets k jumped (map (λ n. with_statement (Jump n) a) ns) ≡ (if choice_holds sets k a then first_chain jumped ns else None)
+unfolding with_statement
 jumps_one sets k jumped a [] = none_if (choice_holds sets k a)
 jumps_one sets k jumped a (n ∷ ns) =
     ap (λ v. or_else (if v then jumped n else None) (run_rules sets k jumped (map (λ n. with_statement (Jump n) a) ns))) (all_matches sets k a)
@@ -93,6 +95,7 @@ jumps_one sets k jumped a (n ∷ ns) =
 
 run_jumps : (sets : List NamedSet) (k : PacketValue) (jumped : ChainName → Option Decision) (xs : List Alternative) (ns : List ChainName) →
     run_rules sets k jumped (jump_rules xs ns) ≡ (if any_holds sets k xs then first_chain jumped ns else None)
+unfolding jump_each
 run_jumps sets k jumped [] ns = refl
 run_jumps sets k jumped (x ∷ xs) ns =
     run_append sets k jumped (map (λ n. with_statement (Jump n) x) ns) (jump_rules xs ns)

@@ -213,7 +213,7 @@ alternatives c m d p r = both (such_alternatives m d r) (end_alternatives c p r)
 -- ---- rules
 
 -- the rule does this to packets of which one of the alternatives holds
-abbrev pub with_statement : Statement → Alternative → NftRule
+unfoldable pub with_statement : Statement → Alternative → NftRule
 with_statement s a = record { matches = matches_of a; statement = s }
 
 abbrev pub outcome_of : Action → Outcome
@@ -225,8 +225,11 @@ abbrev pub filter_rules : List Alternative → Path → ℕ → Rule → List Nf
 filter_rules xs p i r =
     map (with_statement (Ends (record { outcome = outcome_of r.action; note = Spot p i }))) xs
 
+unfoldable pub jump_each : List ChainName → Alternative → List NftRule
+jump_each chains a = map (λ n. with_statement (Jump n) a) chains
+
 abbrev pub jump_rules : List Alternative → List ChainName → List NftRule
-jump_rules xs chains = flat_map (λ a. map (λ n. with_statement (Jump n) a) chains) xs
+jump_rules xs chains = flat_map (jump_each chains) xs
 
 -- paths that a jump may lead to: some rule is there, and they are at most 8 names deep
 abbrev pub is_chained : Configuration → Path → Bool

@@ -1,5 +1,15 @@
 -- What the code's values stand for.
 use Rattle.std.specs.Prelude.{List, map}
+use Rattle.pf_nft.specs.declared.subset.ChainName as code_chain_name
+use Rattle.pf_nft.specs.declared.subset.ChainName.TheVariants as chain_name
+use Rattle.pf_nft.specs.declared.subset.Note as code_note
+use Rattle.pf_nft.specs.declared.subset.Note.TheVariants as note
+use Rattle.pf_nft.specs.declared.subset.Statement as code_statement
+use Rattle.pf_nft.specs.declared.subset.Statement.TheVariants as statement
+use Rattle.pf_nft.specs.declared.subset.NftRule as code_rule
+use Rattle.pf_nft.specs.declared.subset.Chain as code_chain
+use Rattle.pf_nft.specs.declared.subset.NftRuleset as code_ruleset
+use Rattle.pf_nft.specs.Subset.{ChainName, Base, At, Note, Unknown, Skip, Default, Spot, Statement, Ends, Jump, NftRule, Chain, NftRuleset}
 use Rattle.pf_nft.specs.declared.subset.SetName as code_set
 use Rattle.pf_nft.specs.declared.subset.NamedSet as code_named
 use Rattle.pf_nft.specs.declared.subset.Where as code_where
@@ -36,3 +46,26 @@ alternative_of a = record { family = a.family; protocol = a.protocol; tests = ma
 
 abbrev pub machine_of : List MachineInterface → Machine
 machine_of m = map (λ (i : MachineInterface). (i.name, i.groups.items)) m
+
+abbrev pub chain_name_of : code_chain_name.ChainName → ChainName
+chain_name_of chain_name.Base = Base
+chain_name_of (chain_name.At pass path) = At pass path.now
+
+abbrev pub note_of : code_note.Note → Note
+note_of note.Unknown = Unknown
+note_of note.Skip = Skip
+note_of note.Default = Default
+note_of (note.Spot path index) = Spot path.now index
+
+abbrev pub statement_of : code_statement.Statement → Statement
+statement_of (statement.Ends outcome note) = Ends (record { outcome = outcome; note = note_of note })
+statement_of (statement.Jump chain) = Jump (chain_name_of chain)
+
+abbrev pub nft_rule_of : code_rule.NftRule → NftRule
+nft_rule_of r = record { matches = map match_of r.matches.items; statement = statement_of r.statement }
+
+abbrev pub chain_of : code_chain.Chain → Chain
+chain_of c = record { name = chain_name_of c.name; rules = map nft_rule_of c.rules.items }
+
+abbrev pub ruleset_of : code_ruleset.NftRuleset → NftRuleset
+ruleset_of r = record { sets = map named_set_of r.sets.items; chains = map chain_of r.chains.items }

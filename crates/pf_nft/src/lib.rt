@@ -6,8 +6,12 @@ mod asked;
 mod hosts;
 mod laws;
 mod machine;
+mod rules;
 mod subset;
 
 pub use machine::MachineInterface;
 pub use laws::{rendered_as_judged, sets_hold_tables};
-pub use subset::{Interval, Match, NamedSet, Outcome, Pass, SetName, Side, Where};
+pub use subset::{
+    Chain, ChainName, Interval, Match, NamedSet, NftRule, NftRuleset, Note, Outcome, Pass, SetName, Side, Statement,
+    Where,
+};

@@ -156,3 +156,61 @@ impl<'c> Match<'c> {
         Ok(copy)
     }
 }
+
+/// The name of a chain.
+#[derive(Clone, Copy)]
+pub enum ChainName<'c> {
+    /// The chain at the hook.
+    Base,
+    /// One of the two of a path.
+    At { pass: Pass, path: &'c [Name] },
+}
+
+/// What a rule's counter and comment say.
+#[derive(Clone, Copy)]
+pub enum Note<'c> {
+    /// A packet on an interface that the machine's list lacks.
+    Unknown,
+    /// One on a skipped interface.
+    Skip,
+    /// One that no rule matches.
+    Default,
+    /// `path@index`.
+    Spot { path: &'c [Name], index: u32 },
+}
+
+/// What a rule does with packets that it matches (nft(8), VERDICT STATEMENT).
+#[derive(Clone, Copy)]
+pub enum Statement<'c> {
+    /// The packet is decided.
+    Ends { outcome: Outcome, note: Note<'c> },
+    /// It goes to another chain, and, where that decides nothing, on.
+    Jump(ChainName<'c>),
+}
+
+/// A rule.
+#[derive(Drop)]
+pub struct NftRule<'c> {
+    /// What must all hold.
+    pub matches: Vec<Match<'c>>,
+    /// What is done then.
+    pub statement: Statement<'c>,
+}
+
+/// A chain.
+#[derive(Drop)]
+pub struct Chain<'c> {
+    /// Its name.
+    pub name: ChainName<'c>,
+    /// Its rules.
+    pub rules: Vec<NftRule<'c>>,
+}
+
+/// A ruleset: of one direction.
+#[derive(Drop)]
+pub struct NftRuleset<'c> {
+    /// The sets that its rules name.
+    pub sets: Vec<NamedSet<'c>>,
+    /// Its chains, that at the hook first.
+    pub chains: Vec<Chain<'c>>,
+}
