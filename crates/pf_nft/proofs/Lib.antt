@@ -5,3 +5,4 @@ pub mod Matched
 pub mod Running
 pub mod Widths
 pub mod Depths
+pub mod Targeted

@@ -8,6 +8,7 @@ mod laws;
 mod machine;
 mod rules;
 mod subset;
+mod targets;
 
 pub use machine::MachineInterface;
 pub use laws::{rendered_as_judged, sets_hold_tables};
