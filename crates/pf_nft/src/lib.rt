@@ -3,6 +3,7 @@
 
 mod alternative;
 mod asked;
+mod chains;
 mod hosts;
 mod laws;
 mod machine;

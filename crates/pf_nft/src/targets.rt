@@ -101,3 +101,60 @@ fn push_member<'c>(
     }
     push_chained(config, paths, kid.names())
 }
+
+/// Puts the path of the anchor there behind those that are there, if a jump may lead to it.
+#[tactic(auto, using(crate::proofs::Targeted::path_there, crate::proofs::Targeted::none_there))]
+fn push_anchor<'c>(
+    config: &'c Config,
+    paths: &mut Vec<&'c [Name]>,
+    path: &[Name],
+) -> Result<(), AllocError>
+    ensures { OnOk result (map (λ p. p.now) paths.new.items
+        ≡ map (λ p. p.now) paths.old.items ++ filter (is_chained config.now) (path.now ∷ [])) }
+{
+    match config.anchor(path) {
+        None => Ok(()),
+        Some(anchor) => push_chained(config, paths, anchor.names()),
+    }
+}
+
+/// A path, and names behind it.
+fn joined(alloc: Global, path: &[Name], names: &[Name]) -> Result<Vec<Name>, AllocError>
+    ensures { IfOk result (λ v. v.items ≡ path.now ++ names.now) }
+{
+    let mut all = Vec::new(alloc);
+    push_names(alloc, &mut all, path)?;
+    push_names(alloc, &mut all, names)?;
+    Ok(all)
+}
+
+/// Puts the same names behind those that are there.
+fn push_names(alloc: Global, all: &mut Vec<Name>, names: &[Name]) -> Result<(), AllocError>
+    ensures { OnOk result (all.new.items ≡ all.old.items ++ names.now) }
+{
+    for name in names {
+        all.push(name.copied(alloc)?)?;
+    }
+    Ok(())
+}
+
+/// The paths that an anchor rule evaluates and to which a jump may lead, in their order.
+#[tactic(auto, using(crate::proofs::Targeted::named_paths))]
+pub(crate) fn chained_targets<'c>(
+    alloc: Global,
+    config: &'c Config,
+    path: &[Name],
+    target: &Target,
+) -> Result<Vec<&'c [Name]>, AllocError>
+    ensures { IfOk result (λ v. map (λ p. p.now) v.items
+        ≡ chained_targets config.now path.now (target_of target.now)) }
+{
+    let names = joined(alloc, path, &target.names)?;
+    let mut paths = Vec::new(alloc);
+    if target.children {
+        push_members(config, &mut paths, config.kids(&names))?;
+    } else {
+        push_anchor(config, &mut paths, &names)?;
+    }
+    Ok(paths)
+}
