@@ -1,15 +1,19 @@
 //! The chains of a path.
 
-ghost use Rattle.std.specs.Prelude.{◌≡◌, ◌++◌, OnOk, map};
-ghost use Rattle.pf_nft.specs.Rendering.{alternatives, outcome_of, filter_rules};
-ghost use Rattle.pf_nft.specs.Seen.{machine_of, nft_rule_of};
+ghost use Rattle.std.specs.Prelude.{◌≡◌, ◌++◌, [], IfOk, OnOk, map, if◌then◌else◌};
+ghost use Rattle.pf_nft.specs.Rendering.{alternatives, outcome_of, filter_rules, chained_targets, forward_chains};
+ghost use Rattle.pf_nft.specs.Rendering.{backward_chains, forward_rule};
+ghost use Rattle.pf_ruleset.specs.Items.{AnchorRule};
+ghost use Rattle.pf_ruleset.specs.Seen.{heading_of, target_of};
+ghost use Rattle.pf_nft.specs.Seen.{chain_name_of, machine_of, nft_rule_of};
 
 use crate::asked::alternatives;
 use crate::machine::MachineInterface;
-use crate::rules::push_rules;
-use crate::subset::{NftRule, Note, Outcome, Statement};
+use crate::rules::{push_jumps, push_rules};
+use crate::subset::{ChainName, NftRule, Note, Outcome, Statement};
+use crate::targets::{chained_targets, push_backward, push_forward};
 use pf_config::Config;
-use pf_ruleset::{Action, Direction, Name, Rule};
+use pf_ruleset::{Action, AnchorHeading, Direction, Name, Rule};
 use std::alloc::{AllocError, Global};
 
 /// What the rules of a path are rendered for: the configuration, the machine and the direction.
@@ -60,4 +64,45 @@ fn push_filter<'c>(
         note,
     };
     push_rules(place.alloc, rules, &asked, statement)
+}
+
+/// The chains to which an anchor rule leads forwards; within a quick one the last hit ends the evaluation too.
+fn chains_forward<'c>(
+    place: Place<'c>,
+    heading: &'c AnchorHeading,
+) -> Result<Vec<ChainName<'c>>, AllocError>
+    ensures { IfOk result (λ v. map chain_name_of v.items ≡ forward_chains (chained_targets place.entry.config.now place.entry.path.now (target_of heading.now.target))
+        ++ (if heading.now.quick then backward_chains (chained_targets place.entry.config.now place.entry.path.now (target_of heading.now.target)) else [])) }
+{
+    let paths = chained_targets(place.alloc, place.config, place.path, &heading.target)?;
+    let mut chains = Vec::new(place.alloc);
+    push_forward(&mut chains, &paths)?;
+    if !heading.quick {
+        return Ok(chains);
+    }
+    push_backward(&mut chains, &paths)?;
+    Ok(chains)
+}
+
+/// Puts the jumps of an anchor rule forwards behind the rules that are there.
+fn push_forward_anchor<'c>(
+    place: Place<'c>,
+    index: u32,
+    heading: &'c AnchorHeading,
+    rules: &mut Vec<NftRule<'c>>,
+) -> Result<(), AllocError>
+    ensures { OnOk result (map nft_rule_of rules.new.items ≡ map nft_rule_of rules.old.items
+        ++ forward_rule place.entry.config.now (machine_of place.entry.machine.now) place.entry.direction
+        place.entry.path.now index (AnchorRule (heading_of heading.now))) }
+{
+    let asked = alternatives(
+        place.alloc,
+        place.config,
+        place.machine,
+        place.direction,
+        place.path,
+        &heading.conditions,
+    )?;
+    let chains = chains_forward(place, heading)?;
+    push_jumps(place.alloc, rules, &asked, &chains)
 }
