@@ -1,10 +1,11 @@
 -- The chains to which an anchor rule leads.
-use Rattle.std.proofs.Common.{◌≡◌, ℕ, ◌+◌, ◌<◌, ◌≤◌, ◌&&◌, Bool, true, false, List, [], ◌∷◌, ◌++◌, map, length, reverse, Option, Some, None, refl, sym, ap, ◌∙◌, arith}
+use Rattle.std.proofs.Common.{◌≡◌, ℕ, ◌+◌, ◌<◌, ◌≤◌, ◌&&◌, Bool, true, false, List, [], ◌∷◌, ◌++◌, map, length, reverse, Option, Some, None, refl, sym, ap, ◌∙◌, arith, rules, option_map}
 use Rattle.std.specs.Prelude.{not, nat_le, filter, if◌then◌else◌}
 use Rattle.std.proofs.lemmas.List.{map-append, reverse-append}
 use Rattle.pf_ruleset.specs.Names.{Name, begins_below}
-use Rattle.pf_ruleset.specs.Items.{AnyRule}
-use Rattle.pf_ruleset.specs.Seen.{rule_of}
+use Rattle.pf_ruleset.specs.Items.{AnyRule, FilterRule, AnchorRule, Heading, rule_in}
+use Rattle.pf_ruleset.specs.Seen.{rule_of, heading_of, items_of, with_block}
+use Rattle.pf_ruleset.proofs.Carried.{anchor_is}
 use Rattle.pf_ruleset.specs.declared.item.Item.{Item}
 use Rattle.pf_config.specs.Changes.{is_empty}
 use Rattle.pf_config.specs.Map.{Configuration, Path, rules_at, followed_by}
@@ -12,7 +13,12 @@ use Rattle.pf_config.specs.Trees.{AnchorTree, anchor_in, last_name}
 use Rattle.pf_config.proofs.Descents.{no_rules_found}
 use Rattle.pf_eval.proofs.Anchors.{anchor_names}
 use Rattle.pf_nft.specs.Subset.{ChainName, At, Backward}
-use Rattle.pf_nft.specs.Rendering.{backward_chains, is_chained, is_member}
+use Rattle.pf_ruleset.specs.declared.rule.Rule.{Rule}
+use Rattle.pf_ruleset.specs.declared.parts.Direction.{Direction}
+use Rattle.pf_ruleset.specs.declared.item.AnchorRule as anchored
+use Rattle.pf_ruleset.specs.declared.item.Item as item
+use Rattle.pf_nft.specs.Subset.{NftRule}
+use Rattle.pf_nft.specs.Rendering.{backward_chains, is_chained, is_member, Machine, alternatives, filter_rules, forward_rule}
 
 -- rules are there exactly if items are
 pub any_rules : (items : List Item) (rules : List AnyRule) → map rule_of items ≡ rules → is_empty items ≡ is_empty rules
@@ -50,3 +56,23 @@ named_paths q (n ∷ ns) =
       | true ↦ named_paths q ns
       | false ↦ ap (λ ps. followed_by q n ∷ ps) (named_paths q ns)
     ])
+
+-- ---- the rules of the code's items
+
+filter_rule : (r : Rule) → rule_of (item.Filter r) ≡ FilterRule r
+filter_rule r = search (rules, item.the_lemmas)
+
+head_only : (h : Heading) (o : Option (List _)) → rule_in (with_block h o) ≡ AnchorRule h
+head_only h None = refl
+head_only h (Some items) = refl
+
+anchor_rule : (a : anchored.AnchorRule) → rule_of (item.Anchor a) ≡ AnchorRule (heading_of a.heading)
+anchor_rule a = ap rule_in (anchor_is a) ∙ head_only (heading_of a.heading) (option_map (λ v. items_of v.value.items) a.block)
+
+pub forward_filter : (c : Configuration) (m : Machine) (d : Direction) (p : Path) (i : ℕ) (r : Rule) (x : Item) → x ≡ item.Filter r →
+    (if r.quick then filter_rules (alternatives c m d p r.conditions) p i r else []) ≡ forward_rule c m d p i (rule_of x)
+forward_filter c m d p i r x is = ap (forward_rule c m d p i) (sym (ap rule_of is ∙ filter_rule r))
+
+pub forward_anchor : (c : Configuration) (m : Machine) (d : Direction) (p : Path) (i : ℕ) (a : anchored.AnchorRule) (x : Item) → x ≡ item.Anchor a →
+    forward_rule c m d p i (AnchorRule (heading_of a.heading)) ≡ forward_rule c m d p i (rule_of x)
+forward_anchor c m d p i a x is = ap (forward_rule c m d p i) (sym (ap rule_of is ∙ anchor_rule a))

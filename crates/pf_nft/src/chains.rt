@@ -2,9 +2,9 @@
 
 ghost use Rattle.std.specs.Prelude.{◌≡◌, ◌++◌, [], IfOk, OnOk, map, if◌then◌else◌};
 ghost use Rattle.pf_nft.specs.Rendering.{alternatives, outcome_of, filter_rules, chained_targets, forward_chains};
-ghost use Rattle.pf_nft.specs.Rendering.{backward_chains, forward_rule};
+ghost use Rattle.pf_nft.specs.Rendering.{backward_chains, forward_rule, backward_rule};
 ghost use Rattle.pf_ruleset.specs.Items.{AnchorRule};
-ghost use Rattle.pf_ruleset.specs.Seen.{heading_of, target_of};
+ghost use Rattle.pf_ruleset.specs.Seen.{heading_of, rule_of, target_of};
 ghost use Rattle.pf_nft.specs.Seen.{chain_name_of, machine_of, nft_rule_of};
 
 use crate::asked::alternatives;
@@ -13,7 +13,7 @@ use crate::rules::{push_jumps, push_rules};
 use crate::subset::{ChainName, NftRule, Note, Outcome, Statement};
 use crate::targets::{chained_targets, push_backward, push_forward};
 use pf_config::Config;
-use pf_ruleset::{Action, AnchorHeading, Direction, Name, Rule};
+use pf_ruleset::{Action, AnchorHeading, Direction, Item, Name, Rule};
 use std::alloc::{AllocError, Global};
 
 /// What the rules of a path are rendered for: the configuration, the machine and the direction.
@@ -105,4 +105,55 @@ fn push_forward_anchor<'c>(
     )?;
     let chains = chains_forward(place, heading)?;
     push_jumps(place.alloc, rules, &asked, &chains)
+}
+
+/// Puts the jumps of an anchor rule backwards behind the rules that are there: none of a quick one.
+fn push_backward_anchor<'c>(
+    place: Place<'c>,
+    index: u32,
+    heading: &'c AnchorHeading,
+    rules: &mut Vec<NftRule<'c>>,
+) -> Result<(), AllocError>
+    ensures { OnOk result (map nft_rule_of rules.new.items ≡ map nft_rule_of rules.old.items
+        ++ backward_rule place.entry.config.now (machine_of place.entry.machine.now) place.entry.direction
+        place.entry.path.now index (AnchorRule (heading_of heading.now))) }
+{
+    if heading.quick {
+        return Ok(());
+    }
+    let asked = alternatives(
+        place.alloc,
+        place.config,
+        place.machine,
+        place.direction,
+        place.path,
+        &heading.conditions,
+    )?;
+    let paths = chained_targets(place.alloc, place.config, place.path, &heading.target)?;
+    let mut chains = Vec::new(place.alloc);
+    push_backward(&mut chains, &paths)?;
+    push_jumps(place.alloc, rules, &asked, &chains)
+}
+
+/// Puts what may end the evaluation at a rule behind the rules that are there.
+#[tactic(auto, using(crate::proofs::Targeted::forward_filter, crate::proofs::Targeted::forward_anchor))]
+fn push_forward_rule<'c>(
+    place: Place<'c>,
+    index: u32,
+    item: &'c Item,
+    rules: &mut Vec<NftRule<'c>>,
+) -> Result<(), AllocError>
+    ensures { OnOk result (map nft_rule_of rules.new.items ≡ map nft_rule_of rules.old.items
+        ++ forward_rule place.entry.config.now (machine_of place.entry.machine.now) place.entry.direction
+        place.entry.path.now index (rule_of item.now)) }
+{
+    match item {
+        Item::Filter(rule) => {
+            if !rule.quick {
+                return Ok(());
+            }
+            push_filter(place, index, rule, rules)
+        }
+        Item::Anchor(anchor) => push_forward_anchor(place, index, &anchor.heading, rules),
+    }
 }
