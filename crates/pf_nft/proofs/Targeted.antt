@@ -18,7 +18,7 @@ use Rattle.pf_ruleset.specs.declared.parts.Direction.{Direction}
 use Rattle.pf_ruleset.specs.declared.item.AnchorRule as anchored
 use Rattle.pf_ruleset.specs.declared.item.Item as item
 use Rattle.pf_nft.specs.Subset.{NftRule}
-use Rattle.pf_nft.specs.Rendering.{backward_chains, is_chained, is_member, Machine, alternatives, filter_rules, forward_rule}
+use Rattle.pf_nft.specs.Rendering.{backward_chains, is_chained, is_member, Machine, alternatives, filter_rules, forward_rule, backward_rule}
 
 -- rules are there exactly if items are
 pub any_rules : (items : List Item) (rules : List AnyRule) → map rule_of items ≡ rules → is_empty items ≡ is_empty rules
@@ -76,3 +76,11 @@ forward_filter c m d p i r x is = ap (forward_rule c m d p i) (sym (ap rule_of i
 pub forward_anchor : (c : Configuration) (m : Machine) (d : Direction) (p : Path) (i : ℕ) (a : anchored.AnchorRule) (x : Item) → x ≡ item.Anchor a →
     forward_rule c m d p i (AnchorRule (heading_of a.heading)) ≡ forward_rule c m d p i (rule_of x)
 forward_anchor c m d p i a x is = ap (forward_rule c m d p i) (sym (ap rule_of is ∙ anchor_rule a))
+
+pub backward_filter : (c : Configuration) (m : Machine) (d : Direction) (p : Path) (i : ℕ) (r : Rule) (x : Item) → x ≡ item.Filter r →
+    (if r.quick then [] else filter_rules (alternatives c m d p r.conditions) p i r) ≡ backward_rule c m d p i (rule_of x)
+backward_filter c m d p i r x is = ap (backward_rule c m d p i) (sym (ap rule_of is ∙ filter_rule r))
+
+pub backward_anchor : (c : Configuration) (m : Machine) (d : Direction) (p : Path) (i : ℕ) (a : anchored.AnchorRule) (x : Item) → x ≡ item.Anchor a →
+    backward_rule c m d p i (AnchorRule (heading_of a.heading)) ≡ backward_rule c m d p i (rule_of x)
+backward_anchor c m d p i a x is = ap (backward_rule c m d p i) (sym (ap rule_of is ∙ anchor_rule a))

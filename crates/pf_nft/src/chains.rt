@@ -1,8 +1,9 @@
 //! The chains of a path.
 
-ghost use Rattle.std.specs.Prelude.{◌≡◌, ◌++◌, [], IfOk, OnOk, map, if◌then◌else◌};
+ghost use Rattle.std.specs.Prelude.{◌≡◌, ◌≤◌, ◌+◌, ◌++◌, [], IfOk, OnOk, length, map, if◌then◌else◌};
 ghost use Rattle.pf_nft.specs.Rendering.{alternatives, outcome_of, filter_rules, chained_targets, forward_chains};
-ghost use Rattle.pf_nft.specs.Rendering.{backward_chains, forward_rule, backward_rule};
+ghost use Rattle.pf_nft.specs.Rendering.{backward_chains, forward_rule, backward_rule, forward_rules, backward_rules};
+ghost use Rattle.pf_config.specs.declared.config.TheConstants.{RULES_MAX};
 ghost use Rattle.pf_ruleset.specs.Items.{AnchorRule};
 ghost use Rattle.pf_ruleset.specs.Seen.{heading_of, rule_of, target_of};
 ghost use Rattle.pf_nft.specs.Seen.{chain_name_of, machine_of, nft_rule_of};
@@ -156,4 +157,65 @@ fn push_forward_rule<'c>(
         }
         Item::Anchor(anchor) => push_forward_anchor(place, index, &anchor.heading, rules),
     }
+}
+
+/// Puts what doesn't end the evaluation at a rule behind the rules that are there.
+#[tactic(auto, using(crate::proofs::Targeted::backward_filter, crate::proofs::Targeted::backward_anchor))]
+fn push_backward_rule<'c>(
+    place: Place<'c>,
+    index: u32,
+    item: &'c Item,
+    rules: &mut Vec<NftRule<'c>>,
+) -> Result<(), AllocError>
+    ensures { OnOk result (map nft_rule_of rules.new.items ≡ map nft_rule_of rules.old.items
+        ++ backward_rule place.entry.config.now (machine_of place.entry.machine.now) place.entry.direction
+        place.entry.path.now index (rule_of item.now)) }
+{
+    match item {
+        Item::Filter(rule) => {
+            if rule.quick {
+                return Ok(());
+            }
+            push_filter(place, index, rule, rules)
+        }
+        Item::Anchor(anchor) => push_backward_anchor(place, index, &anchor.heading, rules),
+    }
+}
+
+/// Puts what may end the evaluation at these rules, of which the first has this index, behind the rules that are there.
+pub(crate) fn push_forward_rules<'c>(
+    place: Place<'c>,
+    index: u32,
+    items: &'c [Item],
+    rules: &mut Vec<NftRule<'c>>,
+) -> Result<(), AllocError>
+    requires { index + length items.now ≤ RULES_MAX }
+    ensures { OnOk result (map nft_rule_of rules.new.items ≡ map nft_rule_of rules.old.items
+        ++ forward_rules (forward_rule place.entry.config.now (machine_of place.entry.machine.now)
+        place.entry.direction place.entry.path.now) index (map rule_of items.now)) }
+{
+    let [item, rest @ ..] = items else {
+        return Ok(());
+    };
+    push_forward_rule(place, index, item, rules)?;
+    push_forward_rules(place, index + 1, rest, rules)
+}
+
+/// Puts what doesn't end the evaluation at these rules, the last one's first, behind the rules that are there.
+pub(crate) fn push_backward_rules<'c>(
+    place: Place<'c>,
+    index: u32,
+    items: &'c [Item],
+    rules: &mut Vec<NftRule<'c>>,
+) -> Result<(), AllocError>
+    requires { index + length items.now ≤ RULES_MAX }
+    ensures { OnOk result (map nft_rule_of rules.new.items ≡ map nft_rule_of rules.old.items
+        ++ backward_rules (backward_rule place.entry.config.now (machine_of place.entry.machine.now)
+        place.entry.direction place.entry.path.now) index (map rule_of items.now)) }
+{
+    let [item, rest @ ..] = items else {
+        return Ok(());
+    };
+    push_backward_rules(place, index + 1, rest, rules)?;
+    push_backward_rule(place, index, item, rules)
 }
