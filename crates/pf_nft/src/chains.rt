@@ -3,15 +3,16 @@
 ghost use Rattle.std.specs.Prelude.{◌≡◌, ◌≤◌, ◌+◌, ◌++◌, [], IfOk, OnOk, length, map, if◌then◌else◌};
 ghost use Rattle.pf_nft.specs.Rendering.{alternatives, outcome_of, filter_rules, chained_targets, forward_chains};
 ghost use Rattle.pf_nft.specs.Rendering.{backward_chains, forward_rule, backward_rule, forward_rules, backward_rules};
+ghost use Rattle.pf_nft.specs.Rendering.{forward_chain, backward_chain};
 ghost use Rattle.pf_config.specs.declared.config.TheConstants.{RULES_MAX};
 ghost use Rattle.pf_ruleset.specs.Items.{AnchorRule};
 ghost use Rattle.pf_ruleset.specs.Seen.{heading_of, rule_of, target_of};
-ghost use Rattle.pf_nft.specs.Seen.{chain_name_of, machine_of, nft_rule_of};
+ghost use Rattle.pf_nft.specs.Seen.{chain_name_of, chain_of, machine_of, nft_rule_of};
 
 use crate::asked::alternatives;
 use crate::machine::MachineInterface;
 use crate::rules::{push_jumps, push_rules};
-use crate::subset::{ChainName, NftRule, Note, Outcome, Statement};
+use crate::subset::{Chain, ChainName, NftRule, Note, Outcome, Pass, Statement};
 use crate::targets::{chained_targets, push_backward, push_forward};
 use pf_config::Config;
 use pf_ruleset::{Action, AnchorHeading, Direction, Item, Name, Rule};
@@ -218,4 +219,32 @@ pub(crate) fn push_backward_rules<'c>(
     };
     push_backward_rules(place, index + 1, rest, rules)?;
     push_backward_rule(place, index, item, rules)
+}
+
+/// The chain of a path that holds what may end the evaluation.
+pub(crate) fn forward_chain<'c>(place: Place<'c>) -> Result<Chain<'c>, AllocError>
+    ensures { IfOk result (λ v. chain_of v ≡ forward_chain place.entry.config.now (machine_of place.entry.machine.now)
+        place.entry.direction place.entry.path.now) }
+{
+    let mut rules = Vec::new(place.alloc);
+    push_forward_rules(place, 0, place.config.items(place.path), &mut rules)?;
+    let name = ChainName::At {
+        pass: Pass::Forward,
+        path: place.path,
+    };
+    Ok(Chain { name, rules })
+}
+
+/// The chain of a path that holds the rest.
+pub(crate) fn backward_chain<'c>(place: Place<'c>) -> Result<Chain<'c>, AllocError>
+    ensures { IfOk result (λ v. chain_of v ≡ backward_chain place.entry.config.now (machine_of place.entry.machine.now)
+        place.entry.direction place.entry.path.now) }
+{
+    let mut rules = Vec::new(place.alloc);
+    push_backward_rules(place, 0, place.config.items(place.path), &mut rules)?;
+    let name = ChainName::At {
+        pass: Pass::Backward,
+        path: place.path,
+    };
+    Ok(Chain { name, rules })
 }
