@@ -1,15 +1,15 @@
 -- Anchor rules nest less than 10 deep, so that nothing depends on how deep jumps may nest from there on.
-use Rattle.std.proofs.Common.{◌≡◌, ℕ, zero, suc, ◌+◌, ◌-◌, ◌<◌, ◌≤◌, Bool, true, false, ◌&&◌, ◌||◌, List, [], ◌∷◌, ◌++◌, map, length, Option, Some, None, refl, sym, subst, ap, ◌∙◌, arith, inl, inr, length-append}
+use Rattle.std.proofs.Common.{◌≡◌, ℕ, zero, suc, ◌+◌, ◌-◌, ◌<◌, ◌≤◌, Bool, true, false, ◌&&◌, List, [], ◌∷◌, ◌++◌, map, length, Some, refl, ap, ◌∙◌, arith, length-append}
 use Rattle.std.specs.Prelude.{not, nat_le, filter, if◌then◌else◌}
 use Rattle.std.specs.List.{list_any, flat_map}
-use Rattle.std.proofs.lemmas.Bool.{or_parts, leb-true, false≢true, true≢false}
+use Rattle.std.proofs.lemmas.Bool.{or_parts, leb-true, true≢false}
 use Rattle.pf_ruleset.specs.Names.{Name, begins_below}
-use Rattle.pf_ruleset.specs.Items.{AnyRule, FilterRule, AnchorRule, Target, Heading}
+use Rattle.pf_ruleset.specs.Items.{AnyRule, FilterRule, AnchorRule, Target}
 use Rattle.pf_config.specs.Changes.{is_empty}
 use Rattle.pf_config.specs.Map.{Configuration, AnchorValue, Path, path_eq, anchor_at, rules_in, rules_at, kids, followed_by}
 use Rattle.pf_eval.specs.Packets.{PacketValue}
 use Rattle.pf_eval.specs.Matching.{Tables, matches}
-use Rattle.pf_eval.specs.Verdicts.{Hit, marked, rule_hits, hits_with, members, not_too_deep, member_hits, target_hits, tables_in, hits, last_spot, judgement, Decided, Skipped, is_skipped}
+use Rattle.pf_eval.specs.Verdicts.{Hit, marked, rule_hits, hits_with, not_too_deep, member_hits, target_hits, tables_in, hits, last_spot, judgement, Decided, Skipped, is_skipped}
 use Rattle.pf_nft.specs.Subset.{Base}
 use Rattle.pf_nft.specs.Evaluation.{run}
 use Rattle.pf_nft.specs.Rendering.{Machine, rendered, chains_of, decision_of}
@@ -38,9 +38,9 @@ AreSame n f g = (q : Path) → n < length q → length q ≤ 8 → f q ≡ g q
 
 shallow_same : (n : ℕ) (f g : Path → List Hit) (q : Path) → AreSame n f g → n < length q → not_too_deep f q ≡ not_too_deep g q
 shallow_same n f g q same longer = (elim (nat_le (length q) 8) as (λ v. nat_le (length q) 8 ≡ v → (if v then f q else []) ≡ (if v then g q else [])) [
-    | true ↦ λ e. same q longer (leb-true (length q) 8 e)
-    | false ↦ λ e. refl
-  ]) refl
+  | true ↦ λ e. same q longer (leb-true (length q) 8 e)
+  | false ↦ λ e. refl
+]) refl
 
 longer_by : (p r : Path) → length p ≤ length (p ++ r)
 longer_by p r = let e : length (p ++ r) ≡ length p + length r = length-append p r in omega (arith, e)

@@ -1,5 +1,5 @@
 -- The set of a table is found by its name.
-use Rattle.std.proofs.Common.{◌≡◌, Bool, true, false, ◌&&◌, List, [], ◌∷◌, ◌++◌, Option, Some, None, option_map, map, ◌||◌, refl, sym, ap, ◌∙◌}
+use Rattle.std.proofs.Common.{◌≡◌, Bool, true, false, List, [], ◌∷◌, ◌++◌, Option, Some, None, option_map, map, ◌||◌, refl, sym, ap, ◌∙◌}
 use Rattle.std.specs.Prelude.{find, if◌then◌else◌}
 use Rattle.std.specs.List.{flat_map, list_any}
 use Rattle.std.specs.Map.{lookup}
@@ -51,19 +51,19 @@ same_owner : (c : Configuration) (p : Path) (name : Name) (f : Family) (ns : Lis
     found (name_at p name f) (flat_map (table_sets c p) ns) ≡ Some (elements f (entries_in (table_at c p name)))
 same_owner c p name f [] h = absurd (false≢true h)
 same_owner c p name f (n ∷ ns) h = (elim (bytes_eq n name) as (λ v. bytes_eq n name ≡ v → (v || list_any (λ n. bytes_eq n name) ns) ≡ true → found (name_at p name f) (flat_map (table_sets c p) (n ∷ ns)) ≡ Some (elements f (entries_in (table_at c p name)))) [
-    | true ↦ λ e g. here c p name n f (flat_map (table_sets c p) ns) e ∙ ap (λ x. Some (elements f (entries_in (table_at c p x)))) (bytes_same n name e)
-    | false ↦ λ e g. not_here c p name n f (flat_map (table_sets c p) ns) e ∙ same_owner c p name f ns g
-  ]) refl h
+  | true ↦ λ e g. here c p name n f (flat_map (table_sets c p) ns) e ∙ ap (λ x. Some (elements f (entries_in (table_at c p x)))) (bytes_same n name e)
+  | false ↦ λ e g. not_here c p name n f (flat_map (table_sets c p) ns) e ∙ same_owner c p name f ns g
+]) refl h
 
 among : (c : Configuration) (p : Path) (name : Name) (f : Family) (qs : List Path) → list_any (λ q. path_eq q p) qs ≡ true → list_any (λ n. bytes_eq n name) (table_names c p) ≡ true →
     found (name_at p name f) (flat_map (path_sets c) qs) ≡ Some (elements f (entries_in (table_at c p name)))
 among c p name f [] h g = absurd (false≢true h)
 among c p name f (q ∷ qs) h g = found_append (name_at p name f) (path_sets c q) (flat_map (path_sets c) qs) ∙ (elim (path_eq q p) as (λ v. path_eq q p ≡ v → (v || list_any (λ q. path_eq q p) qs) ≡ true →
     or_else (found (name_at p name f) (path_sets c q)) (found (name_at p name f) (flat_map (path_sets c) qs)) ≡ Some (elements f (entries_in (table_at c p name)))) [
-    | true ↦ λ e k. ap (λ o. or_else o (found (name_at p name f) (flat_map (path_sets c) qs)))
-        (ap (λ x. found (name_at p name f) (path_sets c x)) (path_same q p e) ∙ same_owner c p name f (table_names c p) g)
-    | false ↦ λ e k. ap (λ o. or_else o (found (name_at p name f) (flat_map (path_sets c) qs))) (other_owner c q p name f (table_names c q) e) ∙ among c p name f qs k g
-  ]) refl h
+      | true ↦ λ e k. ap (λ o. or_else o (found (name_at p name f) (flat_map (path_sets c) qs)))
+          (ap (λ x. found (name_at p name f) (path_sets c x)) (path_same q p e) ∙ same_owner c p name f (table_names c p) g)
+      | false ↦ λ e k. ap (λ o. or_else o (found (name_at p name f) (flat_map (path_sets c) qs))) (other_owner c q p name f (table_names c q) e) ∙ among c p name f qs k g
+    ]) refl h
 
 its_elements : (o : Option NamedSet) (is : List Interval) → option_map (λ (s : NamedSet). s.elements) o ≡ Some is → elements_in o ≡ is
 its_elements None is h = absurd cc
@@ -73,16 +73,16 @@ its_elements (Some s) is h = cc
 is_named : (name : Name) (ts : List (Name × TableValue)) (t : TableValue) → Some t ≡ lookup (λ n. bytes_eq n name) ts → list_any (λ n. bytes_eq n name) (map (λ (t : Name × TableValue). t.0) ts) ≡ true
 is_named name [] t h = absurd cc
 is_named name (u ∷ ts) t h = (elim (bytes_eq u.0 name) as (λ v. Some t ≡ (if v then Some u.1 else lookup (λ n. bytes_eq n name) ts) → (v || list_any (λ n. bytes_eq n name) (map (λ (t : Name × TableValue). t.0) ts)) ≡ true) [
-    | true ↦ λ g. refl
-    | false ↦ λ g. is_named name ts t g
-  ]) h
+  | true ↦ λ g. refl
+  | false ↦ λ g. is_named name ts t g
+]) h
 
 is_path : (p : Path) (anchors : List AnchorValue) (name : Name) (t : TableValue) → Some t ≡ lookup (λ n. bytes_eq n name) (tables_in (anchor_at p anchors)) → list_any (λ q. path_eq q p) (paths_in anchors) ≡ true
 is_path p [] name t h = absurd cc
 is_path p (a ∷ anchors) name t h = (elim (path_eq a.path p) as (λ v. Some t ≡ lookup (λ n. bytes_eq n name) (tables_in (if v then Some a else anchor_at p anchors)) → (v || list_any (λ q. path_eq q p) (paths_in anchors)) ≡ true) [
-    | true ↦ λ g. refl
-    | false ↦ λ g. is_path p anchors name t g
-  ]) h
+  | true ↦ λ g. refl
+  | false ↦ λ g. is_path p anchors name t g
+]) h
 
 -- the set of a path's table has the elements of that table
 pub set_of_table : (c : Configuration) (p : Path) (name : Name) (f : Family) (t : TableValue) → Some t ≡ table_at c p name → elements_in (find (is_set (name_at p name f)) (sets_of c)) ≡ elements f t.entries

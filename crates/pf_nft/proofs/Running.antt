@@ -1,5 +1,5 @@
 -- The rendered ruleset decides what the two walks come to.
-use Rattle.std.proofs.Common.{◌≡◌, ℕ, zero, suc, ◌+◌, Bool, true, false, ◌&&◌, ◌||◌, List, [], ◌∷◌, ◌++◌, map, length, reverse, Option, Some, None, option_map, is_some, refl, sym, subst, ap, ◌∙◌}
+use Rattle.std.proofs.Common.{◌≡◌, ℕ, zero, suc, ◌+◌, Bool, true, false, ◌&&◌, ◌||◌, List, [], ◌∷◌, ◌++◌, map, length, reverse, Option, Some, None, option_map, refl, sym, ap, ◌∙◌}
 use Rattle.std.specs.Prelude.{not, nat_le, find, filter, if◌then◌else◌}
 use Rattle.std.specs.List.{list_any, list_all}
 use Rattle.std.specs.Str.{bytes_eq}
@@ -14,13 +14,13 @@ use Rattle.pf_config.specs.Trees.{last_name}
 use Rattle.pf_config.proofs.Treed.{path_same}
 use Rattle.pf_eval.specs.Packets.{PacketValue, interfaces}
 use Rattle.pf_eval.specs.Matching.{matches}
-use Rattle.pf_eval.specs.Verdicts.{Spot as PfSpot, tables_in, hits, last_spot, judgement, Skipped, Decided, is_skipped as skipped_packet}
+use Rattle.pf_eval.specs.Verdicts.{Spot as PfSpot, tables_in, hits, last_spot, Skipped, Decided, is_skipped as skipped_packet}
 use Rattle.pf_eval.specs.inner.TwoWalks.{first_some, last_some, first_rule, last_rule, shallow, in_member, ending as ended}
 use Rattle.pf_eval.specs.inner.TwoWalks.{called_stop, called_last, target_stop, target_last, rule_stop, rule_last, first_walk, second_walk}
 use Rattle.pf_eval.proofs.Deciding.{two_walks}
 use Rattle.std.proofs.lemmas.List.{map-append, reverse-append}
 use Rattle.pf_eval.proofs.Walks.{second_nothing, first_nothing}
-use Rattle.pf_nft.specs.Subset.{Pass, Forward, Backward, ChainName, Base, At, Decision, Statement, Ends, Jump, NftRule, Chain, NamedSet}
+use Rattle.pf_nft.specs.Subset.{Pass, Forward, Backward, ChainName, At, Decision, Statement, Ends, Jump, NftRule, Chain, NamedSet}
 use Rattle.pf_nft.specs.Subset.{Spot, Accept, Skip, Default}
 use Rattle.pf_nft.specs.Evaluation.{holds, run, run_rules, result_of, rules_in, is_chain}
 use Rattle.pf_nft.specs.Alternatives.{Alternative}
@@ -134,18 +134,18 @@ found_forward : (c : Configuration) (m : Machine) (d : Direction) (p : Path) (qs
 found_forward c m d p [] = refl
 found_forward c m d p (q ∷ qs) = (elim (path_eq q p) as (λ v. path_eq q p ≡ v → (if v then Some (forward_chain c m d q) else find (is_chain (At Forward p)) (map (forward_chain c m d) qs))
     ≡ (if v || list_any (λ q. path_eq q p) qs then Some (forward_chain c m d p) else None)) [
-    | true ↦ λ e. ap (λ x. Some (forward_chain c m d x)) (path_same q p e)
-    | false ↦ λ e. found_forward c m d p qs
-  ]) refl
+      | true ↦ λ e. ap (λ x. Some (forward_chain c m d x)) (path_same q p e)
+      | false ↦ λ e. found_forward c m d p qs
+    ]) refl
 
 found_backward : (c : Configuration) (m : Machine) (d : Direction) (p : Path) (qs : List Path) →
     find (is_chain (At Backward p)) (map (backward_chain c m d) qs) ≡ (if list_any (λ q. path_eq q p) qs then Some (backward_chain c m d p) else None)
 found_backward c m d p [] = refl
 found_backward c m d p (q ∷ qs) = (elim (path_eq q p) as (λ v. path_eq q p ≡ v → (if v then Some (backward_chain c m d q) else find (is_chain (At Backward p)) (map (backward_chain c m d) qs))
     ≡ (if v || list_any (λ q. path_eq q p) qs then Some (backward_chain c m d p) else None)) [
-    | true ↦ λ e. ap (λ x. Some (backward_chain c m d x)) (path_same q p e)
-    | false ↦ λ e. found_backward c m d p qs
-  ]) refl
+      | true ↦ λ e. ap (λ x. Some (backward_chain c m d x)) (path_same q p e)
+      | false ↦ λ e. found_backward c m d p qs
+    ]) refl
 
 chain_or : (o : Option Chain) → or_else o None ≡ o
 chain_or None = refl
@@ -155,9 +155,9 @@ chain_or (Some x) = refl
 no_path : (p : Path) (anchors : List AnchorValue) → list_any (λ q. path_eq q p) (paths_in anchors) ≡ false → rules_of (anchor_at p anchors) ≡ []
 no_path p [] h = refl
 no_path p (a ∷ anchors) h = (elim (path_eq a.path p) as (λ v. (v || list_any (λ q. path_eq q p) (paths_in anchors)) ≡ false → rules_of (if v then Some a else anchor_at p anchors) ≡ []) [
-    | true ↦ λ g. absurd (true≢false g)
-    | false ↦ λ g. no_path p anchors g
-  ]) h
+  | true ↦ λ g. absurd (true≢false g)
+  | false ↦ λ g. no_path p anchors g
+]) h
 
 no_rules : (c : Configuration) (p : Path) → list_any (λ q. path_eq q p) (paths_in c.anchors) ≡ false → rules_at c p ≡ []
 unfolding rules_at
@@ -168,8 +168,8 @@ unfolding chains_of
 forward_found c m d p =
     let qs = paths_in c.anchors in
     ap rules_in (find_append (is_chain (At Forward p)) (map (forward_chain c m d) qs) (map (backward_chain c m d) qs)
-      ∙ ap (or_else (find (is_chain (At Forward p)) (map (forward_chain c m d) qs))) (other_backward c m d p qs)
-      ∙ chain_or (find (is_chain (At Forward p)) (map (forward_chain c m d) qs)) ∙ found_forward c m d p qs)
+    ∙ ap (or_else (find (is_chain (At Forward p)) (map (forward_chain c m d) qs))) (other_backward c m d p qs)
+    ∙ chain_or (find (is_chain (At Forward p)) (map (forward_chain c m d) qs)) ∙ found_forward c m d p qs)
     ∙ (elim (list_any (λ q. path_eq q p) qs) as (λ v. list_any (λ q. path_eq q p) qs ≡ v → rules_in (if v then Some (forward_chain c m d p) else None) ≡ forward_rules (forward_rule c m d p) 0 (rules_at c p)) [
       | true ↦ λ e. refl
       | false ↦ λ e. sym (ap (forward_rules (forward_rule c m d p) 0) (no_rules c p e))
@@ -180,8 +180,8 @@ unfolding chains_of
 backward_found c m d p =
     let qs = paths_in c.anchors in
     ap rules_in (find_append (is_chain (At Backward p)) (map (forward_chain c m d) qs) (map (backward_chain c m d) qs)
-      ∙ ap (λ o. or_else o (find (is_chain (At Backward p)) (map (backward_chain c m d) qs))) (other_forward c m d p qs)
-      ∙ found_backward c m d p qs)
+    ∙ ap (λ o. or_else o (find (is_chain (At Backward p)) (map (backward_chain c m d) qs))) (other_forward c m d p qs)
+    ∙ found_backward c m d p qs)
     ∙ (elim (list_any (λ q. path_eq q p) qs) as (λ v. list_any (λ q. path_eq q p) qs ≡ v → rules_in (if v then Some (backward_chain c m d p) else None) ≡ backward_rules (backward_rule c m d p) 0 (rules_at c p)) [
       | true ↦ λ e. refl
       | false ↦ λ e. sym (ap (backward_rules (backward_rule c m d p) 0) (no_rules c p e))

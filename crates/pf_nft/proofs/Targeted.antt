@@ -1,5 +1,5 @@
 -- The chains to which an anchor rule leads.
-use Rattle.std.proofs.Common.{◌≡◌, ℕ, ◌+◌, ◌<◌, ◌≤◌, ◌&&◌, Bool, true, false, List, [], ◌∷◌, ◌++◌, map, length, reverse, Option, Some, None, refl, sym, ap, ◌∙◌, arith, rules, option_map}
+use Rattle.std.proofs.Common.{◌≡◌, ℕ, ◌&&◌, true, false, List, [], ◌∷◌, ◌++◌, map, length, reverse, Option, Some, None, refl, sym, ap, ◌∙◌, rules, option_map}
 use Rattle.std.specs.Prelude.{not, nat_le, filter, if◌then◌else◌}
 use Rattle.std.proofs.lemmas.List.{map-append, reverse-append}
 use Rattle.pf_ruleset.specs.Names.{Name, begins_below}
@@ -12,12 +12,11 @@ use Rattle.pf_config.specs.Map.{Configuration, Path, rules_at, followed_by}
 use Rattle.pf_config.specs.Trees.{AnchorTree, anchor_in, last_name}
 use Rattle.pf_config.proofs.Descents.{no_rules_found}
 use Rattle.pf_eval.proofs.Anchors.{anchor_names}
-use Rattle.pf_nft.specs.Subset.{ChainName, At, Backward}
+use Rattle.pf_nft.specs.Subset.{At, Backward}
 use Rattle.pf_ruleset.specs.declared.rule.Rule.{Rule}
 use Rattle.pf_ruleset.specs.declared.parts.Direction.{Direction}
 use Rattle.pf_ruleset.specs.declared.item.AnchorRule as anchored
 use Rattle.pf_ruleset.specs.declared.item.Item as item
-use Rattle.pf_nft.specs.Subset.{NftRule}
 use Rattle.pf_nft.specs.Rendering.{backward_chains, is_chained, is_member, Machine, alternatives, filter_rules, forward_rule, backward_rule}
 
 -- rules are there exactly if items are
@@ -52,7 +51,7 @@ named_paths q [] = refl
 named_paths q (n ∷ ns) =
     ap (λ x. if not (begins_below x) then followed_by q n ∷ filter is_member (map (followed_by q) ns) else filter is_member (map (followed_by q) ns)) (last_of q n)
     ∙ (elim (begins_below n) as (λ v. (if not v then followed_by q n ∷ filter is_member (map (followed_by q) ns) else filter is_member (map (followed_by q) ns))
-      ≡ map (followed_by q) (if not v then n ∷ filter (λ n. not (begins_below n)) ns else filter (λ n. not (begins_below n)) ns)) [
+    ≡ map (followed_by q) (if not v then n ∷ filter (λ n. not (begins_below n)) ns else filter (λ n. not (begins_below n)) ns)) [
       | true ↦ named_paths q ns
       | false ↦ ap (λ ps. followed_by q n ∷ ps) (named_paths q ns)
     ])

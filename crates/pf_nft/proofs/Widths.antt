@@ -1,8 +1,8 @@
 -- The last address of a prefix is one of its family.
-use Rattle.std.proofs.Common.{◌≡◌, ℕ, suc, ◌+◌, ◌-◌, ◌*◌, ◌/◌, ◌^◌, ◌<◌, ◌≤◌, refl, sym, subst, ap, ◌∙◌, arith}
+use Rattle.std.proofs.Common.{◌≡◌, ℕ, suc, ◌+◌, ◌-◌, ◌*◌, ◌/◌, ◌^◌, ◌<◌, ◌≤◌, subst, ap, ◌∙◌, arith}
 use Rattle.std.proofs.lemmas.Nat.{pow_pos, pow-add, div_below}
 use Rattle.std.proofs.Math.Nat.{mul-le-mul_right}
-use Rattle.pf_addr.specs.Blocks.{front, cleared}
+use Rattle.pf_addr.specs.Blocks.{cleared}
 
 pub last_fits : (w len a : ℕ) → len ≤ w → a < 2 ^ w → cleared w len a + (2 ^ (w - len) - 1) < 2 ^ w
 last_fits w len a few fits =

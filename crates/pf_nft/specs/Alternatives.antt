@@ -1,5 +1,5 @@
 -- What a rule asks of a packet, as lists of matches of which one has to hold.
-use Rattle.std.specs.Prelude.{ℕ, true, false, ◌==◌, List, [], ◌∷◌, ◌++◌, Option, Some, None, if◌then◌else◌}
+use Rattle.std.specs.Prelude.{true, false, ◌==◌, List, [], ◌∷◌, ◌++◌, Option, Some, None, if◌then◌else◌}
 use Rattle.std.specs.List.{flat_map}
 use Rattle.pf_addr.specs.declared.addr.Family.{Family}
 -- what is asked of the protocol

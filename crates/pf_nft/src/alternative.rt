@@ -49,10 +49,22 @@ fn both_protocols(one: Protocol, other: Protocol) -> Option<Protocol>
     match (one, other) {
         (Protocol::AnyProtocol, protocol) => Some(protocol),
         (Protocol::Only(n), Protocol::AnyProtocol) => Some(Protocol::Only(n)),
-        (Protocol::Only(n), Protocol::Only(m)) => if n == m { Some(Protocol::Only(n)) } else { None },
-        (Protocol::Only(n), Protocol::NotTcp) => if n == 6 { None } else { Some(Protocol::Only(n)) },
+        (Protocol::Only(n), Protocol::Only(m)) => if n == m {
+            Some(Protocol::Only(n))
+        } else {
+            None
+        },
+        (Protocol::Only(n), Protocol::NotTcp) => if n == 6 {
+            None
+        } else {
+            Some(Protocol::Only(n))
+        },
         (Protocol::NotTcp, Protocol::AnyProtocol) => Some(Protocol::NotTcp),
-        (Protocol::NotTcp, Protocol::Only(n)) => if n == 6 { None } else { Some(Protocol::Only(n)) },
+        (Protocol::NotTcp, Protocol::Only(n)) => if n == 6 {
+            None
+        } else {
+            Some(Protocol::Only(n))
+        },
         (Protocol::NotTcp, Protocol::NotTcp) => Some(Protocol::NotTcp),
     }
 }

@@ -67,8 +67,9 @@ fn direction_alternatives<'c>(
     match (wanted, direction) {
         (None, _) | (Some(Direction::In), Direction::In) | (Some(Direction::Out), Direction::Out) =>
             always(alloc),
-        (Some(Direction::In), Direction::Out) | (Some(Direction::Out), Direction::In) =>
-            Ok(Vec::new(alloc)),
+        (Some(Direction::In), Direction::Out) | (Some(Direction::Out), Direction::In) => Ok(
+            Vec::new(alloc),
+        ),
     }
 }
 
@@ -122,10 +123,7 @@ fn masked_by(mask: TcpFlags, flags: TcpFlags) -> TcpFlags
 }
 
 /// Flags are asked of TCP packets alone.
-fn flag_alternatives<'c>(
-    alloc: Global,
-    test: FlagTest,
-) -> Result<Vec<Alternative<'c>>, AllocError>
+fn flag_alternatives<'c>(alloc: Global, test: FlagTest) -> Result<Vec<Alternative<'c>>, AllocError>
     ensures { IfOk result (λ v. map alternative_of v.items ≡ flag_alternatives test) }
 {
     match test {
@@ -216,8 +214,16 @@ fn port_span(test: PortTest) -> Option<PortSpan>
         PortTest::Greater(n) => ports_but(0, n),
         PortTest::GreaterEqual(n) => ports_from(n, 65535),
         PortTest::FromTo(a, b) => if a <= b { ports_from(a, b) } else { None },
-        PortTest::Between(a, b) => if a < b && a + 1 < b { ports_from(a + 1, b - 1) } else { None },
-        PortTest::Outside(a, b) => if a <= b { ports_but(a, b) } else { ports_from(0, 65535) },
+        PortTest::Between(a, b) => if a < b && a + 1 < b {
+            ports_from(a + 1, b - 1)
+        } else {
+            None
+        },
+        PortTest::Outside(a, b) => if a <= b {
+            ports_but(a, b)
+        } else {
+            ports_from(0, 65535)
+        },
     }
 }
 
@@ -274,10 +280,22 @@ fn such_alternatives<'c>(
 {
     let ways = direction_alternatives(alloc, direction, rule.direction)?;
     let families = both(alloc, &ways, &family_alternatives(alloc, rule.family)?)?;
-    let protocols = both(alloc, &families, &protocol_alternatives(alloc, rule.protocol)?)?;
-    let types = both(alloc, &protocols, &type_alternatives(alloc, rule.icmp_type)?)?;
+    let protocols = both(
+        alloc,
+        &families,
+        &protocol_alternatives(alloc, rule.protocol)?,
+    )?;
+    let types = both(
+        alloc,
+        &protocols,
+        &type_alternatives(alloc, rule.icmp_type)?,
+    )?;
     let flags = both(alloc, &types, &flag_alternatives(alloc, rule.flags)?)?;
-    both(alloc, &flags, &interface_alternatives(alloc, machine, &rule.interface)?)
+    both(
+        alloc,
+        &flags,
+        &interface_alternatives(alloc, machine, &rule.interface)?,
+    )
 }
 
 /// What is asked of its two ends.
@@ -291,10 +309,20 @@ fn end_alternatives<'c>(
     ensures { IfOk result (λ v. map alternative_of v.items ≡ end_alternatives config.now path.now rule.now) }
 {
     let first = port_alternatives(alloc, Side::Source, rule.source_port)?;
-    let ports = both(alloc, &first, &port_alternatives(alloc, Side::Destination, rule.destination_port)?)?;
+    let ports = both(
+        alloc,
+        &first,
+        &port_alternatives(alloc, Side::Destination, rule.destination_port)?,
+    )?;
     let sources = host_alternatives(alloc, config, path, Side::Source, &rule.source)?;
     let left = both(alloc, &ports, &sources)?;
-    let destinations = host_alternatives(alloc, config, path, Side::Destination, &rule.destination)?;
+    let destinations = host_alternatives(
+        alloc,
+        config,
+        path,
+        Side::Destination,
+        &rule.destination,
+    )?;
     both(alloc, &left, &destinations)
 }
 

@@ -195,13 +195,37 @@ pub(crate) fn host_alternatives<'c>(
     match host {
         Host::Any => return always(alloc),
         Host::In(set) => {
-            push_place(alloc, &mut all, side, Family::Inet, place_of(config, path, Family::Inet, set))?;
-            push_place(alloc, &mut all, side, Family::Inet6, place_of(config, path, Family::Inet6, set))?;
+            push_place(
+                alloc,
+                &mut all,
+                side,
+                Family::Inet,
+                place_of(config, path, Family::Inet, set),
+            )?;
+            push_place(
+                alloc,
+                &mut all,
+                side,
+                Family::Inet6,
+                place_of(config, path, Family::Inet6, set),
+            )?;
             Ok(all)
         }
         Host::NotIn(set) => {
-            push_other(alloc, &mut all, side, Family::Inet, place_of(config, path, Family::Inet, set))?;
-            push_other(alloc, &mut all, side, Family::Inet6, place_of(config, path, Family::Inet6, set))?;
+            push_other(
+                alloc,
+                &mut all,
+                side,
+                Family::Inet,
+                place_of(config, path, Family::Inet, set),
+            )?;
+            push_other(
+                alloc,
+                &mut all,
+                side,
+                Family::Inet6,
+                place_of(config, path, Family::Inet6, set),
+            )?;
             Ok(all)
         }
     }

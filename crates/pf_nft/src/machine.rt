@@ -20,7 +20,10 @@ pub struct MachineInterface {
 }
 
 /// The groups of an interface, if it is the machine's.
-fn groups_in<'m>(machine: &'m [MachineInterface], name: &InterfaceName) -> Option<&'m [InterfaceName]>
+fn groups_in<'m>(
+    machine: &'m [MachineInterface],
+    name: &InterfaceName,
+) -> Option<&'m [InterfaceName]>
     ensures { option_map (λ g. g.now) result ≡ groups_in (machine_of machine.now) name.now }
 {
     for interface in machine {
@@ -82,7 +85,11 @@ fn is_meant(machine: &[MachineInterface], interface: &InterfaceName, wanted: &In
 
 /// Whether the machine's interface is skipped.
 #[tactic(auto, unfolding(crate::specs::Rendering::is_skipped))]
-fn is_skipped(skip: &[InterfaceName], machine: &[MachineInterface], interface: &InterfaceName) -> bool
+fn is_skipped(
+    skip: &[InterfaceName],
+    machine: &[MachineInterface],
+    interface: &InterfaceName,
+) -> bool
     ensures { result ≡ is_skipped skip.now (names_in (machine_of machine.now) interface.now) }
 {
     for name in skip {

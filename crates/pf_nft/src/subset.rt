@@ -87,7 +87,10 @@ pub enum Match<'c> {
     /// `meta nfproto`.
     OfFamily(Family),
     /// `meta l4proto`.
-    OfProtocol { number: u8, negated: bool },
+    OfProtocol {
+        number: u8,
+        negated: bool,
+    },
     /// `ip saddr`, `ip6 saddr`, `ip daddr`, `ip6 daddr`.
     AtAddress {
         side: Side,
@@ -103,7 +106,10 @@ pub enum Match<'c> {
         negated: bool,
     },
     /// `tcp flags & mask == value`.
-    WithFlags { mask: TcpFlags, value: TcpFlags },
+    WithFlags {
+        mask: TcpFlags,
+        value: TcpFlags,
+    },
     /// The first byte of an ICMP header: `@th,0,8`.
     OfType(u8),
 }

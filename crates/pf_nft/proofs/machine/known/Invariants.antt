@@ -1,4 +1,4 @@
-use Rattle.std.proofs.Common.{◌≡◌, ◌++◌, drop, map}
+use Rattle.std.proofs.Common.{◌≡◌, ◌++◌, drop}
 use Rattle.pf_nft.specs.Rendering.{known}
 use Rattle.pf_nft.specs.Seen.{machine_of}
 use Rattle.pf_nft.proofs.machine.known.Given as goal
