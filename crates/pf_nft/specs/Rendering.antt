@@ -1,0 +1,351 @@
+-- A configuration as a ruleset of nftables, for a machine whose interfaces are known, and for one direction.
+use Rattle.std.specs.Prelude.{ℕ, ◌+◌, ◌-◌, Bool, true, false, ◌==◌, ◌&&◌, List, [], ◌∷◌, ◌++◌, Option, Some, None}
+use Rattle.std.specs.Prelude.{length, map, filter, reverse, not, nat_le, nat_lt, option_map, is_some, unwrap_or, if◌then◌else◌}
+use Rattle.std.specs.List.{list_any, flat_map}
+use Rattle.std.specs.Map.{lookup}
+use Rattle.std.specs.Str.{bytes_eq}
+use Rattle.pf_addr.specs.declared.addr.Family.{Family}
+use Rattle.pf_addr.specs.declared.addr.Family.TheVariants.{Inet, Inet6}
+use Rattle.pf_addr.specs.Blocks.{family_of}
+use Rattle.pf_addr.specs.Order.{bits_of}
+use Rattle.pf_words.specs.declared.flags.TcpFlags.{TcpFlags}
+use Rattle.pf_ruleset.specs.declared.parts.Direction.{Direction}
+use Rattle.pf_ruleset.specs.declared.parts.Interface.{Interface}
+use Rattle.pf_ruleset.specs.declared.parts.Addresses.{Addresses}
+use Rattle.pf_ruleset.specs.declared.parts.Addresses.TheVariants.{Prefix, Range, Table}
+use Rattle.pf_ruleset.specs.declared.parts.Host.{Host}
+use Rattle.pf_ruleset.specs.declared.parts.Host.TheVariants as host
+use Rattle.pf_ruleset.specs.declared.parts.PortTest.{PortTest}
+use Rattle.pf_ruleset.specs.declared.parts.PortTest.TheVariants.{Equal, NotEqual, Less, LessEqual, Greater}
+use Rattle.pf_ruleset.specs.declared.parts.PortTest.TheVariants.{GreaterEqual, FromTo, Between, Outside}
+use Rattle.pf_ruleset.specs.declared.parts.FlagTest.{FlagTest}
+use Rattle.pf_ruleset.specs.declared.parts.FlagTest.TheVariants as flags
+use Rattle.pf_ruleset.specs.declared.rule.Conditions.{Conditions}
+use Rattle.pf_ruleset.specs.declared.rule.Rule.{Rule}
+use Rattle.pf_ruleset.specs.declared.rule.Action.{Action}
+use Rattle.pf_ruleset.specs.declared.rule.Action.TheVariants as act
+use Rattle.pf_ruleset.specs.Names.{Name, begins_below}
+use Rattle.pf_ruleset.specs.Items.{AnyRule, FilterRule, AnchorRule, Target}
+use Rattle.pf_table.specs.Tables.{TableValue}
+use Rattle.pf_config.specs.Changes.{is_empty}
+use Rattle.pf_config.specs.Trees.{last_name}
+use Rattle.pf_config.specs.Map.{Configuration, Path, rules_at, table_at, table_names, paths_in, kids, followed_by}
+use Rattle.pf_ruleset.specs.declared.ruleset.TableEntry.{TableEntry}
+use Rattle.pf_eval.specs.Packets.{without_digits}
+use Rattle.pf_eval.specs.Matching.{direction_eq}
+use Rattle.pf_eval.specs.Verdicts as pf
+use Rattle.pf_nft.specs.Subset.{NamedSet, Side, Source, Destination, Where, From, InSet}
+use Rattle.pf_nft.specs.Subset.{Match, OnInterface, AtAddress, AtPort, WithFlags, OfType}
+use Rattle.pf_nft.specs.Subset.{Forward, Backward, ChainName, Base, At, Note, Unknown, Skip, Default, Spot}
+use Rattle.pf_nft.specs.Subset.{Outcome, Accept, Drop, Reject, Decision, Statement, Ends, Jump, NftRule, Chain, NftRuleset}
+use Rattle.pf_nft.specs.Subset.{family_eq}
+use Rattle.pf_nft.specs.Evaluation.{turned}
+use Rattle.pf_nft.specs.Cuts.{first_of, last_of, elements}
+-- from one port to another, or, negated, every other
+pub use Rattle.pf_nft.specs.declared.asked.PortSpan.{PortSpan}
+use Rattle.pf_nft.specs.Alternatives.{Alternative, AnyProtocol, Only, NotTcp, matches_of, both}
+
+-- ---- the machine
+
+-- its interfaces, each with its groups
+abbrev pub Machine : Type 0
+Machine = List (Name × List Name)
+
+-- the groups of an interface, if it is the machine's
+abbrev pub groups_in : Machine → Name → Option (List Name)
+groups_in m name = lookup (λ n. bytes_eq n name) m
+
+-- the names by which rules may name an interface with these groups
+abbrev pub names_of : Name → List Name → List Name
+names_of name groups = name ∷ without_digits name ∷ groups
+
+-- its names, if it is the machine's
+abbrev pub names_in : Machine → Name → List Name
+names_in m name = names_of name (unwrap_or (groups_in m name) [])
+
+abbrev pub known : Machine → List Name
+known m = map (λ (i : Name × List Name). i.0) m
+
+-- the machine's interfaces whose names pass
+abbrev pub interfaces_with : (List Name → Bool) → Machine → List Name
+interfaces_with test m = filter (λ n. test (names_in m n)) (known m)
+
+-- ---- the parts of a rule
+
+-- nothing is asked
+abbrev pub always : Alternative
+always = record { family = None; protocol = AnyProtocol; tests = [] }
+
+abbrev pub only_tests : List Match → Alternative
+only_tests tests = record { family = None; protocol = AnyProtocol; tests = tests }
+
+abbrev pub direction_alternatives : Direction → Option Direction → List Alternative
+direction_alternatives d None = always ∷ []
+direction_alternatives d (Some wanted) = if direction_eq d wanted then always ∷ [] else []
+
+abbrev pub family_alternatives : Option Family → List Alternative
+family_alternatives f = record { family = f; protocol = AnyProtocol; tests = [] } ∷ []
+
+abbrev pub protocol_alternatives : Option ℕ → List Alternative
+protocol_alternatives None = always ∷ []
+protocol_alternatives (Some n) = record { family = None; protocol = Only n; tests = [] } ∷ []
+
+abbrev pub type_alternatives : Option ℕ → List Alternative
+type_alternatives None = always ∷ []
+type_alternatives (Some n) = record { family = None; protocol = Only 1; tests = OfType n ∷ [] } ∷ []
+
+-- of the flags in the mask those that are to be set
+abbrev pub masked_by : TcpFlags → TcpFlags → TcpFlags
+masked_by mask f = record {
+  fin = f.fin && mask.fin;
+  syn = f.syn && mask.syn;
+  rst = f.rst && mask.rst;
+  psh = f.psh && mask.psh;
+  ack = f.ack && mask.ack;
+  urg = f.urg && mask.urg;
+  ece = f.ece && mask.ece;
+  cwr = f.cwr && mask.cwr;
+}
+
+-- flags are asked of TCP packets alone
+abbrev pub flag_alternatives : FlagTest → List Alternative
+flag_alternatives flags.Any = always ∷ []
+flag_alternatives (flags.Just set of) =
+    record { family = None; protocol = Only 6; tests = WithFlags of (masked_by of set) ∷ [] }
+    ∷ record { family = None; protocol = NotTcp; tests = [] } ∷ []
+
+-- a packet on one of these, of which there may be none
+abbrev pub on_some : List Name → List Alternative
+on_some [] = []
+on_some (n ∷ ns) = only_tests (OnInterface (n ∷ ns) false ∷ []) ∷ []
+
+-- one of the names is the interface's, or, negated, none
+abbrev pub is_meant : Interface → List Name → Bool
+is_meant i names = turned i.negated (list_any (λ n. bytes_eq n i.name) names)
+
+abbrev pub interface_alternatives : Machine → Option Interface → List Alternative
+interface_alternatives m None = always ∷ []
+interface_alternatives m (Some i) = on_some (interfaces_with (is_meant i) m)
+
+-- ---- ports
+
+abbrev pub ports_from : (low high : ℕ) → Option PortSpan
+ports_from low high = Some (record { low = low; high = high; negated = false })
+
+abbrev pub ports_but : (low high : ℕ) → Option PortSpan
+ports_but low high = Some (record { low = low; high = high; negated = true })
+
+-- the ports that pass, none if none does
+abbrev pub port_span : PortTest → Option PortSpan
+port_span (Equal n) = ports_from n n
+port_span (NotEqual n) = ports_but n n
+port_span (Less n) = if n == 0 then None else ports_from 0 (n - 1)
+port_span (LessEqual n) = ports_from 0 n
+port_span (Greater n) = ports_but 0 n
+port_span (GreaterEqual n) = ports_from n 65535
+port_span (FromTo a b) = if nat_le a b then ports_from a b else None
+port_span (Between a b) = if nat_lt (a + 1) b then ports_from (a + 1) (b - 1) else None
+port_span (Outside a b) = if nat_le a b then ports_but a b else ports_from 0 65535
+
+abbrev pub of_protocol : ℕ → Match → Alternative
+of_protocol n m = record { family = None; protocol = Only n; tests = m ∷ [] }
+
+-- TCP and UDP have ports
+abbrev pub on_ports : Side → Option PortSpan → List Alternative
+on_ports side None = []
+on_ports side (Some s) = of_protocol 6 (AtPort side s.low s.high s.negated)
+    ∷ of_protocol 17 (AtPort side s.low s.high s.negated) ∷ []
+
+abbrev pub port_alternatives : Side → Option PortTest → List Alternative
+port_alternatives side None = always ∷ []
+port_alternatives side (Some test) = on_ports side (port_span test)
+
+-- ---- addresses
+
+-- whose table a rule at a path names: the path's own, else main's, none if there is none
+abbrev pub owner_of : Configuration → Path → Name → Option Path
+owner_of c p name = if is_some (table_at c p name) then Some p else (if is_some (table_at c [] name) then Some [] else None)
+
+-- the addresses of that family, none if there are none
+abbrev pub place_of : Configuration → Path → Family → Addresses → Option Where
+place_of c p f (Prefix block) =
+    if family_eq (family_of block.base) f then Some (From (first_of block) (last_of block)) else None
+place_of c p f (Range range) =
+    if family_eq (family_of range.first) f && family_eq (family_of range.last) f
+    then Some (From (bits_of range.first) (bits_of range.last)) else None
+place_of c p f (Table name) =
+    option_map (λ owner. InSet (record { owner = owner; table = name; family = f })) (owner_of c p name)
+
+abbrev pub of_place : Side → Family → Option Where → List Alternative
+of_place side f None = []
+of_place side f (Some place) =
+    record { family = Some f; protocol = AnyProtocol; tests = AtAddress side f place false ∷ [] } ∷ []
+
+abbrev pub off_place : Side → Family → Option Where → List Alternative
+off_place side f None = record { family = Some f; protocol = AnyProtocol; tests = [] } ∷ []
+off_place side f (Some place) =
+    record { family = Some f; protocol = AnyProtocol; tests = AtAddress side f place true ∷ [] } ∷ []
+
+abbrev pub host_alternatives : Configuration → Path → Side → Host → List Alternative
+host_alternatives c p side host.Any = always ∷ []
+host_alternatives c p side (host.In set) =
+    of_place side Inet (place_of c p Inet set) ++ of_place side Inet6 (place_of c p Inet6 set)
+host_alternatives c p side (host.NotIn set) =
+    off_place side Inet (place_of c p Inet set) ++ off_place side Inet6 (place_of c p Inet6 set)
+
+-- ---- the whole of a rule's conditions
+
+-- what is asked of the packet itself
+unfoldable pub such_alternatives : Machine → Direction → Conditions → List Alternative
+such_alternatives m d r =
+    both (both (both (both (both (direction_alternatives d r.direction) (family_alternatives r.family))
+    (protocol_alternatives r.protocol)) (type_alternatives r.icmp_type)) (flag_alternatives r.flags))
+    (interface_alternatives m r.interface)
+
+-- what is asked of its two ends
+unfoldable pub end_alternatives : Configuration → Path → Conditions → List Alternative
+end_alternatives c p r =
+    both (both (both (port_alternatives Source r.source_port) (port_alternatives Destination r.destination_port))
+    (host_alternatives c p Source r.source)) (host_alternatives c p Destination r.destination)
+
+unfoldable pub alternatives : Configuration → Machine → Direction → Path → Conditions → List Alternative
+alternatives c m d p r = both (such_alternatives m d r) (end_alternatives c p r)
+
+-- ---- rules
+
+-- the rule does this to packets of which one of the alternatives holds
+unfoldable pub with_statement : Statement → Alternative → NftRule
+with_statement s a = record { matches = matches_of a; statement = s }
+
+abbrev pub outcome_of : Action → Outcome
+outcome_of act.Pass = Accept
+outcome_of act.Drop = Drop
+outcome_of act.Return = Reject
+
+abbrev pub filter_rules : List Alternative → Path → ℕ → Rule → List NftRule
+filter_rules xs p i r =
+    map (with_statement (Ends (record { outcome = outcome_of r.action; note = Spot p i }))) xs
+
+unfoldable pub jump_each : List ChainName → Alternative → List NftRule
+jump_each chains a = map (λ n. with_statement (Jump n) a) chains
+
+abbrev pub jump_rules : List Alternative → List ChainName → List NftRule
+jump_rules xs chains = flat_map (jump_each chains) xs
+
+-- paths that a jump may lead to: some rule is there, and they are at most 8 names deep
+abbrev pub is_chained : Configuration → Path → Bool
+is_chained c q = nat_le (length q) 8 && not (is_empty (rules_at c q))
+
+-- an anchor that is no unnamed block
+abbrev pub is_member : Path → Bool
+is_member q = not (begins_below (last_name q))
+
+-- the paths that an anchor rule evaluates, in their order
+abbrev pub targets_of : Configuration → Path → Target → List Path
+targets_of c p t =
+    if t.children
+    then map (followed_by (p ++ t.names)) (filter (λ n. not (begins_below n)) (kids c (p ++ t.names)))
+    else (p ++ t.names) ∷ []
+
+abbrev pub chained_targets : Configuration → Path → Target → List Path
+chained_targets c p t = filter (is_chained c) (targets_of c p t)
+
+abbrev pub forward_chains : List Path → List ChainName
+forward_chains paths = map (At Forward) paths
+
+abbrev pub backward_chains : List Path → List ChainName
+backward_chains paths = map (At Backward) (reverse paths)
+
+-- what may end the evaluation: quick rules, and what anchor rules evaluate; within a quick one the last hit ends it too
+abbrev pub forward_rule : Configuration → Machine → Direction → Path → ℕ → AnyRule → List NftRule
+forward_rule c m d p i (FilterRule r) = if r.quick then filter_rules (alternatives c m d p r.conditions) p i r else []
+forward_rule c m d p i (AnchorRule a) =
+    jump_rules (alternatives c m d p a.conditions) (forward_chains (chained_targets c p a.target)
+    ++ (if a.quick then backward_chains (chained_targets c p a.target) else []))
+
+-- the rest
+abbrev pub backward_rule : Configuration → Machine → Direction → Path → ℕ → AnyRule → List NftRule
+backward_rule c m d p i (FilterRule r) = if r.quick then [] else filter_rules (alternatives c m d p r.conditions) p i r
+backward_rule c m d p i (AnchorRule a) =
+    if a.quick then [] else jump_rules (alternatives c m d p a.conditions) (backward_chains (chained_targets c p a.target))
+
+-- of rules with the indices from i on: the first one first
+abbrev pub forward_rules : (ℕ → AnyRule → List NftRule) → ℕ → List AnyRule → List NftRule
+forward_rules f i [] = []
+forward_rules f i (rule ∷ rules) = f i rule ++ forward_rules f (i + 1) rules
+
+-- the last one first
+abbrev pub backward_rules : (ℕ → AnyRule → List NftRule) → ℕ → List AnyRule → List NftRule
+backward_rules f i [] = []
+backward_rules f i (rule ∷ rules) = backward_rules f (i + 1) rules ++ f i rule
+
+-- ---- the ruleset
+
+abbrev pub forward_chain : Configuration → Machine → Direction → Path → Chain
+forward_chain c m d p = record { name = At Forward p; rules = forward_rules (forward_rule c m d p) 0 (rules_at c p) }
+
+abbrev pub backward_chain : Configuration → Machine → Direction → Path → Chain
+backward_chain c m d p = record { name = At Backward p; rules = backward_rules (backward_rule c m d p) 0 (rules_at c p) }
+
+-- what stands on no interface of the list is dropped
+abbrev pub unknown_matches : List Name → List Match
+unknown_matches [] = []
+unknown_matches (n ∷ ns) = OnInterface (n ∷ ns) true ∷ []
+
+abbrev pub ending : Outcome → Note → List Match → NftRule
+ending outcome note matches = record { matches = matches; statement = Ends (record { outcome = outcome; note = note }) }
+
+-- one of the names is in the skip list
+unfoldable pub is_skipped : List Name → List Name → Bool
+is_skipped skip names = list_any (λ n. list_any (λ m. bytes_eq m n) names) skip
+
+abbrev pub skip_rules : Configuration → Machine → List NftRule
+skip_rules c m = map (with_statement (Ends (record { outcome = Accept; note = Skip })))
+    (on_some (interfaces_with (is_skipped c.skip) m))
+
+abbrev pub main_chains : Configuration → List ChainName
+main_chains c = if is_empty (rules_at c []) then [] else At Forward [] ∷ At Backward [] ∷ []
+
+abbrev pub base_chain : Configuration → Machine → Chain
+base_chain c m = record {
+  name = Base;
+  rules = ending Drop Unknown (unknown_matches (known m)) ∷ (skip_rules c m
+      ++ (jump_rules (always ∷ []) (main_chains c) ++ ending Accept Default [] ∷ []));
+}
+
+-- the entries of a table, none if there is none
+abbrev pub entries_in : Option TableValue → List TableEntry
+entries_in None = []
+entries_in (Some t) = t.entries
+
+abbrev pub table_set : Configuration → Path → Name → Family → NamedSet
+table_set c p n f = record {
+  name = record { owner = p; table = n; family = f };
+  elements = elements f (entries_in (table_at c p n));
+}
+
+-- the two sets of a table
+abbrev pub table_sets : Configuration → Path → Name → List NamedSet
+table_sets c p n = table_set c p n Inet ∷ table_set c p n Inet6 ∷ []
+
+abbrev pub path_sets : Configuration → Path → List NamedSet
+path_sets c p = flat_map (table_sets c p) (table_names c p)
+
+unfoldable pub sets_of : Configuration → List NamedSet
+sets_of c = flat_map (path_sets c) (paths_in c.anchors)
+
+unfoldable pub chains_of : Configuration → Machine → Direction → List Chain
+chains_of c m d =
+    base_chain c m ∷ (map (forward_chain c m d) (paths_in c.anchors) ++ map (backward_chain c m d) (paths_in c.anchors))
+
+-- the ruleset of a configuration for packets of a direction
+abbrev pub rendered : Configuration → Machine → Direction → NftRuleset
+rendered c m d = record { sets = sets_of c; chains = chains_of c m d }
+
+-- ---- what it decides
+
+-- what a judgement is in its words
+abbrev pub decision_of : pf.Judgement → Decision
+decision_of pf.Skipped = record { outcome = Accept; note = Skip }
+decision_of (pf.Decided None) = record { outcome = Accept; note = Default }
+decision_of (pf.Decided (Some s)) = record { outcome = outcome_of s.action; note = Spot s.path s.index }
