@@ -1,6 +1,6 @@
 -- What a store that is opened shows.
-use Rattle.std.proofs.Common.{◌≡◌, ◌⊎◌, inl, inr, ℕ, pos, ◌<◌, List, [], ◌∷◌, map, true, false, refl, sym, ap, subst, ◌∙◌, arith, length, Result, Ok, Err, IfOk}
-use Rattle.std.proofs.lemmas.Bool.{ne_eqb}
+use Rattle.std.proofs.Common.{◌≡◌, ◌⊎◌, inl, inr, ℕ, pos, ◌<◌, ◌≤◌, ◌^◌, List, [], ◌∷◌, map, Bool, true, false, not, cond, ◌&&◌, ◌||◌, None, Some, refl, sym, ap, subst, subst₂, ◌∙◌, arith, length, Result, Ok, Err, IfOk}
+use Rattle.std.proofs.lemmas.Bool.{ne_eqb, and_parts, and_from, eqb-true, eq-eqb, lt-ltb, le-leb}
 use Rattle.sqlite.specs.declared.types.Value.TheVariants.{Int}
 use Rattle.sqlite_value.specs.Order.{Row, column}
 use Rattle.sqlite.specs.Effect.{Database}
@@ -10,13 +10,16 @@ use Rattle.px_sql.specs.Tables.{schema_3}
 use Rattle.px_model.specs.Node.{Record}
 use Rattle.px_model.specs.Spelling.{Bytes}
 use Rattle.px_model.specs.World.{nothing_stored}
-use Rattle.px_sql.specs.Formats.{record_at}
-use Rattle.px_sql.specs.Formats.Format.{One, Two, Three}
-use Rattle.px_sql.specs.inner.Making.{Brought, AreBrought}
-use Rattle.px_sql.specs.Adopting.{IsSame, Shows}
-use Rattle.sqlite.specs.Schema.{Schema}
-use Rattle.px_sql.specs.Seen.{number_at, slot_in, learned_in, slot_columns, learned_columns, record_in, rows_at, seen, shown, meta_columns, meta_row, floor_columns, floor_rows, Tells, IsMetaIn, IsFloorIn}
-use Rattle.px_sql.specs.Effect.{IsSettled, IsAlike, LeavesOneMore, LeavesOld}
+use Rattle.px_sql.specs.Formats.{record_at, trees_at, number_of, schema_at, tables_in, has_table}
+use Rattle.px_sql.specs.declared.formats.Format.{Format}
+use Rattle.px_sql.specs.declared.formats.Format.TheVariants.{One, Two, Three}
+use Rattle.px_sql.specs.inner.Making.{Brought}
+use Rattle.px_sql.specs.Adopting.{IsSame, Shows, Began, AreBrought, IsBrought, IsMade}
+use Rattle.px_sql.specs.Judging.{refusal, refusal_of, are_floor_rows, says_format, says_member, says_numbers, says_owner, is_member_of, has_rows}
+use Rattle.px_sql.specs.declared.fault.AdoptFault.TheVariants.{StoreVersion, BadStore, WrongNode}
+use Rattle.std.specs.Prelude.{nat_lt, nat_le}
+use Rattle.px_sql.specs.Seen.{number_at, number_in, slot_in, learned_in, slot_columns, learned_columns, record_in, rows_at, seen, shown, meta_columns, meta_row, floor_columns, floor_rows, Tells, IsMetaIn, IsFloorIn}
+use Rattle.px_sql.specs.Effect.{IsSettled, IsAlike}
 use Rattle.px_sql.specs.Ready.{IsMeta}
 use Rattle.px_sql.specs.declared.calls.Identity.{Identity}
 use Rattle.px_model.specs.declared.record.Meta.{Meta}
@@ -82,21 +85,6 @@ is_read id m s t u second stays still one two =
     let floor = ap (λ (d : Database). seen floor_columns (d.trees 2) 1) at_t ∙ two in
     (second.schema, (second.auto, (second.is_open, (meta, floor))))
 
-pub one_more : (Old New : Trees → Type 0) (whole : Trees) → ((db : Trees) → New db → Old db ⊎ (db ≡ whole)) → (a b : Trees) → New a → New b → Old a ⊎ (Old b ⊎ (a ≡ b))
-one_more Old New whole h a b left also = elim (h a left) [
-  | inl was ↦ inl was
-  | inr same ↦ elim (h b also) [ inl was ↦ inr (inl was) | inr too ↦ inr (inr (same ∙ sym too)) ]
-]
-
-pub old_more : (old new : State) → LeavesOld old new → LeavesOneMore old new
-old_more old new h a b left also = inl (h a left)
-
-pub more_old : (old mid new : State) → LeavesOneMore old mid → LeavesOld mid new → LeavesOneMore old new
-more_old old mid new h k a b left also = h a b (k a left) (k b also)
-
-pub old_then_more : (old mid new : State) → LeavesOld old mid → LeavesOneMore mid new → LeavesOneMore old new
-old_then_more old mid new h k a b left also = elim (k a b left also) [ inl x ↦ inl (h a x) | inr r ↦ elim r [ inl y ↦ inr (inl (h b y)) | inr e ↦ inr (inr e) ] ]
-
 -- fewer than two rows are those that were asked for
 pub alike_few : (rows answer : List Row) → IsAlike rows answer → length answer < 2 → rows ≡ answer
 alike_few rows answer (inl same) few = same
@@ -119,49 +107,72 @@ built : (a b c d : ℕ) (s t u v w x : List Row) → a ≡ b → c ≡ d → s �
 built a b c d s t u v w x p q r k l =
     ap (λ n. build n c s u w) p ∙ ap (λ n. build b n s u w) q ∙ ap (λ n. build b d n u w) r ∙ ap (λ n. build b d t n w) k ∙ ap (λ n. build b d t v n) l
 
-module _ (id : Identity) (round number : ℕ) (db : Trees) (new : State) (r : number_at 5 (seen meta_columns (db 0) 1) ≡ round) (k : number_at 6 (seen meta_columns (db 0) 1) ≡ number) where
-  shows_at : (x : Trees) (s f l : List Row) → AreBrought id round number s f l x → record_in x ≡ build (number_at 5 (seen meta_columns (db 0) 1)) (number_at 6 (seen meta_columns (db 0) 1)) s f l
-  unfolding build
-  shows_at x s f l b =
-      built _ _ _ _ _ _ _ _ _ _ (ap (number_at 5) b.meta_is ∙ sym r) (ap (number_at 6) b.meta_is ∙ sym k) b.slots_be b.floor_be b.learned_be
+-- rows that were brought of a store of a format show its record
+brought_shows : (f : Format) (id : Identity) (was db : Trees) → AreBrought id (number_at 5 (seen meta_columns (was 0) 1)) (number_at 6 (seen meta_columns (was 0) 1)) (was 1) (trees_at f was 2) (trees_at f was 3) db
+    → record_in db ≡ record_at f was
+unfolding build
+brought_shows One id was db b = built _ _ _ _ _ _ _ _ _ _ (ap (number_at 5) b.meta_is) (ap (number_at 6) b.meta_is) b.slots_be b.floor_be b.learned_be
+brought_shows Two id was db b = built _ _ _ _ _ _ _ _ _ _ (ap (number_at 5) b.meta_is) (ap (number_at 6) b.meta_is) b.slots_be b.floor_be b.learned_be
+brought_shows Three id was db b = built _ _ _ _ _ _ _ _ _ _ (ap (number_at 5) b.meta_is) (ap (number_at 6) b.meta_is) b.slots_be b.floor_be b.learned_be
 
-  shows : (s f l : List Row) → Brought id round number s f l new → record_in new.now.trees ≡ build (number_at 5 (seen meta_columns (db 0) 1)) (number_at 6 (seen meta_columns (db 0) 1)) s f l
-  shows s f l b = shows_at new.now.trees s f l (record { meta_is = b.meta; slots_be = b.slots_are; floor_be = b.floor_are; learned_be = b.learned_are })
+anew_shows : (id : Identity) (db : Trees) → AreBrought id 0 0 [] [] [] db → record_in db ≡ nothing_stored
+unfolding build
+anew_shows id db b = built _ _ _ _ _ _ _ _ _ _ (ap (number_at 5) b.meta_is) (ap (number_at 6) b.meta_is) b.slots_be b.floor_be b.learned_be
 
-  pub at_one : (x : Trees) → AreBrought id round number (db 1) [] [] x → record_in x ≡ record_at One db
-  unfolding build
-  at_one x b = shows_at x (db 1) [] [] b
+as_rows : {id : Identity} {round number : ℕ} {s f l : List Row} {new : State} → Brought id round number s f l new → AreBrought id round number s f l new.now.trees
+as_rows b = record { meta_is = b.meta; slots_be = b.slots_are; floor_be = b.floor_are; learned_be = b.learned_are }
 
-  pub at_two : (x : Trees) → AreBrought id round number (db 1) (db 2) [] x → record_in x ≡ record_at Two db
-  unfolding build
-  at_two x b = shows_at x (db 1) (db 2) [] b
+-- ---- what was brought may be taken again
 
-  pub at_three : (x : Trees) → AreBrought id round number (db 1) (db 2) (db 3) x → record_in x ≡ record_at Three db
-  unfolding build
-  at_three x b = shows_at x (db 1) (db 2) (db 3) b
+-- of three tests the last two hold where nothing is refused
+both_hold : (a b c : Bool) → cond (not a) (Some StoreVersion) (cond (not b) (Some BadStore) (cond c None (Some WrongNode))) ≡ None → (b ≡ true) × (c ≡ true)
+both_hold false b c e = absurd cc
+both_hold true false c e = absurd cc
+both_hold true true false e = absurd cc
+both_hold true true true e = (refl, refl)
 
-  pub shows_one : Brought id round number (db 1) [] [] new → Shows (record_at One db) new
-  unfolding build
-  shows_one b = record { schema = b.schema; is = shows (db 1) [] [] b }
+none_refused : (a b c : Bool) → a ≡ true → b ≡ true → c ≡ true → cond (not a) (Some StoreVersion) (cond (not b) (Some BadStore) (cond c None (Some WrongNode))) ≡ None
+none_refused a b c p q r = rw (p, q, r) refl
 
-  pub shows_two : Brought id round number (db 1) (db 2) [] new → Shows (record_at Two db) new
-  unfolding build
-  shows_two b = record { schema = b.schema; is = shows (db 1) (db 2) [] b }
+-- a store that isn't refused has a floor that the node may have promised
+floor_taken : (format : ℕ) (id : Identity) (meta floor : List Row) (more : Bool) → refusal_of format id meta floor more ≡ None → are_floor_rows id.members floor ≡ true
+floor_taken format id [] [] more e = refl
+floor_taken format id [] (r ∷ rest) more e = absurd cc
+floor_taken format id (r ∷ x ∷ rest) floor more e = absurd cc
+floor_taken format id (r ∷ []) floor more e =
+    let held = both_hold (says_format format r) (says_member r && says_numbers r && are_floor_rows (number_in (column r 3)) floor) (says_owner id r) e in
+    let owner = and_parts _ _ (and_parts _ _ held.1).1 in
+    let members : number_in (column r 3) ≡ id.members = eqb-true (number_in (column r 3)) id.members owner.0 in
+    subst (λ n. are_floor_rows n floor ≡ true) members (and_parts (says_member r && says_numbers r) _ held.0).1
 
-  pub shows_three : Brought id round number (db 1) (db 2) (db 3) new → Shows (record_at Three db) new
-  unfolding build
-  shows_three b = record { schema = b.schema; is = shows (db 1) (db 2) (db 3) b }
+again : (id : Identity) (round number : ℕ) (s f l : List Row) (db : Trees) → AreBrought id round number s f l db → round < 2 ^ 48 → number ≤ 2 ^ 48 → are_floor_rows id.members (seen floor_columns f 1) ≡ true
+    → is_member_of id.cluster id.members id.node ≡ true → refusal Three id db ≡ None
+again id round number s f l db b low most floor member =
+    let row = meta_row 3 id.cluster id.members id.node round number in
+    let floors = seen floor_columns (db 2) 1 in
+    let good : are_floor_rows id.members floors ≡ true = subst (λ (rows : List Row). are_floor_rows id.members (seen floor_columns rows 1) ≡ true) (sym b.floor_be) floor in
+    let numbers : (nat_lt round (2 ^ 48) && nat_le number (2 ^ 48)) ≡ true = and_from _ _ (lt-ltb round (2 ^ 48) low) (le-leb number (2 ^ 48) most) in
+    let whole = and_from _ _ (and_from _ _ member numbers) good in
+    let owner = and_from _ _ (eq-eqb id.cluster id.cluster refl) (and_from _ _ (eq-eqb id.members id.members refl) (eq-eqb id.node id.node refl)) in
+    ap (λ rows. refusal_of 3 id rows floors (has_rows (db 1) || has_rows (db 3))) b.meta_is ∙ none_refused true _ _ refl whole owner
+
+pub whole_from : (f : Format) (id : Identity) (was : Trees) (round number : ℕ) → refusal f id was ≡ None → number_at 5 (seen meta_columns (was 0) 1) ≡ round → number_at 6 (seen meta_columns (was 0) 1) ≡ number
+    → round < 2 ^ 48 → number ≤ 2 ^ 48 → (db : Trees) → AreBrought id round number (was 1) (trees_at f was 2) (trees_at f was 3) db → IsBrought f id was db
+whole_from f id was round number taken r k low most db b =
+    let here = subst₂ (λ (x y : ℕ). AreBrought id x y (was 1) (trees_at f was 2) (trees_at f was 3) db) (sym r) (sym k) b in
+    let floor = floor_taken (number_of f) id (seen meta_columns (was 0) 1) (seen floor_columns (trees_at f was 2) 1) _ taken in
+    record { rows = here; shows = brought_shows f id was db here; again = again id round number (was 1) (trees_at f was 2) (trees_at f was 3) db b low most floor }
+
+pub whole_anew : (id : Identity) (db : Trees) → AreBrought id 0 0 [] [] [] db → IsMade id db
+whole_anew id db b = record { rows = b; shows = anew_shows id db b; again = again id 0 0 [] [] [] db b (omega arith) (omega arith) refl }
+
+pub shows_from : (f : Format) (id : Identity) (was : Trees) (round number : ℕ) (new : State) → number_at 5 (seen meta_columns (was 0) 1) ≡ round → number_at 6 (seen meta_columns (was 0) 1) ≡ number
+    → Brought id round number (was 1) (trees_at f was 2) (trees_at f was 3) new → Shows (record_at f was) new
+shows_from f id was round number new r k b =
+    record { schema = b.schema; is = brought_shows f id was new.now.trees (subst₂ (λ (x y : ℕ). AreBrought id x y (was 1) (trees_at f was 2) (trees_at f was 3) new.now.trees) (sym r) (sym k) (as_rows b)) }
 
 pub shows_anew : (id : Identity) (new : State) → Brought id 0 0 [] [] [] new → Shows nothing_stored new
-unfolding build
-shows_anew id new b = record {
-  schema = b.schema;
-  is = built _ _ _ _ _ _ _ _ _ _ (ap (number_at 5) b.meta) (ap (number_at 6) b.meta) b.slots_are b.floor_are b.learned_are;
-}
-
-pub at_anew : (id : Identity) (x : Trees) → AreBrought id 0 0 [] [] [] x → record_in x ≡ nothing_stored
-unfolding build
-at_anew id x b = built _ _ _ _ _ _ _ _ _ _ (ap (number_at 5) b.meta_is) (ap (number_at 6) b.meta_is) b.slots_be b.floor_be b.learned_be
+shows_anew id new b = record { schema = b.schema; is = anew_shows id new.now.trees (as_rows b) }
 
 pub shows_same : (db : Trees) (new : State) → new.now.schema ≡ schema_3 → new.now.trees ≡ db → Shows (record_at Three db) new
 shows_same db new has same = record { schema = has; is = ap (λ (t : Trees). record_in t) same }
@@ -169,9 +180,28 @@ shows_same db new has same = record { schema = has; is = ap (λ (t : Trees). rec
 pub same_then : {a b c : State} → IsSame a b → IsSame b c → IsSame a c
 same_then h k = record { now = k.now ∙ h.now; auto = k.auto }
 
-pub still : {a b : State} {schema : Schema} → IsSame a b → a.now.schema ≡ schema → b.now.schema ≡ schema
-still h has = ap (λ (d : Database). d.schema) h.now ∙ has
+pub still : {a b : State} {f : Format} → IsSame a b → Began f a → Began f b
+still h began = record { schema = ap (λ (d : Database). d.schema) h.now ∙ began.schema; auto = h.auto }
 
 -- beside what could be found before there is one thing more, of which this holds
 pub brought_more : (Old New P : Trees → Type 0) (whole : Trees) → ((db : Trees) → New db → Old db ⊎ (db ≡ whole)) → P whole → (db : Trees) → New db → Old db ⊎ P db
 brought_more Old New P whole h p db left = elim (h db left) [ inl was ↦ inl was | inr same ↦ inr (subst P (sym same) p) ]
+
+-- ---- formats
+
+pub three_tables : (f : Format) → has_table 3 f ≡ true → f ≡ Three
+three_tables One has = absurd cc
+three_tables Two has = absurd cc
+three_tables Three has = refl
+
+-- a table that the format has shows its rows, and one that it lacks none
+pub with_table : (t : ℕ) (f : Format) (db : Trees) → has_table t f ≡ true → trees_at f db t ≡ db t
+with_table t f db has = rw has refl
+
+pub without_table : (t : ℕ) (f : Format) (db : Trees) → has_table t f ≡ false → trees_at f db t ≡ []
+without_table t f db lacks = rw lacks refl
+
+pub tables_of : (f : Format) → length (schema_at f).tables ≡ tables_in f
+tables_of One = refl
+tables_of Two = refl
+tables_of Three = refl

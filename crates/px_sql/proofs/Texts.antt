@@ -15,9 +15,9 @@ use Rattle.sqlite_tied.specs.Compute.{everything}
 use Rattle.sqlite.specs.Listing.{understood, reads_listing}
 use Rattle.sqlite.proofs.Callers.{IsPlain, command_of}
 use Rattle.px_sql.specs.Tables.{schema_3, put_meta, put_slot, put_floor, put_learned, get_meta, get_slot, get_floor, get_learned, get_top, get_end, get_last}
-use Rattle.px_sql.specs.Formats.{Format, schema_at}
-use Rattle.px_sql.specs.Formats.Format.{One, Two, Three}
-use Rattle.px_sql.specs.Adopting.{HasFloor, HasEntries}
+use Rattle.px_sql.specs.Formats.{schema_at, has_table}
+use Rattle.px_sql.specs.declared.formats.Format.{Format}
+use Rattle.px_sql.specs.declared.formats.Format.TheVariants.{One, Two, Three}
 
 -- ---- writes
 
@@ -142,9 +142,9 @@ meta_asks One = record { means = record { is = refl; plain = (refl, refl) }; unl
 meta_asks Two = record { means = record { is = refl; plain = (refl, refl) }; unlisted = refl }
 meta_asks Three = record { means = record { is = refl; plain = (refl, refl) }; unlisted = refl }
 
-pub floor_asks : (f : Format) → HasFloor f → Asks (schema_at f) get_floor (by_key 2 (col 1 0 ∷ col 1 2 ∷ [])) (codes "id" ∷ codes "ballot" ∷ [])
+pub floor_asks : (f : Format) → has_table 2 f ≡ true → Asks (schema_at f) get_floor (by_key 2 (col 1 0 ∷ col 1 2 ∷ [])) (codes "id" ∷ codes "ballot" ∷ [])
 unfolding understood everything
-floor_asks One has = absurd has
+floor_asks One has = absurd cc
 floor_asks Two has = record { means = record { is = refl; plain = (refl, refl) }; unlisted = refl }
 floor_asks Three has = record { means = record { is = refl; plain = (refl, refl) }; unlisted = refl }
 
@@ -154,8 +154,8 @@ slot_asks One = record { means = record { is = refl; plain = (refl, refl) }; unl
 slot_asks Two = record { means = record { is = refl; plain = (refl, refl) }; unlisted = refl }
 slot_asks Three = record { means = record { is = refl; plain = (refl, refl) }; unlisted = refl }
 
-pub entry_asks : (f : Format) → HasEntries f → Asks (schema_at f) get_end (last_row 3 []) top_names
+pub entry_asks : (f : Format) → has_table 3 f ≡ true → Asks (schema_at f) get_end (last_row 3 []) top_names
 unfolding understood everything
-entry_asks One has = absurd has
-entry_asks Two has = absurd has
+entry_asks One has = absurd cc
+entry_asks Two has = absurd cc
 entry_asks Three has = end_get

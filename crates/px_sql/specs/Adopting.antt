@@ -1,14 +1,19 @@
 -- What opening a store does to it.
-use Rattle.std.specs.Prelude.{◌≡◌, ◌⊎◌, ⊤, ℕ, false, Option, Some, None, Result, Ok, Err}
+use Rattle.std.specs.Prelude.{◌≡◌, ◌⊎◌, ⊤, ℕ, true, false, List, [], ◌∷◌, Option, Some, None, Result, Ok, Err}
+use Rattle.sqlite_value.specs.Order.{Row}
 use Rattle.sqlite.specs.State.{State}
 use Rattle.sqlite.specs.Tree.{Trees}
 use Rattle.px_model.specs.Node.{Record}
 use Rattle.px_model.specs.Spelling.{Bytes}
 use Rattle.sqlite.specs.Schema.{Schema}
 use Rattle.px_sql.specs.Tables.{no_schema, schema_3}
-use Rattle.px_sql.specs.Seen.{record_in}
-use Rattle.px_sql.specs.Formats.{Format, schema_at}
-use Rattle.px_sql.specs.Formats.Format.{One, Two, Three}
+use Rattle.px_model.specs.World.{nothing_stored}
+use Rattle.px_sql.specs.Seen.{record_in, seen, meta_columns, meta_row, number_at}
+use Rattle.px_sql.specs.Formats.{schema_at, record_at, trees_at}
+use Rattle.px_sql.specs.Judging.{refusal, is_member_of}
+use Rattle.px_sql.specs.declared.calls.Identity.{Identity}
+use Rattle.px_sql.specs.declared.formats.Format.{Format}
+use Rattle.px_sql.specs.declared.formats.Format.TheVariants.{Three}
 use Rattle.px_sql.specs.declared.fault.AdoptFault.{AdoptFault}
 use Rattle.px_sql.specs.declared.fault.AdoptFault.TheVariants.{Memory, Failed, StoreVersion, BadStore, WrongNode}
 
@@ -37,16 +42,10 @@ IsRefused (Err e) = IsVerdict e
 abbrev pub IsKnown : Schema → Type 0
 IsKnown s = (s ≡ no_schema) ⊎ ((f : Format) × (s ≡ schema_at f))
 
--- the format has a table for the floor, and one for what is learned
-abbrev pub HasFloor : Format → Type 0
-HasFloor One = ⊥
-HasFloor Two = ⊤
-HasFloor Three = ⊤
-
-abbrev pub HasEntries : Format → Type 0
-HasEntries One = ⊥
-HasEntries Two = ⊥
-HasEntries Three = ⊤
+-- a store with the tables of a format, outside a transaction
+pub record Began (f : Format) (s : State) : Type 0 where
+  pub schema : s.now.schema ≡ schema_at f
+  pub auto : s.in_transaction ≡ false
 
 -- nothing differs, and no transaction is open
 pub record IsSame (old new : State) : Type 0 where
@@ -58,6 +57,31 @@ pub record Shows (d : Record Bytes) (new : State) : Type 0 where
   pub schema : new.now.schema ≡ schema_3
   pub is : record_in new.now.trees ≡ d
 
--- what an open after a crash may find is what it could find before, or rows of format 3 that show this record
-abbrev pub LeavesShown : Record Bytes → State → State → Type 0
-LeavesShown d old new = (db : Trees) → new.may_leave db → old.may_leave db ⊎ (record_in db ≡ d)
+-- ---- what a stop leaves
+
+-- the rows of a store of format 3 with this row for the whole node, and these in the other tables
+pub record AreBrought (id : Identity) (round number : ℕ) (slots floor learned : List Row) (db : Trees) : Type 0 where
+  pub meta_is : seen meta_columns (db 0) 1 ≡ meta_row 3 id.cluster id.members id.node round number ∷ []
+  pub slots_be : db 1 ≡ slots
+  pub floor_be : db 2 ≡ floor
+  pub learned_be : db 3 ≡ learned
+
+-- such a store, whole: it shows the record, and a node of a cluster may take it again
+pub record IsWhole (id : Identity) (round number : ℕ) (slots floor learned : List Row) (d : Record Bytes)
+    (db : Trees) : Type 0 where
+  pub rows : AreBrought id round number slots floor learned db
+  pub shows : record_at Three db ≡ d
+  pub again : is_member_of id.cluster id.members id.node ≡ true → refusal Three id db ≡ None
+
+-- what is made where there were no tables
+abbrev pub IsMade : Identity → Trees → Type 0
+IsMade id = IsWhole id 0 0 [] [] [] nothing_stored
+
+-- what is brought of a store of a format: its numbers and its rows, and none in the tables that it lacks
+abbrev pub IsBrought : Format → Identity → Trees → Trees → Type 0
+IsBrought f id was = IsWhole id (number_at 5 (seen meta_columns (was 0) 1)) (number_at 6 (seen meta_columns (was 0) 1))
+    (was 1) (trees_at f was 2) (trees_at f was 3) (record_at f was)
+
+-- what an open after a stop may find is what it could find before, or this, whole
+abbrev pub LeavesOr : (Trees → Type 0) → State → State → Type 0
+LeavesOr whole old new = (db : Trees) → new.may_leave db → old.may_leave db ⊎ whole db

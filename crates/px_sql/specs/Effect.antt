@@ -42,17 +42,6 @@ LeavesOne tree p columns row old new =
 abbrev pub LeavesOld : State → State → Type 0
 LeavesOld old new = (db : Trees) → new.may_leave db → old.may_leave db
 
--- what a stop leaves is what it left before, or this, whole
-abbrev pub LeavesWhole : Trees → State → State → Type 0
-LeavesWhole whole old new = (db : Trees) → new.may_leave db → old.may_leave db ⊎ (db ≡ whole)
-
--- Beside what a stop left before it may leave one thing more, whole: of two that it may leave, one was left before, or
--- they are the same.
-abbrev pub LeavesOneMore : State → State → Type 0
-LeavesOneMore old new = (a b : Trees) → new.may_leave a → new.may_leave b → old.may_leave a ⊎
-    (old.may_leave b ⊎
-    (a ≡ b))
-
 -- the connection is open, and shows what it showed
 pub record Serves (old new : State) : Type 0 where
   pub was_open : IsTrue old.is_open

@@ -7,8 +7,8 @@ use Rattle.std.specs.declared.alloc.Global.{Global}
 use Rattle.sqlite_value.specs.Order.{Row, column}
 use Rattle.sqlite.specs.Tree.{Trees}
 use Rattle.px_sql.specs.Seen.{is_number, number_in, is_key, is_ballot, seen, meta_columns, floor_columns}
-use Rattle.px_sql.specs.Formats.{Format, trees_at}
-use Rattle.px_sql.specs.Formats.Format.{One, Two, Three}
+use Rattle.px_sql.specs.Formats.{trees_at, number_of}
+use Rattle.px_sql.specs.declared.formats.Format.{Format}
 use Rattle.px_sql.specs.declared.calls.Identity.{Identity}
 use Rattle.px_sql.specs.declared.fault.AdoptFault.{AdoptFault}
 use Rattle.px_sql.specs.declared.fault.AdoptFault.TheVariants.{StoreVersion, BadStore, WrongNode}
@@ -66,11 +66,6 @@ abbrev pub refusal_of : (format : ℕ) → Identity → (meta floor : List Row) 
 refusal_of format i [] floor has_more = if has_rows floor || has_more then Some BadStore else None
 refusal_of format i (r ∷ []) floor has_more = row_refusal format i floor r
 refusal_of format i (r ∷ x ∷ more) floor has_more = Some BadStore
-
-abbrev pub number_of : Format → ℕ
-number_of One = 1
-number_of Two = 2
-number_of Three = 3
 
 -- what a node is answered about these rows of a store with the tables of a format
 abbrev pub refusal : Format → Identity → Trees → Option AdoptFault

@@ -1,20 +1,22 @@
 //! The statements, one function each.
 
 ghost use Rattle.std.specs.Prelude.{◌≡◌, ◌<◌, ◌≤◌, ◌^◌, ℕ, pos, true, false, [], Err, OnOk};
-ghost use Rattle.std.specs.Prelude.{OnErr, IfOk, IfErr, IsTrue};
-ghost use Rattle.std.specs.List.Sorted.{IsPermutation};
+ghost use Rattle.std.specs.Prelude.{IfOk, IsTrue};
 ghost use Rattle.sqlite.specs.Held.{state};
 ghost use Rattle.sqlite.specs.Tree.{Trees};
-ghost use Rattle.sqlite.specs.State.{HasCleanDisk, Survives, Executes, CommitsBy, Shown, FailsToQuery, CommitsShowing};
-ghost use Rattle.px_sql.specs.Tables.{put_meta, put_slot, put_floor, put_learned, get_slot, get_learned, get_top};
-ghost use Rattle.px_sql.specs.Tables.{get_end, get_meta, get_floor, key_params, meta_params, slot_params};
+ghost use Rattle.sqlite.specs.State.{HasCleanDisk, Survives, Executes, CommitsBy, Shown};
+ghost use Rattle.sqlite.specs.Values.{bound};
+ghost use Rattle.sqlite.specs.Given.{IsPlain};
+ghost use Rattle.sqlite.specs.Listing.{understood};
+ghost use Rattle.px_sql.specs.Tables.{put_meta, put_slot, put_floor, put_learned, meta_params, slot_params, schema_3};
 ghost use Rattle.px_sql.specs.Tables.{floor_params, learned_params};
-ghost use Rattle.px_sql.specs.Seen.{seen, IsKeyed, slot_columns, slot_row, learned_columns, learned_row};
-ghost use Rattle.px_sql.specs.Seen.{meta_columns, meta_row, has_ballot, any_row, IsLast, floor_columns, floor_row};
-ghost use Rattle.px_sql.specs.Effect.{IsIdle, Puts, IsSettled, Stays, LeavesOne, LeavesOld, Serves, IsAlike};
+ghost use Rattle.px_sql.specs.Seen.{slot_columns, slot_row, learned_columns, learned_row};
+ghost use Rattle.px_sql.specs.Seen.{meta_columns, meta_row, floor_columns, floor_row};
+ghost use Rattle.px_sql.specs.Effect.{IsIdle, Puts, IsSettled, LeavesOne, LeavesOld, Serves};
 ghost use Rattle.px_sql.specs.declared.reading.TheConstants.{INTEGERS};
 
 use sqlite::{Alter, Connection, Error, ErrorCode, Row, params};
+use sqlite_value::value::ValueRef;
 
 /// Whom a store belongs to.
 #[derive(Clone, Copy, Debug, PartialEq, Eq)]
@@ -255,26 +257,16 @@ pub(crate) fn put_learned<S: Alter>(
     }
 }
 
-fn ask_slot<S: Alter>(conn: &mut Connection<S>, position: u32) -> Result<Vec<Row>, Error>
-    ensures ok { HasCleanDisk (state S.Store conn.new) → IfOk result (λ rows. Shown get_slot (key_params position)
-        (state S.Store conn.old) (state S.Store conn.new) rows.items) }
-    ensures err { HasCleanDisk (state S.Store conn.new) → IfErr result (FailsToQuery get_slot (key_params position)
-        (state S.Store conn.old) (state S.Store conn.new)) }
-    ensures survives { Survives (state S.Store conn.old) (state S.Store conn.new) (CommitsShowing get_slot
-        (key_params position) (state S.Store conn.old)) }
-{
-    conn.query_all(
-        "SELECT position, promised, ballot, entry FROM slots WHERE position = ?1",
-        params![position],
-    )
-}
-
-pub(crate) fn get_slot<S: Alter>(
+/// The answer of a statement that only reads.
+pub(crate) fn get<S: Alter>(
     conn: &mut Connection<S>,
-    position: u32,
+    sql: &str,
+    params: &[ValueRef<'_>],
 ) -> Result<Vec<Row>, Trouble>
-    ensures rows { HasCleanDisk (state S.Store conn.new) → IsIdle (state S.Store conn.old) →
-        IfOk result (λ rows. IsAlike (seen slot_columns ((state S.Store conn.old).now.trees 1) position) rows.items) }
+    requires plain { IsPlain (understood schema_3 sql.now) }
+    ensures shown { HasCleanDisk (state S.Store conn.new) →
+        IfOk result (λ rows. Shown sql.now (bound params.now) (state S.Store conn.old)
+        (state S.Store conn.new) rows.items) }
     ensures settled { HasCleanDisk (state S.Store conn.new) → IsIdle (state S.Store conn.old) →
         OnOk result (IsSettled (state S.Store conn.new)) }
     ensures stays { HasCleanDisk (state S.Store conn.new) → IsIdle (state S.Store conn.old) →
@@ -290,199 +282,7 @@ pub(crate) fn get_slot<S: Alter>(
         LeavesOld (state S.Store conn.old) (state S.Store conn.new) }
 {
     let _settled = conn.is_autocommit();
-    match ask_slot(conn, position) {
-        Ok(rows) => Ok(rows),
-        Err(error) => Err(cause_of(conn, error)),
-    }
-}
-
-fn ask_learned<S: Alter>(conn: &mut Connection<S>, position: u32) -> Result<Vec<Row>, Error>
-    ensures ok { HasCleanDisk (state S.Store conn.new) → IfOk result (λ rows. Shown get_learned (key_params position)
-        (state S.Store conn.old) (state S.Store conn.new) rows.items) }
-    ensures err { HasCleanDisk (state S.Store conn.new) →
-        IfErr result (FailsToQuery get_learned (key_params position) (state S.Store conn.old)
-        (state S.Store conn.new)) }
-    ensures survives { Survives (state S.Store conn.old) (state S.Store conn.new) (CommitsShowing get_learned
-        (key_params position) (state S.Store conn.old)) }
-{
-    conn.query_all(
-        "SELECT position, entry FROM learned WHERE position = ?1",
-        params![position],
-    )
-}
-
-pub(crate) fn get_learned<S: Alter>(
-    conn: &mut Connection<S>,
-    position: u32,
-) -> Result<Vec<Row>, Trouble>
-    ensures rows { HasCleanDisk (state S.Store conn.new) → IsIdle (state S.Store conn.old) →
-        IfOk result (λ rows. IsAlike (seen learned_columns
-        ((state S.Store conn.old).now.trees 3) position) rows.items) }
-    ensures settled { HasCleanDisk (state S.Store conn.new) → IsIdle (state S.Store conn.old) →
-        OnOk result (IsSettled (state S.Store conn.new)) }
-    ensures stays { HasCleanDisk (state S.Store conn.new) → IsIdle (state S.Store conn.old) →
-        OnOk result ((state S.Store conn.new).now ≡ (state S.Store conn.old).now) }
-    ensures memory { HasCleanDisk (state S.Store conn.new) → IsIdle (state S.Store conn.old) →
-        result ≡ Err Trouble.Memory → IsSettled (state S.Store conn.new) }
-    ensures same { HasCleanDisk (state S.Store conn.new) → IsIdle (state S.Store conn.old) →
-        result ≡ Err Trouble.Memory → (state S.Store conn.new).now ≡ (state S.Store conn.old).now }
-    ensures start { IsIdle (state S.Store conn.old) → IsTrue (state S.Store conn.old).is_open →
-        (state S.Store conn.old).now ≡ (state S.Store conn.old).committed }
-    ensures clean { HasCleanDisk (state S.Store conn.new) → HasCleanDisk (state S.Store conn.old) }
-    ensures crash { HasCleanDisk (state S.Store conn.new) → IsIdle (state S.Store conn.old) →
-        LeavesOld (state S.Store conn.old) (state S.Store conn.new) }
-{
-    let _settled = conn.is_autocommit();
-    match ask_learned(conn, position) {
-        Ok(rows) => Ok(rows),
-        Err(error) => Err(cause_of(conn, error)),
-    }
-}
-
-fn ask_meta<S: Alter>(conn: &mut Connection<S>) -> Result<Vec<Row>, Error>
-    ensures ok { HasCleanDisk (state S.Store conn.new) → IfOk result (λ rows. Shown get_meta (key_params 1)
-        (state S.Store conn.old) (state S.Store conn.new) rows.items) }
-    ensures err { HasCleanDisk (state S.Store conn.new) → IfErr result (FailsToQuery get_meta (key_params 1)
-        (state S.Store conn.old) (state S.Store conn.new)) }
-    ensures survives { Survives (state S.Store conn.old) (state S.Store conn.new) (CommitsShowing get_meta
-        (key_params 1) (state S.Store conn.old)) }
-{
-    conn.query_all(
-        "SELECT id, format, cluster, members, node, round, number FROM meta WHERE id = ?1",
-        params![1u32],
-    )
-}
-
-pub(crate) fn get_meta<S: Alter>(conn: &mut Connection<S>) -> Result<Vec<Row>, Trouble>
-    ensures rows { HasCleanDisk (state S.Store conn.new) → IsIdle (state S.Store conn.old) →
-        IfOk result (λ rows. IsAlike (seen meta_columns ((state S.Store conn.old).now.trees 0) 1) rows.items) }
-    ensures settled { HasCleanDisk (state S.Store conn.new) → IsIdle (state S.Store conn.old) →
-        OnOk result (IsSettled (state S.Store conn.new)) }
-    ensures stays { HasCleanDisk (state S.Store conn.new) → IsIdle (state S.Store conn.old) →
-        OnOk result ((state S.Store conn.new).now ≡ (state S.Store conn.old).now) }
-    ensures memory { HasCleanDisk (state S.Store conn.new) → IsIdle (state S.Store conn.old) →
-        result ≡ Err Trouble.Memory → IsSettled (state S.Store conn.new) }
-    ensures same { HasCleanDisk (state S.Store conn.new) → IsIdle (state S.Store conn.old) →
-        result ≡ Err Trouble.Memory → (state S.Store conn.new).now ≡ (state S.Store conn.old).now }
-    ensures start { IsIdle (state S.Store conn.old) → IsTrue (state S.Store conn.old).is_open →
-        (state S.Store conn.old).now ≡ (state S.Store conn.old).committed }
-    ensures clean { HasCleanDisk (state S.Store conn.new) → HasCleanDisk (state S.Store conn.old) }
-    ensures crash { HasCleanDisk (state S.Store conn.new) → IsIdle (state S.Store conn.old) →
-        LeavesOld (state S.Store conn.old) (state S.Store conn.new) }
-{
-    let _settled = conn.is_autocommit();
-    match ask_meta(conn) {
-        Ok(rows) => Ok(rows),
-        Err(error) => Err(cause_of(conn, error)),
-    }
-}
-
-fn ask_floor<S: Alter>(conn: &mut Connection<S>) -> Result<Vec<Row>, Error>
-    ensures ok { HasCleanDisk (state S.Store conn.new) → IfOk result (λ rows. Shown get_floor (key_params 1)
-        (state S.Store conn.old) (state S.Store conn.new) rows.items) }
-    ensures err { HasCleanDisk (state S.Store conn.new) → IfErr result (FailsToQuery get_floor (key_params 1)
-        (state S.Store conn.old) (state S.Store conn.new)) }
-    ensures survives { Survives (state S.Store conn.old) (state S.Store conn.new) (CommitsShowing get_floor
-        (key_params 1) (state S.Store conn.old)) }
-{
-    conn.query_all("SELECT id, ballot FROM floor WHERE id = ?1", params![1u32])
-}
-
-pub(crate) fn get_floor<S: Alter>(conn: &mut Connection<S>) -> Result<Vec<Row>, Trouble>
-    ensures rows { HasCleanDisk (state S.Store conn.new) → IsIdle (state S.Store conn.old) →
-        IfOk result (λ rows. IsAlike (seen floor_columns ((state S.Store conn.old).now.trees 2) 1) rows.items) }
-    ensures settled { HasCleanDisk (state S.Store conn.new) → IsIdle (state S.Store conn.old) →
-        OnOk result (IsSettled (state S.Store conn.new)) }
-    ensures stays { HasCleanDisk (state S.Store conn.new) → IsIdle (state S.Store conn.old) →
-        OnOk result ((state S.Store conn.new).now ≡ (state S.Store conn.old).now) }
-    ensures memory { HasCleanDisk (state S.Store conn.new) → IsIdle (state S.Store conn.old) →
-        result ≡ Err Trouble.Memory → IsSettled (state S.Store conn.new) }
-    ensures same { HasCleanDisk (state S.Store conn.new) → IsIdle (state S.Store conn.old) →
-        result ≡ Err Trouble.Memory → (state S.Store conn.new).now ≡ (state S.Store conn.old).now }
-    ensures start { IsIdle (state S.Store conn.old) → IsTrue (state S.Store conn.old).is_open →
-        (state S.Store conn.old).now ≡ (state S.Store conn.old).committed }
-    ensures clean { HasCleanDisk (state S.Store conn.new) → HasCleanDisk (state S.Store conn.old) }
-    ensures crash { HasCleanDisk (state S.Store conn.new) → IsIdle (state S.Store conn.old) →
-        LeavesOld (state S.Store conn.old) (state S.Store conn.new) }
-{
-    let _settled = conn.is_autocommit();
-    match ask_floor(conn) {
-        Ok(rows) => Ok(rows),
-        Err(error) => Err(cause_of(conn, error)),
-    }
-}
-
-fn ask_top<S: Alter>(conn: &mut Connection<S>) -> Result<Vec<Row>, Error>
-    ensures ok { HasCleanDisk (state S.Store conn.new) → IfOk result (λ rows. Shown get_top []
-        (state S.Store conn.old) (state S.Store conn.new) rows.items) }
-    ensures err { HasCleanDisk (state S.Store conn.new) → IfErr result (FailsToQuery get_top []
-        (state S.Store conn.old) (state S.Store conn.new)) }
-    ensures survives { Survives (state S.Store conn.old) (state S.Store conn.new) (CommitsShowing get_top []
-        (state S.Store conn.old)) }
-{
-    conn.query_all(
-        "SELECT position FROM slots WHERE ballot > 0 ORDER BY position DESC LIMIT 1",
-        &[],
-    )
-}
-
-pub(crate) fn get_top<S: Alter>(conn: &mut Connection<S>) -> Result<Vec<Row>, Trouble>
-    ensures rows { HasCleanDisk (state S.Store conn.new) → IsIdle (state S.Store conn.old) →
-        IfOk result (λ rows. IsLast has_ballot ((state S.Store conn.old).now.trees 1) rows.items) }
-    ensures settled { HasCleanDisk (state S.Store conn.new) → IsIdle (state S.Store conn.old) →
-        OnOk result (IsSettled (state S.Store conn.new)) }
-    ensures stays { HasCleanDisk (state S.Store conn.new) → IsIdle (state S.Store conn.old) →
-        OnOk result ((state S.Store conn.new).now ≡ (state S.Store conn.old).now) }
-    ensures memory { HasCleanDisk (state S.Store conn.new) → IsIdle (state S.Store conn.old) →
-        result ≡ Err Trouble.Memory → IsSettled (state S.Store conn.new) }
-    ensures same { HasCleanDisk (state S.Store conn.new) → IsIdle (state S.Store conn.old) →
-        result ≡ Err Trouble.Memory → (state S.Store conn.new).now ≡ (state S.Store conn.old).now }
-    ensures start { IsIdle (state S.Store conn.old) → IsTrue (state S.Store conn.old).is_open →
-        (state S.Store conn.old).now ≡ (state S.Store conn.old).committed }
-    ensures clean { HasCleanDisk (state S.Store conn.new) → HasCleanDisk (state S.Store conn.old) }
-    ensures crash { HasCleanDisk (state S.Store conn.new) → IsIdle (state S.Store conn.old) →
-        LeavesOld (state S.Store conn.old) (state S.Store conn.new) }
-{
-    let _settled = conn.is_autocommit();
-    match ask_top(conn) {
-        Ok(rows) => Ok(rows),
-        Err(error) => Err(cause_of(conn, error)),
-    }
-}
-
-fn ask_end<S: Alter>(conn: &mut Connection<S>) -> Result<Vec<Row>, Error>
-    ensures ok { HasCleanDisk (state S.Store conn.new) → IfOk result (λ rows. Shown get_end []
-        (state S.Store conn.old) (state S.Store conn.new) rows.items) }
-    ensures err { HasCleanDisk (state S.Store conn.new) → IfErr result (FailsToQuery get_end []
-        (state S.Store conn.old) (state S.Store conn.new)) }
-    ensures survives { Survives (state S.Store conn.old) (state S.Store conn.new) (CommitsShowing get_end []
-        (state S.Store conn.old)) }
-{
-    conn.query_all(
-        "SELECT position FROM learned ORDER BY position DESC LIMIT 1",
-        &[],
-    )
-}
-
-pub(crate) fn get_end<S: Alter>(conn: &mut Connection<S>) -> Result<Vec<Row>, Trouble>
-    ensures rows { HasCleanDisk (state S.Store conn.new) → IsIdle (state S.Store conn.old) →
-        IfOk result (λ rows. IsLast any_row ((state S.Store conn.old).now.trees 3) rows.items) }
-    ensures settled { HasCleanDisk (state S.Store conn.new) → IsIdle (state S.Store conn.old) →
-        OnOk result (IsSettled (state S.Store conn.new)) }
-    ensures stays { HasCleanDisk (state S.Store conn.new) → IsIdle (state S.Store conn.old) →
-        OnOk result ((state S.Store conn.new).now ≡ (state S.Store conn.old).now) }
-    ensures memory { HasCleanDisk (state S.Store conn.new) → IsIdle (state S.Store conn.old) →
-        result ≡ Err Trouble.Memory → IsSettled (state S.Store conn.new) }
-    ensures same { HasCleanDisk (state S.Store conn.new) → IsIdle (state S.Store conn.old) →
-        result ≡ Err Trouble.Memory → (state S.Store conn.new).now ≡ (state S.Store conn.old).now }
-    ensures start { IsIdle (state S.Store conn.old) → IsTrue (state S.Store conn.old).is_open →
-        (state S.Store conn.old).now ≡ (state S.Store conn.old).committed }
-    ensures clean { HasCleanDisk (state S.Store conn.new) → HasCleanDisk (state S.Store conn.old) }
-    ensures crash { HasCleanDisk (state S.Store conn.new) → IsIdle (state S.Store conn.old) →
-        LeavesOld (state S.Store conn.old) (state S.Store conn.new) }
-{
-    let _settled = conn.is_autocommit();
-    match ask_end(conn) {
+    match conn.query_all(sql, params) {
         Ok(rows) => Ok(rows),
         Err(error) => Err(cause_of(conn, error)),
     }

@@ -8,18 +8,17 @@ ghost use Rattle.sqlite.specs.Given.{IsPlain};
 ghost use Rattle.sqlite.specs.Listing.{understood};
 ghost use Rattle.sqlite_value.specs.Order.{column};
 ghost use Rattle.px_sql.specs.Tables.{get_meta, get_floor, get_last, get_end, key_params};
-ghost use Rattle.px_sql.specs.Tables.{schema_1, schema_2, schema_3};
 ghost use Rattle.px_sql.specs.Seen.{seen, meta_columns, floor_columns, number_at, number_in};
 ghost use Rattle.px_sql.specs.Effect.{LeavesOld, IsAlike};
-ghost use Rattle.px_sql.specs.Formats.{Format, schema_at, trees_at};
-ghost use Rattle.px_sql.specs.Formats.Format.{One, Two, Three};
-ghost use Rattle.px_sql.specs.Adopting.{IsSame, IsVerdict, HasFloor, HasEntries};
+ghost use Rattle.px_sql.specs.Formats.{schema_at, trees_at};
+ghost use Rattle.px_sql.specs.Adopting.{Began, IsSame, IsVerdict};
 ghost use Rattle.px_sql.specs.Judging.{has_rows, rows_in, says_format, says_member, says_numbers, is_member_of};
 ghost use Rattle.px_sql.specs.Judging.{is_owner, row_refusal, refusal_of};
 ghost use Rattle.px_sql.specs.declared.reading.TheConstants.{NUMBERS};
 
 use crate::calls::{Identity, Trouble, cause_of};
 use crate::fault::AdoptFault;
+use crate::formats::Format;
 use crate::reading::{NUMBERS, ReadFault, floor_in_rows, number};
 use sqlite::{Alter, Connection, Row, params};
 use sqlite_value::value::ValueRef;
@@ -136,17 +135,14 @@ fn meta_asked<S: Alter>(conn: &mut Connection<S>) -> Result<Vec<Row>, AdoptFault
     )
 }
 
-fn meta_rows<S: Alter>(conn: &mut Connection<S>) -> Result<Vec<Row>, AdoptFault>
+fn meta_rows<S: Alter>(conn: &mut Connection<S>, format: Format) -> Result<Vec<Row>, AdoptFault>
     ensures why { OnErr result ((result ≡ Err AdoptFault.Memory) ⊎ (result ≡ Err AdoptFault.Failed)) }
-    ensures rows { HasCleanDisk (state S.Store conn.new) → (f : Format) →
-        (state S.Store conn.old).now.schema ≡ schema_at f →
+    ensures rows { HasCleanDisk (state S.Store conn.new) → Began format (state S.Store conn.old) →
         IfOk result (λ rows. IsAlike (seen meta_columns ((state S.Store conn.old).now.trees 0) 1) rows.items) }
     ensures clean { HasCleanDisk (state S.Store conn.new) → HasCleanDisk (state S.Store conn.old) }
-    ensures stays { HasCleanDisk (state S.Store conn.new) → (f : Format) →
-        (state S.Store conn.old).now.schema ≡ schema_at f → (state S.Store conn.old).in_transaction ≡ false →
+    ensures stays { HasCleanDisk (state S.Store conn.new) → Began format (state S.Store conn.old) →
         OnOk result (IsSame (state S.Store conn.old) (state S.Store conn.new)) }
-    ensures crash { HasCleanDisk (state S.Store conn.new) → (f : Format) →
-        (state S.Store conn.old).now.schema ≡ schema_at f →
+    ensures crash { HasCleanDisk (state S.Store conn.new) → Began format (state S.Store conn.old) →
         LeavesOld (state S.Store conn.old) (state S.Store conn.new) }
 {
     meta_asked(conn)
@@ -173,20 +169,26 @@ fn floor_asked<S: Alter>(conn: &mut Connection<S>) -> Result<Vec<Row>, AdoptFaul
     )
 }
 
-fn floor_rows<S: Alter>(conn: &mut Connection<S>) -> Result<Vec<Row>, AdoptFault>
+/// The rows of the floor, where the format has that table.
+fn floor_rows<S: Alter>(
+    conn: &mut Connection<S>,
+    format: Format,
+) -> Result<Option<Vec<Row>>, AdoptFault>
     ensures why { OnErr result ((result ≡ Err AdoptFault.Memory) ⊎ (result ≡ Err AdoptFault.Failed)) }
-    ensures rows { HasCleanDisk (state S.Store conn.new) → (f : Format) → HasFloor f →
-        (state S.Store conn.old).now.schema ≡ schema_at f →
-        IfOk result (λ rows. IsAlike (seen floor_columns ((state S.Store conn.old).now.trees 2) 1) rows.items) }
+    ensures rows { HasCleanDisk (state S.Store conn.new) → Began format (state S.Store conn.old) →
+        IfOk result (λ rows. IsAlike (seen floor_columns
+        (trees_at format (state S.Store conn.old).now.trees 2) 1) (rows_in rows)) }
     ensures clean { HasCleanDisk (state S.Store conn.new) → HasCleanDisk (state S.Store conn.old) }
-    ensures stays { HasCleanDisk (state S.Store conn.new) → (f : Format) → HasFloor f →
-        (state S.Store conn.old).now.schema ≡ schema_at f → (state S.Store conn.old).in_transaction ≡ false →
+    ensures stays { HasCleanDisk (state S.Store conn.new) → Began format (state S.Store conn.old) →
         OnOk result (IsSame (state S.Store conn.old) (state S.Store conn.new)) }
-    ensures crash { HasCleanDisk (state S.Store conn.new) → (f : Format) → HasFloor f →
-        (state S.Store conn.old).now.schema ≡ schema_at f →
+    ensures crash { HasCleanDisk (state S.Store conn.new) → Began format (state S.Store conn.old) →
         LeavesOld (state S.Store conn.old) (state S.Store conn.new) }
 {
-    floor_asked(conn)
+    if !format.has_table(2) {
+        return Ok(None);
+    }
+    let rows = floor_asked(conn)?;
+    Ok(Some(rows))
 }
 
 fn last_slot<S: Alter>(conn: &mut Connection<S>) -> Result<Vec<Row>, AdoptFault>
@@ -210,17 +212,14 @@ fn last_slot<S: Alter>(conn: &mut Connection<S>) -> Result<Vec<Row>, AdoptFault>
 }
 
 /// Whether the store has a slot.
-fn some_slot<S: Alter>(conn: &mut Connection<S>) -> Result<bool, AdoptFault>
+fn some_slot<S: Alter>(conn: &mut Connection<S>, format: Format) -> Result<bool, AdoptFault>
     ensures why { OnErr result ((result ≡ Err AdoptFault.Memory) ⊎ (result ≡ Err AdoptFault.Failed)) }
-    ensures value { HasCleanDisk (state S.Store conn.new) → (f : Format) →
-        (state S.Store conn.old).now.schema ≡ schema_at f →
+    ensures value { HasCleanDisk (state S.Store conn.new) → Began format (state S.Store conn.old) →
         IfOk result (λ b. b ≡ has_rows ((state S.Store conn.old).now.trees 1)) }
     ensures clean { HasCleanDisk (state S.Store conn.new) → HasCleanDisk (state S.Store conn.old) }
-    ensures stays { HasCleanDisk (state S.Store conn.new) → (f : Format) →
-        (state S.Store conn.old).now.schema ≡ schema_at f → (state S.Store conn.old).in_transaction ≡ false →
+    ensures stays { HasCleanDisk (state S.Store conn.new) → Began format (state S.Store conn.old) →
         OnOk result (IsSame (state S.Store conn.old) (state S.Store conn.new)) }
-    ensures crash { HasCleanDisk (state S.Store conn.new) → (f : Format) →
-        (state S.Store conn.old).now.schema ≡ schema_at f →
+    ensures crash { HasCleanDisk (state S.Store conn.new) → Began format (state S.Store conn.old) →
         LeavesOld (state S.Store conn.old) (state S.Store conn.new) }
 {
     let rows = last_slot(conn)?;
@@ -248,19 +247,19 @@ fn last_entry<S: Alter>(conn: &mut Connection<S>) -> Result<Vec<Row>, AdoptFault
 }
 
 /// Whether the store has a learned entry.
-fn some_entry<S: Alter>(conn: &mut Connection<S>) -> Result<bool, AdoptFault>
+fn some_entry<S: Alter>(conn: &mut Connection<S>, format: Format) -> Result<bool, AdoptFault>
     ensures why { OnErr result ((result ≡ Err AdoptFault.Memory) ⊎ (result ≡ Err AdoptFault.Failed)) }
-    ensures value { HasCleanDisk (state S.Store conn.new) → (f : Format) → HasEntries f →
-        (state S.Store conn.old).now.schema ≡ schema_at f →
-        IfOk result (λ b. b ≡ has_rows ((state S.Store conn.old).now.trees 3)) }
+    ensures value { HasCleanDisk (state S.Store conn.new) → Began format (state S.Store conn.old) →
+        IfOk result (λ b. b ≡ has_rows (trees_at format (state S.Store conn.old).now.trees 3)) }
     ensures clean { HasCleanDisk (state S.Store conn.new) → HasCleanDisk (state S.Store conn.old) }
-    ensures stays { HasCleanDisk (state S.Store conn.new) → (f : Format) → HasEntries f →
-        (state S.Store conn.old).now.schema ≡ schema_at f → (state S.Store conn.old).in_transaction ≡ false →
+    ensures stays { HasCleanDisk (state S.Store conn.new) → Began format (state S.Store conn.old) →
         OnOk result (IsSame (state S.Store conn.old) (state S.Store conn.new)) }
-    ensures crash { HasCleanDisk (state S.Store conn.new) → (f : Format) → HasEntries f →
-        (state S.Store conn.old).now.schema ≡ schema_at f →
+    ensures crash { HasCleanDisk (state S.Store conn.new) → Began format (state S.Store conn.old) →
         LeavesOld (state S.Store conn.old) (state S.Store conn.new) }
 {
+    if !format.has_table(3) {
+        return Ok(false);
+    }
     let rows = last_entry(conn)?;
     Ok(has_rows(rows.as_slice()))
 }
@@ -284,106 +283,34 @@ pub(crate) struct Read {
     has_entry: bool,
 }
 
-/// Reads a store that has the tables of format 1.
-pub(crate) fn read_one<S: Alter>(conn: &mut Connection<S>) -> Result<Read, AdoptFault>
-    ensures rows { HasCleanDisk (state S.Store conn.new) → (state S.Store conn.old).now.schema ≡ schema_1 →
-        (state S.Store conn.old).in_transaction ≡ false →
+/// Reads a store that has the tables of a format.
+pub(crate) fn read_store<S: Alter>(
+    conn: &mut Connection<S>,
+    format: Format,
+) -> Result<Read, AdoptFault>
+    ensures rows { HasCleanDisk (state S.Store conn.new) → Began format (state S.Store conn.old) →
         IfOk result (λ r. IsAlike (seen meta_columns ((state S.Store conn.old).now.trees 0) 1) r.meta.items) }
-    ensures floors { HasCleanDisk (state S.Store conn.new) → (state S.Store conn.old).now.schema ≡ schema_1 →
-        (state S.Store conn.old).in_transaction ≡ false →
-        IfOk result (λ r. IsAlike (seen floor_columns (trees_at One (state S.Store conn.old).now.trees 2) 1)
+    ensures floors { HasCleanDisk (state S.Store conn.new) → Began format (state S.Store conn.old) →
+        IfOk result (λ r. IsAlike (seen floor_columns (trees_at format (state S.Store conn.old).now.trees 2) 1)
         (rows_in r.floor)) }
-    ensures slots { HasCleanDisk (state S.Store conn.new) → (state S.Store conn.old).now.schema ≡ schema_1 →
-        (state S.Store conn.old).in_transaction ≡ false →
+    ensures slots { HasCleanDisk (state S.Store conn.new) → Began format (state S.Store conn.old) →
         IfOk result (λ r. r.has_slot ≡ has_rows ((state S.Store conn.old).now.trees 1)) }
-    ensures entries { HasCleanDisk (state S.Store conn.new) → (state S.Store conn.old).now.schema ≡ schema_1 →
-        (state S.Store conn.old).in_transaction ≡ false →
-        IfOk result (λ r. r.has_entry ≡ has_rows (trees_at One (state S.Store conn.old).now.trees 3)) }
+    ensures entries { HasCleanDisk (state S.Store conn.new) → Began format (state S.Store conn.old) →
+        IfOk result (λ r. r.has_entry ≡ has_rows (trees_at format (state S.Store conn.old).now.trees 3)) }
     ensures why { OnErr result ((result ≡ Err AdoptFault.Memory) ⊎ (result ≡ Err AdoptFault.Failed)) }
     ensures clean { HasCleanDisk (state S.Store conn.new) → HasCleanDisk (state S.Store conn.old) }
-    ensures crash { HasCleanDisk (state S.Store conn.new) → (state S.Store conn.old).now.schema ≡ schema_1 →
-        (state S.Store conn.old).in_transaction ≡ false →
-        LeavesOld (state S.Store conn.old) (state S.Store conn.new) }
-    ensures stays { HasCleanDisk (state S.Store conn.new) → (state S.Store conn.old).now.schema ≡ schema_1 →
-        (state S.Store conn.old).in_transaction ≡ false →
+    ensures stays { HasCleanDisk (state S.Store conn.new) → Began format (state S.Store conn.old) →
         OnOk result (IsSame (state S.Store conn.old) (state S.Store conn.new)) }
+    ensures crash { HasCleanDisk (state S.Store conn.new) → Began format (state S.Store conn.old) →
+        LeavesOld (state S.Store conn.old) (state S.Store conn.new) }
 {
-    let meta = meta_rows(conn)?;
-    let has_slot = some_slot(conn)?;
+    let meta = meta_rows(conn, format)?;
+    let floor = floor_rows(conn, format)?;
+    let has_slot = some_slot(conn, format)?;
+    let has_entry = some_entry(conn, format)?;
     Ok(Read {
         meta,
-        floor: None,
-        has_slot,
-        has_entry: false,
-    })
-}
-
-/// Reads a store that has the tables of format 2.
-pub(crate) fn read_two<S: Alter>(conn: &mut Connection<S>) -> Result<Read, AdoptFault>
-    ensures rows { HasCleanDisk (state S.Store conn.new) → (state S.Store conn.old).now.schema ≡ schema_2 →
-        (state S.Store conn.old).in_transaction ≡ false →
-        IfOk result (λ r. IsAlike (seen meta_columns ((state S.Store conn.old).now.trees 0) 1) r.meta.items) }
-    ensures floors { HasCleanDisk (state S.Store conn.new) → (state S.Store conn.old).now.schema ≡ schema_2 →
-        (state S.Store conn.old).in_transaction ≡ false →
-        IfOk result (λ r. IsAlike (seen floor_columns (trees_at Two (state S.Store conn.old).now.trees 2) 1)
-        (rows_in r.floor)) }
-    ensures slots { HasCleanDisk (state S.Store conn.new) → (state S.Store conn.old).now.schema ≡ schema_2 →
-        (state S.Store conn.old).in_transaction ≡ false →
-        IfOk result (λ r. r.has_slot ≡ has_rows ((state S.Store conn.old).now.trees 1)) }
-    ensures entries { HasCleanDisk (state S.Store conn.new) → (state S.Store conn.old).now.schema ≡ schema_2 →
-        (state S.Store conn.old).in_transaction ≡ false →
-        IfOk result (λ r. r.has_entry ≡ has_rows (trees_at Two (state S.Store conn.old).now.trees 3)) }
-    ensures why { OnErr result ((result ≡ Err AdoptFault.Memory) ⊎ (result ≡ Err AdoptFault.Failed)) }
-    ensures clean { HasCleanDisk (state S.Store conn.new) → HasCleanDisk (state S.Store conn.old) }
-    ensures crash { HasCleanDisk (state S.Store conn.new) → (state S.Store conn.old).now.schema ≡ schema_2 →
-        (state S.Store conn.old).in_transaction ≡ false →
-        LeavesOld (state S.Store conn.old) (state S.Store conn.new) }
-    ensures stays { HasCleanDisk (state S.Store conn.new) → (state S.Store conn.old).now.schema ≡ schema_2 →
-        (state S.Store conn.old).in_transaction ≡ false →
-        OnOk result (IsSame (state S.Store conn.old) (state S.Store conn.new)) }
-{
-    let meta = meta_rows(conn)?;
-    let floor = floor_rows(conn)?;
-    let has_slot = some_slot(conn)?;
-    Ok(Read {
-        meta,
-        floor: Some(floor),
-        has_slot,
-        has_entry: false,
-    })
-}
-
-/// Reads a store that has the tables of format 3.
-pub(crate) fn read_three<S: Alter>(conn: &mut Connection<S>) -> Result<Read, AdoptFault>
-    ensures rows { HasCleanDisk (state S.Store conn.new) → (state S.Store conn.old).now.schema ≡ schema_3 →
-        (state S.Store conn.old).in_transaction ≡ false →
-        IfOk result (λ r. IsAlike (seen meta_columns ((state S.Store conn.old).now.trees 0) 1) r.meta.items) }
-    ensures floors { HasCleanDisk (state S.Store conn.new) → (state S.Store conn.old).now.schema ≡ schema_3 →
-        (state S.Store conn.old).in_transaction ≡ false →
-        IfOk result (λ r. IsAlike (seen floor_columns (trees_at Three (state S.Store conn.old).now.trees 2) 1)
-        (rows_in r.floor)) }
-    ensures slots { HasCleanDisk (state S.Store conn.new) → (state S.Store conn.old).now.schema ≡ schema_3 →
-        (state S.Store conn.old).in_transaction ≡ false →
-        IfOk result (λ r. r.has_slot ≡ has_rows ((state S.Store conn.old).now.trees 1)) }
-    ensures entries { HasCleanDisk (state S.Store conn.new) → (state S.Store conn.old).now.schema ≡ schema_3 →
-        (state S.Store conn.old).in_transaction ≡ false →
-        IfOk result (λ r. r.has_entry ≡ has_rows (trees_at Three (state S.Store conn.old).now.trees 3)) }
-    ensures why { OnErr result ((result ≡ Err AdoptFault.Memory) ⊎ (result ≡ Err AdoptFault.Failed)) }
-    ensures clean { HasCleanDisk (state S.Store conn.new) → HasCleanDisk (state S.Store conn.old) }
-    ensures crash { HasCleanDisk (state S.Store conn.new) → (state S.Store conn.old).now.schema ≡ schema_3 →
-        (state S.Store conn.old).in_transaction ≡ false →
-        LeavesOld (state S.Store conn.old) (state S.Store conn.new) }
-    ensures stays { HasCleanDisk (state S.Store conn.new) → (state S.Store conn.old).now.schema ≡ schema_3 →
-        (state S.Store conn.old).in_transaction ≡ false →
-        OnOk result (IsSame (state S.Store conn.old) (state S.Store conn.new)) }
-{
-    let meta = meta_rows(conn)?;
-    let floor = floor_rows(conn)?;
-    let has_slot = some_slot(conn)?;
-    let has_entry = some_entry(conn)?;
-    Ok(Read {
-        meta,
-        floor: Some(floor),
+        floor,
         has_slot,
         has_entry,
     })

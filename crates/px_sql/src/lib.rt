@@ -15,6 +15,7 @@ mod adopt;
 mod calls;
 mod fault;
 mod finding;
+mod formats;
 mod keeper;
 mod looking;
 mod making;
@@ -26,4 +27,5 @@ mod writing;
 
 pub use calls::Identity;
 pub use fault::AdoptFault;
+pub use formats::Format;
 pub use keeper::SqlRecords;

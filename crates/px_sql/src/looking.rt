@@ -10,11 +10,11 @@ ghost use Rattle.px_sql.specs.Effect.{IsAlike};
 ghost use Rattle.px_sql.specs.Store.{OnlyReads};
 ghost use Rattle.px_sql.specs.View.{view_of};
 
-use crate::calls::{Trouble, get_end, get_learned, get_slot, get_top};
+use crate::calls::{Trouble, get};
 use crate::keeper::SqlRecords;
 use crate::reading::{ReadFault, SlotRow, end_in_rows, entry_in_rows, slot_in_rows};
 use px_records::StoreFault;
-use sqlite::{Alter, Row};
+use sqlite::{Alter, Row, params};
 
 impl<S: Alter> SqlRecords<S> {
     pub(crate) fn slot_rows(&mut self, position: u32) -> Result<Vec<Row>, Trouble>
@@ -29,7 +29,11 @@ impl<S: Alter> SqlRecords<S> {
         if self.failures > 0 {
             return Err(Trouble::Failed);
         }
-        match get_slot(&mut self.conn, position) {
+        match get(
+            &mut self.conn,
+            "SELECT position, promised, ballot, entry FROM slots WHERE position = ?1",
+            params![position],
+        ) {
             Ok(rows) => Ok(rows),
             Err(Trouble::Memory) => Err(Trouble::Memory),
             Err(Trouble::Failed) => {
@@ -51,7 +55,11 @@ impl<S: Alter> SqlRecords<S> {
         if self.failures > 0 {
             return Err(Trouble::Failed);
         }
-        match get_learned(&mut self.conn, position) {
+        match get(
+            &mut self.conn,
+            "SELECT position, entry FROM learned WHERE position = ?1",
+            params![position],
+        ) {
             Ok(rows) => Ok(rows),
             Err(Trouble::Memory) => Err(Trouble::Memory),
             Err(Trouble::Failed) => {
@@ -72,7 +80,11 @@ impl<S: Alter> SqlRecords<S> {
         if self.failures > 0 {
             return Err(Trouble::Failed);
         }
-        match get_top(&mut self.conn) {
+        match get(
+            &mut self.conn,
+            "SELECT position FROM slots WHERE ballot > 0 ORDER BY position DESC LIMIT 1",
+            &[],
+        ) {
             Ok(rows) => Ok(rows),
             Err(Trouble::Memory) => Err(Trouble::Memory),
             Err(Trouble::Failed) => {
@@ -93,7 +105,11 @@ impl<S: Alter> SqlRecords<S> {
         if self.failures > 0 {
             return Err(Trouble::Failed);
         }
-        match get_end(&mut self.conn) {
+        match get(
+            &mut self.conn,
+            "SELECT position FROM learned ORDER BY position DESC LIMIT 1",
+            &[],
+        ) {
             Ok(rows) => Ok(rows),
             Err(Trouble::Memory) => Err(Trouble::Memory),
             Err(Trouble::Failed) => {

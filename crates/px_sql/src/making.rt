@@ -3,11 +3,14 @@ ghost use Rattle.std.specs.Prelude.{◌≡◌, ◌<◌, ◌^◌, false, [], IsTr
 ghost use Rattle.sqlite.specs.Held.{state};
 ghost use Rattle.sqlite.specs.State.{HasCleanDisk, ExecutesInside, Survives};
 ghost use Rattle.px_sql.specs.Tables.{no_schema, meta_schema, schema_1, schema_2, schema_3, put_meta, meta_params};
-ghost use Rattle.px_sql.specs.Effect.{LeavesOld, LeavesOneMore};
-ghost use Rattle.px_sql.specs.inner.Making.{Grows, PutsMeta, Brought, LeavesBrought};
+ghost use Rattle.px_sql.specs.Effect.{LeavesOld};
+ghost use Rattle.px_sql.specs.Formats.{schema_at, trees_at};
+ghost use Rattle.px_sql.specs.Adopting.{AreBrought, LeavesOr};
+ghost use Rattle.px_sql.specs.inner.Making.{Grows, PutsMeta, Brought, Raised, with_floor};
 ghost use Rattle.px_sql.specs.declared.reading.TheConstants.{INTEGERS};
 
 use crate::calls::{Identity, signed};
+use crate::formats::Format;
 use sqlite::{Alter, Connection, Error, Transaction, params};
 
 fn make_meta<S: Alter>(tx: &mut Transaction<'_, S>) -> Result<(), Error>
@@ -128,14 +131,47 @@ fn set_row<S: Alter>(
     Ok(())
 }
 
+/// Makes the table of the floor, where the format lacks it.
+fn add_floor<S: Alter>(tx: &mut Transaction<'_, S>, format: Format) -> Result<(), Error>
+    ensures same_reference { tx.new.conn.ghost_name ≡ tx.old.conn.ghost_name }
+    ensures clean { HasCleanDisk (state S.Store tx.new.conn.now) → HasCleanDisk (state S.Store tx.old.conn.now) }
+    ensures crash { HasCleanDisk (state S.Store tx.new.conn.now) →
+        LeavesOld (state S.Store tx.old.conn.now) (state S.Store tx.new.conn.now) }
+    ensures made { HasCleanDisk (state S.Store tx.new.conn.now) →
+        IsTrue (state S.Store tx.old.conn.now).in_transaction →
+        (state S.Store tx.old.conn.now).now.schema ≡ schema_at format → OnOk result (Raised format (with_floor format)
+        (state S.Store tx.old.conn.now) (state S.Store tx.new.conn.now)) }
+{
+    if format.has_table(2) {
+        return Ok(());
+    }
+    make_floor(tx)
+}
+
+/// Makes the table of what is learned, where a format that has a floor lacks it.
+fn add_learned<S: Alter>(tx: &mut Transaction<'_, S>, format: Format) -> Result<(), Error>
+    ensures same_reference { tx.new.conn.ghost_name ≡ tx.old.conn.ghost_name }
+    ensures clean { HasCleanDisk (state S.Store tx.new.conn.now) → HasCleanDisk (state S.Store tx.old.conn.now) }
+    ensures crash { HasCleanDisk (state S.Store tx.new.conn.now) →
+        LeavesOld (state S.Store tx.old.conn.now) (state S.Store tx.new.conn.now) }
+    ensures made { HasCleanDisk (state S.Store tx.new.conn.now) →
+        IsTrue (state S.Store tx.old.conn.now).in_transaction →
+        (state S.Store tx.old.conn.now).now.schema ≡ schema_at (with_floor format) →
+        OnOk result (Raised (with_floor format) Format.Three (state S.Store tx.old.conn.now)
+        (state S.Store tx.new.conn.now)) }
+{
+    if format.has_table(3) {
+        return Ok(());
+    }
+    make_learned(tx)
+}
+
 /// Makes the tables and the row of an empty store, in one transaction.
 pub(crate) fn make_anew<S: Alter>(conn: &mut Connection<S>, identity: Identity) -> Result<(), Error>
     requires auto { (state S.Store conn.old).in_transaction ≡ false }
     ensures clean { HasCleanDisk (state S.Store conn.new) → HasCleanDisk (state S.Store conn.old) }
-    ensures crash { HasCleanDisk (state S.Store conn.new) →
-        LeavesOneMore (state S.Store conn.old) (state S.Store conn.new) }
     ensures stop { HasCleanDisk (state S.Store conn.new) → (state S.Store conn.old).now.schema ≡ no_schema →
-        LeavesBrought identity 0 0 [] [] [] (state S.Store conn.old) (state S.Store conn.new) }
+        LeavesOr (AreBrought identity 0 0 [] [] []) (state S.Store conn.old) (state S.Store conn.new) }
     ensures made { HasCleanDisk (state S.Store conn.new) → (state S.Store conn.old).now.schema ≡ no_schema →
         OnOk result (Brought identity 0 0 [] [] [] (state S.Store conn.new)) }
 {
@@ -148,10 +184,11 @@ pub(crate) fn make_anew<S: Alter>(conn: &mut Connection<S>, identity: Identity) 
     tx.commit()
 }
 
-/// Makes what a store of format 1 lacks, and sets its row, in one transaction.
-pub(crate) fn from_one<S: Alter>(
+/// Makes what a store of a format lacks, and sets its row, in one transaction.
+pub(crate) fn make_rest<S: Alter>(
     conn: &mut Connection<S>,
     identity: Identity,
+    format: Format,
     round: u64,
     number: u64,
 ) -> Result<(), Error>
@@ -159,70 +196,18 @@ pub(crate) fn from_one<S: Alter>(
     requires round { round < INTEGERS }
     requires number { number < INTEGERS }
     ensures clean { HasCleanDisk (state S.Store conn.new) → HasCleanDisk (state S.Store conn.old) }
-    ensures crash { HasCleanDisk (state S.Store conn.new) →
-        LeavesOneMore (state S.Store conn.old) (state S.Store conn.new) }
-    ensures stop { HasCleanDisk (state S.Store conn.new) → (state S.Store conn.old).now.schema ≡ schema_1 →
-        LeavesBrought identity round number ((state S.Store conn.old).now.trees 1) [] [] (state S.Store conn.old)
-        (state S.Store conn.new) }
-    ensures made { HasCleanDisk (state S.Store conn.new) → (state S.Store conn.old).now.schema ≡ schema_1 →
-        OnOk result (Brought identity round number ((state S.Store conn.old).now.trees 1) [] []
+    ensures stop { HasCleanDisk (state S.Store conn.new) → (state S.Store conn.old).now.schema ≡ schema_at format →
+        LeavesOr (AreBrought identity round number ((state S.Store conn.old).now.trees 1)
+        (trees_at format (state S.Store conn.old).now.trees 2) (trees_at format (state S.Store conn.old).now.trees 3))
+        (state S.Store conn.old) (state S.Store conn.new) }
+    ensures made { HasCleanDisk (state S.Store conn.new) → (state S.Store conn.old).now.schema ≡ schema_at format →
+        OnOk result (Brought identity round number ((state S.Store conn.old).now.trees 1)
+        (trees_at format (state S.Store conn.old).now.trees 2) (trees_at format (state S.Store conn.old).now.trees 3)
         (state S.Store conn.new)) }
 {
     let mut tx = conn.transaction();
-    make_floor(&mut tx)?;
-    make_learned(&mut tx)?;
-    set_row(&mut tx, identity, round, number)?;
-    tx.commit()
-}
-
-/// Makes what a store of format 2 lacks, and sets its row, in one transaction.
-pub(crate) fn from_two<S: Alter>(
-    conn: &mut Connection<S>,
-    identity: Identity,
-    round: u64,
-    number: u64,
-) -> Result<(), Error>
-    requires auto { (state S.Store conn.old).in_transaction ≡ false }
-    requires round { round < INTEGERS }
-    requires number { number < INTEGERS }
-    ensures clean { HasCleanDisk (state S.Store conn.new) → HasCleanDisk (state S.Store conn.old) }
-    ensures crash { HasCleanDisk (state S.Store conn.new) →
-        LeavesOneMore (state S.Store conn.old) (state S.Store conn.new) }
-    ensures stop { HasCleanDisk (state S.Store conn.new) → (state S.Store conn.old).now.schema ≡ schema_2 →
-        LeavesBrought identity round number ((state S.Store conn.old).now.trees 1)
-        ((state S.Store conn.old).now.trees 2) [] (state S.Store conn.old) (state S.Store conn.new) }
-    ensures made { HasCleanDisk (state S.Store conn.new) → (state S.Store conn.old).now.schema ≡ schema_2 →
-        OnOk result (Brought identity round number ((state S.Store conn.old).now.trees 1)
-        ((state S.Store conn.old).now.trees 2) [] (state S.Store conn.new)) }
-{
-    let mut tx = conn.transaction();
-    make_learned(&mut tx)?;
-    set_row(&mut tx, identity, round, number)?;
-    tx.commit()
-}
-
-/// Sets the row of a store that lacks it.
-pub(crate) fn from_three<S: Alter>(
-    conn: &mut Connection<S>,
-    identity: Identity,
-    round: u64,
-    number: u64,
-) -> Result<(), Error>
-    requires auto { (state S.Store conn.old).in_transaction ≡ false }
-    requires round { round < INTEGERS }
-    requires number { number < INTEGERS }
-    ensures clean { HasCleanDisk (state S.Store conn.new) → HasCleanDisk (state S.Store conn.old) }
-    ensures crash { HasCleanDisk (state S.Store conn.new) →
-        LeavesOneMore (state S.Store conn.old) (state S.Store conn.new) }
-    ensures stop { HasCleanDisk (state S.Store conn.new) → (state S.Store conn.old).now.schema ≡ schema_3 →
-        LeavesBrought identity round number ((state S.Store conn.old).now.trees 1)
-        ((state S.Store conn.old).now.trees 2) ((state S.Store conn.old).now.trees 3) (state S.Store conn.old)
-        (state S.Store conn.new) }
-    ensures made { HasCleanDisk (state S.Store conn.new) → (state S.Store conn.old).now.schema ≡ schema_3 →
-        OnOk result (Brought identity round number ((state S.Store conn.old).now.trees 1)
-        ((state S.Store conn.old).now.trees 2) ((state S.Store conn.old).now.trees 3) (state S.Store conn.new)) }
-{
-    let mut tx = conn.transaction();
+    add_floor(&mut tx, format)?;
+    add_learned(&mut tx, format)?;
     set_row(&mut tx, identity, round, number)?;
     tx.commit()
 }

@@ -9,11 +9,11 @@ ghost use Rattle.px_sql.specs.Effect.{IsIdle, IsSettled, LeavesOld};
 ghost use Rattle.px_sql.specs.Ready.{IsReady, AreBounded};
 ghost use Rattle.px_sql.specs.declared.reading.TheConstants.{NUMBERS};
 
-use crate::calls::{Identity, Trouble, get_floor, get_meta};
+use crate::calls::{Identity, Trouble, get};
 use crate::fault::AdoptFault;
 use crate::reading::{Numbers, ReadFault, floor_in_rows, meta_in_rows};
 use px_model::Meta;
-use sqlite::{Alter, Connection};
+use sqlite::{Alter, Connection, params};
 use sqlite_schema::schema::Schema;
 use std::alloc::Global;
 
@@ -40,7 +40,11 @@ fn meta_of<S: Alter>(conn: &mut Connection<S>, identity: Identity) -> Result<Num
     ensures crash { HasCleanDisk (state S.Store conn.new) → IsIdle (state S.Store conn.old) →
         LeavesOld (state S.Store conn.old) (state S.Store conn.new) }
 {
-    match get_meta(conn) {
+    match get(
+        conn,
+        "SELECT id, format, cluster, members, node, round, number FROM meta WHERE id = ?1",
+        params![1u32],
+    ) {
         Ok(rows) => match meta_in_rows(rows.as_slice(), identity) {
             Ok(numbers) => Ok(numbers),
             Err(ReadFault::Memory) => Err(AdoptFault::Memory),
@@ -64,7 +68,11 @@ fn ballot_of<S: Alter>(conn: &mut Connection<S>, members: u8) -> Result<u64, Ado
     ensures crash { HasCleanDisk (state S.Store conn.new) → IsIdle (state S.Store conn.old) →
         LeavesOld (state S.Store conn.old) (state S.Store conn.new) }
 {
-    match get_floor(conn) {
+    match get(
+        conn,
+        "SELECT id, ballot FROM floor WHERE id = ?1",
+        params![1u32],
+    ) {
         Ok(rows) => match floor_in_rows(rows.as_slice(), members) {
             Ok(ballot) => Ok(ballot),
             Err(ReadFault::Memory) => Err(AdoptFault::Memory),

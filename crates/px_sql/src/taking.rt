@@ -4,14 +4,15 @@ ghost use Rattle.sqlite.specs.Held.{state};
 ghost use Rattle.sqlite.specs.State.{HasCleanDisk};
 ghost use Rattle.px_model.specs.World.{nothing_stored};
 ghost use Rattle.px_sql.specs.Tables.{no_schema};
-ghost use Rattle.px_sql.specs.Formats.{Format, schema_at, record_at};
-ghost use Rattle.px_sql.specs.Adopting.{IsVerdict, IsKnown, IsSame, LeavesShown};
+ghost use Rattle.px_sql.specs.Formats.{record_at};
+ghost use Rattle.px_sql.specs.Adopting.{IsVerdict, IsKnown, IsSame, Began, IsMade, IsBrought, LeavesOr};
 ghost use Rattle.px_sql.specs.Judging.{refusal};
 ghost use Rattle.px_sql.specs.View.{connection_of, connection_after, IsOpened};
 
 use crate::adopt::bring;
 use crate::calls::Identity;
 use crate::fault::AdoptFault;
+use crate::formats::Format;
 use crate::keeper::SqlRecords;
 use crate::opening::read_again;
 use px_records::Records;
@@ -28,7 +29,8 @@ impl<S: Alter> SqlRecords<S> {
     /// 71 that the store is another node's, in this order. Such a store isn't written to. One without tables is never
     /// refused so.
     ///
-    /// Whatever it answers, a stop while it runs leaves what a stop left before, or the store of format 3, whole.
+    /// Whatever it answers, a stop while it runs leaves what a stop left before, or the store of format 3, whole: its row
+    /// for the whole node, and the rows that there were, which the node may take again.
     pub fn adopt(
         alloc: Global,
         mut conn: Connection<S>,
@@ -46,21 +48,18 @@ impl<S: Alter> SqlRecords<S> {
             (state S.Store conn).now.schema ≡ no_schema → (state S.Store conn).in_transaction ≡ false →
             IsOpened S.Store r nothing_stored) }
         ensures rows { IfOk result (λ r. HasCleanDisk (state S.Store (connection_of r)) → (f : Format) →
-            (state S.Store conn).now.schema ≡ schema_at f → (state S.Store conn).in_transaction ≡ false →
-            IsOpened S.Store r (record_at f (state S.Store conn).now.trees)) }
+            Began f (state S.Store conn) → IsOpened S.Store r (record_at f (state S.Store conn).now.trees)) }
         ensures taken { IfOk result (λ r. HasCleanDisk (state S.Store (connection_of r)) → (f : Format) →
-            (state S.Store conn).now.schema ≡ schema_at f → (state S.Store conn).in_transaction ≡ false →
-            refusal f identity (state S.Store conn).now.trees ≡ None) }
+            Began f (state S.Store conn) → refusal f identity (state S.Store conn).now.trees ≡ None) }
         ensures judged { IfErr result (λ e. HasCleanDisk (state S.Store e.1) → (f : Format) →
-            (state S.Store conn).now.schema ≡ schema_at f → (state S.Store conn).in_transaction ≡ false →
+            Began f (state S.Store conn) →
             IsVerdict e.0 → refusal f identity (state S.Store conn).now.trees ≡ Some e.0) }
         ensures stop_empty { HasCleanDisk (state S.Store (connection_after result)) →
             (state S.Store conn).now.schema ≡ no_schema → (state S.Store conn).in_transaction ≡ false →
-            LeavesShown nothing_stored (state S.Store conn) (state S.Store (connection_after result)) }
+            LeavesOr (IsMade identity) (state S.Store conn) (state S.Store (connection_after result)) }
         ensures stop { HasCleanDisk (state S.Store (connection_after result)) → (f : Format) →
-            (state S.Store conn).now.schema ≡ schema_at f → (state S.Store conn).in_transaction ≡ false →
-            LeavesShown (record_at f (state S.Store conn).now.trees) (state S.Store conn)
-            (state S.Store (connection_after result)) }
+            Began f (state S.Store conn) → LeavesOr (IsBrought f identity (state S.Store conn).now.trees)
+            (state S.Store conn) (state S.Store (connection_after result)) }
         ensures never { IfErr result (λ e. (state S.Store conn).now.schema ≡ no_schema → IsVerdict e.0 → ⊥) }
     {
         if let Err(fault) = bring(&mut conn, identity) {

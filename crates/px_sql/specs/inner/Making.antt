@@ -1,6 +1,5 @@
 -- What the statements that make a store do to it.
-use Rattle.std.specs.Prelude.{◌≡◌, ◌⊎◌, ℕ, IsTrue, List, [], ◌∷◌}
-use Rattle.sqlite.specs.Tree.{Trees}
+use Rattle.std.specs.Prelude.{◌≡◌, ℕ, IsTrue, List, [], ◌∷◌}
 use Rattle.sqlite_value.specs.Order.{Row}
 use Rattle.sqlite.specs.Schema.{Schema}
 use Rattle.sqlite.specs.Change.{KeepsRows}
@@ -8,6 +7,9 @@ use Rattle.sqlite.specs.State.{State}
 use Rattle.px_sql.specs.Tables.{schema_3}
 use Rattle.px_sql.specs.Seen.{seen, meta_columns, meta_row}
 use Rattle.px_sql.specs.Effect.{Puts}
+use Rattle.px_sql.specs.Formats.{schema_at, trees_at}
+use Rattle.px_sql.specs.declared.formats.Format.{Format}
+use Rattle.px_sql.specs.declared.formats.Format.TheVariants.{One, Two, Three}
 use Rattle.px_sql.specs.declared.calls.Identity.{Identity}
 
 -- inside a transaction a table was made, empty, and the others keep their rows
@@ -31,15 +33,16 @@ pub record Brought (id : Identity) (round number : ℕ) (slots floor learned : L
   pub floor_are : new.now.trees 2 ≡ floor
   pub learned_are : new.now.trees 3 ≡ learned
 
--- the rows of a store of format 3 with this row for the whole node, and these in the other tables
-pub record AreBrought (id : Identity) (round number : ℕ) (slots floor learned : List Row) (db : Trees) : Type 0 where
-  pub meta_is : seen meta_columns (db 0) 1 ≡ meta_row 3 id.cluster id.members id.node round number ∷ []
-  pub slots_be : db 1 ≡ slots
-  pub floor_be : db 2 ≡ floor
-  pub learned_be : db 3 ≡ learned
+-- inside a transaction over the tables of a later format, with the rows of the earlier one
+pub record Raised (from to : Format) (old new : State) : Type 0 where
+  pub schema : new.now.schema ≡ schema_at to
+  pub slots : new.now.trees 1 ≡ old.now.trees 1
+  pub floor : trees_at to new.now.trees 2 ≡ trees_at from old.now.trees 2
+  pub learned : trees_at to new.now.trees 3 ≡ trees_at from old.now.trees 3
+  pub inside : IsTrue new.in_transaction
 
--- what an open after a crash may find is what it could find before, or such a store, whole
-abbrev pub LeavesBrought : (id : Identity) (round number : ℕ) (slots floor learned : List Row) → State →
-    State → Type 0
-LeavesBrought id round number slots floor learned old new =
-    (db : Trees) → new.may_leave db → old.may_leave db ⊎ AreBrought id round number slots floor learned db
+-- the format with a floor, where it lacks that
+abbrev pub with_floor : Format → Format
+with_floor One = Two
+with_floor Two = Two
+with_floor Three = Three

@@ -1,10 +1,7 @@
 use Rattle.std.proofs.Common.{rules}
 use Rattle.sqlite.specs.Held.{state}
-use Rattle.px_sql.proofs.Adopts.{one_more, brought_more}
+use Rattle.px_sql.proofs.Adopts.{brought_more}
 use Rattle.px_sql.proofs.making.make_anew.Goals as goal
-
-pub returns-clause-crash : goal.returns-clause-crash
-returns-clause-crash g c = λ clean. one_more _ _ (state g.S.Store c.set_row.new.tx.conn.now).now.trees (search rules)
 
 pub returns-clause-stop : goal.returns-clause-stop
 returns-clause-stop g c = λ clean has. brought_more _ _ _ (state g.S.Store c.set_row.new.tx.conn.now).now.trees (search rules) (record {

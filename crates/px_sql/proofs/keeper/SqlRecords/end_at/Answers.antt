@@ -1,7 +1,7 @@
 use Rattle.std.proofs.Common.{◌≡◌, rules}
 use Rattle.sqlite.specs.Held.{state}
 use Rattle.px_records.specs.Records.Place.{LastEntry}
-use Rattle.px_sql.specs.Seen.{any_row, IsLast}
+use Rattle.px_sql.specs.Seen.{any_row}
 use Rattle.px_sql.specs.Ready.{IsEntryGood}
 use Rattle.px_sql.proofs.Ends.{no_end}
 use Rattle.px_sql.proofs.keeper.SqlRecords.end_at.Goals as goal

@@ -1,7 +1,7 @@
 use Rattle.std.proofs.Common.{◌≡◌, rules}
 use Rattle.sqlite.specs.Held.{state}
 use Rattle.px_records.specs.Records.Place.{LastSlot}
-use Rattle.px_sql.specs.Seen.{has_ballot, IsLast}
+use Rattle.px_sql.specs.Seen.{has_ballot}
 use Rattle.px_sql.specs.Ready.{IsSlotGood}
 use Rattle.px_sql.proofs.Ends.{no_end}
 use Rattle.px_sql.proofs.keeper.SqlRecords.top_at.Goals as goal
