@@ -1,2 +1,3 @@
 mod Given
 mod Chains
+mod Lives

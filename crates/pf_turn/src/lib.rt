@@ -5,9 +5,10 @@
 //! - [`turn`]: one datagram is taken, or the clock ticks, and what is to be sent is sent.
 //! - [`serve`]: what has come is taken, and the clock ticks if that is due: so many turns, one after the other.
 //! - [`Room`]: the room that one turn after another uses.
-//! - `specs/Turns` says what a turn makes, and what several in a row do.
+//! - `specs/Turns` says what a turn makes, and what several in a row do; [`laws`] that they are steps of the model.
 #![tactic(auto)]
 
+pub mod laws;
 mod room;
 mod serving;
 mod turning;

@@ -1,0 +1,11 @@
+//! What holds of a node's turns.
+
+ghost use Rattle.pf_turn.specs.Living.{TurnsAreLived};
+
+use px_records::Records;
+
+/// Whatever turns a node makes, in whatever order the network and the clock ask for them, are steps of the model: a
+/// life of that member, as pf_cluster's histories are made of.
+pub fn turns_are_lived<R: Records>()
+    ensures { TurnsAreLived R.Records }
+{}
