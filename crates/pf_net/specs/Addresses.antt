@@ -1,7 +1,8 @@
 -- The address of a member: an IP address, a colon, and a port.
-use Rattle.std.specs.Prelude.{ℕ, Bool, not, ◌==◌, ◌+◌, List, length, take, drop, Option, Some, None, Result, Ok, Err}
-use Rattle.std.specs.Prelude.{if◌then◌else◌, slice_index}
-use Rattle.std.specs.List.{prefix_len}
+use Rattle.std.specs.Prelude.{◌≡◌, ◌⊎◌, ℕ, Bool, false, not, ◌==◌, ◌&&◌, ◌||◌, ◌+◌, List, [], ◌∷◌, length, take, drop}
+use Rattle.std.specs.Prelude.{Option, Some, None, Result, Ok, Err, if◌then◌else◌, slice_index}
+use Rattle.std.specs.List.{prefix_len, list_all}
+use Rattle.std.specs.Char.{is_ascii_alphabetic, is_ascii_alphanumeric}
 use Rattle.pf_addr.specs.declared.addr.Addr.{Addr}
 use Rattle.pf_addr.specs.declared.addr.Addr.TheVariants.{V4, V6}
 use Rattle.pf_addr.specs.declared.fault.AddrFault.{AddrFault}
@@ -52,3 +53,38 @@ six_of text =
 -- an IPv6 address stands in brackets
 unfoldable pub address_of : List ℕ → Option Address
 address_of text = if slice_index text 0 == 91 then six_of (drop 1 text) else four_of text
+
+-- ---- host names
+
+-- letters, digits, - and .
+abbrev pub is_host_byte : ℕ → Bool
+is_host_byte b = is_ascii_alphanumeric b || (b == 45 || b == 46)
+
+-- a letter and more of those (RFC 952)
+abbrev pub is_host : List ℕ → Bool
+is_host [] = false
+is_host (b ∷ bytes) = is_ascii_alphabetic b && list_all is_host_byte bytes
+
+-- a port that isn't 0
+abbrev pub used_port : Option ℕ → Option ℕ
+used_port None = None
+used_port (Some port) = if port == 0 then None else Some port
+
+-- the port of a host's name, a colon and a port
+unfoldable pub host_port : List ℕ → Option ℕ
+host_port text =
+    let colon = prefix_len is_no_colon text in
+    if colon == length text then None
+    else if is_host (take colon text) then used_port (port_behind colon text)
+    else None
+
+-- the address that the text is, or what the system says of the name that it is, with its port
+abbrev pub IsFound : List ℕ → Address → Type 0
+IsFound text a = (address_of text ≡ Some a) ⊎ ((address_of text ≡ None) × (host_port text ≡ Some a.port))
+
+-- each of the texts, in order
+abbrev pub AreFound : List (List ℕ) → List Address → Type 0
+AreFound [] [] = Unit {0}
+AreFound [] (a ∷ rest) = ⊥
+AreFound (text ∷ texts) [] = ⊥
+AreFound (text ∷ texts) (a ∷ rest) = IsFound text a × AreFound texts rest

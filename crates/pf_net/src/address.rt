@@ -21,7 +21,7 @@ pub struct Address {
 }
 
 /// How many bytes stand before the first colon.
-fn before_colon(text: &[u8]) -> usize
+pub(crate) fn before_colon(text: &[u8]) -> usize
     ensures { result ≡ prefix_len is_no_colon text.now }
 {
     text.iter().take_while(|b| **b != b':').count()
@@ -116,7 +116,7 @@ pub fn parse_address(text: &str) -> Option<Address>
 }
 
 /// The address as the system has it.
-fn bits_of(ip: IpAddr) -> Addr {
+pub(crate) fn bits_of(ip: IpAddr) -> Addr {
     match ip {
         IpAddr::V4(four) => Addr::V4(four.to_bits()),
         IpAddr::V6(six) => Addr::V6(six.to_bits()),

@@ -9,6 +9,7 @@
 mod address;
 mod answer;
 mod asking;
+mod host;
 mod udp;
 
 pub use address::{Address, parse_address};

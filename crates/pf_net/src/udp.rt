@@ -4,10 +4,11 @@ ghost use Rattle.std.specs.Prelude.{◌≡◌, ◌⊎◌, ◌<◌, ◌≤◌, �
 ghost use Rattle.std.specs.Prelude.{map, length, slice_index};
 ghost use Rattle.px_transport.specs.Wires.{one_more};
 ghost use Rattle.pf_net.specs.declared.udp.BindFault.TheVariants.{Memory};
-ghost use Rattle.pf_net.specs.Addresses.{address_of};
+ghost use Rattle.pf_net.specs.Addresses.{AreFound};
 ghost use Rattle.pf_net.specs.Members.{peers_of, me_of, strangers_of, Drops};
 
-use crate::address::{Address, parse_address};
+use crate::address::Address;
+use crate::host::find;
 use px_transport::Wire;
 use std::alloc::{AllocError, AllocFailed, Global};
 use std::io::ErrorKind;
@@ -81,12 +82,12 @@ pub struct UdpWire<C> {
 }
 
 /// The addresses of the texts.
-fn addresses(alloc: Global, texts: &[&str]) -> Result<Vec<Address>, BindFault>
-    ensures all { IfOk result (λ v. map (λ t. address_of t.now) texts.now ≡ map Some v.items) }
+fn addresses<R: Net>(rt: &R, alloc: Global, texts: &[&str]) -> Result<Vec<Address>, BindFault>
+    ensures all { IfOk result (λ v. AreFound (map (λ t. t.now) texts.now) v.items) }
 {
     let mut peers = Vec::new(alloc);
     for text in texts {
-        let Some(address) = parse_address(text) else {
+        let Some(address) = find(rt, text) else {
             return Err(BindFault::NoSocket);
         };
         peers.push(address)?;
@@ -119,7 +120,8 @@ impl<R: Net + Clock + Copy> UdpWire<R> {
     /// A wire of a member, which listens at its address of these, or with 255 of an asker on any free port, of whom the
     /// first address takes every send. A wait is so many milliseconds long.
     ///
-    /// An address is as `parse_address` reads it. `NoSocket` where one isn't, or where the system refuses the socket.
+    /// An address is as `parse_address` reads it, or a host's name, `:` and a port; names are looked up here, once.
+    /// `NoSocket` where one is neither, or where the system knows no such name or refuses the socket.
     pub fn bind(
         rt: &R,
         alloc: Global,
@@ -128,11 +130,11 @@ impl<R: Net + Clock + Copy> UdpWire<R> {
         wait_ms: u32,
     ) -> Result<UdpWire<R>, BindFault>
         requires wait { 0 < wait_ms }
-        ensures peers { IfOk result (λ w. map (λ t. address_of t.now) addrs.now ≡ map Some (peers_of w)) }
+        ensures peers { IfOk result (λ w. AreFound (map (λ t. t.now) addrs.now) (peers_of w)) }
         ensures me { IfOk result (λ w. me_of w ≡ me) }
         ensures strangers { IfOk result (λ w. strangers_of w ≡ 0) }
     {
-        let peers = addresses(alloc, addrs)?;
+        let peers = addresses(rt, alloc, addrs)?;
         let Some(own) = own_address(peers.as_slice(), me) else {
             return Err(BindFault::NoSocket);
         };

@@ -84,7 +84,9 @@ fn an_address_has_a_port(rt: HostRuntime) -> Result<(), Fail> {
         "127.0.0.1:000080",
         "127.0.0.1:http",
         "127.1:39473",
-        "localhost:39473",
+        "local_host:39473",
+        "localhost:",
+        "localhost:0",
         "::1:39473",
         " 127.0.0.1:39473",
         "",
@@ -331,5 +333,19 @@ fn datagrams_go_over_ipv6(rt: HostRuntime) -> Result<(), Fail> {
     assert!(rt; asker.send(0, &ASK));
     assert_eq!(rt; one.recv(&mut room), Some(11));
     assert_eq!(rt; one.strangers(), 0);
+    Ok(())
+}
+
+/// A host's name that every machine knows, or a refusal where this one doesn't.
+#[test]
+fn a_name_is_looked_up(rt: HostRuntime) -> Result<(), Fail> {
+    let members = ["localhost:39468", "127.0.0.1:39469"];
+    let Ok(mut one) = UdpWire::bind(&rt, rt.alloc(), &members, 0, 1000) else {
+        return Ok(());
+    };
+    let mut asker = UdpWire::bind(&rt, rt.alloc(), &members[..1], 255, 10)?;
+    let mut room = [0u8; 20];
+    assert!(rt; asker.send(0, &ASK));
+    assert_eq!(rt; one.recv(&mut room), Some(11));
     Ok(())
 }

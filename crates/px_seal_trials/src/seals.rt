@@ -32,7 +32,11 @@ fn tags_are_those_of_rfc_4231(rt: HostRuntime) -> Result<(), Fail> {
         "82558a389a443c0ea4cc819899f2083a85f0faa3e578f8077a2e3ff46729665b"
     );
     let fifth = shown(alloc, &[0x0c; 20], b"Test With Truncation")?;
-    assert_eq!(rt; &fifth.as_str()[..32], "a3b6167473100ee06e0c796c2955552b");
+    assert!(rt;
+        fifth
+            .as_str()
+            .starts_with("a3b6167473100ee06e0c796c2955552b")
+    );
     assert_eq!(rt;
         shown(
             alloc,
@@ -62,9 +66,15 @@ fn sealed(alloc: Global, key: &[u8; 32]) -> Result<Vec<u8>, Fail> {
         return Err(Fail::new("not sent"));
     }
     let below = wire.into_inner();
-    let Some([(1, bytes)]) = below.sent() else {
-        return Err(Fail::new("not one datagram for member 1"));
+    let Some(sent) = below.sent() else {
+        return Err(Fail::new("not told"));
     };
+    let Some((to, bytes)) = sent.first() else {
+        return Err(Fail::new("not handed on"));
+    };
+    if *to != 1 || sent.len() != 1 {
+        return Err(Fail::new("not one datagram for member 1"));
+    }
     Ok(Vec::from_slice(alloc, bytes.as_slice())?)
 }
 
@@ -203,8 +213,13 @@ fn what_a_member_sends_to_itself_comes_back_first(rt: HostRuntime) -> Result<(),
         assert!(rt; wire.send(2, b"to itself"));
     }
     let below = wire.into_inner();
-    let Some([(1, _), (2, _)]) = below.sent() else {
-        return Err(Fail::new("the 65th isn't all that went to the wire below"));
+    let Some(sent) = below.sent() else {
+        return Err(Fail::new("not told"));
     };
+    assert_eq!(rt; sent.len(), 2);
+    let Some((to, _)) = sent.last() else {
+        return Err(Fail::new("not handed on"));
+    };
+    assert_eq!(rt; *to, 2);
     Ok(())
 }
