@@ -1,2 +1,3 @@
 pub mod Clusters
 pub mod Promised
+pub mod Lives

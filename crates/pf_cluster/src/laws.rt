@@ -1,9 +1,16 @@
 //! What holds of every cluster of nodes.
 
+ghost use Rattle.pf_cluster.specs.Lives.{LivesAreHistories};
 ghost use Rattle.pf_cluster.specs.Promised.{HistoriesAreRuns, NodesAgree, LearnWhatWasAsked, NeverDiffer};
 ghost use Rattle.pf_cluster.specs.Promised.{EquallyApplied};
 
 use px_records::Records;
+
+/// What members lived, each from an empty record, is a history, in whatever order of theirs each datagram that one took
+/// had been handed out to it. What turns make is such a life (`pf_turn::laws::turns_are_lived`).
+pub fn lives_are_histories()
+    ensures { LivesAreHistories }
+{}
 
 /// Whatever happens to nodes over any records, calls, stops in the midst of one, failures of a store, openings, and
 /// datagrams lost, repeated, delayed and reordered: it is a run of the world. Its members are the nodes, with their

@@ -33,7 +33,7 @@ IsInput g me (Comes sender message) = Passing g.members sender me message
 abbrev pub Lived : Group → (me : ℕ) → (s : NodeState Bytes) → List Deed → (t : NodeState Bytes) → Type 0
 Lived g me s [] t = t ≡ s
 Lived g me s (Calls x u out ∷ ds) t =
-    (s.is_up ≡ true) × (IsInput g me x × (Makes g me s u x [] out × Lived g me u ds t))
+    (s.is_up ≡ true) × IsInput g me x × Makes g me s u x [] out × Lived g me u ds t
 Lived g me s (Stops x left ∷ ds) t =
-    (s.is_up ≡ true) × (IsInput g me x × (LeavesOne g.members me s x left × Lived g me (stopped left) ds t))
+    (s.is_up ≡ true) × IsInput g me x × LeavesOne g.members me s x left × Lived g me (stopped left) ds t
 Lived g me s (Opens ∷ ds) t = Lived g me (started s.stored) ds t
