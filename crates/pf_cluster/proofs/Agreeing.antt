@@ -43,8 +43,7 @@ learn_what_was_asked g group history may =
     let n = g.members in
     let agree = always_agree same same_exact n group.few r.events in
     let kept = always_kept same same_exact n group.few r.events in
-    let once = always_once same same_exact n group.few r.events in
-    (
+    let once = always_once same same_exact n group.few r.events in (
       λ m p e has. subst (λ (z : List (Entry Bytes)). Among z e) r.world.asked
           (agree.was_asked m p e (kept.was_learned m p e (ap (λ (f : ℕ → NodeState Bytes). (f m).stored.learned p) r.world.nodes ∙ has))),
       subst NoneTwice r.world.asked once.asked_once,

@@ -202,7 +202,7 @@ cut_short g c w m x left few is may =
               sent = sent;
               asked = ap (λ (z : Record Bytes). asked_by m z.meta (command_of x) plan.change ++ w.asked) stored
                   ∙ ap (λ (z : List (Entry Bytes)). z ++ w.asked) (sym (asked_same m (c.nodes m).stored plan.change (command_of x)
-                      (steps_rise same n m (c.nodes m) x plan done.1)))
+                  (steps_rise same n m (c.nodes m) x plan done.1)))
                   ∙ ap (λ (z : Record Bytes). asked_of m (c.nodes m).stored z (command_of x) ++ w.asked) (sym done.2)
                   ∙ ap (λ (z : List (Entry Bytes)). asked_of m (c.nodes m).stored left (command_of x) ++ z) is.asked;
             });

@@ -21,9 +21,11 @@ own : (g : Group) (nodes : ℕ → NodeState Bytes) (h : Happening) (hs : List H
     (t : NodeState Bytes) × Lived g (member_of h) (nodes (member_of h)) (deed h ∷ deeds_of (member_of h) hs) t
 own g nodes h hs below live =
     let m = member_of h in
-    let l = live m below in
-    (l.0, subst (λ (ds : List Deed). Lived g m (nodes m) ds l.0)
-    (cond-true (nat_eq m m) (deed h ∷ deeds_of m hs) (deeds_of m hs) (eq-eqb m m refl)) l.1)
+    let l = live m below in (
+      l.0,
+      subst (λ (ds : List Deed). Lived g m (nodes m) ds l.0)
+          (cond-true (nat_eq m m) (deed h ∷ deeds_of m hs) (deeds_of m hs) (eq-eqb m m refl)) l.1,
+    )
 
 -- the others go on as they stood
 on : (g : Group) (nodes : ℕ → NodeState Bytes) (h : Happening) (hs : List Happening) (s t : NodeState Bytes) →
@@ -33,13 +35,17 @@ on g nodes h hs s t live mine m below =
     let yes = deed h ∷ deeds_of m hs in
     let none = deeds_of m hs in
     elim (eqb_tells m k) [
-      | inl is ↦ (t,
-          subst (λ (z : NodeState Bytes). Lived g m z none t) (sym (cond-true (nat_eq m k) s (nodes m) is.0))
-          (subst (λ (j : ℕ). Lived g j s (deeds_of j hs) t) (sym is.1) mine))
+      | inl is ↦ (
+        t,
+        subst (λ (z : NodeState Bytes). Lived g m z none t) (sym (cond-true (nat_eq m k) s (nodes m) is.0))
+            (subst (λ (j : ℕ). Lived g j s (deeds_of j hs) t) (sym is.1) mine),
+      )
       | inr other ↦ (
-          let l = live m below in
-          (l.0, subst (λ (z : NodeState Bytes). Lived g m z none l.0) (sym (cond-false (nat_eq m k) s (nodes m) other.0))
-          (subst (λ (ds : List Deed). Lived g m (nodes m) ds l.0) (cond-false (nat_eq m k) yes none other.0) l.1)))
+          let l = live m below in (
+            l.0,
+            subst (λ (z : NodeState Bytes). Lived g m z none l.0) (sym (cond-false (nat_eq m k) s (nodes m) other.0))
+                (subst (λ (ds : List Deed). Lived g m (nodes m) ds l.0) (cond-false (nat_eq m k) yes none other.0) l.1),
+          ))
     ]
 
 all_may : (g : Group) (hs : List Happening) (c : Cluster) → AreOfMembers g hs → Live g c.nodes hs → AreDelivered g hs c.sent →
@@ -47,21 +53,18 @@ all_may : (g : Group) (hs : List Happening) (c : Cluster) → AreOfMembers g hs 
 all_may g [] c below live delivered = tt
 all_may g (Calls m x t out ∷ hs) c below live delivered =
     let o = own g c.nodes (Calls m x t out) hs below.0 live in
-    let l = o.1 in
-    (
+    let l = o.1 in (
       (record { below = below.0; is_up = l.0 }, ((l.1, delivered.0), l.2)),
       all_may g hs (next c (Calls m x t out)) below.1 (on g c.nodes (Calls m x t out) hs t o.0 live l.3) delivered.1,
     )
 all_may g (Stops m x left ∷ hs) c below live delivered =
     let o = own g c.nodes (Stops m x left) hs below.0 live in
-    let l = o.1 in
-    (
+    let l = o.1 in (
       (record { below = below.0; is_up = l.0 }, ((l.1, delivered.0), l.2)),
       all_may g hs (next c (Stops m x left)) below.1 (on g c.nodes (Stops m x left) hs (stopped left) o.0 live l.3) delivered.1,
     )
 all_may g (Opens m ∷ hs) c below live delivered =
-    let o = own g c.nodes (Opens m) hs below.0 live in
-    (
+    let o = own g c.nodes (Opens m) hs below.0 live in (
       below.0,
       all_may g hs (next c (Opens m)) below.1 (on g c.nodes (Opens m) hs (started (c.nodes m).stored) o.0 live o.1) delivered,
     )

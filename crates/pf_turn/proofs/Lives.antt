@@ -140,7 +140,6 @@ failed_turn w z (Some bytes) out e honest (r, inr (inr taken), is) =
 
 module _ {R : Type 0} (G : Ghosts R)
     (settled : (r : R) → G.is_honest r → G.failed r ≡ 0 → (d : Record Bytes) → G.may_leave r d → d ≡ G.stored r) where
-
   ended : (x w z : Stand G) (a : Option NodeFault) (n : ℕ) → G.is_honest (records_of z.replica) → has_failed x.replica ≡ false →
       Turns n x w → Ends w z a → Living x z a
   ended x w z None n honest works turns same =

@@ -52,7 +52,6 @@ ask_call s t command old new answered c = record {
 
 module _ {R : Type 0} (G : Ghosts R) (r s : R) (n : ℕ) (honest : G.is_honest s) (none : G.failed s ≡ 0)
     (read : IsRead G.is_honest G.stored G.may_leave G.failed G.is_good r s) where
-
   -- a row that is bad later was bad before
   bad_entry_before : (p : ℕ) → IsBadEntry G s n p → IsBadEntry G r n p
   bad_entry_before p (inl bad) = inl (λ good. bad (read.rows honest none (EntryAt p) good))
@@ -110,8 +109,8 @@ open_refused {R} {X} G members given back f e is read counts bad why same = reco
   stays = λ honest other. read.stays honest (zero_or (G.failed back) (λ h. other (is ∙ ap fault_of_store (err_failed {X = X} f (counts.1 h)))));
   stop = read.leaves;
   counts = λ none. (
-      λ h. counts.0 (ap {B = Result X StoreFault} (λ (z : StoreFault). Err z) (store_failed f e is h)),
-      λ h. is ∙ ap fault_of_store (err_failed {X = X} f (counts.1 h)),
+    λ h. counts.0 (ap {B = Result X StoreFault} (λ (z : StoreFault). Err z) (store_failed f e is h)),
+    λ h. is ∙ ap fault_of_store (err_failed {X = X} f (counts.1 h)),
   );
   bad = λ honest h. bad honest (ap {B = Result X StoreFault} (λ (z : StoreFault). Err z) (store_bad f e is h));
   why = λ honest sound h. why honest sound (of_store f e is h);

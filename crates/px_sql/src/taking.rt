@@ -29,8 +29,8 @@ impl<S: Alter> SqlRecords<S> {
     /// 71 that the store is another node's, in this order. Such a store isn't written to. One without tables is never
     /// refused so.
     ///
-    /// Whatever it answers, a stop while it runs leaves what a stop left before, or the store of format 3, whole: its row
-    /// for the whole node, and the rows that there were, which the node may take again.
+    /// Whatever it answers, a stop while it runs leaves what a stop left before, or the store of format 3, whole: its
+    /// row for the whole node, and the rows that there were, which the node may take again.
     pub fn adopt(
         alloc: Global,
         mut conn: Connection<S>,
