@@ -24,9 +24,6 @@ const ASKER: u8 = 255;
 /// By what an answer is known.
 const TOKEN: u64 = 1;
 
-/// How many waits there are for an answer.
-const WAITS: u8 = 5;
-
 /// More than the bytes of an answer and of a tag behind it, so that a longer datagram is never taken for one.
 const ANSWER_ROOM: usize = 96;
 
@@ -138,13 +135,13 @@ fn listen<W: Wire>(m: &Membership, node: u8, wire: &mut W) -> Option<AskAnswer>
     }
 }
 
-/// Waits five times at most: the node's first answer.
-fn listen_on<W: Wire>(m: &Membership, node: u8, wire: &mut W) -> AskAnswer
+/// Waits so many times at most: the node's first answer.
+fn listen_on<W: Wire>(m: &Membership, node: u8, waits: u32, wire: &mut W) -> AskAnswer
     requires { m.now.me ≡ ASKER }
-    ensures heard { Listens (group m.now) node 5 (W.given wire.old) result (W.given wire.new) }
+    ensures heard { Listens (group m.now) node waits (W.given wire.old) result (W.given wire.new) }
     ensures quiet { W.handed wire.new ≡ W.handed wire.old }
 {
-    for _wait in 0..WAITS {
+    for _wait in 0..waits {
         if let Some(answer) = listen(m, node, wire) {
             return answer;
         }
@@ -152,7 +149,7 @@ fn listen_on<W: Wire>(m: &Membership, node: u8, wire: &mut W) -> AskAnswer
     AskAnswer::NoAnswer
 }
 
-/// Asks a node to take a command in: one datagram, and then five waits at most for its answer. What else comes is
+/// Asks a node to take a command in: one datagram, and then so many waits at most for its answer. What else comes is
 /// passed over, and counts as a wait.
 ///
 /// `m` is an asker's, of whom 255 is the number. `TooLong` (41) where no entry of the command has a spelling, and
@@ -162,13 +159,14 @@ pub fn ask_once<W: Wire>(
     m: &Membership,
     node: u8,
     command: &Command,
+    waits: u32,
     wire: &mut W,
 ) -> Result<AskAnswer, NodeFault>
     requires asker { m.now.me ≡ ASKER }
     requires member { node < m.now.members }
     ensures sent { OnOk result ((bytes : List ℕ) × IsAsk (group m.now) node command.now bytes ×
         Grows (W.handed wire.old) (node, bytes) (W.handed wire.new)) }
-    ensures heard { IfOk result (λ a. Listens (group m.now) node 5 (W.given wire.old) a (W.given wire.new)) }
+    ensures heard { IfOk result (λ a. Listens (group m.now) node waits (W.given wire.old) a (W.given wire.new)) }
     ensures silent { OnErr result ((W.handed wire.new ≡ W.handed wire.old) × (W.given wire.new ≡ W.given wire.old)) }
     ensures long { result ≡ Err NodeFault.TooLong → IsTrue (is_over (asked_entry command.now)) }
     ensures short { OnOk result (is_over (asked_entry command.now) ≡ false) }
@@ -179,5 +177,5 @@ pub fn ask_once<W: Wire>(
         Err(fault) => return Err(fault),
     };
     let _sent = wire.send(node, bytes.as_slice());
-    Ok(listen_on(m, node, wire))
+    Ok(listen_on(m, node, waits, wire))
 }

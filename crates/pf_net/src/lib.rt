@@ -8,6 +8,7 @@
 
 mod address;
 mod answer;
+mod askers;
 mod asking;
 mod host;
 mod udp;

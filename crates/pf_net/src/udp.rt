@@ -8,6 +8,7 @@ ghost use Rattle.pf_net.specs.Addresses.{AreFound};
 ghost use Rattle.pf_net.specs.Members.{peers_of, me_of, strangers_of, Drops};
 
 use crate::address::Address;
+use crate::askers::Askers;
 use crate::host::find;
 use px_transport::Wire;
 use std::alloc::{AllocError, AllocFailed, Global};
@@ -60,7 +61,9 @@ impl<T: Drop> From<AllocFailed<T>> for BindFault {
 /// between two receives no more than a 64th of the wait counts, so that slow turns alone end none before 64 datagrams.
 ///
 /// A datagram that comes from elsewhere than a member's address is given as an empty one, which is nobody's, and is
-/// counted, unless its sender's number is 255, of one who asks.
+/// counted, unless its sender's number is 255, of one who asks. While asks are deferred, 64 of them are kept for later,
+/// and an empty datagram is given in place of each. With [`UdpWire::answer_learned`] an answer that a command was taken in
+/// is sent once that is learned.
 #[derive(Drop)]
 pub struct UdpWire<C> {
     socket: UdpSocket,
@@ -77,6 +80,7 @@ pub struct UdpWire<C> {
     /// How long the socket waits, where it does.
     timeout: Duration,
     is_blocking: bool,
+    askers: Askers,
     strangers: u64,
     failures: u64,
 }
@@ -156,6 +160,7 @@ impl<R: Net + Clock + Copy> UdpWire<R> {
             last: None,
             timeout: wait,
             is_blocking: true,
+            askers: Askers::new(alloc),
             strangers: 0,
             failures: 0,
         })
@@ -163,6 +168,16 @@ impl<R: Net + Clock + Copy> UdpWire<R> {
 }
 
 impl<C> UdpWire<C> {
+    /// From now on the answer that a command was taken in is sent once that is learned, and not before; 64 such answers
+    /// are kept at most, and of more the first are lost.
+    pub fn answer_learned(&mut self)
+        ensures strangers { strangers_of self.new ≡ strangers_of self.old }
+        ensures peers { peers_of self.new ≡ peers_of self.old }
+        ensures me { me_of self.new ≡ me_of self.old }
+    {
+        self.askers.set_holding();
+    }
+
     /// How many datagrams were dropped that came from elsewhere than a member's address, up to 2^64 - 1.
     pub fn strangers(&self) -> u64
         ensures { result ≡ strangers_of self.now }
@@ -218,19 +233,52 @@ impl<C> UdpWire<C> {
         true
     }
 
-    /// What is given of a datagram: all its bytes, or none of a stranger's, which is counted.
+    /// What is given of one who asks: all its bytes, or none while asks are deferred.
+    fn admit_ask(&mut self, from: SocketAddr, datagram: &[u8]) -> usize
+        ensures failures { self.new.failures ≡ self.old.failures }
+        ensures strangers { strangers_of self.new ≡ strangers_of self.old }
+        ensures given { (result ≡ length datagram.now) ⊎ (result ≡ 0) }
+    {
+        if self.askers.defer(from, datagram) {
+            return 0;
+        }
+        self.last = Some(from);
+        datagram.len()
+    }
+
+    /// What is given of a datagram: all its bytes, or none of an ask that is deferred, and of a stranger's, which is
+    /// counted.
     fn admit(&mut self, from: SocketAddr, datagram: &[u8]) -> usize
         ensures failures { self.new.failures ≡ self.old.failures }
-        ensures given { (result ≡ length datagram.now) × (strangers_of self.new ≡ strangers_of self.old) ⊎
+        ensures fits { result ≤ length datagram.now }
+        ensures given { (strangers_of self.new ≡ strangers_of self.old) ⊎
             (result ≡ 0) × ((slice_index datagram.now 10 == 255) ≡ false) ×
             (strangers_of self.new ≡ one_more (strangers_of self.old)) }
     {
-        if is_asking(datagram) || self.peers.as_slice().contains(&Address::of_socket(from)) {
+        if is_asking(datagram) {
+            return self.admit_ask(from, datagram);
+        }
+        if self.peers.as_slice().contains(&Address::of_socket(from)) {
             self.last = Some(from);
             return datagram.len();
         }
         self.strangers = self.strangers.saturating_add(1);
         0
+    }
+
+    /// An ask that was kept back, if it may be given now.
+    fn deferred(&mut self, into: &mut [u8]) -> Option<usize>
+        ensures fits { IfSome result (λ n. n ≤ length into.new) }
+        ensures failures { self.new.failures ≡ self.old.failures }
+        ensures strangers { strangers_of self.new ≡ strangers_of self.old }
+    {
+        match self.askers.next(into) {
+            Some((from, n)) => {
+                self.last = Some(from);
+                Some(n)
+            }
+            None => None,
+        }
     }
 }
 
@@ -348,6 +396,9 @@ impl<C: Clock> Wire for UdpWire<C> {
         ensures quiet { Unit {0} }
         ensures counts { self.old.failures ≤ self.new.failures }
     {
+        if let Some(n) = self.deferred(into) {
+            return Some(n);
+        }
         if !self.set_blocking(false) {
             return None;
         }
@@ -361,7 +412,7 @@ impl<C: Clock> Wire for UdpWire<C> {
     }
 
     fn wait(&mut self, milliseconds: u32) {
-        if milliseconds == 0 || !self.set_blocking(true) {
+        if milliseconds == 0 || self.askers.has_next() || !self.set_blocking(true) {
             return;
         }
         if !self.set_timeout(Duration::from_millis(u64::from(milliseconds))) {
@@ -375,13 +426,26 @@ impl<C: Clock> Wire for UdpWire<C> {
 
     fn send(&mut self, to: u8, bytes: &[u8]) -> bool {
         let sent = match self.address(to) {
-            Some(there) => self.sent_to(bytes, there),
+            Some(there) => (to == ASKER && self.askers.hold(there, bytes))
+                || self.sent_to(bytes, there),
             None => false,
         };
         if !sent {
             self.failures = self.failures.saturating_add(1);
         }
         sent
+    }
+
+    fn defer_asks(&mut self, is_deferred: bool) {
+        self.askers.set_deferring(is_deferred);
+    }
+
+    fn release(&mut self, number: u64) {
+        if let Some((to, bytes)) = self.askers.take(number) {
+            if !self.sent_to(&bytes, to) {
+                self.count_failure();
+            }
+        }
     }
 
     fn failures(&self) -> u64 {

@@ -56,7 +56,7 @@ fn asked(alloc: Global, coming: &[&[u8]]) -> Result<(AskAnswer, bool), Fail> {
     let command = Command::FlushRules {
         path: Path::main(alloc),
     };
-    let answer = ask_once(alloc, &m, 0, &command, &mut wire)?;
+    let answer = ask_once(alloc, &m, 0, &command, 5, &mut wire)?;
     Ok((answer, is_ask(&wire) && wire.failures() == 0))
 }
 

@@ -6,7 +6,7 @@ use Rattle.px_records.specs.declared.records.Records.{Ghosts}
 use Rattle.px_replica.specs.declared.fault.NodeFault.{NodeFault}
 use Rattle.px_replica.specs.declared.state.Replica.{Replica}
 use Rattle.px_transport.specs.Wires.{GrowsBy, Gives}
-use Rattle.pf_turn.specs.Turns.{Acts, Stand, Turned, Same, Turns, Ends, Served, handed_over}
+use Rattle.pf_turn.specs.Turns.{Acts, Stand, Turned, Ticked, Took, TookAll, Same, Turns, Ends, Served, handed_over}
 
 pub same_then : {R : Type 0} {G : Ghosts R} (x y z : Stand G) → Same x y → Same y z → Same x z
 same_then x y z s t = record {
@@ -66,6 +66,37 @@ served_turn x y (Some e) d = record { turns = zero; then = x; made = same_all x;
 -- one turn more
 pub served_on : {R : Type 0} {G : Ghosts R} (x y z : Stand G) (a : Option NodeFault) → Served x y None → Turned y z a → Served x z a
 served_on x y z a s d = served_then x y z a s (served_turn y z a d)
+
+-- turns of either kind are turns
+pub turned_by_clock : {R : Type 0} {G : Ghosts R} (x y : Stand G) (a : Option NodeFault) → Ticked x y a → Turned x y a
+turned_by_clock x y a t = record { came = None; gave = t.given; out = t.out; acts = t.call; sent = t.sent }
+
+pub turned_by_datagram : {R : Type 0} {G : Ghosts R} (x y : Stand G) (a : Option NodeFault) → Took x y a → Turned x y a
+turned_by_datagram x y a t = record { came = Some t.bytes; gave = t.gave; out = t.out; acts = t.acts; sent = t.sent }
+
+-- one datagram more, or none
+pub took_on : {R : Type 0} {G : Ghosts R} (n : ℕ) (x y z : Stand G) → TookAll n x y → Took y z None → TookAll (suc n) x z
+took_on n x y z a t = (y, a, t)
+
+pub took_same : {R : Type 0} {G : Ghosts R} (n : ℕ) (x y z : Stand G) → TookAll n x y → Same y z → TookAll n x z
+took_same zero x y z a s = same_then x y z a s
+took_same {R} {G} (suc n) x y z (w, a, t) s = (
+  w,
+  a,
+  record {
+    bytes = t.bytes;
+    gave = subst (λ (u : Option (List Bytes)). Gives w.given (Some t.bytes) u) (sym s.given) t.gave;
+    out = t.out;
+    acts = subst (λ (u : Replica R G). Acts w.replica u (Some t.bytes) t.out None) (sym s.replica) t.acts;
+    sent = subst (λ (u : Option (List (ℕ × Bytes))). GrowsBy w.handed (handed_over t.out) u) (sym s.handed) t.sent;
+  },
+)
+
+-- what came, where something did
+pub some_came : (bytes : List ℕ) (len : Option ℕ) (r : Bool) → is_some len ≡ not r → r ≡ false →
+    (came : Option (List ℕ)) → came ≡ option_map (λ n. take n bytes) len → (b : List ℕ) × (came ≡ Some b)
+some_came bytes None r e f came is = absurd (cc)
+some_came bytes (Some n) r e f came is = (take n bytes, is)
 
 -- nothing came
 pub given_none : (old new : Option (List (List ℕ))) (room : List ℕ) (len : Option ℕ) → Gives old (option_map (λ n. take n room) len) new →

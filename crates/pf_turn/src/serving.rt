@@ -1,10 +1,10 @@
 //! What a node does between two waits.
 
-ghost use Rattle.std.specs.Prelude.{◌≡◌, ◌≤◌, IfSome, length, option_map, take};
+ghost use Rattle.std.specs.Prelude.{◌≡◌, ◌≤◌, IfOk, IfSome, length, option_map, take};
 ghost use Rattle.px_replica.specs.Faults.{fault_of};
 ghost use Rattle.pf_node.specs.Nodes.{applied_of};
 ghost use Rattle.px_transport.specs.Wires.{Gives};
-ghost use Rattle.pf_turn.specs.Turns.{Turned, Served, standing};
+ghost use Rattle.pf_turn.specs.Turns.{Ticked, TookOne, TookAll, TookThenTicked, Served, standing};
 
 use crate::room::Room;
 use crate::turning::{act, came, send_all};
@@ -29,7 +29,7 @@ pub fn tick_now<R: Records, W: Wire>(
     wire: &mut W,
     room: &mut Room,
 ) -> Result<(), NodeFault>
-    ensures turned { Turned (standing W.Wire node.old wire.old) (standing W.Wire node.new wire.new)
+    ensures ticked { Ticked (standing W.Wire node.old wire.old) (standing W.Wire node.new wire.new)
         (fault_of result) }
     ensures grows { applied_of node.old ≤ applied_of node.new }
 {
@@ -47,6 +47,8 @@ fn take_one<R: Records, W: Wire>(
 ) -> Result<bool, NodeFault>
     ensures served { Served (standing W.Wire node.old wire.old) (standing W.Wire node.new wire.new)
         (fault_of result) }
+    ensures took { IfOk result (λ had. TookOne had (standing W.Wire node.old wire.old)
+        (standing W.Wire node.new wire.new)) }
     ensures grows { applied_of node.old ≤ applied_of node.new }
 {
     room.out.clear();
@@ -54,6 +56,7 @@ fn take_one<R: Records, W: Wire>(
     if len.is_none() {
         return Ok(false);
     }
+    room.sight = room.sight.after(&room.bytes, len);
     let result = act(node, came(&room.bytes, len), &mut room.out);
     send_all(wire, room.out.as_slice());
     match result {
@@ -63,7 +66,7 @@ fn take_one<R: Records, W: Wire>(
 }
 
 /// Takes what has come, one datagram after the other, so many at most: how many there were.
-fn drain<R: Records, W: Wire>(
+pub(crate) fn drain<R: Records, W: Wire>(
     node: &mut Node<R>,
     wire: &mut W,
     room: &mut Room,
@@ -71,6 +74,8 @@ fn drain<R: Records, W: Wire>(
 ) -> Result<u32, NodeFault>
     ensures served { Served (standing W.Wire node.old wire.old) (standing W.Wire node.new wire.new)
         (fault_of result) }
+    ensures took { IfOk result (λ n. TookAll n (standing W.Wire node.old wire.old)
+        (standing W.Wire node.new wire.new)) }
     ensures grows { applied_of node.old ≤ applied_of node.new }
 {
     for taken in 0..most {
@@ -97,6 +102,8 @@ pub fn serve<R: Records, W: Wire>(
 ) -> Result<u32, NodeFault>
     ensures served { Served (standing W.Wire node.old wire.old) (standing W.Wire node.new wire.new)
         (fault_of result) }
+    ensures took { IfOk result (λ n. TookThenTicked n is_due (standing W.Wire node.old wire.old)
+        (standing W.Wire node.new wire.new)) }
     ensures grows { applied_of node.old ≤ applied_of node.new }
 {
     let taken = match drain(node, wire, room, most) {

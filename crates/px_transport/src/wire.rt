@@ -42,6 +42,22 @@ pub trait Wire {
         ensures quiet { given self.new ≡ given self.old }
         ensures counts { Counts result (failed self.old) (failed self.new) };
 
+    /// Whether what is asked from outside is kept back from now on, where the wire can do that: then it is given later, as
+    /// a datagram may be late.
+    fn defer_asks(&mut self, _is_deferred: bool)
+        ensures given { given self.new ≡ given self.old }
+        ensures quiet { handed self.new ≡ handed self.old }
+        ensures counts { failed self.old ≤ failed self.new }
+    {}
+
+    /// What was taken in as this request of the member is learned: an answer that the wire held back for it goes out, as a
+    /// datagram may be late.
+    fn release(&mut self, _number: u64)
+        ensures given { given self.new ≡ given self.old }
+        ensures quiet { handed self.new ≡ handed self.old }
+        ensures counts { failed self.old ≤ failed self.new }
+    {}
+
     /// How many sends were answered `false`, and how many faults the receives and waits met, up to 2^64 - 1.
     fn failures(&self) -> u64
         ensures { result ≡ failed self.now };

@@ -8,6 +8,6 @@ use Rattle.pf_net.proofs.asking.listen_on.Given as goal
 abbrev pub invariant-loop-wait : goal.invariant-loop-wait
 invariant-loop-wait g l =
     ((a : AskAnswer) (given : Option (List (List ℕ))) →
-    Listens (group l.m) l.node (5 - l._wait) (g.W.Wire.given l.wire) a given →
-    Listens (group l.m) l.node 5 (g.W.Wire.given l.fn.wire) a given)
+    Listens (group l.m) l.node (l.waits - l._wait) (g.W.Wire.given l.wire) a given →
+    Listens (group l.m) l.node l.waits (g.W.Wire.given l.fn.wire) a given)
     × (g.W.Wire.handed l.wire ≡ g.W.Wire.handed l.fn.wire)

@@ -1,0 +1,225 @@
+//! When a node's clock ticks.
+
+use std::time::{Clock, Instant};
+
+/// How long a round trip is taken to be before one was measured, in microseconds.
+const FIRST_TRIP: u64 = 20_000;
+
+/// The shortest and the longest time that is taken for a round trip, in microseconds.
+const TRIPS: (u64, u64) = (500, 4_000_000);
+
+/// How long an idle node waits before it asks what it lacks, in microseconds.
+const IDLE: u64 = 1_000_000;
+
+/// How long a member that starts waits to hear how far others are before it takes commands in, in microseconds.
+const START: u64 = 200_000;
+
+/// How long a node that lacks entries takes no commands in while nothing moves its front, in microseconds.
+const BEHIND: u64 = 2_000_000;
+
+/// The most times in a row that an attempt's loss doubles the patience.
+const DOUBLINGS: u32 = 6;
+
+/// The longest wait, in milliseconds.
+const LONGEST_WAIT: u64 = 100;
+
+/// What is seen of a node when it is to be decided whether its clock ticks.
+#[derive(Clone, Copy, Debug, PartialEq, Eq)]
+pub struct View {
+    /// How many commands wait to be proposed.
+    pub waiting: usize,
+    /// Whether an attempt is under way.
+    pub is_attempting: bool,
+    /// The least position not learned.
+    pub front: u32,
+    /// Whether an entry that was asked for has come since the last look.
+    pub is_told: bool,
+    /// A position below which another member has learned all, as far as is seen.
+    pub reached: u32,
+}
+
+/// What a node does next.
+#[derive(Clone, Copy, Debug, PartialEq, Eq)]
+pub enum Beat {
+    /// Its clock ticks.
+    Tick,
+    /// It waits for a datagram, so many milliseconds at most, 1 to 100.
+    Wait(u32),
+}
+
+/// When a node's clock ticks: at once where commands wait and no attempt is under way; anew where an attempt isn't
+/// answered in four round trips and some more, a time that doubles with each loss; after a pause that grows where another
+/// node took the lead; and where nothing waits at the start, once a second, and at once while what it lacks is coming.
+///
+/// A node that lacks entries which others have learned makes no proposal of its own until it has them, or nothing moved
+/// its front for as long as an attempt may take; where nothing waits it then asks what it lacks.
+///
+/// Round trips are learned from attempts that led to something. The clock decides when a tick comes, never what it does:
+/// whatever is answered here, a node makes turns and nothing else.
+#[derive(Clone, Copy, Debug)]
+pub struct Pace {
+    me: u8,
+    /// When the clock ticked last, in microseconds.
+    ticked: u64,
+    /// When an idle node asks next what it lacks.
+    asks: u64,
+    /// Before then no waiting command is proposed.
+    hold: u64,
+    /// When the front moved last, or it was first seen that entries are lacking.
+    moved: u64,
+    /// A round trip, in microseconds.
+    trip: u64,
+    /// How many attempts in a row came to nothing.
+    losses: u32,
+    front: u32,
+    is_proposing: bool,
+    is_behind: bool,
+}
+
+impl Pace {
+    /// The pace of a member that starts.
+    pub fn new(me: u8) -> Pace {
+        Pace {
+            me,
+            ticked: 0,
+            asks: 0,
+            hold: 0,
+            moved: 0,
+            trip: FIRST_TRIP,
+            losses: 0,
+            front: 0,
+            is_proposing: false,
+            is_behind: false,
+        }
+    }
+
+    /// What the node does next, at this time in microseconds.
+    pub fn beat(&mut self, now: u64, view: View) -> Beat {
+        self.look(now, view);
+        self.compare(now, view);
+        let due = self.due(view);
+        if now >= due {
+            self.tick(now, view);
+            return Beat::Tick;
+        }
+        let milliseconds = (due - now) / 1_000 + 1;
+        Beat::Wait(milliseconds.min(LONGEST_WAIT) as u32)
+    }
+
+    /// Whether the node listens, and takes no command in: at its start, and while it lacks entries that others have and
+    /// is being told them.
+    pub fn is_listening(&self, now: u64) -> bool {
+        now < START || (self.is_behind && now < self.moved.saturating_add(BEHIND))
+    }
+
+    /// What came of the attempt.
+    fn look(&mut self, now: u64, view: View) {
+        if view.front != self.front {
+            if self.is_proposing {
+                self.measure(now);
+            }
+            self.front = view.front;
+            self.moved = now;
+            self.losses = 0;
+            self.hold = now;
+            self.is_proposing = false;
+        } else if self.is_proposing && !view.is_attempting {
+            self.is_proposing = false;
+            self.lose();
+            self.hold = now.saturating_add(self.pause(now));
+        }
+    }
+
+    /// Whether others have come further.
+    fn compare(&mut self, now: u64, view: View) {
+        let is_behind = view.reached > view.front;
+        if is_behind && !self.is_behind {
+            self.moved = now;
+        }
+        self.is_behind = is_behind;
+    }
+
+    /// An attempt led to something: a longer time counts half, a shorter one an eighth.
+    fn measure(&mut self, now: u64) {
+        let sample = now.saturating_sub(self.ticked).max(TRIPS.0).min(TRIPS.1);
+        if sample > self.trip {
+            self.trip = self.trip / 2 + sample / 2;
+        } else {
+            self.trip = self.trip - self.trip / 8 + sample / 8;
+        }
+    }
+
+    /// An attempt came to nothing.
+    fn lose(&mut self) {
+        self.losses = self.losses.saturating_add(1).min(DOUBLINGS);
+    }
+
+    /// How long a node keeps still that lost the lead: a part by the clock and by its number, so that two don't meet
+    /// again.
+    fn pause(&self, now: u64) -> u64 {
+        let part = now % 8 + 2 * u64::from(self.me) + 1;
+        part.saturating_mul(self.trip / 4 + 1_000)
+            .saturating_mul(self.doubled())
+    }
+
+    /// How long an attempt may take.
+    fn patience(&self) -> u64 {
+        let some = 20_000 + 5_000 * u64::from(self.me);
+        self.trip
+            .saturating_mul(4)
+            .saturating_add(some)
+            .saturating_mul(self.doubled())
+    }
+
+    /// Two to the number of losses.
+    fn doubled(&self) -> u64 {
+        2u64.saturating_pow(self.losses)
+    }
+
+    /// When a node that lacks entries does something about it: some time after its front moved, and after it did so last.
+    fn listens(&self) -> u64 {
+        self.moved.max(self.ticked).saturating_add(self.patience())
+    }
+
+    /// When the clock is to tick.
+    fn due(&self, view: View) -> u64 {
+        if view.is_attempting {
+            return self.ticked.saturating_add(self.patience());
+        }
+        if view.waiting > 0 {
+            return if self.is_behind {
+                self.hold.max(self.listens())
+            } else {
+                self.hold
+            };
+        }
+        if !self.is_behind {
+            return self.asks;
+        }
+        if view.is_told {
+            0
+        } else {
+            self.asks.min(self.listens())
+        }
+    }
+
+    /// The clock ticks.
+    fn tick(&mut self, now: u64, view: View) {
+        if view.is_attempting {
+            self.lose();
+        }
+        self.is_proposing = view.waiting > 0;
+        self.ticked = now;
+        self.asks = now.saturating_add(IDLE);
+    }
+}
+
+/// The time since a reading of the clock, in microseconds; none has passed where the clock can't be read.
+pub(crate) fn microseconds<C: Clock>(clock: &C, start: Option<Instant>) -> u64 {
+    match (start, Instant::now(clock)) {
+        (Some(start), Ok(now)) => {
+            u64::try_from(now.duration_since(start).as_micros()).unwrap_or(u64::MAX)
+        }
+        _ => 0,
+    }
+}

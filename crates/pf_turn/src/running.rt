@@ -1,0 +1,161 @@
+//! A node that runs.
+
+ghost use Rattle.std.specs.Prelude.{◌≡◌, ◌≤◌};
+ghost use Rattle.px_replica.specs.Faults.{fault_of};
+ghost use Rattle.pf_node.specs.Nodes.{applied_of};
+ghost use Rattle.pf_turn.specs.Turns.{Served, standing};
+
+use crate::pace::{Beat, Pace, View, microseconds};
+use crate::room::Room;
+use crate::serving::{drain, tick_now};
+use pf_node::Node;
+use px_model::EntryView;
+use px_records::Records;
+use px_replica::NodeFault;
+use px_transport::Wire;
+use std::time::{Clock, Instant};
+
+/// How many datagrams are taken before it is looked whether the clock is to tick.
+const MOST: u32 = 64;
+
+/// What the pace is decided by.
+fn view_of<R: Records>(node: &Node<R>, room: &Room, was: u32) -> View {
+    View {
+        waiting: node.waiting(),
+        is_attempting: node.is_attempting(),
+        front: node.front(),
+        is_told: room.sight.is_told && node.front() != was,
+        reached: room.sight.reached,
+    }
+}
+
+/// The number of the entry learned at the position, if this member took its command in.
+fn own_number<R: Records>(node: &Node<R>, me: u8, position: u32) -> Option<u64> {
+    let Some(bytes) = node.learned(position) else {
+        return None;
+    };
+    match EntryView::read(bytes) {
+        Some(entry) => {
+            if entry.origin() == me {
+                Some(entry.number())
+            } else {
+                None
+            }
+        }
+        None => None,
+    }
+}
+
+/// Tells the wire which of this member's own requests were learned from a position on.
+fn release<R: Records, W: Wire>(node: &Node<R>, wire: &mut W, from: u32)
+    ensures given { W.given wire.new ≡ W.given wire.old }
+    ensures quiet { W.handed wire.new ≡ W.handed wire.old }
+{
+    let me = node.membership().me();
+    for position in from..node.front() {
+        if let Some(number) = own_number(node, me, position) {
+            wire.release(number);
+        }
+    }
+}
+
+/// What a round came to.
+#[derive(Clone, Copy, Debug, PartialEq, Eq)]
+pub struct Round {
+    /// For how many turns it counts, 1 at least: each datagram is one, a tick, and a wait.
+    pub turns: u32,
+    /// How many milliseconds may be waited for a datagram before the next round, 0 to 100.
+    pub wait: u32,
+}
+
+/// The clock ticks if it is to, after so many datagrams.
+fn tick_if<R: Records, W: Wire>(
+    node: &mut Node<R>,
+    wire: &mut W,
+    room: &mut Room,
+    beat: Beat,
+    taken: u32,
+) -> Result<Round, NodeFault>
+    ensures served { Served (standing W.Wire node.old wire.old) (standing W.Wire node.new wire.new)
+        (fault_of result) }
+    ensures grows { applied_of node.old ≤ applied_of node.new }
+{
+    match beat {
+        Beat::Tick => match tick_now(node, wire, room) {
+            Ok(()) => Ok(Round {
+                turns: taken.saturating_add(1),
+                wait: 0,
+            }),
+            Err(fault) => Err(fault),
+        },
+        Beat::Wait(milliseconds) => Ok(Round {
+            turns: taken.max(1),
+            wait: if taken == 0 { milliseconds } else { 0 },
+        }),
+    }
+}
+
+/// What has come is taken, 64 datagrams at most; then the clock ticks where the pace says so. These are turns of the node
+/// and nothing else. Answers how long may be waited before the next round.
+///
+/// While the node lacks entries that others have, the wire is asked to keep back what is asked from outside; it is told
+/// which of the member's own requests were learned.
+///
+/// `now` is the time in microseconds since the node started, which never goes back. The faults are those of
+/// [`Node::receive`] and [`Node::tick`]; after one nothing is to be sent.
+pub fn round<R: Records, W: Wire>(
+    node: &mut Node<R>,
+    wire: &mut W,
+    room: &mut Room,
+    pace: &mut Pace,
+    now: u64,
+) -> Result<Round, NodeFault>
+    ensures served { Served (standing W.Wire node.old wire.old) (standing W.Wire node.new wire.new)
+        (fault_of result) }
+    ensures grows { applied_of node.old ≤ applied_of node.new }
+{
+    let was = node.front();
+    let taken = match drain(node, wire, room, MOST) {
+        Ok(taken) => taken,
+        Err(fault) => return Err(fault),
+    };
+    release(node, wire, was);
+    let view = view_of(node, room, was);
+    room.sight.is_told = false;
+    let beat = pace.beat(now, view);
+    wire.defer_asks(pace.is_listening(now));
+    tick_if(node, wire, room, beat, taken)
+}
+
+/// A node runs: it takes what comes as it comes, and its clock ticks when its pace says so ([`Pace`]), until so many
+/// turns are over, where each datagram counts for one, and each tick and each wait, of a tenth of a second at most.
+///
+/// The faults are those of [`Node::receive`] and [`Node::tick`]; one ends it.
+pub fn run<R: Records, W: Wire, C: Clock>(
+    node: &mut Node<R>,
+    wire: &mut W,
+    room: &mut Room,
+    clock: &C,
+    turns: u64,
+) -> Result<(), NodeFault>
+    ensures served { Served (standing W.Wire node.old wire.old) (standing W.Wire node.new wire.new)
+        (fault_of result) }
+    ensures grows { applied_of node.old ≤ applied_of node.new }
+{
+    let mut pace = Pace::new(node.membership().me());
+    let start = Instant::now(clock).ok();
+    let mut left = turns;
+    for _round in 0..turns {
+        if left == 0 {
+            return Ok(());
+        }
+        match round(node, wire, room, &mut pace, microseconds(clock, start)) {
+            Ok(made) => {
+                wire.wait(made.wait);
+                left = left.saturating_sub(u64::from(made.turns));
+            }
+            Err(fault) => return Err(fault),
+        }
+    }
+    Ok(())
+}
