@@ -1,44 +1,24 @@
 //! A member's run.
 
-ghost use Rattle.std.specs.Prelude.{◌≡◌, ◌<◌, ◌≤◌};
-ghost use Rattle.px_replica.specs.Faults.{fault_of};
-ghost use Rattle.pf_node.specs.Nodes.{replica_of, applied_of};
-ghost use Rattle.pf_turn.specs.Turns.{Served, standing};
+ghost use Rattle.std.specs.Prelude.{◌≡◌, ◌<◌};
+ghost use Rattle.pf_node.specs.Nodes.{replica_of};
 ghost use Rattle.pf_member.specs.Lives.{Serves, Runs};
 
 use crate::ended::Ended;
 use pf_node::{Membership, Node};
-use pf_turn::{Room, turn};
+use pf_turn::{Room, run};
 use px_records::Records;
 use px_replica::NodeFault;
 use px_transport::Wire;
 use std::alloc::Global;
-
-/// So many turns; the first fault ends them.
-fn make_turns<R: Records, W: Wire>(
-    node: &mut Node<R>,
-    wire: &mut W,
-    room: &mut Room,
-    turns: u64,
-) -> Result<(), NodeFault>
-    ensures served { Served (standing W.Wire node.old wire.old) (standing W.Wire node.new wire.new)
-        (fault_of result) }
-    ensures grows { applied_of node.old ≤ applied_of node.new }
-{
-    for _turn in 0..turns {
-        match turn(node, wire, room) {
-            Ok(()) => {}
-            Err(fault) => return Err(fault),
-        }
-    }
-    Ok(())
-}
+use std::time::Clock;
 
 /// What the turns of a node come to.
-fn served<R: Records, W: Wire>(
+fn served<R: Records, W: Wire, C: Clock>(
     alloc: Global,
     node: &mut Node<R>,
     wire: &mut W,
+    clock: &C,
     turns: u64,
 ) -> Ended
     ensures { Serves (replica_of node.old) (replica_of node.new) result }
@@ -46,7 +26,7 @@ fn served<R: Records, W: Wire>(
     let Ok(mut room) = Room::new(alloc) else {
         return Ended::Fault(NodeFault::Memory);
     };
-    match make_turns(node, wire, &mut room, turns) {
+    match run(node, wire, &mut room, clock, turns) {
         Ok(()) => Ended::Front {
             front: node.front(),
             applied: node.applied(),
@@ -56,10 +36,11 @@ fn served<R: Records, W: Wire>(
 }
 
 /// The same over a wire, if there is one.
-fn served_by<R: Records, W: Wire + Drop>(
+fn served_by<R: Records, W: Wire + Drop, C: Clock>(
     alloc: Global,
     node: &mut Node<R>,
     wire: Option<W>,
+    clock: &C,
     turns: u64,
 ) -> Ended
     ensures { Serves (replica_of node.old) (replica_of node.new) result }
@@ -67,19 +48,21 @@ fn served_by<R: Records, W: Wire + Drop>(
     match wire {
         Some(wire) => {
             let mut wire = wire;
-            served(alloc, node, &mut wire, turns)
+            served(alloc, node, &mut wire, clock, turns)
         }
         None => Ended::NoWire,
     }
 }
 
 /// The run of a member over its record: the record is opened, so many turns are made over the wire, up to the first
-/// fault, and the record is given back. Without a wire it is opened alone.
-pub fn run_member<R: Records, W: Wire + Drop>(
+/// fault, and the record is given back. Without a wire it is opened alone. When the clock ticks is the clock's to say, and
+/// what a turn does isn't.
+pub fn run_member<R: Records, W: Wire + Drop, C: Clock>(
     alloc: Global,
     m: Membership,
     records: R,
     wire: Option<W>,
+    clock: &C,
     turns: u64,
 ) -> (Ended, R)
     requires members { R.members records ≡ m.members }
@@ -90,6 +73,6 @@ pub fn run_member<R: Records, W: Wire + Drop>(
         Ok(node) => node,
         Err((fault, records)) => return (Ended::Fault(fault), records),
     };
-    let ended = served_by(alloc, &mut node, wire, turns);
+    let ended = served_by(alloc, &mut node, wire, clock, turns);
     (ended, node.close())
 }

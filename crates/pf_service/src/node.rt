@@ -35,6 +35,8 @@ pub(crate) struct NodeWords<'m, 'a> {
     pub(crate) other_key: Option<&'a str>,
     /// Whether something below seals datagrams.
     pub(crate) is_unsealed: bool,
+    /// Whether an ask is answered once its command is learned, and not before.
+    pub(crate) answers_learned: bool,
     /// Where the members listen, in order.
     pub(crate) members: &'m [&'a str],
 }
@@ -80,6 +82,7 @@ impl<'m, 'a> NodeWords<'m, 'a> {
             key: matches.get_str("key"),
             other_key: matches.get_str("other-key"),
             is_unsealed: matches.get_flag("unsealed"),
+            answers_learned: matches.get_str("answer").is_some(),
             members: or_none(matches.get_strs("member")),
         })
     }
@@ -156,7 +159,13 @@ fn bind(
     ensures { OnErr result ((result ≡ Err Memory) ⊎ (result ≡ Err (Refused 82))) }
 {
     match UdpWire::bind(rt, alloc, words.members, words.me, WAIT_MS) {
-        Ok(wire) => Ok(wire),
+        Ok(wire) => {
+            let mut wire = wire;
+            if words.answers_learned {
+                wire.answer_learned();
+            }
+            Ok(wire)
+        }
         Err(BindFault::Memory) => Err(Outcome::Memory),
         Err(BindFault::NoSocket) => Err(Outcome::Refused(82)),
     }
@@ -183,6 +192,7 @@ fn sealed(
 
 /// The run of a member over a wire, or without one; what it sends to itself doesn't go over it.
 fn run_over<R: Records, W: Wire + Drop>(
+    rt: &HostRuntime,
     alloc: Global,
     words: NodeWords<'_, '_>,
     m: Membership,
@@ -197,11 +207,11 @@ fn run_over<R: Records, W: Wire + Drop>(
     match wire {
         Ok(wire) => {
             let wire = LoopbackWire::new(alloc, wire, words.me);
-            let (ended, records) = run_member(alloc, m, records, Some(wire), words.turns);
+            let (ended, records) = run_member(alloc, m, records, Some(wire), rt, words.turns);
             (ended_outcome(ended, Outcome::Memory), records)
         }
         Err(outcome) => {
-            let (ended, records) = run_member(alloc, m, records, None::<LoopbackWire<W>>, 0);
+            let (ended, records) = run_member(alloc, m, records, None::<LoopbackWire<W>>, rt, 0);
             (ended_outcome(ended, outcome), records)
         }
     }
@@ -222,8 +232,8 @@ fn run_node<R: Records>(
 {
     let wire = bind(rt, alloc, words);
     match keys {
-        Some(keys) => run_over(alloc, words, m, records, sealed(alloc, wire, keys)),
-        None => run_over(alloc, words, m, records, wire),
+        Some(keys) => run_over(rt, alloc, words, m, records, sealed(alloc, wire, keys)),
+        None => run_over(rt, alloc, words, m, records, wire),
     }
 }
 

@@ -3,6 +3,7 @@
 ghost use Rattle.std.specs.Prelude.{◌≡◌, IfOk, false};
 ghost use Rattle.clap.specs.declared.builder.command.Command.TheViews.{out-Command};
 
+use clap::builder::ValueParser;
 use clap::{Arg, ArgAction, Command, value_parser};
 use pf_command::pfctl_args;
 use std::alloc::{AllocError, Global};
@@ -23,6 +24,11 @@ const KEY: &str =
 
 const OTHER_KEY: &str = "A file with a second key that is heard too, while the cluster's key is changed";
 
+const ANSWER: &str = "When it answers an ask by UDP: learned, once the command is learned; else once it is taken in";
+
+/// The times of an answer.
+const ANSWERS: &[&str] = &["learned"];
+
 const UNSEALED: &str = "Something below seals datagrams, as IPsec or WireGuard do: nothing is said of a missing key";
 
 const MEMBER: &str =
@@ -33,6 +39,11 @@ const TO: &str = "The node's address: IPV4:PORT, [IPV6]:PORT or NAME:PORT";
 const MEMBERS: &str = "How many members the cluster has, 1 to 15";
 
 const NODE: &str = "The number of the node that is asked";
+
+const WAIT: &str = "How many seconds it waits for the answer, 0 to 3600; else one";
+
+/// The most seconds that it waits.
+const WAIT_MAX: u64 = 3_600;
 
 const NODE_BELOW: &str =
     "In the end it writes front F applied A: how many positions are learned without a gap, and applied. A refusal is
@@ -92,17 +103,20 @@ fn node_options<'a>(alloc: Global, node: Command<'a>) -> Result<Command<'a>, All
 {
     let turns = optional(alloc, "turns", TURNS).value_parser(value_parser!(u32));
     let other = optional(alloc, "other-key", OTHER_KEY).requires_arg("key")?;
+    let answer = optional(alloc, "answer", ANSWER).value_parser(ValueParser::Names(ANSWERS));
     let unsealed = Arg::new(alloc, "unsealed")
         .long("unsealed")
         .action(ArgAction::SetTrue)
         .help(UNSEALED);
     let command = with(node, turns)?;
+    let command = with(command, answer)?;
     let command = with(command, optional(alloc, "key", KEY))?;
     let command = with(command, other)?;
     with(command, unsealed)
 }
 
-/// `node --me N --cluster C --store FILE [--turns T] [--key FILE [--other-key FILE]] [--unsealed] ADDR..`
+/// `node --me N --cluster C --store FILE [--turns T] [--key FILE [--other-key FILE]] [--unsealed]
+/// [--answer learned] ADDR..`
 fn node_command<'a>(alloc: Global) -> Result<Command<'a>, AllocError>
     ensures local { IfOk result (λ c. (out-Command c).has_globals ≡ false) }
 {
@@ -120,7 +134,7 @@ fn node_command<'a>(alloc: Global) -> Result<Command<'a>, AllocError>
     with(command, addresses)
 }
 
-/// `ask --to ADDR --cluster C --members N --node N`, and pfctl's words.
+/// `ask --to ADDR --cluster C --members N --node N [--wait S]`, and pfctl's words.
 fn ask_command<'a>(alloc: Global) -> Result<Command<'a>, AllocError>
     ensures local { IfOk result (λ c. (out-Command c).has_globals ≡ false) }
 {
@@ -131,6 +145,8 @@ fn ask_command<'a>(alloc: Global) -> Result<Command<'a>, AllocError>
     let command = with(command, large(alloc, "cluster", CLUSTER))?;
     let command = with(command, small(alloc, "members", MEMBERS))?;
     let command = with(command, small(alloc, "node", NODE))?;
+    let wait = optional(alloc, "wait", WAIT).value_parser(ValueParser::Unsigned(0, WAIT_MAX));
+    let command = with(command, wait)?;
     pfctl_args(alloc, command)
 }
 

@@ -1,5 +1,5 @@
 -- Which numbers a cluster and its members may have.
-use Rattle.std.specs.Prelude.{ℕ, ◌/◌, ◌-◌, ◌^◌, ◌==◌, Bool, false, ◌&&◌, nat_le, nat_lt, Option, Some, None}
+use Rattle.std.specs.Prelude.{ℕ, ◌*◌, max, ◌/◌, ◌-◌, ◌^◌, ◌==◌, Bool, false, ◌&&◌, nat_le, nat_lt, Option, Some, None}
 use Rattle.pf_addr.specs.declared.addr.Addr.{Addr}
 use Rattle.pf_addr.specs.declared.addr.Addr.TheVariants.{V4, V6}
 use Rattle.pf_net.specs.declared.address.Address.{Address}
@@ -16,6 +16,11 @@ has_place me n = is_count n && nat_lt me n
 abbrev pub turns_or_all : Option ℕ → ℕ
 turns_or_all (Some turns) = turns
 turns_or_all None = 2 ^ 64 - 1
+
+-- five waits a second, one at least; without a number five
+abbrev pub waits_of : Option ℕ → ℕ
+waits_of (Some seconds) = max (5 * seconds) 1
+waits_of None = 5
 
 -- an address at which a machine hears itself alone: 127.0.0.0/8 (RFC 1122, 3.2.1.3), ::1 (RFC 4291, 2.5.3)
 abbrev pub is_loopback_ip : Addr → Bool
