@@ -166,6 +166,9 @@ class Member:
         self.socket.bind(cluster.places[me])
         self.round, self.position, self.sent_again = 1, 0, 0
 
+    def close(self):
+        self.socket.close()
+
     def send(self, kind, body):
         for to in range(self.members):
             if to != self.me:
