@@ -14,6 +14,7 @@ use px_transport::Wire;
 use std::alloc::{AllocError, AllocFailed, Global};
 use std::io::ErrorKind;
 use std::net::{IpAddr, Ipv4Addr, Net, SocketAddr, UdpSocket};
+use std::os::fd::{AsRawFd, RawFd};
 use std::time::{Clock, Duration, Instant};
 use thiserror::Error;
 
@@ -168,6 +169,11 @@ impl<R: Net + Clock + Copy> UdpWire<R> {
 }
 
 impl<C> UdpWire<C> {
+    /// The socket's descriptor, for whoever waits for several.
+    pub fn raw_fd(&self) -> RawFd {
+        self.socket.as_raw_fd()
+    }
+
     /// From now on the answer that a command was taken in is sent once that is learned, and not before; 64 such answers
     /// are kept at most, and of more the first are lost.
     pub fn answer_learned(&mut self)

@@ -6,7 +6,7 @@ use Rattle.px_records.specs.declared.records.Records.{Ghosts}
 use Rattle.px_replica.specs.declared.fault.NodeFault.{NodeFault}
 use Rattle.px_replica.specs.declared.state.Replica.{Replica}
 use Rattle.px_transport.specs.Wires.{GrowsBy, Gives}
-use Rattle.pf_turn.specs.Turns.{Acts, Stand, Turned, Ticked, Took, TookAll, Same, Turns, Ends, Served, handed_over}
+use Rattle.pf_turn.specs.Turns.{Acts, Stand, Turned, Ticked, Took, TookOne, TookAll, TookThenTicked, Same, Turns, Ends, Served, handed_over}
 
 pub same_then : {R : Type 0} {G : Ghosts R} (x y z : Stand G) → Same x y → Same y z → Same x z
 same_then x y z s t = record {
@@ -74,10 +74,7 @@ turned_by_clock x y a t = record { came = None; gave = t.given; out = t.out; act
 pub turned_by_datagram : {R : Type 0} {G : Ghosts R} (x y : Stand G) (a : Option NodeFault) → Took x y a → Turned x y a
 turned_by_datagram x y a t = record { came = Some t.bytes; gave = t.gave; out = t.out; acts = t.acts; sent = t.sent }
 
--- one datagram more, or none
-pub took_on : {R : Type 0} {G : Ghosts R} (n : ℕ) (x y z : Stand G) → TookAll n x y → Took y z None → TookAll (suc n) x z
-took_on n x y z a t = (y, a, t)
-
+-- where none had come the same were taken
 pub took_same : {R : Type 0} {G : Ghosts R} (n : ℕ) (x y z : Stand G) → TookAll n x y → Same y z → TookAll n x z
 took_same zero x y z a s = same_then x y z a s
 took_same {R} {G} (suc n) x y z (w, a, t) s = (
@@ -91,6 +88,28 @@ took_same {R} {G} (suc n) x y z (w, a, t) s = (
     sent = subst (λ (u : Option (List (ℕ × Bytes))). GrowsBy w.handed (handed_over t.out) u) (sym s.handed) t.sent;
   },
 )
+
+-- one datagram more, or none
+pub took_more : {R : Type 0} {G : Ghosts R} (n m : ℕ) (x y z : Stand G) (had : Bool) → had ≡ true → m ≡ suc n →
+    TookAll n x y → TookOne had y z → TookAll m x z
+took_more n m x y z true e is a t = subst (λ (k : ℕ). TookAll k x z) (sym is) (y, a, t)
+took_more n m x y z false e is a t = absurd (cc)
+
+pub took_no_more : {R : Type 0} {G : Ghosts R} (n : ℕ) (x y z : Stand G) (had : Bool) → had ≡ false →
+    TookAll n x y → TookOne had y z → TookAll n x z
+took_no_more n x y z false e a s = took_same n x y z a s
+took_no_more n x y z true e a s = absurd (cc)
+
+-- and then the clock ticked if that was due
+pub then_still : {R : Type 0} {G : Ghosts R} (n : ℕ) (x y : Stand G) (is_due : Bool) → is_due ≡ false →
+    TookAll n x y → TookThenTicked n is_due x y
+then_still n x y false e a = (y, a, same_all y)
+then_still n x y true e a = absurd (cc)
+
+pub then_ticked : {R : Type 0} {G : Ghosts R} (n : ℕ) (x y z : Stand G) (is_due : Bool) → is_due ≡ true →
+    TookAll n x y → Ticked y z None → TookThenTicked n is_due x z
+then_ticked n x y z true e a t = (y, a, t)
+then_ticked n x y z false e a t = absurd (cc)
 
 -- what came, where something did
 pub some_came : (bytes : List ℕ) (len : Option ℕ) (r : Bool) → is_some len ≡ not r → r ≡ false →

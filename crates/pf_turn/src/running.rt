@@ -61,7 +61,7 @@ fn release<R: Records, W: Wire>(node: &Node<R>, wire: &mut W, from: u32)
 
 /// What a round came to.
 #[derive(Clone, Copy, Debug, PartialEq, Eq)]
-pub struct Round {
+pub struct Progress {
     /// For how many turns it counts, 1 at least: each datagram is one, a tick, and a wait.
     pub turns: u32,
     /// How many milliseconds may be waited for a datagram before the next round, 0 to 100.
@@ -75,20 +75,20 @@ fn tick_if<R: Records, W: Wire>(
     room: &mut Room,
     beat: Beat,
     taken: u32,
-) -> Result<Round, NodeFault>
+) -> Result<Progress, NodeFault>
     ensures served { Served (standing W.Wire node.old wire.old) (standing W.Wire node.new wire.new)
         (fault_of result) }
     ensures grows { applied_of node.old ≤ applied_of node.new }
 {
     match beat {
         Beat::Tick => match tick_now(node, wire, room) {
-            Ok(()) => Ok(Round {
+            Ok(()) => Ok(Progress {
                 turns: taken.saturating_add(1),
                 wait: 0,
             }),
             Err(fault) => Err(fault),
         },
-        Beat::Wait(milliseconds) => Ok(Round {
+        Beat::Wait(milliseconds) => Ok(Progress {
             turns: taken.max(1),
             wait: if taken == 0 { milliseconds } else { 0 },
         }),
@@ -109,7 +109,7 @@ pub fn round<R: Records, W: Wire>(
     room: &mut Room,
     pace: &mut Pace,
     now: u64,
-) -> Result<Round, NodeFault>
+) -> Result<Progress, NodeFault>
     ensures served { Served (standing W.Wire node.old wire.old) (standing W.Wire node.new wire.new)
         (fault_of result) }
     ensures grows { applied_of node.old ≤ applied_of node.new }

@@ -80,8 +80,11 @@ pub(crate) fn drain<R: Records, W: Wire>(
 {
     for taken in 0..most {
         match take_one(node, wire, room) {
-            Ok(true) => {}
-            Ok(false) => return Ok(taken),
+            Ok(had) => {
+                if !had {
+                    return Ok(taken);
+                }
+            }
             Err(fault) => return Err(fault),
         }
     }

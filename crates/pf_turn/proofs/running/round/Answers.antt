@@ -1,0 +1,12 @@
+-- what came, what the wire is told, and the clock
+use Rattle.std.proofs.Common.{◌∙◌, refl}
+use Rattle.pf_turn.proofs.Chains.{served_none, served_then}
+use Rattle.pf_turn.proofs.running.round.Goals as goal
+
+pub returns-clause-served : goal.returns-clause-served
+returns-clause-served g c =
+    served_then _ _ _ _ c.in-Ok.ensures.served (served_then _ _ _ _ (served_none _ _ (record {
+      replica = refl;
+      given = c.defer_asks.ensures.given ∙ c.release.ensures.given;
+      handed = c.defer_asks.ensures.quiet ∙ c.release.ensures.quiet;
+    })) c.tick_if.ensures.served)
