@@ -67,13 +67,14 @@ def spoof(raw, source, target, data):
 
 
 class Cluster:
-    """Nodes of one cluster, each a process of its own, in a folder that is taken away in the end."""
+    """Nodes of one cluster, each a process of its own, in a folder that is taken away in the end: one in memory, if there
+    is one, so that what a disk takes isn't measured."""
 
     def __init__(self, pfx, port, members=3, nodes=None):
         self.pfx = os.path.abspath(pfx)
         self.places = [("127.0.0.1", port + n) for n in range(members)]
         self.addresses = ["%s:%d" % place for place in self.places]
-        self.folder = tempfile.mkdtemp()
+        self.folder = tempfile.mkdtemp(dir="/dev/shm" if os.path.isdir("/dev/shm") else None)
         self.nodes = list(range(members)) if nodes is None else nodes
         self.running = {}
 
@@ -164,7 +165,7 @@ class Member:
         self.members = len(cluster.places)
         self.socket = socket.socket(socket.AF_INET, socket.SOCK_DGRAM)
         self.socket.bind(cluster.places[me])
-        self.round, self.position, self.sent_again = 1, 0, 0
+        self.round, self.position, self.sent_again = 0, 0, 0
 
     def close(self):
         self.socket.close()
@@ -190,42 +191,45 @@ class Member:
     def ballot(self):
         return number(256 * self.round + self.me, 8)
 
-    def gather(self, kind, body, answer, own):
-        """Sends until a majority has answered, this member counted; False where a higher round is about."""
-        heard = {self.me}
-        while True:
-            self.send(kind, body)
-            if own:
-                self.send(*own)
-            until = time.time() + 0.1
-            while (came := self.hear(until)) is not None:
-                sender, what, fields = came
-                if what == NACK and fields[:8] == self.ballot():
-                    self.round = int.from_bytes(fields[12:20], "big") // 256 + 1
-                    return False
-                if what == answer and fields[:12] == body[:12]:
-                    heard.add(sender)
-                    if len(heard) > self.members // 2:
-                        return True
-            self.sent_again += 1
+    def gather(self, answer, same, seconds, heard):
+        """Waits for a majority's answers, this member's counted; False where a higher round is about, or time passes."""
+        until = time.time() + seconds
+        while (came := self.hear(until)) is not None:
+            sender, what, fields = came
+            if what == NACK and fields[:8] == self.ballot() and fields[12:20] > self.ballot():
+                self.round = int.from_bytes(fields[12:20], "big") // 256
+                return False
+            if what == answer and fields[:12] == same:
+                heard.add(sender)
+                if len(heard) > self.members // 2:
+                    return True
+        return False
 
     def lead(self):
-        """Asks for all positions from the first that it hasn't proposed on."""
+        """Asks for all positions from the first that it hasn't proposed on, in one round after the other."""
         while True:
-            body = self.ballot() + number(self.position, 4)
-            if self.gather(PREPARE_ALL, body, PROMISE_ALL, None):
+            self.round += 1
+            same = self.ballot() + number(self.position, 4)
+            self.send(PREPARE_ALL, same)
+            if self.gather(PROMISE_ALL, same, 1, {self.me}):
                 return
 
     def commit(self):
         """Has its next entry accepted by a majority."""
         p = self.position
         entry = add_entry(self.me, p, b"t", "10.0.%d.%d" % (p // 256 % 16, p % 256))
+        heard, round_of = {self.me}, self.round
         while True:
-            body = self.ballot() + number(p, 4) + sized(entry)
-            if self.gather(ACCEPT, body, VOTE, (VOTE, body)):
+            same = self.ballot() + number(p, 4)
+            self.send(ACCEPT, same + sized(entry))
+            self.send(VOTE, same + sized(entry))
+            if self.gather(VOTE, same, 0.2, heard):
                 self.position += 1
                 return
-            self.lead()
+            self.sent_again += 1
+            if self.round != round_of:
+                self.lead()
+                heard, round_of = {self.me}, self.round
 
     def commits(self, seconds):
         """As many as there are in this time: how many a second."""

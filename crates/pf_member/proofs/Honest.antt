@@ -56,9 +56,9 @@ pub runs_lived : {R : Type 0} (G : Ghosts R) → TurnsAreLived G → RunsAreLive
 runs_lived {R} G law m given back ended honest life =
     let s = life.serves in
     let at_end : G.is_honest (records_of s.to.replica) =
-        subst (λ (z : Replica R G). G.is_honest (records_of z)) (sym s.ends) (subst (λ (r : R). G.is_honest r) life.closed honest) in
+    subst (λ (z : Replica R G). G.is_honest (records_of z)) (sym s.ends) (subst (λ (r : R). G.is_honest r) life.closed honest) in
     let at_start : G.is_honest (records_of life.begun) =
-        subst (λ (z : Replica R G). G.is_honest (records_of z)) s.begins (served_before s.from s.to s.answered s.served at_end) in
+    subst (λ (z : Replica R G). G.is_honest (records_of z)) s.begins (served_before s.from s.to s.answered s.served at_end) in
     let works : has_failed s.from.replica ≡ false = ap (λ (z : Replica R G). has_failed z) s.begins ∙ life.works in
     let living = law s.from s.to s.answered at_end works s.served in
     let member : membership_of s.from.replica ≡ m = ap (λ (z : Replica R G). membership_of z) s.begins ∙ life.membership in

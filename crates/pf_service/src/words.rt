@@ -22,14 +22,17 @@ until it is ended";
 const KEY: &str =
     "A file with the cluster's key, 64 hexadecimal digits, which its owner alone may read; datagrams then carry its tag";
 
-const OTHER_KEY: &str = "A file with a second key that is heard too, while the cluster's key is changed";
+const OTHER_KEY: &str =
+    "A file with a second key that is heard too, while the cluster's key is changed";
 
-const ANSWER: &str = "When it answers an ask by UDP: learned, once the command is learned; else once it is taken in";
+const ANSWER: &str =
+    "When it answers an ask by UDP: learned, once the command is learned; else once it is taken in";
 
 /// The times of an answer.
 const ANSWERS: &[&str] = &["learned"];
 
-const UNSEALED: &str = "Something below seals datagrams, as IPsec or WireGuard do: nothing is said of a missing key";
+const UNSEALED: &str =
+    "Something below seals datagrams, as IPsec or WireGuard do: nothing is said of a missing key";
 
 const MEMBER: &str =
     "The members' addresses in their order, 1 to 15 of them: IPV4:PORT, [IPV6]:PORT or NAME:PORT; a node binds its own";
@@ -50,7 +53,8 @@ const NODE_BELOW: &str =
 refused CODE: 40 words, 83 no key in its file, or others may read it, 70 the store failed, 71 it is of another cluster
 or member, 72 a bad row, 73 another format, 82 its address is taken. With a key asks by UDP aren't heard.";
 
-const KEY_BELOW: &str = "It writes 64 hexadecimal digits, as pfx node --key takes them: (umask 077; pfx key > FILE)";
+const KEY_BELOW: &str =
+    "It writes 64 hexadecimal digits, as pfx node --key takes them: (umask 077; pfx key > FILE)";
 
 const ASK_BELOW: &str =
     "It writes asked NODE.NUMBER, no answer, or refused CODE; a node refuses with 60 (64 wait) or 62 (no number left).
