@@ -24,8 +24,8 @@ const ASKER: u8 = 255;
 /// By what an answer is known.
 const TOKEN: u64 = 1;
 
-/// More than an answer's bytes, so that a longer datagram is never taken for one.
-const ANSWER_ROOM: usize = 64;
+/// More than the bytes of an answer and of a tag behind it, so that a longer datagram is never taken for one.
+const ANSWER_ROOM: usize = 96;
 
 /// The bytes of the command as it is asked.
 fn asked_bytes(alloc: Global, command: &Command) -> Result<Vec<u8>, NodeFault>

@@ -5,7 +5,7 @@ ghost use Rattle.clap.specs.Words.{found_of, rows_of};
 ghost use Rattle.pf_entry.specs.Owned.{command_value};
 ghost use Rattle.pf_command.specs.Asked.{asked, given_in, Change};
 ghost use Rattle.pf_service.specs.declared.outcome.Outcome.TheVariants.{Memory, Refused, Unread};
-ghost use Rattle.pf_service.specs.inner.Places.{has_place};
+ghost use Rattle.pf_service.specs.inner.Places.{has_place, waits_of};
 ghost use Rattle.pf_service.specs.declared.ask.TheConstants.{ASKER};
 
 use crate::outcome::{Outcome, answer_outcome, fault_outcome};
@@ -21,7 +21,7 @@ use std::io::Read;
 /// The number of whoever is no member.
 const ASKER: u8 = 255;
 
-/// How long each of five waits for an answer is, in milliseconds.
+/// How long each wait for an answer is, in milliseconds.
 const WAIT_MS: u32 = 200;
 
 /// What the own words of `ask` say.
@@ -34,6 +34,18 @@ pub(crate) struct AskWords<'a> {
     pub(crate) members: u8,
     /// The number of the node that is asked.
     pub(crate) node: u8,
+    /// How many waits of a fifth of a second there are for an answer.
+    pub(crate) waits: u32,
+}
+
+/// How many waits so many seconds are, one at least; without a number there are five.
+fn waits_of(seconds: Option<u16>) -> u32
+    ensures { result ≡ waits_of seconds }
+{
+    match seconds {
+        Some(seconds) => (5 * u32::from(seconds)).max(1),
+        None => 5,
+    }
 }
 
 impl<'a> AskWords<'a> {
@@ -56,6 +68,7 @@ impl<'a> AskWords<'a> {
             cluster,
             members,
             node,
+            waits: waits_of(matches.get_one::<u16>("wait")),
         })
     }
 }
@@ -137,7 +150,7 @@ fn asked_over<W: Wire>(
     requires asker { m.now.me ≡ ASKER }
     requires member { words.node < m.now.members }
 {
-    match ask_once(alloc, m, words.node, command, wire) {
+    match ask_once(alloc, m, words.node, command, words.waits, wire) {
         Ok(answer) => answer_outcome(words.node, answer),
         Err(fault) => fault_outcome(fault),
     }

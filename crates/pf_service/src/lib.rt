@@ -1,13 +1,15 @@
-//! The words `node` and `ask` of the program: a node over UDP, and a command asked of one.
+//! The words `node`, `ask` and `key` of the program: a node over UDP, a command asked of one, and a cluster's key.
 //!
 //! # Organization
 //!
-//! - [`run_net`]: both words, over any reader and writer.
+//! - [`run_net`]: the words, over any reader and writer.
 //!
-//! Within: `words` has the words as `clap` reads them, `node` and `ask` what each comes to, `outcome` what is written.
+//! Within: `words` has the words as `clap` reads them, `node`, `ask` and `key` what each comes to, `outcome` what is
+//! written.
 #![tactic(auto)]
 
 mod ask;
+mod key;
 mod node;
 mod outcome;
 mod running;

@@ -3,19 +3,19 @@
 ghost use Rattle.std.specs.Prelude.{◌≡◌, ◌<◌, ◌⊎◌, ◌↔◌, Err, false, length, IfSome, OnErr, IsSome, IsTrue};
 ghost use Rattle.std.specs.Prelude.{[], map, option_map, unwrap_or};
 ghost use Rattle.pf_service.specs.declared.outcome.Outcome.TheVariants.{Memory, Refused};
-ghost use Rattle.pf_service.specs.Outcomes.{adopt_outcome};
-ghost use Rattle.pf_service.specs.inner.Places.{is_count, has_place};
+ghost use Rattle.pf_service.specs.Outcomes.{adopt_outcome, ComesTo};
+ghost use Rattle.pf_service.specs.inner.Places.{is_count, has_place, turns_or_all};
 
-use crate::outcome::{Outcome, fault_outcome};
+use crate::key::{Keys, keys_for, warn_unsealed};
+use crate::outcome::{Outcome, ended_outcome};
 use clap::ArgMatches;
+use pf_member::{Membership, run_member};
 use pf_net::{BindFault, UdpWire};
-use pf_node::{Membership, Node};
-use pf_turn::{Room, turn};
 use px_records::Records;
-use px_replica::NodeFault;
+use px_seal::{MembersWire, SealedWire};
 use px_sql::{AdoptFault, Identity, SqlRecords};
-use px_transport::Wire;
-use sqlite::{Alter, Connection, Error, ErrorCode, File, FileStore};
+use px_transport::{LoopbackWire, Wire};
+use sqlite::{Connection, Error, ErrorCode, File, FileStore};
 use std::alloc::Global;
 
 /// How long a turn waits for a datagram, in milliseconds.
@@ -29,7 +29,14 @@ pub(crate) struct NodeWords<'m, 'a> {
     pub(crate) cluster: u32,
     /// The file of its store.
     pub(crate) store: &'a str,
-    pub(crate) turns: u32,
+    pub(crate) turns: u64,
+    /// The file of the cluster's key, if datagrams carry its tag, and that of another that is heard too.
+    pub(crate) key: Option<&'a str>,
+    pub(crate) other_key: Option<&'a str>,
+    /// Whether something below seals datagrams.
+    pub(crate) is_unsealed: bool,
+    /// Whether an ask is answered once its command is learned, and not before.
+    pub(crate) answers_learned: bool,
     /// Where the members listen, in order.
     pub(crate) members: &'m [&'a str],
 }
@@ -45,6 +52,16 @@ fn or_none<'m, 'a>(words: Option<&'m [&'a str]>) -> &'m [&'a str]
     }
 }
 
+/// So many turns, or as many as there can be.
+fn turns_or_all(turns: Option<u32>) -> u64
+    ensures { result ≡ turns_or_all turns }
+{
+    match turns {
+        Some(turns) => u64::from(turns),
+        None => u64::MAX,
+    }
+}
+
 impl<'m, 'a> NodeWords<'m, 'a> {
     /// What the matches of the words say. `clap` has refused numbers out of range and words that are missing.
     pub(crate) fn of(matches: &'m ArgMatches<'a>) -> Option<NodeWords<'m, 'a>> {
@@ -57,14 +74,15 @@ impl<'m, 'a> NodeWords<'m, 'a> {
         let Some(store) = matches.get_str("store") else {
             return None;
         };
-        let Some(turns) = matches.get_one::<u32>("turns") else {
-            return None;
-        };
         Some(NodeWords {
             me,
             cluster,
             store,
-            turns,
+            turns: turns_or_all(matches.get_one::<u32>("turns")),
+            key: matches.get_str("key"),
+            other_key: matches.get_str("other-key"),
+            is_unsealed: matches.get_flag("unsealed"),
+            answers_learned: matches.get_str("answer").is_some(),
             members: or_none(matches.get_strs("member")),
         })
     }
@@ -141,67 +159,85 @@ fn bind(
     ensures { OnErr result ((result ≡ Err Memory) ⊎ (result ≡ Err (Refused 82))) }
 {
     match UdpWire::bind(rt, alloc, words.members, words.me, WAIT_MS) {
-        Ok(wire) => Ok(wire),
+        Ok(wire) => {
+            let mut wire = wire;
+            if words.answers_learned {
+                wire.answer_learned();
+            }
+            Ok(wire)
+        }
         Err(BindFault::Memory) => Err(Outcome::Memory),
         Err(BindFault::NoSocket) => Err(Outcome::Refused(82)),
     }
 }
 
-/// So many turns; the first fault ends them.
-fn serve<R: Records, W: Wire>(
-    node: &mut Node<R>,
-    wire: &mut W,
-    room: &mut Room,
-    turns: u32,
-) -> Result<(), NodeFault> {
-    for _turn in 0..turns {
-        turn(node, wire, room)?;
-    }
-    Ok(())
-}
-
-/// What the turns of a node come to.
-fn served<R: Records, W: Wire>(
+/// The wire whose datagrams carry the tag of a key, over which members alone are heard.
+fn sealed(
     alloc: Global,
-    node: &mut Node<R>,
-    wire: &mut W,
-    turns: u32,
-) -> Outcome {
-    let Ok(mut room) = Room::new(alloc) else {
-        return Outcome::Memory;
+    wire: Result<UdpWire<HostRuntime>, Outcome>,
+    keys: Keys,
+) -> Result<MembersWire<SealedWire<UdpWire<HostRuntime>>>, Outcome>
+    requires { OnErr wire ((wire ≡ Err Memory) ⊎ (wire ≡ Err (Refused 82))) }
+    ensures { OnErr result ((result ≡ Err Memory) ⊎ (result ≡ Err (Refused 82))) }
+{
+    let wire = match wire {
+        Ok(wire) => wire,
+        Err(outcome) => return Err(outcome),
     };
-    match serve(node, wire, &mut room, turns) {
-        Ok(()) => Outcome::Front {
-            front: node.front(),
-            applied: node.applied(),
-        },
-        Err(fault) => fault_outcome(fault),
+    match SealedWire::new(alloc, wire, &keys.key, keys.other.as_ref()) {
+        Ok(wire) => Ok(MembersWire::new(wire)),
+        Err(_) => Err(Outcome::Memory),
     }
 }
 
-/// What a node over this record comes to, and its connection, to be closed.
-fn node_over<S: Alter>(
+/// The run of a member over a wire, or without one; what it sends to itself doesn't go over it.
+fn run_over<R: Records, W: Wire + Drop>(
     rt: &HostRuntime,
     alloc: Global,
     words: NodeWords<'_, '_>,
     m: Membership,
-    records: SqlRecords<S>,
-) -> (Outcome, Connection<S>)
-    requires members { ⟦<SqlRecords<S> as Records>⟧.members records ≡ m.members }
+    records: R,
+    wire: Result<W, Outcome>,
+) -> (Outcome, R)
+    requires members { R.members records ≡ m.members }
     requires here { m.me < m.members }
+    requires refused { OnErr wire ((wire ≡ Err Memory) ⊎ (wire ≡ Err (Refused 82))) }
+    ensures { ComesTo R.Records m records result.0 result.1 }
 {
-    let mut node = match Node::open(alloc, m, records) {
-        Ok(node) => node,
-        Err((fault, records)) => return (fault_outcome(fault), records.release()),
-    };
-    let outcome = match bind(rt, alloc, words) {
-        Ok(mut wire) => served(alloc, &mut node, &mut wire, words.turns),
-        Err(outcome) => outcome,
-    };
-    (outcome, node.close().release())
+    match wire {
+        Ok(wire) => {
+            let wire = LoopbackWire::new(alloc, wire, words.me);
+            let (ended, records) = run_member(alloc, m, records, Some(wire), rt, words.turns);
+            (ended_outcome(ended, Outcome::Memory), records)
+        }
+        Err(outcome) => {
+            let (ended, records) = run_member(alloc, m, records, None::<LoopbackWire<W>>, rt, 0);
+            (ended_outcome(ended, outcome), records)
+        }
+    }
 }
 
-/// What `node` comes to: 40 of its numbers, the store's refusals, 82, and the first refusal of a turn, in this order.
+/// The run of a member over its record and a socket.
+fn run_node<R: Records>(
+    rt: &HostRuntime,
+    alloc: Global,
+    words: NodeWords<'_, '_>,
+    m: Membership,
+    records: R,
+    keys: Option<Keys>,
+) -> (Outcome, R)
+    requires members { R.members records ≡ m.members }
+    requires here { m.me < m.members }
+    ensures { ComesTo R.Records m records result.0 result.1 }
+{
+    let wire = bind(rt, alloc, words);
+    match keys {
+        Some(keys) => run_over(rt, alloc, words, m, records, sealed(alloc, wire, keys)),
+        None => run_over(rt, alloc, words, m, records, wire),
+    }
+}
+
+/// What `node` comes to: 40 of its numbers, 83, the store's refusals, 82, and the first refusal of a turn, in this order.
 /// The store is closed, whatever came of it; what a node has committed stands also where closing fails.
 pub(crate) fn node_outcome(rt: &HostRuntime, alloc: Global, words: NodeWords<'_, '_>) -> Outcome
     ensures { has_place words.entry.me (length words.entry.members.now) ≡ false → result ≡ Refused 40 }
@@ -209,6 +245,11 @@ pub(crate) fn node_outcome(rt: &HostRuntime, alloc: Global, words: NodeWords<'_,
     let Some(m) = membership(words) else {
         return Outcome::Refused(40);
     };
+    let keys = match keys_for(rt, alloc, words) {
+        Ok(keys) => keys,
+        Err(outcome) => return outcome,
+    };
+    warn_unsealed(rt, words);
     let conn = match open_file(rt, words.store) {
         Ok(conn) => conn,
         Err(outcome) => return outcome,
@@ -217,7 +258,7 @@ pub(crate) fn node_outcome(rt: &HostRuntime, alloc: Global, words: NodeWords<'_,
         Ok(records) => records,
         Err((fault, _)) => return adopt_outcome(fault),
     };
-    let (outcome, conn) = node_over(rt, alloc, words, m, records);
-    let _closed = conn.close();
+    let (outcome, records) = run_node(rt, alloc, words, m, records, keys);
+    let _closed = records.release().close();
     outcome
 }

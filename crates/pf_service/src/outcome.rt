@@ -1,11 +1,13 @@
-//! What a run of `node` or `ask` comes to.
+//! What a run of `node`, `ask` or `key` comes to.
 
 ghost use Rattle.std.specs.Prelude.{◌≡◌, IfOk, string_bytes};
 ghost use Rattle.pf_service.specs.declared.outcome.Outcome.TheVariants.{Front, Asked};
-ghost use Rattle.pf_service.specs.Outcomes.{line_of, status_of, Wrote, outcome_of, answer_outcome};
+ghost use Rattle.pf_service.specs.Outcomes.{line_of, status_of, Wrote, outcome_of, answer_outcome, ended_outcome};
 
+use pf_member::Ended;
 use pf_net::AskAnswer;
 use pf_tool::{Status, out_of_memory};
+use px_key::key_text;
 use px_replica::NodeFault;
 use std::alloc::{AllocError, Global};
 use std::io::Write;
@@ -17,13 +19,15 @@ pub(crate) enum Outcome {
     Front { front: u32, applied: u32 },
     /// The node took the command in, as this request of its own.
     Asked { node: u8, number: u64 },
+    /// A new key.
+    Key([u8; 32]),
     /// The number of the refusal.
     Refused(u8),
     /// No answer came.
     NoAnswer,
     /// Memory ran out.
     Memory,
-    /// The input couldn't be read.
+    /// The input, or the system's random source, couldn't be read.
     Unread,
 }
 
@@ -53,13 +57,14 @@ fn asked_line(alloc: Global, node: u8, number: u64) -> Result<String, AllocError
     Ok(text)
 }
 
-/// The line of an outcome; none is written for an input that couldn't be read.
+/// The line of an outcome; none is written where something couldn't be read.
 fn line_of(alloc: Global, outcome: Outcome) -> Result<String, AllocError>
     ensures { IfOk result (λ text. string_bytes text ≡ line_of outcome) }
 {
     match outcome {
         Outcome::Front { front, applied } => front_line(alloc, front, applied),
         Outcome::Asked { node, number } => asked_line(alloc, node, number),
+        Outcome::Key(key) => key_text(alloc, &key),
         Outcome::Refused(code) => format!(in alloc; "refused {code}\n"),
         Outcome::NoAnswer => format!(in alloc; "no answer\n"),
         Outcome::Memory => format!(in alloc; "memory\n"),
@@ -74,6 +79,7 @@ fn status_of(outcome: Outcome) -> Status
     match outcome {
         Outcome::Front { .. } => Status::Done,
         Outcome::Asked { .. } => Status::Done,
+        Outcome::Key(_) => Status::Done,
         Outcome::Refused(_) => Status::Refused,
         Outcome::NoAnswer => Status::Refused,
         Outcome::Memory => Status::Memory,
@@ -107,6 +113,17 @@ pub(crate) fn fault_outcome(fault: NodeFault) -> Outcome
         NodeFault::Store => Outcome::Refused(70),
         NodeFault::BadStore => Outcome::Refused(72),
         NodeFault::Failed => Outcome::Refused(80),
+    }
+}
+
+/// What a member's run comes to; `without` where there was no wire.
+pub(crate) fn ended_outcome(ended: Ended, without: Outcome) -> Outcome
+    ensures { result ≡ ended_outcome without ended }
+{
+    match ended {
+        Ended::Front { front, applied } => Outcome::Front { front, applied },
+        Ended::Fault(fault) => fault_outcome(fault),
+        Ended::NoWire => without,
     }
 }
 

@@ -1,10 +1,11 @@
-//! A run of `node` or `ask`.
+//! A run of `node`, `ask` or `key`.
 
 ghost use Rattle.std.specs.Prelude.{◌≡◌, Option};
 ghost use Rattle.pf_service.specs.declared.outcome.Outcome.{Outcome};
 ghost use Rattle.pf_service.specs.Outcomes.{Ran};
 
 use crate::ask::{AskWords, ask_outcome};
+use crate::key::key_outcome;
 use crate::node::{NodeWords, node_outcome};
 use crate::outcome::{Outcome, write_outcome};
 use crate::words::command;
@@ -14,7 +15,7 @@ use std::alloc::Global;
 use std::convert::AsStr;
 use std::io::{Read, Write};
 
-/// What the matches come to; none where neither word is named.
+/// What the matches come to; none where no word is named.
 fn outcome_of<R: Read>(
     rt: &HostRuntime,
     alloc: Global,
@@ -27,6 +28,9 @@ fn outcome_of<R: Read>(
             None => None,
         };
     }
+    if matches.subcommand_matches("key").is_some() {
+        return Some(key_outcome(rt));
+    }
     let Some(inner) = matches.subcommand_matches("ask") else {
         return None;
     };
@@ -36,10 +40,11 @@ fn outcome_of<R: Read>(
     }
 }
 
-/// What the words `node` and `ask` ask for, the program's name first, with the input and the output that are lent.
+/// What the words `node`, `ask` and `key` ask for, the program's name first, with the input and the output that are lent.
 ///
 /// `node` makes turns of a node over UDP, and writes `front F applied A`, or `refused CODE`. `ask` asks a node to take
-/// a command of pfctl's words in, and writes `asked N.NUMBER`, `refused CODE` or `no answer`. Other words are refused.
+/// a command of pfctl's words in, and writes `asked N.NUMBER`, `refused CODE` or `no answer`. `key` writes a new key's 64
+/// digits. Other words are refused. What is said to people beside that goes to standard error.
 pub fn run_net<S: AsStr, R: Read, W: Write>(
     rt: &HostRuntime,
     alloc: Global,

@@ -1,8 +1,9 @@
-//! The words `node` and `ask`, as `clap` reads them.
+//! The words `node`, `ask` and `key`, as `clap` reads them.
 
 ghost use Rattle.std.specs.Prelude.{◌≡◌, IfOk, false};
 ghost use Rattle.clap.specs.declared.builder.command.Command.TheViews.{out-Command};
 
+use clap::builder::ValueParser;
 use clap::{Arg, ArgAction, Command, value_parser};
 use pf_command::pfctl_args;
 use std::alloc::{AllocError, Global};
@@ -15,35 +16,65 @@ const CLUSTER: &str = "The cluster's number, 0 to 4294967295";
 const STORE: &str = "The file of its record, which is made where there is none";
 
 const TURNS: &str =
-    "How many turns; in each it takes one datagram, or a wait of 100 ms ends and it ticks";
+    "How many turns; in each it takes one datagram, or a wait of 100 ms ends and it ticks. Without it the node runs
+until it is ended";
+
+const KEY: &str =
+    "A file with the cluster's key, 64 hexadecimal digits, which its owner alone may read; datagrams then carry its tag";
+
+const OTHER_KEY: &str =
+    "A file with a second key that is heard too, while the cluster's key is changed";
+
+const ANSWER: &str =
+    "When it answers an ask by UDP: learned, once the command is learned; else once it is taken in";
+
+/// The times of an answer.
+const ANSWERS: &[&str] = &["learned"];
+
+const UNSEALED: &str =
+    "Something below seals datagrams, as IPsec or WireGuard do: nothing is said of a missing key";
 
 const MEMBER: &str =
-    "The members' addresses in their order, IPV4:PORT, 1 to 15 of them; a node binds its own";
+    "The members' addresses in their order, 1 to 15 of them: IPV4:PORT, [IPV6]:PORT or NAME:PORT; a node binds its own";
 
-const TO: &str = "The node's address, IPV4:PORT";
+const TO: &str = "The node's address: IPV4:PORT, [IPV6]:PORT or NAME:PORT";
 
 const MEMBERS: &str = "How many members the cluster has, 1 to 15";
 
 const NODE: &str = "The number of the node that is asked";
 
+const WAIT: &str = "How many seconds it waits for the answer, 0 to 3600; else one";
+
+/// The most seconds that it waits.
+const WAIT_MAX: u64 = 3_600;
+
 const NODE_BELOW: &str =
     "In the end it writes front F applied A: how many positions are learned without a gap, and applied. A refusal is
-refused CODE: 40 words, 70 the store failed, 71 it is of another cluster or member, 72 a bad row, 73 another format,
-82 its address is taken.";
+refused CODE: 40 words, 83 no key in its file, or others may read it, 70 the store failed, 71 it is of another cluster
+or member, 72 a bad row, 73 another format, 82 its address is taken. With a key asks by UDP aren't heard.";
+
+const KEY_BELOW: &str =
+    "It writes 64 hexadecimal digits, as pfx node --key takes them: (umask 077; pfx key > FILE)";
 
 const ASK_BELOW: &str =
     "It writes asked NODE.NUMBER, no answer, or refused CODE; a node refuses with 60 (64 wait) or 62 (no number left).
 Asked is not yet learned: the nodes' logs tell.";
 
-/// An option with a text.
-fn text<'a>(alloc: Global, name: &'a str, help: &'a str) -> Arg<'a>
+/// An option with a text, which may be missing.
+fn optional<'a>(alloc: Global, name: &'a str, help: &'a str) -> Arg<'a>
     ensures local { result.global ≡ false }
 {
     Arg::new(alloc, name)
         .long(name)
-        .required(true)
         .action(ArgAction::Set)
         .help(help)
+}
+
+/// An option with a text.
+fn text<'a>(alloc: Global, name: &'a str, help: &'a str) -> Arg<'a>
+    ensures local { result.global ≡ false }
+{
+    optional(alloc, name, help).required(true)
 }
 
 /// An option with a number from 0 to 255.
@@ -69,7 +100,27 @@ fn with<'a>(command: Command<'a>, arg: Arg<'a>) -> Result<Command<'a>, AllocErro
     command.arg(arg)
 }
 
-/// `node --me N --cluster C --store FILE --turns T ADDR..`
+/// The options of `node` that may be missing.
+fn node_options<'a>(alloc: Global, node: Command<'a>) -> Result<Command<'a>, AllocError>
+    requires command { (out-Command node).has_globals ≡ false }
+    ensures local { IfOk result (λ c. (out-Command c).has_globals ≡ false) }
+{
+    let turns = optional(alloc, "turns", TURNS).value_parser(value_parser!(u32));
+    let other = optional(alloc, "other-key", OTHER_KEY).requires_arg("key")?;
+    let answer = optional(alloc, "answer", ANSWER).value_parser(ValueParser::Names(ANSWERS));
+    let unsealed = Arg::new(alloc, "unsealed")
+        .long("unsealed")
+        .action(ArgAction::SetTrue)
+        .help(UNSEALED);
+    let command = with(node, turns)?;
+    let command = with(command, answer)?;
+    let command = with(command, optional(alloc, "key", KEY))?;
+    let command = with(command, other)?;
+    with(command, unsealed)
+}
+
+/// `node --me N --cluster C --store FILE [--turns T] [--key FILE [--other-key FILE]] [--unsealed]
+/// [--answer learned] ADDR..`
 fn node_command<'a>(alloc: Global) -> Result<Command<'a>, AllocError>
     ensures local { IfOk result (λ c. (out-Command c).has_globals ≡ false) }
 {
@@ -78,16 +129,16 @@ fn node_command<'a>(alloc: Global) -> Result<Command<'a>, AllocError>
         .num_args(0..)
         .help(MEMBER);
     let node = Command::new(alloc, "node")
-        .about("Runs a node on its store, for so many turns over UDP")
+        .about("Runs a node on its store over UDP")
         .after_help(NODE_BELOW);
     let command = with(node, small(alloc, "me", ME))?;
     let command = with(command, large(alloc, "cluster", CLUSTER))?;
     let command = with(command, text(alloc, "store", STORE))?;
-    let command = with(command, large(alloc, "turns", TURNS))?;
+    let command = node_options(alloc, command)?;
     with(command, addresses)
 }
 
-/// `ask --to ADDR --cluster C --members N --node N`, and pfctl's words.
+/// `ask --to ADDR --cluster C --members N --node N [--wait S]`, and pfctl's words.
 fn ask_command<'a>(alloc: Global) -> Result<Command<'a>, AllocError>
     ensures local { IfOk result (λ c. (out-Command c).has_globals ≡ false) }
 {
@@ -98,15 +149,25 @@ fn ask_command<'a>(alloc: Global) -> Result<Command<'a>, AllocError>
     let command = with(command, large(alloc, "cluster", CLUSTER))?;
     let command = with(command, small(alloc, "members", MEMBERS))?;
     let command = with(command, small(alloc, "node", NODE))?;
+    let wait = optional(alloc, "wait", WAIT).value_parser(ValueParser::Unsigned(0, WAIT_MAX));
+    let command = with(command, wait)?;
     pfctl_args(alloc, command)
 }
 
-/// Both words.
+/// `key`
+fn key_command<'a>(alloc: Global) -> Command<'a> {
+    Command::new(alloc, "key")
+        .about("Makes a new key of a cluster, of the system's random source")
+        .after_help(KEY_BELOW)
+}
+
+/// The words.
 pub(crate) fn command<'a>(alloc: Global) -> Result<Command<'a>, AllocError> {
     let node = node_command(alloc)?;
     let ask = ask_command(alloc)?;
     let command = Command::new(alloc, "pfx")
         .subcommand(node)?
-        .subcommand(ask)?;
+        .subcommand(ask)?
+        .subcommand(key_command(alloc))?;
     Ok(command.subcommand_required(true))
 }

@@ -1,0 +1,14 @@
+//! How a member's run ended.
+
+use px_replica::NodeFault;
+
+/// How a member's run ended.
+#[derive(Clone, Copy, Debug, PartialEq, Eq)]
+pub enum Ended {
+    /// All turns were made: how many positions are learned without a gap, and how many are applied.
+    Front { front: u32, applied: u32 },
+    /// The record wasn't opened, memory was wanting before the first turn, or this fault ended the turns.
+    Fault(NodeFault),
+    /// There is no wire, and no turn was made.
+    NoWire,
+}
