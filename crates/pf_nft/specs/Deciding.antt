@@ -4,7 +4,7 @@ use Rattle.std.specs.List.{list_any}
 use Rattle.pf_addr.specs.Blocks.{FitsAddr}
 use Rattle.pf_ruleset.specs.Items.{AnyRule, FilterRule, AnchorRule}
 use Rattle.pf_config.specs.Changes.{is_empty}
-use Rattle.pf_config.specs.Map.{AnchorValue, Configuration}
+use Rattle.pf_config.specs.Map.{Configuration, rules_at, paths_in}
 use Rattle.pf_eval.specs.Packets.{PacketValue}
 use Rattle.pf_eval.specs.PacketTexts.{same_family, has_ports, is_there_if, only_if}
 use Rattle.pf_eval.specs.Matching.{if_set}
@@ -30,4 +30,4 @@ leads_back (FilterRule r) = false
 leads_back (AnchorRule a) = not a.target.children && is_empty a.target.names
 
 abbrev pub some_leads_back : Configuration → Bool
-some_leads_back c = list_any (λ (a : AnchorValue). list_any leads_back a.rules) c.anchors
+some_leads_back c = list_any (λ p. list_any leads_back (rules_at c p)) (paths_in c.anchors)
