@@ -105,6 +105,11 @@ asked_out n jumped rule rules h =
     ap (λ o. and_then o (λ k. minus k (asked_in jumped rules))) h
     ∙ sym (both_less n (asked_by jumped rule.statement) (asked_in jumped rules))
 
+-- what the code uses
+pub ruleset one_rule = (no_question, one_question, one_more)
+
+pub ruleset some_rules = (nothing_asked, nothing_less, most_at)
+
 -- ---- a configuration
 
 pub refused_back : (c : Configuration) (m : Machine) (d : Direction) → some_leads_back c ≡ true → render c m d ≡ Err LeadsBack

@@ -1,6 +1,6 @@
 //! Of how many rules a packet may be asked.
 
-ghost use Rattle.std.specs.Prelude.{◌≡◌, List, map, find, option_map, Some};
+ghost use Rattle.std.specs.Prelude.{◌≡◌, map, find, option_map};
 ghost use Rattle.pf_nft.specs.Evaluation.{is_chain};
 ghost use Rattle.pf_nft.specs.Refusing.{asked_by, most_asked};
 ghost use Rattle.pf_nft.specs.inner.Left.{minus};
@@ -11,7 +11,8 @@ use crate::subset::{Chain, ChainName, NftRuleset, Statement};
 
 /// The first of these chains that has the name.
 fn chain_named<'r, 'c>(chains: &'r [Chain<'c>], name: ChainName<'c>) -> Option<&'r Chain<'c>>
-    ensures { option_map (λ c. chain_of c.now) result ≡ find (is_chain (chain_name_of name.entry)) (map chain_of chains.now) }
+    ensures { option_map (λ c. chain_of c.now) result
+        ≡ find (is_chain (chain_name_of name.entry)) (map chain_of chains.now) }
 {
     for chain in chains {
         if same_chain(chain.name, name) {
@@ -23,7 +24,7 @@ fn chain_named<'r, 'c>(chains: &'r [Chain<'c>], name: ChainName<'c>) -> Option<&
 
 /// What is left of so many questions, behind a rule that does this; none if they aren't enough.
 #[cycle(asking)]
-#[tactic(auto, using(crate::proofs::Refused::no_question, crate::proofs::Refused::one_question, crate::proofs::Refused::one_more))]
+#[tactic(auto, using(crate::proofs::Refused::one_rule))]
 fn left_behind<'r, 'c>(
     whole: &'r NftRuleset<'c>,
     depth: u8,
@@ -43,7 +44,7 @@ fn left_behind<'r, 'c>(
 
 /// What is left of so many questions, behind a chain; none if they aren't enough.
 #[cycle(asking)]
-#[tactic(auto, using(crate::proofs::Refused::nothing_asked, crate::proofs::Refused::nothing_less, crate::proofs::Refused::most_at))]
+#[tactic(auto, using(crate::proofs::Refused::some_rules))]
 pub(crate) fn left_after<'r, 'c>(
     whole: &'r NftRuleset<'c>,
     depth: u8,

@@ -1,15 +1,11 @@
 //! A whole ruleset, or why there is none.
 
-ghost use Rattle.std.specs.Prelude.{◌≡◌, ◌++◌, ℕ, IfOk, OnOk, map, Some, Option};
+ghost use Rattle.std.specs.Prelude.{◌≡◌, ◌++◌, IfOk, OnOk, map, Some};
 ghost use Rattle.std.specs.List.{list_any};
 ghost use Rattle.pf_ruleset.specs.Seen.{rule_of};
 ghost use Rattle.pf_config.specs.Map.{rules_at, paths_in};
-ghost use Rattle.pf_eval.specs.Packets.{PacketValue};
-ghost use Rattle.pf_eval.specs.Verdicts.{judgement};
-ghost use Rattle.pf_nft.specs.Subset.{Base};
-ghost use Rattle.pf_nft.specs.Evaluation.{run};
-ghost use Rattle.pf_nft.specs.Rendering.{rendered, chains_of, sets_of, forward_chain, backward_chain, decision_of};
-ghost use Rattle.pf_nft.specs.Deciding.{IsPacketOn, leads_back, some_leads_back};
+ghost use Rattle.pf_nft.specs.Rendering.{rendered, chains_of, sets_of, forward_chain, backward_chain};
+ghost use Rattle.pf_nft.specs.Deciding.{DecidesAs, leads_back, some_leads_back};
 ghost use Rattle.pf_nft.specs.Refusing.{Renders, render, is_costly, fault_code};
 ghost use Rattle.pf_nft.specs.declared.rendering.RenderFault.TheVariants.{Memory};
 ghost use Rattle.pf_nft.specs.Seen.{chain_of, named_set_of, ruleset_of, machine_of};
@@ -175,8 +171,7 @@ pub fn render<'c>(
     direction: Direction,
 ) -> Result<NftRuleset<'c>, RenderFault>
     ensures whole { Renders ruleset_of result (render config.now (machine_of machine.now) direction) }
-    ensures judged { IfOk result (λ r. (k : PacketValue) → k.direction ≡ direction → IsPacketOn (machine_of machine.now) k
-        → run 10 (ruleset_of r) k Base ≡ Some (decision_of (judgement config.now k))) }
+    ensures judged { IfOk result (λ r. DecidesAs config.now (machine_of machine.now) direction (ruleset_of r)) }
 {
     let paths = config.paths()?;
     if some_leads_back(config, &paths) {
