@@ -110,7 +110,7 @@ fn run_change(
 }
 
 /// Where a text for this path is loaded.
-fn place_at(path: &[Name]) -> Place
+pub(crate) fn place_at(path: &[Name]) -> Place
     ensures { result ≡ place_at path.now }
 {
     match path {

@@ -1,0 +1,4 @@
+pub mod Answers
+pub mod Changing
+pub mod Listings
+pub mod Targets
