@@ -1,5 +1,5 @@
 -- What a change does: one ask of the node, or nothing.
-use Rattle.std.specs.Prelude.{◌≡◌, ℕ, List, [], Option, Some, None, Result, Ok, Err}
+use Rattle.std.specs.Prelude.{◌≡◌, ℕ, List, [], ◌++◌, Option, Some, None, Result, Ok, Err, codes, decimal}
 use Rattle.px_model.specs.Node.Input.{Asks}
 use Rattle.px_model.specs.Spelling.{Bytes, command_in}
 use Rattle.px_records.specs.declared.records.Records.{Ghosts}
@@ -10,6 +10,8 @@ use Rattle.pf_entry.specs.Entry as entries
 use Rattle.pf_entry.specs.Entry.{spelling}
 use Rattle.pf_node.specs.Nodes.{replica_of, records_of, membership_of, applied_of, config_of}
 use Rattle.pf_node.specs.declared.state.Node.{Node}
+use Rattle.pf_scripts.specs.Lines.{line}
+use Rattle.pf_desk.specs.Answers.{AnswerValue, refused}
 use Rattle.pf_desk.specs.declared.changing.Changed.{Changed}
 use Rattle.pf_desk.specs.declared.changing.Changed.TheVariants.{Asked, Refused, Memory}
 
@@ -48,3 +50,14 @@ pub record AskedOnce {R : Type 0} {G : Ghosts R} (s t : Node R G) (command : ent
 abbrev pub Changes : {R : Type 0} {G : Ghosts R} → (s t : Node R G) → Result entries.Command ℕ → Changed → Type 0
 Changes s t (Err code) changed = (t ≡ s) × (changed ≡ Refused code)
 Changes s t (Ok command) changed = AskedOnce s t command changed
+
+-- ---- what is answered
+
+-- asked N.NUMBER
+abbrev pub asked_line : ℕ → ℕ → List ℕ
+asked_line origin number = line (codes "asked " ++ decimal origin ++ codes "." ++ decimal number)
+
+abbrev pub change_answer : Changed → AnswerValue
+change_answer (Asked origin number) = record { code = 202; body = asked_line origin number }
+change_answer (Refused code) = refused code 0
+change_answer Memory = record { code = 503; body = [] }

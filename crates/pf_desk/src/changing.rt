@@ -1,12 +1,14 @@
 //! A change is one ask, or a refusal.
 
-ghost use Rattle.std.specs.Prelude.{◌≡◌, OnErr, IfOk, map, Ok, Some, None};
+ghost use Rattle.std.specs.Prelude.{◌≡◌, OnErr, IfOk, map, string_bytes};
 ghost use Rattle.pf_entry.specs.Owned.{command_value};
 ghost use Rattle.pf_scripts.specs.WordsRead.{change_in};
-ghost use Rattle.pf_desk.specs.Changing.{Changes, AskedOnce, refused_by};
+ghost use Rattle.pf_desk.specs.Answers.{answer_value};
+ghost use Rattle.pf_desk.specs.Changing.{Changes, AskedOnce, refused_by, asked_line, change_answer};
 
+use crate::answer::Answer;
 use pf_node::{Command, Node, NodeFault};
-use pf_scripts::{ChangeFault, read_change};
+use pf_scripts::{ChangeFault, push_number, read_change};
 use px_records::Records;
 use std::alloc::{AllocError, Global};
 
@@ -41,7 +43,7 @@ fn refused_by(fault: NodeFault) -> Changed
 fn ask_once<R: Records>(node: &mut Node<R>, command: &Command) -> Changed
     ensures { AskedOnce node.old node.new (command_value command.now) result }
 {
-    let me = node.membership().me;
+    let me = node.membership().me();
     match node.ask(command) {
         Ok(number) => Changed::Asked(me, number),
         Err(fault) => refused_by(fault),
@@ -63,5 +65,37 @@ pub(crate) fn change_node<R: Records>(
         Ok(command) => Ok(ask_once(node, &command)),
         Err(ChangeFault::Refused(code)) => Ok(Changed::Refused(code)),
         Err(ChangeFault::Memory) => Err(AllocError),
+    }
+}
+
+/// `asked N.NUMBER`
+fn asked_line(alloc: Global, origin: u8, number: u64) -> Result<String, AllocError>
+    ensures { IfOk result (λ s. string_bytes s ≡ asked_line origin number) }
+{
+    let mut body = String::new(alloc);
+    body.push_str("asked ")?;
+    push_number(alloc, &mut body, u64::from(origin))?;
+    body.push('.')?;
+    push_number(alloc, &mut body, number)?;
+    body.push('\n')?;
+    Ok(body)
+}
+
+impl Changed {
+    /// The answer to a change: 202 where it was taken in, else the refusal.
+    pub fn to_answer(self, alloc: Global) -> Result<Answer, AllocError>
+        ensures { IfOk result (λ a. answer_value a ≡ change_answer self) }
+    {
+        match self {
+            Changed::Asked(origin, number) => {
+                let body = asked_line(alloc, origin, number)?;
+                Ok(Answer { code: 202, body })
+            }
+            Changed::Refused(code) => Answer::refused(alloc, code, 0),
+            Changed::Memory => Ok(Answer {
+                code: 503,
+                body: String::new(alloc),
+            }),
+        }
     }
 }

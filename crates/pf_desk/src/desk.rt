@@ -11,7 +11,9 @@ use crate::answer::Answer;
 use crate::changing::{Changed, change_node};
 use crate::listing::list;
 use crate::packets::test;
-use crate::request::Listing;
+use crate::request::{Listing, Read, Request};
+use crate::standing::standing;
+use crate::tally::Tally;
 use pf_node::Node;
 use px_records::Records;
 use std::alloc::{AllocError, Global};
@@ -23,7 +25,17 @@ pub struct Desk<R: Records> {
     pub node: Node<R>,
     /// Whether the node is to end after this turn.
     pub is_stopping: bool,
+    /// The first and the last number that requests got here.
+    pub taken: Option<(u64, u64)>,
     pub(crate) alloc: Global,
+}
+
+/// The first and the last number, with one more.
+fn with_number(taken: Option<(u64, u64)>, number: u64) -> Option<(u64, u64)> {
+    match taken {
+        Some((first, _)) => Some((first, number)),
+        None => Some((number, number)),
+    }
 }
 
 impl<R: Records> Desk<R> {
@@ -34,6 +46,7 @@ impl<R: Records> Desk<R> {
         Desk {
             node,
             is_stopping: false,
+            taken: None,
             alloc,
         }
     }
@@ -53,6 +66,11 @@ impl<R: Records> Desk<R> {
         test(self.alloc, self.node.config(), packets)
     }
 
+    /// What became of a request.
+    pub fn standing(&self, origin: u8, number: u64) -> Result<Answer, AllocError> {
+        standing(self.alloc, &self.node, self.taken, origin, number)
+    }
+
     /// Takes the change in that a line of pfctl's words asks for, `pfctl` itself first, with the text of its file: one
     /// ask of the node, or a refusal with nothing changed. Where memory is wanting nothing has changed, and the node
     /// wasn't asked.
@@ -60,8 +78,62 @@ impl<R: Records> Desk<R> {
         ensures changes { IfOk result (Changes self.old.node self.new.node
             (change_in (map (λ w. w.now) words.now) text.now)) }
         ensures stopping { self.new.is_stopping ≡ self.old.is_stopping }
-        ensures memory { OnErr result (self.new.node ≡ self.old.node) }
+        ensures memory { OnErr result (self.new ≡ self.old) }
     {
-        change_node(self.alloc, &mut self.node, words, text)
+        let changed = change_node(self.alloc, &mut self.node, words, text)?;
+        if let Changed::Asked(_, number) = changed {
+            self.taken = with_number(self.taken, number);
+        }
+        Ok(changed)
+    }
+
+    /// What a read answers.
+    pub fn read(&self, read: &Read, tally: &Tally) -> Result<Answer, AllocError> {
+        let _tally = tally;
+        match read {
+            Read::List(listing) => self.list(listing),
+            Read::Test { packets } => self.test(packets),
+            Read::Standing { origin, number } => self.standing(*origin, *number),
+            Read::Log { .. } | Read::Status { .. } | Read::Health | Read::Ready | Read::Metrics => {
+                Ok(Answer {
+                    code: 404,
+                    body: String::new(self.alloc),
+                })
+            }
+        }
+    }
+
+    /// What a change answers. The node may have been asked though no memory was there for the line: then it is 503 with
+    /// an empty body.
+    fn change_answer(&mut self, words: &[&str], text: &[u8]) -> Result<Answer, AllocError> {
+        let changed = self.change(words, text)?;
+        match changed.to_answer(self.alloc) {
+            Ok(answer) => Ok(answer),
+            Err(AllocError) => Ok(Answer {
+                code: 503,
+                body: String::new(self.alloc),
+            }),
+        }
+    }
+
+    /// What a request answers.
+    pub fn answer(&mut self, request: &Request, tally: &Tally) -> Result<Answer, AllocError> {
+        match request {
+            Request::Change { words, text } => self.change_answer(words, text),
+            Request::Read { at, read } => {
+                if self.node.applied() < *at {
+                    return Ok(Answer {
+                        code: 503,
+                        body: String::from_str(self.alloc, "waiting\n")?,
+                    });
+                }
+                self.read(read, tally)
+            }
+            Request::Stop => {
+                let body = String::from_str(self.alloc, "stopping\n")?;
+                self.is_stopping = true;
+                Ok(Answer { code: 200, body })
+            }
+        }
     }
 }
