@@ -1,4 +1,6 @@
 pub mod Answers
 pub mod Changing
 pub mod Listings
+pub mod Outcomes
+pub mod Standing
 pub mod Targets

@@ -39,7 +39,7 @@ fn is_counted(command: &Command) -> bool
 }
 
 /// Puts `ok` behind the output, with counts where they are printed.
-fn push_counts(
+pub fn push_counts(
     alloc: Global,
     out: &mut String,
     counts: bool,

@@ -7,7 +7,7 @@
 //!   asks for.
 //! - For scripts of other kinds: [`cut_line`] and [`words_in`] cut; [`takes_text`] and [`Waiting`] are of the text
 //!   behind a line of pfctl's words, [`matches_in`], [`file_in`] and [`is_standard`] of those words; [`push_line`],
-//!   [`push_number`], [`push_refusal`] and [`test_packet`] print.
+//!   [`push_number`], [`push_counts`], [`push_refusal`] and [`test_packet`] print.
 //!
 //! Within: `lines` cuts scripts and lines, `order` and `listing` are what is listed, `acting` what an action does,
 //! `pfctl` a line of pfctl's words, `reading` one that changes nothing, `stepping` a line of a script.
@@ -25,6 +25,7 @@ mod stepping;
 mod waiting;
 mod words_read;
 
+pub use acting::push_counts;
 pub use lines::{Line, cut_line, push_bytes, spaced, words_in};
 pub use pfctl::{file_in, is_standard, matches_in, takes_text};
 pub use printing::{push_line, push_number, push_refusal};
