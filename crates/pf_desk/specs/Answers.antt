@@ -46,10 +46,13 @@ listed c words = answered (words_read c words [])
 
 -- ---- packets
 
+abbrev pub behind : List ℕ → AnswerValue → AnswerValue
+behind text later = record { code = later.code; body = text ++ later.body }
+
 -- a verdict before what follows; a text that is no packet ends it
 abbrev pub put_verdict : Option (List ℕ) → AnswerValue → AnswerValue
 put_verdict None later = refused 30 0
-put_verdict (Some verdict) later = record { code = later.code; body = line verdict ++ later.body }
+put_verdict (Some verdict) later = behind (line verdict) later
 
 -- the verdict for a packet's text, none where it is no packet
 unfoldable pub verdict_for : Configuration → Text → Option (List ℕ)

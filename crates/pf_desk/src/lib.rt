@@ -12,20 +12,30 @@
 #![tactic(auto)]
 
 mod answer;
+mod answering;
 mod changing;
 mod desk;
+mod figures;
+mod health;
 mod listing;
+mod log;
+mod metrics;
+mod outcome;
 mod packets;
 mod query;
 mod request;
 mod routing;
 mod standing;
+mod status;
 mod tally;
 mod target;
+mod words;
 
 pub use answer::{Answer, status_of};
 pub use changing::Changed;
 pub use desk::Desk;
+pub use figures::Figures;
+pub use health::Health;
 pub use pf_node::Node;
 pub use request::{Listing, Read, Request, Routed};
 pub use routing::request_in;

@@ -3,6 +3,8 @@
 /// What the loop counted of a peer.
 #[derive(Clone, Copy, Debug, PartialEq, Eq, Default)]
 pub struct PeerTally {
+    /// The member's number.
+    pub node: u8,
     /// Whole seconds since a datagram of it came, none if never.
     pub heard: Option<u64>,
     /// How many datagrams came from it.
@@ -18,7 +20,7 @@ pub struct PeerTally {
 pub struct Tally {
     /// Whole seconds since the node started.
     pub up: u64,
-    /// A row for each member, this node's own one too, by their numbers.
+    /// A row for each other member, by their numbers.
     pub peers: Vec<PeerTally>,
     /// Datagrams that the system didn't take.
     pub unsent: u64,

@@ -56,7 +56,20 @@ fn settle<R: Records>(alloc: Global, node: &mut Node<R>) -> bool {
 /// What a loop would have counted.
 fn tally(alloc: Global) -> io::Result<Tally> {
     let mut peers = Vec::new(alloc);
-    peers.push(PeerTally::default())?;
+    peers.push(PeerTally {
+        node: 1,
+        heard: Some(2),
+        datagrams_in: 88_123,
+        datagrams_out: 88_140,
+        need: 0,
+    })?;
+    peers.push(PeerTally {
+        node: 2,
+        heard: None,
+        datagrams_in: 0,
+        datagrams_out: 88_140,
+        need: 0,
+    })?;
     Ok(Tally {
         up: 86_412,
         peers,

@@ -167,7 +167,11 @@ pub fn read_words(
 
 /// The change that matches ask for; any other action is 40, after the faults of the words.
 #[tactic(auto, using(crate::proofs::Looked::fault_asked))]
-fn change_asked(alloc: Global, matches: &ArgMatches<'_>, text: &[u8]) -> Result<Command, ChangeFault>
+fn change_asked(
+    alloc: Global,
+    matches: &ArgMatches<'_>,
+    text: &[u8],
+) -> Result<Command, ChangeFault>
     ensures { IsChangeIn result command_value
         (change_asked (asked (given_in (rows_of (found_of matches.now))) text.now)) }
 {
