@@ -52,5 +52,5 @@ line_kept log applied kept p o before new under within value is =
     let a : nat_lt p applied ≡ true = lt-ltb p applied under in
     let b : nat_le applied (p + kept) ≡ true = le-leb applied (p + kept) within in
     let l : outcome_line (counts_in (log p)) o ≡ line_at log p =
-        ap (outcome_line (counts_in (log p))) value ∙ line_of_in (after log p) (log p) in
+    ap (outcome_line (counts_in (log p))) value ∙ line_of_in (after log p) (log p) in
     rw (a, b) (is ∙ ap (λ (x : List ℕ). before ++ x) l)

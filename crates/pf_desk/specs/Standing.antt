@@ -77,5 +77,5 @@ standing_at log applied kept ours None = if ours then waiting else unknown
 abbrev pub standing : {R : Type 0} {G : Ghosts R} → Node R G → Option (ℕ × ℕ) → (origin number : ℕ) → AnswerValue
 standing n taken origin number =
     standing_at (learned_by n) (applied_of n) (kept_of n)
-        ((origin == (membership_of n).me) && is_taken taken number)
-        (place_below (learned_by n) origin number (front (learned_by n)))
+    ((origin == (membership_of n).me) && is_taken taken number)
+    (place_below (learned_by n) origin number (front (learned_by n)))

@@ -59,7 +59,7 @@ fn entries_at(config: &Config, path: &[Name], names: &[&str]) -> usize {
 }
 
 /// How much a configuration has.
-fn counts(config: &Config) -> Result<Counts, AllocError> {
+fn count_config(config: &Config) -> Result<Counts, AllocError> {
     let paths = config.paths()?;
     let mut counts = Counts {
         anchors: paths.len(),
@@ -83,7 +83,7 @@ impl Figures {
     pub fn of<R: Records>(node: &Node<R>) -> Result<Figures, AllocError>
         ensures { IfOk result (AreFigures node.now) }
     {
-        let counts = counts(node.config())?;
+        let counts = count_config(node.config())?;
         let m = node.membership();
         Ok(Figures {
             node: m.me(),

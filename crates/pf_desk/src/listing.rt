@@ -13,11 +13,7 @@ use pf_scripts::read_words;
 use std::alloc::{AllocError, Global};
 
 /// Words behind `pfctl` and its path.
-fn at_path<'a>(
-    alloc: Global,
-    path: &'a str,
-    words: &[&'a str],
-) -> Result<Vec<&'a str>, AllocError>
+fn at_path<'a>(alloc: Global, path: &'a str, words: &[&'a str]) -> Result<Vec<&'a str>, AllocError>
     ensures { IfOk result (λ v. map (λ w. w.now) v.items ≡ at_path path.entry.now (map (λ w. w.now) words.entry.now)) }
 {
     let mut all = Vec::new(alloc);
@@ -36,8 +32,7 @@ fn test_words<'a>(
     path: &'a str,
     table: &'a str,
     addresses: &[&'a str],
-) -> Result<Vec<&'a str>, AllocError>
-{
+) -> Result<Vec<&'a str>, AllocError> {
     let mut all = at_path(alloc, path, &["-t", table, "-T", "test"])?;
     all.extend_from_slice(addresses)?;
     Ok(all)

@@ -68,12 +68,28 @@ fn push_sample(
 /// How far the node is.
 fn push_node(alloc: Global, out: &mut String, f: &Figures) -> Result<(), AllocError> {
     let rows = [
-        ("pfx_front", "Least position not learned.", u64::from(f.front)),
+        (
+            "pfx_front",
+            "Least position not learned.",
+            u64::from(f.front),
+        ),
         ("pfx_applied", "Positions applied.", u64::from(f.applied)),
         ("pfx_round", "Round of the last prepare.", f.round),
-        ("pfx_waiting", "Commands that wait to be proposed.", f.waiting as u64),
-        ("pfx_failed", "1 after a fault of the store.", u64::from(f.has_failed)),
-        ("pfx_members", "Members of the cluster.", u64::from(f.members)),
+        (
+            "pfx_waiting",
+            "Commands that wait to be proposed.",
+            f.waiting as u64,
+        ),
+        (
+            "pfx_failed",
+            "1 after a fault of the store.",
+            u64::from(f.has_failed),
+        ),
+        (
+            "pfx_members",
+            "Members of the cluster.",
+            u64::from(f.members),
+        ),
     ];
     for (name, help, value) in rows {
         push_metric(alloc, out, "gauge", name, help, value)?;
@@ -84,10 +100,18 @@ fn push_node(alloc: Global, out: &mut String, f: &Figures) -> Result<(), AllocEr
 /// How much its configuration has.
 fn push_config(alloc: Global, out: &mut String, f: &Figures) -> Result<(), AllocError> {
     let rows = [
-        ("pfx_anchors", "Paths with rules or tables.", f.anchors as u64),
+        (
+            "pfx_anchors",
+            "Paths with rules or tables.",
+            f.anchors as u64,
+        ),
         ("pfx_rules", "Rules at all paths.", f.rules as u64),
         ("pfx_tables", "Tables at all paths.", f.tables as u64),
-        ("pfx_table_addresses", "Entries in all tables.", f.addresses as u64),
+        (
+            "pfx_table_addresses",
+            "Entries in all tables.",
+            f.addresses as u64,
+        ),
     ];
     for (name, help, value) in rows {
         push_metric(alloc, out, "gauge", name, help, value)?;
@@ -98,9 +122,21 @@ fn push_config(alloc: Global, out: &mut String, f: &Figures) -> Result<(), Alloc
 /// What the loop counted.
 fn push_loop(alloc: Global, out: &mut String, t: &Tally) -> Result<(), AllocError> {
     let rows = [
-        ("pfx_unsent_total", "Datagrams the system did not take.", t.unsent),
-        ("pfx_dropped_total", "Datagrams with a wrong tag, or asks.", t.dropped),
-        ("pfx_ignored_total", "Datagrams that spell nothing.", t.ignored),
+        (
+            "pfx_unsent_total",
+            "Datagrams the system did not take.",
+            t.unsent,
+        ),
+        (
+            "pfx_dropped_total",
+            "Datagrams with a wrong tag, or asks.",
+            t.dropped,
+        ),
+        (
+            "pfx_ignored_total",
+            "Datagrams that spell nothing.",
+            t.ignored,
+        ),
         ("pfx_turns_total", "Turns of the node.", t.turns),
         ("pfx_ticks_total", "Ticks of its clock.", t.ticks),
     ];
@@ -148,8 +184,17 @@ fn push_out(alloc: Global, out: &mut String, peers: &[PeerTally]) -> Result<(), 
 /// How many requests were answered.
 fn push_door(alloc: Global, out: &mut String, t: &Tally) -> Result<(), AllocError> {
     let name = "pfx_door_requests_total";
-    push_heading(out, "counter", name, "Requests of operators, by their status.")?;
-    for (code, value) in [("2xx", t.served), ("4xx", t.refused), ("5xx", t.unavailable)] {
+    push_heading(
+        out,
+        "counter",
+        name,
+        "Requests of operators, by their status.",
+    )?;
+    for (code, value) in [
+        ("2xx", t.served),
+        ("4xx", t.refused),
+        ("5xx", t.unavailable),
+    ] {
         push_sample(alloc, out, name, "code", code, value)?;
     }
     Ok(())

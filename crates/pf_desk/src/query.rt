@@ -75,7 +75,11 @@ impl Query {
     }
 
     /// The parameters of a query, each at most once, and each one that the target takes; else none.
-    pub(crate) fn of(alloc: Global, target: Target, text: &str) -> Result<Option<Query>, AllocError> {
+    pub(crate) fn of(
+        alloc: Global,
+        target: Target,
+        text: &str,
+    ) -> Result<Option<Query>, AllocError> {
         let mut query = Query::new();
         for pair in parse(alloc, text.as_bytes()) {
             let (name, value) = pair?;

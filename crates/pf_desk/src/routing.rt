@@ -97,7 +97,10 @@ fn read_in<'a>(
     json: bool,
 ) -> Result<Option<Read<'a>>, AllocError> {
     let Query {
-        path, table, from, ..
+        path,
+        table,
+        from,
+        ..
     } = query;
     let path = or_empty(alloc, path);
     let table = or_empty(alloc, table);

@@ -73,12 +73,7 @@ fn push_addresses(alloc: Global, out: &mut String, list: &[TableEntry]) -> Resul
 }
 
 /// Puts `-f - (BYTES)` behind the text.
-fn push_load(
-    alloc: Global,
-    out: &mut String,
-    path: &[Name],
-    text: &[u8],
-) -> Result<(), AllocError>
+fn push_load(alloc: Global, out: &mut String, path: &[Name], text: &[u8]) -> Result<(), AllocError>
     ensures { OnOk result (string_bytes out.new ≡ string_bytes out.old
         ++ (path_words path.now ++ codes "-f - (" ++ decimal (length text.now) ++ codes ")")) }
 {
@@ -129,17 +124,38 @@ pub(crate) fn push_command(
             path,
             table,
             addresses,
-        } => push_change(alloc, out, path.names(), table.as_str(), "add", &addresses.items),
+        } => push_change(
+            alloc,
+            out,
+            path.names(),
+            table.as_str(),
+            "add",
+            &addresses.items,
+        ),
         Command::Delete {
             path,
             table,
             addresses,
-        } => push_change(alloc, out, path.names(), table.as_str(), "delete", &addresses.items),
+        } => push_change(
+            alloc,
+            out,
+            path.names(),
+            table.as_str(),
+            "delete",
+            &addresses.items,
+        ),
         Command::Replace {
             path,
             table,
             addresses,
-        } => push_change(alloc, out, path.names(), table.as_str(), "replace", addresses),
+        } => push_change(
+            alloc,
+            out,
+            path.names(),
+            table.as_str(),
+            "replace",
+            addresses,
+        ),
         Command::FlushTable { path, table } => {
             push_table(out, path.names(), table.as_str(), "flush")
         }

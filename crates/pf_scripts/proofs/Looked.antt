@@ -1,5 +1,5 @@
 -- What words come to, as a script's line prints it.
-use Rattle.std.proofs.Common.{◌≡◌, ℕ, Bool, true, false, List, Option, Some, None, Result, Ok, Err, refl, sym, ap, ◌∙◌, unwrap_or}
+use Rattle.std.proofs.Common.{◌≡◌, ℕ, Bool, true, false, List, Option, Some, None, Result, Ok, Err, refl, sym, ap, unwrap_or}
 use Rattle.std.specs.Prelude.{codes, if◌then◌else◌}
 use Rattle.clap.specs.Words.{Text, Row, first_of}
 use Rattle.pf_words.specs.declared.profile.Profile.TheVariants.{Two}
@@ -12,13 +12,13 @@ use Rattle.pf_grammar.specs.Reading.{reading}
 use Rattle.pf_effect.specs.Effect.{place_at}
 use Rattle.pf_command.specs.declared.fault.CommandFault.{CommandFault}
 use Rattle.pf_command.specs.declared.fault.CommandFault.TheVariants.{Memory, Usage, BadPath, BadAddress, TooLong}
-use Rattle.pf_command.specs.Asked.{Asked, ActionValue, Change, CheckOnly, ShowRules, ShowTables, ShowAnchors, TableShow}
+use Rattle.pf_command.specs.Asked.{Asked, Change, CheckOnly, ShowRules, ShowTables, ShowAnchors, TableShow}
 use Rattle.pf_command.specs.Asked.{TableTest, given_in, asked}
 use Rattle.pf_command.specs.Answers.{FailsAs, command_fault_code}
-use Rattle.pf_scripts.specs.Ctl.{acted, prints, pfctl, pfctl_rows, at_rows, check_line, is_standard, rows_in}
+use Rattle.pf_scripts.specs.Ctl.{acted, prints, pfctl, at_rows, check_line, is_standard, rows_in}
 use Rattle.pf_scripts.specs.Lines.{refused_line}
 use Rattle.pf_scripts.specs.Listings.{entries_listed, matches_listed}
-use Rattle.pf_scripts.specs.WordsRead.{WordsValue, Refuses, checked, of_table, looked, rows_read, read_at, words_read}
+use Rattle.pf_scripts.specs.WordsRead.{WordsValue, Refuses, checked, of_table, looked, read_at, words_read}
 use Rattle.pf_scripts.specs.WordsRead.{IsOfLine, change_asked}
 
 -- a fault is its number

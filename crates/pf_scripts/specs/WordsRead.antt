@@ -1,5 +1,5 @@
 -- What a line of pfctl's words comes to where nothing is changed.
-use Rattle.std.specs.Prelude.{◌≡◌, ℕ, List, [], Option, Some, None, Result, Ok, Err, codes, unwrap_or, string_bytes}
+use Rattle.std.specs.Prelude.{◌≡◌, ℕ, List, Option, Some, None, Result, Ok, Err, codes, unwrap_or, string_bytes}
 use Rattle.std.specs.Prelude.{if◌then◌else◌}
 use Rattle.clap.specs.Words.{Text, Row, first_of}
 use Rattle.pf_words.specs.declared.profile.Profile.TheVariants.{Two}
@@ -11,7 +11,7 @@ use Rattle.pf_grammar.specs.Reading.{reading}
 use Rattle.pf_entry.specs.Entry.{Command}
 use Rattle.pf_entry.specs.Owned.{command_value}
 use Rattle.pf_effect.specs.Effect.{refused_text, effect, after_command, place_at}
-use Rattle.pf_command.specs.Asked.{Asked, ActionValue, Change, CheckOnly, ShowRules, ShowTables, ShowAnchors, TableShow}
+use Rattle.pf_command.specs.Asked.{Asked, Change, CheckOnly, ShowRules, ShowTables, ShowAnchors, TableShow}
 use Rattle.pf_command.specs.Asked.{TableTest, given_in, asked}
 use Rattle.pf_command.specs.Answers.{command_fault_code}
 use Rattle.pf_scripts.specs.declared.words_read.WordsRead.{WordsRead}
@@ -20,7 +20,7 @@ use Rattle.pf_scripts.specs.declared.words_read.ChangeFault.{ChangeFault}
 use Rattle.pf_scripts.specs.declared.words_read.ChangeFault.TheVariants as fault
 use Rattle.pf_scripts.specs.Lines.{line, refused_line}
 use Rattle.pf_scripts.specs.Listings.{rules_listed, tables_listed, anchors_listed, entries_listed, matches_listed}
-use Rattle.pf_scripts.specs.Ctl.{Outcome, prints, pfctl, is_standard, rows_in, is_counted, change_line}
+use Rattle.pf_scripts.specs.Ctl.{Outcome, prints, is_standard, rows_in, is_counted, change_line}
 
 -- a change that is asked for and not made; a refusal with its number and a text's line; or what is printed
 pub data WordsValue : Type 0 where

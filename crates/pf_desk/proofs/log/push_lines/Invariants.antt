@@ -7,6 +7,6 @@ use Rattle.pf_desk.proofs.log.push_lines.Given as goal
 abbrev pub invariant-loop-left : goal.invariant-loop-left
 invariant-loop-left g l = record {
   rest : lines_before (learned_by l.node) (applied_of l.node) (kept_of l.node) l.end l.left (string_bytes l.out)
-    ≡ lines_before (learned_by l.node) (applied_of l.node) (kept_of l.node) l.end l.fn.count (string_bytes l.fn.out);
+      ≡ lines_before (learned_by l.node) (applied_of l.node) (kept_of l.node) l.end l.fn.count (string_bytes l.fn.out);
   within : l.left ≤ l.end;
 }
