@@ -1,7 +1,7 @@
 -- Outcomes as lines.
 use Rattle.std.proofs.Common.{◌≡◌, ℕ, Bool, true, false, ◌<◌, ◌≤◌, ◌+◌, List, [], ◌++◌, Option, Some, None, Result, Ok, Err, IsSome, IfSome, refl, sym, ap, ◌∙◌, subst, arith}
 use Rattle.std.specs.Prelude.{◌↔◌, ◌&&◌, nat_lt, nat_le, option_map, if◌then◌else◌}
-use Rattle.std.proofs.lemmas.Bool.{lt-ltb, le-leb, leb-true, ltb-true}
+use Rattle.std.proofs.lemmas.Bool.{lt-ltb, le-leb}
 use Rattle.px_model.specs.Node as node
 use Rattle.px_model.specs.Node.{Log}
 use Rattle.px_model.specs.Spelling.{Bytes, spelled}
@@ -45,12 +45,13 @@ line_of_in (Some c) None = refl
 line_of_in (Some c) (Some e) = line_of_read c (reading (spelled e))
 
 -- what is kept is shown
-pub line_kept : (log : Log Bytes) (applied kept p : ℕ) (o : Outcome) (before after : List ℕ) →
-    p < applied → applied ≤ p + kept → o ≡ outcome_at log p →
-    after ≡ before ++ outcome_line (counts_in (log p)) o → after ≡ before ++ kept_line log applied kept p
-line_kept log applied kept p o before new under within value is =
-    let a : nat_lt p applied ≡ true = lt-ltb p applied under in
-    let b : nat_le applied (p + kept) ≡ true = le-leb applied (p + kept) within in
+pub line_kept : (log : Log Bytes) (applied kept p : ℕ) (o : Outcome) (before new : List ℕ) →
+    (IsSome (Some o) ↔ ((p < applied) × (applied ≤ p + kept))) → o ≡ outcome_at log p →
+    new ≡ before ++ outcome_line (counts_in (log p)) o → new ≡ before ++ kept_line log applied kept p
+line_kept log applied kept p o before new when value is =
+    let both : (p < applied) × (applied ≤ p + kept) = when.0 refl in
+    let a : nat_lt p applied ≡ true = lt-ltb p applied both.0 in
+    let b : nat_le applied (p + kept) ≡ true = le-leb applied (p + kept) both.1 in
     let l : outcome_line (counts_in (log p)) o ≡ line_at log p =
     ap (outcome_line (counts_in (log p))) value ∙ line_of_in (after log p) (log p) in
     rw (a, b) (is ∙ ap (λ (x : List ℕ). before ++ x) l)

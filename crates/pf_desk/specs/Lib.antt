@@ -8,4 +8,5 @@ pub mod Outcomes
 pub mod Requests
 pub mod Standing
 pub mod Status
+pub mod StatusJson
 pub mod Targets

@@ -13,7 +13,10 @@ heading kind name help =
 abbrev pub metric : (kind name help : Text) → ℕ → List ℕ
 metric kind name help value = heading kind name help ++ line (name ++ codes " " ++ decimal value)
 
+-- {LABEL="OF"}
+abbrev pub labelled : (label of : Text) → List ℕ
+labelled label of = codes "{" ++ label ++ codes "=\"" ++ of ++ codes "\"} "
+
 -- the number of a peer, or of whatever a label says
 abbrev pub sample : (name label of : Text) → ℕ → List ℕ
-sample name label of value =
-    line (name ++ codes "{" ++ label ++ codes "=\"" ++ of ++ codes "\"} " ++ decimal value)
+sample name label of value = line (name ++ labelled label of ++ decimal value)

@@ -21,7 +21,7 @@ use Rattle.pf_desk.specs.Health.{health, health_answer, ready_answer}
 use Rattle.pf_desk.specs.Listings.{words_of}
 use Rattle.pf_desk.specs.LogLines.{log_answer}
 use Rattle.pf_desk.specs.Standing.{standing}
-use Rattle.pf_desk.specs.Status.{status_lines}
+use Rattle.pf_desk.specs.StatusJson.{status_as}
 
 -- ---- reads
 
@@ -35,11 +35,11 @@ pub record AreFigures {R : Type 0} {G : Ghosts R} (n : Node R G) (f : Figures) :
   pub waiting : f.waiting ≡ length (state_in n).volatile.waiting
   pub failed : f.has_failed ≡ has_failed n
 
--- the lines of figures that are the node's
-pub record IsStatus {R : Type 0} {G : Ghosts R} (n : Node R G) (t : Tally) (a : AnswerValue) : Type 0 where
+-- the status of figures that are the node's, as JSON or in lines
+pub record IsStatus {R : Type 0} {G : Ghosts R} (n : Node R G) (t : Tally) (json : Bool) (a : AnswerValue) : Type 0 where
   pub figures : Figures
   pub are : AreFigures n figures
-  pub answered : a ≡ shown (status_lines figures t)
+  pub answered : a ≡ shown (status_as json figures t)
 
 -- what a read answers; of the numbers for Prometheus only that they are there
 abbrev pub IsRead : {R : Type 0} {G : Ghosts R} → Node R G → Option (ℕ × ℕ) → Tally → Read → AnswerValue → Type 0
@@ -47,7 +47,7 @@ IsRead n taken t (read.List listing) a = a ≡ listed (config_of n) (words_of li
 IsRead n taken t (read.Test packets) a = a ≡ verdicts (config_of n) (map (λ p. p.now) packets.items)
 IsRead n taken t (read.Standing origin number) a = a ≡ standing n taken origin number
 IsRead n taken t (read.Log from) a = a ≡ log_answer n from
-IsRead n taken t (read.Status json) a = IsStatus n t a
+IsRead n taken t (read.Status json) a = IsStatus n t json a
 IsRead n taken t read.Health a = a ≡ health_answer (health n t.peers.items)
 IsRead n taken t read.Ready a = a ≡ ready_answer (health n t.peers.items)
 IsRead n taken t read.Metrics a = a.code ≡ 200

@@ -15,6 +15,7 @@ use crate::changing::{Changed, change_node};
 use crate::desk::Desk;
 use crate::figures::Figures;
 use crate::health::Health;
+use crate::json::status_json;
 use crate::listing::list;
 use crate::log::log;
 use crate::metrics::metrics;
@@ -82,12 +83,16 @@ impl<R: Records> Desk<R> {
         Health::of(&self.node, &tally.peers)
     }
 
-    /// The lines of the node's status.
-    fn status(&self, tally: &Tally) -> Result<Answer, AllocError>
-        ensures { IfOk result (λ a. IsStatus self.now.node tally.now (answer_value a)) }
+    /// The node's status, as JSON or in lines.
+    fn status(&self, json: bool, tally: &Tally) -> Result<Answer, AllocError>
+        ensures { IfOk result (λ a. IsStatus self.now.node tally.now json (answer_value a)) }
     {
         let figures = Figures::of(&self.node)?;
-        status(self.alloc, &figures, tally)
+        if json {
+            status_json(self.alloc, &figures, tally)
+        } else {
+            status(self.alloc, &figures, tally)
+        }
     }
 
     /// The node's numbers for Prometheus.
@@ -107,7 +112,7 @@ impl<R: Records> Desk<R> {
             Read::Test { packets } => self.test(packets),
             Read::Standing { origin, number } => self.standing(*origin, *number),
             Read::Log { from } => log(self.alloc, &self.node, *from),
-            Read::Status { .. } => self.status(tally),
+            Read::Status { json } => self.status(*json, tally),
             Read::Health => self.health(tally).health_answer(self.alloc),
             Read::Ready => self.health(tally).ready_answer(self.alloc),
             Read::Metrics => self.metrics(tally),

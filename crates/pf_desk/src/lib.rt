@@ -17,6 +17,7 @@ mod changing;
 mod desk;
 mod figures;
 mod health;
+mod json;
 mod listing;
 mod log;
 mod metrics;

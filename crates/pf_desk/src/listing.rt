@@ -1,8 +1,6 @@
 //! Listings as lines of pfctl's words.
 
-ghost use Rattle.std.specs.Prelude.{◌≡◌, IfOk, map, [], string_bytes};
-ghost use Rattle.pf_scripts.specs.Ctl.{pfctl};
-ghost use Rattle.pf_scripts.specs.WordsRead.{words_read, IsOfLine};
+ghost use Rattle.std.specs.Prelude.{◌≡◌, ◌∷◌, [], IfOk, codes, map};
 ghost use Rattle.pf_desk.specs.Answers.{answer_value, listed};
 ghost use Rattle.pf_desk.specs.Listings.{at_path, words_of};
 
@@ -32,20 +30,34 @@ fn test_words<'a>(
     path: &'a str,
     table: &'a str,
     addresses: &[&'a str],
-) -> Result<Vec<&'a str>, AllocError> {
+) -> Result<Vec<&'a str>, AllocError>
+    ensures { IfOk result (λ v. map (λ w. w.now) v.items ≡ at_path path.entry.now (codes "-t" ∷ table.entry.now
+        ∷ codes "-T" ∷ codes "test" ∷ map (λ w. w.now) addresses.entry.now)) }
+{
     let mut all = at_path(alloc, path, &["-t", table, "-T", "test"])?;
     all.extend_from_slice(addresses)?;
     Ok(all)
 }
 
+/// The words that list all anchors.
+fn anchor_words<'a>(alloc: Global) -> Result<Vec<&'a str>, AllocError>
+    ensures { IfOk result (λ v. map (λ w. w.now) v.items ≡ at_path [] (codes "-s" ∷ codes "Anchors" ∷ [])) }
+{
+    let mut all = Vec::new(alloc);
+    all.push("pfctl")?;
+    all.push("-s")?;
+    all.push("Anchors")?;
+    Ok(all)
+}
+
 /// The words of a listing, `pfctl` first.
-fn words_of<'a>(alloc: Global, listing: &'a Listing<'_>) -> Result<Vec<&'a str>, AllocError>
+fn words_of<'a, 'b: 'a>(alloc: Global, listing: &'a Listing<'b>) -> Result<Vec<&'a str>, AllocError>
     ensures { IfOk result (λ v. map (λ w. w.now) v.items ≡ words_of listing.entry.now) }
 {
     match listing {
         Listing::Rules { path } => at_path(alloc, path.as_str(), &["-s", "rules"]),
         Listing::Tables { path } => at_path(alloc, path.as_str(), &["-s", "Tables"]),
-        Listing::Anchors => at_path(alloc, "", &["-s", "Anchors"]),
+        Listing::Anchors => anchor_words(alloc),
         Listing::Table { path, table } => at_path(
             alloc,
             path.as_str(),

@@ -90,7 +90,7 @@ fn push_lines<R: Records>(
 {
     let mut left = count;
     while left > 0 {
-        if out.len() >= BYTES_MAX {
+        if out.as_bytes().len() >= BYTES_MAX {
             return Ok(());
         }
         push_position(alloc, out, node, end - left)?;

@@ -1,7 +1,7 @@
 //! Numbers for Prometheus, in its text format 0.0.4.
 
 ghost use Rattle.std.specs.Prelude.{◌≡◌, ◌++◌, IfOk, OnOk, string_bytes};
-ghost use Rattle.pf_desk.specs.Metrics.{heading, metric, sample};
+ghost use Rattle.pf_desk.specs.Metrics.{heading, metric, labelled, sample};
 
 use crate::answer::Answer;
 use crate::figures::Figures;
@@ -43,6 +43,17 @@ fn push_metric(
     out.push('\n')
 }
 
+/// Puts a label behind the output.
+fn push_label(out: &mut String, label: &str, of: &str) -> Result<(), AllocError>
+    ensures { OnOk result (string_bytes out.new ≡ string_bytes out.old ++ labelled label.now of.now) }
+{
+    out.push('{')?;
+    out.push_str(label)?;
+    out.push_str("=\"")?;
+    out.push_str(of)?;
+    out.push_str("\"} ")
+}
+
 /// Puts the number of one of several behind the output.
 fn push_sample(
     alloc: Global,
@@ -56,11 +67,7 @@ fn push_sample(
         ≡ string_bytes out.old ++ sample name.now label.now of.now value) }
 {
     out.push_str(name)?;
-    out.push('{')?;
-    out.push_str(label)?;
-    out.push_str("=\"")?;
-    out.push_str(of)?;
-    out.push_str("\"} ")?;
+    push_label(out, label, of)?;
     push_number(alloc, out, value)?;
     out.push('\n')
 }

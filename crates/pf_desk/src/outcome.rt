@@ -73,7 +73,7 @@ fn push_line(
 
 /// Puts what came of the command at a position behind the text, a line as a script prints it; nothing where that isn't
 /// kept any more.
-#[tactic(auto, using(crate::proofs::Lines::line_kept, crate::proofs::Lines::line_gone))]
+#[tactic(auto, using(crate::proofs::Lines::line_kept))]
 pub(crate) fn push_outcome<R: Records>(
     alloc: Global,
     out: &mut String,

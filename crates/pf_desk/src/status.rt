@@ -17,12 +17,12 @@ use std::alloc::{AllocError, Global};
 pub(crate) fn push_fields(
     alloc: Global,
     out: &mut String,
-    fields: &[(&str, u64)],
+    rows: &[(&str, u64)],
 ) -> Result<(), AllocError>
     ensures { OnOk result (string_bytes out.new
-        ≡ string_bytes out.old ++ fields (map (λ f. (f.0.now, f.1)) fields.now)) }
+        ≡ string_bytes out.old ++ fields (map (λ f. (f.0.now, f.1)) rows.now)) }
 {
-    for (name, number) in fields {
+    for (name, number) in rows {
         out.push_str(name)?;
         push_number(alloc, out, *number)?;
     }
@@ -30,19 +30,19 @@ pub(crate) fn push_fields(
 }
 
 /// The same, as a line.
-fn push_line(alloc: Global, out: &mut String, fields: &[(&str, u64)]) -> Result<(), AllocError>
+fn push_line(alloc: Global, out: &mut String, rows: &[(&str, u64)]) -> Result<(), AllocError>
     ensures { OnOk result (string_bytes out.new
-        ≡ string_bytes out.old ++ line (fields (map (λ f. (f.0.now, f.1)) fields.now))) }
+        ≡ string_bytes out.old ++ line (fields (map (λ f. (f.0.now, f.1)) rows.now))) }
 {
-    push_fields(alloc, out, fields)?;
+    push_fields(alloc, out, rows)?;
     out.push('\n')
 }
 
 /// When a peer was heard.
-fn push_heard(alloc: Global, out: &mut String, heard: Option<u64>) -> Result<(), AllocError>
-    ensures { OnOk result (string_bytes out.new ≡ string_bytes out.old ++ heard heard) }
+fn push_heard(alloc: Global, out: &mut String, seconds: Option<u64>) -> Result<(), AllocError>
+    ensures { OnOk result (string_bytes out.new ≡ string_bytes out.old ++ heard seconds) }
 {
-    match heard {
+    match seconds {
         Some(seconds) => push_fields(alloc, out, &[(" heard ", seconds)]),
         None => out.push_str(" heard never"),
     }

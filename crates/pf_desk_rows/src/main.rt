@@ -1,8 +1,8 @@
 //! Requests to a node of a cluster of one, and what is answered: the stored input has the requests, the stored output
 //! what is to be written.
 //!
-//! A row of the input is a line `== METHOD PATH?QUERY`, and the text up to the newline before the next such line is its
-//! body. What stands before the first one is passed over. Of each row the output has the same line, a line `-- CODE`,
+//! A row of the input is a line `== METHOD PATH?QUERY`, behind which `json` may stand for a client that wants JSON, and
+//! the text up to the newline before the next such line is its body. What stands before the first one is passed over. Of each row the output has the same line, a line `-- CODE`,
 //! and the answer's body. Between two rows the node's clock ticks, and what it sends to itself comes.
 #![tactic(auto)]
 
@@ -92,10 +92,11 @@ fn answered<R: Records>(
     line: &str,
     body: &str,
 ) -> io::Result<Answer> {
-    let (method, target) = line.split_once(' ').unwrap_or((line, ""));
+    let (method, rest) = line.split_once(' ').unwrap_or((line, ""));
+    let (target, accept) = rest.split_once(' ').unwrap_or((rest, ""));
     let (path, query) = target.split_once('?').unwrap_or((target, ""));
     let counted = tally(alloc)?;
-    match request_in(alloc, method, path, query, body.as_bytes(), false)? {
+    match request_in(alloc, method, path, query, body.as_bytes(), accept == "json")? {
         Routed::Asked(request) => Ok(desk.answer(&request, &counted)?),
         Routed::Refused(code) => Ok(Answer {
             code,

@@ -10,3 +10,6 @@ invariant-loop-left g l = record {
       ≡ lines_before (learned_by l.node) (applied_of l.node) (kept_of l.node) l.end l.fn.count (string_bytes l.fn.out);
   within : l.left ≤ l.end;
 }
+
+abbrev pub decreases-loop-left : goal.decreases-loop-left
+decreases-loop-left g l = l.left
