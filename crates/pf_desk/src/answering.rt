@@ -52,6 +52,19 @@ impl<R: Records> Desk<R> {
         }
     }
 
+    /// The node, with which the desk ends.
+    pub fn close(self) -> Node<R>
+        ensures { result ≡ self.node }
+    {
+        let Desk {
+            node,
+            is_stopping: _,
+            taken: _,
+            alloc: _,
+        } = self;
+        node
+    }
+
     /// What a listing answers: what a script's line prints at the configuration after the positions that are applied.
     /// 404 where it speaks of a table that isn't there, 400 where the words are refused.
     pub fn list(&self, listing: &Listing) -> Result<Answer, AllocError>

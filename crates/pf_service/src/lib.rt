@@ -9,6 +9,7 @@
 #![tactic(auto)]
 
 mod ask;
+mod door;
 mod key;
 mod node;
 mod outcome;

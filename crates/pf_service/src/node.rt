@@ -6,6 +6,7 @@ ghost use Rattle.pf_service.specs.declared.outcome.Outcome.TheVariants.{Memory, 
 ghost use Rattle.pf_service.specs.Outcomes.{adopt_outcome, ComesTo};
 ghost use Rattle.pf_service.specs.inner.Places.{is_count, has_place, turns_or_all};
 
+use crate::door::{DoorWords, run_with_door};
 use crate::key::{Keys, keys_for, warn_unsealed};
 use crate::outcome::{Outcome, ended_outcome};
 use clap::ArgMatches;
@@ -37,6 +38,8 @@ pub(crate) struct NodeWords<'m, 'a> {
     pub(crate) is_unsealed: bool,
     /// Whether an ask is answered once its command is learned, and not before.
     pub(crate) answers_learned: bool,
+    /// Where operators ask, if there is a door.
+    pub(crate) door: Option<&'a str>,
     /// Where the members listen, in order.
     pub(crate) members: &'m [&'a str],
 }
@@ -82,6 +85,7 @@ impl<'m, 'a> NodeWords<'m, 'a> {
             key: matches.get_str("key"),
             other_key: matches.get_str("other-key"),
             is_unsealed: matches.get_flag("unsealed"),
+            door: matches.get_str("door"),
             answers_learned: matches.get_str("answer").is_some(),
             members: or_none(matches.get_strs("member")),
         })
@@ -237,6 +241,37 @@ fn run_node<R: Records>(
     }
 }
 
+/// The run of a member with its door open, over a socket. What is asked by datagrams isn't heard.
+fn run_at_door<R: Records>(
+    rt: &HostRuntime,
+    alloc: Global,
+    words: NodeWords<'_, '_>,
+    path: &str,
+    m: Membership,
+    records: R,
+    keys: Option<Keys>,
+) -> (Outcome, R)
+    requires members { R.members records ≡ m.members }
+    requires here { m.me < m.members }
+{
+    let wire = match bind(rt, alloc, words) {
+        Ok(wire) => wire,
+        Err(outcome) => return (outcome, records),
+    };
+    let words = DoorWords {
+        path,
+        fd: wire.raw_fd(),
+        turns: words.turns,
+    };
+    match keys {
+        Some(keys) => match sealed(alloc, Ok(wire), keys) {
+            Ok(wire) => run_with_door(rt, alloc, words, m, records, wire),
+            Err(outcome) => (outcome, records),
+        },
+        None => run_with_door(rt, alloc, words, m, records, MembersWire::new(wire)),
+    }
+}
+
 /// What `node` comes to: 40 of its numbers, 83, the store's refusals, 82, and the first refusal of a turn, in this order.
 /// The store is closed, whatever came of it; what a node has committed stands also where closing fails.
 pub(crate) fn node_outcome(rt: &HostRuntime, alloc: Global, words: NodeWords<'_, '_>) -> Outcome
@@ -258,7 +293,10 @@ pub(crate) fn node_outcome(rt: &HostRuntime, alloc: Global, words: NodeWords<'_,
         Ok(records) => records,
         Err((fault, _)) => return adopt_outcome(fault),
     };
-    let (outcome, records) = run_node(rt, alloc, words, m, records, keys);
+    let (outcome, records) = match words.door {
+        Some(path) => run_at_door(rt, alloc, words, path, m, records, keys),
+        None => run_node(rt, alloc, words, m, records, keys),
+    };
     let _closed = records.release().close();
     outcome
 }

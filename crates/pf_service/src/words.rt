@@ -34,6 +34,8 @@ const ANSWERS: &[&str] = &["learned"];
 const UNSEALED: &str =
     "Something below seals datagrams, as IPsec or WireGuard do: nothing is said of a missing key";
 
+const DOOR: &str = "A Unix socket at which operators ask, which is made";
+
 const MEMBER: &str =
     "The members' addresses in their order, 1 to 15 of them: IPV4:PORT, [IPV6]:PORT or NAME:PORT; a node binds its own";
 
@@ -114,6 +116,7 @@ fn node_options<'a>(alloc: Global, node: Command<'a>) -> Result<Command<'a>, All
         .help(UNSEALED);
     let command = with(node, turns)?;
     let command = with(command, answer)?;
+    let command = with(command, optional(alloc, "door", DOOR))?;
     let command = with(command, optional(alloc, "key", KEY))?;
     let command = with(command, other)?;
     with(command, unsealed)

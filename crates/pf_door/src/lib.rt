@@ -1,0 +1,22 @@
+//! The door at which operators ask a running node: HTTP/1.1 over a Unix socket, beside the members' datagrams.
+//!
+//! # Organization
+//!
+//! - [`Door`]: the socket in the file system and the seats at it. It moves bytes and nothing else; `http_server` reads
+//!   requests and writes answers, and pf_desk says what is answered.
+//! - [`TallyWire`]: a wire that counts what goes over it, for the desk's figures.
+//! - [`run_open`]: a node runs, and its desk answers between two rounds.
+//!
+//! Whoever may open the socket's file may ask: the folder that it lies in is the lock.
+#![tactic(auto)]
+
+mod clerk;
+mod door;
+mod running;
+mod seat;
+mod tallying;
+
+pub use door::{Door, DoorFault};
+pub use pf_desk::Desk;
+pub use running::run_open;
+pub use tallying::TallyWire;

@@ -1,0 +1,123 @@
+//! One request and its answer over a Unix socket.
+
+ghost use Rattle.std.specs.Prelude.{◌≤◌, length};
+
+use crate::call::Call;
+use httparse::Status;
+use httparse::spans::{EMPTY_HEADER_SPAN, HeaderSpan, parse_response};
+use pf_tool::{InputFault, read_all};
+use std::alloc::{AllocError, Global};
+use std::io::{self, Write};
+use std::net::Net;
+use std::os::unix::net::UnixStream;
+use std::time::Duration;
+
+/// How long a read or a write may take, in seconds.
+const PATIENCE: u64 = 10;
+
+/// How many fields an answer's head has at most.
+const FIELDS: usize = 64;
+
+/// Why there is no answer.
+#[derive(Clone, Copy, Debug, PartialEq, Eq)]
+pub(crate) enum VisitFault {
+    /// A growth was refused.
+    Memory,
+    /// 85: nobody answers at the door.
+    NoDoor,
+    /// 86: an answer that is cut short, or is none of HTTP's.
+    BadAnswer,
+}
+
+impl From<AllocError> for VisitFault {
+    fn from(_error: AllocError) -> VisitFault {
+        VisitFault::Memory
+    }
+}
+
+/// An answer: HTTP's status and the body.
+#[derive(Debug, Drop)]
+pub(crate) struct Reply {
+    pub(crate) code: u16,
+    pub(crate) body: Vec<u8>,
+}
+
+/// The request's bytes.
+fn request_bytes(alloc: Global, call: &Call) -> Result<Vec<u8>, AllocError> {
+    let head = format!(in alloc;
+        "{} {} HTTP/1.1\r\nhost: pfx\r\nconnection: close\r\ncontent-length: {}\r\n\r\n",
+        call.method,
+        call.target,
+        call.body.len()
+    )?;
+    let mut bytes = Vec::from_slice(alloc, head.as_bytes())?;
+    bytes.extend_from_slice(call.body.as_slice())?;
+    Ok(bytes)
+}
+
+/// The stream to whoever answers at the door.
+fn connect<RT: Net>(rt: &RT, door: &str) -> io::Result<UnixStream> {
+    let stream = UnixStream::connect(rt, door)?;
+    let patience = Duration::from_secs(PATIENCE);
+    stream.set_read_timeout(Some(patience))?;
+    stream.set_write_timeout(Some(patience))?;
+    Ok(stream)
+}
+
+/// Whether the answer's fields say that its body has this length, or say nothing of it.
+fn has_length(bytes: &[u8], fields: &[HeaderSpan], len: usize) -> bool {
+    for field in fields {
+        let name = bytes.get(field.name.start..field.name.end);
+        let value = bytes.get(field.value.start..field.value.end);
+        if let (Some(name), Some(value)) = (name, value) {
+            if name.eq_ignore_ascii_case(b"content-length") {
+                return std::str::from_utf8(value)
+                    .ok()
+                    .and_then(|it| it.parse::<usize>().ok())
+                    == Some(len);
+            }
+        }
+    }
+    true
+}
+
+/// The answer that the bytes are.
+fn reply_in(alloc: Global, bytes: &[u8]) -> Result<Reply, VisitFault> {
+    let mut fields = [EMPTY_HEADER_SPAN; FIELDS];
+    let Ok(Status::Complete(head)) = parse_response(bytes, &mut fields) else {
+        return Err(VisitFault::BadAnswer);
+    };
+    let Some(body) = bytes.get(head.len..) else {
+        return Err(VisitFault::BadAnswer);
+    };
+    let Some(fields) = fields.get(..head.headers) else {
+        return Err(VisitFault::BadAnswer);
+    };
+    if !has_length(bytes, fields, body.len()) {
+        return Err(VisitFault::BadAnswer);
+    }
+    Ok(Reply {
+        code: head.code,
+        body: Vec::from_slice(alloc, body)?,
+    })
+}
+
+/// Asks once at the door, over a connection of its own.
+pub(crate) fn exchange<RT: Net>(
+    rt: &RT,
+    alloc: Global,
+    door: &str,
+    call: &Call,
+) -> Result<Reply, VisitFault> {
+    let bytes = request_bytes(alloc, call)?;
+    let Ok(mut stream) = connect(rt, door) else {
+        return Err(VisitFault::NoDoor);
+    };
+    // an answer may come before all is sent
+    let _sent = stream.write_all(bytes.as_slice());
+    match read_all(alloc, &mut stream) {
+        Ok(answer) => reply_in(alloc, answer.as_slice()),
+        Err(InputFault::Memory) => Err(VisitFault::Memory),
+        Err(InputFault::Failed | InputFault::TooLong) => Err(VisitFault::BadAnswer),
+    }
+}

@@ -1,0 +1,18 @@
+//! An operator who asks at a node's door.
+//!
+//! # Organization
+//!
+//! - [`run_visit`]: the word `ask` with `--door`, over any reader and writer.
+//!
+//! Within: `words` has the words as `clap` reads them, `call` what is sent for them, `exchange` one request and its answer
+//! over the socket, `visiting` how often it is asked.
+#![tactic(auto)]
+
+mod call;
+mod exchange;
+mod running;
+mod visiting;
+mod words;
+
+pub use pf_tool::Status;
+pub use running::run_visit;

@@ -1,0 +1,123 @@
+//! A run of `ask` with `--door`.
+
+use crate::call::call_in;
+use crate::exchange::{Reply, VisitFault};
+use crate::visiting::visit;
+use crate::words::command;
+use clap::ArgMatches;
+use pf_tool::{InputFault, Status, misused, out_of_memory, read_all};
+use std::alloc::Global;
+use std::convert::AsStr;
+use std::fs;
+use std::io::{Read, Write};
+
+/// What a run comes to.
+enum Outcome {
+    Reply(Reply),
+    Refused(u8),
+    Memory,
+    Unread,
+}
+
+/// The text that `-f` names: of the input for `-`, else of a file; none without `-f`. A file that can't be read is 40.
+fn text_for<R: Read>(
+    rt: &HostRuntime,
+    alloc: Global,
+    matches: &ArgMatches<'_>,
+    reader: &mut R,
+) -> Result<Vec<u8>, Outcome> {
+    let read = match matches.get_str("file") {
+        None => return Ok(Vec::new(alloc)),
+        Some("-") => read_all(alloc, reader),
+        Some(path) => {
+            let Ok(mut file) = fs::open(rt, path) else {
+                return Err(Outcome::Refused(40));
+            };
+            read_all(alloc, &mut file)
+        }
+    };
+    match read {
+        Ok(text) => Ok(text),
+        Err(InputFault::Memory) => Err(Outcome::Memory),
+        Err(InputFault::Failed | InputFault::TooLong) => Err(Outcome::Unread),
+    }
+}
+
+/// What the words come to.
+fn outcome_of<R: Read>(
+    rt: &HostRuntime,
+    alloc: Global,
+    matches: &ArgMatches<'_>,
+    reader: &mut R,
+) -> Outcome {
+    let Some(door) = matches.get_str("door") else {
+        return Outcome::Refused(40);
+    };
+    let seconds = matches.get_one::<u32>("wait").unwrap_or(0);
+    let at = matches.get_one::<u32>("at").unwrap_or(0);
+    let text = match text_for(rt, alloc, matches, reader) {
+        Ok(text) => text,
+        Err(outcome) => return outcome,
+    };
+    let Ok(call) = call_in(alloc, matches, text.as_slice(), at) else {
+        return Outcome::Memory;
+    };
+    match visit(rt, alloc, door, &call, seconds) {
+        Ok(reply) => Outcome::Reply(reply),
+        Err(VisitFault::Memory) => Outcome::Memory,
+        Err(VisitFault::NoDoor) => Outcome::Refused(85),
+        Err(VisitFault::BadAnswer) => Outcome::Refused(86),
+    }
+}
+
+/// Writes what a run comes to.
+fn write_outcome<W: Write>(alloc: Global, outcome: Outcome, writer: &mut W) -> Status {
+    match outcome {
+        Outcome::Reply(reply) => {
+            if writer.write_all(reply.body.as_slice()).is_err() {
+                return Status::Failed;
+            }
+            if reply.code < 300 {
+                Status::Done
+            } else {
+                Status::Refused
+            }
+        }
+        Outcome::Refused(code) => {
+            let Ok(line) = format!(in alloc; "refused {code}\n") else {
+                return out_of_memory(writer);
+            };
+            match writer.write_all(line.as_bytes()) {
+                Ok(()) => Status::Refused,
+                Err(_) => Status::Failed,
+            }
+        }
+        Outcome::Memory => out_of_memory(writer),
+        Outcome::Unread => Status::Failed,
+    }
+}
+
+/// What the word `ask` with `--door` asks for, the program's name first: a request at a node's door, whose answer is
+/// written. 85 where nobody answers there, 86 where the answer is cut short or none.
+pub fn run_visit<S: AsStr, R: Read, W: Write>(
+    rt: &HostRuntime,
+    alloc: Global,
+    words: &[S],
+    reader: &mut R,
+    writer: &mut W,
+) -> Status {
+    let Ok(command) = command(alloc) else {
+        return out_of_memory(writer);
+    };
+    let matches = match command.try_get_matches_from(words) {
+        Ok(matches) => matches,
+        Err(error) => return misused(alloc, &error, writer),
+    };
+    match matches.subcommand_matches("ask") {
+        Some(inner) => {
+            let outcome = outcome_of(rt, alloc, inner, reader);
+            write_outcome(alloc, outcome, writer)
+        }
+        None => Status::Usage,
+    }
+}

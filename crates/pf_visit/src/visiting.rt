@@ -1,0 +1,142 @@
+//! How often it is asked at a door: once, or until what was asked is there.
+
+use crate::call::Call;
+use crate::exchange::{Reply, VisitFault, exchange};
+use std::alloc::{AllocError, Global};
+use std::io::Read;
+use std::net::Net;
+use std::os::unix::net::UnixStream;
+use std::time::{Clock, Duration, Instant};
+
+/// How long it is waited between two requests, in milliseconds.
+const PAUSE: u64 = 5;
+
+/// What a node answers whose time has not come yet.
+const WAITING: &[u8] = b"waiting\n";
+
+/// What a node answers that took a command in, before its number.
+const ASKED: &[u8] = b"asked ";
+
+/// What it answers once a command is applied.
+const APPLIED: &[u8] = b"applied ";
+
+/// Waits for a short time: for what never comes over a stream of its own.
+fn pause<RT: Net>(rt: &RT) {
+    if let Ok((mut near, _far)) = UnixStream::pair(rt) {
+        if near
+            .set_read_timeout(Some(Duration::from_millis(PAUSE)))
+            .is_ok()
+        {
+            let mut room = [0u8; 1];
+            let _nothing = near.read(&mut room);
+        }
+    }
+}
+
+/// Whether so many seconds haven't passed.
+fn has_time<RT: Clock>(rt: &RT, start: Option<Instant>, seconds: u32) -> bool {
+    match (start, Instant::now(rt)) {
+        (Some(start), Ok(now)) => now.duration_since(start)
+            < Duration::from_secs(u64::from(seconds)),
+        _ => false,
+    }
+}
+
+/// Asks again while the node says that it is waiting, for so many seconds at most.
+fn ask_on<RT: Net + Clock>(
+    rt: &RT,
+    alloc: Global,
+    door: &str,
+    call: &Call,
+    start: Option<Instant>,
+    seconds: u32,
+) -> Result<Reply, VisitFault> {
+    for _ask in 0..u64::MAX {
+        let reply = exchange(rt, alloc, door, call)?;
+        if reply.body.as_slice() != WAITING || !has_time(rt, start, seconds) {
+            return Ok(reply);
+        }
+        pause(rt);
+    }
+    Err(VisitFault::BadAnswer)
+}
+
+/// The request that a node took in, by its answer.
+fn request_of<'a>(body: &'a [u8]) -> Option<&'a str> {
+    let rest = body.strip_prefix(ASKED)?;
+    let number = rest.strip_suffix(b"\n".as_slice())?;
+    std::str::from_utf8(number).ok()
+}
+
+/// What is behind the line that tells the position.
+fn outcome_in(body: &[u8]) -> &[u8] {
+    if !body.starts_with(APPLIED) {
+        return body;
+    }
+    for i in 0..body.len() {
+        if body[i] == b'\n' {
+            return &body[i + 1..];
+        }
+    }
+    &[]
+}
+
+/// The line that a command was taken in, and behind it what came of it.
+fn joined(taken: Reply, reply: Reply) -> Result<Reply, AllocError> {
+    let mut body = taken.body;
+    body.extend_from_slice(outcome_in(reply.body.as_slice()))?;
+    Ok(Reply {
+        code: reply.code,
+        body,
+    })
+}
+
+/// The position in the line that tells it.
+fn position_in(body: &[u8]) -> Option<u32> {
+    let rest = body.strip_prefix(APPLIED)?;
+    let digits = rest.split(|byte| *byte == b'\n').next()?;
+    match std::str::from_utf8(digits) {
+        Ok(text) => text.parse::<u32>().ok(),
+        Err(_) => None,
+    }
+}
+
+/// How many positions a node has applied that applied this command.
+fn synced(alloc: Global, reply: Reply) -> Result<Reply, AllocError> {
+    match position_in(reply.body.as_slice()) {
+        Some(position) => {
+            let line = format!(in alloc; "at {}\n", position.saturating_add(1))?;
+            Ok(Reply {
+                code: reply.code,
+                body: Vec::from_slice(alloc, line.as_bytes())?,
+            })
+        }
+        None => Ok(reply),
+    }
+}
+
+/// Asks, and waits for so many seconds at most: for a node that isn't so far yet, and for what comes of a command that was
+/// taken in. No command is asked twice that may have been taken in.
+pub(crate) fn visit<RT: Net + Clock>(
+    rt: &RT,
+    alloc: Global,
+    door: &str,
+    call: &Call,
+    seconds: u32,
+) -> Result<Reply, VisitFault> {
+    let start = Instant::now(rt).ok();
+    let taken = ask_on(rt, alloc, door, call, start, seconds)?;
+    if !call.is_change || seconds == 0 {
+        return Ok(taken);
+    }
+    let mut target = String::from_str(alloc, "/v1/requests/")?;
+    match request_of(taken.body.as_slice()) {
+        Some(request) => target.push_str(request)?,
+        None => return Ok(taken),
+    }
+    let reply = ask_on(rt, alloc, door, &Call::get(alloc, target), start, seconds)?;
+    if call.is_sync {
+        return Ok(synced(alloc, reply)?);
+    }
+    Ok(joined(taken, reply)?)
+}

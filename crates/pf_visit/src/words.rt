@@ -1,0 +1,70 @@
+//! The word `ask` with `--door`, as `clap` reads it.
+
+ghost use Rattle.std.specs.Prelude.{◌≡◌, IfOk, false};
+ghost use Rattle.clap.specs.declared.builder.command.Command.TheViews.{out-Command};
+
+use clap::builder::ValueParser;
+use clap::{Arg, ArgAction, Command};
+use pf_command::pfctl_args;
+use std::alloc::{AllocError, Global};
+
+/// The longest wait, in seconds.
+const WAIT_MAX: u64 = 3_600;
+
+/// The most positions.
+const POSITIONS: u64 = 1_000_000;
+
+/// What help says of each option, and below them.
+const DOOR: &str = "The Unix socket at which the node answers operators";
+
+const WAIT: &str = "Seconds to wait for what comes of it, 0 to 3600";
+
+const AT: &str = "The node answers once it has applied so many positions, 0 to 1000000";
+
+const BELOW: &str = "Words of a change, or of a listing; or, without pfctl's options:
+  test PACKET..    the verdicts for packets        request N.NUMBER  what became of a request
+  log [FROM]       what was learned                status            how the node is
+  health           ok, behind, alone or failed     metrics           numbers for Prometheus
+  sync             asks what changes nothing       stop              ends the node
+A refusal is refused CODE; 85 nobody answers at the door, 86 the answer is none.";
+
+/// An option with a value.
+fn valued<'a>(alloc: Global, name: &'a str, help: &'a str) -> Arg<'a>
+    ensures local { result.global ≡ false }
+{
+    Arg::new(alloc, name)
+        .long(name)
+        .action(ArgAction::Set)
+        .help(help)
+}
+
+/// Adds one option.
+fn with<'a>(command: Command<'a>, arg: Arg<'a>) -> Result<Command<'a>, AllocError>
+    requires command { (out-Command command).has_globals ≡ false }
+    requires arg { arg.global ≡ false }
+    ensures local { IfOk result (λ c. (out-Command c).has_globals ≡ false) }
+{
+    command.arg(arg)
+}
+
+/// `ask --door PATH [--wait S] [--at A] WORDS`
+fn ask_command<'a>(alloc: Global) -> Result<Command<'a>, AllocError>
+    ensures local { IfOk result (λ c. (out-Command c).has_globals ≡ false) }
+{
+    let ask = Command::new(alloc, "ask")
+        .about("Asks a node at its door")
+        .after_help(BELOW);
+    let command = with(ask, valued(alloc, "door", DOOR).required(true))?;
+    let wait = valued(alloc, "wait", WAIT).value_parser(ValueParser::Unsigned(0, WAIT_MAX));
+    let command = with(command, wait)?;
+    let at = valued(alloc, "at", AT).value_parser(ValueParser::Unsigned(0, POSITIONS));
+    let command = with(command, at)?;
+    pfctl_args(alloc, command)
+}
+
+/// The program's words with a door.
+pub(crate) fn command<'a>(alloc: Global) -> Result<Command<'a>, AllocError> {
+    let ask = ask_command(alloc)?;
+    let command = Command::new(alloc, "pfx").subcommand(ask)?;
+    Ok(command.subcommand_required(true))
+}
