@@ -1,12 +1,12 @@
 -- Anchor rules nest less than 10 deep, so that nothing depends on how deep jumps may nest from there on.
-use Rattle.std.proofs.Common.{◌≡◌, ℕ, zero, suc, ◌+◌, ◌-◌, ◌<◌, ◌≤◌, Bool, true, false, ◌&&◌, List, [], ◌∷◌, ◌++◌, map, length, Some, refl, ap, ◌∙◌, arith, length-append}
+use Rattle.std.proofs.Common.{◌≡◌, ℕ, zero, suc, ◌+◌, ◌-◌, ◌<◌, ◌≤◌, Bool, true, false, ◌&&◌, List, [], ◌∷◌, ◌++◌, map, length, Some, refl, sym, ap, ◌∙◌, ◌||◌, arith, length-append}
 use Rattle.std.specs.Prelude.{not, nat_le, filter, if◌then◌else◌}
 use Rattle.std.specs.List.{list_any, flat_map}
 use Rattle.std.proofs.lemmas.Bool.{or_parts, leb-true, true≢false}
 use Rattle.pf_ruleset.specs.Names.{Name, begins_below}
 use Rattle.pf_ruleset.specs.Items.{AnyRule, FilterRule, AnchorRule, Target}
 use Rattle.pf_config.specs.Changes.{is_empty}
-use Rattle.pf_config.specs.Map.{Configuration, AnchorValue, Path, path_eq, anchor_at, rules_in, rules_at, kids, followed_by}
+use Rattle.pf_config.specs.Map.{Configuration, Path, path_eq, paths_in, rules_at, kids, followed_by}
 use Rattle.pf_eval.specs.Packets.{PacketValue}
 use Rattle.pf_eval.specs.Matching.{Tables, matches}
 use Rattle.pf_eval.specs.Verdicts.{Hit, marked, rule_hits, hits_with, not_too_deep, member_hits, target_hits, tables_in, hits, last_spot, judgement, Decided, Skipped, is_skipped}
@@ -14,14 +14,24 @@ use Rattle.pf_nft.specs.Subset.{Base}
 use Rattle.pf_nft.specs.Evaluation.{run}
 use Rattle.pf_nft.specs.Rendering.{Machine, rendered, chains_of, decision_of}
 use Rattle.pf_nft.specs.Deciding.{IsPacketOn, leads_back, some_leads_back}
-use Rattle.pf_nft.proofs.Running.{at_hook}
+use Rattle.pf_config.proofs.Treed.{path_same}
+use Rattle.pf_nft.proofs.Running.{at_hook, no_rules}
 
 -- no rule at a path leads back
-none_back : (p : Path) (anchors : List AnchorValue) → list_any (λ (a : AnchorValue). list_any leads_back a.rules) anchors ≡ false → list_any leads_back (rules_in (anchor_at p anchors)) ≡ false
-none_back p [] h = refl
-none_back p (a ∷ anchors) h =
-    let both = or_parts (list_any leads_back a.rules) (list_any (λ (a : AnchorValue). list_any leads_back a.rules) anchors) h in
-    elim (path_eq a.path p) as (λ v. list_any leads_back (rules_in (if v then Some a else anchor_at p anchors)) ≡ false) [ true ↦ both.0 | false ↦ none_back p anchors both.1 ]
+among : (test : Path → Bool) (p : Path) (paths : List Path) → list_any (λ q. path_eq q p) paths ≡ true → list_any test paths ≡ false → test p ≡ false
+among test p [] there h = absurd (true≢false (sym there))
+among test p (q ∷ paths) there h =
+    let both = or_parts (test q) (list_any test paths) h in
+    (elim (path_eq q p) as (λ v. path_eq q p ≡ v → (v || list_any (λ q. path_eq q p) paths) ≡ true → test p ≡ false) [
+      | true ↦ λ e g. ap test (sym (path_same q p e)) ∙ both.0
+      | false ↦ λ e g. among test p paths g both.1
+    ]) refl there
+
+pub none_back : (c : Configuration) (p : Path) → some_leads_back c ≡ false → list_any leads_back (rules_at c p) ≡ false
+none_back c p h = (elim (list_any (λ q. path_eq q p) (paths_in c.anchors)) as (λ v. list_any (λ q. path_eq q p) (paths_in c.anchors) ≡ v → list_any leads_back (rules_at c p) ≡ false) [
+  | true ↦ λ e. among (λ q. list_any leads_back (rules_at c q)) p (paths_in c.anchors) e h
+  | false ↦ λ e. ap (list_any leads_back) (no_rules c p e)
+]) refl
 
 rules_same : (tables : Tables) (f g : Target → List Hit) (k : PacketValue) (p : Path) (i : ℕ) (rules : List AnyRule) → list_any leads_back rules ≡ false →
     ((t : Target) → (not t.children && is_empty t.names) ≡ false → f t ≡ g t) → hits_with tables f k p i rules ≡ hits_with tables g k p i rules
@@ -69,7 +79,7 @@ one_less : (c : Configuration) (k : PacketValue) → some_leads_back c ≡ false
 unfolding hits rules_at
 one_less c k h zero p deep short = absurd (omega (arith, deep, short))
 one_less c k h (suc n) p deep short =
-    rules_same (tables_in c p) (target_hits (hits (suc n) c k) c p) (target_hits (hits n c k) c p) k p 0 (rules_at c p) (none_back p c.anchors h)
+    rules_same (tables_in c p) (target_hits (hits (suc n) c k) c p) (target_hits (hits n c k) c p) k p 0 (rules_at c p) (none_back c p h)
     (λ t e. called_same c (hits (suc n) c k) (hits n c k) p t.names t.children (λ q longer fits. one_less c k h n q (omega (arith, deep, longer)) fits) e)
 
 deeper : (c : Configuration) (k : PacketValue) → some_leads_back c ≡ false → (n : ℕ) → hits (n + 9) c k [] ≡ hits 9 c k []

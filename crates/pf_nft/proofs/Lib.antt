@@ -6,3 +6,5 @@ pub mod Running
 pub mod Widths
 pub mod Depths
 pub mod Targeted
+pub mod Spanning
+pub mod Refused

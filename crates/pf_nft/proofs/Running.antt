@@ -159,7 +159,7 @@ no_path p (a ∷ anchors) h = (elim (path_eq a.path p) as (λ v. (v || list_any 
   | false ↦ λ g. no_path p anchors g
 ]) h
 
-no_rules : (c : Configuration) (p : Path) → list_any (λ q. path_eq q p) (paths_in c.anchors) ≡ false → rules_at c p ≡ []
+pub no_rules : (c : Configuration) (p : Path) → list_any (λ q. path_eq q p) (paths_in c.anchors) ≡ false → rules_at c p ≡ []
 unfolding rules_at
 no_rules c p h = no_path p c.anchors h
 

@@ -58,14 +58,14 @@ named_paths q (n ∷ ns) =
 
 -- ---- the rules of the code's items
 
-filter_rule : (r : Rule) → rule_of (item.Filter r) ≡ FilterRule r
+pub filter_rule : (r : Rule) → rule_of (item.Filter r) ≡ FilterRule r
 filter_rule r = search (rules, item.the_lemmas)
 
 head_only : (h : Heading) (o : Option (List _)) → rule_in (with_block h o) ≡ AnchorRule h
 head_only h None = refl
 head_only h (Some items) = refl
 
-anchor_rule : (a : anchored.AnchorRule) → rule_of (item.Anchor a) ≡ AnchorRule (heading_of a.heading)
+pub anchor_rule : (a : anchored.AnchorRule) → rule_of (item.Anchor a) ≡ AnchorRule (heading_of a.heading)
 anchor_rule a = ap rule_in (anchor_is a) ∙ head_only (heading_of a.heading) (option_map (λ v. items_of v.value.items) a.block)
 
 pub forward_filter : (c : Configuration) (m : Machine) (d : Direction) (p : Path) (i : ℕ) (r : Rule) (x : Item) → x ≡ item.Filter r →

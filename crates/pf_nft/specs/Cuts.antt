@@ -1,6 +1,7 @@
 -- The addresses of a table as intervals that don't meet: which address is in the table changes only where an entry
 -- begins or has ended.
-use Rattle.std.specs.Prelude.{ℕ, ◌+◌, ◌-◌, ◌^◌, Bool, true, false, List, [], ◌∷◌, ◌++◌, fold, nat_lt, nat_le, ◌&&◌, if◌then◌else◌}
+use Rattle.std.specs.Prelude.{ℕ, ◌+◌, ◌-◌, ◌^◌, Bool, true, false, List, [], ◌∷◌, ◌++◌, fold, nat_lt, nat_le, ◌&&◌}
+use Rattle.std.specs.Prelude.{if◌then◌else◌}
 use Rattle.std.specs.List.{flat_map}
 use Rattle.pf_addr.specs.declared.addr.Addr.{Addr}
 use Rattle.pf_addr.specs.declared.addr.Addr.TheVariants.{V4, V6}

@@ -4,15 +4,19 @@ use Rattle.std.specs.List.{list_any}
 use Rattle.pf_addr.specs.Blocks.{FitsAddr}
 use Rattle.pf_ruleset.specs.Items.{AnyRule, FilterRule, AnchorRule}
 use Rattle.pf_config.specs.Changes.{is_empty}
-use Rattle.pf_config.specs.Map.{AnchorValue, Configuration}
+use Rattle.pf_config.specs.Map.{Configuration, rules_at, paths_in}
 use Rattle.pf_eval.specs.Packets.{PacketValue}
 use Rattle.pf_eval.specs.PacketTexts.{same_family, has_ports, is_there_if, only_if}
 use Rattle.pf_eval.specs.Matching.{if_set}
-use Rattle.pf_nft.specs.Rendering.{Machine, groups_in}
+use Rattle.pf_eval.specs.Verdicts.{judgement}
+use Rattle.pf_ruleset.specs.declared.parts.Direction.{Direction}
+use Rattle.pf_nft.specs.Subset.{Base, NftRuleset}
+use Rattle.pf_nft.specs.Evaluation.{run}
+use Rattle.pf_nft.specs.Rendering.{Machine, groups_in, decision_of}
 
--- a packet on an interface of the machine, which has that interface's groups, and whose parts go together: both ends are
--- of one family; ports are there for TCP and UDP and for no other, and are numbers of 16 bits; a type is there for ICMP
--- alone
+-- a packet on an interface of the machine, which has that interface's groups, and whose parts go together: both ends
+-- are of one family; ports are there for TCP and UDP and for no other, and are numbers of 16 bits; a type is there for
+-- ICMP alone
 pub record IsPacketOn (m : Machine) (k : PacketValue) : Type 0 where
   pub interface : groups_in m k.interface ≡ Some k.groups
   pub family : same_family k.source k.destination ≡ true
@@ -24,10 +28,16 @@ pub record IsPacketOn (m : Machine) (k : PacketValue) : Type 0 where
   pub destination_number : if_set (λ n. nat_le n 65535) k.destination_port ≡ true
   pub icmp_type : only_if (k.protocol == 1) k.icmp_type ≡ true
 
--- an anchor rule whose target is the anchor that holds it: no text gives one, and nftables refuses a jump that leads back
+-- an anchor rule whose target is the anchor that holds it: no text gives one, and nftables refuses a jump that leads
+-- back
 abbrev pub leads_back : AnyRule → Bool
 leads_back (FilterRule r) = false
 leads_back (AnchorRule a) = not a.target.children && is_empty a.target.names
 
 abbrev pub some_leads_back : Configuration → Bool
-some_leads_back c = list_any (λ (a : AnchorValue). list_any leads_back a.rules) c.anchors
+some_leads_back c = list_any (λ p. list_any leads_back (rules_at c p)) (paths_in c.anchors)
+
+-- of each packet of the direction on the machine the ruleset decides the configuration's verdict, with the deciding rule
+abbrev pub DecidesAs : Configuration → Machine → Direction → NftRuleset → Type 0
+DecidesAs c m d r = (k : PacketValue) → k.direction ≡ d → IsPacketOn m k →
+    run 10 r k Base ≡ Some (decision_of (judgement c k))

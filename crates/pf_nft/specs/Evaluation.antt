@@ -24,8 +24,11 @@ pass_eq Forward Backward = false
 pass_eq Backward Forward = false
 pass_eq Backward Backward = true
 
+abbrev pub same_set : SetName → SetName → Bool
+same_set n m = path_eq n.owner m.owner && bytes_eq n.table m.table && family_eq n.family m.family
+
 abbrev pub is_set : SetName → NamedSet → Bool
-is_set n s = path_eq s.name.owner n.owner && bytes_eq s.name.table n.table && family_eq s.name.family n.family
+is_set n s = same_set s.name n
 
 abbrev pub same_chain : ChainName → ChainName → Bool
 same_chain Base Base = true

@@ -4,4 +4,6 @@ pub mod Evaluation
 pub mod Alternatives
 pub mod Rendering
 pub mod Deciding
+pub mod Refusing
 pub mod Seen
+pub mod inner

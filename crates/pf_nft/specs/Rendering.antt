@@ -1,6 +1,7 @@
 -- A configuration as a ruleset of nftables, for a machine whose interfaces are known, and for one direction.
 use Rattle.std.specs.Prelude.{ℕ, ◌+◌, ◌-◌, Bool, true, false, ◌==◌, ◌&&◌, List, [], ◌∷◌, ◌++◌, Option, Some, None}
-use Rattle.std.specs.Prelude.{length, map, filter, reverse, not, nat_le, nat_lt, option_map, is_some, unwrap_or, if◌then◌else◌}
+use Rattle.std.specs.Prelude.{length, map, filter, reverse, not, nat_le, nat_lt, option_map, is_some, unwrap_or}
+use Rattle.std.specs.Prelude.{if◌then◌else◌}
 use Rattle.std.specs.List.{list_any, flat_map}
 use Rattle.std.specs.Map.{lookup}
 use Rattle.std.specs.Str.{bytes_eq}
@@ -25,7 +26,7 @@ use Rattle.pf_ruleset.specs.declared.rule.Rule.{Rule}
 use Rattle.pf_ruleset.specs.declared.rule.Action.{Action}
 use Rattle.pf_ruleset.specs.declared.rule.Action.TheVariants as act
 use Rattle.pf_ruleset.specs.Names.{Name, begins_below}
-use Rattle.pf_ruleset.specs.Items.{AnyRule, FilterRule, AnchorRule, Target}
+use Rattle.pf_ruleset.specs.Items.{AnyRule, FilterRule, AnchorRule, Heading, Target}
 use Rattle.pf_table.specs.Tables.{TableValue}
 use Rattle.pf_config.specs.Changes.{is_empty}
 use Rattle.pf_config.specs.Trees.{last_name}
@@ -37,8 +38,8 @@ use Rattle.pf_eval.specs.Verdicts as pf
 use Rattle.pf_nft.specs.Subset.{NamedSet, Side, Source, Destination, Where, From, InSet}
 use Rattle.pf_nft.specs.Subset.{Match, OnInterface, AtAddress, AtPort, WithFlags, OfType}
 use Rattle.pf_nft.specs.Subset.{Forward, Backward, ChainName, Base, At, Note, Unknown, Skip, Default, Spot}
-use Rattle.pf_nft.specs.Subset.{Outcome, Accept, Drop, Reject, Decision, Statement, Ends, Jump, NftRule, Chain, NftRuleset}
-use Rattle.pf_nft.specs.Subset.{family_eq}
+use Rattle.pf_nft.specs.Subset.{Outcome, Accept, Drop, Reject, Decision, Statement, Ends, Jump}
+use Rattle.pf_nft.specs.Subset.{NftRule, Chain, NftRuleset, family_eq}
 use Rattle.pf_nft.specs.Evaluation.{turned}
 use Rattle.pf_nft.specs.Cuts.{first_of, last_of, elements}
 -- from one port to another, or, negated, every other
@@ -164,7 +165,8 @@ port_alternatives side (Some test) = on_ports side (port_span test)
 
 -- whose table a rule at a path names: the path's own, else main's, none if there is none
 abbrev pub owner_of : Configuration → Path → Name → Option Path
-owner_of c p name = if is_some (table_at c p name) then Some p else (if is_some (table_at c [] name) then Some [] else None)
+owner_of c p name =
+    if is_some (table_at c p name) then Some p else (if is_some (table_at c [] name) then Some [] else None)
 
 -- the addresses of that family, none if there are none
 abbrev pub place_of : Configuration → Path → Family → Addresses → Option Where
@@ -256,18 +258,23 @@ forward_chains paths = map (At Forward) paths
 abbrev pub backward_chains : List Path → List ChainName
 backward_chains paths = map (At Backward) (reverse paths)
 
--- what may end the evaluation: quick rules, and what anchor rules evaluate; within a quick one the last hit ends it too
+-- the chains to which an anchor rule leads forwards; within a quick one the last hit ends the evaluation too
+abbrev pub anchor_chains : Configuration → Path → Heading → List ChainName
+anchor_chains c p a = forward_chains (chained_targets c p a.target)
+    ++ (if a.quick then backward_chains (chained_targets c p a.target) else [])
+
+-- what may end the evaluation: quick rules, and what anchor rules evaluate
 abbrev pub forward_rule : Configuration → Machine → Direction → Path → ℕ → AnyRule → List NftRule
 forward_rule c m d p i (FilterRule r) = if r.quick then filter_rules (alternatives c m d p r.conditions) p i r else []
 forward_rule c m d p i (AnchorRule a) =
-    jump_rules (alternatives c m d p a.conditions) (forward_chains (chained_targets c p a.target)
-    ++ (if a.quick then backward_chains (chained_targets c p a.target) else []))
+    jump_rules (alternatives c m d p a.conditions) (anchor_chains c p a)
 
 -- the rest
 abbrev pub backward_rule : Configuration → Machine → Direction → Path → ℕ → AnyRule → List NftRule
 backward_rule c m d p i (FilterRule r) = if r.quick then [] else filter_rules (alternatives c m d p r.conditions) p i r
 backward_rule c m d p i (AnchorRule a) =
-    if a.quick then [] else jump_rules (alternatives c m d p a.conditions) (backward_chains (chained_targets c p a.target))
+    if a.quick then []
+    else jump_rules (alternatives c m d p a.conditions) (backward_chains (chained_targets c p a.target))
 
 -- of rules with the indices from i on: the first one first
 abbrev pub forward_rules : (ℕ → AnyRule → List NftRule) → ℕ → List AnyRule → List NftRule
@@ -285,7 +292,8 @@ abbrev pub forward_chain : Configuration → Machine → Direction → Path → 
 forward_chain c m d p = record { name = At Forward p; rules = forward_rules (forward_rule c m d p) 0 (rules_at c p) }
 
 abbrev pub backward_chain : Configuration → Machine → Direction → Path → Chain
-backward_chain c m d p = record { name = At Backward p; rules = backward_rules (backward_rule c m d p) 0 (rules_at c p) }
+backward_chain c m d p =
+    record { name = At Backward p; rules = backward_rules (backward_rule c m d p) 0 (rules_at c p) }
 
 -- what stands on no interface of the list is dropped
 abbrev pub unknown_matches : List Name → List Match

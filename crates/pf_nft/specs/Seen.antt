@@ -9,16 +9,16 @@ use Rattle.pf_nft.specs.declared.subset.Statement.TheVariants as statement
 use Rattle.pf_nft.specs.declared.subset.NftRule as code_rule
 use Rattle.pf_nft.specs.declared.subset.Chain as code_chain
 use Rattle.pf_nft.specs.declared.subset.NftRuleset as code_ruleset
-use Rattle.pf_nft.specs.Subset.{ChainName, Base, At, Note, Unknown, Skip, Default, Spot, Statement, Ends, Jump, NftRule, Chain, NftRuleset}
+use Rattle.pf_nft.specs.Subset.{ChainName, Base, At, Note, Unknown, Skip, Default, Spot, Statement, Ends, Jump}
+use Rattle.pf_nft.specs.Subset.{NftRule, Chain, NftRuleset}
 use Rattle.pf_nft.specs.declared.subset.SetName as code_set
 use Rattle.pf_nft.specs.declared.subset.NamedSet as code_named
 use Rattle.pf_nft.specs.declared.subset.Where as code_where
 use Rattle.pf_nft.specs.declared.subset.Where.TheVariants as place
 use Rattle.pf_nft.specs.declared.subset.Match as code_match
 use Rattle.pf_nft.specs.declared.subset.Match.TheVariants as match
-use Rattle.pf_nft.specs.declared.alternative.Alternative as code_alternative
-use Rattle.pf_nft.specs.Subset.{SetName, NamedSet, Where, From, InSet, Match, OnInterface, OfFamily, OfProtocol, AtAddress, AtPort, WithFlags, OfType}
-use Rattle.pf_nft.specs.Alternatives.{Alternative}
+use Rattle.pf_nft.specs.Subset.{SetName, NamedSet, Where, From, InSet}
+use Rattle.pf_nft.specs.Subset.{Match, OnInterface, OfFamily, OfProtocol, AtAddress, AtPort, WithFlags, OfType}
 use Rattle.pf_nft.specs.declared.machine.MachineInterface.{MachineInterface}
 use Rattle.pf_nft.specs.Rendering.{Machine}
 
@@ -40,9 +40,6 @@ match_of (match.AtAddress side family place negated) = AtAddress side family (wh
 match_of (match.AtPort side low high negated) = AtPort side low high negated
 match_of (match.WithFlags mask value) = WithFlags mask value
 match_of (match.OfType number) = OfType number
-
-abbrev pub alternative_of : code_alternative.Alternative → Alternative
-alternative_of a = record { family = a.family; protocol = a.protocol; tests = map match_of a.tests.items }
 
 abbrev pub machine_of : List MachineInterface → Machine
 machine_of m = map (λ (i : MachineInterface). (i.name, i.groups.items)) m

@@ -3,7 +3,8 @@
 ghost use Rattle.std.specs.Prelude.{◌≡◌, ◌++◌, ◌∷◌, [], IfOk, OnOk, map};
 ghost use Rattle.std.specs.List.{flat_map};
 ghost use Rattle.pf_nft.specs.Alternatives.{both_families, both_protocols, joined, both};
-ghost use Rattle.pf_nft.specs.Seen.{match_of, alternative_of};
+ghost use Rattle.pf_nft.specs.Seen.{match_of};
+ghost use Rattle.pf_nft.specs.inner.Asked.{alternative_of};
 
 use crate::subset::Match;
 use pf_addr::Family;

@@ -3,9 +3,11 @@
 ghost use Rattle.std.specs.Prelude.{◌≡◌, ◌∷◌, [], IfOk, map};
 ghost use Rattle.pf_nft.specs.Rendering.{always, direction_alternatives, family_alternatives, protocol_alternatives};
 ghost use Rattle.pf_nft.specs.Rendering.{type_alternatives, masked_by, flag_alternatives, on_some};
-ghost use Rattle.pf_nft.specs.Rendering.{interface_alternatives, ports_from, ports_but, port_span, of_protocol, on_ports, port_alternatives};
+ghost use Rattle.pf_nft.specs.Rendering.{interface_alternatives, ports_from, ports_but, port_span, of_protocol};
+ghost use Rattle.pf_nft.specs.Rendering.{on_ports, port_alternatives};
 ghost use Rattle.pf_nft.specs.Rendering.{such_alternatives, end_alternatives, alternatives};
-ghost use Rattle.pf_nft.specs.Seen.{match_of, alternative_of, machine_of};
+ghost use Rattle.pf_nft.specs.Seen.{match_of, machine_of};
+ghost use Rattle.pf_nft.specs.inner.Asked.{alternative_of};
 
 use crate::alternative::{Alternative, Protocol, both};
 use crate::hosts::host_alternatives;

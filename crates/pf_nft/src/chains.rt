@@ -1,12 +1,11 @@
 //! The chains of a path.
 
-ghost use Rattle.std.specs.Prelude.{◌≡◌, ◌≤◌, ◌+◌, ◌++◌, [], IfOk, OnOk, length, map, if◌then◌else◌};
-ghost use Rattle.pf_nft.specs.Rendering.{alternatives, outcome_of, filter_rules, chained_targets, forward_chains};
-ghost use Rattle.pf_nft.specs.Rendering.{backward_chains, forward_rule, backward_rule, forward_rules, backward_rules};
-ghost use Rattle.pf_nft.specs.Rendering.{forward_chain, backward_chain};
+ghost use Rattle.std.specs.Prelude.{◌≡◌, ◌≤◌, ◌+◌, ◌++◌, IfOk, OnOk, length, map};
+ghost use Rattle.pf_nft.specs.Rendering.{alternatives, outcome_of, filter_rules, anchor_chains, forward_rule};
+ghost use Rattle.pf_nft.specs.Rendering.{backward_rule, forward_rules, backward_rules, forward_chain, backward_chain};
 ghost use Rattle.pf_config.specs.declared.config.TheConstants.{RULES_MAX};
 ghost use Rattle.pf_ruleset.specs.Items.{AnchorRule};
-ghost use Rattle.pf_ruleset.specs.Seen.{heading_of, rule_of, target_of};
+ghost use Rattle.pf_ruleset.specs.Seen.{heading_of, rule_of};
 ghost use Rattle.pf_nft.specs.Seen.{chain_name_of, chain_of, machine_of, nft_rule_of};
 
 use crate::asked::alternatives;
@@ -73,8 +72,8 @@ fn chains_forward<'c>(
     place: Place<'c>,
     heading: &'c AnchorHeading,
 ) -> Result<Vec<ChainName<'c>>, AllocError>
-    ensures { IfOk result (λ v. map chain_name_of v.items ≡ forward_chains (chained_targets place.entry.config.now place.entry.path.now (target_of heading.now.target))
-        ++ (if heading.now.quick then backward_chains (chained_targets place.entry.config.now place.entry.path.now (target_of heading.now.target)) else [])) }
+    ensures { IfOk result (λ v. map chain_name_of v.items
+        ≡ anchor_chains place.entry.config.now place.entry.path.now (heading_of heading.now)) }
 {
     let paths = chained_targets(place.alloc, place.config, place.path, &heading.target)?;
     let mut chains = Vec::new(place.alloc);

@@ -1,11 +1,13 @@
 //! What is asked of the addresses of a packet.
 
 ghost use Rattle.std.specs.Prelude.{◌≡◌, ◌≤◌, ◌++◌, ◌-◌, ◌^◌, IfOk, OnOk, map, option_map};
+ghost use Rattle.pf_addr.specs.Blocks.{family_of};
 ghost use Rattle.pf_addr.specs.Order.{bits_of};
 ghost use Rattle.pf_nft.specs.Subset.{family_eq};
-ghost use Rattle.pf_nft.specs.Cuts.{first_of, last_of};
+ghost use Rattle.pf_nft.specs.Cuts.{first_of, last_of, top};
 ghost use Rattle.pf_nft.specs.Rendering.{owner_of, place_of, of_place, off_place, host_alternatives};
-ghost use Rattle.pf_nft.specs.Seen.{alternative_of, where_of};
+ghost use Rattle.pf_nft.specs.Seen.{where_of};
+ghost use Rattle.pf_nft.specs.inner.Asked.{alternative_of};
 
 use crate::alternative::{Alternative, Protocol};
 use crate::asked::always;
@@ -30,7 +32,7 @@ fn owner_of<'c>(config: &'c Config, path: &'c [Name], name: &str) -> Option<&'c 
 }
 
 /// Whether they are the same.
-fn is_same(one: Family, other: Family) -> bool
+pub(crate) fn is_same(one: Family, other: Family) -> bool
     ensures { result ≡ family_eq one other }
 {
     match (one, other) {
@@ -51,7 +53,8 @@ fn bits_of(addr: Addr) -> u128
 
 /// The first address of a prefix.
 pub(crate) fn first_of(prefix: &Prefix) -> u128
-    ensures { result ≡ first_of prefix.now }
+    ensures value { result ≡ first_of prefix.now }
+    ensures small { result ≤ top (family_of prefix.now.base) }
 {
     match prefix.base() {
         Addr::V4(bits) => u128::from(bits),

@@ -3,7 +3,8 @@
 ghost use Rattle.std.specs.Prelude.{◌≡◌, ◌++◌, ◌∷◌, [], IfOk, OnOk, map};
 ghost use Rattle.pf_nft.specs.Alternatives.{matches_of};
 ghost use Rattle.pf_nft.specs.Rendering.{with_statement, jump_each, jump_rules};
-ghost use Rattle.pf_nft.specs.Seen.{match_of, alternative_of, statement_of, chain_name_of, nft_rule_of};
+ghost use Rattle.pf_nft.specs.Seen.{match_of, statement_of, chain_name_of, nft_rule_of};
+ghost use Rattle.pf_nft.specs.inner.Asked.{alternative_of};
 
 use crate::alternative::{Alternative, Protocol, push_matches};
 use crate::subset::{ChainName, Match, NftRule, Statement};

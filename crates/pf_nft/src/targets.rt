@@ -79,7 +79,8 @@ fn push_members<'c>(
     kids: &'c [Rc<Anchor>],
 ) -> Result<(), AllocError>
     ensures { OnOk result (map (λ p. p.now) paths.new.items
-        ≡ map (λ p. p.now) paths.old.items ++ filter (is_chained config.now) (filter is_member (paths_of (shared kids.now)))) }
+        ≡ map (λ p. p.now) paths.old.items
+        ++ filter (is_chained config.now) (filter is_member (paths_of (shared kids.now)))) }
 {
     for kid in kids {
         push_member(config, paths, kid)?;

@@ -1,5 +1,5 @@
 -- The bytes of a command are those of an entry without who asked and the number.
-use Rattle.std.proofs.Common.{◌≡◌, ◌∙◌, ℕ, ◌≤◌, true, leb, List, length, take, drop, Option, Some, None, refl, sym, ap, subst, arith}
+use Rattle.std.proofs.Common.{◌≡◌, ◌∙◌, ℕ, ◌≤◌, true, leb, List, length, take, drop, Option, Some, None, refl, ap, arith}
 use Rattle.std.specs.Prelude.{option_map, IfSome, IsSome, slice_index}
 use Rattle.std.specs.Int.{from_be_bytes, w64}
 use Rattle.std.proofs.lemmas.Bool.{le-leb}

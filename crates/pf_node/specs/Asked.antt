@@ -1,5 +1,4 @@
 -- A command as it is asked.
-use Rattle.std.specs.Prelude.{ℕ, List}
 use Rattle.px_model.specs.Spelling.{Bytes, command_in}
 use Rattle.pf_entry.specs.Entry as entries
 use Rattle.pf_entry.specs.Entry.{spelling}

@@ -1,3 +1,4 @@
 pub mod Applied
+pub mod Outcomes
 pub mod Nodes
 pub mod Asked

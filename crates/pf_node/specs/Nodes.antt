@@ -1,5 +1,5 @@
 -- What a node shows of itself: a member with its record, and the configuration of the first entries that it learned.
-use Rattle.std.specs.Prelude.{ℕ, Bool}
+use Rattle.std.specs.Prelude.{ℕ, Bool, length}
 use Rattle.px_model.specs.Node.{Log}
 use Rattle.px_model.specs.World.{NodeState}
 use Rattle.px_model.specs.Spelling.{Bytes}
@@ -41,3 +41,7 @@ config_of n = n.config
 -- how many positions are applied
 abbrev pub applied_of : {R : Type 0} {G : Ghosts R} → Node R G → ℕ
 applied_of n = n.applied
+
+-- of how many of the last positions that are applied it keeps what came of them
+abbrev pub kept_of : {R : Type 0} {G : Ghosts R} → Node R G → ℕ
+kept_of n = length n.outcomes.kept.items

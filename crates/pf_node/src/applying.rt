@@ -1,14 +1,18 @@
 //! What is learned is applied in order.
 
-ghost use Rattle.std.specs.Prelude.{◌≡◌, ◌≤◌, Some, OnOk, OnErr, true};
-ghost use Rattle.pf_effect.specs.Effect.{after_command};
+ghost use Rattle.std.specs.Prelude.{◌≡◌, ◌≤◌, Some, IfOk, OnOk, OnErr, length, true};
+ghost use Rattle.pf_effect.specs.Effect.{after_command, effect};
 ghost use Rattle.pf_entry.specs.Entry.{are_names, path_of, rest_fits};
+ghost use Rattle.pf_entry.specs.Reading.{reading};
 ghost use Rattle.pf_entry.specs.Views.{command_of};
 ghost use Rattle.px_model.specs.Entries.{entry_of};
+ghost use Rattle.px_model.specs.Spelling.{spelled};
 ghost use Rattle.px_model.specs.Step.{front};
 ghost use Rattle.px_replica.specs.Replicas.{learned_by};
 ghost use Rattle.pf_node.specs.Applied.{after, entry_applied};
+ghost use Rattle.pf_node.specs.Outcomes.{outcome_of, outcome_read, outcomes_below};
 
+use crate::outcomes::{Outcome, Outcomes};
 use pf_config::Config;
 use pf_effect::{ApplyFault, apply};
 use pf_entry::{CommandView, decode};
@@ -17,56 +21,66 @@ use px_records::Records;
 use px_replica::Replica;
 use std::alloc::{AllocError, Global};
 
-/// The effect of a command, refused or not.
+/// The effect of a command, refused or not, and what came of it.
+#[tactic(auto, using(crate::proofs::Recording::done_outcome, crate::proofs::Recording::refused_outcome))]
 fn apply_command(
     alloc: Global,
     config: &mut Config,
     command: &CommandView,
-) -> Result<(), AllocError>
+) -> Result<Outcome, AllocError>
     requires names { are_names (path_of (command_of command.now)) ≡ true }
     requires rest { rest_fits (command_of command.now) ≡ true }
     ensures ok { OnOk result (config.new ≡ after_command config.old (command_of command.now)) }
+    ensures outcome { IfOk result (λ o. o ≡ outcome_of (effect config.old (command_of command.now))) }
     ensures err { OnErr result (config.new ≡ config.old) }
 {
     match apply(alloc, config, command) {
-        Ok(_) => Ok(()),
-        Err(ApplyFault::Refused(_, _)) => Ok(()),
+        Ok(applied) => Ok(Outcome::Done(applied.added, applied.removed)),
+        Err(ApplyFault::Refused(code, line)) => Ok(Outcome::Refused(code, line)),
         Err(ApplyFault::Memory) => Err(AllocError),
     }
 }
 
-/// The effect of the command that an entry spells.
-fn apply_entry(alloc: Global, config: &mut Config, entry: &Entry) -> Result<(), AllocError>
+/// The effect of the command that an entry spells, and what came of it.
+fn apply_entry(alloc: Global, config: &mut Config, entry: &Entry) -> Result<Outcome, AllocError>
     ensures ok { OnOk result (config.new ≡ entry_applied config.old (entry_of entry.now)) }
+    ensures outcome { IfOk result (λ o. o ≡ outcome_read config.old (reading (spelled (entry_of entry.now)))) }
     ensures err { OnErr result (config.new ≡ config.old) }
 {
     match decode(entry.bytes()) {
         Ok(view) => apply_command(alloc, config, &view.command),
-        Err(_) => Ok(()),
+        Err(_) => Ok(Outcome::NoCommand),
     }
 }
 
-/// Applies the learned entries up to the front. Where memory is wanting it stops between two entries.
-#[tactic(auto, using(crate::proofs::Following::after_next, crate::proofs::Following::learned_below))]
+/// Applies the learned entries up to the front. Where memory is wanting it stops between two entries. Outcomes are kept
+/// as far as memory serves.
+#[tactic(auto, using(crate::proofs::Following::after_next, crate::proofs::Following::learned_below, crate::proofs::Recording::recorded_next))]
 pub(crate) fn take_up<R: Records>(
     alloc: Global,
     replica: &Replica<R>,
     config: &mut Config,
     applied: &mut u32,
+    outcomes: &mut Outcomes,
 ) -> Result<(), AllocError>
     requires configured { after (learned_by replica.now) applied.old ≡ Some config.old }
     requires behind { applied.old ≤ front (learned_by replica.now) }
+    requires recorded { outcomes.old.kept.items ≡
+        outcomes_below (learned_by replica.now) applied.old (length outcomes.old.kept.items) }
     ensures configured { after (learned_by replica.now) applied.new ≡ Some config.new }
     ensures behind { applied.new ≤ front (learned_by replica.now) }
+    ensures recorded { outcomes.new.kept.items ≡
+        outcomes_below (learned_by replica.now) applied.new (length outcomes.new.kept.items) }
     ensures grows { applied.old ≤ applied.new }
     ensures done { OnOk result (applied.new ≡ front (learned_by replica.now)) }
 {
     let end = replica.front();
     for position in *applied..end {
-        match replica.learned(position) {
+        let outcome = match replica.learned(position) {
             None => return Ok(()),
             Some(entry) => apply_entry(alloc, config, entry)?,
-        }
+        };
+        outcomes.put(outcome);
         *applied = position + 1;
     }
     Ok(())

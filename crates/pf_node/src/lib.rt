@@ -3,8 +3,8 @@
 //! # Organization
 //!
 //! - [`Node`]: `ask`, `tick` and `receive` are steps of the agreement, and apply what was learned; `verdict` answers
-//!   packets.
-//! - `specs/Applied` is the configuration of a log; what a call makes stands in px_replica's `specs/Made`.
+//!   packets; `outcome` says what came of the command at a position.
+//! - `specs/Applied` is the configuration of a log, `specs/Outcomes` what came of its commands; what a call makes stands in px_replica's `specs/Made`.
 //!
 //! The configuration is always that after the first `applied` learned entries.
 #![tactic(auto)]
@@ -13,9 +13,11 @@ mod applying;
 mod asking;
 mod node;
 mod opening;
+mod outcomes;
 mod state;
 
 pub use asking::{asked_bytes, asked_entry};
+pub use outcomes::Outcome;
 pub use pf_config::Config;
 pub use pf_entry::Command;
 pub use pf_eval::{Packet, Verdict};

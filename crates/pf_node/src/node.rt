@@ -1,14 +1,14 @@
 //! The calls of a node.
 
-ghost use Rattle.std.specs.Prelude.{◌≡◌, ◌≢◌, ◌⊎◌, ◌<◌, ◌≤◌, true, false, Err, IfOk, OnOk, IsTrue, Some, []};
-ghost use Rattle.std.specs.Prelude.{option_map, length, is_some};
+ghost use Rattle.std.specs.Prelude.{◌≡◌, ◌≢◌, ◌⊎◌, ◌<◌, ◌≤◌, ◌+◌, ◌↔◌, true, false, Err, IfOk, OnOk, IsTrue, Some, []};
+ghost use Rattle.std.specs.Prelude.{option_map, length, is_some, IsSome, IfSome};
 ghost use Rattle.pf_entry.specs.Owned.{is_over};
 ghost use Rattle.pf_eval.specs.Seen.{judgement_of};
 ghost use Rattle.pf_eval.specs.Verdicts.{judgement};
 ghost use Rattle.px_model.specs.Node.Input.{Asks, Ticks};
 ghost use Rattle.px_model.specs.Step.{front, nothing_volatile, positions};
 ghost use Rattle.px_model.specs.Spelling.{spelled};
-ghost use Rattle.px_model.specs.Entries.{view_of};
+ghost use Rattle.px_model.specs.Entries.{entry_of, view_of};
 ghost use Rattle.px_wire.specs.Sent.{is_command};
 ghost use Rattle.px_replica.specs.Calls.{Call, Receives};
 ghost use Rattle.px_replica.specs.Faults.{fault_of};
@@ -16,15 +16,17 @@ ghost use Rattle.px_replica.specs.Replicas.{MatchReceived};
 ghost use Rattle.pf_node.specs.Applied.{after};
 ghost use Rattle.pf_node.specs.Asked.{unnamed, bytes_of};
 ghost use Rattle.pf_node.specs.Nodes.{records_of, learned_by, membership_of, has_failed, state_in, config_of};
-ghost use Rattle.pf_node.specs.Nodes.{applied_of, replica_of};
+ghost use Rattle.pf_node.specs.Nodes.{applied_of, replica_of, kept_of};
+ghost use Rattle.pf_node.specs.Outcomes.{outcome_at};
 
 use crate::applying::take_up;
 use crate::asking::{asked_bytes, asked_entry};
+use crate::outcomes::Outcome;
 use crate::state::Node;
 use pf_config::Config;
 use pf_entry::Command;
 use pf_eval::{Packet, Verdict, verdict};
-use px_model::EntryView;
+use px_model::{Entry, EntryView};
 use px_records::Records;
 use px_replica::{Datagram, Membership, NodeFault, Received};
 
@@ -94,6 +96,7 @@ impl<R: Records> Node<R> {
             &self.replica,
             &mut self.config,
             &mut self.applied,
+            &mut self.outcomes,
         )
         .is_err()
         {
@@ -120,6 +123,7 @@ impl<R: Records> Node<R> {
                     &self.replica,
                     &mut self.config,
                     &mut self.applied,
+                    &mut self.outcomes,
                 );
                 Ok(Received::Done)
             }
@@ -181,6 +185,27 @@ impl<R: Records> Node<R> {
         ensures { judgement_of result ≡ judgement (config_of self.now) packet.now }
     {
         verdict(&self.config, packet)
+    }
+
+    /// What came of the command at a position that is applied; none of another position, nor where it isn't kept any
+    /// more: of the last 4,096 positions it is, as far as memory serves.
+    #[tactic(auto, using(crate::proofs::Recording::recorded_at))]
+    pub fn outcome(&self, position: u32) -> Option<Outcome>
+        ensures kept { IsSome result ↔
+            ((position < applied_of self.now) × (applied_of self.now ≤ position + kept_of self.now)) }
+        ensures value { IfSome result (λ o. o ≡ outcome_at (learned_by self.now) position) }
+    {
+        if position >= self.applied {
+            return None;
+        }
+        self.outcomes.before((self.applied - 1 - position) as usize)
+    }
+
+    /// The entry learned at the position.
+    pub fn entry(&self, position: u32) -> Option<&Entry>
+        ensures { option_map (λ e. entry_of e.now) result ≡ learned_by self.now position }
+    {
+        self.replica.learned(position)
     }
 
     /// The bytes of the entry learned at the position.

@@ -10,6 +10,7 @@ ghost use Rattle.px_replica.specs.Replicas as replicas;
 ghost use Rattle.pf_node.specs.Nodes.{records_of, learned_by, membership_of, has_failed, state_in, applied_of};
 
 use crate::applying::take_up;
+use crate::outcomes::Outcomes;
 use crate::state::Node;
 use pf_config::Config;
 use px_records::Records;
@@ -26,6 +27,7 @@ fn joined<R: Records>(alloc: Global, replica: Replica<R>) -> Result<Node<R>, R>
             replica,
             config,
             applied: 0,
+            outcomes: Outcomes::new(alloc),
             alloc,
         }),
         Err(_) => Err(replica.close()),
@@ -42,6 +44,7 @@ fn bring_up<R: Records>(node: &mut Node<R>) -> Result<(), AllocError>
         &node.replica,
         &mut node.config,
         &mut node.applied,
+        &mut node.outcomes,
     )
 }
 

@@ -1,11 +1,13 @@
 //! A member with its record and its configuration.
 
-ghost use Rattle.std.specs.Prelude.{◌≡◌, ◌≤◌, Some};
+ghost use Rattle.std.specs.Prelude.{◌≡◌, ◌≤◌, Some, length};
 ghost use Rattle.std.specs.Coded.{Coded-set, coded_option};
 ghost use Rattle.px_model.specs.Step.{front};
 ghost use Rattle.px_replica.specs.Replicas.{learned_by};
 ghost use Rattle.pf_node.specs.Applied.{after};
+ghost use Rattle.pf_node.specs.Outcomes.{outcomes_below};
 
+use crate::outcomes::Outcomes;
 use pf_config::Config;
 use px_records::Records;
 use px_replica::Replica;
@@ -17,8 +19,10 @@ pub struct Node<R: Records> {
     pub(crate) replica: Replica<R>,
     pub(crate) config: Config,
     pub(crate) applied: u32,
+    pub(crate) outcomes: Outcomes,
     pub(crate) alloc: Global,
     ghost configured: { after (learned_by replica) applied ≡ Some config } by { Coded-set (coded_option config-code)
         (after (learned_by replica) applied) (Some config) },
     ghost behind: { applied ≤ front (learned_by replica) },
+    ghost recorded: { outcomes.kept.items ≡ outcomes_below (learned_by replica) applied (length outcomes.kept.items) },
 }

@@ -1,14 +1,13 @@
 -- What a command does, as it is answered.
-use Rattle.std.proofs.Common.{◌≡◌, ℕ, Bool, List, ◌++◌, Option, Some, None, Result, Ok, Err, refl, sym, ap, ◌∙◌, unwrap_or}
+use Rattle.std.proofs.Common.{◌≡◌, ℕ, Bool, List, ◌++◌, Option, Some, Result, Ok, Err, refl, sym, ap, ◌∙◌, unwrap_or}
 use Rattle.pf_config.specs.Map.{Configuration}
-use Rattle.pf_entry.specs.Entry.{Command}
-use Rattle.pf_effect.specs.Effect.{Effect, RefusedCommand, effect, after_command, changed}
+use Rattle.pf_effect.specs.Effect.{Effect, RefusedCommand, changed}
 use Rattle.pf_command.specs.declared.fault.CommandFault.{CommandFault}
 use Rattle.pf_command.specs.declared.fault.CommandFault.TheVariants.{Memory, Usage, BadPath, BadAddress, TooLong}
-use Rattle.pf_command.specs.Asked.{Asked, ActionValue}
+use Rattle.pf_command.specs.Asked.{Asked}
 use Rattle.pf_command.specs.Answers.{FailsAs, command_fault_code}
 use Rattle.pf_scripts.specs.Lines.{refused_line}
-use Rattle.pf_scripts.specs.Ctl.{Outcome, acted, prints, counts_line, change_line}
+use Rattle.pf_scripts.specs.Ctl.{acted, prints, counts_line, change_line}
 use Rattle.pf_scripts.specs.Seen.{Does}
 
 pub applied_does : (c new : Configuration) (counts : Bool) (r : Result Effect RefusedCommand) (added removed : ℕ) (before after : List ℕ) → r ≡ Ok (record { configuration = new; added = added; removed = removed }) → after ≡ before ++ counts_line counts added removed → Does (prints (changed c r) (change_line counts r)) new before after

@@ -3,3 +3,4 @@ pub mod Placing
 pub mod Listed
 pub mod Acted
 pub mod Rows
+pub mod Looked

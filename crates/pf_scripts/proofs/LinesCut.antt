@@ -1,11 +1,11 @@
 -- The first line of a script, and what stands behind it.
-use Rattle.std.proofs.Common.{◌≡◌, ◌==◌, ℕ, zero, suc, ◌+◌, ◌-◌, ◌<◌, ◌≤◌, Bool, true, false, cond, List, [], ◌∷◌, ◌++◌, length, length-drop, take, take_all, drop, refl, sym, ap, ◌∙◌, arith, subst, IsUtf8, Some, None, Option}
+use Rattle.std.proofs.Common.{◌≡◌, ◌==◌, ℕ, suc, ◌+◌, ◌-◌, ◌<◌, ◌≤◌, true, false, cond, List, [], ◌∷◌, length, length-drop, take, take_all, drop, refl, sym, ap, ◌∙◌, arith, IsUtf8, Some, None}
 use Rattle.std.specs.Str.{is_utf8}
 use Rattle.std.proofs.lemmas.Str.{is_utf8-from_IsUtf8, IsUtf8-from_is_utf8}
-use Rattle.std.specs.Prelude.{if◌then◌else◌, not, nat_lt}
+use Rattle.std.specs.Prelude.{if◌then◌else◌, not}
 use Rattle.std.specs.List.{prefix_len}
 use Rattle.std.proofs.lemmas.List.Sums.{prefix_len-le-length}
-use Rattle.pf_scripts.specs.Lines.{ScriptLine, lines, at_front}
+use Rattle.pf_scripts.specs.Lines.{lines, at_front}
 
 -- how many bytes stand before the end of the line
 abbrev pub line_len : List ℕ → ℕ

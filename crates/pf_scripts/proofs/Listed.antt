@@ -1,8 +1,7 @@
 -- Listings as the code makes them.
-use Rattle.std.proofs.Common.{◌≡◌, ℕ, List, [], ◌∷◌, ◌++◌, map, fold, refl, sym, ap, ◌∙◌}
+use Rattle.std.proofs.Common.{◌≡◌, ℕ, List, [], ◌∷◌, ◌++◌, fold, refl, ap}
 use Rattle.std.specs.List.{flat_map}
-use Rattle.pf_ruleset.specs.Names.{Name}
-use Rattle.pf_config.specs.Map.{AnchorValue, Path, paths_in}
+use Rattle.pf_config.specs.Map.{AnchorValue, paths_in}
 use Rattle.pf_scripts.specs.Listings.{leading, leading_from}
 use Rattle.pf_scripts.specs.Orders.{put_line}
 

@@ -1,8 +1,8 @@
 -- What clap says of pfctl's words.
-use Rattle.std.proofs.Common.{◌≡◌, ℕ, true, List, Option, Some, None, [], ◌∷◌, inl, inr, refl, subst}
+use Rattle.std.proofs.Common.{◌≡◌, true, List, Some, None, [], ◌∷◌, inl, inr, refl, subst}
 use Rattle.clap.specs.Words.{App, HasMatchesOf, is_simple, matches_of, kind_of, Row, Text, rows_of, found_of}
 use Rattle.clap.specs.Faults.{fault_of, is_simple_and_free}
-use Rattle.clap.specs.Kinds.{Kinds, HasKind, IsAmong}
+use Rattle.clap.specs.Kinds.{Kinds, HasKind}
 use Rattle.clap.specs.declared.error.Error.{Error}
 use Rattle.clap.specs.declared.error.kind.ErrorKind.TheVariants.{OutOfMemory}
 use Rattle.clap.specs.declared.parser.matches.ArgMatches.{ArgMatches}

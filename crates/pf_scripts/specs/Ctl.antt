@@ -1,6 +1,6 @@
 -- Scripts over one configuration: what each line does and prints.
-use Rattle.std.specs.Prelude.{◌≡◌, ℕ, Bool, true, false, List, [], ◌∷◌, ◌++◌, Option, Some, None}
-use Rattle.std.specs.Prelude.{Result, Ok, Err, IfSome, codes, decimal, unwrap_or, option_map, bytes_eq}
+use Rattle.std.specs.Prelude.{ℕ, Bool, true, false, List, [], ◌∷◌, ◌++◌, Option, Some, None}
+use Rattle.std.specs.Prelude.{Result, Ok, Err, codes, decimal, unwrap_or, bytes_eq}
 use Rattle.std.specs.Prelude.{if◌then◌else◌}
 use Rattle.clap.specs.Words.{Text, Row, matches_of, first_of, fault_of}
 use Rattle.clap.specs.Kinds.{Kinds}
@@ -16,7 +16,7 @@ use Rattle.pf_eval.specs.Seen.{verdict_text}
 use Rattle.pf_entry.specs.Entry.{Command, load, flush_rules, flush_tables, flush_all, add, delete, replace, flush_table}
 use Rattle.pf_effect.specs.Effect.{Effect, RefusedCommand, refused_text, effect, after_command, place_at, empty}
 use Rattle.pf_command.specs.Options.{pfctl_app}
-use Rattle.pf_command.specs.Asked.{Asked, ActionValue, Change, CheckOnly, ShowRules, ShowTables, ShowAnchors, TableShow}
+use Rattle.pf_command.specs.Asked.{Asked, Change, CheckOnly, ShowRules, ShowTables, ShowAnchors, TableShow}
 use Rattle.pf_command.specs.Asked.{TableTest, given_in, asked}
 use Rattle.pf_command.specs.Answers.{command_fault_code}
 use Rattle.pf_scripts.specs.Lines.{ScriptLine, lines, bytes_of, words_in, line, refused_line, spaced, stand_together}

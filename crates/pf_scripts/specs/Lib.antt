@@ -3,3 +3,4 @@ pub mod Orders
 pub mod Listings
 pub mod Ctl
 pub mod Seen
+pub mod WordsRead

@@ -1,13 +1,11 @@
 -- What pfctl lists (pfctl(8), -s and -T).
-use Rattle.std.specs.Prelude.{ℕ, Bool, List, [], ◌∷◌, ◌++◌, length, map, Option, Some, None, codes, decimal}
+use Rattle.std.specs.Prelude.{ℕ, List, [], ◌∷◌, ◌++◌, length, map, Option, Some, None, codes, decimal}
 use Rattle.std.specs.Prelude.{count_by}
 use Rattle.std.specs.List.{flat_map}
 use Rattle.pf_addr.specs.declared.addr.Addr.{Addr}
-use Rattle.pf_ruleset.specs.declared.ruleset.TableEntry.{TableEntry}
-use Rattle.pf_ruleset.specs.Names.{Name}
 use Rattle.pf_show.specs.Shown.{entry_part, shown_items}
 use Rattle.pf_table.specs.Tables.{TableValue, in_table}
-use Rattle.pf_config.specs.Map.{Configuration, AnchorValue, Path, rules_at, table_at, table_names}
+use Rattle.pf_config.specs.Map.{Configuration, AnchorValue, Path, rules_at, table_names}
 use Rattle.pf_scripts.specs.Lines.{line, refused_line}
 use Rattle.pf_scripts.specs.Orders.{entries_in_order, lines_in_order}
 

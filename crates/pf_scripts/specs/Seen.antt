@@ -1,5 +1,5 @@
 -- What the code's values stand for.
-use Rattle.std.specs.Prelude.{◌≡◌, ℕ, List, ◌++◌, map, Option, option_map, String, string_bytes}
+use Rattle.std.specs.Prelude.{◌≡◌, ℕ, List, ◌++◌, map, Option, String, string_bytes}
 use Rattle.pf_config.specs.Map.{Configuration}
 use Rattle.pf_scripts.specs.declared.lines.Line.{Line}
 use Rattle.pf_scripts.specs.declared.waiting.Waiting.{Waiting}

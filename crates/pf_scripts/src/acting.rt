@@ -39,7 +39,7 @@ fn is_counted(command: &Command) -> bool
 }
 
 /// Puts `ok` behind the output, with counts where they are printed.
-fn push_counts(
+pub fn push_counts(
     alloc: Global,
     out: &mut String,
     counts: bool,
@@ -110,7 +110,7 @@ fn run_change(
 }
 
 /// Where a text for this path is loaded.
-fn place_at(path: &[Name]) -> Place
+pub(crate) fn place_at(path: &[Name]) -> Place
     ensures { result ≡ place_at path.now }
 {
     match path {

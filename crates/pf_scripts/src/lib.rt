@@ -3,12 +3,14 @@
 //! # Organization
 //!
 //! - [`ctl`]: what a script of pfctl's words and packets prints.
+//! - [`read_words`]: what a line of pfctl's words comes to where nothing is changed; [`read_change`]: the change that it
+//!   asks for.
 //! - For scripts of other kinds: [`cut_line`] and [`words_in`] cut; [`takes_text`] and [`Waiting`] are of the text
 //!   behind a line of pfctl's words, [`matches_in`], [`file_in`] and [`is_standard`] of those words; [`push_line`],
-//!   [`push_number`], [`push_refusal`] and [`test_packet`] print.
+//!   [`push_number`], [`push_counts`], [`push_refusal`] and [`test_packet`] print.
 //!
 //! Within: `lines` cuts scripts and lines, `order` and `listing` are what is listed, `acting` what an action does,
-//! `pfctl` a line of pfctl's words, `stepping` a line of a script.
+//! `pfctl` a line of pfctl's words, `reading` one that changes nothing, `stepping` a line of a script.
 #![tactic(auto)]
 
 mod acting;
@@ -17,13 +19,18 @@ mod listing;
 mod order;
 mod pfctl;
 mod printing;
+mod reading;
 mod running;
 mod stepping;
 mod waiting;
+mod words_read;
 
+pub use acting::push_counts;
 pub use lines::{Line, cut_line, push_bytes, spaced, words_in};
 pub use pfctl::{file_in, is_standard, matches_in, takes_text};
 pub use printing::{push_line, push_number, push_refusal};
+pub use reading::{read_change, read_words};
 pub use running::ctl;
 pub use stepping::test_packet;
 pub use waiting::Waiting;
+pub use words_read::{ChangeFault, WordsRead};

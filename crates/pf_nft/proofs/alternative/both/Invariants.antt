@@ -1,7 +1,7 @@
 use Rattle.std.proofs.Common.{◌≡◌, ◌++◌, map, drop}
 use Rattle.std.specs.List.{flat_map}
 use Rattle.pf_nft.specs.Alternatives.{joined}
-use Rattle.pf_nft.specs.Seen.{alternative_of}
+use Rattle.pf_nft.specs.inner.Asked.{alternative_of}
 use Rattle.pf_nft.proofs.alternative.both.Given as goal
 
 abbrev pub invariant-loop-one : goal.invariant-loop-one

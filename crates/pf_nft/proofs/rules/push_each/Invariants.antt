@@ -1,7 +1,8 @@
 use Rattle.std.proofs.Common.{◌≡◌, ◌++◌, map, drop}
 use Rattle.pf_nft.specs.Subset.{Jump}
 use Rattle.pf_nft.specs.Rendering.{with_statement}
-use Rattle.pf_nft.specs.Seen.{alternative_of, chain_name_of, nft_rule_of}
+use Rattle.pf_nft.specs.Seen.{chain_name_of, nft_rule_of}
+use Rattle.pf_nft.specs.inner.Asked.{alternative_of}
 use Rattle.pf_nft.proofs.rules.push_each.Given as goal
 
 abbrev pub invariant-loop-chain : goal.invariant-loop-chain

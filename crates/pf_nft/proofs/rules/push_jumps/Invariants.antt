@@ -1,7 +1,8 @@
 use Rattle.std.proofs.Common.{◌≡◌, ◌++◌, map, drop}
 use Rattle.std.specs.List.{flat_map}
 use Rattle.pf_nft.specs.Rendering.{jump_each}
-use Rattle.pf_nft.specs.Seen.{alternative_of, chain_name_of, nft_rule_of}
+use Rattle.pf_nft.specs.Seen.{chain_name_of, nft_rule_of}
+use Rattle.pf_nft.specs.inner.Asked.{alternative_of}
 use Rattle.pf_nft.proofs.rules.push_jumps.Given as goal
 
 abbrev pub invariant-loop-alternative : goal.invariant-loop-alternative

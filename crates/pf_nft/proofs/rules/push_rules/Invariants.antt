@@ -1,6 +1,7 @@
 use Rattle.std.proofs.Common.{◌≡◌, ◌++◌, map, drop}
 use Rattle.pf_nft.specs.Rendering.{with_statement}
-use Rattle.pf_nft.specs.Seen.{alternative_of, statement_of, nft_rule_of}
+use Rattle.pf_nft.specs.Seen.{statement_of, nft_rule_of}
+use Rattle.pf_nft.specs.inner.Asked.{alternative_of}
 use Rattle.pf_nft.proofs.rules.push_rules.Given as goal
 
 abbrev pub invariant-loop-alternative : goal.invariant-loop-alternative

@@ -1,12 +1,14 @@
 -- what is applied is the log up to this position
-use Rattle.std.proofs.Common.{◌≡◌, ◌≤◌, Some}
+use Rattle.std.proofs.Common.{◌≡◌, ◌≤◌, Some, length}
 use Rattle.px_replica.specs.Replicas.{learned_by}
 use Rattle.pf_node.specs.Applied.{after}
+use Rattle.pf_node.specs.Outcomes.{outcomes_below}
 use Rattle.pf_node.proofs.applying.take_up.Given as goal
 
 abbrev pub invariant-loop-position : goal.invariant-loop-position
 invariant-loop-position g l = record {
   configured : after (learned_by l.replica) l.position ≡ Some l.config;
   here : l.applied ≡ l.position;
+  recorded : l.outcomes.kept.items ≡ outcomes_below (learned_by l.replica) l.position (length l.outcomes.kept.items);
   grown : l.fn.applied ≤ l.applied;
 }

@@ -2,6 +2,7 @@
 use Rattle.std.proofs.Common.{arith}
 use Rattle.px_replica.specs.Replicas.{learned_by}
 use Rattle.pf_node.proofs.Following.{after_kept}
+use Rattle.pf_node.proofs.Recording.{recorded_kept}
 use Rattle.pf_node.proofs.state.Node.ask_entry.Goals as goal
 
 pub invariant_of-self : goal.invariant_of-self
@@ -10,4 +11,5 @@ invariant_of-self g c =
     record {
       configured = after_kept (learned_by n.replica) (learned_by c.ask.new.self) n.applied n.config n.configured n.behind c.ask.ensures.call.below;
       behind = omega (arith, n.behind, c.ask.ensures.call.front);
+      recorded = recorded_kept (learned_by n.replica) (learned_by c.ask.new.self) n.applied n.outcomes.kept.items n.recorded n.behind c.ask.ensures.call.below;
     }

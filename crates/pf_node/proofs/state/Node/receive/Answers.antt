@@ -3,6 +3,7 @@ use Rattle.std.proofs.Common.{arith}
 use Rattle.px_replica.specs.Replicas.{learned_by}
 use Rattle.px_replica.proofs.Called.{received_below, received_front}
 use Rattle.pf_node.proofs.Following.{after_kept}
+use Rattle.pf_node.proofs.Recording.{recorded_kept}
 use Rattle.pf_node.proofs.state.Node.receive.Goals as goal
 
 pub take_up-taken-requires-clause-configured : goal.take_up-taken-requires-clause-configured
@@ -17,6 +18,12 @@ take_up-taken-requires-clause-behind g c =
     let h = received_front n.replica c.receive.new.self _ _ _ _ c.receive.ensures.received in
     omega (arith, n.behind, h)
 
+pub take_up-taken-requires-clause-recorded : goal.take_up-taken-requires-clause-recorded
+take_up-taken-requires-clause-recorded g c =
+    let n = c.args.self.now in
+    recorded_kept (learned_by n.replica) (learned_by c.receive.new.self) n.applied n.outcomes.kept.items n.recorded n.behind
+    (received_below n.replica c.receive.new.self _ _ _ _ c.receive.ensures.received)
+
 pub invariant_of-self-in-Err-1 : goal.invariant_of-self-in-Err-1
 invariant_of-self-in-Err-1 g c =
     let n = c.args.self.now in
@@ -25,4 +32,6 @@ invariant_of-self-in-Err-1 g c =
       configured = after_kept (learned_by n.replica) (learned_by c.receive.new.self) n.applied n.config n.configured n.behind
           (received_below n.replica c.receive.new.self _ _ _ _ c.receive.ensures.received);
       behind = omega (arith, n.behind, h);
+      recorded = recorded_kept (learned_by n.replica) (learned_by c.receive.new.self) n.applied n.outcomes.kept.items n.recorded n.behind
+          (received_below n.replica c.receive.new.self _ _ _ _ c.receive.ensures.received);
     }

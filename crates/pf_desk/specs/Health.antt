@@ -1,0 +1,62 @@
+-- How a node stands among the others.
+use Rattle.std.specs.Prelude.{ℕ, Bool, false, List, ◌/◌, ◌||◌, nat_lt, count_by, Option, Some, None}
+use Rattle.std.specs.Prelude.{codes, if◌then◌else◌}
+use Rattle.std.specs.List.{list_any}
+use Rattle.px_records.specs.declared.records.Records.{Ghosts}
+use Rattle.px_model.specs.Step.{front}
+use Rattle.pf_node.specs.Nodes.{learned_by, applied_of, membership_of, has_failed}
+use Rattle.pf_node.specs.declared.state.Node.{Node}
+use Rattle.pf_desk.specs.declared.tally.PeerTally.{PeerTally}
+use Rattle.pf_desk.specs.declared.health.Health.{Health}
+use Rattle.pf_desk.specs.declared.health.Health.TheVariants.{Works, Behind, Alone, Failed}
+use Rattle.pf_desk.specs.Answers.{AnswerValue}
+
+-- a datagram came in the last three seconds
+abbrev pub is_recent : Option ℕ → Bool
+is_recent None = false
+is_recent (Some seconds) = nat_lt seconds 3
+
+-- of how many of the other members one came
+abbrev pub counted : List PeerTally → ℕ
+counted peers = count_by (λ p. is_recent p.heard) peers
+
+-- a member needs a position that isn't applied here
+abbrev pub is_needed : ℕ → List PeerTally → Bool
+is_needed applied peers = list_any (λ p. nat_lt applied p.need) peers
+
+-- a fault of the store; fewer than a majority heard, this one counted; positions to be applied; else it works
+abbrev pub health_by : (failed few behind : Bool) → Health
+health_by failed few behind = if failed then Failed else if few then Alone else if behind then Behind else Works
+
+abbrev pub health : {R : Type 0} {G : Ghosts R} → Node R G → List PeerTally → Health
+health n peers = health_by (has_failed n)
+    (nat_lt (counted peers) ((membership_of n).members / 2))
+    (nat_lt (applied_of n) (front (learned_by n)) || is_needed (applied_of n) peers)
+
+-- ---- what is answered
+
+abbrev pub health_line : Health → List ℕ
+health_line Works = codes "ok\n"
+health_line Behind = codes "behind\n"
+health_line Alone = codes "alone\n"
+health_line Failed = codes "failed\n"
+
+-- 503 of a failed one alone
+abbrev pub health_code : Health → ℕ
+health_code Works = 200
+health_code Behind = 200
+health_code Alone = 200
+health_code Failed = 503
+
+-- 200 of one that works alone
+abbrev pub ready_code : Health → ℕ
+ready_code Works = 200
+ready_code Behind = 503
+ready_code Alone = 503
+ready_code Failed = 503
+
+abbrev pub health_answer : Health → AnswerValue
+health_answer h = record { code = health_code h; body = health_line h }
+
+abbrev pub ready_answer : Health → AnswerValue
+ready_answer h = record { code = ready_code h; body = health_line h }

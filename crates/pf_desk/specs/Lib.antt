@@ -1,0 +1,12 @@
+pub mod Answers
+pub mod Changing
+pub mod Health
+pub mod Listings
+pub mod LogLines
+pub mod Metrics
+pub mod Outcomes
+pub mod Requests
+pub mod Standing
+pub mod Status
+pub mod StatusJson
+pub mod Targets

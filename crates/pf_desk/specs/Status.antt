@@ -1,0 +1,56 @@
+-- The lines of a node's status.
+use Rattle.std.specs.Prelude.{ℕ, Bool, true, false, List, [], ◌∷◌, ◌++◌, Option, Some, None, codes, decimal}
+use Rattle.std.specs.List.{flat_map}
+use Rattle.clap.specs.Words.{Text}
+use Rattle.pf_scripts.specs.Lines.{line}
+use Rattle.pf_desk.specs.declared.figures.Figures.{Figures}
+use Rattle.pf_desk.specs.declared.tally.PeerTally.{PeerTally}
+use Rattle.pf_desk.specs.declared.tally.Tally.{Tally}
+
+-- a text and the number behind it
+abbrev pub field : Text × ℕ → List ℕ
+field f = f.0 ++ decimal f.1
+
+abbrev pub fields : List (Text × ℕ) → List ℕ
+fields list = flat_map field list
+
+abbrev pub heard : Option ℕ → List ℕ
+heard None = codes " heard never"
+heard (Some seconds) = field (codes " heard ", seconds)
+
+-- peer N heard SECONDS in DATAGRAMS out DATAGRAMS
+abbrev pub peer_line : PeerTally → List ℕ
+peer_line p = ((field (codes "peer ", p.node) ++ heard p.heard)
+    ++ fields ((codes " in ", p.datagrams_in) ∷ (codes " out ", p.datagrams_out) ∷ [])) ++ codes "\n"
+
+abbrev pub store_line : Bool → List ℕ
+store_line true = codes "store failed\n"
+store_line false = codes "store ok\n"
+
+abbrev pub node_line : Figures → ℕ → List ℕ
+node_line f up =
+    line (fields ((codes "node ", f.node) ∷ (codes " of ", f.members) ∷ (codes " cluster ", f.cluster) ∷ (codes " up ", up) ∷ []))
+
+abbrev pub front_line : Figures → List ℕ
+front_line f =
+    line (fields ((codes "front ", f.front) ∷ (codes " applied ", f.applied) ∷ (codes " round ", f.round)
+    ∷ (codes " waiting ", f.waiting) ∷ []))
+
+abbrev pub config_line : Figures → List ℕ
+config_line f =
+    line (fields ((codes "config anchors ", f.anchors) ∷ (codes " rules ", f.rules) ∷ (codes " tables ", f.tables)
+    ∷ (codes " addresses ", f.addresses) ∷ []))
+
+abbrev pub wire_line : Tally → List ℕ
+wire_line t =
+    line (fields ((codes "wire unsent ", t.unsent) ∷ (codes " dropped ", t.dropped) ∷ (codes " ignored ", t.ignored) ∷ []))
+
+abbrev pub door_line : Tally → List ℕ
+door_line t =
+    line (fields ((codes "door seats ", t.seats) ∷ (codes " served ", t.served) ∷ (codes " refused ", t.refused) ∷ []))
+
+-- all of them, a line for each other member in their midst
+abbrev pub status_lines : Figures → Tally → List ℕ
+status_lines f t =
+    (((((node_line f t.up ++ front_line f) ++ config_line f) ++ flat_map peer_line t.peers.items) ++ wire_line t)
+    ++ store_line f.has_failed) ++ door_line t

@@ -1,0 +1,49 @@
+-- A node's status as JSON (RFC 8259): the names of its lines.
+use Rattle.std.specs.Prelude.{ℕ, Bool, true, false, List, [], ◌∷◌, ◌++◌, Option, Some, None, codes}
+use Rattle.pf_desk.specs.declared.figures.Figures.{Figures}
+use Rattle.pf_desk.specs.declared.tally.PeerTally.{PeerTally}
+use Rattle.pf_desk.specs.declared.tally.Tally.{Tally}
+use Rattle.pf_desk.specs.Status.{field, fields, status_lines}
+
+-- never is null
+abbrev pub heard_json : Option ℕ → List ℕ
+heard_json None = codes ",\"heard\":null"
+heard_json (Some seconds) = field (codes ",\"heard\":", seconds)
+
+abbrev pub peer_json : PeerTally → List ℕ
+peer_json p = ((field (codes "{\"node\":", p.node) ++ heard_json p.heard)
+    ++ fields ((codes ",\"in\":", p.datagrams_in) ∷ (codes ",\"out\":", p.datagrams_out) ∷ [])) ++ codes "}"
+
+-- peers with commas between them
+abbrev pub peers_json : List PeerTally → List ℕ
+peers_json [] = []
+peers_json (p ∷ []) = peer_json p
+peers_json (p ∷ q ∷ ps) = (peer_json p ++ codes ",") ++ peers_json (q ∷ ps)
+
+abbrev pub figures_json : Figures → ℕ → List ℕ
+figures_json f up =
+    fields ((codes "{\"node\":", f.node) ∷ (codes ",\"members\":", f.members) ∷ (codes ",\"cluster\":", f.cluster)
+    ∷ (codes ",\"up\":", up) ∷ (codes ",\"front\":", f.front) ∷ (codes ",\"applied\":", f.applied) ∷ [])
+
+abbrev pub config_json : Figures → List ℕ
+config_json f =
+    fields ((codes ",\"round\":", f.round) ∷ (codes ",\"waiting\":", f.waiting) ∷ (codes ",\"anchors\":", f.anchors)
+    ∷ (codes ",\"rules\":", f.rules) ∷ (codes ",\"tables\":", f.tables) ∷ (codes ",\"addresses\":", f.addresses) ∷ [])
+
+abbrev pub wire_json : Tally → List ℕ
+wire_json t =
+    fields ((codes "],\"unsent\":", t.unsent) ∷ (codes ",\"dropped\":", t.dropped) ∷ (codes ",\"ignored\":", t.ignored)
+    ∷ (codes ",\"seats\":", t.seats) ∷ (codes ",\"served\":", t.served) ∷ (codes ",\"refused\":", t.refused) ∷ [])
+
+abbrev pub store_json : Bool → List ℕ
+store_json true = codes ",\"store\":\"failed\"}\n"
+store_json false = codes ",\"store\":\"ok\"}\n"
+
+abbrev pub status_json : Figures → Tally → List ℕ
+status_json f t =
+    ((((figures_json f t.up ++ config_json f) ++ codes ",\"peers\":[") ++ peers_json t.peers.items) ++ wire_json t)
+    ++ store_json f.has_failed
+
+abbrev pub status_as : Bool → Figures → Tally → List ℕ
+status_as true f t = status_json f t
+status_as false f t = status_lines f t

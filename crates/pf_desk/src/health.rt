@@ -1,0 +1,126 @@
+//! How a node stands among the others.
+
+ghost use Rattle.std.specs.Prelude.{◌≡◌, ◌≤◌, ◌+◌, IfOk, length, take};
+ghost use Rattle.pf_desk.specs.Answers.{answer_value};
+ghost use Rattle.pf_desk.specs.Health.{is_recent, is_needed, health_by, health_line, health_code, ready_code};
+ghost use Rattle.pf_desk.specs.Health.{counted, health, health_answer, ready_answer};
+
+use crate::answer::Answer;
+use crate::tally::PeerTally;
+use pf_node::Node;
+use px_records::Records;
+use std::alloc::{AllocError, Global};
+
+/// How a node stands among the others.
+#[derive(Clone, Copy, Debug, PartialEq, Eq)]
+pub enum Health {
+    /// It hears a majority, and has applied what it could.
+    Works,
+    /// Positions are learned, here or elsewhere, that it hasn't applied.
+    Behind,
+    /// It hears fewer than a majority of the members, itself counted.
+    Alone,
+    /// Its store failed.
+    Failed,
+}
+
+/// Whether a datagram came in the last three seconds.
+fn is_recent(heard: Option<u64>) -> bool
+    ensures { result ≡ is_recent heard }
+{
+    match heard {
+        Some(seconds) => seconds < 3,
+        None => false,
+    }
+}
+
+/// How many of the rows are of members that were heard.
+fn counted(peers: &[PeerTally]) -> usize
+    ensures { result ≡ counted peers.now }
+{
+    peers.iter().filter(|p| is_recent(p.heard)).count()
+}
+
+/// Whether a member needs a position that isn't applied here.
+fn is_needed(applied: u32, peers: &[PeerTally]) -> bool
+    ensures { result ≡ is_needed applied peers.now }
+{
+    peers.iter().any(|p| applied < p.need)
+}
+
+impl Health {
+    /// How a node stands among the others: failed where its store failed, else alone where fewer than a majority were
+    /// heard in the last three seconds, this one counted, else behind where not everything learned is applied, or a
+    /// member needs what isn't, else it works. A row for each member but this one has what was heard of it.
+    pub fn of<R: Records>(node: &Node<R>, peers: &[PeerTally]) -> Health
+        ensures { result ≡ health node.now peers.now }
+    {
+        let applied = node.applied();
+        let heard = counted(peers);
+        let members = node.membership().members();
+        if node.has_failed() {
+            return Health::Failed;
+        }
+        if heard < (members / 2) as usize {
+            return Health::Alone;
+        }
+        if applied < node.front() || is_needed(applied, peers) {
+            return Health::Behind;
+        }
+        Health::Works
+    }
+
+    /// The word.
+    fn line(self) -> &'static str
+        ensures { result.now ≡ health_line self }
+    {
+        match self {
+            Health::Works => "ok\n",
+            Health::Behind => "behind\n",
+            Health::Alone => "alone\n",
+            Health::Failed => "failed\n",
+        }
+    }
+
+    /// 503 of a failed one alone.
+    fn health_code(self) -> u16
+        ensures { result ≡ health_code self }
+    {
+        match self {
+            Health::Works | Health::Behind | Health::Alone => 200,
+            Health::Failed => 503,
+        }
+    }
+
+    /// 200 of one that works alone.
+    fn ready_code(self) -> u16
+        ensures { result ≡ ready_code self }
+    {
+        match self {
+            Health::Works => 200,
+            Health::Behind | Health::Alone | Health::Failed => 503,
+        }
+    }
+
+    /// Whether the node works at all.
+    pub(crate) fn health_answer(self, alloc: Global) -> Result<Answer, AllocError>
+        ensures { IfOk result (λ a. answer_value a ≡ health_answer self) }
+    {
+        let body = String::from_str(alloc, self.line())?;
+        Ok(Answer {
+            code: self.health_code(),
+            body,
+        })
+    }
+
+    /// Whether it is up with the others.
+    pub(crate) fn ready_answer(self, alloc: Global) -> Result<Answer, AllocError>
+        ensures { IfOk result (λ a. answer_value a ≡ ready_answer self) }
+    {
+        let body = String::from_str(alloc, self.line())?;
+        Ok(Answer {
+            code: self.ready_code(),
+            body,
+        })
+    }
+}

@@ -1,0 +1,43 @@
+//! What a running node answers operators, at the position that it stands at.
+//!
+//! # Organization
+//!
+//! - [`Desk`]: a node, and what is asked of it. Reads leave it as it is, and are answered from the configuration after
+//!   its first `applied` positions; a change is one ask of the node, or a refusal with nothing changed.
+//! - [`request_in`]: what HTTP's method, target and body ask for, a [`Request`].
+//! - [`Answer`]: HTTP's status and the body.
+//! - `specs/Answers` says what is answered, `specs/Changing` what a change does.
+//!
+//! Nothing here knows of sockets: who calls moves the bytes, and hands in what it counted ([`Tally`]).
+#![tactic(auto)]
+
+mod answer;
+mod answering;
+mod changing;
+mod desk;
+mod figures;
+mod health;
+mod json;
+mod listing;
+mod log;
+mod metrics;
+mod outcome;
+mod packets;
+mod query;
+mod request;
+mod routing;
+mod standing;
+mod status;
+mod tally;
+mod target;
+mod words;
+
+pub use answer::{Answer, status_of};
+pub use changing::Changed;
+pub use desk::Desk;
+pub use figures::Figures;
+pub use health::Health;
+pub use pf_node::Node;
+pub use request::{Listing, Read, Request, Routed};
+pub use routing::request_in;
+pub use tally::{PeerTally, Tally};

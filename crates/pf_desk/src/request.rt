@@ -1,0 +1,101 @@
+//! What operators ask for.
+
+/// A line of pfctl's words that lists what stands (pfctl(8), `-s` and `-T`). An empty path is the main ruleset's.
+#[derive(Debug, Drop)]
+pub enum Listing<'a> {
+    /// `-a PATH -s rules`
+    Rules {
+        /// The anchor's path.
+        path: String,
+    },
+    /// `-a PATH -s Tables`
+    Tables {
+        /// The anchor's path.
+        path: String,
+    },
+    /// `-s Anchors`
+    Anchors,
+    /// `-a PATH -t TABLE -T show`
+    Table {
+        /// The anchor's path.
+        path: String,
+        /// The table's name.
+        table: String,
+    },
+    /// `-a PATH -t TABLE -T test ADDR..`
+    TableTest {
+        /// The anchor's path.
+        path: String,
+        /// The table's name.
+        table: String,
+        /// The addresses.
+        addresses: Vec<&'a str>,
+    },
+}
+
+/// What only looks.
+#[derive(Debug, Drop)]
+pub enum Read<'a> {
+    /// A listing.
+    List(Listing<'a>),
+    /// The verdicts for packets.
+    Test {
+        /// Each packet's text, 1 to 64 of them.
+        packets: Vec<&'a str>,
+    },
+    /// What became of a request.
+    Standing {
+        /// The node that took it in.
+        origin: u8,
+        /// Its number there.
+        number: u64,
+    },
+    /// The log from a position on, or its last lines.
+    Log {
+        /// The first position.
+        from: Option<u32>,
+    },
+    /// How the node is, in lines or as JSON.
+    Status {
+        /// As JSON.
+        json: bool,
+    },
+    /// Whether the node works: it hasn't failed.
+    Health,
+    /// Whether it is up with the others.
+    Ready,
+    /// Numbers for Prometheus.
+    Metrics,
+}
+
+/// What is asked for.
+#[derive(Debug, Drop)]
+pub enum Request<'a> {
+    /// A change.
+    Change {
+        /// pfctl's words, `pfctl` itself first.
+        words: Vec<&'a str>,
+        /// The text of `-f -`.
+        text: &'a [u8],
+    },
+    /// A read, once so many positions are applied.
+    Read {
+        /// How many positions at least, 0 for any.
+        at: u32,
+        /// What is read.
+        read: Read<'a>,
+    },
+    /// The node is to end after this turn.
+    Stop,
+}
+
+/// What a method, a path, its query and a body ask for.
+#[derive(Debug, Drop)]
+pub enum Routed<'a> {
+    /// A request.
+    Asked(Request<'a>),
+    /// HTTP's status, with an empty body: 404 another path, 405 another method, 400 parameters that aren't understood.
+    Refused(u16),
+    /// The number of a refusal: of a body that isn't understood.
+    Unread(u8),
+}

@@ -1,0 +1,43 @@
+//! What the loop counts.
+
+/// What the loop counted of a peer.
+#[derive(Clone, Copy, Debug, PartialEq, Eq, Default)]
+pub struct PeerTally {
+    /// The member's number.
+    pub node: u8,
+    /// Whole seconds since a datagram of it came, none if never.
+    pub heard: Option<u64>,
+    /// How many datagrams came from it.
+    pub datagrams_in: u64,
+    /// How many were handed to the wire for it.
+    pub datagrams_out: u64,
+    /// The greatest position that it said it needs, in the last three seconds, else 0.
+    pub need: u32,
+}
+
+/// What the loop counted, by the clock that nobody sets.
+#[derive(Debug, Drop)]
+pub struct Tally {
+    /// Whole seconds since the node started.
+    pub up: u64,
+    /// A row for each other member, by their numbers.
+    pub peers: Vec<PeerTally>,
+    /// Datagrams that the system didn't take.
+    pub unsent: u64,
+    /// Datagrams with a wrong tag, or asks that came where there is a door.
+    pub dropped: u64,
+    /// Datagrams that pass and spell nothing.
+    pub ignored: u64,
+    /// How many turns and ticks the node made.
+    pub turns: u64,
+    /// See `turns`.
+    pub ticks: u64,
+    /// How many operators are connected.
+    pub seats: u64,
+    /// Requests that were answered 2xx, 4xx and 5xx.
+    pub served: u64,
+    /// See `served`.
+    pub refused: u64,
+    /// See `served`.
+    pub unavailable: u64,
+}

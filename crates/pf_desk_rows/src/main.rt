@@ -1,0 +1,131 @@
+//! Requests to a node of a cluster of one, and what is answered: the stored input has the requests, the stored output
+//! what is to be written.
+//!
+//! A row of the input is a line `== METHOD PATH?QUERY`, behind which `json` may stand for a client that wants JSON, and
+//! the text up to the newline before the next such line is its body. What stands before the first one is passed over. Of each row the output has the same line, a line `-- CODE`,
+//! and the answer's body. Between two rows the node's clock ticks, and what it sends to itself comes.
+#![tactic(auto)]
+
+use pf_desk::{Answer, Desk, PeerTally, Routed, Tally, request_in, status_of};
+use pf_node::{Datagram, Membership, Node};
+use px_records::{MemoryRecords, Records};
+use std::alloc::Global;
+use std::io;
+
+/// How many rounds of messages are delivered at most.
+const ROUNDS: u8 = 16;
+
+/// A node of a cluster of one.
+fn opened(alloc: Global) -> Option<Node<MemoryRecords>> {
+    let m = Membership::new(7, 1, 0)?;
+    if m.me() >= m.members() {
+        return None;
+    }
+    Node::open(alloc, m, MemoryRecords::new(alloc, 1)).ok()
+}
+
+/// The node takes what it sent.
+fn deliver<R: Records>(node: &mut Node<R>, sent: &[Datagram], out: &mut Vec<Datagram>) -> bool {
+    for datagram in sent {
+        if node.receive(&datagram.bytes, out).is_err() {
+            return false;
+        }
+    }
+    true
+}
+
+/// The clock ticks, and what is sent comes, until nothing is sent any more.
+fn settle<R: Records>(alloc: Global, node: &mut Node<R>) -> bool {
+    let mut sent = Vec::new(alloc);
+    if node.tick(&mut sent).is_err() {
+        return false;
+    }
+    for _ in 0..ROUNDS {
+        let mut next = Vec::new(alloc);
+        if !deliver(node, &sent, &mut next) {
+            return false;
+        }
+        if next.is_empty() {
+            return true;
+        }
+        sent = next;
+    }
+    true
+}
+
+/// What a loop would have counted.
+fn tally(alloc: Global) -> io::Result<Tally> {
+    let mut peers = Vec::new(alloc);
+    peers.push(PeerTally {
+        node: 1,
+        heard: Some(2),
+        datagrams_in: 88_123,
+        datagrams_out: 88_140,
+        need: 0,
+    })?;
+    peers.push(PeerTally {
+        node: 2,
+        heard: None,
+        datagrams_in: 0,
+        datagrams_out: 88_140,
+        need: 0,
+    })?;
+    Ok(Tally {
+        up: 86_412,
+        peers,
+        unsent: 1,
+        dropped: 4,
+        ignored: 2,
+        turns: 70,
+        ticks: 30,
+        seats: 1,
+        served: 31,
+        refused: 5,
+        unavailable: 3,
+    })
+}
+
+/// What is answered to a row.
+fn answered<R: Records>(
+    alloc: Global,
+    desk: &mut Desk<R>,
+    line: &str,
+    body: &str,
+) -> io::Result<Answer> {
+    let (method, rest) = line.split_once(' ').unwrap_or((line, ""));
+    let (target, accept) = rest.split_once(' ').unwrap_or((rest, ""));
+    let (path, query) = target.split_once('?').unwrap_or((target, ""));
+    let counted = tally(alloc)?;
+    match request_in(alloc, method, path, query, body.as_bytes(), accept == "json")? {
+        Routed::Asked(request) => Ok(desk.answer(&request, &counted)?),
+        Routed::Refused(code) => Ok(Answer {
+            code,
+            body: String::new(alloc),
+        }),
+        Routed::Unread(code) => Ok(Answer {
+            code: status_of(code),
+            body: format!(in alloc; "refused {code}\n")?,
+        }),
+    }
+}
+
+fn main(rt: HostRuntime) -> io::Result<()> {
+    let alloc = rt.alloc();
+    let input = io::read_to_string(alloc, rt.reader())?;
+    let Some(node) = opened(alloc) else {
+        return println!(rt; "memory");
+    };
+    let mut desk = Desk::new(alloc, node);
+    for row in input.split("\n== ").skip(1) {
+        let (line, body) = match row.split_once('\n') {
+            Some((line, body)) => (line, body),
+            None => (row, ""),
+        };
+        let answer = answered(alloc, &mut desk, line, body)?;
+        print!(rt; "== {line}\n-- {}\n{}", answer.code, answer.body)?;
+        if !settle(alloc, &mut desk.node) {
+            return println!(rt; "failed");
+        }
+    }
+    Ok(())
+}

@@ -1,0 +1,3 @@
+pub mod Machines
+pub mod Outputs
+pub mod Seen

@@ -1,0 +1,63 @@
+-- What is written of a text of rules for a machine.
+use Rattle.std.specs.Prelude.{ℕ, Bool, true, false, List, [], ◌++◌, Option, Some, None, Result, Ok, Err, codes, decimal}
+use Rattle.pf_grammar.specs.declared.fault.Refusal.{Refusal}
+use Rattle.pf_grammar.specs.declared.place.Place.TheVariants.{Main}
+use Rattle.pf_words.specs.declared.profile.Profile.TheVariants.{Two}
+use Rattle.pf_ruleset.specs.Rulesets.{RulesetValue}
+use Rattle.pf_grammar.specs.Reading.{reading}
+use Rattle.pf_config.specs.declared.fault.ConfigFault.{ConfigFault}
+use Rattle.pf_config.specs.Map.{Configuration}
+use Rattle.pf_config.specs.Changes.{load_ruleset}
+use Rattle.pf_config.specs.Codes as config
+use Rattle.pf_nft.specs.Rendering.{Machine}
+use Rattle.pf_nft.specs.declared.rendering.RenderFault.{RenderFault}
+use Rattle.pf_nft.specs.Refusing.{fault_code}
+use Rattle.pf_nft_text.specs.Loading.{rendered_lines}
+use Rattle.pf_expansion.specs.Causes.{cause_code}
+use Rattle.pf_kernel.specs.Machines.{machine_in}
+
+-- the bytes, and whether they are a refusal
+pub record Written : Type 0 where
+  pub text : List ℕ
+  pub refused : Bool
+
+abbrev pub refused : Option ℕ → Written
+refused None = record { text = []; refused = true }
+refused (Some code) = record { text = codes "refused " ++ (decimal code ++ codes "\n"); refused = true }
+
+-- of a text, with the line at which the statement begins
+abbrev pub refused_at : ℕ → ℕ → Written
+refused_at code line = record {
+  text = codes "refused " ++ (decimal code ++ (codes " line " ++ (decimal line ++ codes "\n")));
+  refused = true;
+}
+
+abbrev pub written_lines : Result (List ℕ) RenderFault → Written
+written_lines (Ok text) = record { text = text; refused = false }
+written_lines (Err fault) = refused (fault_code fault)
+
+abbrev pub rendered_of : Machine → ℕ → Result Configuration ConfigFault → Written
+rendered_of m position (Ok c) = written_lines (rendered_lines c m position)
+rendered_of m position (Err fault) = refused (config.fault_code fault)
+
+-- nothing is loaded
+abbrev pub nothing_loaded : Configuration
+nothing_loaded = record { skip = []; anchors = [] }
+
+-- the text's ruleset, loaded as the main one
+abbrev pub loaded_of : Machine → ℕ → Result RulesetValue Refusal → Written
+loaded_of m position (Err refusal) = refused_at (cause_code refusal.cause) refusal.line
+loaded_of m position (Ok rules) = rendered_of m position (load_ruleset nothing_loaded [] rules)
+
+-- for a machine, if the list of its interfaces is one
+abbrev pub output_for : Option Machine → ℕ → List ℕ → Written
+output_for None position input = refused (Some 89)
+output_for (Some m) position input = loaded_of m position (reading Main Two input)
+
+abbrev pub machine_of_file : Option (List ℕ) → Option Machine
+machine_of_file None = None
+machine_of_file (Some text) = machine_in text
+
+-- over this file of interfaces, none where it can't be read, and this input
+unfoldable pub output : Option (List ℕ) → ℕ → List ℕ → Written
+output file position input = output_for (machine_of_file file) position input

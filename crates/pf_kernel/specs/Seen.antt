@@ -1,0 +1,7 @@
+-- What an output of the code stands for.
+use Rattle.std.specs.Prelude.{string_bytes}
+use Rattle.pf_kernel.specs.declared.outputs.Written as code
+use Rattle.pf_kernel.specs.Outputs.{Written}
+
+abbrev pub written : code.Written → Written
+written w = record { text = string_bytes w.text; refused = w.refused }

@@ -1,0 +1,13 @@
+//! A text of rules as what nft(8) loads on a machine.
+//!
+//! # Organization
+//!
+//! - [`machine_in`]: the interfaces of a machine, as a file lists them.
+//! - [`nft_output`]: what is written of a text for a machine: three lines, or a refusal.
+#![tactic(auto)]
+
+mod machines;
+mod outputs;
+
+pub use machines::{INTERFACES_MAX, machine_in};
+pub use outputs::{Written, nft_output};

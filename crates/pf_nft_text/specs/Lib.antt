@@ -1,0 +1,3 @@
+pub mod Texts
+pub mod States
+pub mod Loading

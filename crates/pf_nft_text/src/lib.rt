@@ -1,0 +1,19 @@
+//! A ruleset of nftables as the lines that nft(8) loads.
+//!
+//! # Organization
+//!
+//! - [`rendered_lines`]: a configuration as three lines, a transaction each, or why there are none.
+//! - [`lines`]: the lines of two rulesets, one a direction.
+#![tactic(auto)]
+
+mod chain_lines;
+mod flags;
+mod labels;
+mod loading;
+mod matching;
+mod numbers;
+mod rule_lines;
+mod set_lines;
+mod states;
+
+pub use loading::{lines, rendered_lines};

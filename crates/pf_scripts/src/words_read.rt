@@ -1,0 +1,25 @@
+//! What words come to where nothing is changed.
+
+use pf_command::Command;
+use std::alloc::{AllocError, AllocFailed};
+
+/// What a line of pfctl's words comes to where nothing is changed.
+#[derive(Debug, Drop)]
+pub enum WordsRead {
+    /// It asks for this change, which isn't made.
+    Change(Command),
+    /// The number of the refusal, and the line of a refused text, 0 where there is none.
+    Refused(u8, u64),
+    /// What is printed.
+    Output(String),
+}
+
+/// Why words ask for no change.
+#[derive(Clone, Copy, Debug, PartialEq, Eq)]
+pub enum ChangeFault {
+    /// Memory is wanting.
+    Memory,
+    /// The number of the refusal: 40 of the words, or where they ask for no change, 24 of a path, 1 to 3 of an address,
+    /// 41 of a command that is too long.
+    Refused(u8),
+}

@@ -1,0 +1,108 @@
+//! When a node's clock ticks.
+
+use pf_turn::{Beat, Pace, View};
+
+/// A node with nothing to do.
+const IDLE: View = View {
+    waiting: 0,
+    is_attempting: false,
+    front: 0,
+    is_told: false,
+    reached: 0,
+};
+
+/// One whose command is being proposed.
+const ATTEMPTING: View = View {
+    waiting: 1,
+    is_attempting: true,
+    front: 0,
+    is_told: false,
+    reached: 0,
+};
+
+/// One with a command that waits.
+const WAITING: View = View {
+    waiting: 1,
+    is_attempting: false,
+    front: 0,
+    is_told: false,
+    reached: 0,
+};
+
+/// One that lacks two entries, of which it has just been told one.
+const TOLD: View = View {
+    waiting: 0,
+    is_attempting: false,
+    front: 7,
+    is_told: true,
+    reached: 9,
+};
+
+/// One with a command that waits, which lacks entries.
+const BEHIND: View = View {
+    waiting: 1,
+    is_attempting: false,
+    front: 3,
+    is_told: false,
+    reached: 9,
+};
+
+#[test]
+fn an_idle_node_asks_at_its_start_and_then_once_a_second(rt: HostRuntime) {
+    let mut pace = Pace::new(0);
+    assert!(rt; pace.beat(0, IDLE) == Beat::Tick);
+    assert!(rt; pace.beat(1, IDLE) == Beat::Wait(100));
+    assert!(rt; pace.beat(990_500, IDLE) == Beat::Wait(10));
+    assert!(rt; pace.beat(999_999, IDLE) == Beat::Wait(1));
+    assert!(rt; pace.beat(1_000_000, IDLE) == Beat::Tick);
+    assert!(rt; pace.beat(1_000_001, IDLE) == Beat::Wait(100));
+}
+
+#[test]
+fn a_waiting_command_is_proposed_at_once(rt: HostRuntime) {
+    let mut pace = Pace::new(2);
+    assert!(rt; pace.beat(5, WAITING) == Beat::Tick);
+}
+
+#[test]
+fn what_is_told_is_asked_on_at_once(rt: HostRuntime) {
+    let mut pace = Pace::new(2);
+    assert!(rt; pace.beat(0, IDLE) == Beat::Tick);
+    assert!(rt; pace.beat(5, TOLD) == Beat::Tick);
+}
+
+#[test]
+fn a_lost_attempt_is_begun_anew_later_each_time(rt: HostRuntime) {
+    let mut pace = Pace::new(0);
+    assert!(rt; pace.beat(0, WAITING) == Beat::Tick);
+    // four trips of 20 ms, and 20 ms more
+    assert!(rt; pace.beat(99_999, ATTEMPTING) == Beat::Wait(1));
+    assert!(rt; pace.beat(100_000, ATTEMPTING) == Beat::Tick);
+    assert!(rt; pace.beat(299_999, ATTEMPTING) == Beat::Wait(1));
+    assert!(rt; pace.beat(300_000, ATTEMPTING) == Beat::Tick);
+    assert!(rt; pace.beat(699_999, ATTEMPTING) == Beat::Wait(1));
+}
+
+#[test]
+fn who_lost_the_lead_keeps_still(rt: HostRuntime) {
+    let mut pace = Pace::new(1);
+    assert!(rt; pace.beat(0, WAITING) == Beat::Tick);
+    assert!(rt; pace.beat(1_000, ATTEMPTING) == Beat::Wait(100));
+    // the attempt is gone, and nothing was learned: a part of the clock's 0 and the number's 2, and 1, of 6 ms, twice
+    assert!(rt; pace.beat(2_000, WAITING) == Beat::Wait(37));
+}
+
+#[test]
+fn who_lacks_entries_proposes_nothing_for_a_while(rt: HostRuntime) {
+    let mut pace = Pace::new(0);
+    assert!(rt; pace.beat(10, BEHIND) == Beat::Wait(100));
+    assert!(rt; pace.beat(100_009, BEHIND) == Beat::Wait(1));
+    assert!(rt; pace.beat(100_010, BEHIND) == Beat::Tick);
+}
+
+#[test]
+fn no_command_is_taken_in_at_the_start(rt: HostRuntime) {
+    let pace = Pace::new(0);
+    assert!(rt; pace.is_listening(199_999));
+    assert!(rt; !pace.is_listening(200_000));
+}
