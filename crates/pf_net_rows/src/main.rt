@@ -8,7 +8,27 @@
 
 use pf_service::run_net;
 use std::alloc::Global;
+use std::fs::{self, Permissions};
 use std::io;
+use std::os::unix::fs::PermissionsExt;
+
+/// The files of keys, which their owner alone may read, but for the last.
+const KEYS: [(&str, u32); 6] = [
+    ("one.key", 0o600),
+    ("other.key", 0o600),
+    ("short.key", 0o600),
+    ("long.key", 0o600),
+    ("odd.key", 0o600),
+    ("open.key", 0o644),
+];
+
+/// Who may read which key: a checkout doesn't say it.
+fn set_modes(rt: &HostRuntime) -> io::Result<()> {
+    for (path, mode) in KEYS {
+        fs::set_permissions(rt, path, Permissions::from_mode(mode))?;
+    }
+    Ok(())
+}
 
 /// The words of a run, the program's name first; the row's name is none of them.
 fn words_of(alloc: Global, line: &str) -> io::Result<Vec<&str>> {
@@ -25,6 +45,7 @@ fn words_of(alloc: Global, line: &str) -> io::Result<Vec<&str>> {
 
 fn main(rt: HostRuntime) -> io::Result<()> {
     let alloc = rt.alloc();
+    set_modes(&rt)?;
     let input = io::read_to_string(alloc, rt.reader())?;
     let mut writer = io::writer(&rt);
     for row in input.split("\n== ").skip(1) {
