@@ -1,6 +1,6 @@
 -- Outcomes as lines.
-use Rattle.std.proofs.Common.{◌≡◌, ℕ, Bool, true, false, ◌<◌, ◌≤◌, ◌+◌, List, [], ◌++◌, Option, Some, None, Result, Ok, Err, IsSome, IfSome, refl, sym, ap, ◌∙◌, subst, arith}
-use Rattle.std.specs.Prelude.{◌↔◌, ◌&&◌, nat_lt, nat_le, option_map, if◌then◌else◌}
+use Rattle.std.proofs.Common.{◌≡◌, ℕ, Bool, true, false, ◌<◌, ◌≤◌, ◌+◌, List, ◌++◌, Option, Some, None, Result, Ok, Err, IsSome, refl, ap, ◌∙◌}
+use Rattle.std.specs.Prelude.{◌↔◌, nat_lt, nat_le, option_map}
 use Rattle.std.proofs.lemmas.Bool.{lt-ltb, le-leb}
 use Rattle.px_model.specs.Node as node
 use Rattle.px_model.specs.Node.{Log}

@@ -1,10 +1,10 @@
 -- Lines of a log, one after the other.
-use Rattle.std.proofs.Common.{◌≡◌, ℕ, zero, suc, ◌-◌, ◌<◌, true, List, ◌++◌, length, refl, ap, sym, ◌∙◌, arith}
+use Rattle.std.proofs.Common.{◌≡◌, ℕ, zero, suc, ◌-◌, ◌<◌, true, List, ◌++◌, length, refl, arith}
 use Rattle.std.specs.Prelude.{nat_lt}
 use Rattle.std.proofs.lemmas.Bool.{lt-ltb}
 use Rattle.px_model.specs.Node.{Log}
 use Rattle.px_model.specs.Spelling.{Bytes}
-use Rattle.pf_desk.specs.LogLines.{bytes_max, lines_before, log_line}
+use Rattle.pf_desk.specs.LogLines.{lines_before, log_line}
 
 -- one line more, while there is room
 pub lines_step : (log : Log Bytes) (applied kept end n : ℕ) (text : List ℕ) → 0 < n → length text < 262144 →

@@ -1,10 +1,10 @@
 -- Where a request was learned.
-use Rattle.std.proofs.Common.{◌≡◌, ℕ, zero, suc, ◌+◌, Bool, true, false, Option, Some, None, refl, sym, ap, ◌∙◌}
-use Rattle.std.specs.Prelude.{◌==◌, ◌&&◌, option_map, if◌then◌else◌}
+use Rattle.std.proofs.Common.{◌≡◌, ℕ, false, Option, Some, None, ap}
+use Rattle.std.specs.Prelude.{◌==◌, ◌&&◌}
 use Rattle.px_model.specs.Node as node
 use Rattle.px_model.specs.Node.{Log}
 use Rattle.px_model.specs.Spelling.{Bytes}
-use Rattle.pf_desk.specs.Standing.{is_request, place_below}
+use Rattle.pf_desk.specs.Standing.{is_request}
 
 pub request_some : (o : Option (node.Entry Bytes)) (e : node.Entry Bytes) (origin number : ℕ) → Some e ≡ o →
     ((e.origin == origin) && (e.number == number)) ≡ is_request origin number o

@@ -1,6 +1,6 @@
 -- What is answered: HTTP's status and a body.
 use Rattle.std.specs.Prelude.{ℕ, Bool, List, [], ◌∷◌, ◌++◌, ◌==◌, ◌||◌, Option, Some, None, option_map, string_bytes}
-use Rattle.std.specs.Prelude.{codes, if◌then◌else◌}
+use Rattle.std.specs.Prelude.{if◌then◌else◌}
 use Rattle.clap.specs.Words.{Text}
 use Rattle.pf_config.specs.Map.{Configuration}
 use Rattle.pf_eval.specs.Packets.{PacketValue}

@@ -51,6 +51,15 @@ abbrev pub Changes : {R : Type 0} {G : Ghosts R} → (s t : Node R G) → Result
 Changes s t (Err code) changed = (t ≡ s) × (changed ≡ Refused code)
 Changes s t (Ok command) changed = AskedOnce s t command changed
 
+-- ---- the numbers that were given
+
+-- the first and the last of them, with one more
+abbrev pub with_number : Option (ℕ × ℕ) → Changed → Option (ℕ × ℕ)
+with_number taken (Refused code) = taken
+with_number taken Memory = taken
+with_number None (Asked origin number) = Some (number, number)
+with_number (Some t) (Asked origin number) = Some (t.0, number)
+
 -- ---- what is answered
 
 -- asked N.NUMBER

@@ -1,5 +1,5 @@
 -- The words of a listing, as a script of pfctl's has them.
-use Rattle.std.specs.Prelude.{ℕ, List, [], ◌∷◌, ◌++◌, map, codes, string_bytes}
+use Rattle.std.specs.Prelude.{ℕ, List, [], ◌∷◌, map, codes, string_bytes}
 use Rattle.clap.specs.Words.{Text}
 use Rattle.pf_desk.specs.declared.request.Listing.{Listing}
 use Rattle.pf_desk.specs.declared.request.Listing.TheVariants as list

@@ -1,5 +1,5 @@
 -- A command's words, and the lines of a log.
-use Rattle.std.specs.Prelude.{ℕ, zero, suc, List, [], ◌∷◌, ◌++◌, ◌&&◌, ◌+◌, ◌-◌, length, min, nat_lt, Option, Some, None}
+use Rattle.std.specs.Prelude.{ℕ, zero, suc, List, [], ◌∷◌, ◌++◌, ◌+◌, ◌-◌, length, min, nat_lt, Option, Some, None}
 use Rattle.std.specs.Prelude.{codes, decimal, unwrap_or, if◌then◌else◌}
 use Rattle.std.specs.List.{flat_map}
 use Rattle.px_model.specs.Node as node
@@ -14,7 +14,6 @@ use Rattle.pf_entry.specs.Entry.{flush_table}
 use Rattle.pf_entry.specs.Reading.{reading}
 use Rattle.pf_effect.specs.Effect.{entry_of}
 use Rattle.pf_show.specs.Shown.{entry_part}
-use Rattle.pf_scripts.specs.Lines.{line}
 use Rattle.pf_node.specs.Nodes.{learned_by, applied_of, kept_of}
 use Rattle.pf_node.specs.declared.state.Node.{Node}
 use Rattle.pf_desk.specs.Answers.{AnswerValue, shown}

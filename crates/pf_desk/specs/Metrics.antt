@@ -1,6 +1,5 @@
 -- Numbers for Prometheus, in its text format.
-use Rattle.std.specs.Prelude.{ℕ, List, ◌++◌, Option, Some, None, codes, decimal}
-use Rattle.std.specs.List.{flat_map}
+use Rattle.std.specs.Prelude.{ℕ, List, ◌++◌, codes, decimal}
 use Rattle.clap.specs.Words.{Text}
 use Rattle.pf_scripts.specs.Lines.{line}
 

@@ -1,6 +1,5 @@
 -- What is answered to a request.
-use Rattle.std.specs.Prelude.{◌≡◌, ◌⊎◌, ℕ, Bool, true, false, List, [], map, length, nat_lt, Option, Result, codes}
-use Rattle.std.specs.Prelude.{string_bytes}
+use Rattle.std.specs.Prelude.{◌≡◌, ◌⊎◌, ℕ, Bool, true, false, [], map, length, nat_lt, Option, Result, codes}
 use Rattle.px_model.specs.Step.{front}
 use Rattle.px_records.specs.declared.records.Records.{Ghosts}
 use Rattle.pf_entry.specs.Entry as entries
@@ -16,7 +15,7 @@ use Rattle.pf_desk.specs.declared.request.Request.{Request}
 use Rattle.pf_desk.specs.declared.request.Request.TheVariants as request
 use Rattle.pf_desk.specs.declared.tally.Tally.{Tally}
 use Rattle.pf_desk.specs.Answers.{AnswerValue, shown, listed, verdicts}
-use Rattle.pf_desk.specs.Changing.{Changes, change_answer}
+use Rattle.pf_desk.specs.Changing.{Changes, with_number, change_answer}
 use Rattle.pf_desk.specs.Health.{health, health_answer, ready_answer}
 use Rattle.pf_desk.specs.Listings.{words_of}
 use Rattle.pf_desk.specs.LogLines.{log_answer}
@@ -66,17 +65,19 @@ IsReadIf false n taken t r a = IsRead n taken t r a
 abbrev pub no_memory : AnswerValue
 no_memory = record { code = 503; body = [] }
 
--- one ask or none, and the line of it
-pub record IsChange {R : Type 0} {G : Ghosts R} (s t : Node R G) (asked : Result entries.Command ℕ) (a : AnswerValue) :
+-- one ask or none, and the line of it; the number that was given is kept
+pub record IsChange {R : Type 0} {G : Ghosts R} (s t : Desk R G) (asked : Result entries.Command ℕ) (a : AnswerValue) :
     Type 0 where
   pub changed : Changed
-  pub changes : Changes s t asked changed
+  pub changes : Changes s.node t.node asked changed
+  pub taken : t.taken ≡ with_number s.taken changed
+  pub stopping : t.is_stopping ≡ s.is_stopping
   pub answered : (a ≡ change_answer changed) ⊎ (a ≡ no_memory)
 
 -- A read leaves all as it was. A change is one ask of the node, or a refusal with nothing changed.
 abbrev pub Answers : {R : Type 0} {G : Ghosts R} → (s t : Desk R G) → Tally → Request → AnswerValue → Type 0
 Answers s t counted (request.Change words text) a =
-    IsChange s.node t.node (change_in (map (λ w. w.now) words.items) text.now) a
+    IsChange s t (change_in (map (λ w. w.now) words.items) text.now) a
 Answers s t counted (request.Read at r) a =
     (t ≡ s) × IsReadIf (nat_lt (applied_of s.node) at) s.node s.taken counted r a
-Answers s t counted request.Stop a = (t.node ≡ s.node) × (t.is_stopping ≡ true) × (a ≡ shown (codes "stopping\n"))
+Answers s t counted request.Stop a = (t ≡ record s { is_stopping = true }) × (a ≡ shown (codes "stopping\n"))

@@ -1,5 +1,5 @@
 -- What became of a request.
-use Rattle.std.specs.Prelude.{ℕ, zero, suc, Bool, true, false, List, [], ◌∷◌, ◌++◌, ◌==◌, ◌&&◌, ◌+◌, nat_lt, nat_le}
+use Rattle.std.specs.Prelude.{ℕ, zero, suc, Bool, false, List, [], ◌++◌, ◌==◌, ◌&&◌, ◌+◌, nat_lt, nat_le}
 use Rattle.std.specs.Prelude.{Option, Some, None, codes, decimal, if◌then◌else◌}
 use Rattle.px_model.specs.Node as node
 use Rattle.px_model.specs.Node.{Log}

@@ -1,10 +1,10 @@
 //! What is asked at a desk.
 
-ghost use Rattle.std.specs.Prelude.{◌≡◌, IfOk, OnErr, OnOk, map, codes, nat_lt, true};
+ghost use Rattle.std.specs.Prelude.{◌≡◌, IfOk, OnErr, OnOk, map, codes, nat_lt, true, false, None};
 ghost use Rattle.pf_node.specs.Nodes.{config_of, applied_of};
 ghost use Rattle.pf_scripts.specs.WordsRead.{change_in};
 ghost use Rattle.pf_desk.specs.Answers.{answer_value, listed, verdicts, shown};
-ghost use Rattle.pf_desk.specs.Changing.{Changes};
+ghost use Rattle.pf_desk.specs.Changing.{Changes, with_number};
 ghost use Rattle.pf_desk.specs.Health.{health};
 ghost use Rattle.pf_desk.specs.Listings.{words_of};
 ghost use Rattle.pf_desk.specs.Requests.{IsStatus, IsRead, IsReadIf, IsChange, Answers};
@@ -29,20 +29,25 @@ use px_records::Records;
 use std::alloc::{AllocError, Global};
 
 /// The first and the last number, with one more.
-fn with_number(taken: Option<(u64, u64)>, changed: Changed) -> Option<(u64, u64)> {
-    let Changed::Asked(_, number) = changed else {
-        return taken;
-    };
-    match taken {
-        Some((first, _)) => Some((first, number)),
-        None => Some((number, number)),
+fn with_number(taken: Option<(u64, u64)>, changed: Changed) -> Option<(u64, u64)>
+    ensures { result ≡ with_number taken changed }
+{
+    match changed {
+        Changed::Refused(_) => taken,
+        Changed::Memory => taken,
+        Changed::Asked(_, number) => match taken {
+            Some((first, _)) => Some((first, number)),
+            None => Some((number, number)),
+        },
     }
 }
 
 impl<R: Records> Desk<R> {
     /// A desk at a node.
     pub fn new(alloc: Global, node: Node<R>) -> Desk<R>
-        ensures { result.node ≡ node }
+        ensures node { result.node ≡ node }
+        ensures works { result.is_stopping ≡ false }
+        ensures taken { result.taken ≡ None }
     {
         Desk {
             node,
@@ -150,6 +155,7 @@ impl<R: Records> Desk<R> {
     pub fn change(&mut self, words: &[&str], text: &[u8]) -> Result<Changed, AllocError>
         ensures changes { IfOk result (Changes self.old.node self.new.node
             (change_in (map (λ w. w.now) words.now) text.now)) }
+        ensures taken { IfOk result (λ c. self.new.taken ≡ with_number self.old.taken c) }
         ensures stopping { self.new.is_stopping ≡ self.old.is_stopping }
         ensures memory { OnErr result (self.new ≡ self.old) }
     {
@@ -161,7 +167,7 @@ impl<R: Records> Desk<R> {
     /// What a change answers. Where no memory is there for its line it is 503 with an empty body, and the node may have
     /// been asked.
     fn change_answer(&mut self, words: &[&str], text: &[u8]) -> Result<Answer, AllocError>
-        ensures changes { IfOk result (λ a. IsChange self.old.node self.new.node
+        ensures changes { IfOk result (λ a. IsChange self.old self.new
             (change_in (map (λ w. w.now) words.now) text.now) (answer_value a)) }
         ensures memory { OnErr result (self.new ≡ self.old) }
     {
@@ -177,8 +183,7 @@ impl<R: Records> Desk<R> {
 
     /// The node is to end after this turn.
     fn stop(&mut self) -> Result<Answer, AllocError>
-        ensures node { self.new.node ≡ self.old.node }
-        ensures stops { OnOk result (self.new.is_stopping ≡ true) }
+        ensures stops { OnOk result (self.new ≡ record self.old { is_stopping = true }) }
         ensures answer { IfOk result (λ a. answer_value a ≡ shown (codes "stopping\n")) }
         ensures memory { OnErr result (self.new ≡ self.old) }
     {

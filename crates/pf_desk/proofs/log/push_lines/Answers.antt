@@ -1,4 +1,4 @@
-use Rattle.std.proofs.Common.{◌≡◌, ◌++◌, ◌-◌, ◌<◌, length, string_bytes, List, ℕ, ap, sym, ◌∙◌, arith}
+use Rattle.std.proofs.Common.{◌≡◌, ◌-◌, ◌<◌, length, string_bytes, List, ℕ, ap, sym, ◌∙◌, arith}
 use Rattle.pf_node.specs.Nodes.{learned_by, applied_of, kept_of}
 use Rattle.pf_desk.specs.LogLines.{lines_before}
 use Rattle.pf_desk.proofs.Logged.{lines_step}
