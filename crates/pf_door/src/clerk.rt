@@ -1,6 +1,6 @@
 //! Requests as the desk has them, and its answers as HTTP has them.
 
-ghost use Rattle.std.specs.Prelude.{⊤};
+ghost use Rattle.std.specs.Prelude.{⊤, ◌≡◌, OnErr};
 
 use bytes::{BufMut, Bytes};
 use http::{HeaderName, HeaderValue, StatusCode};
@@ -19,15 +19,18 @@ pub(crate) struct Clerk<'d, R: Records> {
     pub(crate) is_listening: bool,
 }
 
+/// The kind of a plain text.
+const TEXT: &str = "text/plain; charset=utf-8";
+
 /// The kind of text that a request is answered with.
 fn content_type(request: &Request) -> &'static str {
     match request {
         Request::Read { at: _, read } => match read {
             Read::Metrics => "text/plain; version=0.0.4",
             Read::Status { json: true } => "application/json",
-            _ => "text/plain; charset=utf-8",
+            _ => TEXT,
         },
-        _ => "text/plain; charset=utf-8",
+        _ => TEXT,
     }
 }
 
@@ -90,7 +93,9 @@ fn status(code: u16) -> StatusCode {
 
 impl<'d, R: Records> Clerk<'d, R> {
     /// What a request is answered.
-    fn answer(&mut self, request: &Request) -> Result<Answer, AllocError> {
+    fn answer(&mut self, request: &Request) -> Result<Answer, AllocError>
+        ensures { OnErr result (self.new ≡ self.old) }
+    {
         if self.is_listening {
             if let Request::Change { .. } = request {
                 return Ok(Answer {
@@ -116,13 +121,8 @@ impl<'d, R: Records> Clerk<'d, R> {
         add_number(self.alloc, response, b"pfx-front", u64::from(node.front()))
     }
 
-    /// Writes an answer.
-    fn write(
-        &self,
-        answer: &Answer,
-        kind: &str,
-        response: &mut Response,
-    ) -> Result<(), AllocError> {
+    /// Fills a response with an answer.
+    fn fill(&self, answer: &Answer, kind: &str, response: &mut Response) -> Result<(), AllocError> {
         response.status = status(answer.code);
         self.add_standing(response)?;
         add_text(self.alloc, response, b"content-type", kind)?;
@@ -133,37 +133,45 @@ impl<'d, R: Records> Clerk<'d, R> {
         Ok(())
     }
 
+    /// Writes an answer; where memory is wanting for that it is 503 alone, since what was asked may be done.
+    fn write(&self, answer: &Answer, kind: &str, response: &mut Response) {
+        if self.fill(answer, kind, response).is_err() {
+            response.clear();
+            response.status = StatusCode::SERVICE_UNAVAILABLE;
+        }
+    }
+
     /// Answers a request.
     fn serve(
         &mut self,
         request: &http::Request<Bytes>,
         response: &mut Response,
-    ) -> Result<(), AllocError> {
+    ) -> Result<(), AllocError>
+        ensures { OnErr result (self.new ≡ self.old) }
+    {
         let uri = request.uri();
         let body: &[u8] = request.body();
         let query = uri.query().unwrap_or("");
         let is_json = accepts_json(request);
-        match request_in(
-            self.alloc,
-            request.method().as_str(),
-            uri.path(),
-            query,
-            body,
-            is_json,
-        )? {
+        let method = request.method().as_str();
+        match request_in(self.alloc, method, uri.path(), query, body, is_json)? {
             Routed::Asked(asked) => {
                 let answer = self.answer(&asked)?;
-                self.write(&answer, content_type(&asked), response)
+                self.write(&answer, content_type(&asked), response);
             }
             Routed::Refused(code) => {
-                response.status = status(code);
-                self.add_standing(response)
+                let answer = Answer {
+                    code,
+                    body: String::new(self.alloc),
+                };
+                self.write(&answer, TEXT, response);
             }
             Routed::Unread(code) => {
                 let answer = refused(self.alloc, code)?;
-                self.write(&answer, "text/plain; charset=utf-8", response)
+                self.write(&answer, TEXT, response);
             }
         }
+        Ok(())
     }
 }
 

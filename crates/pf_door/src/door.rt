@@ -171,9 +171,7 @@ impl Door {
     /// at. Whether anything was done.
     pub(crate) fn serve<R: Records>(&mut self, clerk: &mut Clerk<'_, R>, now: u64) -> bool {
         let mut is_busy = self.take_in(now);
-        let mut left = self.seats.len();
-        while left > 0 {
-            left -= 1;
+        for _seat in 0..self.seats.len() {
             if self.next >= self.seats.len() {
                 self.next = 0;
             }

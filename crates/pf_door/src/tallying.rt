@@ -95,14 +95,16 @@ impl<W> TallyWire<W> {
         self.tally.up = now / 1_000_000;
         self.tally.turns = self.tally.turns.saturating_add(u64::from(turns));
         self.tally.seats = seats as u64;
-        for i in 0..self.tally.peers.len().min(self.heard.len()) {
+        for i in 0..self.heard.len() {
             let heard = self.heard[i];
-            self.tally.peers[i].heard = match heard.last {
-                Some(last) => Some(now.saturating_sub(last) / 1_000_000),
-                None => None,
-            };
-            let is_recent = now.saturating_sub(heard.needed) < RECENT;
-            self.tally.peers[i].need = if is_recent { heard.need } else { 0 };
+            if let Some(peer) = self.tally.peers.get_mut(i) {
+                peer.heard = match heard.last {
+                    Some(last) => Some(now.saturating_sub(last) / 1_000_000),
+                    None => None,
+                };
+                let is_recent = now.saturating_sub(heard.needed) < RECENT;
+                peer.need = if is_recent { heard.need } else { 0 };
+            }
         }
     }
 
