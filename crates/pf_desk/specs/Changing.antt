@@ -39,7 +39,8 @@ IsAnswered s t None Memory = ⊥
 IsAnswered s t (Some e) changed = changed ≡ refused_by e
 
 -- the node was asked once: an event of the model, or its refusal; what is applied stays
-pub record AskedOnce {R : Type 0} {G : Ghosts R} (s t : Node R G) (command : entries.Command) (changed : Changed) : Type 0 where
+pub record AskedOnce {R : Type 0} {G : Ghosts R} (s t : Node R G) (command : entries.Command) (changed : Changed) :
+    Type 0 where
   pub fault : Option NodeFault
   pub call : Call (replica_of s) (replica_of t) (Asks (bytes_of command)) [] [] fault
   pub answered : IsAnswered s t fault changed

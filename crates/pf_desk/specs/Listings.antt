@@ -17,4 +17,5 @@ words_of list.Anchors = at_path [] (codes "-s" ∷ codes "Anchors" ∷ [])
 words_of (list.Table path table) =
     at_path (string_bytes path) (codes "-t" ∷ string_bytes table ∷ codes "-T" ∷ codes "show" ∷ [])
 words_of (list.TableTest path table addresses) =
-    at_path (string_bytes path) (codes "-t" ∷ string_bytes table ∷ codes "-T" ∷ codes "test" ∷ map (λ w. w.now) addresses.items)
+    at_path (string_bytes path) (codes "-t" ∷ string_bytes table ∷ codes "-T" ∷ codes "test"
+    ∷ map (λ w. w.now) addresses.items)

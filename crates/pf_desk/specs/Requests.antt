@@ -35,7 +35,8 @@ pub record AreFigures {R : Type 0} {G : Ghosts R} (n : Node R G) (f : Figures) :
   pub failed : f.has_failed ≡ has_failed n
 
 -- the status of figures that are the node's, as JSON or in lines
-pub record IsStatus {R : Type 0} {G : Ghosts R} (n : Node R G) (t : Tally) (json : Bool) (a : AnswerValue) : Type 0 where
+pub record IsStatus {R : Type 0} {G : Ghosts R} (n : Node R G) (t : Tally) (json : Bool) (a : AnswerValue) :
+    Type 0 where
   pub figures : Figures
   pub are : AreFigures n figures
   pub answered : a ≡ shown (status_as json figures t)
@@ -55,7 +56,8 @@ IsRead n taken t read.Metrics a = a.code ≡ 200
 abbrev pub not_yet : AnswerValue
 not_yet = record { code = 503; body = codes "waiting\n" }
 
-abbrev pub IsReadIf : {R : Type 0} {G : Ghosts R} → Bool → Node R G → Option (ℕ × ℕ) → Tally → Read → AnswerValue → Type 0
+abbrev pub IsReadIf : {R : Type 0} {G : Ghosts R} → Bool → Node R G → Option (ℕ × ℕ) → Tally → Read →
+    AnswerValue → Type 0
 IsReadIf true n taken t r a = a ≡ not_yet
 IsReadIf false n taken t r a = IsRead n taken t r a
 

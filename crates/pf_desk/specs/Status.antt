@@ -29,7 +29,8 @@ store_line false = codes "store ok\n"
 
 abbrev pub node_line : Figures → ℕ → List ℕ
 node_line f up =
-    line (fields ((codes "node ", f.node) ∷ (codes " of ", f.members) ∷ (codes " cluster ", f.cluster) ∷ (codes " up ", up) ∷ []))
+    line (fields ((codes "node ", f.node) ∷ (codes " of ", f.members) ∷ (codes " cluster ", f.cluster)
+    ∷ (codes " up ", up) ∷ []))
 
 abbrev pub front_line : Figures → List ℕ
 front_line f =
@@ -43,7 +44,8 @@ config_line f =
 
 abbrev pub wire_line : Tally → List ℕ
 wire_line t =
-    line (fields ((codes "wire unsent ", t.unsent) ∷ (codes " dropped ", t.dropped) ∷ (codes " ignored ", t.ignored) ∷ []))
+    line (fields ((codes "wire unsent ", t.unsent) ∷ (codes " dropped ", t.dropped)
+    ∷ (codes " ignored ", t.ignored) ∷ []))
 
 abbrev pub door_line : Tally → List ℕ
 door_line t =

@@ -1,8 +1,8 @@
 -- Paths and their methods.
 use Rattle.std.specs.Prelude.{ℕ, List, Option, Some, None, codes, bytes_eq, if◌then◌else◌}
 use Rattle.pf_desk.specs.declared.target.Target.{Target}
-use Rattle.pf_desk.specs.declared.target.Target.TheVariants.{Changes, Requests, Rules, Tables, Anchors, Table, TableTest}
-use Rattle.pf_desk.specs.declared.target.Target.TheVariants.{Test, Log, Status, Health, Ready, Metrics, Stop}
+use Rattle.pf_desk.specs.declared.target.Target.TheVariants.{Changes, Requests, Rules, Tables, Anchors, Table}
+use Rattle.pf_desk.specs.declared.target.Target.TheVariants.{TableTest, Test, Log, Status, Health, Ready, Metrics, Stop}
 
 -- what a path names, but for the paths of requests
 abbrev pub plain_target : List ℕ → Option Target

@@ -96,7 +96,14 @@ fn answered<R: Records>(
     let (target, accept) = rest.split_once(' ').unwrap_or((rest, ""));
     let (path, query) = target.split_once('?').unwrap_or((target, ""));
     let counted = tally(alloc)?;
-    match request_in(alloc, method, path, query, body.as_bytes(), accept == "json")? {
+    match request_in(
+        alloc,
+        method,
+        path,
+        query,
+        body.as_bytes(),
+        accept == "json",
+    )? {
         Routed::Asked(request) => Ok(desk.answer(&request, &counted)?),
         Routed::Refused(code) => Ok(Answer {
             code,
