@@ -160,8 +160,8 @@ class Member:
     """A member that leads: it proposes entries of its own one after the other, and votes for them. It keeps no record, so
     it is for clusters of a script alone. Nothing else may propose there."""
 
-    def __init__(self, cluster, me, key=None):
-        self.cluster, self.me, self.key = cluster, me, key
+    def __init__(self, cluster, me, key=None, other=None):
+        self.cluster, self.me, self.key, self.other = cluster, me, key, other
         self.members = len(cluster.places)
         self.socket = socket.socket(socket.AF_INET, socket.SOCK_DGRAM)
         self.socket.bind(cluster.places[me])
@@ -181,9 +181,10 @@ class Member:
         while (left := until - time.time()) > 0:
             self.socket.settimeout(left)
             try:
-                data = opened(self.key, self.socket.recv(65536))
+                sealed_data = self.socket.recv(65536)
             except TimeoutError:
                 return None
+            data = opened(self.key, sealed_data) or (opened(self.other, sealed_data) if self.other else b"")
             if len(data) > 13 and data[:4] == b"PFXR" and data[11] == self.me:
                 return data[10], data[12], data[13:]
         return None
