@@ -96,7 +96,10 @@ impl<W> TallyWire<W> {
         self.tally.turns = self.tally.turns.saturating_add(u64::from(turns));
         self.tally.seats = seats as u64;
         for i in 0..self.heard.len() {
-            let heard = self.heard[i];
+            let Some(heard) = self.heard.get(i) else {
+                return;
+            };
+            let heard = *heard;
             if let Some(peer) = self.tally.peers.get_mut(i) {
                 peer.heard = match heard.last {
                     Some(last) => Some(now.saturating_sub(last) / 1_000_000),
