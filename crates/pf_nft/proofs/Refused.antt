@@ -1,8 +1,8 @@
 -- Which configurations are rendered.
-use Rattle.std.proofs.Common.{◌≡◌, ◌⊎◌, ℕ, zero, suc, ◌+◌, ◌-◌, ◌≤◌, ◌<◌, Bool, true, false, List, [], ◌∷◌, Option, Some, None, Ok, Err, refl, sym, ap, ◌∙◌, arith, inl, inr}
+use Rattle.std.proofs.Common.{◌≡◌, ℕ, suc, ◌+◌, ◌-◌, true, false, List, ◌∷◌, Option, Some, None, Ok, Err, refl, sym, ap, ◌∙◌, arith, inl, inr}
 use Rattle.std.specs.Prelude.{nat_lt, nat_le, is_none, find, if◌then◌else◌}
 use Rattle.std.proofs.lemmas.Bool.{cases_lt, lt-ltb, le-ltb, le-leb, lt-leb}
-use Rattle.pf_ruleset.specs.Items.{FilterRule, AnchorRule}
+use Rattle.pf_ruleset.specs.Items.{AnchorRule}
 use Rattle.pf_ruleset.specs.Seen.{rule_of, heading_of}
 use Rattle.pf_ruleset.specs.declared.rule.Rule.{Rule}
 use Rattle.pf_ruleset.specs.declared.item.AnchorRule as anchored

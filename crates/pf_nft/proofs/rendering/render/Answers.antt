@@ -1,4 +1,4 @@
-use Rattle.std.proofs.Common.{rules, ◌≡◌, ◌∙◌, Bool, true, false, map, ap, sym, inr, lit≤}
+use Rattle.std.proofs.Common.{◌≡◌, ◌∙◌, Bool, true, false, map, ap, sym, inr, lit≤}
 use Rattle.std.specs.List.{list_any}
 use Rattle.pf_config.specs.Map.{Path, rules_at}
 use Rattle.pf_nft.specs.Subset.{Base}
