@@ -58,7 +58,8 @@ fn written_lines(
     machine: &[MachineInterface],
     position: u32,
 ) -> Result<Written, AllocError>
-    ensures { IfOk result (λ w. written w ≡ written_lines (rendered_lines config.now (machine_of machine.now) position)) }
+    ensures { IfOk result (λ w. written w
+        ≡ written_lines (rendered_lines config.now (machine_of machine.now) position)) }
 {
     match rendered_lines(alloc, config, machine, position) {
         Ok(text) => Ok(Written {

@@ -1,7 +1,6 @@
 -- Whether a rule keeps state.
 use Rattle.std.proofs.Common.{◌≡◌, ◌&&◌, false, sym, ap, ◌∙◌}
-use Rattle.pf_ruleset.specs.Items.{FilterRule, AnchorRule}
-use Rattle.pf_ruleset.specs.Seen.{rule_of, heading_of}
+use Rattle.pf_ruleset.specs.Seen.{rule_of}
 use Rattle.pf_ruleset.specs.declared.rule.Rule.{Rule}
 use Rattle.pf_ruleset.specs.declared.item.AnchorRule as anchored
 use Rattle.pf_ruleset.specs.declared.item.Item.{Item}
