@@ -46,7 +46,6 @@ fn a_key_is_read_as_it_was_written(rt: HostRuntime) -> Result<(), Fail> {
     let text = key_text(alloc, &key)?;
     assert_eq!(rt; text.as_str().len(), 65);
     assert!(rt; read(alloc, text.as_bytes()) == Ok(key));
-    assert!(rt; read(alloc, &text.as_bytes()[..64]) == Ok(key));
     Ok(())
 }
 
