@@ -128,9 +128,9 @@ fn change_body(
     Ok(body)
 }
 
-/// The words behind the options.
-fn rest_of<'m, 'a>(matches: &'m ArgMatches<'a>) -> &'m [&'a str] {
-    match matches.get_strs("address") {
+/// The words, none where there are none.
+fn or_none<'m, 'a>(words: Option<&'m [&'a str]>) -> &'m [&'a str] {
+    match words {
         Some(words) => words,
         None => &[],
     }
@@ -208,7 +208,7 @@ pub(crate) fn call_in(
     text: &[u8],
     at: u32,
 ) -> Result<Call, AllocError> {
-    let rest = rest_of(matches);
+    let rest = or_none(matches.get_strs("address"));
     if let Some(call) = listing(alloc, matches, rest, at)? {
         return Ok(call);
     }
