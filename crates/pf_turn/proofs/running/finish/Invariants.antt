@@ -2,7 +2,7 @@
 use Rattle.std.proofs.Common.{◌≤◌, None}
 use Rattle.pf_node.specs.Nodes.{applied_of}
 use Rattle.pf_turn.specs.Turns.{Served, standing}
-use Rattle.pf_turn.proofs.running.run.Given as goal
+use Rattle.pf_turn.proofs.running.finish.Given as goal
 
 abbrev pub invariant-loop-round : goal.invariant-loop-round
 invariant-loop-round g l = record {
