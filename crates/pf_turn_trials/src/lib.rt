@@ -1,5 +1,6 @@
 //! Trials of nodes over wires: a cluster in one process, over UDP, and with datagrams that are lost; of the pace at which
-//! a node's clock ticks; and of what a node does when its turns are over.
+//! a node's clock ticks; of what a node does when its turns are over; and of
+//! members over sealed wires.
 #![tactic(auto)]
 
 #[cfg(test)]
@@ -10,3 +11,5 @@ mod ending;
 mod listing;
 #[cfg(test)]
 mod pace;
+#[cfg(test)]
+mod sealed;
