@@ -20,6 +20,9 @@ const BEHIND: u64 = 2_000_000;
 /// The most times in a row that an attempt's loss doubles the patience.
 const DOUBLINGS: u32 = 6;
 
+/// The most times that what was sent is sent again while nothing moves the front.
+const REPEATS: u32 = 64;
+
 /// The longest wait, in milliseconds.
 const LONGEST_WAIT: u64 = 100;
 
@@ -71,6 +74,9 @@ pub struct Pace {
     trip: u64,
     /// How many attempts in a row came to nothing.
     losses: u32,
+    /// When what isn't answered was sent last, and how many times again; 64 where nothing is to be sent again.
+    repeated: u64,
+    repeats: u32,
     front: u32,
     is_proposing: bool,
     is_behind: bool,
@@ -87,6 +93,8 @@ impl Pace {
             moved: 0,
             trip: FIRST_TRIP,
             losses: 0,
+            repeated: 0,
+            repeats: REPEATS,
             front: 0,
             is_proposing: false,
             is_behind: false,
@@ -102,8 +110,42 @@ impl Pace {
             self.tick(now, view);
             return Beat::Tick;
         }
-        let milliseconds = (due - now) / 1_000 + 1;
+        let left = due.min(self.next_repeat()).saturating_sub(now);
+        let milliseconds = left / 1_000 + 1;
         Beat::Wait(milliseconds.min(LONGEST_WAIT) as u32)
+    }
+
+    /// Accept requests or votes were sent, which nobody has answered yet.
+    pub fn sent(&mut self, now: u64) {
+        self.repeated = now;
+        self.repeats = 0;
+    }
+
+    /// Whether the accept requests and votes that were sent of the front's position are sent again now, since they may be
+    /// lost: two round trips and 5 ms after they were sent, and then again and again, in pauses that grow, 64 times at most.
+    /// It is asked after [`Pace::beat`], at the same time.
+    pub fn repeats(&mut self, now: u64) -> bool {
+        if now < self.next_repeat() {
+            return false;
+        }
+        self.repeated = now;
+        self.repeats = self.repeats.saturating_add(1);
+        true
+    }
+
+    /// When what was sent is sent again.
+    fn next_repeat(&self) -> u64 {
+        if self.repeats >= REPEATS {
+            return u64::MAX;
+        }
+        let pause = self.trip.saturating_mul(2).saturating_add(5_000);
+        let times = u64::from(self.repeats / 8 + 1);
+        self.repeated.saturating_add(pause.saturating_mul(times))
+    }
+
+    /// Nothing that was sent so far is to be sent again.
+    fn forget(&mut self) {
+        self.repeats = REPEATS;
     }
 
     /// Whether the node listens, and takes no command in: at its start, and while it lacks entries that others have and
@@ -120,11 +162,13 @@ impl Pace {
             }
             self.front = view.front;
             self.moved = now;
+            self.forget();
             self.losses = 0;
             self.hold = now;
             self.is_proposing = false;
         } else if self.is_proposing && !view.is_attempting {
             self.is_proposing = false;
+            self.forget();
             self.lose();
             self.hold = now.saturating_add(self.pause(now));
         }
@@ -210,6 +254,9 @@ impl Pace {
         }
         self.is_proposing = view.waiting > 0;
         self.ticked = now;
+        if view.waiting > 0 {
+            self.sent(now);
+        }
         self.asks = now.saturating_add(IDLE);
     }
 }

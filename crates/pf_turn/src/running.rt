@@ -98,11 +98,31 @@ fn tick_if<R: Records, W: Wire>(
     }
 }
 
+/// What the clock does, by what has come.
+fn beat(pace: &mut Pace, room: &mut Room, now: u64, view: View) -> Beat {
+    let beat = pace.beat(now, view);
+    if room.sight.is_accepting {
+        pace.sent(now);
+    }
+    room.sight = room.sight.looked();
+    beat
+}
+
+/// What was sent of the positions from the front on is sent again, if that is due.
+fn repeat_if<W: Wire>(wire: &mut W, is_due: bool, front: u32)
+    ensures given { W.given wire.new ≡ W.given wire.old }
+    ensures quiet { W.handed wire.new ≡ W.handed wire.old }
+{
+    if is_due {
+        wire.repeat(front);
+    }
+}
+
 /// What has come is taken, 64 datagrams at most; then the clock ticks where the pace says so. These are turns of the node
 /// and nothing else. Answers how long may be waited before the next round.
 ///
 /// While the node lacks entries that others have, the wire is asked to keep back what is asked from outside; it is told
-/// which of the member's own requests were learned.
+/// which of the member's own requests were learned, and asked to send again what was sent and may be lost.
 ///
 /// `now` is the time in microseconds since the node started, which never goes back. The faults are those of
 /// [`Node::receive`] and [`Node::tick`]; after one nothing is to be sent.
@@ -124,8 +144,8 @@ pub fn round<R: Records, W: Wire>(
     };
     release(node, wire, was);
     let view = view_of(node, room, was);
-    room.sight.is_told = false;
-    let beat = pace.beat(now, view);
+    let beat = beat(pace, room, now, view);
+    repeat_if(wire, pace.repeats(now), node.front());
     wire.defer_asks(pace.is_listening(now));
     tick_if(node, wire, room, beat, taken)
 }
