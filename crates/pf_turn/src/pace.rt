@@ -17,8 +17,14 @@ const START: u64 = 200_000;
 /// How long a node that lacks entries takes no commands in while nothing moves its front, in microseconds.
 const BEHIND: u64 = 2_000_000;
 
+/// How long an entry may be on its way behind those that come after it, beside a round trip, in microseconds.
+const GAP: u64 = 1_000;
+
 /// The most times in a row that an attempt's loss doubles the patience.
 const DOUBLINGS: u32 = 6;
+
+/// How many entries a node may lack that are filled by the votes that it keeps, once it has the first.
+const NEAR: u32 = 48;
 
 /// The most times that what was sent is sent again while nothing moves the front.
 const REPEATS: u32 = 64;
@@ -54,8 +60,9 @@ pub enum Beat {
 /// answered in four round trips and some more, a time that doubles with each loss; after a pause that grows where another
 /// node took the lead; and where nothing waits at the start, once a second, and at once while what it lacks is coming.
 ///
-/// A node that lacks entries which others have learned makes no proposal of its own until it has them, or nothing moved
-/// its front for as long as an attempt may take; where nothing waits it then asks what it lacks.
+/// A node that lacks entries which others have learned asks for them soon. Where commands wait at it, it can't ask and has
+/// to propose, which takes the lead from who has it: it does so soon where it lacks few, and with pauses where it lacks
+/// many and others go on meanwhile.
 ///
 /// Round trips are learned from attempts that led to something. The clock decides when a tick comes, never what it does:
 /// whatever is answered here, a node makes turns and nothing else.
@@ -70,6 +77,9 @@ pub struct Pace {
     hold: u64,
     /// When the front moved last, or it was first seen that entries are lacking.
     moved: u64,
+    /// How far others have come, and when that was seen first.
+    reached: u32,
+    reached_at: u64,
     /// A round trip, in microseconds.
     trip: u64,
     /// How many attempts in a row came to nothing.
@@ -91,6 +101,8 @@ impl Pace {
             asks: 0,
             hold: 0,
             moved: 0,
+            reached: 0,
+            reached_at: 0,
             trip: FIRST_TRIP,
             losses: 0,
             repeated: 0,
@@ -105,7 +117,7 @@ impl Pace {
     pub fn beat(&mut self, now: u64, view: View) -> Beat {
         self.look(now, view);
         self.compare(now, view);
-        let due = self.due(view);
+        let due = self.due(now, view);
         if now >= due {
             self.tick(now, view);
             return Beat::Tick;
@@ -176,6 +188,10 @@ impl Pace {
 
     /// Whether others have come further.
     fn compare(&mut self, now: u64, view: View) {
+        if view.reached > self.reached {
+            self.reached = view.reached;
+            self.reached_at = now;
+        }
         let is_behind = view.reached > view.front;
         if is_behind && !self.is_behind {
             self.moved = now;
@@ -220,19 +236,36 @@ impl Pace {
         2u64.saturating_pow(self.losses)
     }
 
-    /// When a node that lacks entries does something about it: some time after its front moved, and after it did so last.
-    fn listens(&self) -> u64 {
+    /// When a node that lacks entries does something about it: soon after it is seen that its front stands still, and then
+    /// each time after its patience.
+    fn fills(&self) -> u64 {
+        if self.ticked <= self.moved {
+            self.moved.saturating_add(self.trip).saturating_add(GAP)
+        } else {
+            self.ticked.saturating_add(self.patience())
+        }
+    }
+
+    /// When a node that lacks entries proposes what waits, which takes the lead from who has it: where it lacks few, as
+    /// soon as it would ask for them; where it lacks many, at once if others rest, else after its patience.
+    fn intrudes(&self, now: u64, view: View) -> u64 {
+        if view.reached.saturating_sub(view.front) <= NEAR {
+            return self.fills();
+        }
+        if now >= self.reached_at.saturating_add(self.patience()) {
+            return self.moved;
+        }
         self.moved.max(self.ticked).saturating_add(self.patience())
     }
 
     /// When the clock is to tick.
-    fn due(&self, view: View) -> u64 {
+    fn due(&self, now: u64, view: View) -> u64 {
         if view.is_attempting {
             return self.ticked.saturating_add(self.patience());
         }
         if view.waiting > 0 {
             return if self.is_behind {
-                self.hold.max(self.listens())
+                self.hold.max(self.intrudes(now, view))
             } else {
                 self.hold
             };
@@ -243,7 +276,7 @@ impl Pace {
         if view.is_told {
             0
         } else {
-            self.asks.min(self.listens())
+            self.asks.min(self.fills())
         }
     }
 

@@ -93,11 +93,41 @@ fn who_lost_the_lead_keeps_still(rt: HostRuntime) {
 }
 
 #[test]
-fn who_lacks_entries_proposes_nothing_for_a_while(rt: HostRuntime) {
+fn who_lacks_a_few_entries_fills_the_gap_soon(rt: HostRuntime) {
     let mut pace = Pace::new(0);
-    assert!(rt; pace.beat(10, BEHIND) == Beat::Wait(100));
-    assert!(rt; pace.beat(100_009, BEHIND) == Beat::Wait(1));
-    assert!(rt; pace.beat(100_010, BEHIND) == Beat::Tick);
+    assert!(rt; pace.beat(10, BEHIND) == Beat::Wait(22));
+    assert!(rt; pace.beat(21_009, BEHIND) == Beat::Wait(1));
+    assert!(rt; pace.beat(21_010, BEHIND) == Beat::Tick);
+}
+
+#[test]
+fn who_lacks_many_proposes_nothing_for_a_while(rt: HostRuntime) {
+    let mut pace = Pace::new(0);
+    let far = View {
+        reached: 99,
+        ..BEHIND
+    };
+    let farther = View {
+        reached: 120,
+        ..BEHIND
+    };
+    assert!(rt; pace.beat(10, far) == Beat::Wait(100));
+    assert!(rt; pace.beat(50_000, farther) == Beat::Wait(51));
+    assert!(rt; pace.beat(100_009, farther) == Beat::Wait(1));
+    assert!(rt; pace.beat(100_010, farther) == Beat::Tick);
+}
+
+#[test]
+fn who_lacks_many_proposes_at_once_while_others_rest(rt: HostRuntime) {
+    let mut pace = Pace::new(0);
+    let far = View {
+        reached: 99,
+        ..BEHIND
+    };
+    let next = View { front: 4, ..far };
+    assert!(rt; pace.beat(10, far) == Beat::Wait(100));
+    assert!(rt; pace.beat(100_010, far) == Beat::Tick);
+    assert!(rt; pace.beat(100_500, next) == Beat::Tick);
 }
 
 #[test]
