@@ -108,11 +108,7 @@ fn push_change(
 }
 
 /// Puts a command's words behind the text, without `pfctl`; a load's text is only counted.
-pub fn push_command(
-    alloc: Global,
-    out: &mut String,
-    command: &Command,
-) -> Result<(), AllocError>
+pub fn push_command(alloc: Global, out: &mut String, command: &Command) -> Result<(), AllocError>
     ensures { OnOk result (string_bytes out.new ≡ string_bytes out.old ++ command_words (command_value command.now)) }
 {
     match command {

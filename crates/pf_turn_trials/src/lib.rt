@@ -1,6 +1,5 @@
 //! Trials of nodes over wires: a cluster in one process, over UDP, and with datagrams that are lost; of the pace at which
-//! a node's clock ticks; of what a node does when its turns are over; and of
-//! members over sealed wires.
+//! a node's clock ticks; of what a node does when its turns are over; and of members over sealed wires.
 #![tactic(auto)]
 
 #[cfg(test)]
