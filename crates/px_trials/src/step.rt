@@ -177,8 +177,9 @@ fn put(
     if word == "remember" {
         return Some(start(alloc, bus));
     }
-    let Ok(member) = bus.member(0) else {
-        return None;
+    let member = match bus.member(0) {
+        Ok(member) => member,
+        Err(fail) => return Some(Err(fail)),
     };
     match word {
         "numbers" => member.put_numbers(first, second),

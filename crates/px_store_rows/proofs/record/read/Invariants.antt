@@ -2,5 +2,5 @@
 use Rattle.std.proofs.Common.{◌≡◌}
 use Rattle.px_store_rows.proofs.record.read.Given as goal
 
-abbrev pub invariant-loop-for : goal.invariant-loop-for
-invariant-loop-for g l = g.R.Records.members l.records ≡ 3
+abbrev pub invariant-loop : goal.invariant-loop
+invariant-loop g l = g.R.Records.members l.records ≡ 3
