@@ -15,6 +15,7 @@ pub(crate) fn follow<R: Records>(
     out: &mut String,
 ) -> bool
     requires { R.members records.old ≡ 3 }
+    ensures { R.members records.new ≡ 3 }
 {
     let mut is_first = true;
     for text in steps.split(", ") {
