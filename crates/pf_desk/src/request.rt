@@ -55,6 +55,11 @@ pub enum Read<'a> {
         /// The first position.
         from: Option<u32>,
     },
+    /// The entries of the log from a position on, as they are spelled.
+    Entries {
+        /// The first position, 0 if it isn't said.
+        from: Option<u32>,
+    },
     /// How the node is, in lines or as JSON.
     Status {
         /// As JSON.

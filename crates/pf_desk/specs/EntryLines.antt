@@ -1,0 +1,33 @@
+-- The entries of a log, a line each.
+use Rattle.std.specs.Prelude.{ℕ, zero, suc, List, [], ◌++◌, ◌+◌, ◌-◌, length, min, nat_lt, Option, Some, None}
+use Rattle.std.specs.Prelude.{codes, decimal, unwrap_or, option_map, if◌then◌else◌}
+use Rattle.hex.specs.Hex.{encode_lower}
+use Rattle.px_model.specs.Node.{Log}
+use Rattle.px_model.specs.Spelling.{Bytes, spelled}
+use Rattle.px_records.specs.declared.records.Records.{Ghosts}
+use Rattle.pf_node.specs.Nodes.{learned_by, applied_of}
+use Rattle.pf_node.specs.declared.state.Node.{Node}
+use Rattle.pf_desk.specs.Answers.{AnswerValue, shown}
+use Rattle.pf_desk.specs.LogLines.{bytes_max}
+
+-- POSITION HEX, of an entry's bytes
+abbrev pub line_of : ℕ → Option (List ℕ) → List ℕ
+line_of p None = []
+line_of p (Some bytes) = decimal p ++ codes " " ++ encode_lower bytes ++ codes "\n"
+
+abbrev pub entry_line : Log Bytes → (p : ℕ) → List ℕ
+entry_line log p = line_of p (option_map spelled (log p))
+
+-- the lines of the last n positions before an end, behind a text
+abbrev pub entries_before : Log Bytes → (end n : ℕ) → List ℕ → List ℕ
+entries_before log end zero text = text
+entries_before log end (suc n) text =
+    if nat_lt (length text) bytes_max then entries_before log end n (text ++ entry_line log (end - suc n)) else text
+
+-- from a position on 1,000 lines at most, of those that are applied
+abbrev pub entries_from : Log Bytes → (applied first : ℕ) → List ℕ
+entries_from log applied first =
+    let end = min applied (first + 1000) in entries_before log end (end - first) []
+
+abbrev pub entries_answer : {R : Type 0} {G : Ghosts R} → Node R G → Option ℕ → AnswerValue
+entries_answer n from = shown (entries_from (learned_by n) (applied_of n) (unwrap_or from 0))
