@@ -60,8 +60,8 @@ fn words_of<'a>(matches: &ArgMatches<'a>) -> Option<NftWords<'a>> {
     })
 }
 
-/// The text of a file, none where it can't be read.
-fn read_file(rt: &HostRuntime, alloc: Global, path: &str) -> Result<Option<Vec<u8>>, AllocError> {
+/// The text of a file, none where it can't be read or is longer than an input may be.
+pub fn read_file(rt: &HostRuntime, alloc: Global, path: &str) -> Result<Option<Vec<u8>>, AllocError> {
     let Ok(mut file) = fs::open(rt, path) else {
         return Ok(None);
     };
