@@ -6,8 +6,8 @@ ghost use Rattle.pf_kernel_words.specs.Running.{asks_nft, Wrote, Ran};
 
 use crate::words::command;
 use clap::ArgMatches;
+use pf_io::{InputFault, Status, misused, out_of_memory, read_all};
 use pf_kernel::nft_output;
-use pf_tool::{InputFault, Status, misused, out_of_memory, read_all};
 use std::alloc::{AllocError, Global};
 use std::convert::AsStr;
 use std::fs;

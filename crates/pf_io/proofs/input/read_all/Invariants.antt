@@ -1,6 +1,6 @@
 use Rattle.std.proofs.Common.{◌≤◌, length}
 use Rattle.std.specs.Io.KnownBytes.{Consumes}
-use Rattle.pf_tool.proofs.input.read_all.Given as goal
+use Rattle.pf_io.proofs.input.read_all.Given as goal
 
 -- what was read so far was taken from the front of what the reader had, and is within the limit
 abbrev pub invariant-loop : goal.invariant-loop

@@ -3,9 +3,8 @@
 ghost use Rattle.std.specs.Prelude.{◌≡◌, ◌≢◌, ◌≤◌, ◌<◌, ℕ, List, Option, Ok, Err, true, false};
 ghost use Rattle.std.specs.Prelude.{length, IfSome, IfOk, IfErr, OnOk};
 ghost use Rattle.std.specs.Io.KnownBytes.{Consumes, IsAtEnd};
-ghost use Rattle.pf_tool.specs.declared.input.TheConstants.{BYTES_MAX};
+ghost use Rattle.pf_io.specs.declared.input.TheConstants.{BYTES_MAX};
 
-use crate::status::Status;
 use std::alloc::Global;
 use std::io::Read;
 

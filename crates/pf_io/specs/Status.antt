@@ -1,7 +1,7 @@
 -- The exit status.
 use Rattle.std.specs.Prelude.{ℕ}
-use Rattle.pf_tool.specs.declared.status.Status.{Status}
-use Rattle.pf_tool.specs.declared.status.Status.TheVariants.{Done, Refused, Usage, Memory, Failed}
+use Rattle.pf_io.specs.declared.status.Status.{Status}
+use Rattle.pf_io.specs.declared.status.Status.TheVariants.{Done, Refused, Usage, Memory, Failed}
 
 abbrev pub code_of : Status → ℕ
 code_of Done = 0
