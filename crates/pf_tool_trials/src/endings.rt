@@ -1,7 +1,7 @@
 //! How a run ends that can't read its words, its input or its output.
 
-use crate::runs::{QUICK, SYN_PACKET};
-use pf_tool::{Status, run};
+use crate::runs::{QUICK, SYN_PACKET, ran};
+use pf_tool::Status;
 use std::io::{self, Error, ErrorKind, Read, Write};
 use std::test::Fail;
 
@@ -9,11 +9,11 @@ use std::test::Fail;
 fn unknown_words_are_told_apart(rt: HostRuntime) -> Result<(), Fail> {
     let mut reader = QUICK;
     let mut out = Vec::new(rt.alloc());
-    let status = run(rt.alloc(), &["pfx", "labs"], &mut reader, &mut out);
+    let status = ran(&rt, &["pfx", "labs"], &mut reader, &mut out);
     assert_eq!(rt; status.code(), 2);
     assert!(rt; out.len() > 20);
     let mut out = Vec::new(rt.alloc());
-    let status = run(rt.alloc(), &["pfx", "test"], &mut reader, &mut out);
+    let status = ran(&rt, &["pfx", "test"], &mut reader, &mut out);
     assert_eq!(rt; status.code(), 2);
     assert!(rt; out.len() > 20);
     Ok(())
@@ -60,12 +60,7 @@ impl Write for FailingWriter {
 fn a_failed_read_writes_nothing(rt: HostRuntime) -> Result<(), Fail> {
     let mut reader = FailingReader { given: false };
     let mut out = Vec::new(rt.alloc());
-    let status = run(
-        rt.alloc(),
-        &["pfx", "test", SYN_PACKET],
-        &mut reader,
-        &mut out,
-    );
+    let status = ran(&rt, &["pfx", "test", SYN_PACKET], &mut reader, &mut out);
     assert_eq!(rt; status, Status::Failed);
     assert_eq!(rt; status.code(), 1);
     assert_eq!(rt; out.len(), 0);
@@ -76,12 +71,7 @@ fn a_failed_read_writes_nothing(rt: HostRuntime) -> Result<(), Fail> {
 fn a_failed_write_ends_the_run(rt: HostRuntime) -> Result<(), Fail> {
     let mut reader = QUICK;
     let mut writer = FailingWriter { taken: 0 };
-    let status = run(
-        rt.alloc(),
-        &["pfx", "test", SYN_PACKET],
-        &mut reader,
-        &mut writer,
-    );
+    let status = ran(&rt, &["pfx", "test", SYN_PACKET], &mut reader, &mut writer);
     assert_eq!(rt; status, Status::Failed);
     assert_eq!(rt; writer.taken, 1);
     Ok(())
@@ -122,7 +112,7 @@ fn nothing_is_written_after_a_failed_write(rt: HostRuntime) -> Result<(), Fail> 
             failed: false,
             taken: 0,
         };
-        let status = run(rt.alloc(), words, &mut reader, &mut writer);
+        let status = ran(&rt, words, &mut reader, &mut writer);
         assert_eq!(rt; status, Status::Failed);
         assert_eq!(rt; writer.taken, 0);
     }
@@ -153,7 +143,7 @@ fn the_input_has_16777216_bytes_at_most(rt: HostRuntime) -> Result<(), Fail> {
         let mut reader = Newlines { left };
         let mut out = Vec::new(rt.alloc());
         let words = ["pfx", "test", SYN_PACKET];
-        let status = run(rt.alloc(), &words, &mut reader, &mut out);
+        let status = ran(&rt, &words, &mut reader, &mut out);
         assert_eq!(rt; status, wanted);
         // `pass default` and a newline, or nothing
         assert_eq!(rt; out.len(), length);

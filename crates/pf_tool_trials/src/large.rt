@@ -33,8 +33,8 @@ fn push_addresses(
 }
 
 /// Whether the text is refused with this line.
-fn is_refused(alloc: Global, text: &str, wanted: &str) -> bool {
-    let (status, out) = checked(alloc, text.as_bytes(), false);
+fn is_refused(rt: &HostRuntime, text: &str, wanted: &str) -> bool {
+    let (status, out) = checked(rt, text.as_bytes(), false);
     status == 1 && out.as_slice() == wanted.as_bytes()
 }
 
@@ -48,7 +48,7 @@ fn a_statement_has_65536_tokens_at_most(rt: HostRuntime) -> Result<(), Fail> {
         let mut text = String::new(alloc);
         text.push_str("pass")?;
         push_times(&mut text, " x", words)?;
-        assert!(rt; is_refused(alloc, text.as_str(), wanted), "{wanted}");
+        assert!(rt; is_refused(&rt, text.as_str(), wanted), "{wanted}");
     }
     for (uses, wanted) in [(33, "refused 18 line 2\n"), (32, "refused 12 line 2\n")] {
         let mut text = String::new(alloc);
@@ -56,7 +56,7 @@ fn a_statement_has_65536_tokens_at_most(rt: HostRuntime) -> Result<(), Fail> {
         push_times(&mut text, " x", 1999)?;
         text.push_str("\"\npass")?;
         push_times(&mut text, " $a", uses)?;
-        assert!(rt; is_refused(alloc, text.as_str(), wanted), "{wanted}");
+        assert!(rt; is_refused(&rt, text.as_str(), wanted), "{wanted}");
     }
     Ok(())
 }
@@ -69,7 +69,7 @@ fn a_macro_has_4096_bytes_at_most(rt: HostRuntime) -> Result<(), Fail> {
         text.push_str("a = ")?;
         push_times(&mut text, "x", letters)?;
         text.push_str("\n$a\n")?;
-        assert!(rt; is_refused(alloc, text.as_str(), wanted), "{wanted}");
+        assert!(rt; is_refused(&rt, text.as_str(), wanted), "{wanted}");
     }
     Ok(())
 }
@@ -89,19 +89,19 @@ fn crossed(alloc: Global, sources: u32, destinations: u32) -> Result<String, Fai
 fn a_ruleset_has_1024_rules_at_most(rt: HostRuntime) -> Result<(), Fail> {
     let alloc = rt.alloc();
     let text = crossed(alloc, 32, 32)?;
-    let (status, out) = checked(alloc, text.as_bytes(), false);
+    let (status, out) = checked(&rt, text.as_bytes(), false);
     assert_eq!(rt; status, 0);
     assert_eq!(rt; out.iter().filter(|b| **b == b'\n').count(), 1024);
     for (sources, destinations) in [(32, 33), (256, 257)] {
         let text = crossed(alloc, sources, destinations)?;
-        assert!(rt; is_refused(alloc, text.as_str(), "refused 18 line 1\n"));
+        assert!(rt; is_refused(&rt, text.as_str(), "refused 18 line 1\n"));
     }
     let mut text = String::new(alloc);
     push_times(&mut text, "pass\n", 1024)?;
-    let (status, _) = checked(alloc, text.as_bytes(), false);
+    let (status, _) = checked(&rt, text.as_bytes(), false);
     assert_eq!(rt; status, 0);
     text.push_str("block\n")?;
-    assert!(rt; is_refused(alloc, text.as_str(), "refused 18 line 1025\n"));
+    assert!(rt; is_refused(&rt, text.as_str(), "refused 18 line 1025\n"));
     Ok(())
 }
 
@@ -115,7 +115,7 @@ fn families_are_compared_up_to_65536_combinations(rt: HostRuntime) -> Result<(),
         text.push_str(" } to {")?;
         push_addresses(alloc, &mut text, "fe80:", ':', 256)?;
         text.push_str(" }")?;
-        assert!(rt; is_refused(alloc, text.as_str(), wanted), "{wanted}");
+        assert!(rt; is_refused(&rt, text.as_str(), wanted), "{wanted}");
     }
     Ok(())
 }

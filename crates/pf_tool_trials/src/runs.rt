@@ -1,15 +1,29 @@
 //! Runs of the program's words, as the tests make them.
 
-use pf_tool::run;
-use std::alloc::Global;
+use pf_refusals::REFUSALS;
+use pf_tool::{Status, run};
+use std::convert::AsStr;
+use std::io::{Read, Write};
 
 pub(crate) const QUICK: &[u8] = b"block all\npass quick from 10/8 no state\n";
 
 pub(crate) const SYN_PACKET: &str =
     "in on em0 proto tcp from 10.1.2.3 port 4000 to 192.0.2.1 port 22 flags S";
 
+/// A run at which nobody looks on.
+pub(crate) fn ran<S: AsStr, R: Read, W: Write>(
+    rt: &HostRuntime,
+    words: &[S],
+    reader: &mut R,
+    writer: &mut W,
+) -> Status {
+    let mut errors = Vec::new(rt.alloc());
+    run(rt, &REFUSALS, words, reader, writer, &mut errors, false)
+}
+
 /// What the word `test` writes for these packets, and the exit status.
-pub(crate) fn tested(alloc: Global, text: &[u8], packets: &[&str]) -> (u8, Vec<u8>) {
+pub(crate) fn tested(rt: &HostRuntime, text: &[u8], packets: &[&str]) -> (u8, Vec<u8>) {
+    let alloc = rt.alloc();
     let mut words = Vec::new(alloc);
     let _ = words.push("pfx");
     let _ = words.push("test");
@@ -18,18 +32,18 @@ pub(crate) fn tested(alloc: Global, text: &[u8], packets: &[&str]) -> (u8, Vec<u
     }
     let mut reader = text;
     let mut out = Vec::new(alloc);
-    let status = run(alloc, words.as_slice(), &mut reader, &mut out);
+    let status = ran(rt, words.as_slice(), &mut reader, &mut out);
     (status.code(), out)
 }
 
 /// What the word `check` writes for this text, and the exit status.
-pub(crate) fn checked(alloc: Global, text: &[u8], anchor: bool) -> (u8, Vec<u8>) {
+pub(crate) fn checked(rt: &HostRuntime, text: &[u8], anchor: bool) -> (u8, Vec<u8>) {
     let mut reader = text;
-    let mut out = Vec::new(alloc);
+    let mut out = Vec::new(rt.alloc());
     let status = if anchor {
-        run(alloc, &["pfx", "check", "--anchor"], &mut reader, &mut out)
+        ran(rt, &["pfx", "check", "--anchor"], &mut reader, &mut out)
     } else {
-        run(alloc, &["pfx", "check"], &mut reader, &mut out)
+        ran(rt, &["pfx", "check"], &mut reader, &mut out)
     };
     (status.code(), out)
 }

@@ -17,7 +17,7 @@ const INET6_PACKET: &str =
 
 #[test]
 fn an_empty_ruleset_passes(rt: HostRuntime) -> Result<(), Fail> {
-    let (status, out) = tested(rt.alloc(), b"", &[SYN_PACKET]);
+    let (status, out) = tested(&rt, b"", &[SYN_PACKET]);
     assert_eq!(rt; out.as_slice(), b"pass default\n".as_slice());
     assert_eq!(rt; status, 0);
     Ok(())
@@ -25,7 +25,7 @@ fn an_empty_ruleset_passes(rt: HostRuntime) -> Result<(), Fail> {
 
 #[test]
 fn a_quick_pass_after_a_block(rt: HostRuntime) -> Result<(), Fail> {
-    let (status, out) = tested(rt.alloc(), QUICK, &[ACK_PACKET]);
+    let (status, out) = tested(&rt, QUICK, &[ACK_PACKET]);
     assert_eq!(rt; out.as_slice(), b"pass @1\n".as_slice());
     assert_eq!(rt; status, 0);
     Ok(())
@@ -34,7 +34,7 @@ fn a_quick_pass_after_a_block(rt: HostRuntime) -> Result<(), Fail> {
 #[test]
 fn a_pass_rule_wants_syn_by_default(rt: HostRuntime) -> Result<(), Fail> {
     let (status, out) = tested(
-        rt.alloc(),
+        &rt,
         SYN,
         &[ACK_PACKET, SYN_ACK_PACKET, SYN_PACKET, UDP_PACKET],
     );
@@ -47,7 +47,7 @@ fn a_pass_rule_wants_syn_by_default(rt: HostRuntime) -> Result<(), Fail> {
 #[test]
 fn an_inet6_prefix_matches_inet6_packets(rt: HostRuntime) -> Result<(), Fail> {
     let text = b"block all\npass from 2001:db8::/32 no state\n";
-    let (status, out) = tested(rt.alloc(), text, &[INET6_PACKET, ACK_PACKET]);
+    let (status, out) = tested(&rt, text, &[INET6_PACKET, ACK_PACKET]);
     assert_eq!(rt; out.as_slice(), b"pass @1\nblock drop @0\n".as_slice());
     assert_eq!(rt; status, 0);
     Ok(())
@@ -55,10 +55,10 @@ fn an_inet6_prefix_matches_inet6_packets(rt: HostRuntime) -> Result<(), Fail> {
 
 #[test]
 fn what_is_refused_ends_the_output(rt: HostRuntime) -> Result<(), Fail> {
-    let (status, out) = tested(rt.alloc(), QUICK, &[ACK_PACKET, "in on em0", ACK_PACKET]);
+    let (status, out) = tested(&rt, QUICK, &[ACK_PACKET, "in on em0", ACK_PACKET]);
     assert_eq!(rt; out.as_slice(), b"pass @1\nrefused 30\n".as_slice());
     assert_eq!(rt; status, 1);
-    let (status, out) = tested(rt.alloc(), b"block\npass\nbogus\n", &["in on em0"]);
+    let (status, out) = tested(&rt, b"block\npass\nbogus\n", &["in on em0"]);
     assert_eq!(rt; out.as_slice(), b"refused 12 line 3\n".as_slice());
     assert_eq!(rt; status, 1);
     Ok(())
@@ -70,13 +70,13 @@ fn the_shipped_ruleset(rt: HostRuntime) -> Result<(), Fail> {
         b"set skip on lo\nblock return\npass\nblock return in on ! lo0 proto tcp to port 6000:6010\n";
     let x11 = "in on em0 proto tcp from 10.1.2.3 port 4000 to 192.0.2.1 port 6005 flags S";
     let loopback = "in on lo0 proto tcp from 10.1.2.3 port 4000 to 192.0.2.1 port 6005 flags S";
-    let (status, out) = tested(rt.alloc(), text, &[x11, loopback, SYN_PACKET, ACK_PACKET]);
+    let (status, out) = tested(&rt, text, &[x11, loopback, SYN_PACKET, ACK_PACKET]);
     let wanted = b"block return @2\npass skip\npass @1\nblock return @0\n";
     assert_eq!(rt; out.as_slice(), wanted.as_slice());
     assert_eq!(rt; status, 0);
     let more =
         b"set skip on lo\nblock return\npass\nblock return in on ! lo0 proto tcp to port 6000:6010\nblock return out log proto {tcp udp} user _pbuild\n";
-    let (status, out) = tested(rt.alloc(), more, &[SYN_PACKET]);
+    let (status, out) = tested(&rt, more, &[SYN_PACKET]);
     assert_eq!(rt; out.as_slice(), b"refused 12 line 5\n".as_slice());
     assert_eq!(rt; status, 1);
     Ok(())
@@ -105,7 +105,7 @@ fn port_ranges(rt: HostRuntime) -> Result<(), Fail> {
             "pass default\nblock drop @0\nblock drop @0\nblock drop @0\npass default\n",
         ),
     ] {
-        let (_, out) = tested(rt.alloc(), text.as_bytes(), packets.as_slice());
+        let (_, out) = tested(&rt, text.as_bytes(), packets.as_slice());
         assert_eq!(rt; out.as_slice(), wanted.as_bytes(), "{text}");
     }
     Ok(())
@@ -119,7 +119,7 @@ fn types_of_icmp(rt: HostRuntime) -> Result<(), Fail> {
         "in on em0 proto icmp from 10.0.0.1 to 192.0.2.1 icmp-type 0",
         "in on em0 proto icmp from 10.0.0.1 to 192.0.2.1",
     ];
-    let (_, out) = tested(rt.alloc(), text, packets.as_slice());
+    let (_, out) = tested(&rt, text, packets.as_slice());
     assert_eq!(rt;
         out.as_slice(),
         b"pass @1\nblock drop @0\nblock drop @0\n".as_slice()

@@ -13,7 +13,7 @@ fn an_expansion_is_shown(rt: HostRuntime) -> Result<(), Fail> {
         pass in on em0 inet6 proto 6 from 2001:db8::/32 to any port = 53 flags S/SA keep state\n\
         pass in on em0 inet proto 17 from 10.0.0.0/8 to any port = 53 flags S/SA keep state\n\
         pass in on em0 inet6 proto 17 from 2001:db8::/32 to any port = 53 flags S/SA keep state\n";
-    let (status, out) = checked(rt.alloc(), text, false);
+    let (status, out) = checked(&rt, text, false);
     assert_eq!(rt; out.as_slice(), wanted.as_bytes());
     assert_eq!(rt; status, 0);
     Ok(())
@@ -33,7 +33,7 @@ fn refusals_on_line_one(rt: HostRuntime) -> Result<(), Fail> {
         ("pass & block", false, "refused 10 line 1\n"),
         ("set skip on lo", true, "refused 17 line 1\n"),
     ] {
-        let (status, out) = checked(rt.alloc(), text.as_bytes(), anchor);
+        let (status, out) = checked(&rt, text.as_bytes(), anchor);
         assert_eq!(rt; out.as_slice(), wanted.as_bytes(), "{text}");
         assert_eq!(rt; status, 1, "{text}");
     }
