@@ -3,3 +3,4 @@ pub mod Asking
 pub mod LabLines
 pub mod Shown
 pub mod Seen
+pub mod Beginnings

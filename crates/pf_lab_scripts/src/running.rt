@@ -1,6 +1,8 @@
 //! A script over one lab.
 
-ghost use Rattle.std.specs.Prelude.{◌≤◌, IfOk, IfSome};
+ghost use Rattle.std.specs.Prelude.{◌≡◌, ◌≤◌, IfOk, IfSome, None, map, option_map, string_bytes};
+ghost use Rattle.pf_scripts.specs.Lines.{lines, refused_line};
+ghost use Rattle.pf_lab_scripts.specs.Beginnings.{members_in, beginning};
 ghost use Rattle.pf_lab_scripts.specs.declared.running.TheConstants.{MEMBERS};
 
 use crate::bench::Bench;
@@ -15,7 +17,8 @@ const MEMBERS: u64 = 15;
 
 /// How many members the words `members N` say; none for other words, or unless there are 1 to 15.
 fn members_in(words: &[&str]) -> Option<u8>
-    ensures { IfSome result (λ n. (1 ≤ n) × (n ≤ MEMBERS)) }
+    ensures few { IfSome result (λ n. (1 ≤ n) × (n ≤ MEMBERS)) }
+    ensures members { result ≡ members_in (map (λ w. w.now) words.now) }
 {
     let [first, number] = words else {
         return None;
@@ -32,20 +35,23 @@ fn members_in(words: &[&str]) -> Option<u8>
 
 /// How many members the first line says that isn't blank, and what stands behind it; none where it doesn't.
 fn begun(alloc: Global, script: &[u8]) -> Result<Option<(u8, &[u8])>, AllocError>
-    ensures { IfOk result (λ o. IfSome o (λ b. (1 ≤ b.0) × (b.0 ≤ MEMBERS))) }
+    ensures few { IfOk result (λ o. IfSome o (λ b. (1 ≤ b.0) × (b.0 ≤ MEMBERS))) }
+    ensures begins { IfOk result (λ o. option_map (λ b. (b.0, lines b.1.now)) o ≡ beginning (lines script.now)) }
 {
     let mut left = script;
     while let Some((line, rest)) = cut_line(left) {
         let Some(words) = words_in(alloc, line.content)? else {
             return Ok(None);
         };
-        if !words.is_empty() {
-            return match members_in(&words) {
-                Some(members) => Ok(Some((members, rest))),
-                None => Ok(None),
-            };
+        match words.as_slice() {
+            [] => left = rest,
+            [_, ..] => {
+                return match members_in(&words) {
+                    Some(members) => Ok(Some((members, rest))),
+                    None => Ok(None),
+                };
+            }
         }
-        left = rest;
     }
     Ok(None)
 }
@@ -95,8 +101,12 @@ fn run_lines(alloc: Global, members: u8, lines: &[u8], out: &mut String) -> Resu
     finish(alloc, &mut bench, waiting, out)
 }
 
-/// What a script of a lab's events prints.
-pub fn lab(alloc: Global, script: &[u8]) -> Result<String, AllocError> {
+/// What a script of a lab's events prints: `refused 40` and no more unless its first line that isn't blank says how
+/// many members there are, 1 to 15.
+pub fn lab(alloc: Global, script: &[u8]) -> Result<String, AllocError>
+    ensures refused { IfOk result (λ text. beginning (lines script.now) ≡ None →
+        string_bytes text ≡ refused_line 40 0) }
+{
     let mut out = String::new(alloc);
     match begun(alloc, script)? {
         Some((members, lines)) => run_lines(alloc, members, lines, &mut out)?,
