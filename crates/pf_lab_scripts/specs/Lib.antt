@@ -3,3 +3,6 @@ pub mod Asking
 pub mod LabLines
 pub mod Shown
 pub mod Seen
+pub mod Stages
+pub mod Scripts
+pub mod Benches
