@@ -18,14 +18,14 @@ use Rattle.pf_lab_scripts.specs.declared.bench.Bench.{Bench}
 use Rattle.pf_lab_scripts.specs.Seen.{event_value}
 use Rattle.pf_lab_scripts.specs.Stages.{Stage, is_bad, becomes, happenings, marked, message_in, at_world, happened}
 use Rattle.pf_lab_scripts.specs.Stages.{world_after, event_line, outcome_line, asked_node}
-use Rattle.pf_lab_scripts.specs.Scripts.{Text, LineOutput, Prints}
+use Rattle.pf_lab_scripts.specs.Scripts.{Exactly, LineOutput, Prints}
 use Rattle.pf_lab_scripts.specs.Benches.{IsBench, Does, Grows}
 use Rattle.pf_lab_scripts.proofs.Events.{bad_same, becomes_same, happenings_same, sent_length}
 
-pub does_text : (n : ℕ) (s : Stage) (b : Bench) (text before after : List ℕ) → IsBench n s b → after ≡ before ++ text → Does n s (Text text) b before after
+pub does_text : (n : ℕ) (s : Stage) (b : Bench) (text before after : List ℕ) → IsBench n s b → after ≡ before ++ text → Does n s (Exactly text) b before after
 does_text n s b text before after h e = record { bench = h; text = text; holds = refl; grown = e }
 
-pub does_nothing : (n : ℕ) (s : Stage) (b : Bench) (before : List ℕ) → IsBench n s b → Does n s (Text []) b before before
+pub does_nothing : (n : ℕ) (s : Stage) (b : Bench) (before : List ℕ) → IsBench n s b → Does n s (Exactly []) b before before
 does_nothing n s b before h = record { bench = h; text = []; holds = refl; grown = sym (append-nil before) }
 
 pub does_grow : (n : ℕ) (s : Stage) (b : Bench) (output : LineOutput) (before after : List ℕ) → IsBench n s b → Grows (Prints output) before after → Does n s output b before after
@@ -77,12 +77,12 @@ pub event_known : (n : ℕ) (s : Stage) (e : LabEvent) (b0 b1 b2 : Bench) (m : O
     (outcomes.is_bad n s.world e ≡ false) × (o ≡ outcomes.becomes n s.world e) →
     ((k : ℕ) (t : Stage) → IsBench k t b1 → IsBench k (marked m t) b2) →
     m ≡ message_in (event_value e) → a ≡ asked_node (event_value e) → after ≡ before ++ outcome_line a o →
-    Does n (happened n s (event_value e)) (Text (event_line n s.world (event_value e))) b2 before after
+    Does n (happened n s (event_value e)) (Exactly (event_line n s.world (event_value e))) b2 before after
 event_known n s e b0 b1 b2 m o a before after h em ep ed es world told marks ism isa grown =
     let v = event_value e in
     let w = s.world in
     let bad : is_bad n w v ≡ false = sym (bad_same n w e) ∙ told.0 in
-    let M : Bool → Type 0 = λ q. Does n (if q then s else marked (message_in v) (at_world s (if q then w else run same n (happenings v) w))) (Text (if q then refused_line 81 0 else outcome_line (asked_node v) (becomes n w v))) b2 before after in
+    let M : Bool → Type 0 = λ q. Does n (if q then s else marked (message_in v) (at_world s (if q then w else run same n (happenings v) w))) (Exactly (if q then refused_line 81 0 else outcome_line (asked_node v) (becomes n w v))) b2 before after in
     let b1is : IsBench n (at_world s (run same n (happenings v) w)) b1 = record {
       few = h.few;
       members = em ∙ h.members;
@@ -99,11 +99,11 @@ event_known n s e b0 b1 b2 m o a before after h em ep ed es world told marks ism
 pub event_unknown : (n : ℕ) (s : Stage) (e : LabEvent) (b0 b1 : Bench) (before after : List ℕ) →
     IsBench n s b0 → b1.members ≡ b0.members → b1.passed ≡ b0.passed → b1.delivered ≡ b0.delivered → b1.shown ≡ b0.shown →
     IsWorld b1.lab (cluster_of n) s.world → outcomes.is_bad n s.world e ≡ true → after ≡ before ++ refused_line 81 0 →
-    Does n (happened n s (event_value e)) (Text (event_line n s.world (event_value e))) b1 before after
+    Does n (happened n s (event_value e)) (Exactly (event_line n s.world (event_value e))) b1 before after
 event_unknown n s e b0 b1 before after h em ep ed es world told grown =
     let v = event_value e in
     let w = s.world in
     let bad : is_bad n w v ≡ true = sym (bad_same n w e) ∙ told in
-    let M : Bool → Type 0 = λ q. Does n (if q then s else marked (message_in v) (at_world s (if q then w else run same n (happenings v) w))) (Text (if q then refused_line 81 0 else outcome_line (asked_node v) (becomes n w v))) b1 before after in
+    let M : Bool → Type 0 = λ q. Does n (if q then s else marked (message_in v) (at_world s (if q then w else run same n (happenings v) w))) (Exactly (if q then refused_line 81 0 else outcome_line (asked_node v) (becomes n w v))) b1 before after in
     let b1is : IsBench n s b1 = record { few = h.few; members = em ∙ h.members; world = world; delivered = λ j. rw (ep, ed) (h.delivered j); shown = es ∙ h.shown } in
     subst M (sym bad) (does_text n s b1 (refused_line 81 0) before after b1is grown)

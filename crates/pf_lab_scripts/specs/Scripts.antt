@@ -32,7 +32,7 @@ stopped_line m = line (codes "node " ++ decimal m ++ codes " stopped")
 -- on how many of the learned positions each has applied, which is no part of the world: all of them, unless memory was
 -- wanting.
 pub data LineOutput : Type 0 where
-  Text : (text : List ℕ) → LineOutput
+  Exactly : (text : List ℕ) → LineOutput
   Verdict : (node : NodeState Bytes) → (packet : List (List ℕ)) → LineOutput
   HowFar : (n : ℕ) → (world : World Bytes) → LineOutput
 
@@ -65,7 +65,7 @@ AreStates (suc m) w text =
     (text ≡ before ++ last)
 
 abbrev pub Prints : LineOutput → List ℕ → Type 0
-Prints (Text shown) text = text ≡ shown
+Prints (Exactly shown) text = text ≡ shown
 Prints (Verdict s packet) text = VerdictIf s.is_up s packet text
 Prints (HowFar n w) text = AreStates n w text
 
@@ -78,7 +78,7 @@ abbrev pub log_shown : (n m : ℕ) → World Bytes → List ℕ
 log_shown n m w = if nat_lt m n then log_if (w.nodes m).is_up (w.nodes m) else refused_line 81 0
 
 abbrev pub verdict_shown : (n m : ℕ) → World Bytes → List (List ℕ) → LineOutput
-verdict_shown n m w packet = if nat_lt m n then Verdict (w.nodes m) packet else Text (refused_line 81 0)
+verdict_shown n m w packet = if nat_lt m n then Verdict (w.nodes m) packet else Exactly (refused_line 81 0)
 
 -- a line for each of these messages, the first of which has this number
 abbrev pub message_lines : (k : ℕ) → List (Envelope Bytes) → List ℕ
@@ -96,20 +96,20 @@ abbrev pub all_shown : Stage → Stage
 all_shown s = record { world = s.world; is_delivered = s.is_delivered; shown = length s.world.sent }
 
 abbrev pub line_done : (n : ℕ) → Stage → LineValue → LineOutcome
-line_done n s (Happens e) = record { stage = happened n s e; output = Text (event_line n s.world e) }
-line_done n s Run = record { stage = ran n s; output = Text [] }
+line_done n s (Happens e) = record { stage = happened n s e; output = Exactly (event_line n s.world e) }
+line_done n s Run = record { stage = ran n s; output = Exactly [] }
 line_done n s (Test m packet) = record { stage = s; output = verdict_shown n m s.world packet }
 line_done n s State = record { stage = s; output = HowFar n s.world }
-line_done n s (Log m) = record { stage = s; output = Text (log_shown n m s.world) }
+line_done n s (Log m) = record { stage = s; output = Exactly (log_shown n m s.world) }
 line_done n s Sent = record {
   stage = all_shown s;
-  output = Text (message_lines s.shown (drop s.shown s.world.sent));
+  output = Exactly (message_lines s.shown (drop s.shown s.world.sent));
 }
 
 -- what words ask for, or their refusal
 abbrev pub words_done : (n : ℕ) → Stage → Asked LineValue → LineOutcome
 words_done n s (Ok v) = line_done n s v
-words_done n s (Err code) = record { stage = s; output = Text (refused_line code 0) }
+words_done n s (Err code) = record { stage = s; output = Exactly (refused_line code 0) }
 
 -- ---- line by line
 
@@ -124,13 +124,13 @@ whole o = record { stage = o.stage; waiting = None; output = o.output }
 
 -- a line with words; a text follows where an ask takes one
 abbrev pub at_words : (n : ℕ) → Stage → Option (List Text) → StepOutcome
-at_words n s None = record { stage = s; waiting = None; output = Text (refused_line 40 0) }
-at_words n s (Some []) = record { stage = s; waiting = None; output = Text [] }
+at_words n s None = record { stage = s; waiting = None; output = Exactly (refused_line 40 0) }
+at_words n s (Some []) = record { stage = s; waiting = None; output = Exactly [] }
 at_words n s (Some (w ∷ ws)) =
     if is_followed (w ∷ ws) then record {
       stage = s;
       waiting = Some (record { words = w ∷ ws; text = [] });
-      output = Text [];
+      output = Exactly [];
     }
     else whole (words_done n s (line_asked (w ∷ ws) []))
 
@@ -142,12 +142,12 @@ stepped n s (Some w) l =
     else record {
       stage = s;
       waiting = Some (record { words = w.words; text = w.text ++ bytes_of l });
-      output = Text [];
+      output = Exactly [];
     }
 
 -- the end of the script ends a text
 abbrev pub at_end : (n : ℕ) → Stage → Option WaitingWords → LineOutput
-at_end n s None = Text []
+at_end n s None = Exactly []
 at_end n s (Some w) = (words_done n s (line_asked w.words w.text)).output
 
 -- the text is what these lines print, one after another

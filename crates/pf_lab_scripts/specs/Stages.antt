@@ -145,8 +145,8 @@ asked_node (Restart m) = None
 
 -- of an ask its number or that the node is stopped; a refusal; else nothing
 abbrev pub outcome_line : (node : Option ℕ) → Outcome → List ℕ
-outcome_line node outcome.Nothing = []
-outcome_line node (outcome.Refused code) = refused_line code 0
+outcome_line m outcome.Nothing = []
+outcome_line m (outcome.Refused code) = refused_line code 0
 outcome_line (Some m) (outcome.Asked k) = asked_line m k
 outcome_line None (outcome.Asked k) = []
 outcome_line (Some m) outcome.Stopped = line (codes "stopped")

@@ -6,7 +6,7 @@ ghost use Rattle.std.specs.Option.{option_copied};
 ghost use Rattle.pf_lab_scripts.specs.Seen.{action_value, event_value};
 ghost use Rattle.pf_lab_scripts.specs.Stages.{Stage, asked_line, asked_node, outcome_line, message_in, marked};
 ghost use Rattle.pf_lab_scripts.specs.Stages.{carried, happened, event_line};
-ghost use Rattle.pf_lab_scripts.specs.Scripts.{Text};
+ghost use Rattle.pf_lab_scripts.specs.Scripts.{Exactly};
 ghost use Rattle.pf_lab_scripts.specs.Benches.{IsBench, Does};
 
 use crate::bench::Bench;
@@ -140,7 +140,7 @@ impl Bench {
         out: &mut String,
     ) -> Result<(), AllocError>
         ensures { (n : ℕ) (s : Stage) → IsBench n s self.old → OnOk result (Does n (happened n s (event_value event.now))
-            (Text (event_line n s.world (event_value event.now))) self.new (string_bytes out.old)
+            (Exactly (event_line n s.world (event_value event.now))) self.new (string_bytes out.old)
             (string_bytes out.new)) }
     {
         match self.lab.step(event) {

@@ -4,8 +4,7 @@ ghost use Rattle.std.specs.Prelude.{◌≡◌, ◌≤◌, ℕ, OnOk};
 ghost use Rattle.pf_lab.specs.Labs.{IsWorld, cluster_of};
 ghost use Rattle.px_model.specs.World.{World};
 ghost use Rattle.px_model.specs.Spelling.{Bytes};
-ghost use Rattle.pf_lab_scripts.specs.LabLines.EventValue as event;
-ghost use Rattle.pf_lab_scripts.specs.LabLines.ActionValue as action;
+ghost use Rattle.pf_lab_scripts.specs.LabLines.{Runs, Deliver};
 ghost use Rattle.pf_lab_scripts.specs.Stages.{Stage, world_after, brought, at_world, counted, passed, ran};
 ghost use Rattle.pf_lab_scripts.specs.Benches.{IsBench, is_counted};
 
@@ -17,7 +16,7 @@ use std::alloc::AllocError;
 #[tactic(auto, using(crate::proofs::Passing::deliver_known, crate::proofs::Passing::deliver_unknown))]
 fn deliver(lab: &mut Lab, k: usize) -> Result<(), AllocError>
     ensures { (n : ℕ) (w : World Bytes) → IsWorld lab.old (cluster_of n) w → OnOk result
-        (IsWorld lab.new (cluster_of n) (world_after n w (event.Runs (action.Deliver k)))) }
+        (IsWorld lab.new (cluster_of n) (world_after n w (Runs (Deliver k)))) }
 {
     match lab.step(&LabEvent::Runs(LabAction::Deliver(k))) {
         Err(LabFault::Memory) => Err(AllocError),

@@ -33,7 +33,7 @@ fn push_running(
     node: &Node<MemoryRecords>,
 ) -> Result<(), AllocError>
     ensures behind { applied_of node.now ≤ front (learned_by node.now) }
-    ensures { (s : NodeState Bytes) → IsShown s node.now → OnOk result (string_bytes out.new ≡ string_bytes out.old
+    ensures line { (s : NodeState Bytes) → IsShown s node.now → OnOk result (string_bytes out.new ≡ string_bytes out.old
         ++ running_line m s.stored.meta.round (front s.stored.learned) (applied_of node.now)) }
 {
     push_named(alloc, out, "node ", u64::from(m))?;
@@ -83,7 +83,7 @@ fn push_log(alloc: Global, out: &mut String, node: &Node<MemoryRecords>) -> Resu
 }
 
 /// The verdict of a node that runs.
-#[tactic(auto, using(crate::proofs::Showing::verdict_grows))]
+#[tactic(auto, using(crate::proofs::NodesShown::verdict_grows))]
 fn push_verdict(
     alloc: Global,
     node: &Node<MemoryRecords>,
@@ -99,7 +99,7 @@ fn push_verdict(
 
 impl Bench {
     /// Prints how far a node is.
-    #[tactic(auto, using(crate::proofs::Showing::running_grows, crate::proofs::Showing::stopped_grows))]
+    #[tactic(auto, using(crate::proofs::NodesShown::running_grows, crate::proofs::NodesShown::stopped_grows))]
     fn show_node(&self, alloc: Global, m: u8, out: &mut String) -> Result<(), AllocError>
         ensures { (n : ℕ) (s : Stage) → IsBench n s self.now → m < n → OnOk result
             (Grows (StateIf (s.world.nodes m).is_up m (s.world.nodes m)) (string_bytes out.old)
@@ -112,7 +112,7 @@ impl Bench {
     }
 
     /// Prints how far each node is.
-    #[tactic(auto, using(crate::proofs::Showing::states_begin, crate::proofs::Showing::states_go_on))]
+    #[tactic(auto, using(crate::proofs::NodesShown::states_begin, crate::proofs::NodesShown::states_go_on))]
     pub(crate) fn show_state(&self, alloc: Global, out: &mut String) -> Result<(), AllocError>
         ensures { (n : ℕ) (s : Stage) → IsBench n s self.now → OnOk result
             (Grows (AreStates n s.world) (string_bytes out.old) (string_bytes out.new)) }
@@ -124,7 +124,7 @@ impl Bench {
     }
 
     /// Prints what the node has learned.
-    #[tactic(auto, using(crate::proofs::Showing::log_running, crate::proofs::Showing::log_stopped, crate::proofs::Showing::log_unknown))]
+    #[tactic(auto, using(crate::proofs::NodesShown::log_running, crate::proofs::NodesShown::log_stopped, crate::proofs::NodesShown::log_unknown))]
     pub(crate) fn show_log(&self, alloc: Global, m: u8, out: &mut String) -> Result<(), AllocError>
         ensures { (n : ℕ) (s : Stage) → IsBench n s self.now → OnOk result
             (string_bytes out.new ≡ string_bytes out.old ++ log_shown n m s.world) }
@@ -139,7 +139,7 @@ impl Bench {
     }
 
     /// Prints the node's verdict for a packet.
-    #[tactic(auto, using(crate::proofs::Showing::verdict_running, crate::proofs::Showing::verdict_stopped, crate::proofs::Showing::verdict_unknown))]
+    #[tactic(auto, using(crate::proofs::NodesShown::verdict_running, crate::proofs::NodesShown::verdict_stopped, crate::proofs::NodesShown::verdict_unknown))]
     pub(crate) fn show_verdict(
         &self,
         alloc: Global,

@@ -16,7 +16,7 @@ use Rattle.pf_lab_scripts.specs.Shown.{log_lines}
 use Rattle.px_model.specs.World.{World, NodeState}
 use Rattle.px_model.specs.Spelling.{Bytes}
 use Rattle.pf_scripts.specs.Lines.{line, refused_line}
-use Rattle.pf_lab_scripts.specs.Scripts.{StateIf, IsRunning, AreStates, VerdictIf, IsVerdict, Verdict, Text, LineOutput, Prints, verdict_shown, running_line, stopped_line, log_shown, log_if}
+use Rattle.pf_lab_scripts.specs.Scripts.{StateIf, IsRunning, AreStates, VerdictIf, IsVerdict, Verdict, Exactly, LineOutput, Prints, verdict_shown, running_line, stopped_line, log_shown, log_if}
 use Rattle.pf_lab_scripts.specs.Benches.{Grows}
 
 pub running_grows : {R : Type 0} {G : Ghosts R} (m a : ℕ) (s : NodeState Bytes) (node : Node R G) (before after : List ℕ) → IsShown s node → a ≤ front (learned_by node) →
@@ -84,7 +84,7 @@ verdict_at : (n m : ℕ) (w : World Bytes) (packet : List (List ℕ)) (before af
     Grows (VerdictIf (w.nodes m).is_up (w.nodes m) packet) before after →
     Grows (Prints (verdict_shown n m w packet)) before after
 verdict_at n m w packet before after less g =
-    subst (λ (q : Bool). Grows (Prints (if q then Verdict (w.nodes m) packet else Text (refused_line 81 0))) before after) (sym (below m n less)) g
+    subst (λ (q : Bool). Grows (Prints (if q then Verdict (w.nodes m) packet else Exactly (refused_line 81 0))) before after) (sym (below m n less)) g
 
 pub verdict_running : {R : Type 0} {G : Ghosts R} (n m : ℕ) (w : World Bytes) (node : Node R G) (packet : List (List ℕ)) (before after : List ℕ) → m < n → IsShown (w.nodes m) node →
     Grows (IsVerdict (w.nodes m) packet) before after → Grows (Prints (verdict_shown n m w packet)) before after
@@ -99,4 +99,4 @@ verdict_stopped n m w packet before after less up e =
 pub verdict_unknown : (n m : ℕ) (w : World Bytes) (packet : List (List ℕ)) (before after : List ℕ) → n ≤ m →
     after ≡ before ++ refused_line 81 0 → Grows (Prints (verdict_shown n m w packet)) before after
 verdict_unknown n m w packet before after less e =
-    subst (λ (q : Bool). Grows (Prints (if q then Verdict (w.nodes m) packet else Text (refused_line 81 0))) before after) (sym (above m n less)) (record { text = refused_line 81 0; holds = refl; grown = e })
+    subst (λ (q : Bool). Grows (Prints (if q then Verdict (w.nodes m) packet else Exactly (refused_line 81 0))) before after) (sym (above m n less)) (record { text = refused_line 81 0; holds = refl; grown = e })
