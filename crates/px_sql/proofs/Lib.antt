@@ -6,6 +6,7 @@ mod Gets
 mod Kept
 mod Tops
 mod Stored
+mod NewRows
 mod Promises
 mod Spelled
 mod Ends

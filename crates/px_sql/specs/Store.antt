@@ -1,5 +1,5 @@
 -- What a connection shows of a record, and what the calls do to that.
-use Rattle.std.specs.Prelude.{◌≡◌, ◌⊎◌, ℕ, Some, Result, Ok, Err}
+use Rattle.std.specs.Prelude.{◌≡◌, ◌⊎◌, ℕ, Some, OnOk, Result, Err}
 use Rattle.px_model.specs.Node.{Record}
 use Rattle.px_model.specs.Step.{put}
 use Rattle.px_model.specs.Spelling.{Bytes}
@@ -7,9 +7,7 @@ use Rattle.px_sql.specs.Entries.{entry_of}
 use Rattle.px_sql.specs.Seen.{slot_with}
 use Rattle.px_records.specs.Records.{Place}
 use Rattle.px_records.specs.declared.records.StoreFault.{StoreFault}
-use Rattle.px_records.specs.declared.records.StoreFault.TheVariants as fault
-use Rattle.px_sql.specs.declared.calls.Trouble.{Trouble}
-use Rattle.px_sql.specs.declared.calls.Trouble.TheVariants.{Memory, Failed}
+use Rattle.px_records.specs.declared.records.StoreFault.TheVariants.{Memory}
 
 pub record Stored : Type 1 where
   -- what was written is what is read; what is said of values holds then
@@ -39,6 +37,13 @@ pub record OnlyReads (old new : Stored) : Type 0 where
 abbrev pub LeavesOneOf : Record Bytes → Stored → Stored → Type 0
 LeavesOneOf target old new = (r : Record Bytes) → new.may_leave r → old.may_leave r ⊎ (r ≡ target)
 
+-- What a change makes: after Ok the record is this one; where memory was wanting nothing differs; and a stop at this
+-- moment leaves what it left before, or this record.
+pub record Changed (target : Record Bytes) (answer : Result (Unit {0}) StoreFault) (old new : Stored) : Type 0 where
+  pub ok : OnOk answer (new.kept ≡ target)
+  pub memory : answer ≡ Err Memory → Keeps old new
+  pub stop : LeavesOneOf target old new
+
 -- ---- the record, with one change
 
 abbrev pub with_meta : Record Bytes → (round number : ℕ) → Record Bytes
@@ -61,9 +66,3 @@ with_promise d p ballot = record d {
 
 abbrev pub with_entry : Record Bytes → (position : ℕ) → Bytes → Record Bytes
 with_entry d p bytes = record d { learned = put d.learned p (Some (entry_of bytes)) }
-
--- what a caller is told of a call that was troubled
-abbrev pub told_of : Result (Unit {0}) Trouble → Result (Unit {0}) StoreFault
-told_of (Ok x) = Ok x
-told_of (Err Memory) = Err fault.Memory
-told_of (Err Failed) = Err fault.Failed

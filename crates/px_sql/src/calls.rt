@@ -8,11 +8,9 @@ ghost use Rattle.sqlite.specs.State.{HasCleanDisk, Survives, Executes, CommitsBy
 ghost use Rattle.sqlite.specs.Values.{bound};
 ghost use Rattle.sqlite.specs.Given.{IsPlain};
 ghost use Rattle.sqlite.specs.Listing.{understood};
-ghost use Rattle.px_sql.specs.Tables.{put_meta, put_slot, put_floor, put_learned, meta_params, slot_params, schema_3};
-ghost use Rattle.px_sql.specs.Tables.{floor_params, learned_params};
-ghost use Rattle.px_sql.specs.Seen.{slot_columns, slot_row, learned_columns, learned_row};
-ghost use Rattle.px_sql.specs.Seen.{meta_columns, meta_row, floor_columns, floor_row};
-ghost use Rattle.px_sql.specs.Effect.{IsIdle, Puts, IsSettled, LeavesOne, LeavesOld, Serves};
+ghost use Rattle.px_sql.specs.Tables.{schema_3};
+ghost use Rattle.px_sql.specs.Effect.{IsIdle, IsSettled, LeavesOld, Serves};
+ghost use Rattle.px_sql.specs.inner.NewRows.{text_of, params_of, AreIntegers, Wrote};
 ghost use Rattle.px_sql.specs.declared.reading.TheConstants.{INTEGERS};
 
 use sqlite::{Alter, Connection, Error, ErrorCode, Row, params};
@@ -61,197 +59,94 @@ pub(crate) fn cause_of<S: Alter>(conn: &mut Connection<S>, error: Error) -> Trou
     }
 }
 
-fn run_meta<S: Alter>(
-    conn: &mut Connection<S>,
-    identity: Identity,
-    round: u64,
-    number: u64,
-) -> Result<usize, Error>
-    requires round { round < INTEGERS }
-    requires number { number < INTEGERS }
-    ensures runs { HasCleanDisk (state S.Store conn.new) →
-        Executes put_meta (meta_params identity.cluster identity.members identity.node round number)
-        (state S.Store conn.old) (state S.Store conn.new) result }
-    ensures survives { Survives (state S.Store conn.old) (state S.Store conn.new) (CommitsBy put_meta
-        (meta_params identity.cluster identity.members identity.node round number) (state S.Store conn.old)) }
-{
-    let round = signed(round);
-    let number = signed(number);
-    conn.execute(
-        "INSERT OR REPLACE INTO meta VALUES (1, 3, ?1, ?2, ?3, ?4, ?5)",
-        params![
-            identity.cluster,
-            u32::from(identity.members),
-            u32::from(identity.node),
-            round,
-            number
-        ],
-    )
+/// A row that is put in the place of the one with its key. The entry of a slot, or of what is learned, stands beside it,
+/// as bytes.
+#[derive(Clone, Copy)]
+pub(crate) enum NewRow {
+    /// The row for the whole node, with what identifies the node beside it.
+    Meta { round: u64, number: u64 },
+    Slot {
+        position: u32,
+        promised: u64,
+        ballot: u64,
+    },
+    Floor {
+        ballot: u64,
+    },
+    Learned {
+        position: u32,
+    },
 }
 
-pub(crate) fn put_meta<S: Alter>(
+/// Runs the statement that puts a row.
+fn run<S: Alter>(
     conn: &mut Connection<S>,
     identity: Identity,
-    round: u64,
-    number: u64,
-) -> Result<(), Trouble>
-    requires round { round < INTEGERS }
-    requires number { number < INTEGERS }
-    ensures ok { HasCleanDisk (state S.Store conn.new) → IsIdle (state S.Store conn.old) →
-        OnOk result (Puts 0 1 meta_columns (meta_row 3 identity.cluster identity.members identity.node round number)
-        (state S.Store conn.old).now.trees (state S.Store conn.new).now.trees) }
-    ensures settled { HasCleanDisk (state S.Store conn.new) → IsIdle (state S.Store conn.old) →
-        OnOk result (IsSettled (state S.Store conn.new)) }
-    ensures memory { HasCleanDisk (state S.Store conn.new) → IsIdle (state S.Store conn.old) →
-        result ≡ Err Trouble.Memory → IsSettled (state S.Store conn.new) }
-    ensures same { HasCleanDisk (state S.Store conn.new) → IsIdle (state S.Store conn.old) →
-        result ≡ Err Trouble.Memory → (state S.Store conn.new).now ≡ (state S.Store conn.old).now }
-    ensures start { IsIdle (state S.Store conn.old) → IsTrue (state S.Store conn.old).is_open →
-        (state S.Store conn.old).now ≡ (state S.Store conn.old).committed }
-    ensures clean { HasCleanDisk (state S.Store conn.new) → HasCleanDisk (state S.Store conn.old) }
-    ensures crash { HasCleanDisk (state S.Store conn.new) → IsIdle (state S.Store conn.old) →
-        LeavesOne 0 1 meta_columns (meta_row 3 identity.cluster identity.members identity.node round number)
-        (state S.Store conn.old) (state S.Store conn.new) }
+    row: NewRow,
+    bytes: &[u8],
+) -> Result<usize, Error>
+    requires fits { AreIntegers row }
+    ensures runs { HasCleanDisk (state S.Store conn.new) → Executes (text_of row) (params_of identity row bytes.now)
+        (state S.Store conn.old) (state S.Store conn.new) result }
+    ensures survives { Survives (state S.Store conn.old) (state S.Store conn.new)
+        (CommitsBy (text_of row) (params_of identity row bytes.now) (state S.Store conn.old)) }
 {
-    let _settled = conn.is_autocommit();
-    match run_meta(conn, identity, round, number) {
-        Ok(_) => Ok(()),
-        Err(error) => Err(cause_of(conn, error)),
+    match row {
+        NewRow::Meta { round, number } => {
+            let round = signed(round);
+            let number = signed(number);
+            conn.execute(
+                "INSERT OR REPLACE INTO meta VALUES (1, 3, ?1, ?2, ?3, ?4, ?5)",
+                params![
+                    identity.cluster,
+                    u32::from(identity.members),
+                    u32::from(identity.node),
+                    round,
+                    number
+                ],
+            )
+        }
+        NewRow::Slot {
+            position,
+            promised,
+            ballot,
+        } => {
+            let promised = signed(promised);
+            let ballot = signed(ballot);
+            conn.execute(
+                "INSERT OR REPLACE INTO slots VALUES (?1, ?2, ?3, ?4)",
+                params![position, promised, ballot, bytes],
+            )
+        }
+        NewRow::Floor { ballot } => {
+            let ballot = signed(ballot);
+            conn.execute(
+                "INSERT OR REPLACE INTO floor VALUES (1, ?1)",
+                params![ballot],
+            )
+        }
+        NewRow::Learned { position } => conn.execute(
+            "INSERT OR REPLACE INTO learned VALUES (?1, ?2)",
+            params![position, bytes],
+        ),
     }
 }
 
-fn run_slot<S: Alter>(
+/// Puts a row, in a transaction of its own.
+pub(crate) fn put<S: Alter>(
     conn: &mut Connection<S>,
-    position: u32,
-    promised: u64,
-    ballot: u64,
-    entry: &[u8],
-) -> Result<usize, Error>
-    requires promised { promised < INTEGERS }
-    requires ballot { ballot < INTEGERS }
-    ensures runs { HasCleanDisk (state S.Store conn.new) →
-        Executes put_slot (slot_params position promised ballot entry.now) (state S.Store conn.old)
-        (state S.Store conn.new) result }
-    ensures survives { Survives (state S.Store conn.old) (state S.Store conn.new) (CommitsBy put_slot
-        (slot_params position promised ballot entry.now) (state S.Store conn.old)) }
-{
-    let promised = signed(promised);
-    let ballot = signed(ballot);
-    conn.execute(
-        "INSERT OR REPLACE INTO slots VALUES (?1, ?2, ?3, ?4)",
-        params![position, promised, ballot, entry],
-    )
-}
-
-pub(crate) fn put_slot<S: Alter>(
-    conn: &mut Connection<S>,
-    position: u32,
-    promised: u64,
-    ballot: u64,
-    entry: &[u8],
+    identity: Identity,
+    row: NewRow,
+    bytes: &[u8],
 ) -> Result<(), Trouble>
-    requires promised { promised < INTEGERS }
-    requires ballot { ballot < INTEGERS }
-    ensures ok { HasCleanDisk (state S.Store conn.new) → IsIdle (state S.Store conn.old) →
-        OnOk result (Puts 1 position slot_columns (slot_row position promised ballot entry.now)
-        (state S.Store conn.old).now.trees (state S.Store conn.new).now.trees) }
-    ensures settled { HasCleanDisk (state S.Store conn.new) → IsIdle (state S.Store conn.old) →
-        OnOk result (IsSettled (state S.Store conn.new)) }
-    ensures memory { HasCleanDisk (state S.Store conn.new) → IsIdle (state S.Store conn.old) →
-        result ≡ Err Trouble.Memory → IsSettled (state S.Store conn.new) }
-    ensures same { HasCleanDisk (state S.Store conn.new) → IsIdle (state S.Store conn.old) →
-        result ≡ Err Trouble.Memory → (state S.Store conn.new).now ≡ (state S.Store conn.old).now }
-    ensures start { IsIdle (state S.Store conn.old) → IsTrue (state S.Store conn.old).is_open →
-        (state S.Store conn.old).now ≡ (state S.Store conn.old).committed }
+    requires fits { AreIntegers row }
     ensures clean { HasCleanDisk (state S.Store conn.new) → HasCleanDisk (state S.Store conn.old) }
-    ensures crash { HasCleanDisk (state S.Store conn.new) → IsIdle (state S.Store conn.old) →
-        LeavesOne 1 position slot_columns (slot_row position promised ballot entry.now) (state S.Store conn.old)
+    ensures wrote { HasCleanDisk (state S.Store conn.new) → IsIdle (state S.Store conn.old) →
+        IsTrue (state S.Store conn.old).is_open → Wrote identity row bytes.now result (state S.Store conn.old)
         (state S.Store conn.new) }
 {
     let _settled = conn.is_autocommit();
-    match run_slot(conn, position, promised, ballot, entry) {
-        Ok(_) => Ok(()),
-        Err(error) => Err(cause_of(conn, error)),
-    }
-}
-
-fn run_floor<S: Alter>(conn: &mut Connection<S>, ballot: u64) -> Result<usize, Error>
-    requires ballot { ballot < INTEGERS }
-    ensures runs { HasCleanDisk (state S.Store conn.new) → Executes put_floor (floor_params ballot)
-        (state S.Store conn.old) (state S.Store conn.new) result }
-    ensures survives { Survives (state S.Store conn.old) (state S.Store conn.new) (CommitsBy put_floor
-        (floor_params ballot) (state S.Store conn.old)) }
-{
-    let ballot = signed(ballot);
-    conn.execute(
-        "INSERT OR REPLACE INTO floor VALUES (1, ?1)",
-        params![ballot],
-    )
-}
-
-pub(crate) fn put_floor<S: Alter>(conn: &mut Connection<S>, ballot: u64) -> Result<(), Trouble>
-    requires ballot { ballot < INTEGERS }
-    ensures ok { HasCleanDisk (state S.Store conn.new) → IsIdle (state S.Store conn.old) →
-        OnOk result (Puts 2 1 floor_columns (floor_row ballot) (state S.Store conn.old).now.trees
-        (state S.Store conn.new).now.trees) }
-    ensures settled { HasCleanDisk (state S.Store conn.new) → IsIdle (state S.Store conn.old) →
-        OnOk result (IsSettled (state S.Store conn.new)) }
-    ensures memory { HasCleanDisk (state S.Store conn.new) → IsIdle (state S.Store conn.old) →
-        result ≡ Err Trouble.Memory → IsSettled (state S.Store conn.new) }
-    ensures same { HasCleanDisk (state S.Store conn.new) → IsIdle (state S.Store conn.old) →
-        result ≡ Err Trouble.Memory → (state S.Store conn.new).now ≡ (state S.Store conn.old).now }
-    ensures start { IsIdle (state S.Store conn.old) → IsTrue (state S.Store conn.old).is_open →
-        (state S.Store conn.old).now ≡ (state S.Store conn.old).committed }
-    ensures clean { HasCleanDisk (state S.Store conn.new) → HasCleanDisk (state S.Store conn.old) }
-    ensures crash { HasCleanDisk (state S.Store conn.new) → IsIdle (state S.Store conn.old) →
-        LeavesOne 2 1 floor_columns (floor_row ballot) (state S.Store conn.old) (state S.Store conn.new) }
-{
-    let _settled = conn.is_autocommit();
-    match run_floor(conn, ballot) {
-        Ok(_) => Ok(()),
-        Err(error) => Err(cause_of(conn, error)),
-    }
-}
-
-fn run_learned<S: Alter>(
-    conn: &mut Connection<S>,
-    position: u32,
-    entry: &[u8],
-) -> Result<usize, Error>
-    ensures runs { HasCleanDisk (state S.Store conn.new) → Executes put_learned (learned_params position entry.now)
-        (state S.Store conn.old) (state S.Store conn.new) result }
-    ensures survives { Survives (state S.Store conn.old) (state S.Store conn.new) (CommitsBy put_learned
-        (learned_params position entry.now) (state S.Store conn.old)) }
-{
-    conn.execute(
-        "INSERT OR REPLACE INTO learned VALUES (?1, ?2)",
-        params![position, entry],
-    )
-}
-
-pub(crate) fn put_learned<S: Alter>(
-    conn: &mut Connection<S>,
-    position: u32,
-    entry: &[u8],
-) -> Result<(), Trouble>
-    ensures ok { HasCleanDisk (state S.Store conn.new) → IsIdle (state S.Store conn.old) →
-        OnOk result (Puts 3 position learned_columns (learned_row position entry.now)
-        (state S.Store conn.old).now.trees (state S.Store conn.new).now.trees) }
-    ensures settled { HasCleanDisk (state S.Store conn.new) → IsIdle (state S.Store conn.old) →
-        OnOk result (IsSettled (state S.Store conn.new)) }
-    ensures memory { HasCleanDisk (state S.Store conn.new) → IsIdle (state S.Store conn.old) →
-        result ≡ Err Trouble.Memory → IsSettled (state S.Store conn.new) }
-    ensures same { HasCleanDisk (state S.Store conn.new) → IsIdle (state S.Store conn.old) →
-        result ≡ Err Trouble.Memory → (state S.Store conn.new).now ≡ (state S.Store conn.old).now }
-    ensures start { IsIdle (state S.Store conn.old) → IsTrue (state S.Store conn.old).is_open →
-        (state S.Store conn.old).now ≡ (state S.Store conn.old).committed }
-    ensures clean { HasCleanDisk (state S.Store conn.new) → HasCleanDisk (state S.Store conn.old) }
-    ensures crash { HasCleanDisk (state S.Store conn.new) → IsIdle (state S.Store conn.old) →
-        LeavesOne 3 position learned_columns (learned_row position entry.now) (state S.Store conn.old)
-        (state S.Store conn.new) }
-{
-    let _settled = conn.is_autocommit();
-    match run_learned(conn, position, entry) {
+    match run(conn, identity, row, bytes) {
         Ok(_) => Ok(()),
         Err(error) => Err(cause_of(conn, error)),
     }
