@@ -5,6 +5,7 @@ mod Above
 mod Gets
 mod Kept
 mod Tops
+mod Questions
 mod Stored
 mod NewRows
 mod Promises

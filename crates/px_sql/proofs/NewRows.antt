@@ -26,7 +26,7 @@ use Rattle.px_sql.specs.declared.calls.Trouble.TheVariants.{Memory, Failed}
 use Rattle.px_sql.proofs.Texts.{replace, Means, meta_terms, slot_terms, floor_terms, learned_terms, meta_put, slot_put, floor_put, learned_put}
 use Rattle.px_sql.proofs.Puts.{Goes, keeps, leaves, refused, served}
 use Rattle.px_sql.proofs.Kept.{goes_meta, goes_slot, goes_floor, goes_learned, meta_kept, slot_kept, floor_kept, learned_kept}
-use Rattle.px_sql.proofs.Stored.{keeps as all_kept, committed_same, committed_put, slot_keyed, learned_keyed, other_put, floor_put as floor_shown, meta_put as meta_shown}
+use Rattle.px_sql.proofs.Stored.{keeps as all_kept, committed_put, slot_keyed, learned_keyed, other_put, floor_put as floor_shown, meta_put as meta_shown}
 
 -- ---- the statement
 
@@ -79,9 +79,7 @@ module _ (id : Identity) (r : NewRow) (bytes : Bytes) (old mid : State) (idle : 
       → Wrote id r bytes (Err trouble) old new
   not_wrote new e trouble h left serves = record {
     ok = tt;
-    memory = λ is.
-        let done = served old mid new idle.schema (λ open. begun) (refused old mid _ _ e idle.auto (λ open. begun) h) (serves (let same = is in cc)) in
-        (committed_same old new done.0 done.1 begun, done.0);
+    memory = λ is. served old mid new (λ open. begun) (refused old mid _ _ e idle.auto (λ open. begun) h) (serves (let same = is in cc));
     stop = λ db l. stops db (left db l);
   }
 
@@ -113,7 +111,7 @@ pub changed : (o : Schema) (members f g : ℕ) (id : Identity) (r : NewRow) (byt
     → Changed (with_row r bytes (record_in old.committed.trees)) (told_of answer) (stored_of o members f old) (stored_of o members g new)
 changed o members f g id r bytes answer old new good w = record {
   ok = told_ok answer _ _ (λ h. row_kept o members f id r bytes old new.committed.trees good h.0) w.ok;
-  memory = λ is. all_kept o members f g old new (w.memory (told_memory answer is)).0;
+  memory = λ is. all_kept o members f g old new (w.memory (told_memory answer is)).committed;
   stop = λ d left. elim (w.stop left.0 left.1) [
     | inl was ↦ inl (left.0, was, left.2)
     | inr made ↦ inr (left.2 ∙ row_kept o members f id r bytes old left.0 good made)

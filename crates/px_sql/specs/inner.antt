@@ -2,3 +2,4 @@
 pub mod Bytes
 pub mod Making
 pub mod NewRows
+pub mod Questions

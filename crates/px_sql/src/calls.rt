@@ -1,20 +1,20 @@
 //! The statements, one function each.
 
 ghost use Rattle.std.specs.Prelude.{◌≡◌, ◌<◌, ◌≤◌, ◌^◌, ℕ, pos, true, false, [], Err, OnOk};
-ghost use Rattle.std.specs.Prelude.{IfOk, IsTrue};
+ghost use Rattle.std.specs.Prelude.{IfOk, IfErr, IsTrue};
 ghost use Rattle.sqlite.specs.Held.{state};
 ghost use Rattle.sqlite.specs.Tree.{Trees};
-ghost use Rattle.sqlite.specs.State.{HasCleanDisk, Survives, Executes, CommitsBy, Shown};
-ghost use Rattle.sqlite.specs.Values.{bound};
-ghost use Rattle.sqlite.specs.Given.{IsPlain};
-ghost use Rattle.sqlite.specs.Listing.{understood};
-ghost use Rattle.px_sql.specs.Tables.{schema_3};
-ghost use Rattle.px_sql.specs.Effect.{IsIdle, IsSettled, LeavesOld, Serves};
+ghost use Rattle.sqlite.specs.State.{HasCleanDisk, Survives, Executes, CommitsBy};
+ghost use Rattle.sqlite.specs.State.{Shown, FailsToQuery, CommitsShowing};
+ghost use Rattle.px_sql.specs.Effect.{IsIdle, LeavesOld, Serves};
+ghost use Rattle.px_sql.specs.Formats.{has_table};
+ghost use Rattle.px_sql.specs.Adopting.{Began};
+ghost use Rattle.px_sql.specs.inner.Questions.{asked_by, given_with, table_of, Looked};
 ghost use Rattle.px_sql.specs.inner.NewRows.{text_of, params_of, AreIntegers, Wrote};
 ghost use Rattle.px_sql.specs.declared.reading.TheConstants.{INTEGERS};
 
+use crate::formats::Format;
 use sqlite::{Alter, Connection, Error, ErrorCode, Row, params};
-use sqlite_value::value::ValueRef;
 
 /// Whom a store belongs to.
 #[derive(Clone, Copy, Debug, PartialEq, Eq)]
@@ -152,32 +152,96 @@ pub(crate) fn put<S: Alter>(
     }
 }
 
-/// The answer of a statement that only reads.
+/// A statement that only reads.
+#[derive(Clone, Copy)]
+pub(crate) enum Question {
+    /// The row for the whole node.
+    Meta,
+    Floor,
+    Slot {
+        position: u32,
+    },
+    Learned {
+        position: u32,
+    },
+    /// The key of the last slot with a proposal.
+    Top,
+    /// The key of the last learned entry.
+    End,
+    /// The key of the last slot.
+    LastSlot,
+}
+
+impl Question {
+    /// The table that it asks, the first being 0.
+    pub(crate) fn table(self) -> u64
+        ensures { result ≡ table_of self }
+    {
+        match self {
+            Question::Meta => 0,
+            Question::Floor => 2,
+            Question::Slot { position: _ } => 1,
+            Question::Learned { position: _ } => 3,
+            Question::Top => 1,
+            Question::End => 3,
+            Question::LastSlot => 1,
+        }
+    }
+}
+
+/// Runs the statement.
+fn ask<S: Alter>(conn: &mut Connection<S>, question: Question) -> Result<Vec<Row>, Error>
+    ensures ok { HasCleanDisk (state S.Store conn.new) → IfOk result (λ rows. Shown (asked_by question)
+        (given_with question) (state S.Store conn.old) (state S.Store conn.new) rows.items) }
+    ensures err { HasCleanDisk (state S.Store conn.new) → IfErr result (FailsToQuery (asked_by question)
+        (given_with question) (state S.Store conn.old) (state S.Store conn.new)) }
+    ensures survives { Survives (state S.Store conn.old) (state S.Store conn.new)
+        (CommitsShowing (asked_by question) (given_with question) (state S.Store conn.old)) }
+{
+    match question {
+        Question::Meta => conn.query_all(
+            "SELECT id, format, cluster, members, node, round, number FROM meta WHERE id = ?1",
+            params![1u32],
+        ),
+        Question::Floor => conn.query_all(
+            "SELECT id, ballot FROM floor WHERE id = ?1",
+            params![1u32],
+        ),
+        Question::Slot { position } => conn.query_all(
+            "SELECT position, promised, ballot, entry FROM slots WHERE position = ?1",
+            params![position],
+        ),
+        Question::Learned { position } => conn.query_all(
+            "SELECT position, entry FROM learned WHERE position = ?1",
+            params![position],
+        ),
+        Question::Top => conn.query_all(
+            "SELECT position FROM slots WHERE ballot > 0 ORDER BY position DESC LIMIT 1",
+            &[],
+        ),
+        Question::End => conn.query_all(
+            "SELECT position FROM learned ORDER BY position DESC LIMIT 1",
+            &[],
+        ),
+        Question::LastSlot => conn.query_all(
+            "SELECT position FROM slots ORDER BY position DESC LIMIT 1",
+            &[],
+        ),
+    }
+}
+
+/// Reads rows of a store that has their table.
 pub(crate) fn get<S: Alter>(
     conn: &mut Connection<S>,
-    sql: &str,
-    params: &[ValueRef<'_>],
+    question: Question,
 ) -> Result<Vec<Row>, Trouble>
-    requires plain { IsPlain (understood schema_3 sql.now) }
-    ensures shown { HasCleanDisk (state S.Store conn.new) →
-        IfOk result (λ rows. Shown sql.now (bound params.now) (state S.Store conn.old)
-        (state S.Store conn.new) rows.items) }
-    ensures settled { HasCleanDisk (state S.Store conn.new) → IsIdle (state S.Store conn.old) →
-        OnOk result (IsSettled (state S.Store conn.new)) }
-    ensures stays { HasCleanDisk (state S.Store conn.new) → IsIdle (state S.Store conn.old) →
-        OnOk result ((state S.Store conn.new).now ≡ (state S.Store conn.old).now) }
-    ensures memory { HasCleanDisk (state S.Store conn.new) → IsIdle (state S.Store conn.old) →
-        result ≡ Err Trouble.Memory → IsSettled (state S.Store conn.new) }
-    ensures same { HasCleanDisk (state S.Store conn.new) → IsIdle (state S.Store conn.old) →
-        result ≡ Err Trouble.Memory → (state S.Store conn.new).now ≡ (state S.Store conn.old).now }
-    ensures start { IsIdle (state S.Store conn.old) → IsTrue (state S.Store conn.old).is_open →
-        (state S.Store conn.old).now ≡ (state S.Store conn.old).committed }
     ensures clean { HasCleanDisk (state S.Store conn.new) → HasCleanDisk (state S.Store conn.old) }
-    ensures crash { HasCleanDisk (state S.Store conn.new) → IsIdle (state S.Store conn.old) →
-        LeavesOld (state S.Store conn.old) (state S.Store conn.new) }
+    ensures looked { HasCleanDisk (state S.Store conn.new) → (f : Format) → Began f (state S.Store conn.old) →
+        has_table (table_of question) f ≡ true → Looked question result (state S.Store conn.old)
+        (state S.Store conn.new) }
 {
     let _settled = conn.is_autocommit();
-    match conn.query_all(sql, params) {
+    match ask(conn, question) {
         Ok(rows) => Ok(rows),
         Err(error) => Err(cause_of(conn, error)),
     }

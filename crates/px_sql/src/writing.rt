@@ -148,12 +148,16 @@ impl<S: Alter> SqlRecords<S> {
     {
         match self.good_slot(position) {
             Ok(slot) => {
-                let row = NewRow::Slot {
-                    position,
-                    promised: ballot,
-                    ballot: slot.ballot,
-                };
-                self.keep(row, slot.entry.as_slice(), self.meta)
+                let entry = slot.entry.as_slice();
+                self.keep(
+                    NewRow::Slot {
+                        position,
+                        promised: ballot,
+                        ballot: slot.ballot,
+                    },
+                    entry,
+                    self.meta,
+                )
             }
             Err(fault) => Err(fault),
         }
@@ -177,14 +181,15 @@ impl<S: Alter> SqlRecords<S> {
         ensures same_identity { self.new.identity ≡ self.old.identity }
     {
         match self.good_slot(position) {
-            Ok(_slot) => {
-                let row = NewRow::Slot {
+            Ok(_slot) => self.keep(
+                NewRow::Slot {
                     position,
                     promised: ballot,
                     ballot,
-                };
-                self.keep(row, entry, self.meta)
-            }
+                },
+                entry,
+                self.meta,
+            ),
             Err(fault) => Err(fault),
         }
     }

@@ -11,7 +11,7 @@ use Rattle.px_sql.specs.Tables.{put_meta, put_slot, put_floor, put_learned}
 use Rattle.px_sql.specs.Tables.{meta_params, slot_params, floor_params, learned_params}
 use Rattle.px_sql.specs.Seen.{meta_columns, slot_columns, floor_columns, learned_columns}
 use Rattle.px_sql.specs.Seen.{meta_row, slot_row, floor_row, learned_row}
-use Rattle.px_sql.specs.Effect.{Puts, IsSettled}
+use Rattle.px_sql.specs.Effect.{Puts, IsSettled, IsStill}
 use Rattle.px_sql.specs.Store.{Stored, with_meta, with_slot, with_floor, with_entry}
 use Rattle.px_sql.specs.declared.calls.Identity.{Identity}
 use Rattle.px_sql.specs.declared.calls.NewRow.{NewRow}
@@ -74,7 +74,7 @@ IsPut id r bytes = Puts (tree_of r) (key_of r) (columns_of r) (row_of id r bytes
 pub record Wrote (id : Identity) (r : NewRow) (bytes : Bytes) (answer : Result (Unit {0}) Trouble) (old new : State)
     : Type 0 where
   pub ok : OnOk answer (IsPut id r bytes old.committed.trees new.committed.trees × IsSettled new)
-  pub memory : answer ≡ Err Memory → (new.committed ≡ old.committed) × IsSettled new
+  pub memory : answer ≡ Err Memory → IsStill old new
   pub stop : (db : Trees) → new.may_leave db → old.may_leave db ⊎ IsPut id r bytes old.committed.trees db
 
 -- ---- what it makes of the record
