@@ -110,7 +110,7 @@ row_kept o members f id (Learned p) bytes old db good h = learned_kept old.commi
 pub changed : (o : Schema) (members f g : ℕ) (id : Identity) (r : NewRow) (bytes : Bytes) (answer : Result (Unit {0}) Trouble) (old new : State) → Replaces r (stored_of o members f old) → Wrote id r bytes answer old new
     → Changed (with_row r bytes (record_in old.committed.trees)) (told_of answer) (stored_of o members f old) (stored_of o members g new)
 changed o members f g id r bytes answer old new good w = record {
-  ok = told_ok answer _ _ (λ h. row_kept o members f id r bytes old new.committed.trees good h.0) w.ok;
+  ok = told_ok answer (IsPut id r bytes old.committed.trees new.committed.trees × IsSettled new) _ (λ h. row_kept o members f id r bytes old new.committed.trees good h.0) w.ok;
   memory = λ is. all_kept o members f g old new (w.memory (told_memory answer is)).committed;
   stop = λ d left. elim (w.stop left.0 left.1) [
     | inl was ↦ inl (left.0, was, left.2)

@@ -6,6 +6,9 @@ use Rattle.px_sql.proofs.Promises.{read_then, not_read}
 use Rattle.px_sql.specs.View.{view_of}
 use Rattle.px_sql.proofs.keeper.SqlRecords.accept.Goals as goal
 
+pub keep-requires-clause-fits : goal.keep-requires-clause-fits
+keep-requires-clause-fits g c = (c.requires.range, c.requires.range)
+
 pub returns-in-Ok-clause-changed : goal.returns-in-Ok-clause-changed
 returns-in-Ok-clause-changed g c = λ honest.
     let none : c.good_slot.new.self.failures ≡ 0 = search rules in

@@ -7,6 +7,9 @@ use Rattle.px_sql.proofs.Promises.{read_then, not_read, promise_is, slot_range}
 use Rattle.px_sql.specs.View.{view_of}
 use Rattle.px_sql.proofs.keeper.SqlRecords.promise.Goals as goal
 
+pub keep-requires-clause-fits : goal.keep-requires-clause-fits
+keep-requires-clause-fits g c = (c.requires.range, slot_range c.args.self.now.identity.members c.in-Ok.slot.promised c.in-Ok.slot.ballot c.in-Ok.slot.entry.items c.in-Ok.ensures.fits)
+
 pub returns-in-Ok-clause-changed : goal.returns-in-Ok-clause-changed
 returns-in-Ok-clause-changed g c = λ honest.
     let none : c.good_slot.new.self.failures ≡ 0 = search rules in
