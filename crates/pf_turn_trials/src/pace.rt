@@ -159,7 +159,7 @@ fn it_is_sent_again_64_times_at_most(rt: HostRuntime) {
     let mut times = 0u32;
     for now in 1..100u64 {
         if pace.repeats(now * 1_000_000) {
-            times += 1;
+            times = times.saturating_add(1);
         }
     }
     assert_eq!(rt; times, 64);

@@ -25,6 +25,9 @@ fn asked(alloc: Global, me: u8) -> Result<Node<MemoryRecords>, Fail> {
     let Some(m) = Membership::new(7, 3, me) else {
         return Err(Fail::new("no member"));
     };
+    if m.me() >= m.members() {
+        return Err(Fail::new("nobody"));
+    }
     let Ok(mut node) = Node::open(alloc, m, MemoryRecords::new(alloc, m.members())) else {
         return Err(Fail::new("no node"));
     };
@@ -112,7 +115,7 @@ fn lived(alloc: Global, is_sealed: bool) -> Result<Vec<u8>, Fail> {
         };
         let sent = turned(alloc, node, &mut room, coming, is_sealed)?;
         for (to, bytes) in sent {
-            trace.extend_from_slice(&[at as u8, to])?;
+            trace.extend_from_slice(&[(at % 256) as u8, to])?;
             trace.extend_from_slice(untagged(&bytes, is_sealed)?)?;
             if let Some(queue) = queues.get_mut(usize::from(to)) {
                 queue.push_back(bytes)?;
@@ -122,7 +125,7 @@ fn lived(alloc: Global, is_sealed: bool) -> Result<Vec<u8>, Fail> {
     for node in &nodes {
         let shown = listing(alloc, node.config())?;
         trace.extend_from_slice(shown.as_bytes())?;
-        trace.push(node.applied() as u8)?;
+        trace.push((node.applied() % 256) as u8)?;
     }
     Ok(trace)
 }
