@@ -8,7 +8,7 @@ use pf_scripts::{WordsRead, push_refusal};
 use std::alloc::{AllocError, Global};
 
 /// What is answered: HTTP's status, and the body, which is what an operator reads.
-#[derive(Debug, Drop)]
+#[derive(Drop)]
 pub struct Answer {
     /// HTTP's status (RFC 9110, 15).
     pub code: u16,

@@ -10,7 +10,7 @@ use px_records::Records;
 use std::alloc::AllocError;
 
 /// A node in numbers.
-#[derive(Clone, Copy, Debug, PartialEq, Eq)]
+#[derive(Clone, Copy)]
 pub struct Figures {
     /// Its number as a member.
     pub node: u8,

@@ -5,7 +5,7 @@ use form_urlencoded::parse;
 use std::alloc::{AllocError, Global};
 
 /// What a query says.
-#[derive(Debug, Drop)]
+#[derive(Drop)]
 pub(crate) struct Query {
     /// The anchor's path, empty for the main ruleset.
     pub(crate) path: Option<String>,

@@ -1,7 +1,7 @@
 //! What operators ask for.
 
 /// A line of pfctl's words that lists what stands (pfctl(8), `-s` and `-T`). An empty path is the main ruleset's.
-#[derive(Debug, Drop)]
+#[derive(Drop)]
 pub enum Listing<'a> {
     /// `-a PATH -s rules`
     Rules {
@@ -34,7 +34,7 @@ pub enum Listing<'a> {
 }
 
 /// What only looks.
-#[derive(Debug, Drop)]
+#[derive(Drop)]
 pub enum Read<'a> {
     /// A listing.
     List(Listing<'a>),
@@ -69,7 +69,7 @@ pub enum Read<'a> {
 }
 
 /// What is asked for.
-#[derive(Debug, Drop)]
+#[derive(Drop)]
 pub enum Request<'a> {
     /// A change.
     Change {
@@ -90,7 +90,7 @@ pub enum Request<'a> {
 }
 
 /// What a method, a path, its query and a body ask for.
-#[derive(Debug, Drop)]
+#[derive(Drop)]
 pub enum Routed<'a> {
     /// A request.
     Asked(Request<'a>),

@@ -16,7 +16,7 @@ pub struct PeerTally {
 }
 
 /// What the loop counted, by the clock that nobody sets.
-#[derive(Debug, Drop)]
+#[derive(Drop)]
 pub struct Tally {
     /// Whole seconds since the node started.
     pub up: u64,

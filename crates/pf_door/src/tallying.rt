@@ -213,6 +213,10 @@ impl<W: Wire> Wire for TallyWire<W> {
         self.inner.release(number);
     }
 
+    fn repeat(&mut self, front: u32) {
+        self.inner.repeat(front);
+    }
+
     fn failures(&self) -> u64 {
         self.inner.failures()
     }

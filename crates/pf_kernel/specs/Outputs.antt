@@ -61,3 +61,14 @@ machine_of_file (Some text) = machine_in text
 -- over this file of interfaces, none where it can't be read, and this input
 unfoldable pub output : Option (List ℕ) → ℕ → List ℕ → Written
 output file position input = output_for (machine_of_file file) position input
+
+-- ---- a configuration that stands
+
+-- for a machine, if the list of its interfaces is one
+abbrev pub config_for : Option Machine → ℕ → Configuration → Written
+config_for None position c = refused (Some 89)
+config_for (Some m) position c = written_lines (rendered_lines c m position)
+
+-- over this file of interfaces, none where it can't be read
+unfoldable pub config_output : Option (List ℕ) → ℕ → Configuration → Written
+config_output file position c = config_for (machine_of_file file) position c

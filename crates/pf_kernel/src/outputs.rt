@@ -1,4 +1,4 @@
-//! What `check --nft` writes.
+//! What `check --nft` and `show --nft` write.
 
 ghost use Rattle.std.specs.Prelude.{◌≡◌, [], Some, IfOk, option_map};
 ghost use Rattle.pf_ruleset.specs.Rulesets.{ruleset_of};
@@ -8,7 +8,7 @@ ghost use Rattle.pf_grammar.specs.Reading.{reading};
 ghost use Rattle.pf_grammar.specs.declared.place.Place.TheVariants.{Main};
 ghost use Rattle.pf_words.specs.declared.profile.Profile.TheVariants.{Two};
 ghost use Rattle.pf_kernel.specs.Outputs.{refused, refused_at, nothing_loaded, written_lines, rendered_of};
-ghost use Rattle.pf_kernel.specs.Outputs.{loaded_of, output};
+ghost use Rattle.pf_kernel.specs.Outputs.{loaded_of, output, config_output};
 ghost use Rattle.pf_kernel.specs.Seen.{written};
 ghost use Rattle.pf_nft_text.specs.Loading.{rendered_lines};
 
@@ -128,6 +128,27 @@ pub fn nft_output(
     };
     match machine_in(alloc, text)? {
         Some(machine) => loaded_of(alloc, &machine, position, input),
+        None => refused(alloc, 89),
+    }
+}
+
+/// What `show --nft` writes of a configuration over a file of interfaces, none where it can't be read: the three lines
+/// of the configuration on that machine, under names of that position, or a refusal. `refused 89`: the file doesn't
+/// list interfaces.
+#[tactic(auto, unfolding(crate::specs::Outputs::config_output))]
+pub fn config_output(
+    alloc: Global,
+    file: Option<&[u8]>,
+    config: &Config,
+    position: u32,
+) -> Result<Written, AllocError>
+    ensures { IfOk result (λ w. written w ≡ config_output (option_map (λ t. t.now) file.entry) position config.now) }
+{
+    let Some(text) = file else {
+        return refused(alloc, 89);
+    };
+    match machine_in(alloc, text)? {
+        Some(machine) => written_lines(alloc, config, &machine, position),
         None => refused(alloc, 89),
     }
 }

@@ -2,10 +2,10 @@
 use Rattle.std.specs.Prelude.{◌≡◌, ℕ, Bool, true, false, ◌&&◌, List, [], ◌∷◌, Option, IfSome, bytes_eq, codes}
 use Rattle.std.specs.List.{list_any}
 use Rattle.std.specs.Io.KnownBytes.{Appends}
-use Rattle.pf_tool.specs.Tool.{line}
+use Rattle.pf_io.specs.Written.{line}
 use Rattle.pf_kernel.specs.Outputs.{output}
-use Rattle.pf_tool.specs.declared.status.Status.{Status}
-use Rattle.pf_tool.specs.declared.status.Status.TheVariants as status
+use Rattle.pf_io.specs.declared.status.Status.{Status}
+use Rattle.pf_io.specs.declared.status.Status.TheVariants as status
 
 -- the words, the program's name first, are check with --nft among what follows
 abbrev pub asks_nft : List (List ℕ) → Bool

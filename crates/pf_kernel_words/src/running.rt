@@ -6,8 +6,8 @@ ghost use Rattle.pf_kernel_words.specs.Running.{asks_nft, Wrote, Ran};
 
 use crate::words::command;
 use clap::ArgMatches;
+use pf_io::{InputFault, Status, misused, out_of_memory, read_all};
 use pf_kernel::nft_output;
-use pf_tool::{InputFault, Status, misused, out_of_memory, read_all};
 use std::alloc::{AllocError, Global};
 use std::convert::AsStr;
 use std::fs;
@@ -60,8 +60,12 @@ fn words_of<'a>(matches: &ArgMatches<'a>) -> Option<NftWords<'a>> {
     })
 }
 
-/// The text of a file, none where it can't be read.
-fn read_file(rt: &HostRuntime, alloc: Global, path: &str) -> Result<Option<Vec<u8>>, AllocError> {
+/// The text of a file, none where it can't be read or is longer than an input may be.
+pub fn read_file(
+    rt: &HostRuntime,
+    alloc: Global,
+    path: &str,
+) -> Result<Option<Vec<u8>>, AllocError> {
     let Ok(mut file) = fs::open(rt, path) else {
         return Ok(None);
     };

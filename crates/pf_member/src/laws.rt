@@ -1,5 +1,6 @@
 //! What holds of members' runs.
 
+ghost use Rattle.pf_member.specs.Asking.{MembersAskNothing};
 ghost use Rattle.pf_member.specs.Lives.{RunsAreLived};
 
 use pf_turn::laws::turns_are_lived;
@@ -11,3 +12,9 @@ pub fn runs_are_lived<R: Records>()
 {
     turns_are_lived::<R>();
 }
+
+/// A datagram whose byte for the sender isn't 255 asks nothing of a member, whatever else it has. Such are all that a
+/// `MembersWire` of px_seal gives.
+pub fn members_ask_nothing<R: Records>()
+    ensures { MembersAskNothing R.Records }
+{}

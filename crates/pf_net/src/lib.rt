@@ -11,6 +11,7 @@ mod answer;
 mod askers;
 mod asking;
 mod host;
+mod repeats;
 mod udp;
 
 pub use address::{Address, parse_address};

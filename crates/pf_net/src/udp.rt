@@ -10,6 +10,7 @@ ghost use Rattle.pf_net.specs.Members.{peers_of, me_of, strangers_of, Drops};
 use crate::address::Address;
 use crate::askers::Askers;
 use crate::host::find;
+use crate::repeats::Repeats;
 use px_transport::Wire;
 use std::alloc::{AllocError, AllocFailed, Global};
 use std::io::ErrorKind;
@@ -64,7 +65,8 @@ impl<T: Drop> From<AllocFailed<T>> for BindFault {
 /// A datagram that comes from elsewhere than a member's address is given as an empty one, which is nobody's, and is
 /// counted, unless its sender's number is 255, of one who asks. While asks are deferred, 64 of them are kept for later,
 /// and an empty datagram is given in place of each. With [`UdpWire::answer_learned`] an answer that a command was taken in
-/// is sent once that is learned.
+/// is sent once that is learned. The accept requests and votes that were sent last are kept, those of one ballot at one
+/// position, and sent again by [`Wire::repeat`].
 #[derive(Drop)]
 pub struct UdpWire<C> {
     socket: UdpSocket,
@@ -82,6 +84,7 @@ pub struct UdpWire<C> {
     timeout: Duration,
     is_blocking: bool,
     askers: Askers,
+    repeats: Repeats,
     strangers: u64,
     failures: u64,
 }
@@ -162,6 +165,7 @@ impl<R: Net + Clock + Copy> UdpWire<R> {
             timeout: wait,
             is_blocking: true,
             askers: Askers::new(alloc),
+            repeats: Repeats::new(alloc),
             strangers: 0,
             failures: 0,
         })
@@ -353,6 +357,17 @@ impl<C: Clock> UdpWire<C> {
         }
     }
 
+    /// Whether what was kept with this number was sent again.
+    fn sent_again(&self, i: usize) -> bool {
+        match self.repeats.get(i) {
+            Some((to, bytes)) => match self.address(to) {
+                Some(there) => self.sent_to(bytes, there),
+                None => false,
+            },
+            None => false,
+        }
+    }
+
     /// Whether all of the bytes were sent there.
     fn sent_to(&self, bytes: &[u8], to: SocketAddr) -> bool {
         match self.socket.send_to(bytes, to) {
@@ -439,6 +454,9 @@ impl<C: Clock> Wire for UdpWire<C> {
         if !sent {
             self.failures = self.failures.saturating_add(1);
         }
+        if to != ASKER {
+            self.repeats.keep(to, bytes);
+        }
         sent
     }
 
@@ -449,6 +467,14 @@ impl<C: Clock> Wire for UdpWire<C> {
     fn release(&mut self, number: u64) {
         if let Some((to, bytes)) = self.askers.take(number) {
             if !self.sent_to(&bytes, to) {
+                self.count_failure();
+            }
+        }
+    }
+
+    fn repeat(&mut self, front: u32) {
+        for i in 0..self.repeats.count(front) {
+            if !self.sent_again(i) {
                 self.count_failure();
             }
         }

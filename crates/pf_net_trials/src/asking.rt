@@ -60,14 +60,16 @@ fn asked(alloc: Global, coming: &[&[u8]]) -> Result<(AskAnswer, bool), Fail> {
     Ok((answer, is_ask(&wire) && wire.failures() == 0))
 }
 
+/// Whether that is answered over such a wire, and the Ask is all that was sent.
+fn is_answered(alloc: Global, coming: &[&[u8]], wanted: AskAnswer) -> Result<bool, Fail> {
+    let (answer, is_sent) = asked(alloc, coming)?;
+    Ok(answer == wanted && is_sent)
+}
+
 #[test]
 fn an_answer_is_taken(rt: HostRuntime) -> Result<(), Fail> {
-    let (answer, is_sent) = asked(rt.alloc(), &[&ASKED])?;
-    assert_eq!(rt; answer, AskAnswer::Asked(0));
-    assert!(rt; is_sent);
-    let (answer, is_sent) = asked(rt.alloc(), &[&FULL])?;
-    assert_eq!(rt; answer, AskAnswer::Refused(60));
-    assert!(rt; is_sent);
+    assert!(rt; is_answered(rt.alloc(), &[&ASKED], AskAnswer::Asked(0))?);
+    assert!(rt; is_answered(rt.alloc(), &[&FULL], AskAnswer::Refused(60))?);
     Ok(())
 }
 
@@ -75,9 +77,7 @@ fn an_answer_is_taken(rt: HostRuntime) -> Result<(), Fail> {
 fn what_is_no_answer_is_passed_over(rt: HostRuntime) -> Result<(), Fail> {
     let others: [&[u8]; 4] = [&OTHER_TOKEN, &OTHER_MEMBER, &ASK, &ASKED[..28]];
     for other in others {
-        let (answer, is_sent) = asked(rt.alloc(), &[other, &ASKED])?;
-        assert_eq!(rt; answer, AskAnswer::Asked(0));
-        assert!(rt; is_sent);
+        assert!(rt; is_answered(rt.alloc(), &[other, &ASKED], AskAnswer::Asked(0))?);
     }
     Ok(())
 }
@@ -85,20 +85,14 @@ fn what_is_no_answer_is_passed_over(rt: HostRuntime) -> Result<(), Fail> {
 #[test]
 fn the_sixth_datagram_is_too_late(rt: HostRuntime) -> Result<(), Fail> {
     let other: &[u8] = &OTHER_TOKEN;
-    let fifth: [&[u8]; 5] = [other, other, other, other, &ASKED];
-    let (answer, _sent) = asked(rt.alloc(), &fifth)?;
-    assert_eq!(rt; answer, AskAnswer::Asked(0));
-    let sixth: [&[u8]; 6] = [other, other, other, other, other, &ASKED];
-    let (answer, is_sent) = asked(rt.alloc(), &sixth)?;
-    assert_eq!(rt; answer, AskAnswer::NoAnswer);
-    assert!(rt; is_sent);
+    let coming: [&[u8]; 6] = [other, other, other, other, other, &ASKED];
+    assert!(rt; is_answered(rt.alloc(), &coming[1..], AskAnswer::Asked(0))?);
+    assert!(rt; is_answered(rt.alloc(), &coming, AskAnswer::NoAnswer)?);
     Ok(())
 }
 
 #[test]
 fn nothing_that_comes_is_no_answer(rt: HostRuntime) -> Result<(), Fail> {
-    let (answer, is_sent) = asked(rt.alloc(), &[])?;
-    assert_eq!(rt; answer, AskAnswer::NoAnswer);
-    assert!(rt; is_sent);
+    assert!(rt; is_answered(rt.alloc(), &[], AskAnswer::NoAnswer)?);
     Ok(())
 }

@@ -5,4 +5,6 @@
 #[cfg(test)]
 mod asking;
 #[cfg(test)]
+mod repeats;
+#[cfg(test)]
 mod sockets;

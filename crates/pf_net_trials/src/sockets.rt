@@ -52,53 +52,104 @@ impl Net for Bench<'_> {
 /// A datagram of one who asks: 255 stands where its sender's number does.
 const ASK: [u8; 11] = [0, 0, 0, 0, 0, 0, 0, 0, 0, 0, 255];
 
+/// The same with member 1 as its sender.
+const OF_ONE: [u8; 11] = [0, 0, 0, 0, 0, 0, 0, 0, 0, 0, 1];
+
+/// Whether the room begins with the bytes, if any came, and is as it was behind them: 7 everywhere.
+fn holds(room: &[u8], came: Option<usize>, wanted: &[u8]) -> bool {
+    let (front, rest) = room.split_at(wanted.len().min(room.len()));
+    came == Some(wanted.len()) && front == wanted && rest.iter().all(|byte| *byte == 7)
+}
+
+/// Whether these bytes are what comes next, into a room of so many bytes, 20 at most.
+fn hears<W: Wire>(wire: &mut W, size: usize, wanted: &[u8]) -> bool {
+    let mut room = [7u8; 20];
+    let room = &mut room[..size.min(20)];
+    let came = wire.recv(room);
+    holds(room, came, wanted)
+}
+
+/// Whether nothing comes, and the room is as it was.
+fn hears_none<W: Wire>(wire: &mut W) -> bool {
+    let mut room = [7u8; 20];
+    wire.recv(&mut room).is_none() && room == [7; 20]
+}
+
+/// Whether these bytes are what has come, into a room of 20.
+fn has<W: Wire>(wire: &mut W, wanted: &[u8]) -> bool {
+    let mut room = [7u8; 20];
+    let came = wire.poll(&mut room);
+    holds(&room, came, wanted)
+}
+
+/// Whether nothing has come.
+fn has_none<W: Wire>(wire: &mut W) -> bool {
+    let mut room = [7u8; 20];
+    wire.poll(&mut room).is_none() && room == [7; 20]
+}
+
+/// Whether one sends each of the bytes as a datagram.
+fn sends_each<W: Wire>(wire: &mut W, to: u8, letters: &[u8]) -> bool {
+    for letter in letters {
+        if !wire.send(to, &[*letter]) {
+            return false;
+        }
+    }
+    true
+}
+
+/// Whether each of the bytes comes as a datagram, the clock moving back to half before the next one.
+fn hears_each<W: Wire>(wire: &mut W, letters: &[u8], now: &Cell<u64>) -> bool {
+    for letter in letters {
+        if !hears(wire, 1, &[*letter]) {
+            return false;
+        }
+        now.set(now.get() / 2);
+    }
+    true
+}
+
+/// Whether what two members and one who asks send comes.
+fn talk<W: Wire>(one: &mut W, other: &mut W, asker: &mut W) -> bool {
+    let is_heard = hears_none(one) && one.send(1, b"hello") && hears(other, 8, b"hello");
+    let is_asked = asker.send(1, &ASK) && hears(one, 20, &ASK);
+    let is_answered = one.send(255, b"an answer") && hears(asker, 8, b"an answe");
+    is_heard && is_asked && is_answered && !other.send(2, b"nobody") && other.failures() == 1
+}
+
 #[test]
 fn datagrams_go_between_members_and_who_asks(rt: HostRuntime) -> Result<(), Fail> {
     let members = ["127.0.0.1:39471", "127.0.0.1:39472"];
     let mut one = UdpWire::bind(&rt, rt.alloc(), &members, 0, 10)?;
     let mut other = UdpWire::bind(&rt, rt.alloc(), &members, 1, 10)?;
     let mut asker = UdpWire::bind(&rt, rt.alloc(), &members[..1], 255, 10)?;
-    let mut room = [0u8; 8];
-    assert_eq!(rt; one.recv(&mut room), None);
-    assert!(rt; one.send(1, b"hello"));
-    assert_eq!(rt; other.recv(&mut room), Some(5));
-    assert_eq!(rt; room, *b"hello\0\0\0");
-    let mut long = [0u8; 20];
-    assert!(rt; asker.send(1, &ASK));
-    assert_eq!(rt; one.recv(&mut long), Some(11));
-    assert!(rt; one.send(255, b"an answer"));
-    assert_eq!(rt; asker.recv(&mut room), Some(8));
-    assert_eq!(rt; room, *b"an answe");
-    assert!(rt; !other.send(2, b"nobody"));
-    assert_eq!(rt; other.failures(), 1);
+    assert!(rt; talk(&mut one, &mut other, &mut asker));
     Ok(())
 }
 
+/// Whether the member with this number gets no socket.
+fn is_refused(rt: HostRuntime, members: &[&str], me: u8) -> bool {
+    match UdpWire::bind(&rt, rt.alloc(), members, me, 10) {
+        Ok(_) => false,
+        Err(fault) => fault == BindFault::NoSocket,
+    }
+}
+
+/// Texts that are no address, between commas.
+const NO_ADDRESSES: &str =
+    "127.0.0.1,127.0.0.1:,127.0.0.1:0,127.0.0.1:65536,127.0.0.1:000080,127.0.0.1:http,\
+    127.1:39473,local_host:39473,localhost:,localhost:0,::1:39473, 127.0.0.1:39473,";
+
 #[test]
 fn an_address_has_a_port(rt: HostRuntime) -> Result<(), Fail> {
-    for text in [
-        "127.0.0.1",
-        "127.0.0.1:",
-        "127.0.0.1:0",
-        "127.0.0.1:65536",
-        "127.0.0.1:000080",
-        "127.0.0.1:http",
-        "127.1:39473",
-        "local_host:39473",
-        "localhost:",
-        "localhost:0",
-        "::1:39473",
-        " 127.0.0.1:39473",
-        "",
-    ] {
-        let members = ["127.0.0.1:39473", text];
-        match UdpWire::bind(&rt, rt.alloc(), &members, 0, 10) {
-            Ok(_) => assert!(rt; false),
-            Err(fault) => assert_eq!(rt; fault, BindFault::NoSocket),
-        }
+    let mut count = 0usize;
+    for text in NO_ADDRESSES.split(',') {
+        assert!(rt; is_refused(rt, &["127.0.0.1:39473", text], 0), "{text}");
+        count = count.saturating_add(1);
     }
+    assert!(rt; count == 13);
     let wire = UdpWire::bind(&rt, rt.alloc(), &["127.0.0.1:39473"], 0, 10)?;
-    assert_eq!(rt; wire.failures(), 0);
+    assert!(rt; wire.failures() == 0);
     Ok(())
 }
 
@@ -106,11 +157,18 @@ fn an_address_has_a_port(rt: HostRuntime) -> Result<(), Fail> {
 fn two_members_do_not_share_an_address(rt: HostRuntime) -> Result<(), Fail> {
     let members = ["127.0.0.1:39474", "127.0.0.1:39474"];
     let _one = UdpWire::bind(&rt, rt.alloc(), &members, 0, 10)?;
-    match UdpWire::bind(&rt, rt.alloc(), &members, 1, 10) {
-        Ok(_) => assert!(rt; false),
-        Err(fault) => assert_eq!(rt; fault, BindFault::NoSocket),
-    }
+    assert!(rt; is_refused(rt, &members, 1));
     Ok(())
+}
+
+/// Whether a wait ends behind three datagrams of five, and the next begins with the fourth.
+fn ends<A: Wire, B: Wire>(one: &mut A, other: &mut B) -> bool {
+    let is_first = sends_each(other, 0, b"abcde")
+        && hears(one, 1, b"a")
+        && hears(one, 1, b"b")
+        && hears(one, 1, b"c")
+        && hears_none(one);
+    is_first && hears(one, 1, b"d") && hears(one, 1, b"e") && one.failures() == 0
 }
 
 #[test]
@@ -125,25 +183,28 @@ fn a_wait_ends_whatever_comes(rt: HostRuntime) -> Result<(), Fail> {
     };
     let mut one = UdpWire::bind(&bench, rt.alloc(), &members, 0, 1000)?;
     let mut other = UdpWire::bind(&rt, rt.alloc(), &members, 1, 10)?;
-    let mut room = [0u8; 1];
-    for text in [b"a", b"b", b"c", b"d", b"e"] {
-        assert!(rt; other.send(0, text));
-    }
-    for text in [b"a", b"b", b"c"] {
-        assert_eq!(rt; one.recv(&mut room), Some(1));
-        assert_eq!(rt; room, *text);
-    }
-    assert_eq!(rt; one.recv(&mut room), None);
-    assert_eq!(rt; room, *b"c");
-    assert_eq!(rt; one.recv(&mut room), Some(1));
-    assert_eq!(rt; room, *b"d");
-    assert_eq!(rt; one.recv(&mut room), Some(1));
-    assert_eq!(rt; one.failures(), 0);
+    assert!(rt; ends(&mut one, &mut other));
     Ok(())
 }
 
-/// How many datagrams of 150 a member with a wait of 640 ms receives before none is answered, where so many
-/// milliseconds go by between two receives.
+/// How many datagrams of 150 come before none does, where so many milliseconds go by between two receives.
+fn heard<A: Wire, B: Wire>(one: &mut A, other: &mut B, now: &Cell<u64>, millis: u64) -> u32 {
+    for _ in 0..150 {
+        if !other.send(0, b"a") {
+            return 1000;
+        }
+    }
+    let mut room = [0u8; 1];
+    for count in 0..150u32 {
+        if one.recv(&mut room).is_none() {
+            return count;
+        }
+        now.set(now.get().saturating_add(millis));
+    }
+    150
+}
+
+/// The same of a member with a wait of 640 ms.
 fn received(rt: HostRuntime, members: &[&str], millis: u64) -> Result<u32, Fail> {
     let now = Cell::new(0);
     let step = Some(0);
@@ -154,63 +215,55 @@ fn received(rt: HostRuntime, members: &[&str], millis: u64) -> Result<u32, Fail>
     };
     let mut one = UdpWire::bind(&bench, rt.alloc(), members, 0, 640)?;
     let mut other = UdpWire::bind(&rt, rt.alloc(), members, 1, 10)?;
-    let mut room = [0u8; 1];
-    for _ in 0..150 {
-        if !other.send(0, b"a") {
-            return Err(Fail::new("not sent"));
-        }
-    }
-    for count in 0..150u32 {
-        if one.recv(&mut room).is_none() {
-            return Ok(count);
-        }
-        now.set(now.get().saturating_add(millis));
-    }
-    Ok(150)
+    Ok(heard(&mut one, &mut other, &now, millis))
 }
 
 #[test]
 fn who_is_slow_receives_64_in_a_wait(rt: HostRuntime) -> Result<(), Fail> {
-    assert_eq!(rt;
-        received(rt, &["127.0.0.1:39477", "127.0.0.1:39478"], 5)?,
-        128
-    );
-    assert_eq!(rt;
-        received(rt, &["127.0.0.1:39487", "127.0.0.1:39488"], 10)?,
-        64
-    );
-    assert_eq!(rt;
-        received(rt, &["127.0.0.1:39497", "127.0.0.1:39498"], 60_000)?,
-        64
-    );
+    for (members, millis, wanted) in [
+        (["127.0.0.1:39477", "127.0.0.1:39478"], 5, 128),
+        (["127.0.0.1:39487", "127.0.0.1:39488"], 10, 64),
+        (["127.0.0.1:39497", "127.0.0.1:39498"], 60_000, 64),
+    ] {
+        assert!(rt; received(rt, &members, millis)? == wanted, "{millis}");
+    }
     Ok(())
+}
+
+/// Whether three datagrams come though the clock goes back, and then none.
+fn goes_back<A: Wire, B: Wire>(one: &mut A, other: &mut B, now: &Cell<u64>) -> bool {
+    let is_heard = sends_each(other, 0, b"abc") && hears_each(one, b"abc", now);
+    is_heard && hears_none(one) && one.failures() == 0
+}
+
+/// The same of a clock with that step.
+fn goes_on(rt: HostRuntime, members: &[&str], step: Option<u64>) -> Result<bool, Fail> {
+    let now = Cell::new(1_000_000);
+    let bench = Bench {
+        rt,
+        now: &now,
+        step,
+    };
+    let mut one = UdpWire::bind(&bench, rt.alloc(), members, 0, 10)?;
+    let mut other = UdpWire::bind(&rt, rt.alloc(), members, 1, 10)?;
+    Ok(goes_back(&mut one, &mut other, &now))
 }
 
 #[test]
 fn a_clock_that_fails_or_goes_back_ends_no_wait(rt: HostRuntime) -> Result<(), Fail> {
     let members = ["127.0.0.1:39485", "127.0.0.1:39486"];
-    let now = Cell::new(1_000_000);
-    let mut other = UdpWire::bind(&rt, rt.alloc(), &members, 1, 10)?;
-    let mut room = [0u8; 1];
     for step in [None, Some(0)] {
-        let bench = Bench {
-            rt,
-            now: &now,
-            step,
-        };
-        let mut one = UdpWire::bind(&bench, rt.alloc(), &members, 0, 10)?;
-        for text in [b"a", b"b", b"c"] {
-            assert!(rt; other.send(0, text));
-        }
-        for text in [b"a", b"b", b"c"] {
-            assert_eq!(rt; one.recv(&mut room), Some(1));
-            assert_eq!(rt; room, *text);
-            now.set(now.get() / 2);
-        }
-        assert_eq!(rt; one.recv(&mut room), None);
-        assert_eq!(rt; one.failures(), 0);
+        assert!(rt; goes_on(rt, &members, step)?);
     }
     Ok(())
+}
+
+/// Whether three answers come to one who asks, and then none.
+fn answers<A: Wire, B: Wire>(one: &mut A, asker: &mut B) -> bool {
+    let is_asked = asker.send(0, &ASK) && hears(one, 20, &ASK);
+    let is_sent = one.send(255, b"one") && one.send(255, b"two") && one.send(255, b"six");
+    let is_heard = hears(asker, 3, b"one") && hears(asker, 3, b"two") && hears(asker, 3, b"six");
+    is_asked && is_sent && is_heard && hears_none(asker)
 }
 
 #[test]
@@ -225,19 +278,21 @@ fn each_receive_of_an_asker_waits(rt: HostRuntime) -> Result<(), Fail> {
     };
     let mut one = UdpWire::bind(&rt, rt.alloc(), &members, 0, 10)?;
     let mut asker = UdpWire::bind(&bench, rt.alloc(), &members, 255, 10)?;
-    let mut long = [0u8; 20];
-    let mut room = [0u8; 3];
-    assert!(rt; asker.send(0, &ASK));
-    assert_eq!(rt; one.recv(&mut long), Some(11));
-    for text in [b"one", b"two", b"six"] {
-        assert!(rt; one.send(255, text));
-    }
-    for text in [b"one", b"two", b"six"] {
-        assert_eq!(rt; asker.recv(&mut room), Some(3));
-        assert_eq!(rt; room, *text);
-    }
-    assert_eq!(rt; asker.recv(&mut room), None);
+    assert!(rt; answers(&mut one, &mut asker));
     Ok(())
+}
+
+/// Whether polls and receives take three datagrams in order, and a poll waits for none.
+fn polls<W: Wire>(one: &mut W, other: &mut W) -> bool {
+    let is_none = has_none(one);
+    let is_sent = other.send(0, b"first") && other.send(0, b"later") && other.send(0, b"last");
+    one.wait(60_000);
+    one.wait(60_000);
+    let is_heard = has(one, b"first") && hears(one, 5, b"later") && has(one, b"last");
+    let is_over = has_none(one);
+    one.wait(1);
+    one.wait(0);
+    is_none && is_sent && is_heard && is_over && has_none(one) && one.failures() == 0
 }
 
 #[test]
@@ -245,24 +300,33 @@ fn a_poll_takes_what_has_come_and_waits_for_none(rt: HostRuntime) -> Result<(), 
     let members = ["127.0.0.1:39461", "127.0.0.1:39462"];
     let mut one = UdpWire::bind(&rt, rt.alloc(), &members, 0, 60_000)?;
     let mut other = UdpWire::bind(&rt, rt.alloc(), &members, 1, 10)?;
-    let mut room = [0u8; 5];
-    assert_eq!(rt; one.poll(&mut room), None);
-    assert!(rt; other.send(0, b"first"));
-    assert!(rt; other.send(0, b"later"));
-    assert!(rt; other.send(0, b"last"));
-    one.wait(60_000);
-    one.wait(60_000);
-    assert_eq!(rt; one.poll(&mut room), Some(5));
-    assert_eq!(rt; room, *b"first");
-    assert_eq!(rt; one.recv(&mut room), Some(5));
-    assert_eq!(rt; room, *b"later");
-    assert_eq!(rt; one.poll(&mut room), Some(4));
-    assert_eq!(rt; one.poll(&mut room), None);
-    one.wait(1);
-    one.wait(0);
-    assert_eq!(rt; one.poll(&mut room), None);
-    assert_eq!(rt; one.failures(), 0);
+    assert!(rt; polls(&mut one, &mut other));
     Ok(())
+}
+
+/// Whether an empty datagram comes.
+fn hears_empty<W: Wire>(wire: &mut W) -> bool {
+    let mut room = [0u8; 20];
+    wire.recv(&mut room) == Some(0)
+}
+
+/// Whether an empty datagram has come.
+fn has_empty<W: Wire>(wire: &mut W) -> bool {
+    let mut room = [0u8; 20];
+    wire.poll(&mut room) == Some(0)
+}
+
+/// Whether two datagrams of a stranger are given as empty ones.
+fn drops<W: Wire>(one: &mut W, stranger: &mut W) -> bool {
+    let is_first = stranger.send(0, &OF_ONE) && hears_empty(one) && stranger.send(0, b"short");
+    one.wait(1000);
+    is_first && has_empty(one)
+}
+
+/// Whether a stranger's ask comes, and what a member sends.
+fn takes<W: Wire>(one: &mut W, other: &mut W, stranger: &mut W) -> bool {
+    let is_asked = stranger.send(0, &ASK) && hears(one, 20, &ASK);
+    is_asked && other.send(0, &OF_ONE) && hears(one, 20, &OF_ONE) && one.failures() == 0
 }
 
 #[test]
@@ -272,50 +336,30 @@ fn a_stranger_is_dropped_unless_it_asks(rt: HostRuntime) -> Result<(), Fail> {
     let mut one = UdpWire::bind(&rt, rt.alloc(), &members, 0, 1000)?;
     let mut other = UdpWire::bind(&rt, rt.alloc(), &members, 1, 10)?;
     let mut stranger = UdpWire::bind(&rt, rt.alloc(), &elsewhere, 1, 10)?;
-    let mut forged = ASK;
-    forged[10] = 1;
-    let mut room = [0u8; 20];
-    assert!(rt; stranger.send(0, &forged));
-    assert_eq!(rt; one.recv(&mut room), Some(0));
-    assert!(rt; stranger.send(0, b"short"));
-    one.wait(1000);
-    assert_eq!(rt; one.poll(&mut room), Some(0));
-    assert_eq!(rt; one.strangers(), 2);
-    assert!(rt; stranger.send(0, &ASK));
-    assert_eq!(rt; one.recv(&mut room), Some(11));
-    assert!(rt; other.send(0, &forged));
-    assert_eq!(rt; one.recv(&mut room), Some(11));
-    assert_eq!(rt; one.strangers(), 2);
-    assert_eq!(rt; one.failures(), 0);
+    assert!(rt; drops(&mut one, &mut stranger) && one.strangers() == 2);
+    assert!(rt; takes(&mut one, &mut other, &mut stranger) && one.strangers() == 2);
     Ok(())
 }
 
+/// Texts that are no address in brackets, between commas.
+const NO_BRACKETS: &str =
+    "[2001:db8::1],[2001:db8::1]:,[2001:db8::1]:0,[2001:db8::1]4711,[2001:db8::1:4711,\
+    2001:db8::1]:4711,[127.0.0.1]:4711,[]:4711,[,[2001:db8::1] :4711,[2001:db8::g]:4711";
+
 #[test]
-fn an_ipv6_address_stands_in_brackets(rt: HostRuntime) -> Result<(), Fail> {
+fn an_ipv6_address_stands_in_brackets(rt: HostRuntime) {
     let Some(address) = parse_address("[2001:db8::1]:4711") else {
-        return Err(Fail::new("an address"));
+        assert!(rt; false);
+        return;
     };
-    assert_eq!(rt;
-        address.ip,
-        Addr::V6(0x2001_0db8_0000_0000_0000_0000_0000_0001)
-    );
-    assert_eq!(rt; address.port, 4711);
-    for text in [
-        "[2001:db8::1]",
-        "[2001:db8::1]:",
-        "[2001:db8::1]:0",
-        "[2001:db8::1]4711",
-        "[2001:db8::1:4711",
-        "2001:db8::1]:4711",
-        "[127.0.0.1]:4711",
-        "[]:4711",
-        "[",
-        "[2001:db8::1] :4711",
-        "[2001:db8::g]:4711",
-    ] {
-        assert!(rt; parse_address(text).is_none());
+    let ip = Addr::V6(0x2001_0db8_0000_0000_0000_0000_0000_0001);
+    assert!(rt; address.ip == ip && address.port == 4711);
+    let mut count = 0usize;
+    for text in NO_BRACKETS.split(',') {
+        assert!(rt; parse_address(text).is_none(), "{text}");
+        count = count.saturating_add(1);
     }
-    Ok(())
+    assert!(rt; count == 11);
 }
 
 /// What comes from one member to the other over IPv6, where the machine has it.
@@ -327,12 +371,9 @@ fn datagrams_go_over_ipv6(rt: HostRuntime) -> Result<(), Fail> {
     };
     let mut other = UdpWire::bind(&rt, rt.alloc(), &members, 1, 10)?;
     let mut asker = UdpWire::bind(&rt, rt.alloc(), &members[..1], 255, 10)?;
-    let mut room = [0u8; 20];
-    assert!(rt; other.send(0, b"hello"));
-    assert_eq!(rt; one.recv(&mut room), Some(5));
-    assert!(rt; asker.send(0, &ASK));
-    assert_eq!(rt; one.recv(&mut room), Some(11));
-    assert_eq!(rt; one.strangers(), 0);
+    assert!(rt; other.send(0, b"hello") && hears(&mut one, 20, b"hello"));
+    assert!(rt; asker.send(0, &ASK) && hears(&mut one, 20, &ASK));
+    assert!(rt; one.strangers() == 0);
     Ok(())
 }
 
@@ -344,8 +385,6 @@ fn a_name_is_looked_up(rt: HostRuntime) -> Result<(), Fail> {
         return Ok(());
     };
     let mut asker = UdpWire::bind(&rt, rt.alloc(), &members[..1], 255, 10)?;
-    let mut room = [0u8; 20];
-    assert!(rt; asker.send(0, &ASK));
-    assert_eq!(rt; one.recv(&mut room), Some(11));
+    assert!(rt; asker.send(0, &ASK) && hears(&mut one, 20, &ASK));
     Ok(())
 }

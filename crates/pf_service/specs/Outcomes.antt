@@ -13,9 +13,9 @@ use Rattle.pf_member.specs.declared.ended.Ended.{Ended}
 use Rattle.pf_member.specs.declared.ended.Ended.TheVariants as ended
 use Rattle.pf_net.specs.declared.answer.AskAnswer.{AskAnswer}
 use Rattle.pf_net.specs.declared.answer.AskAnswer.TheVariants as answer
-use Rattle.pf_tool.specs.declared.status.Status.{Status}
-use Rattle.pf_tool.specs.declared.status.Status.TheVariants as status
-use Rattle.pf_tool.specs.Tool.{line}
+use Rattle.pf_io.specs.declared.status.Status.{Status}
+use Rattle.pf_io.specs.declared.status.Status.TheVariants as status
+use Rattle.pf_io.specs.Written.{line}
 use Rattle.pf_service.specs.declared.outcome.Outcome.{Outcome}
 use Rattle.pf_service.specs.declared.outcome.Outcome.TheVariants.{Front, Asked, Key, Refused, NoAnswer, Memory, Unread}
 

@@ -16,5 +16,5 @@ mod outcome;
 mod running;
 mod words;
 
-pub use pf_tool::Status;
+pub use pf_io::Status;
 pub use running::run_net;

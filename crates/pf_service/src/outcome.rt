@@ -4,9 +4,9 @@ ghost use Rattle.std.specs.Prelude.{◌≡◌, IfOk, string_bytes};
 ghost use Rattle.pf_service.specs.declared.outcome.Outcome.TheVariants.{Front, Asked};
 ghost use Rattle.pf_service.specs.Outcomes.{line_of, status_of, Wrote, outcome_of, answer_outcome, ended_outcome};
 
+use pf_io::{Status, out_of_memory};
 use pf_member::Ended;
 use pf_net::AskAnswer;
-use pf_tool::{Status, out_of_memory};
 use px_key::key_text;
 use px_replica::NodeFault;
 use std::alloc::{AllocError, Global};

@@ -10,7 +10,7 @@ use crate::node::{NodeWords, node_outcome};
 use crate::outcome::{Outcome, write_outcome};
 use crate::words::command;
 use clap::ArgMatches;
-use pf_tool::{Status, misused, out_of_memory};
+use pf_io::{Status, misused, out_of_memory};
 use std::alloc::Global;
 use std::convert::AsStr;
 use std::io::{Read, Write};

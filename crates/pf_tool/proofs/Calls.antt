@@ -9,8 +9,9 @@ use Rattle.clap.specs.Faults.{fault_of, is_simple_and_free}
 use Rattle.clap.specs.Kinds.{Kinds, HasKind}
 use Rattle.clap.specs.declared.error.Error.{Error}
 use Rattle.clap.specs.declared.error.kind.ErrorKind.TheVariants.{OutOfMemory}
-use Rattle.pf_tool.specs.declared.status.Status.{Status}
-use Rattle.pf_tool.specs.declared.status.Status.TheVariants as status
+use Rattle.pf_io.specs.declared.status.Status.{Status}
+use Rattle.pf_io.specs.declared.status.Status.TheVariants as status
+use Rattle.pf_io.specs.Written.{IsMisused}
 use Rattle.pf_grammar.specs.declared.place.Place.{Place}
 use Rattle.pf_tool.specs.Tool.{pfx_app, CallValue, called, unless_faulty, call_of, Ran}
 
@@ -36,27 +37,27 @@ unfolding call_of
 call_entered words m e f = rw (e, f) refl
 
 -- where memory ran out or something failed, nothing hangs on what was called
-unhindered : (s : Status) (call : Option CallValue) (input old new : Option (List ℕ)) → Ran s None None old new → (s ≡ status.Usage → ⊥) → Ran s call input old new
+unhindered : (s : Status) (call : Option CallValue) (input old new : Option (List ℕ)) → IsMisused s old new → (s ≡ status.Usage → ⊥) → Ran s call input old new
 unhindered status.Memory call input old new h k = h
 unhindered status.Failed call input old new h k = tt
-unhindered status.Done call input old new h k = absurd (k h)
-unhindered status.Refused call input old new h k = absurd (k h)
-unhindered status.Usage call input old new h k = absurd (k h)
+unhindered status.Done call input old new h k = absurd h
+unhindered status.Refused call input old new h k = absurd h
+unhindered status.Usage call input old new h k = absurd (k refl)
 
-misused_over : (s : Status) (input old new : Option (List ℕ)) → Ran s None None old new → Ran s None input old new
+misused_over : (s : Status) (input old new : Option (List ℕ)) → IsMisused s old new → Ran s None input old new
 misused_over status.Memory input old new h = h
 misused_over status.Failed input old new h = tt
-misused_over status.Done input old new h = h
-misused_over status.Refused input old new h = h
-misused_over status.Usage input old new h = h
+misused_over status.Done input old new h = absurd h
+misused_over status.Refused input old new h = absurd h
+misused_over status.Usage input old new h = refl
 
-refused_by : (s : Status) (kinds : Kinds) (call : Option CallValue) (e : Error) (input old new : Option (List ℕ)) → Ran s None None old new → HasKind kinds e
+refused_by : (s : Status) (kinds : Kinds) (call : Option CallValue) (e : Error) (input old new : Option (List ℕ)) → IsMisused s old new → HasKind kinds e
     → (kind_of e ≡ OutOfMemory → s ≡ status.Usage → ⊥) → Ran s (unless_faulty kinds call) input old new
 refused_by s [] call e input old new h k none = elim k as (λ _. Ran s call input old new) [ inl m ↦ unhindered s call input old new h (none m) | inr bad ↦ absurd bad ]
 refused_by s (x ∷ xs) call e input old new h k none = misused_over s input old new h
 
 -- a parse that is refused
-pub call_refused : (s : Status) (words : List Text) (e : Error) (input old new : Option (List ℕ)) → Ran s None None old new
+pub call_refused : (s : Status) (words : List Text) (e : Error) (input old new : Option (List ℕ)) → IsMisused s old new
     → HasKind (fault_of pfx_app words) e → (kind_of e ≡ OutOfMemory → s ≡ status.Usage → ⊥) → Ran s (call_of words) input old new
 unfolding call_of
 call_refused s words e input old new h k none = refused_by s (fault_of pfx_app words) _ e input old new h k none

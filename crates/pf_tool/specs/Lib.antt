@@ -1,3 +1,2 @@
-pub mod Status
 pub mod Tool
 pub mod inner

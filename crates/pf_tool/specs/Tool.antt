@@ -28,8 +28,9 @@ use Rattle.pf_eval.specs.Seen.{verdict_text}
 use Rattle.pf_scripts.specs.Ctl.{printed}
 use Rattle.pf_tool.specs.declared.output.Ending.{Ending}
 use Rattle.pf_tool.specs.declared.output.Ending.TheVariants.{Done, Refused}
-use Rattle.pf_tool.specs.declared.status.Status.{Status}
-use Rattle.pf_tool.specs.declared.status.Status.TheVariants as status
+use Rattle.pf_io.specs.declared.status.Status.{Status}
+use Rattle.pf_io.specs.declared.status.Status.TheVariants as status
+use Rattle.pf_io.specs.Written.{line}
 
 -- ---- what the words ask for
 
@@ -129,9 +130,6 @@ call_of words = unless_faulty (fault_of pfx_app words) (called (subcommand_of pf
 pub record Written : Type 0 where
   pub text : List ℕ
   pub ending : Ending
-
-abbrev pub line : List ℕ → List ℕ
-line text = text ++ 10 ∷ []
 
 abbrev pub behind : List ℕ → Written → Written
 behind text written = record { text = text ++ written.text; ending = written.ending }

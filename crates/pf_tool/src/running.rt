@@ -1,33 +1,16 @@
 //! A run of the program.
 
-ghost use Rattle.std.specs.Prelude.{◌≡◌, ◌⊎◌, map, codes, Some, None};
-ghost use Rattle.std.specs.Io.KnownBytes.{Appends};
-ghost use Rattle.clap.specs.Words.{kind_of};
-ghost use Rattle.clap.specs.declared.error.kind.ErrorKind.TheVariants.{OutOfMemory};
-ghost use Rattle.pf_tool.specs.Tool.{line, call_of, Ran};
+ghost use Rattle.std.specs.Prelude.{◌≡◌, map, Some};
+ghost use Rattle.pf_tool.specs.Tool.{call_of, Ran};
 ghost use Rattle.pf_tool.specs.inner.Calls.{asked};
 
 use crate::call::{Call, call_in, output_of};
-use crate::input::{InputFault, read_all};
 use crate::output::Ending;
-use crate::status::Status;
 use crate::words::command;
-use clap::Error;
-use clap::error::ErrorKind;
+use pf_io::{InputFault, Status, misused, out_of_memory, read_all};
 use std::alloc::Global;
 use std::convert::AsStr;
 use std::io::{Read, Write};
-
-/// Writes `memory`: what a run does where a growth was refused.
-pub fn out_of_memory<W: Write>(writer: &mut W) -> Status
-    ensures { (result ≡ Status.Failed) ⊎ ((result ≡ Status.Memory) ×
-        Appends (W.contents writer.old) (W.contents writer.new) (line (codes "memory"))) }
-{
-    match writer.write_all(b"memory\n") {
-        Ok(()) => Status::Memory,
-        Err(_) => Status::Failed,
-    }
-}
 
 /// Reads the input, and writes what is asked for.
 fn answer<R: Read, W: Write>(
@@ -52,23 +35,6 @@ fn answer<R: Read, W: Write>(
             Ending::Done => Status::Done,
             Ending::Refused => Status::Refused,
         },
-        Err(_) => Status::Failed,
-    }
-}
-
-/// Writes what is wrong with the words.
-pub fn misused<W: Write>(alloc: Global, error: &Error, writer: &mut W) -> Status
-    ensures ran { Ran result None None (W.contents writer.old) (W.contents writer.new) }
-    ensures memory { kind_of error.now ≡ OutOfMemory → result ≡ Status.Usage → ⊥ }
-{
-    if error.kind() == ErrorKind::OutOfMemory {
-        return out_of_memory(writer);
-    }
-    let Ok(text) = error.to_string(alloc) else {
-        return out_of_memory(writer);
-    };
-    match writer.write_all(text.as_bytes()) {
-        Ok(()) => Status::Usage,
         Err(_) => Status::Failed,
     }
 }

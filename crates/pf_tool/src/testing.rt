@@ -2,7 +2,8 @@
 
 ghost use Rattle.std.specs.Prelude.{◌≡◌, ◌++◌, [], Some, IfOk, OnOk, map, option_map, string_bytes};
 ghost use Rattle.pf_ruleset.specs.Rulesets.{ruleset_of};
-ghost use Rattle.pf_tool.specs.Tool.{line, refusal_line, verdict_for, verdict_lines, tested_over, nothing_loaded};
+ghost use Rattle.pf_io.specs.Written.{line};
+ghost use Rattle.pf_tool.specs.Tool.{refusal_line, verdict_for, verdict_lines, tested_over, nothing_loaded};
 ghost use Rattle.pf_tool.specs.Tool.{refused_load, test_output};
 ghost use Rattle.pf_config.specs.Changes.{load_ruleset};
 ghost use Rattle.pf_tool.specs.inner.Output.{written};

@@ -2,21 +2,23 @@
 
 use crate::runs::{QUICK, SYN_PACKET};
 use pf_tool::{Status, run};
+use std::alloc::Global;
 use std::io::{self, Error, ErrorKind, Read, Write};
-use std::test::Fail;
+
+/// What words that there aren't end with, and how many bytes are written.
+fn told(alloc: Global, words: &[&str]) -> (u8, usize) {
+    let mut reader = QUICK;
+    let mut out = Vec::new(alloc);
+    let status = run(alloc, words, &mut reader, &mut out);
+    (status.code(), out.len())
+}
 
 #[test]
-fn unknown_words_are_told_apart(rt: HostRuntime) -> Result<(), Fail> {
-    let mut reader = QUICK;
-    let mut out = Vec::new(rt.alloc());
-    let status = run(rt.alloc(), &["pfx", "labs"], &mut reader, &mut out);
-    assert_eq!(rt; status.code(), 2);
-    assert!(rt; out.len() > 20);
-    let mut out = Vec::new(rt.alloc());
-    let status = run(rt.alloc(), &["pfx", "test"], &mut reader, &mut out);
-    assert_eq!(rt; status.code(), 2);
-    assert!(rt; out.len() > 20);
-    Ok(())
+fn unknown_words_are_told_apart(rt: HostRuntime) {
+    for words in [["pfx", "labs"], ["pfx", "test"]] {
+        let (code, length) = told(rt.alloc(), &words);
+        assert!(rt; code == 2 && length > 20);
+    }
 }
 
 /// Gives a part of a text, and then fails.
@@ -56,35 +58,33 @@ impl Write for FailingWriter {
     }
 }
 
-#[test]
-fn a_failed_read_writes_nothing(rt: HostRuntime) -> Result<(), Fail> {
+/// The words of a run that reads rules and one packet.
+const WORDS: [&str; 3] = ["pfx", "test", SYN_PACKET];
+
+/// Whether a run whose reader fails ends as failed, and writes nothing.
+fn is_failed_read(alloc: Global) -> bool {
     let mut reader = FailingReader { given: false };
-    let mut out = Vec::new(rt.alloc());
-    let status = run(
-        rt.alloc(),
-        &["pfx", "test", SYN_PACKET],
-        &mut reader,
-        &mut out,
-    );
-    assert_eq!(rt; status, Status::Failed);
-    assert_eq!(rt; status.code(), 1);
-    assert_eq!(rt; out.len(), 0);
-    Ok(())
+    let mut out = Vec::new(alloc);
+    let status = run(alloc, &WORDS, &mut reader, &mut out);
+    status == Status::Failed && status.code() == 1 && out.is_empty()
 }
 
 #[test]
-fn a_failed_write_ends_the_run(rt: HostRuntime) -> Result<(), Fail> {
+fn a_failed_read_writes_nothing(rt: HostRuntime) {
+    assert!(rt; is_failed_read(rt.alloc()));
+}
+
+/// Whether a run whose writer fails ends as failed, and writes nothing more.
+fn is_failed_write(alloc: Global) -> bool {
     let mut reader = QUICK;
     let mut writer = FailingWriter { taken: 0 };
-    let status = run(
-        rt.alloc(),
-        &["pfx", "test", SYN_PACKET],
-        &mut reader,
-        &mut writer,
-    );
-    assert_eq!(rt; status, Status::Failed);
-    assert_eq!(rt; writer.taken, 1);
-    Ok(())
+    let status = run(alloc, &WORDS, &mut reader, &mut writer);
+    status == Status::Failed && writer.taken == 1
+}
+
+#[test]
+fn a_failed_write_ends_the_run(rt: HostRuntime) {
+    assert!(rt; is_failed_write(rt.alloc()));
 }
 
 /// Fails once, and takes all from then on.
@@ -109,24 +109,27 @@ impl Write for OnceFailingWriter {
     }
 }
 
+/// Whether these words write nothing behind a write that failed.
+fn is_silent(alloc: Global, words: &[&str]) -> bool {
+    let mut reader = QUICK;
+    let mut writer = OnceFailingWriter {
+        failed: false,
+        taken: 0,
+    };
+    let status = run(alloc, words, &mut reader, &mut writer);
+    status == Status::Failed && writer.taken == 0
+}
+
 #[test]
-fn nothing_is_written_after_a_failed_write(rt: HostRuntime) -> Result<(), Fail> {
+fn nothing_is_written_after_a_failed_write(rt: HostRuntime) {
     for words in [
-        ["pfx", "test", SYN_PACKET].as_slice(),
+        WORDS.as_slice(),
         &["pfx", "check"],
         &["pfx", "ctl"],
         &["pfx", "no such word"],
     ] {
-        let mut reader = QUICK;
-        let mut writer = OnceFailingWriter {
-            failed: false,
-            taken: 0,
-        };
-        let status = run(rt.alloc(), words, &mut reader, &mut writer);
-        assert_eq!(rt; status, Status::Failed);
-        assert_eq!(rt; writer.taken, 0);
+        assert!(rt; is_silent(rt.alloc(), words));
     }
-    Ok(())
 }
 
 /// Gives so many newlines.
@@ -144,19 +147,17 @@ impl Read for Newlines {
     }
 }
 
+/// How a run ends that reads so many newlines, and how many bytes it writes.
+fn ended(alloc: Global, left: usize) -> (Status, usize) {
+    let mut reader = Newlines { left };
+    let mut out = Vec::new(alloc);
+    let status = run(alloc, &WORDS, &mut reader, &mut out);
+    (status, out.len())
+}
+
 #[test]
-fn the_input_has_16777216_bytes_at_most(rt: HostRuntime) -> Result<(), Fail> {
-    for (left, wanted, length) in [
-        (16_777_216, Status::Done, 13),
-        (16_777_217, Status::Failed, 0),
-    ] {
-        let mut reader = Newlines { left };
-        let mut out = Vec::new(rt.alloc());
-        let words = ["pfx", "test", SYN_PACKET];
-        let status = run(rt.alloc(), &words, &mut reader, &mut out);
-        assert_eq!(rt; status, wanted);
-        // `pass default` and a newline, or nothing
-        assert_eq!(rt; out.len(), length);
-    }
-    Ok(())
+fn the_input_has_16777216_bytes_at_most(rt: HostRuntime) {
+    // `pass default` and a newline, or nothing
+    assert!(rt; ended(rt.alloc(), 16_777_216) == (Status::Done, 13));
+    assert!(rt; ended(rt.alloc(), 16_777_217) == (Status::Failed, 0));
 }

@@ -2,120 +2,90 @@
 
 use crate::runs::checked;
 use std::alloc::Global;
+use std::fmt::Write;
 use std::test::Fail;
 
-/// Puts the part behind the text so many times.
+/// Texts, each with what `check` writes: a text's parts, each with how many times it stands there, a `%` for a newline.
+/// In a part with two `#` these stand for the two bytes of a number that counts from 0. A text that is accepted writes
+/// so many lines.
+const ROWS: &str = "\
+pass~1~ x~65535>refused 12 line 1
+pass~1~ x~65536>refused 18 line 1
+a = \"x~1~ x~1999~\"%pass~1~ $a~33>refused 18 line 2
+a = \"x~1~ x~1999~\"%pass~1~ $a~32>refused 12 line 2
+a = ~1~x~4096~%$a%~1>refused 12 line 2
+a = ~1~x~4097~%$a%~1>refused 11 line 1
+pass from {~1~ 10.0.#.#~32~ } to {~1~ 10.0.#.#~32~ }~1>1024
+pass from {~1~ 10.0.#.#~32~ } to {~1~ 10.0.#.#~33~ }~1>refused 18 line 1
+pass from {~1~ 10.0.#.#~256~ } to {~1~ 10.0.#.#~257~ }~1>refused 18 line 1
+pass%~1024>1024
+pass%~1024~block%~1>refused 18 line 1025
+pass from {~1~ 10.0.#.#~256~ } to {~1~ fe80::#:#~256~ }~1>refused 14 line 1
+pass from {~1~ 10.0.#.#~257~ } to {~1~ fe80::#:#~256~ }~1>refused 18 line 1";
+
+/// So many there are.
+const COUNT: usize = 13;
+
+/// A part with the two bytes of a number in place of each `#`, and a newline in place of each `%`.
+fn push_part(text: &mut String, part: &str, number: u32) -> Result<(), Fail> {
+    let mut byte = number / 256;
+    for letter in part.chars() {
+        match letter {
+            '%' => text.push('\n')?,
+            '#' => {
+                write!(text, "{byte}")?;
+                byte = number % 256;
+            }
+            _ => text.push(letter)?,
+        }
+    }
+    Ok(())
+}
+
+/// The part so many times.
 fn push_times(text: &mut String, part: &str, count: u32) -> Result<(), Fail> {
-    for _ in 0..count {
-        text.push_str(part)?;
+    for number in 0..count {
+        push_part(text, part, number)?;
     }
     Ok(())
 }
 
-/// So many addresses, each behind a blank: the start, and the two bytes of its number, each behind the mark.
-fn push_addresses(
-    alloc: Global,
-    text: &mut String,
-    start: &str,
-    mark: char,
-    count: u32,
-) -> Result<(), Fail> {
-    for n in 0..count {
-        let (high, low) = (n / 256, n % 256);
-        text.push(' ')?;
-        text.push_str(start)?;
-        text.push(mark)?;
-        text.push_str(high.to_string(alloc)?.as_str())?;
-        text.push(mark)?;
-        text.push_str(low.to_string(alloc)?.as_str())?;
+/// The text of a row.
+fn push_text(text: &mut String, row: &str) -> Result<(), Fail> {
+    let mut words = row.split('~');
+    for _ in 0..10 {
+        let (Some(part), Some(count)) = (words.next(), words.next()) else {
+            return Ok(());
+        };
+        push_times(text, part, count.parse::<u32>().unwrap_or(0))?;
     }
     Ok(())
 }
 
-/// Whether the text is refused with this line.
-fn is_refused(alloc: Global, text: &str, wanted: &str) -> bool {
-    let (status, out) = checked(alloc, text.as_bytes(), false);
-    status == 1 && out.as_slice() == wanted.as_bytes()
+/// Whether the text is refused with this line; or accepted, and so many lines are written.
+fn is_written(alloc: Global, text: &[u8], wanted: &str) -> bool {
+    let (status, out) = checked(alloc, text);
+    match wanted.parse::<usize>() {
+        Ok(lines) => status == 0 && out.iter().filter(|b| **b == b'\n').count() == lines,
+        Err(_) => status == 1 && out.strip_suffix(b"\n") == Some(wanted.as_bytes()),
+    }
 }
 
-#[test]
-fn a_statement_has_65536_tokens_at_most(rt: HostRuntime) -> Result<(), Fail> {
-    let alloc = rt.alloc();
-    for (words, wanted) in [
-        (65_535, "refused 12 line 1\n"),
-        (65_536, "refused 18 line 1\n"),
-    ] {
-        let mut text = String::new(alloc);
-        text.push_str("pass")?;
-        push_times(&mut text, " x", words)?;
-        assert!(rt; is_refused(alloc, text.as_str(), wanted), "{wanted}");
-    }
-    for (uses, wanted) in [(33, "refused 18 line 2\n"), (32, "refused 12 line 2\n")] {
-        let mut text = String::new(alloc);
-        text.push_str("a = \"x")?;
-        push_times(&mut text, " x", 1999)?;
-        text.push_str("\"\npass")?;
-        push_times(&mut text, " $a", uses)?;
-        assert!(rt; is_refused(alloc, text.as_str(), wanted), "{wanted}");
-    }
-    Ok(())
-}
-
-#[test]
-fn a_macro_has_4096_bytes_at_most(rt: HostRuntime) -> Result<(), Fail> {
-    let alloc = rt.alloc();
-    for (letters, wanted) in [(4096, "refused 12 line 2\n"), (4097, "refused 11 line 1\n")] {
-        let mut text = String::new(alloc);
-        text.push_str("a = ")?;
-        push_times(&mut text, "x", letters)?;
-        text.push_str("\n$a\n")?;
-        assert!(rt; is_refused(alloc, text.as_str(), wanted), "{wanted}");
-    }
-    Ok(())
-}
-
-/// A rule from so many addresses to so many.
-fn crossed(alloc: Global, sources: u32, destinations: u32) -> Result<String, Fail> {
+/// Whether the row's text is.
+fn is_answered(alloc: Global, row: &str) -> Result<bool, Fail> {
+    let (parts, wanted) = row.split_once('>').unwrap_or((row, ""));
     let mut text = String::new(alloc);
-    text.push_str("pass from {")?;
-    push_addresses(alloc, &mut text, "10.0", '.', sources)?;
-    text.push_str(" } to {")?;
-    push_addresses(alloc, &mut text, "10.0", '.', destinations)?;
-    text.push_str(" }")?;
-    Ok(text)
+    push_text(&mut text, parts)?;
+    Ok(is_written(alloc, text.as_bytes(), wanted))
 }
 
 #[test]
-fn a_ruleset_has_1024_rules_at_most(rt: HostRuntime) -> Result<(), Fail> {
-    let alloc = rt.alloc();
-    let text = crossed(alloc, 32, 32)?;
-    let (status, out) = checked(alloc, text.as_bytes(), false);
-    assert_eq!(rt; status, 0);
-    assert_eq!(rt; out.iter().filter(|b| **b == b'\n').count(), 1024);
-    for (sources, destinations) in [(32, 33), (256, 257)] {
-        let text = crossed(alloc, sources, destinations)?;
-        assert!(rt; is_refused(alloc, text.as_str(), "refused 18 line 1\n"));
+fn tokens_macros_rules_and_combinations_have_limits(rt: HostRuntime) -> Result<(), Fail> {
+    let mut count = 0usize;
+    for row in ROWS.lines() {
+        assert!(rt; is_answered(rt.alloc(), row)?, "{row}");
+        count = count.saturating_add(1);
     }
-    let mut text = String::new(alloc);
-    push_times(&mut text, "pass\n", 1024)?;
-    let (status, _) = checked(alloc, text.as_bytes(), false);
-    assert_eq!(rt; status, 0);
-    text.push_str("block\n")?;
-    assert!(rt; is_refused(alloc, text.as_str(), "refused 18 line 1025\n"));
-    Ok(())
-}
-
-#[test]
-fn families_are_compared_up_to_65536_combinations(rt: HostRuntime) -> Result<(), Fail> {
-    let alloc = rt.alloc();
-    for (sources, wanted) in [(256, "refused 14 line 1\n"), (257, "refused 18 line 1\n")] {
-        let mut text = String::new(alloc);
-        text.push_str("pass from {")?;
-        push_addresses(alloc, &mut text, "10.0", '.', sources)?;
-        text.push_str(" } to {")?;
-        push_addresses(alloc, &mut text, "fe80:", ':', 256)?;
-        text.push_str(" }")?;
-        assert!(rt; is_refused(alloc, text.as_str(), wanted), "{wanted}");
-    }
+    assert!(rt; count == COUNT);
     Ok(())
 }

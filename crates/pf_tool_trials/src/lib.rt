@@ -1,4 +1,5 @@
-//! Tests of the words `check` and `test`, as whoever runs the program sees them.
+//! Tests of the words `check` and `test` that are no rows of pf_rows: texts at limits, reads and writes that fail, and
+//! what the place and the profile decide.
 #![tactic(auto)]
 
 #[cfg(test)]
@@ -9,7 +10,3 @@ mod large;
 mod profiles;
 #[cfg(test)]
 mod runs;
-#[cfg(test)]
-mod verdicts;
-#[cfg(test)]
-mod worked;

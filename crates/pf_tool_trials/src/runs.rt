@@ -8,28 +8,10 @@ pub(crate) const QUICK: &[u8] = b"block all\npass quick from 10/8 no state\n";
 pub(crate) const SYN_PACKET: &str =
     "in on em0 proto tcp from 10.1.2.3 port 4000 to 192.0.2.1 port 22 flags S";
 
-/// What the word `test` writes for these packets, and the exit status.
-pub(crate) fn tested(alloc: Global, text: &[u8], packets: &[&str]) -> (u8, Vec<u8>) {
-    let mut words = Vec::new(alloc);
-    let _ = words.push("pfx");
-    let _ = words.push("test");
-    for packet in packets {
-        let _ = words.push(*packet);
-    }
-    let mut reader = text;
-    let mut out = Vec::new(alloc);
-    let status = run(alloc, words.as_slice(), &mut reader, &mut out);
-    (status.code(), out)
-}
-
 /// What the word `check` writes for this text, and the exit status.
-pub(crate) fn checked(alloc: Global, text: &[u8], anchor: bool) -> (u8, Vec<u8>) {
+pub(crate) fn checked(alloc: Global, text: &[u8]) -> (u8, Vec<u8>) {
     let mut reader = text;
     let mut out = Vec::new(alloc);
-    let status = if anchor {
-        run(alloc, &["pfx", "check", "--anchor"], &mut reader, &mut out)
-    } else {
-        run(alloc, &["pfx", "check"], &mut reader, &mut out)
-    };
+    let status = run(alloc, &["pfx", "check"], &mut reader, &mut out);
     (status.code(), out)
 }

@@ -23,6 +23,6 @@ pub use pf_node::Node;
 pub use px_replica::{Datagram, NodeFault};
 pub use px_transport::{FaultyWire, MemoryWire, Wire};
 pub use room::Room;
-pub use running::{Progress, round, run};
+pub use running::{Progress, finish, round, run};
 pub use serving::{serve, tick_now};
 pub use turning::turn;

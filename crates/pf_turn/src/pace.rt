@@ -17,8 +17,17 @@ const START: u64 = 200_000;
 /// How long a node that lacks entries takes no commands in while nothing moves its front, in microseconds.
 const BEHIND: u64 = 2_000_000;
 
+/// How long an entry may be on its way behind those that come after it, beside a round trip, in microseconds.
+const GAP: u64 = 1_000;
+
 /// The most times in a row that an attempt's loss doubles the patience.
 const DOUBLINGS: u32 = 6;
+
+/// How many entries a node may lack that are filled by the votes that it keeps, once it has the first.
+const NEAR: u32 = 48;
+
+/// The most times that what was sent is sent again while nothing moves the front.
+const REPEATS: u32 = 64;
 
 /// The longest wait, in milliseconds.
 const LONGEST_WAIT: u64 = 100;
@@ -51,8 +60,9 @@ pub enum Beat {
 /// answered in four round trips and some more, a time that doubles with each loss; after a pause that grows where another
 /// node took the lead; and where nothing waits at the start, once a second, and at once while what it lacks is coming.
 ///
-/// A node that lacks entries which others have learned makes no proposal of its own until it has them, or nothing moved
-/// its front for as long as an attempt may take; where nothing waits it then asks what it lacks.
+/// A node that lacks entries which others have learned asks for them soon. Where commands wait at it, it can't ask and has
+/// to propose, which takes the lead from who has it: it does so soon where it lacks few, and with pauses where it lacks
+/// many and others go on meanwhile.
 ///
 /// Round trips are learned from attempts that led to something. The clock decides when a tick comes, never what it does:
 /// whatever is answered here, a node makes turns and nothing else.
@@ -67,10 +77,16 @@ pub struct Pace {
     hold: u64,
     /// When the front moved last, or it was first seen that entries are lacking.
     moved: u64,
+    /// How far others have come, and when that was seen first.
+    reached: u32,
+    reached_at: u64,
     /// A round trip, in microseconds.
     trip: u64,
     /// How many attempts in a row came to nothing.
     losses: u32,
+    /// When what isn't answered was sent last, and how many times again; 64 where nothing is to be sent again.
+    repeated: u64,
+    repeats: u32,
     front: u32,
     is_proposing: bool,
     is_behind: bool,
@@ -85,8 +101,12 @@ impl Pace {
             asks: 0,
             hold: 0,
             moved: 0,
+            reached: 0,
+            reached_at: 0,
             trip: FIRST_TRIP,
             losses: 0,
+            repeated: 0,
+            repeats: REPEATS,
             front: 0,
             is_proposing: false,
             is_behind: false,
@@ -97,13 +117,47 @@ impl Pace {
     pub fn beat(&mut self, now: u64, view: View) -> Beat {
         self.look(now, view);
         self.compare(now, view);
-        let due = self.due(view);
+        let due = self.due(now, view);
         if now >= due {
             self.tick(now, view);
             return Beat::Tick;
         }
-        let milliseconds = (due - now) / 1_000 + 1;
+        let left = due.min(self.next_repeat()).saturating_sub(now);
+        let milliseconds = left / 1_000 + 1;
         Beat::Wait(milliseconds.min(LONGEST_WAIT) as u32)
+    }
+
+    /// Accept requests or votes were sent, which nobody has answered yet.
+    pub fn sent(&mut self, now: u64) {
+        self.repeated = now;
+        self.repeats = 0;
+    }
+
+    /// Whether the accept requests and votes that were sent of the front's position are sent again now, since they may be
+    /// lost: two round trips and 5 ms after they were sent, and then again and again, in pauses that grow, 64 times at most.
+    /// It is asked after [`Pace::beat`], at the same time.
+    pub fn repeats(&mut self, now: u64) -> bool {
+        if now < self.next_repeat() {
+            return false;
+        }
+        self.repeated = now;
+        self.repeats = self.repeats.saturating_add(1);
+        true
+    }
+
+    /// When what was sent is sent again.
+    fn next_repeat(&self) -> u64 {
+        if self.repeats >= REPEATS {
+            return u64::MAX;
+        }
+        let pause = self.trip.saturating_mul(2).saturating_add(5_000);
+        let times = u64::from(self.repeats / 8 + 1);
+        self.repeated.saturating_add(pause.saturating_mul(times))
+    }
+
+    /// Nothing that was sent so far is to be sent again.
+    fn forget(&mut self) {
+        self.repeats = REPEATS;
     }
 
     /// Whether the node listens, and takes no command in: at its start, and while it lacks entries that others have and
@@ -120,11 +174,13 @@ impl Pace {
             }
             self.front = view.front;
             self.moved = now;
+            self.forget();
             self.losses = 0;
             self.hold = now;
             self.is_proposing = false;
         } else if self.is_proposing && !view.is_attempting {
             self.is_proposing = false;
+            self.forget();
             self.lose();
             self.hold = now.saturating_add(self.pause(now));
         }
@@ -132,6 +188,10 @@ impl Pace {
 
     /// Whether others have come further.
     fn compare(&mut self, now: u64, view: View) {
+        if view.reached > self.reached {
+            self.reached = view.reached;
+            self.reached_at = now;
+        }
         let is_behind = view.reached > view.front;
         if is_behind && !self.is_behind {
             self.moved = now;
@@ -176,19 +236,36 @@ impl Pace {
         2u64.saturating_pow(self.losses)
     }
 
-    /// When a node that lacks entries does something about it: some time after its front moved, and after it did so last.
-    fn listens(&self) -> u64 {
+    /// When a node that lacks entries does something about it: soon after it is seen that its front stands still, and then
+    /// each time after its patience.
+    fn fills(&self) -> u64 {
+        if self.ticked <= self.moved {
+            self.moved.saturating_add(self.trip).saturating_add(GAP)
+        } else {
+            self.ticked.saturating_add(self.patience())
+        }
+    }
+
+    /// When a node that lacks entries proposes what waits, which takes the lead from who has it: where it lacks few, as
+    /// soon as it would ask for them; where it lacks many, at once if others rest, else after its patience.
+    fn intrudes(&self, now: u64, view: View) -> u64 {
+        if view.reached.saturating_sub(view.front) <= NEAR {
+            return self.fills();
+        }
+        if now >= self.reached_at.saturating_add(self.patience()) {
+            return self.moved;
+        }
         self.moved.max(self.ticked).saturating_add(self.patience())
     }
 
     /// When the clock is to tick.
-    fn due(&self, view: View) -> u64 {
+    fn due(&self, now: u64, view: View) -> u64 {
         if view.is_attempting {
             return self.ticked.saturating_add(self.patience());
         }
         if view.waiting > 0 {
             return if self.is_behind {
-                self.hold.max(self.listens())
+                self.hold.max(self.intrudes(now, view))
             } else {
                 self.hold
             };
@@ -199,7 +276,7 @@ impl Pace {
         if view.is_told {
             0
         } else {
-            self.asks.min(self.listens())
+            self.asks.min(self.fills())
         }
     }
 
@@ -210,6 +287,9 @@ impl Pace {
         }
         self.is_proposing = view.waiting > 0;
         self.ticked = now;
+        if view.waiting > 0 {
+            self.sent(now);
+        }
         self.asks = now.saturating_add(IDLE);
     }
 }

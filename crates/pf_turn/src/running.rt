@@ -18,6 +18,9 @@ use std::time::{Clock, Instant};
 /// How many datagrams are taken before it is looked whether the clock is to tick.
 const MOST: u32 = 64;
 
+/// How many rounds a node makes at most to work off what waits when it ends.
+const LAST_ROUNDS: u32 = 3_000;
+
 /// What the pace is decided by.
 fn view_of<R: Records>(node: &Node<R>, room: &Room, was: u32) -> View {
     View {
@@ -95,11 +98,31 @@ fn tick_if<R: Records, W: Wire>(
     }
 }
 
+/// What the clock does, by what has come.
+fn beat(pace: &mut Pace, room: &mut Room, now: u64, view: View) -> Beat {
+    let beat = pace.beat(now, view);
+    if room.sight.is_accepting {
+        pace.sent(now);
+    }
+    room.sight = room.sight.looked();
+    beat
+}
+
+/// What was sent of the positions from the front on is sent again, if that is due.
+fn repeat_if<W: Wire>(wire: &mut W, is_due: bool, front: u32)
+    ensures given { W.given wire.new ≡ W.given wire.old }
+    ensures quiet { W.handed wire.new ≡ W.handed wire.old }
+{
+    if is_due {
+        wire.repeat(front);
+    }
+}
+
 /// What has come is taken, 64 datagrams at most; then the clock ticks where the pace says so. These are turns of the node
 /// and nothing else. Answers how long may be waited before the next round.
 ///
 /// While the node lacks entries that others have, the wire is asked to keep back what is asked from outside; it is told
-/// which of the member's own requests were learned.
+/// which of the member's own requests were learned, and asked to send again what was sent and may be lost.
 ///
 /// `now` is the time in microseconds since the node started, which never goes back. The faults are those of
 /// [`Node::receive`] and [`Node::tick`]; after one nothing is to be sent.
@@ -121,14 +144,79 @@ pub fn round<R: Records, W: Wire>(
     };
     release(node, wire, was);
     let view = view_of(node, room, was);
-    room.sight.is_told = false;
-    let beat = pace.beat(now, view);
+    let beat = beat(pace, room, now, view);
+    repeat_if(wire, pace.repeats(now), node.front());
     wire.defer_asks(pace.is_listening(now));
     tick_if(node, wire, room, beat, taken)
 }
 
+/// Rounds until so many turns are over, and the waits between them.
+fn rounds<R: Records, W: Wire, C: Clock>(
+    node: &mut Node<R>,
+    wire: &mut W,
+    room: &mut Room,
+    pace: &mut Pace,
+    clock: &C,
+    start: Option<Instant>,
+    turns: u64,
+) -> Result<(), NodeFault>
+    ensures served { Served (standing W.Wire node.old wire.old) (standing W.Wire node.new wire.new)
+        (fault_of result) }
+    ensures grows { applied_of node.old ≤ applied_of node.new }
+{
+    let mut left = turns;
+    for _round in 0..turns {
+        if left == 0 {
+            return Ok(());
+        }
+        match round(node, wire, room, pace, microseconds(clock, start)) {
+            Ok(made) => {
+                wire.wait(made.wait);
+                left = left.saturating_sub(u64::from(made.turns));
+            }
+            Err(fault) => return Err(fault),
+        }
+    }
+    Ok(())
+}
+
+/// Works off what waits to be proposed, before the node ends: rounds until nothing waits, 3,000 at most, of which one with
+/// a wait counts for its milliseconds. These are turns of the node and nothing else. What is asked from outside meanwhile
+/// is kept back, where the wire can do that.
+///
+/// `start` is when the node started by this clock. The faults are those of [`Node::receive`] and [`Node::tick`].
+pub fn finish<R: Records, W: Wire, C: Clock>(
+    node: &mut Node<R>,
+    wire: &mut W,
+    room: &mut Room,
+    pace: &mut Pace,
+    clock: &C,
+    start: Option<Instant>,
+) -> Result<(), NodeFault>
+    ensures served { Served (standing W.Wire node.old wire.old) (standing W.Wire node.new wire.new)
+        (fault_of result) }
+    ensures grows { applied_of node.old ≤ applied_of node.new }
+{
+    let mut left = LAST_ROUNDS;
+    for _round in 0..LAST_ROUNDS {
+        if left == 0 || node.waiting() == 0 {
+            return Ok(());
+        }
+        wire.defer_asks(true);
+        match round(node, wire, room, pace, microseconds(clock, start)) {
+            Ok(made) => {
+                wire.wait(made.wait);
+                left = left.saturating_sub(made.wait.max(1));
+            }
+            Err(fault) => return Err(fault),
+        }
+    }
+    Ok(())
+}
+
 /// A node runs: it takes what comes as it comes, and its clock ticks when its pace says so ([`Pace`]), until so many
-/// turns are over, where each datagram counts for one, and each tick and each wait, of a tenth of a second at most.
+/// turns are over, where each datagram counts for one, and each tick and each wait, of a tenth of a second at most. Then
+/// it works off what waits ([`finish`]).
 ///
 /// The faults are those of [`Node::receive`] and [`Node::tick`]; one ends it.
 pub fn run<R: Records, W: Wire, C: Clock>(
@@ -144,18 +232,8 @@ pub fn run<R: Records, W: Wire, C: Clock>(
 {
     let mut pace = Pace::new(node.membership().me());
     let start = Instant::now(clock).ok();
-    let mut left = turns;
-    for _round in 0..turns {
-        if left == 0 {
-            return Ok(());
-        }
-        match round(node, wire, room, &mut pace, microseconds(clock, start)) {
-            Ok(made) => {
-                wire.wait(made.wait);
-                left = left.saturating_sub(u64::from(made.turns));
-            }
-            Err(fault) => return Err(fault),
-        }
+    match rounds(node, wire, room, &mut pace, clock, start, turns) {
+        Ok(()) => finish(node, wire, room, &mut pace, clock, start),
+        Err(fault) => Err(fault),
     }
-    Ok(())
 }

@@ -17,6 +17,8 @@ pub(crate) struct Sight {
     pub(crate) reached: u32,
     /// Whether an entry that was asked for has come since the last look.
     pub(crate) is_told: bool,
+    /// Whether an accept request has come since the last look.
+    pub(crate) is_accepting: bool,
 }
 
 /// The four bytes at a place as a number, the highest first; 0 where they aren't all there.
@@ -33,6 +35,16 @@ impl Sight {
         Sight {
             reached: 0,
             is_told: false,
+            is_accepting: false,
+        }
+    }
+
+    /// What has come is looked at.
+    pub(crate) fn looked(self) -> Sight {
+        Sight {
+            reached: self.reached,
+            is_told: false,
+            is_accepting: false,
         }
     }
 
@@ -40,7 +52,7 @@ impl Sight {
     fn reaching(self, position: u32) -> Sight {
         Sight {
             reached: self.reached.max(position),
-            is_told: self.is_told,
+            ..self
         }
     }
 
@@ -48,7 +60,11 @@ impl Sight {
     /// entry has learned it too.
     fn with(self, datagram: &[u8]) -> Sight {
         match datagram.get(KIND_PLACE) {
-            Some(1 | 3 | 4 | 11) => self.reaching(number_at(datagram, FAR_PLACE)),
+            Some(1 | 4 | 11) => self.reaching(number_at(datagram, FAR_PLACE)),
+            Some(3) => Sight {
+                is_accepting: true,
+                ..self.reaching(number_at(datagram, FAR_PLACE))
+            },
             Some(6) => self.reaching(number_at(datagram, NEAR_PLACE)),
             Some(7) => Sight {
                 is_told: true,

@@ -1,10 +1,14 @@
-//! Trials of nodes over wires: a cluster in one process, over UDP, and with datagrams that are lost; and of the pace at
-//! which a node's clock ticks.
+//! Trials of nodes over wires: a cluster in one process, over UDP, and with datagrams that are lost; of the pace at which
+//! a node's clock ticks; of what a node does when its turns are over; and of members over sealed wires.
 #![tactic(auto)]
 
 #[cfg(test)]
 mod cluster;
 #[cfg(test)]
+mod ending;
+#[cfg(test)]
 mod listing;
 #[cfg(test)]
 mod pace;
+#[cfg(test)]
+mod sealed;

@@ -87,17 +87,47 @@ fn a_lost_attempt_is_begun_anew_later_each_time(rt: HostRuntime) {
 fn who_lost_the_lead_keeps_still(rt: HostRuntime) {
     let mut pace = Pace::new(1);
     assert!(rt; pace.beat(0, WAITING) == Beat::Tick);
-    assert!(rt; pace.beat(1_000, ATTEMPTING) == Beat::Wait(100));
+    assert!(rt; pace.beat(1_000, ATTEMPTING) == Beat::Wait(45));
     // the attempt is gone, and nothing was learned: a part of the clock's 0 and the number's 2, and 1, of 6 ms, twice
     assert!(rt; pace.beat(2_000, WAITING) == Beat::Wait(37));
 }
 
 #[test]
-fn who_lacks_entries_proposes_nothing_for_a_while(rt: HostRuntime) {
+fn who_lacks_a_few_entries_fills_the_gap_soon(rt: HostRuntime) {
     let mut pace = Pace::new(0);
-    assert!(rt; pace.beat(10, BEHIND) == Beat::Wait(100));
-    assert!(rt; pace.beat(100_009, BEHIND) == Beat::Wait(1));
-    assert!(rt; pace.beat(100_010, BEHIND) == Beat::Tick);
+    assert!(rt; pace.beat(10, BEHIND) == Beat::Wait(22));
+    assert!(rt; pace.beat(21_009, BEHIND) == Beat::Wait(1));
+    assert!(rt; pace.beat(21_010, BEHIND) == Beat::Tick);
+}
+
+#[test]
+fn who_lacks_many_proposes_nothing_for_a_while(rt: HostRuntime) {
+    let mut pace = Pace::new(0);
+    let far = View {
+        reached: 99,
+        ..BEHIND
+    };
+    let farther = View {
+        reached: 120,
+        ..BEHIND
+    };
+    assert!(rt; pace.beat(10, far) == Beat::Wait(100));
+    assert!(rt; pace.beat(50_000, farther) == Beat::Wait(51));
+    assert!(rt; pace.beat(100_009, farther) == Beat::Wait(1));
+    assert!(rt; pace.beat(100_010, farther) == Beat::Tick);
+}
+
+#[test]
+fn who_lacks_many_proposes_at_once_while_others_rest(rt: HostRuntime) {
+    let mut pace = Pace::new(0);
+    let far = View {
+        reached: 99,
+        ..BEHIND
+    };
+    let next = View { front: 4, ..far };
+    assert!(rt; pace.beat(10, far) == Beat::Wait(100));
+    assert!(rt; pace.beat(100_010, far) == Beat::Tick);
+    assert!(rt; pace.beat(100_500, next) == Beat::Tick);
 }
 
 #[test]
@@ -105,4 +135,32 @@ fn no_command_is_taken_in_at_the_start(rt: HostRuntime) {
     let pace = Pace::new(0);
     assert!(rt; pace.is_listening(199_999));
     assert!(rt; !pace.is_listening(200_000));
+}
+
+#[test]
+fn what_may_be_lost_is_sent_again(rt: HostRuntime) {
+    let mut pace = Pace::new(0);
+    assert!(rt; !pace.repeats(1_000_000));
+    assert!(rt; pace.beat(2_000_000, WAITING) == Beat::Tick);
+    // two trips of 20 ms, and 5 ms more
+    assert!(rt; !pace.repeats(2_044_999));
+    assert!(rt; pace.repeats(2_045_000));
+    assert!(rt; !pace.repeats(2_089_999));
+    assert!(rt; pace.repeats(2_090_000));
+    // the position is learned
+    assert!(rt; pace.beat(2_095_000, TOLD) == Beat::Tick);
+    assert!(rt; !pace.repeats(9_000_000));
+}
+
+#[test]
+fn it_is_sent_again_64_times_at_most(rt: HostRuntime) {
+    let mut pace = Pace::new(0);
+    pace.sent(0);
+    let mut times = 0u32;
+    for now in 1..100u64 {
+        if pace.repeats(now * 1_000_000) {
+            times += 1;
+        }
+    }
+    assert_eq!(rt; times, 64);
 }

@@ -14,5 +14,5 @@ mod running;
 mod visiting;
 mod words;
 
-pub use pf_tool::Status;
+pub use pf_io::Status;
 pub use running::run_visit;

@@ -5,7 +5,7 @@ use crate::exchange::{Reply, VisitFault};
 use crate::visiting::visit;
 use crate::words::command;
 use clap::ArgMatches;
-use pf_tool::{InputFault, Status, misused, out_of_memory, read_all};
+use pf_io::{InputFault, Status, misused, out_of_memory, read_all};
 use std::alloc::Global;
 use std::convert::AsStr;
 use std::fs;

@@ -106,6 +106,10 @@ impl<W: Wire> Wire for MembersWire<W> {
         self.inner.send(to, bytes)
     }
 
+    fn repeat(&mut self, front: u32) {
+        self.inner.repeat(front);
+    }
+
     fn failures(&self) -> u64 {
         self.inner.failures()
     }

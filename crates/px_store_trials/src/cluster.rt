@@ -10,7 +10,7 @@ use pf_ruleset::Path;
 use px_model::EntryView;
 use px_records::Records;
 use px_sql::{Identity, SqlRecords};
-use sqlite::{Connection, MemStore};
+use sqlite::{Alter, Connection};
 use std::alloc::Global;
 use std::test::Fail;
 
@@ -125,12 +125,12 @@ fn run<R: Records + Drop>(alloc: Global, zero: R, one: R, two: R) -> Result<Vec<
 }
 
 /// The record of a member in a database.
-fn record(
+fn record<S: Alter + Drop>(
     alloc: Global,
-    conn: Connection<MemStore>,
+    conn: Connection<S>,
     node: u8,
-) -> Result<SqlRecords<MemStore>, NodeFault>
-    ensures { IfOk result (λ r. ⟦<SqlRecords<MemStore> as Records>⟧.members r ≡ 3) }
+) -> Result<SqlRecords<S>, NodeFault>
+    ensures { IfOk result (λ r. ⟦<SqlRecords<S> as Records>⟧.members r ≡ 3) }
 {
     let identity = Identity {
         cluster: 7,
@@ -143,21 +143,18 @@ fn record(
     }
 }
 
-/// The empty record of a member in a database in memory.
-fn empty(alloc: Global, node: u8) -> Result<SqlRecords<MemStore>, NodeFault>
-    ensures { IfOk result (λ r. ⟦<SqlRecords<MemStore> as Records>⟧.members r ≡ 3) }
-{
-    match Connection::open_in_memory(alloc) {
-        Ok(conn) => record(alloc, conn, node),
-        Err(_) => Err(NodeFault::Store),
-    }
-}
-
-/// The three nodes over databases, the run being over.
-fn nodes(alloc: Global) -> Result<Vec<Node<SqlRecords<MemStore>>>, NodeFault> {
-    let left = stopped(alloc, empty(alloc, 0)?)?;
+/// The three nodes over empty databases, the run being over.
+fn nodes<S: Alter + Drop>(
+    alloc: Global,
+    zero: Connection<S>,
+    one: Connection<S>,
+    two: Connection<S>,
+) -> Result<Vec<Node<SqlRecords<S>>>, NodeFault> {
+    let one = record(alloc, one, 1)?;
+    let two = record(alloc, two, 2)?;
+    let left = stopped(alloc, record(alloc, zero, 0)?)?;
     let zero = record(alloc, left.release(), 0)?;
-    run(alloc, zero, empty(alloc, 1)?, empty(alloc, 2)?)
+    run(alloc, zero, one, two)
 }
 
 /// Who asked the entry that the node has learned at the first position, and which number it had there.
@@ -185,12 +182,25 @@ fn has_all<R: Records>(alloc: Global, node: &Node<R>, round: u64) -> Result<bool
     Ok(is_there && first(node) == Some((0, 1)) && line.as_str() == "block drop @0")
 }
 
+/// Whether each of the three nodes over these databases shows that.
+fn have_all<S: Alter + Drop>(
+    alloc: Global,
+    zero: Connection<S>,
+    one: Connection<S>,
+    two: Connection<S>,
+) -> Result<bool, NodeFault> {
+    let nodes = nodes(alloc, zero, one, two)?;
+    let [zero, one, two] = nodes.as_slice() else {
+        return Ok(false);
+    };
+    Ok(has_all(alloc, zero, 2)? && has_all(alloc, one, 0)? && has_all(alloc, two, 0)?)
+}
+
 #[test]
 fn a_stop_after_the_round(rt: HostRuntime) -> Result<(), Fail> {
-    let nodes = nodes(rt.alloc())?;
-    assert!(rt; nodes.len() == 3);
-    assert!(rt; has_all(rt.alloc(), &nodes[0], 2)?);
-    assert!(rt; has_all(rt.alloc(), &nodes[1], 0)?);
-    assert!(rt; has_all(rt.alloc(), &nodes[2], 0)?);
+    let zero = Connection::open_in_memory(rt.alloc())?;
+    let one = Connection::open_in_memory(rt.alloc())?;
+    let two = Connection::open_in_memory(rt.alloc())?;
+    assert!(rt; have_all(rt.alloc(), zero, one, two)?);
     Ok(())
 }

@@ -58,6 +58,14 @@ pub trait Wire {
         ensures counts { failed self.old ≤ failed self.new }
     {}
 
+    /// What was sent of the positions from this one on, and may be lost, is sent again, where the wire keeps it: a datagram
+    /// may come twice.
+    fn repeat(&mut self, _front: u32)
+        ensures given { given self.new ≡ given self.old }
+        ensures quiet { handed self.new ≡ handed self.old }
+        ensures counts { failed self.old ≤ failed self.new }
+    {}
+
     /// How many sends were answered `false`, and how many faults the receives and waits met, up to 2^64 - 1.
     fn failures(&self) -> u64
         ensures { result ≡ failed self.now };

@@ -6,11 +6,6 @@ use px_model::{Entry, EntryView, Event, Message};
 use std::alloc::Global;
 use std::test::Fail;
 
-/// Refuses what isn't so.
-pub(crate) fn expect(is_so: bool, what: &'static str) -> Result<(), Fail> {
-    if is_so { Ok(()) } else { Err(Fail::new(what)) }
-}
-
 /// The members, and all that they sent, in order.
 #[derive(Drop)]
 pub(crate) struct Bus {
@@ -146,48 +141,33 @@ impl Bus {
 }
 
 impl Bus {
-    /// Refuses another number of messages than this one.
-    pub(crate) fn expect_sent(&self, many: usize) -> Result<(), Fail> {
-        expect(self.sent.len() == many, "another number of messages")
-    }
-
-    /// Refuses another first position that the member hasn't learned.
-    pub(crate) fn expect_front(&self, member: u8, front: u32) -> Result<(), Fail> {
-        expect(self.front(member) == Some(front), "another front")
-    }
-
-    /// Refuses another line of the message of this number, and says which one there is.
-    fn expect_line(&self, number: usize, wanted: &str) -> Result<(), Fail> {
+    /// Whether the message of this number has that line.
+    pub(crate) fn has_line(&self, number: usize, wanted: &str) -> Result<bool, Fail> {
         let line = self.line(number)?;
-        if line.as_str() == wanted {
-            Ok(())
-        } else {
-            Err(Fail::new(line))
-        }
+        Ok(line.as_str() == wanted)
     }
 
-    /// Refuses other lines of the messages of these numbers.
-    pub(crate) fn expect_lines(&self, lines: &[(usize, &str)]) -> Result<(), Fail> {
-        for (number, wanted) in lines {
-            self.expect_line(*number, wanted)?;
+    /// The messages of these numbers, a blank between, come to their addressees, in that order.
+    pub(crate) fn deliver_all(&mut self, numbers: &str) -> Result<(), Fail> {
+        for number in numbers.split(' ') {
+            self.deliver(number.parse::<usize>().unwrap_or(usize::MAX))?;
         }
         Ok(())
     }
 
-    pub(crate) fn deliver_all(&mut self, numbers: &[usize]) -> Result<(), Fail> {
-        for number in numbers {
-            self.deliver(*number)?;
-        }
-        Ok(())
+    /// A message of nobody on the bus comes to the first member, and what that sends goes onto it.
+    pub(crate) fn receive(&mut self, sender: u8, message: Message<EntryView>) -> Result<(), Fail> {
+        self.happen(0, &Event::Comes { sender, message })
     }
 
-    /// A message of nobody on the bus comes to the member, and what it sends goes onto it.
-    pub(crate) fn receive(
-        &mut self,
-        member: u8,
-        sender: u8,
-        message: Message<EntryView>,
-    ) -> Result<(), Fail> {
-        self.happen(member, &Event::Comes { sender, message })
+    /// The entry that the member has learned at the position.
+    fn learned(&self, member: u8, position: u32) -> Option<&Entry> {
+        self.members.get(member as usize)?.core.learned(position)
+    }
+
+    /// Who asked that entry, and its number and length. None where there is none.
+    pub(crate) fn named(&self, member: u8, position: u32) -> Option<(u8, u64, usize)> {
+        let entry = self.learned(member, position)?;
+        Some((entry.origin(), entry.number(), entry.bytes().len()))
     }
 }

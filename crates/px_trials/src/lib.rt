@@ -13,4 +13,4 @@ mod runs;
 #[cfg(test)]
 mod shown;
 #[cfg(test)]
-mod steps;
+mod step;

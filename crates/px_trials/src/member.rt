@@ -116,6 +116,7 @@ impl Member {
         };
     }
 
+    /// The same of an event that mustn't be refused.
     pub(crate) fn step(&mut self, event: &Event) -> Result<Sends, Fail> {
         match self.take(event)? {
             Ok(sends) => Ok(sends),
@@ -125,7 +126,7 @@ impl Member {
 }
 
 impl Stored {
-    pub(crate) fn slot(&mut self, position: u32) -> Result<&mut Slot, Fail> {
+    fn slot(&mut self, position: u32) -> Result<&mut Slot, Fail> {
         let Some(slot) = self.slots.get_mut(position as usize) else {
             return Err(Fail::new("no such slot"));
         };
@@ -190,8 +191,15 @@ impl Stored {
         }
     }
 
+    /// The ballot is promised at the first position, as by hand.
+    pub(crate) fn promise(&mut self, ballot: u64) {
+        if let Some(slot) = self.slots.get_mut(0) {
+            slot.promised = ballot;
+        }
+    }
+
     /// One more than the last position with an accepted proposal.
-    fn top(&self) -> u32 {
+    pub(crate) fn top(&self) -> u32 {
         let (mut top, mut next) = (0, 0u32);
         for slot in &self.slots {
             next = next.saturating_add(1);

@@ -1,116 +1,199 @@
-//! The worked runs on members in code, with the messages' numbers. What holds the members is one line, and the run a
-//! function that has them lent: so what is refused needs no proof that they are let go.
-use crate::bus::{Bus, expect};
+//! The worked runs on members in code, with the messages' numbers, and runs of single members beside plain records.
+//!
+//! A run is text: a line `= MEMBERS NAME`, and behind it its steps. So a step costs no proof, and one function holds the
+//! members.
+use crate::bus::Bus;
+use crate::step::step;
+use std::alloc::Global;
 use std::test::Fail;
 
-fn vote(bus: &mut Bus) -> Result<(), Fail> {
-    bus.ask(0, 7)?;
-    bus.tick(0)?;
-    bus.deliver_all(&[0, 1, 2, 4, 5])?;
-    bus.expect_sent(7)?;
-    bus.deliver_all(&[6, 7, 8, 9])?;
-    bus.expect_sent(23)?;
-    bus.expect_lines(&[
-        (0, "0>0 prepareall b1.0 p0"),
-        (3, "0>3 prepareall b1.0 p0"),
-        (4, "0>0 promiseall b1.0 p0 none t0"),
-        (6, "2>0 promiseall b1.0 p0 none t0"),
-        (7, "0>0 accept b1.0 p0 e0.0"),
-        (10, "0>3 accept b1.0 p0 e0.0"),
-        (11, "0>0 vote b1.0 p0 e0.0"),
-        (15, "1>0 vote b1.0 p0 e0.0"),
-        (22, "2>3 vote b1.0 p0 e0.0"),
-    ])?;
-    for (number, front) in [(11, 0), (15, 0), (15, 0), (19, 1)] {
-        bus.deliver(number)?;
-        bus.expect_front(0, front)?;
+/// Runs of members that hear each other.
+const RUNS: &str = "\
+= 4 a_vote_counts_once_a_member
+ask 0 7
+tick 0
+deliver 0 1 2 4 5
+sent 7
+deliver 6 7 8 9
+sent 23
+line 0 0>0 prepareall b1.0 p0
+line 3 0>3 prepareall b1.0 p0
+line 4 0>0 promiseall b1.0 p0 none t0
+line 6 2>0 promiseall b1.0 p0 none t0
+line 7 0>0 accept b1.0 p0 e0.0
+line 10 0>3 accept b1.0 p0 e0.0
+line 11 0>0 vote b1.0 p0 e0.0
+line 15 1>0 vote b1.0 p0 e0.0
+line 22 2>3 vote b1.0 p0 e0.0
+deliver 11
+front 0 0
+deliver 15
+front 0 0
+deliver 15
+front 0 0
+deliver 19
+front 0 1
+= 3 a_later_ballot_takes_the_accepted_entry
+ask 0 7
+ask 1 8
+tick 0
+deliver 0 1 3 4 5
+tick 1
+deliver 11 13 15 14
+sent 19
+line 14 0>1 promiseall b1.1 p0 b1.0 e0.0 t1
+line 15 2>1 promiseall b1.1 p0 none t0
+line 16 1>0 accept b1.1 p0 e0.0
+line 17 1>1 accept b1.1 p0 e0.0
+line 18 1>2 accept b1.1 p0 e0.0
+= 3 learned_out_of_order
+ask 0 7
+ask 0 8
+tick 0
+deliver 0 1 3 4 5 6 8 11
+front 0 1
+tick 0
+line 14 0>0 accept b1.0 p1 e0.1
+deliver 14 15 19 22
+front 2 0
+unlearned 2 0
+learned 2 1 0 1 11
+deliver 10 13
+front 2 2
+= 3 no_lead_below_a_counted_top
+ask 0 7
+ask 0 8
+ask 1 9
+tick 0
+deliver 0 1 3 4 5 6 8 11
+tick 0
+deliver 14
+tick 1
+deliver 20 21 23 24 25 26 29 32
+front 1 1
+tick 1
+deliver 34 35 37 38
+line 25 1>0 accept b1.1 p0 e0.0
+line 34 1>0 prepareall b2.1 p1
+line 37 0>1 promiseall b2.1 p1 b1.0 e0.1 t2
+line 39 1>0 accept b2.1 p1 e0.1";
+
+// Ballot 257 is that of round 1 of member 1, and 256 that of member 0.
+/// Runs in which what comes to the first member is made by hand.
+const SINGLE: &str = "\
+= 3 a_promise_counts_once
+ask 0 7
+meta 0 1
+tick 0
+meta 1 1
+promiseall 1
+sent 3
+promiseall 1
+sent 3
+promiseall 2
+sent 6
+line 0 0>0 prepareall b1.0 p0
+line 1 0>1 prepareall b1.0 p0
+line 2 0>2 prepareall b1.0 p0
+line 3 0>0 accept b1.0 p0 e0.0
+line 4 0>1 accept b1.0 p0 e0.0
+line 5 0>2 accept b1.0 p0 e0.0
+= 3 a_promise_binds
+promised 257
+accept
+prepare 257
+sent 2
+line 0 0>0 nack b1.0 p0 b1.1
+line 1 0>1 nack b1.1 p0 b1.1
+unaccepted
+deliver 0
+ask 0 7
+tick 0
+line 2 0>0 prepareall b2.0 p0
+= 3 refusals_come_in_order
+asked 0 1
+numbers 281474976710655 1
+refused 61
+numbers 281474976710655 281474976710656
+asked 62 1
+numbers 281474976710655 1
+asked 0 63
+asked 60 1
+= 3 votes_count_in_the_window
+vote 1 64
+unlearned 0 64
+vote 2 64
+unlearned 0 64
+vote 1 63
+unlearned 0 63
+vote 2 63
+learned 0 63 0 0 11
+front 0 0
+= 3 what_was_learned_is_told
+remember
+front 0 1
+learned 0 0 2 5 11
+need 1 0
+need 1 1
+sent 1
+line 0 0>1 learned p0 e2.5
+deliver 0
+front 1 1
+= 1 a_restart_in_place_keeps_what_was_learned
+ask 0 7
+tick 0
+deliver 0 1 2 3
+front 0 1
+ask 0 8
+forget
+front 0 1
+tick 0
+line 4 0>0 need p1
+= 3 an_asker_is_told
+outside
+line 0 0>255 asked 9 0
+numbers 0 281474976710656
+outside
+line 1 0>255 askrefused 9 62";
+
+/// The steps of a run, one after the other. A step that isn't so ends it.
+fn follow(alloc: Global, bus: &mut Bus, lines: &str) -> Result<(), Fail> {
+    for line in lines.lines() {
+        if !step(alloc, bus, line)? {
+            return Err(Fail::new(line));
+        }
     }
     Ok(())
 }
 
-#[test]
-fn a_vote_counts_once_a_member(rt: HostRuntime) -> Result<(), Fail> {
-    let mut bus = Bus::new(rt.alloc(), 4)?;
-    vote(&mut bus)
+/// A run with its members.
+fn play(alloc: Global, members: u8, lines: &str) -> Result<(), Fail> {
+    let mut bus = Bus::new(alloc, members)?;
+    let done = follow(alloc, &mut bus, lines);
+    drop(bus);
+    done
 }
 
-fn take_over(bus: &mut Bus) -> Result<(), Fail> {
-    bus.ask(0, 7)?;
-    bus.ask(1, 8)?;
-    bus.tick(0)?;
-    bus.deliver_all(&[0, 1, 3, 4, 5])?;
-    bus.tick(1)?;
-    bus.deliver_all(&[11, 13, 15, 14])?;
-    bus.expect_sent(19)?;
-    bus.expect_lines(&[
-        (14, "0>1 promiseall b1.1 p0 b1.0 e0.0 t1"),
-        (15, "2>1 promiseall b1.1 p0 none t0"),
-        (16, "1>0 accept b1.1 p0 e0.0"),
-        (17, "1>1 accept b1.1 p0 e0.0"),
-        (18, "1>2 accept b1.1 p0 e0.0"),
-    ])
+/// Each run of a text: how many there are.
+fn play_all(alloc: Global, text: &str) -> Result<usize, Fail> {
+    let mut count = 0usize;
+    for run in text.split("= ").skip(1) {
+        let (name, lines) = run.split_once('\n').unwrap_or((run, ""));
+        let (members, _) = name.split_once(' ').unwrap_or((name, ""));
+        play(alloc, members.parse::<u8>().unwrap_or(0), lines)?;
+        count = count.saturating_add(1);
+    }
+    Ok(count)
 }
 
 #[test]
-fn a_later_ballot_takes_the_accepted_entry(rt: HostRuntime) -> Result<(), Fail> {
-    let mut bus = Bus::new(rt.alloc(), 3)?;
-    take_over(&mut bus)
-}
-
-/// The member has learned the second position, and not the first.
-fn expect_second(bus: &Bus, member: usize) -> Result<(), Fail> {
-    let Some(member) = bus.members.get(member) else {
-        return Err(Fail::new("no such member"));
-    };
-    expect(member.core.learned(0).is_none(), "the first is learned")?;
-    let number = member.core.learned(1).map(|e| e.number());
-    expect(number == Some(1), "the second isn't learned")
-}
-
-fn learn_out_of_order(bus: &mut Bus) -> Result<(), Fail> {
-    bus.ask(0, 7)?;
-    bus.ask(0, 8)?;
-    bus.tick(0)?;
-    bus.deliver_all(&[0, 1, 3, 4, 5, 6, 8, 11])?;
-    bus.expect_front(0, 1)?;
-    bus.tick(0)?;
-    bus.expect_lines(&[(14, "0>0 accept b1.0 p1 e0.1")])?;
-    bus.deliver_all(&[14, 15, 19, 22])?;
-    bus.expect_front(2, 0)?;
-    expect_second(bus, 2)?;
-    bus.deliver_all(&[10, 13])?;
-    bus.expect_front(2, 2)
+fn worked_runs(rt: HostRuntime) -> Result<(), Fail> {
+    assert!(rt; play_all(rt.alloc(), RUNS)? == 4);
+    Ok(())
 }
 
 #[test]
-fn learned_out_of_order(rt: HostRuntime) -> Result<(), Fail> {
-    let mut bus = Bus::new(rt.alloc(), 3)?;
-    learn_out_of_order(&mut bus)
-}
-
-fn lead_past_the_top(bus: &mut Bus) -> Result<(), Fail> {
-    bus.ask(0, 7)?;
-    bus.ask(0, 8)?;
-    bus.ask(1, 9)?;
-    bus.tick(0)?;
-    bus.deliver_all(&[0, 1, 3, 4, 5, 6, 8, 11])?;
-    bus.tick(0)?;
-    bus.deliver(14)?;
-    bus.tick(1)?;
-    bus.deliver_all(&[20, 21, 23, 24, 25, 26, 29, 32])?;
-    bus.expect_front(1, 1)?;
-    bus.tick(1)?;
-    bus.deliver_all(&[34, 35, 37, 38])?;
-    bus.expect_lines(&[
-        (25, "1>0 accept b1.1 p0 e0.0"),
-        (34, "1>0 prepareall b2.1 p1"),
-        (37, "0>1 promiseall b2.1 p1 b1.0 e0.1 t2"),
-        (39, "1>0 accept b2.1 p1 e0.1"),
-    ])
-}
-
-#[test]
-fn no_lead_below_a_counted_top(rt: HostRuntime) -> Result<(), Fail> {
-    let mut bus = Bus::new(rt.alloc(), 3)?;
-    lead_past_the_top(&mut bus)
+fn runs_of_single_members(rt: HostRuntime) -> Result<(), Fail> {
+    assert!(rt; play_all(rt.alloc(), SINGLE)? == 7);
+    Ok(())
 }

@@ -7,6 +7,6 @@ pub returns-clause-served : goal.returns-clause-served
 returns-clause-served g c =
     served_then _ _ _ _ c.in-Ok.ensures.served (served_then _ _ _ _ (served_none _ _ (record {
       replica = refl;
-      given = c.defer_asks.ensures.given ∙ c.release.ensures.given;
-      handed = c.defer_asks.ensures.quiet ∙ c.release.ensures.quiet;
+      given = c.defer_asks.ensures.given ∙ (c.repeat_if.ensures.given ∙ c.release.ensures.given);
+      handed = c.defer_asks.ensures.quiet ∙ (c.repeat_if.ensures.quiet ∙ c.release.ensures.quiet);
     })) c.tick_if.ensures.served)

@@ -1,0 +1,31 @@
+-- What stands in a configuration, path by path.
+use Rattle.std.specs.Prelude.{◌≡◌, List, map, Option}
+use Rattle.pf_ruleset.specs.Names.{Name}
+use Rattle.pf_ruleset.specs.Items.{AnyRule}
+use Rattle.pf_table.specs.Tables.{TableValue}
+use Rattle.pf_config.specs.Map.{Configuration, Path, paths_in, rules_at, table_names, table_at}
+
+-- a path with its rules, and its tables with their flags and entries
+pub record Content : Type 0 where
+  pub path : Path
+  pub rules : List AnyRule
+  pub tables : List (Name × Option TableValue)
+
+-- the tables of these names at a path
+abbrev pub tables_named : Configuration → Path → List Name → List (Name × Option TableValue)
+tables_named c p names = map (λ (n : Name). (n, table_at c p n)) names
+
+abbrev pub tables_of : Configuration → Path → List (Name × Option TableValue)
+tables_of c p = tables_named c p (table_names c p)
+
+abbrev pub content_at : Configuration → Path → Content
+content_at c p = record { path = p; rules = rules_at c p; tables = tables_of c p }
+
+-- of every path that has rules or tables, those of unnamed blocks too
+abbrev pub contents : Configuration → List Content
+contents c = map (content_at c) (paths_in c.anchors)
+
+-- the same interfaces are skipped, and at the same paths stand the same rules and tables
+pub record IsSame (c d : Configuration) : Type 0 where
+  pub skip : c.skip ≡ d.skip
+  pub contents : contents c ≡ contents d

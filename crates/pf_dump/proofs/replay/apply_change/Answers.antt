@@ -1,0 +1,14 @@
+use Rattle.std.proofs.Common.{◌≡◌, ◌∙◌, sym, ap, subst, List, ℕ}
+use Rattle.pf_entry.specs.Entry.{Entry, EntryBytes}
+use Rattle.pf_entry.specs.Owned.{command_value}
+use Rattle.pf_entry.specs.Views.{entry_of, command_of}
+use Rattle.pf_effect.specs.Effect.{after_command}
+use Rattle.pf_dump.proofs.replay.apply_change.Goals as goal
+
+-- the command that is applied is the one that was spelled
+pub returns-in-Ok-decode : goal.returns-in-Ok-decode
+returns-in-Ok-decode c =
+    let e : Entry = record { origin = 0; number = 0; command = command_value c.args.command } in
+    let same : entry_of c.in-Ok-decode.view ≡ e = c.in-Ok-decode.ensures.only e (subst (λ (bs : List ℕ). EntryBytes e bs) (sym c.deref.ensures.value) c.in-Ok.ensures.spelled) in
+    let k : command_of c.in-Ok-decode.view.command ≡ command_value c.args.command = ap (λ (x : Entry). x.command) same in
+    λ t. c.in_ok-apply_view-in-Ok-decode.ensures ∙ ap (after_command c.args.config.now) k

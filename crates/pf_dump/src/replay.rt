@@ -1,0 +1,193 @@
+//! A script is done on an empty configuration.
+
+ghost use Rattle.std.specs.Prelude.{◌≡◌, true, Some, IfOk, IfSome, OnOk, map, option_map};
+ghost use Rattle.pf_entry.specs.Entry.{are_names, path_of, rest_fits};
+ghost use Rattle.pf_entry.specs.Owned.{command_value};
+ghost use Rattle.pf_entry.specs.Views.{command_of};
+ghost use Rattle.pf_effect.specs.Effect.{after_command};
+ghost use Rattle.pf_scripts.specs.Ctl.{pfctl, pfctl_line, at_words, stepped};
+ghost use Rattle.pf_scripts.specs.Seen.{line_of, waiting_of};
+ghost use Rattle.pf_dump.specs.Scripts.{configured};
+ghost use Rattle.pf_dump.specs.Seen.{StepsTo};
+
+use pf_command::{ApplyFault, Command, CommandView, EncodeFault, Entry, apply, decode, encode};
+use pf_config::Config;
+use pf_scripts::{
+    Line, Waiting, WordsRead, cut_line, push_bytes, read_words, takes_text, words_in,
+};
+use std::alloc::{AllocError, Global};
+
+/// Where a script stands behind a line.
+#[derive(Drop)]
+pub(crate) struct Stand<'a> {
+    /// Whether it goes on: the line was a change, or it is of a text.
+    pub(crate) goes_on: bool,
+    /// The words that wait for the end of their text.
+    pub(crate) waiting: Option<Waiting<'a>>,
+}
+
+/// Does a command, which may be refused and then changes nothing.
+fn apply_view(alloc: Global, config: &mut Config, command: &CommandView) -> Result<(), AllocError>
+    requires names { are_names (path_of (command_of command.now)) ≡ true }
+    requires rest { rest_fits (command_of command.now) ≡ true }
+    ensures { OnOk result (config.new ≡ after_command config.old (command_of command.now)) }
+{
+    match apply(alloc, config, command) {
+        Ok(_) => Ok(()),
+        Err(ApplyFault::Refused(_, _)) => Ok(()),
+        Err(ApplyFault::Memory) => Err(AllocError),
+    }
+}
+
+/// Does a change by way of an entry's bytes; false where no entry says it.
+fn apply_change(alloc: Global, config: &mut Config, command: Command) -> Result<bool, AllocError>
+    ensures { IfOk result (λ b. b ≡ true → config.new ≡ after_command config.old (command_value command)) }
+{
+    let entry = Entry {
+        origin: 0,
+        number: 0,
+        command,
+    };
+    let bytes = match encode(alloc, &entry) {
+        Ok(bytes) => bytes,
+        Err(EncodeFault::Memory) => return Err(AllocError),
+        Err(EncodeFault::TooLong) => return Ok(false),
+    };
+    match decode(&bytes) {
+        Ok(view) => {
+            apply_view(alloc, config, &view.command)?;
+            Ok(true)
+        }
+        Err(_) => Ok(false),
+    }
+}
+
+/// Does a line of pfctl's words; false where it is no change.
+fn run_words(
+    alloc: Global,
+    config: &mut Config,
+    words: &[&str],
+    text: &[u8],
+) -> Result<bool, AllocError>
+    ensures { IfOk result (λ b. b ≡ true →
+        config.new ≡ (pfctl config.old (map (λ w. w.now) words.now) text.now).configuration) }
+{
+    match read_words(alloc, config, words, text)? {
+        WordsRead::Change(command) => apply_change(alloc, config, command),
+        WordsRead::Refused(_, _) => Ok(false),
+        WordsRead::Output(_) => Ok(false),
+    }
+}
+
+/// Does a line of pfctl's words, unless a text follows it.
+fn run_pfctl<'a>(
+    alloc: Global,
+    config: &mut Config,
+    words: Vec<&'a str>,
+) -> Result<Stand<'a>, AllocError>
+    ensures { IfOk result (λ s. s.goes_on ≡ true →
+        StepsTo (pfctl_line config.old (map (λ x. x.now) words.entry.items)) config.new s.waiting) }
+{
+    if takes_text(alloc, &words)? {
+        return Ok(Stand {
+            goes_on: true,
+            waiting: Some(Waiting {
+                words,
+                text: Vec::new(alloc),
+            }),
+        });
+    }
+    let goes_on = run_words(alloc, config, &words, &[])?;
+    Ok(Stand {
+        goes_on,
+        waiting: None,
+    })
+}
+
+/// Does a line with words.
+fn run_line<'a>(
+    alloc: Global,
+    config: &mut Config,
+    words: Vec<&'a str>,
+) -> Result<Stand<'a>, AllocError>
+    ensures { IfOk result (λ s. s.goes_on ≡ true →
+        StepsTo (at_words config.old (Some (map (λ x. x.now) words.entry.items))) config.new s.waiting) }
+{
+    match words.as_slice() {
+        [first, ..] => {
+            if *first == "pfctl" {
+                return run_pfctl(alloc, config, words);
+            }
+            Ok(Stand {
+                goes_on: false,
+                waiting: None,
+            })
+        }
+        [] => Ok(Stand {
+            goes_on: true,
+            waiting: None,
+        }),
+    }
+}
+
+/// Does a line of a text, or one with words.
+fn step<'a>(
+    alloc: Global,
+    config: &mut Config,
+    waiting: Option<Waiting<'a>>,
+    line: Line<'a>,
+) -> Result<Stand<'a>, AllocError>
+    ensures { IfOk result (λ s. s.goes_on ≡ true →
+        StepsTo (stepped config.old (option_map waiting_of waiting.entry) (line_of line.entry)) config.new
+        s.waiting) }
+{
+    match waiting {
+        None => match words_in(alloc, line.content)? {
+            Some(words) => run_line(alloc, config, words),
+            None => Ok(Stand {
+                goes_on: false,
+                waiting: None,
+            }),
+        },
+        Some(waiting) => {
+            if line.content == b".".as_slice() {
+                let goes_on = run_words(alloc, config, &waiting.words, &waiting.text)?;
+                return Ok(Stand {
+                    goes_on,
+                    waiting: None,
+                });
+            }
+            let mut text = waiting.text;
+            push_bytes(&mut text, line)?;
+            Ok(Stand {
+                goes_on: true,
+                waiting: Some(Waiting {
+                    words: waiting.words,
+                    text,
+                }),
+            })
+        }
+    }
+}
+
+/// The configuration that a script makes of an empty one; none where one of its lines is no change, or a text has no end.
+#[tactic(auto, unfolding(crate::specs::Scripts::configured))]
+pub(crate) fn replayed(alloc: Global, script: &[u8]) -> Result<Option<Config>, AllocError>
+    ensures { IfOk result (λ o. IfSome o (λ c. c ≡ configured script.now)) }
+{
+    let mut config = Config::new(alloc)?;
+    let mut waiting = None;
+    let mut left = script;
+    while let Some((line, rest)) = cut_line(left) {
+        let next = step(alloc, &mut config, waiting, line)?;
+        if !next.goes_on {
+            return Ok(None);
+        }
+        waiting = next.waiting;
+        left = rest;
+    }
+    match waiting {
+        Some(_) => Ok(None),
+        None => Ok(Some(config)),
+    }
+}

@@ -1,0 +1,11 @@
+-- The exit status.
+use Rattle.std.specs.Prelude.{ℕ}
+use Rattle.pf_io.specs.declared.status.Status.{Status}
+use Rattle.pf_io.specs.declared.status.Status.TheVariants.{Done, Refused, Usage, Memory, Failed}
+
+abbrev pub code_of : Status → ℕ
+code_of Done = 0
+code_of Refused = 1
+code_of Usage = 2
+code_of Memory = 1
+code_of Failed = 1

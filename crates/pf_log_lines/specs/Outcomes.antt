@@ -1,0 +1,50 @@
+-- What came of a command, as a line.
+use Rattle.std.specs.Prelude.{ℕ, Bool, false, ◌&&◌, ◌+◌, nat_lt, nat_le, List, [], Option, Some, None}
+use Rattle.std.specs.Prelude.{if◌then◌else◌}
+use Rattle.px_model.specs.Node as node
+use Rattle.px_model.specs.Node.{Log}
+use Rattle.px_model.specs.Spelling.{Bytes, spelled}
+use Rattle.pf_entry.specs.Entry as entries
+use Rattle.pf_entry.specs.Reading.{reading}
+use Rattle.pf_config.specs.Map.{Configuration}
+use Rattle.pf_effect.specs.Effect.{effect}
+use Rattle.pf_node.specs.declared.outcomes.Outcome.{Outcome}
+use Rattle.pf_node.specs.declared.outcomes.Outcome.TheVariants.{Done, Refused, NoCommand}
+use Rattle.pf_scripts.specs.Lines.{refused_line}
+use Rattle.pf_scripts.specs.Ctl.{is_counted, counts_line, change_line}
+use Rattle.pf_node.specs.Applied.{after}
+
+abbrev pub outcome_line : Bool → Outcome → List ℕ
+outcome_line counts (Done added removed) = counts_line counts added removed
+outcome_line counts (Refused code at) = refused_line code at
+outcome_line counts NoCommand = []
+
+-- counts are printed of an entry's command
+abbrev pub counts_read : Option entries.Entry → Bool
+counts_read None = false
+counts_read (Some e) = is_counted e.command
+
+abbrev pub counts_in : Option (node.Entry Bytes) → Bool
+counts_in None = false
+counts_in (Some e) = counts_read (reading (spelled e))
+
+-- ---- of the log
+
+-- the line of a command that was read, as a script prints it at a configuration
+abbrev pub line_read : Configuration → Option entries.Entry → List ℕ
+line_read c None = []
+line_read c (Some e) = change_line (is_counted e.command) (effect c e.command)
+
+abbrev pub line_in : Option Configuration → Option (node.Entry Bytes) → List ℕ
+line_in None e = []
+line_in (Some c) None = []
+line_in (Some c) (Some e) = line_read c (reading (spelled e))
+
+-- the line of the command at position p, at the configuration after the p positions before it
+abbrev pub line_at : Log Bytes → ℕ → List ℕ
+line_at log p = line_in (after log p) (log p)
+
+-- the same, as long as it is kept
+abbrev pub kept_line : Log Bytes → (applied kept p : ℕ) → List ℕ
+kept_line log applied kept p =
+    if nat_lt p applied && nat_le applied (p + kept) then line_at log p else []

@@ -1,0 +1,141 @@
+//! Members of three, and datagrams that come to them, line by line: the stored input has the lines, the stored output
+//! what each comes to.
+//!
+//! A line of the input is a form, a name and words:
+//!
+//! - `run` and steps: `ask:MEMBER:DIGITS`, the command of the entry with these hexadecimal digits, `tick:MEMBER`,
+//!   `stop:MEMBER`, a tick of which what is sent is lost, behind which the member starts anew, or a message's number,
+//!   which comes to its addressee. Written are all messages that were handed out, what each member shows, and what it
+//!   leaves in its record.
+//! - `until` and steps: the same, but that a refused call ends the run.
+//! - `stops` and steps: what the first member's record shows, opened again, behind the first so many steps, for each
+//!   number of them; and where its first, second .. commit fails before its change or after it, until none fails. A
+//!   member that failed must refuse each further call and hand nothing out, else the line says `wrong`.
+//! - `encode`, a reader, digits and a number: the datagram with these digits and so many times `x`.
+//!
+//! Any other line is a name, who reads (a member of the three of cluster 7, or 255) and a datagram's bytes in
+//! hexadecimal digits; `scripts/datagram-rows` derives these lines, and what is written of them, from the formats. For
+//! each of its proper fronts, by length, and for each byte, for each value that it may be set to, it is written what
+//! the reader answers, runs of equal answers together. An answer is a fault's code and offset, or `same`: read, and
+//! written again as those bytes. A member's node gets each that is refused too, and must ignore it with that fault,
+//! hand out nothing, and stay as it was, else the answer is `wrong`. With a word `x1000` before the bytes they come to
+//! a new node so many times, and one line says what it did.
+//!
+//! Of a `run`, `until` or `encode`, a call that finds no memory is made again: that is what `scripts/refused-memory`
+//! compares. Where a call finds no memory, nothing may be handed out, and the member must show what it showed before,
+//! else the run says `wrong`. A line that begins with `memory` has how many calls were refused so, and behind how many
+//! datagrams less was applied than learned. `nothing` stands where the program itself found no memory for a line, or
+//! can't read it.
+#![tactic(auto)]
+
+mod answer;
+mod changes;
+mod kept;
+mod member;
+mod repeated;
+mod row;
+mod run;
+mod shown;
+mod step;
+mod stops;
+mod written;
+
+use crate::changes::{each_byte, each_front};
+use crate::kept::{Kept, record};
+use crate::repeated::repeated;
+use crate::row::Row;
+use crate::run::Run;
+use crate::shown::{write_member, write_sent, write_tally};
+use crate::step::Step;
+use crate::stops::write_stops;
+use crate::written::write_again;
+use px_records::When;
+use std::alloc::Global;
+use std::io;
+
+/// Three members with empty records in memory, of which the first one's `k`-th commit fails; none with 0.
+fn begun(alloc: Global, k: u64, when: When, is_once: bool) -> Option<Run<Kept>> {
+    Run::new(
+        alloc,
+        record(alloc, k, when),
+        record(alloc, 0, when),
+        record(alloc, 0, when),
+        is_once,
+    )
+}
+
+/// How many of the line's first so many steps were done, until one is refused. None where one can't be made.
+fn follow(run: &mut Run<Kept>, line: &str, most: usize) -> Option<u32> {
+    let mut steps = 0u32;
+    for word in line.split(' ').skip(2).take(most) {
+        if !run.happen(Step::read(word)?)? {
+            return Some(steps);
+        }
+        steps = steps.saturating_add(1);
+    }
+    Some(steps)
+}
+
+/// Writes what the members of a run show, and what they leave.
+fn write_members(rt: &HostRuntime, run: Run<Kept>) -> io::Result<()> {
+    let (members, sent) = run.end();
+    write_sent(rt, &sent)?;
+    for member in members {
+        write_member(rt, member)?;
+    }
+    Ok(())
+}
+
+/// Writes what was refused, and how many steps there were.
+fn write_done(rt: &HostRuntime, run: &Run<Kept>, steps: u32) -> io::Result<()> {
+    write_tally(rt, run.tally)?;
+    println!(rt; "{steps} steps")
+}
+
+/// Writes what a line's run comes to.
+fn write_run(rt: &HostRuntime, line: &str, is_once: bool) -> io::Result<()> {
+    let Some(mut run) = begun(rt.alloc(), 0, When::Before, is_once) else {
+        return println!(rt; "nothing");
+    };
+    match follow(&mut run, line, usize::MAX) {
+        Some(steps) => {
+            let written = write_done(rt, &run, steps);
+            write_members(rt, run)?;
+            written
+        }
+        None => println!(rt; "nothing"),
+    }
+}
+
+/// Writes what becomes of a datagram.
+fn write_row(rt: &HostRuntime, line: &str) -> io::Result<()> {
+    let Some(mut row) = Row::read(rt.alloc(), line) else {
+        return println!(rt; "no row");
+    };
+    if row.times > 0 {
+        return repeated(rt, &row);
+    }
+    each_front(rt, &row)?;
+    each_byte(rt, &mut row)
+}
+
+/// Writes what a line comes to.
+fn write_line(rt: &HostRuntime, line: &str) -> io::Result<()> {
+    let (form, _) = line.split_once(' ').unwrap_or((line, ""));
+    match form {
+        "run" => write_run(rt, line, false),
+        "until" => write_run(rt, line, true),
+        "stops" => write_stops(rt, line),
+        "encode" => write_again(rt, line),
+        _ => write_row(rt, line),
+    }
+}
+
+fn main(rt: HostRuntime) -> io::Result<()> {
+    let input = io::read_to_string(rt.alloc(), rt.reader())?;
+    for line in input.lines() {
+        println!(rt; "== {line}")?;
+        write_line(&rt, line)?;
+    }
+    Ok(())
+}

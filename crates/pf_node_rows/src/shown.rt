@@ -1,0 +1,105 @@
+//! What a run comes to, as lines.
+
+use crate::member::{Seen, Tally, look};
+use pf_node::{Datagram, Node};
+use px_model::{Entry, Meta, Slot};
+use px_records::Records;
+use std::io;
+
+/// Writes the messages, each with its number, its addressee and its bytes.
+pub fn write_sent(rt: &HostRuntime, sent: &[Datagram]) -> io::Result<()> {
+    let mut number = 0usize;
+    for datagram in sent {
+        let digits = hex::encode(rt.alloc(), datagram.bytes.as_slice())?;
+        println!(rt; "{number} to {}: {digits}", datagram.to)?;
+        number = number.saturating_add(1);
+    }
+    Ok(())
+}
+
+/// Writes what was refused, if anything was, and whether that was wrong.
+pub fn write_tally(rt: &HostRuntime, tally: Tally) -> io::Result<()> {
+    if tally.datagrams > 0 || tally.ticks > 0 || tally.commands > 0 || tally.late > 0 {
+        println!(rt;
+            "memory: receive {} tick {} ask {} encode 0 late {}",
+            tally.datagrams, tally.ticks, tally.commands, tally.late
+        )?;
+    }
+    if tally.is_wrong {
+        println!(rt; "wrong")?;
+    }
+    Ok(())
+}
+
+/// Writes what a member shows.
+pub fn write_seen(rt: &HostRuntime, seen: Seen) -> io::Result<()> {
+    println!(rt;
+        "round {} front {} applied {} learned {} entries {}",
+        seen.round, seen.front, seen.applied, seen.learned, seen.entries
+    )
+}
+
+/// Writes an entry's bytes, or that there is none.
+fn write_entry(rt: &HostRuntime, what: &str, entry: Option<&Entry>) -> io::Result<()> {
+    match entry {
+        None => println!(rt; "{what} none"),
+        Some(entry) => {
+            let digits = hex::encode(rt.alloc(), entry.bytes())?;
+            println!(rt; "{what} {digits}")
+        }
+    }
+}
+
+/// Writes what a slot has.
+fn write_slot(rt: &HostRuntime, slot: &Slot) -> io::Result<()> {
+    match &slot.accepted {
+        None => println!(rt; "  promised {}", slot.promised),
+        Some(proposal) => {
+            print!(rt; "  promised {}, in {}", slot.promised, proposal.ballot)?;
+            write_entry(rt, " accepted", Some(&proposal.entry))
+        }
+    }
+}
+
+/// Writes what a record has of all positions.
+fn write_meta(rt: &HostRuntime, meta: &Meta, top: u32, end: u32) -> io::Result<()> {
+    println!(rt;
+        "  round {} number {} floor {} top {top} end {end}",
+        meta.round, meta.number, meta.floor
+    )
+}
+
+/// Writes what a record has at a position.
+fn write_position<R: Records>(rt: &HostRuntime, records: &mut R, position: u32) -> io::Result<()> {
+    match records.read_slot(position) {
+        Ok(slot) => write_slot(rt, &slot)?,
+        Err(_) => println!(rt; "no memory")?,
+    }
+    match records.read_learned(position) {
+        Ok(entry) => write_entry(rt, "  learned", entry.as_ref()),
+        Err(_) => println!(rt; "no memory"),
+    }
+}
+
+/// Writes what a record has.
+fn write_record<R: Records>(rt: &HostRuntime, records: &mut R) -> io::Result<()> {
+    match (
+        records.read_meta(),
+        records.read_top(),
+        records.read_learned_end(),
+    ) {
+        (Ok(meta), Ok(top), Ok(end)) => write_meta(rt, &meta, top, end)?,
+        _ => println!(rt; "no memory")?,
+    }
+    for position in 0..3u32 {
+        write_position(rt, records, position)?;
+    }
+    Ok(())
+}
+
+/// Writes what the member shows, and what it leaves in its record.
+pub fn write_member<R: Records + Drop>(rt: &HostRuntime, node: Node<R>) -> io::Result<()> {
+    write_seen(rt, look(&node))?;
+    let mut records = node.close();
+    write_record(rt, &mut records)
+}

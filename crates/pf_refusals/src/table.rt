@@ -1,0 +1,321 @@
+//! The table of refusals.
+
+use crate::numbers::{NO_PACKET, POSITIONS_SPENT, ROUNDS_SPENT, UNREADABLE, WAITING_FULL};
+use crate::paragraph::Explanation;
+
+const TEXT_STAYS: &str = "Nothing of the text is taken; what was loaded before stays as it was.";
+
+const COMMAND_STAYS: &str = "The command changes nothing; a script goes on with its next line.";
+
+const ASK_STAYS: &str = "Nothing is taken in, and the node goes on.";
+
+const STORE_STAYS: &str = "The node isn't started, and the store stays as it was.";
+
+/// Each refusal once, by number. `scripts/refusals` compares it with docs/LANGUAGE.md.
+pub const REFUSALS: [Explanation; 39] = [
+    Explanation {
+        code: 1,
+        name: "no number in an address",
+        meaning: "a piece of an address that is no number; for -T test also a ! or a\n         \
+            prefix",
+        after: COMMAND_STAYS,
+        remedy: "Write numbers of 0 to 255, in IPv6 groups of 1 to 4 hexadecimal\n         \
+            digits.",
+    },
+    Explanation {
+        code: 2,
+        name: "address of no form",
+        meaning: "an address with too few or too many pieces",
+        after: COMMAND_STAYS,
+        remedy: "IPv4 has four numbers, in a prefix one to four; IPv6 has eight groups,\n         \
+            or :: once.",
+    },
+    Explanation {
+        code: 3,
+        name: "bad prefix length",
+        meaning: "a prefix's length that is no number, or more than the address has bits",
+        after: COMMAND_STAYS,
+        remedy: "Lengths are 0 to 32 for IPv4 and 0 to 128 for IPv6.",
+    },
+    Explanation {
+        code: 10,
+        name: "unknown character",
+        meaning: "a byte that begins no token, a string that doesn't close",
+        after: TEXT_STAYS,
+        remedy: "From the named line on, look for a character that the language hasn't,\n         \
+            or for a missing quote.",
+    },
+    Explanation {
+        code: 11,
+        name: "bad macro",
+        meaning: "an unknown macro; a macro's name that is reserved or has other\n         \
+            characters; a string with $ or #; more than 4,096 bytes",
+        after: TEXT_STAYS,
+        remedy: "Define a macro above its first use. Its name is letters, digits and _,\n         \
+            and no reserved word.",
+    },
+    Explanation {
+        code: 12,
+        name: "syntax error",
+        meaning: "what the grammar doesn't spell; a block on x/*, an anchor rule with\n         \
+            neither name nor block, set, a table or a macro in a block",
+        after: TEXT_STAYS,
+        remedy: "Compare the statement with the grammar. States, routes, users and\n         \
+            clocks of pf.conf(5) aren't part of it.",
+    },
+    Explanation {
+        code: 13,
+        name: "bad port",
+        meaning: "a port that is neither number nor name; a port where the protocols\n         \
+            aren't all tcp or udp",
+        after: TEXT_STAYS,
+        remedy: "Write proto tcp, udp or both in the rule; ports are 0 to 65535 or a\n         \
+            name of the list.",
+    },
+    Explanation {
+        code: 14,
+        name: "no combination of one family",
+        meaning: "no combination of one family",
+        after: TEXT_STAYS,
+        remedy: "Give source and destination addresses of one family, that of inet or\n         \
+            inet6 where that is written.",
+    },
+    Explanation {
+        code: 15,
+        name: "reserved anchor name",
+        meaning: "a name in an anchor rule that begins with _, but \"_k\" alone, without a\n         \
+            block, behind the k-th unnamed block of its ruleset",
+        after: TEXT_STAYS,
+        remedy: "Choose a name without _ in front: such names are those of unnamed\n         \
+            blocks.",
+    },
+    Explanation {
+        code: 16,
+        name: "defined twice",
+        meaning: "two table statements of one name; two blocks with one path",
+        after: TEXT_STAYS,
+        remedy: "Put the entries into one table statement, the rules into one block.",
+    },
+    Explanation {
+        code: 17,
+        name: "set in an anchor",
+        meaning: "set in a text for an anchor",
+        after: TEXT_STAYS,
+        remedy: "Write set into the main ruleset's text alone.",
+    },
+    Explanation {
+        code: 18,
+        name: "too many",
+        meaning: "more than 65,536 tokens or combinations, 64 open braces, 8 nested\n         \
+            lists, 1,024 rules in a ruleset, 4,096 prefixes in a table",
+        after: TEXT_STAYS,
+        remedy: "Use a table for long lists of addresses, anchors for many rules.",
+    },
+    Explanation {
+        code: 19,
+        name: "bad icmp-type",
+        meaning: "icmp-type of no type, or where the protocols aren't all icmp",
+        after: TEXT_STAYS,
+        remedy: "Write proto icmp in the rule; a type is 0 to 255, echoreq or echorep.",
+    },
+    Explanation {
+        code: 20,
+        name: "no such table",
+        meaning: "no such table",
+        after: COMMAND_STAYS,
+        remedy: "List the tables of the path by -s Tables; -T add makes one.",
+    },
+    Explanation {
+        code: 21,
+        name: "const table",
+        meaning: "a table that may not be changed (const)",
+        after: COMMAND_STAYS,
+        remedy: "Change the text that has the table, and load it.",
+    },
+    Explanation {
+        code: 22,
+        name: "table full",
+        meaning: "more than 4,096 entries in a table",
+        after: COMMAND_STAYS,
+        remedy: "Delete entries, or put prefixes in place of single addresses.",
+    },
+    Explanation {
+        code: 23,
+        name: "too many anchors",
+        meaning: "more than 1,024 paths",
+        after: "The command changes nothing.",
+        remedy: "Flush anchors that nothing needs (-a PATH -F all), and load again.",
+    },
+    Explanation {
+        code: 24,
+        name: "bad path",
+        meaning: "a path that is none, a block deeper than 8 names",
+        after: "The command changes nothing.",
+        remedy: "A path is 1 to 8 names between slashes, none of which begins with _.",
+    },
+    Explanation {
+        code: NO_PACKET,
+        name: "no packet",
+        meaning: "a packet's text that is none",
+        after: "The verdicts before it are printed, and none behind it.",
+        remedy: "Compare the packet with pfx test --help: one family, ports for tcp and\n         \
+            udp alone.",
+    },
+    Explanation {
+        code: 40,
+        name: "words that don't go together",
+        meaning: "words that don't go together, another file than -, an unknown line",
+        after: COMMAND_STAYS,
+        remedy: "Look at pfx ctl --help, or at pfx ask --help.",
+    },
+    Explanation {
+        code: 41,
+        name: "change too long",
+        meaning: "a change of more than 32,768 bytes or 4,096 addresses",
+        after: COMMAND_STAYS,
+        remedy: "Cut the change in two: a text into anchors, addresses into several\n         \
+            commands.",
+    },
+    Explanation {
+        code: WAITING_FULL,
+        name: "64 commands wait",
+        meaning: "a command, since 64 wait",
+        after: ASK_STAYS,
+        remedy: "See by pfx ask --door PATH status that a majority is heard, and ask\n         \
+            again.",
+    },
+    Explanation {
+        code: ROUNDS_SPENT,
+        name: "no round left",
+        meaning: "a tick, since every round is used",
+        after: "The node proposes nothing more; what was learned stays.",
+        remedy: "Take down what the nodes hold by -s, and load it into a new cluster\n         \
+            with new stores.",
+    },
+    Explanation {
+        code: POSITIONS_SPENT,
+        name: "no position left",
+        meaning: "a command, since every position or number is used",
+        after: "Nothing is taken in; what was learned stays, and verdicts are\n         \
+            answered.",
+        remedy: "Take down what the nodes hold by -s, and load it into a new cluster\n         \
+            with new stores.",
+    },
+    Explanation {
+        code: 70,
+        name: "store failed",
+        meaning: "a store that can't be opened or fails; another process has it open",
+        after: "The change is made whole or not at all; the node sends nothing of it,\n         \
+            and ends.",
+        remedy: "Make room, or mend the disk; see that one node alone uses the store;\n         \
+            start the node again on it.",
+    },
+    Explanation {
+        code: 71,
+        name: "another cluster's store",
+        meaning: "a store of another cluster, another number of members, or another node",
+        after: STORE_STAYS,
+        remedy: "Give --cluster, --me and as many addresses as when the store was made.",
+    },
+    Explanation {
+        code: 72,
+        name: "bad row in the store",
+        meaning: "a store with a row that no node writes",
+        after: STORE_STAYS,
+        remedy: "The record is lost: don't mend it by hand, and don't start a node of\n         \
+            this number on an older copy.",
+    },
+    Explanation {
+        code: 73,
+        name: "unknown store",
+        meaning: "a store with other tables, or of a later program",
+        after: STORE_STAYS,
+        remedy: "See that the file is a node's store; run the program that wrote it.",
+    },
+    Explanation {
+        code: 80,
+        name: "node failed",
+        meaning: "everything, by a node whose store failed",
+        after: "The node learns and sends nothing more.",
+        remedy: "End it, mend what made its store fail (70, 72), and start it again.",
+    },
+    Explanation {
+        code: 81,
+        name: "no such node or message",
+        meaning: "a node or a message of a lab that isn't there",
+        after: "The line does nothing; the script goes on with its next line.",
+        remedy: "Nodes count from 0; the line sent prints the numbers of messages.",
+    },
+    Explanation {
+        code: 82,
+        name: "bad address",
+        meaning: "an address that is none, or that the system refuses",
+        after: "No socket is open, and the store stays as it was.",
+        remedy: "Write 192.0.2.1:4711, [2001:db8::1]:4711 or host:4711, each of one\n         \
+            family; see that the own port is free.",
+    },
+    Explanation {
+        code: 83,
+        name: "bad key file",
+        meaning: "a key's file: it can't be read, isn't 64 hexadecimal digits, or others\n         \
+            may read it",
+        after: "The node isn't started, and its store isn't looked at.",
+        remedy: "Make a key by pfx key, and let its owner alone read the file (mode\n         \
+            0600).",
+    },
+    Explanation {
+        code: 84,
+        name: "bad door",
+        meaning: "a door: another node answers there, something else stands there, or\n         \
+            the system refuses the socket",
+        after: STORE_STAYS,
+        remedy: "Give each node a door of its own, in a folder that the node may write.",
+    },
+    Explanation {
+        code: 85,
+        name: "nobody answers",
+        meaning: "an ask, since nobody answers at the door",
+        after: "Nothing was asked.",
+        remedy: "See that the node runs with --door and this very path, and that you\n         \
+            may open the socket.",
+    },
+    Explanation {
+        code: 86,
+        name: "broken answer",
+        meaning: "an answer at a door that is cut short or none of HTTP's",
+        after: "What was asked may have been taken in all the same.",
+        remedy: "See what came of it by pfx ask --door PATH log, and ask again.",
+    },
+    Explanation {
+        code: 87,
+        name: "anchor in itself",
+        meaning: "rules for nftables: an anchor rule's target is the anchor that holds\n         \
+            it",
+        after: "Nothing is rendered.",
+        remedy: "Let the anchor rule name another anchor.",
+    },
+    Explanation {
+        code: 88,
+        name: "too many rules a packet",
+        meaning: "rules for nftables: a packet may be asked of more than 100,000 rules",
+        after: "Nothing is rendered.",
+        remedy: "Let fewer anchor rules name one anchor, or nest them less deep.",
+    },
+    Explanation {
+        code: 89,
+        name: "bad file of interfaces",
+        meaning: "a file of interfaces: it can't be read, has a word that is no name, a\n         \
+            name twice, or more than 1,024",
+        after: "Nothing is rendered.",
+        remedy: "A line of the file has an interface and its groups, with blanks\n         \
+            between them.",
+    },
+    Explanation {
+        code: UNREADABLE,
+        name: "file can't be read",
+        meaning: "a file that can't be read, has more than 16,777,216 bytes, or holds\n         \
+            packets that aren't UTF-8",
+        after: "Nothing of it is taken.",
+        remedy: "See that the file is there, and that you may read it.",
+    },
+];

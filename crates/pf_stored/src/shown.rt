@@ -1,0 +1,33 @@
+//! What is wanted of a record, and what is shown.
+
+/// What is wanted of a record.
+#[derive(Clone, Copy)]
+pub enum Wanted<'a> {
+    /// What a line of pfctl's words prints, `pfctl` first.
+    Words(&'a [&'a str]),
+    /// The verdicts for packets.
+    Packets(&'a [&'a str]),
+    /// Lines of the log: from a position on, and so many at most. Without a position the last ones, 20 if it isn't said
+    /// how many.
+    Log {
+        from: Option<u32>,
+        count: Option<u32>,
+    },
+    /// As what nft(8) loads on a machine whose interfaces this file lists; none where it can't be read.
+    Nft {
+        interfaces: Option<&'a [u8]>,
+    },
+    /// The rulesets as texts for pfctl(8).
+    Texts,
+    /// A script that gives the configuration.
+    Script,
+}
+
+/// All that is to be written, and whether it is a refusal.
+#[derive(Debug, Drop)]
+pub struct Shown {
+    /// The text.
+    pub bytes: Vec<u8>,
+    /// Whether it is a refusal.
+    pub refused: bool,
+}

@@ -1,0 +1,64 @@
+//! Stores in files, and files that aren't stores.
+use crate::said::say;
+use crate::store::{work, work_once};
+use sqlite::{Connection, File, FileStore};
+use std::fs;
+
+/// The database in the file.
+fn opened(rt: &HostRuntime, file: &str) -> Option<Connection<FileStore<File>>> {
+    Connection::open(rt, file).ok()
+}
+
+/// Opens the store in the file, and does the tasks with it.
+pub(crate) fn in_file(rt: &HostRuntime, file: &str, tasks: &str, out: &mut String) -> bool {
+    match opened(rt, file) {
+        Some(conn) => work_once(rt.alloc(), conn, tasks, out),
+        None => say(out, "doesn't open"),
+    }
+}
+
+/// Does the tasks twice with the store in the file, which must not open a second time between.
+pub(crate) fn twice(rt: &HostRuntime, file: &str, tasks: &str, out: &mut String) -> bool {
+    let Some(conn) = opened(rt, file) else {
+        return say(out, "doesn't open");
+    };
+    let (is_told, conn) = work(rt.alloc(), conn, tasks, out);
+    let is_open = opened(rt, file).is_some();
+    let then = if is_open {
+        "; opens; "
+    } else {
+        "; doesn't open; "
+    };
+    let is_told = is_told && say(out, then);
+    work_once(rt.alloc(), conn, tasks, out) && is_told
+}
+
+/// Tells whether something was done with a file.
+fn say_done(out: &mut String, is_done: bool) -> bool {
+    say(out, if is_done { "done" } else { "no file" })
+}
+
+/// Writes a text of some thousand bytes.
+pub(crate) fn text(rt: &HostRuntime, file: &str, out: &mut String) -> bool {
+    match "pass in quick proto tcp from any to any port 22\n".repeat(rt.alloc(), 200) {
+        Ok(text) => say_done(out, fs::write(rt, file, text.as_str()).is_ok()),
+        Err(_) => false,
+    }
+}
+
+/// Makes a folder.
+pub(crate) fn folder(rt: &HostRuntime, file: &str, out: &mut String) -> bool {
+    say_done(out, fs::create_dir(rt, file).is_ok())
+}
+
+/// Leaves the first bytes of a file, whose name and their number are between a blank.
+pub(crate) fn cut(rt: &HostRuntime, words: &str, out: &mut String) -> bool {
+    let (file, length) = words.split_once(' ').unwrap_or((words, ""));
+    let Ok(bytes) = fs::read(rt, file) else {
+        return say_done(out, false);
+    };
+    match bytes.get(..length.parse::<usize>().unwrap_or(0)) {
+        Some(front) => say_done(out, fs::write(rt, file, front).is_ok()),
+        None => say_done(out, false),
+    }
+}

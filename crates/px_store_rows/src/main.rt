@@ -1,0 +1,68 @@
+//! Records in databases, line by line: each line of the input is done by itself, as one process after the other would,
+//! and prints what comes of it. The stored output has what each is to print.
+//!
+//! # Lines
+//!
+//! Each store is that of a member of 3, and a line's parts are between ` | `.
+//!
+//! | Line | Does |
+//! |---|---|
+//! | `in FILE \| TASK \| ..` | opens the store in the file, or an empty one in memory, `in memory`, and does the tasks |
+//! | `twice FILE \| TASK \| ..` | the same; opens the file once more, which must be refused; does the tasks again |
+//! | `plain K WHEN \| STEP, .. \| STEP, ..` | steps over a record in memory whose `K`-th commit fails `before` or `after`
+//! its change (0: none does), then steps over the record itself |
+//! | `stops BEFORE \| SQL \| RECORD \| CHANGE \| RECORD \| ..` | a run in files that stop (see [`stops`]) |
+//! | `text FILE`, `folder FILE`, `cut FILE BYTES` | writes a text, makes a folder, leaves the first bytes of the file |
+//!
+//! | Task | Does |
+//! |---|---|
+//! | `take STEP, ..` | takes the store as member 0 of cluster 7, `other` as that of cluster 8, `second` as member 1 |
+//! | `sql STATEMENTS` | runs statements that answer nothing |
+//! | `count` | reads the format that its row says, and counts its tables |
+//!
+//! The steps are those of [`record`].
+#![tactic(auto)]
+
+mod change;
+mod files;
+mod fused;
+mod record;
+mod said;
+mod step;
+mod stops;
+mod store;
+
+use crate::files::{cut, folder, in_file, text, twice};
+use crate::stops::stops;
+use crate::store::{in_memory, plain};
+use std::io;
+
+/// Does what the line says, and what came of it is appended. Whether there was memory for that.
+fn done(rt: &HostRuntime, line: &str, out: &mut String) -> bool {
+    let (word, rest) = line.split_once(' ').unwrap_or((line, ""));
+    let (file, tasks) = rest.split_once(" | ").unwrap_or((rest, ""));
+    match word {
+        "in" if file == "memory" => in_memory(rt.alloc(), tasks, out),
+        "in" => in_file(rt, file, tasks, out),
+        "twice" => twice(rt, file, tasks, out),
+        "plain" => plain(rt.alloc(), file, tasks, out),
+        "stops" => stops(rt.alloc(), file, tasks, out),
+        "text" => text(rt, file, out),
+        "folder" => folder(rt, file, out),
+        "cut" => cut(rt, file, out),
+        _ => crate::said::say(out, "unknown line"),
+    }
+}
+
+fn main(rt: HostRuntime) -> io::Result<()> {
+    for line in rt.lines(rt.alloc()) {
+        let line = line?;
+        let mut out = String::new(rt.alloc());
+        if done(&rt, &line, &mut out) {
+            println!(&rt; "{line}: {out}")?;
+        } else {
+            println!(&rt; "{line}: memory")?;
+        }
+    }
+    Ok(())
+}

@@ -1,0 +1,168 @@
+//! Steps with a record, each of which tells what came of it.
+//!
+//! | Step | Does |
+//! |---|---|
+//! | `show` | tells the round, the number, the floor, the top and the end of what is learned |
+//! | `slot AT`, `learned AT` | tells what is promised and accepted at the position, and what is learned |
+//! | `top`, `end`, `failures` | tells one number |
+//! | `read TIMES` | reads the top and the end so many times |
+//! | `round N`, `number N`, `floor BALLOT` | commits it |
+//! | `promise FROM TO BALLOT` | promises the ballot at each position from one to before another |
+//! | `accept FROM TO BALLOT BYTES`, `learn FROM TO BYTES` | accepts or learns an entry of so many bytes there |
+ghost use Rattle.std.specs.Prelude.{◌≡◌};
+
+use crate::change::{Made, make, make_all};
+use crate::said::{Refused, say, say_entry, say_fault, say_made, say_number, say_slot};
+use px_model::Meta;
+use px_records::{Records, StoreFault};
+use std::alloc::Global;
+use std::fmt::Write;
+
+/// What a record has of all positions.
+fn meta<R: Records>(records: &mut R) -> Result<Meta, StoreFault>
+    ensures { R.members records.new ≡ R.members records.old }
+{
+    records.read_meta()
+}
+
+/// One more than the last position with an accepted entry.
+fn top<R: Records>(records: &mut R) -> Result<u32, StoreFault>
+    ensures { R.members records.new ≡ R.members records.old }
+{
+    records.read_top()
+}
+
+/// One more than the last learned position.
+fn end<R: Records>(records: &mut R) -> Result<u32, StoreFault>
+    ensures { R.members records.new ≡ R.members records.old }
+{
+    records.read_learned_end()
+}
+
+/// All three.
+fn ends<R: Records>(records: &mut R) -> Result<(Meta, u32, u32), StoreFault>
+    ensures { R.members records.new ≡ R.members records.old }
+{
+    let meta = meta(records)?;
+    let top = top(records)?;
+    let end = end(records)?;
+    Ok((meta, top, end))
+}
+
+/// Tells all three.
+fn show<R: Records>(records: &mut R, out: &mut String) -> bool
+    ensures { R.members records.new ≡ R.members records.old }
+{
+    match ends(records) {
+        Ok((meta, top, end)) => write!(
+            out,
+            "round {} number {} floor {} top {top} end {end}",
+            meta.round, meta.number, meta.floor
+        )
+        .is_ok(),
+        Err(fault) => say_fault(out, fault),
+    }
+}
+
+/// Tells a number that was read.
+fn tell(out: &mut String, name: &str, number: Result<u32, StoreFault>) -> bool {
+    match number {
+        Ok(number) => say_number(out, name, number as u64),
+        Err(fault) => say_fault(out, fault),
+    }
+}
+
+/// Tells what is promised and accepted at the position.
+fn slot<R: Records>(records: &mut R, position: u32, out: &mut String) -> bool
+    ensures { R.members records.new ≡ R.members records.old }
+{
+    match records.read_slot(position) {
+        Ok(slot) => say_slot(out, &slot),
+        Err(fault) => say_fault(out, fault),
+    }
+}
+
+/// Tells what is learned at the position.
+fn learned<R: Records>(records: &mut R, position: u32, out: &mut String) -> bool
+    ensures { R.members records.new ≡ R.members records.old }
+{
+    match records.read_learned(position) {
+        Ok(entry) => say(out, "learned") && say_entry(out, entry.as_ref()),
+        Err(fault) => say_fault(out, fault),
+    }
+}
+
+/// Reads the top and the end so many times.
+fn read<R: Records>(records: &mut R, times: u32) -> Result<(), Refused>
+    requires { R.members records.old ≡ 3 }
+    ensures { R.members records.new ≡ 3 }
+{
+    for _ in 0..times {
+        if let Err(fault) = ends(records) {
+            return Err(Refused::Store(fault));
+        }
+    }
+    Ok(())
+}
+
+/// Up to four numbers between blanks, each 0 where there is none.
+fn numbers(text: &str) -> [u32; 4] {
+    let mut words = text.split(' ');
+    let mut all = [0u32; 4];
+    for number in &mut all {
+        *number = match words.next() {
+            Some(word) => word.parse::<u32>().unwrap_or(0),
+            None => 0,
+        };
+    }
+    all
+}
+
+/// Makes a change, and tells whether it is made.
+fn change<R: Records>(
+    alloc: Global,
+    records: &mut R,
+    word: &str,
+    numbers: [u32; 4],
+    out: &mut String,
+) -> bool
+    requires { R.members records.old ≡ 3 }
+    ensures { R.members records.new ≡ 3 }
+{
+    let [at, to, third, fourth] = numbers;
+    let (ballot, length) = match word {
+        "floor" => (at, 0),
+        "learn" => (0, third),
+        _ => (third, fourth),
+    };
+    let made = Made {
+        word,
+        at,
+        ballot,
+        length,
+    };
+    let is_made = match word {
+        "accept" | "learn" | "promise" => make_all(alloc, records, made, to),
+        _ => make(alloc, records, made),
+    };
+    say_made(out, is_made)
+}
+
+/// Does the step with a record of three members, and tells what came of it.
+pub(crate) fn step<R: Records>(alloc: Global, records: &mut R, step: &str, out: &mut String) -> bool
+    requires { R.members records.old ≡ 3 }
+    ensures { R.members records.new ≡ 3 }
+{
+    let (word, rest) = step.split_once(' ').unwrap_or((step, ""));
+    let numbers = numbers(rest);
+    match word {
+        "show" => show(records, out),
+        "slot" => slot(records, numbers[0], out),
+        "learned" => learned(records, numbers[0], out),
+        "top" => tell(out, "top", top(records)),
+        "end" => tell(out, "end", end(records)),
+        "failures" => say_number(out, "failures", records.failures()),
+        "read" => say_made(out, read(records, numbers[0])),
+        _ => change(alloc, records, word, numbers, out),
+    }
+}

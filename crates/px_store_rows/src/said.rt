@@ -1,0 +1,72 @@
+//! What came of a line, as text. Each call appends, and answers whether there was memory for that.
+use px_model::{Entry, Slot};
+use px_records::StoreFault;
+use std::fmt::Write;
+
+/// Appends a text.
+pub(crate) fn say(out: &mut String, text: &str) -> bool {
+    out.push_str(text).is_ok()
+}
+
+/// Why a change isn't made.
+#[derive(Clone, Copy)]
+pub(crate) enum Refused {
+    /// It is none that there is, or none that a member of three makes.
+    Line,
+    /// Memory is wanting.
+    Memory,
+    /// What is read behind the change isn't what was changed.
+    Lost,
+    /// The call on the record is refused.
+    Store(StoreFault),
+}
+
+/// Appends why a call on a record is refused.
+pub(crate) fn say_fault(out: &mut String, fault: StoreFault) -> bool {
+    write!(out, "{fault}").is_ok()
+}
+
+/// Appends that changes are made, or why not.
+pub(crate) fn say_made(out: &mut String, made: Result<(), Refused>) -> bool {
+    match made {
+        Ok(()) => say(out, "done"),
+        Err(Refused::Line) => say(out, "no such change"),
+        Err(Refused::Memory) => say(out, "out of memory"),
+        Err(Refused::Lost) => say(out, "lost"),
+        Err(Refused::Store(fault)) => say_fault(out, fault),
+    }
+}
+
+/// Appends a name and a number.
+pub(crate) fn say_number(out: &mut String, name: &str, number: u64) -> bool {
+    write!(out, "{name} {number}").is_ok()
+}
+
+/// Appends the bytes in hexadecimal digits, or that there is no entry.
+pub(crate) fn say_entry(out: &mut String, entry: Option<&Entry>) -> bool {
+    let Some(entry) = entry else {
+        return say(out, " none");
+    };
+    if !say(out, " ") {
+        return false;
+    }
+    for byte in entry.bytes() {
+        if write!(out, "{byte:02x}").is_err() {
+            return false;
+        }
+    }
+    true
+}
+
+/// Appends what a slot has.
+pub(crate) fn say_slot(out: &mut String, slot: &Slot) -> bool {
+    if !say_number(out, "promised", slot.promised) {
+        return false;
+    }
+    match &slot.accepted {
+        None => true,
+        Some(proposal) => {
+            say_number(out, " accepted", proposal.ballot) && say_entry(out, Some(&proposal.entry))
+        }
+    }
+}

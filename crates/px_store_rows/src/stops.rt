@@ -1,0 +1,204 @@
+//! The files of a store stop at one call after the other.
+//!
+//! A line says what is counted of the store before, the statements that make it, or none, what its record shows then,
+//! and changes of the record, each with what the record shows behind it. What the record shows is told by `show`, the
+//! slots of the first two positions and what is learned at the first. A stop must leave a store as it was or one of
+//! format 3 with four tables; taken again, its record must be that before the change at which the stop came, or that
+//! with it.
+use crate::fused::{Held, NEVER, Stop, attempt};
+use crate::said::say;
+use std::alloc::{AllocError, Global};
+
+/// What is told of a record.
+const LOOK: &str = "show, slot 0, slot 1, learned 0";
+
+/// A run in files that stop.
+#[derive(Clone, Copy)]
+struct Run<'a> {
+    /// What is counted before.
+    before: &'a str,
+    /// The record before, each change, and the record behind it.
+    parts: &'a [&'a str],
+    /// The tasks that make the changes and look.
+    tasks: &'a str,
+}
+
+/// What a trial comes to.
+#[derive(Clone, Copy, PartialEq)]
+enum Came {
+    /// Nothing stopped.
+    Whole,
+    /// What must be is left.
+    Stopped,
+    /// A store that is neither as it was nor of format 3.
+    InParts,
+    /// Another record.
+    Other,
+}
+
+impl Run<'_> {
+    /// How many changes there are.
+    fn changes(&self) -> usize {
+        self.parts.len() / 2
+    }
+
+    /// What the record shows after so many changes.
+    fn record(&self, changes: usize) -> &str {
+        match self.parts.get(changes.saturating_mul(2)) {
+            Some(record) => record,
+            None => "",
+        }
+    }
+}
+
+/// How many changes were made as far as the store said, and what was told behind them.
+fn made(said: &str) -> (usize, &str) {
+    let mut rest = said;
+    let mut count = 0usize;
+    for _ in 0..100 {
+        match rest.strip_prefix("done, ") {
+            Some(behind) => {
+                rest = behind;
+                count = count.saturating_add(1);
+            }
+            None => return (count, rest),
+        }
+    }
+    (count, rest)
+}
+
+/// What a stop leaves, where the changes said this, the store is counted so, and its record is this.
+fn judged(run: Run, said: &str, counted: &str, again: &str) -> Came {
+    if counted != run.before && counted != "format 3 of 4 tables" {
+        return Came::InParts;
+    }
+    let (made, last) = made(said);
+    let tried = if said.starts_with("refused") {
+        0
+    } else {
+        made.saturating_add(1)
+    };
+    let tried = tried.min(run.changes());
+    if again != run.record(made) && again != run.record(tried) {
+        return Came::Other;
+    }
+    if made == run.changes() && last == again {
+        Came::Whole
+    } else {
+        Came::Stopped
+    }
+}
+
+/// What a stop leaves. None where memory is wanting.
+fn attempted(alloc: Global, run: Run, held: &Held, stop: Stop) -> Option<Came> {
+    let (mut said, mut counted, mut again) = (
+        String::new(alloc),
+        String::new(alloc),
+        String::new(alloc),
+    );
+    let left = attempt(alloc, held, stop, run.tasks, &mut said)?;
+    let left = attempt(alloc, &left, NEVER, "count", &mut counted)?;
+    let _left = attempt(
+        alloc,
+        &left,
+        NEVER,
+        "take show, slot 0, slot 1, learned 0",
+        &mut again,
+    )?;
+    Some(judged(run, &said, &counted, &again))
+}
+
+/// The stop after so many calls on one of the files.
+fn stop_after(calls: u64, log: bool, loses: bool) -> Stop {
+    let (log, db) = if log {
+        (calls, u64::MAX)
+    } else {
+        (u64::MAX, calls)
+    };
+    Stop { log, db, loses }
+}
+
+/// One file stops after so many calls, counted upwards until nothing stops: how many it was, and what came last.
+fn first_end(alloc: Global, run: Run, held: &Held, log: bool, loses: bool) -> Option<(u64, Came)> {
+    for calls in 0..10_000u64 {
+        let came = attempted(alloc, run, held, stop_after(calls, log, loses))?;
+        if came != Came::Stopped {
+            return Some((calls, came));
+        }
+    }
+    Some((0, Came::Stopped))
+}
+
+/// Either file stops, and what is written stays or is lost: what was found, and the least number of calls after which
+/// nothing stopped.
+fn trial(alloc: Global, run: Run, held: &Held) -> Option<(u64, Came)> {
+    let mut least = u64::MAX;
+    for (log, loses) in [(false, false), (false, true), (true, false), (true, true)] {
+        let (calls, came) = first_end(alloc, run, held, log, loses)?;
+        if came != Came::Whole {
+            return Some((calls, came));
+        }
+        least = least.min(calls);
+    }
+    Some((least, Came::Whole))
+}
+
+/// The tasks that make the changes and look.
+fn tasks(alloc: Global, parts: &[&str]) -> Result<String, AllocError> {
+    let mut tasks = String::new(alloc);
+    tasks.push_str("take ")?;
+    for change in parts.iter().skip(1).step_by(2) {
+        tasks.push_str(change)?;
+        tasks.push_str(", ")?;
+    }
+    tasks.push_str(LOOK)?;
+    Ok(tasks)
+}
+
+/// The parts of a line.
+fn parts_of<'a>(alloc: Global, line: &'a str) -> Result<Vec<&'a str>, AllocError> {
+    let mut parts = Vec::new(alloc);
+    for part in line.split(" | ") {
+        parts.push(part)?;
+    }
+    Ok(parts)
+}
+
+/// The files that hold the store of these statements.
+fn held(alloc: Global, sql: &str) -> Option<Held> {
+    let none = Held::new(alloc);
+    if sql.is_empty() {
+        return Some(none);
+    }
+    let mut said = String::new(alloc);
+    attempt(alloc, &none, NEVER, sql, &mut said)
+}
+
+/// What the trials of a line come to.
+fn found(alloc: Global, before: &str, line: &str) -> Option<(u64, Came, usize)> {
+    let (sql, rest) = line.split_once(" | ")?;
+    let parts = parts_of(alloc, rest).ok()?;
+    let tasks = tasks(alloc, &parts).ok()?;
+    let held = held(alloc, sql)?;
+    let run = Run {
+        before,
+        parts: &parts,
+        tasks: &tasks,
+    };
+    let (least, came) = trial(alloc, run, &held)?;
+    Some((least, came, run.changes()))
+}
+
+/// Does the line, and tells what was found.
+pub(crate) fn stops(alloc: Global, before: &str, line: &str, out: &mut String) -> bool {
+    match found(alloc, before, line) {
+        Some((least, Came::Whole, changes)) if least > changes.max(1) as u64 => {
+            say(out, "before each change or with it")
+        }
+        Some((_, Came::Whole, _)) => say(out, "too few calls"),
+        Some((_, Came::Stopped, _)) => say(out, "it always stops"),
+        Some((_, Came::InParts, _)) => say(out, "a store in parts"),
+        Some((_, Came::Other, _)) => say(out, "another record"),
+        None => false,
+    }
+}

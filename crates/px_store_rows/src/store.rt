@@ -1,0 +1,174 @@
+//! Stores and what is done with them, whatever they are kept in.
+ghost use Rattle.std.specs.Prelude.{◌≡◌, IfOk, IfSome};
+
+use crate::said::{say, say_number};
+use crate::step::follow;
+use px_records::{FaultyRecords, MemoryRecords, Records, When};
+use px_sql::{AdoptFault, Identity, SqlRecords};
+use sqlite::{Alter, Connection};
+use std::alloc::Global;
+use std::fmt::Write;
+
+/// Whose store it is by the word of the task: one of a member of three.
+fn identity_of(word: &str) -> Option<Identity>
+    ensures { IfSome result (λ i. i.members ≡ 3) }
+{
+    let (cluster, node) = match word {
+        "take" => (7, 0),
+        "other" => (8, 0),
+        "second" => (7, 1),
+        _ => return None,
+    };
+    Some(Identity {
+        cluster,
+        members: 3,
+        node,
+    })
+}
+
+/// The record in a store, else why not, and the store.
+fn adopted<S: Alter + Drop>(
+    alloc: Global,
+    conn: Connection<S>,
+    identity: Identity,
+) -> Result<SqlRecords<S>, (AdoptFault, Connection<S>)>
+    requires { identity.members ≡ 3 }
+    ensures { IfOk result (λ r. ⟦<SqlRecords<S> as Records>⟧.members r ≡ 3) }
+{
+    SqlRecords::adopt(alloc, conn, identity)
+}
+
+/// Tells why a store isn't taken.
+fn say_refused(out: &mut String, fault: AdoptFault) -> bool {
+    match fault.code() {
+        Some(code) => say_number(out, "refused", code as u64),
+        None => say(out, "out of memory"),
+    }
+}
+
+/// Takes the store, does the steps with its record, and gives it back.
+fn take<S: Alter + Drop>(
+    alloc: Global,
+    conn: Connection<S>,
+    identity: Identity,
+    steps: &str,
+    out: &mut String,
+) -> (bool, Connection<S>)
+    requires { identity.members ≡ 3 }
+{
+    match adopted(alloc, conn, identity) {
+        Ok(mut records) => {
+            let is_told = follow(alloc, &mut records, steps, out);
+            (is_told, records.release())
+        }
+        Err((fault, conn)) => (say_refused(out, fault), conn),
+    }
+}
+
+/// The format that the store's row says.
+fn format_of<S: Alter>(conn: &mut Connection<S>) -> Option<u32> {
+    let row = conn.query_row("SELECT format FROM meta", &[]).ok()?;
+    row.get::<u32>(0).ok()
+}
+
+/// Tells the format, and how many tables there are.
+fn count<S: Alter>(conn: &mut Connection<S>, out: &mut String) -> bool {
+    match format_of(conn) {
+        Some(format) => {
+            let tables = conn.schema().tables.len();
+            write!(out, "format {format} of {tables} tables").is_ok()
+        }
+        None => say(out, "refused"),
+    }
+}
+
+/// Runs statements that answer nothing.
+fn run<S: Alter>(conn: &mut Connection<S>, sql: &str, out: &mut String) -> bool {
+    let is_run = conn.execute_batch(sql).is_ok();
+    say(out, if is_run { "done" } else { "refused" })
+}
+
+/// Does a task that isn't done with a record.
+fn handle<S: Alter>(conn: &mut Connection<S>, word: &str, rest: &str, out: &mut String) -> bool {
+    match word {
+        "sql" => run(conn, rest, out),
+        "count" => count(conn, out),
+        _ => say(out, "no such task"),
+    }
+}
+
+/// Does the task with a store, and gives it back.
+fn do_task<S: Alter + Drop>(
+    alloc: Global,
+    mut conn: Connection<S>,
+    task: &str,
+    out: &mut String,
+) -> (bool, Connection<S>) {
+    let (word, rest) = task.split_once(' ').unwrap_or((task, ""));
+    match identity_of(word) {
+        Some(identity) => take(alloc, conn, identity, rest, out),
+        None => {
+            let is_told = handle(&mut conn, word, rest, out);
+            (is_told, conn)
+        }
+    }
+}
+
+/// Does one task after the other with a store, and gives it back.
+pub(crate) fn work<S: Alter + Drop>(
+    alloc: Global,
+    conn: Connection<S>,
+    tasks: &str,
+    out: &mut String,
+) -> (bool, Connection<S>) {
+    let (first, rest) = tasks.split_once(" | ").unwrap_or((tasks, ""));
+    let (mut is_told, mut conn) = do_task(alloc, conn, first, out);
+    for task in rest.split_terminator(" | ") {
+        is_told = is_told && say(out, "; ");
+        let done = do_task(alloc, conn, task, out);
+        is_told = is_told && done.0;
+        conn = done.1;
+    }
+    (is_told, conn)
+}
+
+/// Does the tasks with a store that nobody uses behind them.
+pub(crate) fn work_once<S: Alter + Drop>(
+    alloc: Global,
+    conn: Connection<S>,
+    tasks: &str,
+    out: &mut String,
+) -> bool {
+    let (is_told, conn) = work(alloc, conn, tasks, out);
+    drop(conn);
+    is_told
+}
+
+/// Does the tasks with an empty store in memory.
+pub(crate) fn in_memory(alloc: Global, tasks: &str, out: &mut String) -> bool {
+    match Connection::open_in_memory(alloc) {
+        Ok(conn) => work_once(alloc, conn, tasks, out),
+        Err(_) => say(out, "doesn't open"),
+    }
+}
+
+/// An empty record in memory of which the `K`-th commit fails `before` or `after` its change.
+fn faulty(alloc: Global, fails: &str) -> FaultyRecords<MemoryRecords>
+    ensures { ⟦<FaultyRecords<MemoryRecords> as Records>⟧.members result ≡ 3 }
+{
+    let inner = MemoryRecords::new(alloc, 3);
+    match fails.split_once(' ') {
+        Some((k, "after")) => FaultyRecords::new(inner, k.parse::<u64>().unwrap_or(0), When::After),
+        Some((k, _)) => FaultyRecords::new(inner, k.parse::<u64>().unwrap_or(0), When::Before),
+        None => FaultyRecords::new(inner, 0, When::Before),
+    }
+}
+
+/// Steps over such a record, then steps over the record itself.
+pub(crate) fn plain(alloc: Global, fails: &str, line: &str, out: &mut String) -> bool {
+    let mut records = faulty(alloc, fails);
+    let (steps, then) = line.split_once(" | ").unwrap_or((line, ""));
+    let is_told = follow(alloc, &mut records, steps, out) && say(out, "; ");
+    let mut inner = records.into_inner();
+    is_told && follow(alloc, &mut inner, then, out)
+}
