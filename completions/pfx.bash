@@ -1,0 +1,44 @@
+# Completion of pfx(8) for bash: /usr/share/bash-completion/completions/pfx
+
+_pfx() {
+    local current=${COMP_WORDS[COMP_CWORD]} before=${COMP_WORDS[COMP_CWORD-1]} word=${COMP_WORDS[1]} options="" words=""
+    local seen=" ${COMP_WORDS[*]} "
+    COMPREPLY=()
+    if ((COMP_CWORD == 1)); then
+        case $current in
+        -*) words="-h --help" ;;
+        *) words="check test ctl lab node ask key help" ;;
+        esac
+        COMPREPLY=($(compgen -W "$words" -- "$current"))
+        return
+    fi
+    case $before in
+    -F) COMPREPLY=($(compgen -W "rules Tables all" -- "$current")); return ;;
+    -T) COMPREPLY=($(compgen -W "add delete replace flush show test" -- "$current")); return ;;
+    -s) COMPREPLY=($(compgen -W "rules Tables Anchors" -- "$current")); return ;;
+    --answer) COMPREPLY=($(compgen -W "learned" -- "$current")); return ;;
+    -f | --store | --key | --other-key | --door | --interfaces) COMPREPLY=($(compgen -f -- "$current")); return ;;
+    -a | -t | --me | --cluster | --turns | --to | --members | --node | --wait | --at | --position) return ;;
+    esac
+    case $word in
+    check)
+        options="--nft --interfaces --position"
+        [[ $seen == *" --nft "* || $seen == *" --interfaces "* ]] || options+=" --anchor" ;;
+    node) options="--me --cluster --store --turns --answer --door --key --other-key --unsealed" ;;
+    ask)
+        options="--wait -a -f -n -F -t -T -s"
+        [[ $seen == *" --to "* ]] || options+=" --door --at"
+        [[ $seen == *" --door "* ]] || options+=" --to --cluster --members --node"
+        [[ $seen == *" --door "* ]] && words="test request log status health metrics sync stop" ;;
+    help) words="check test ctl lab help" ;;
+    test | ctl | lab | key) ;;
+    *) return ;;
+    esac
+    [[ $word == help ]] || options+=" -h --help"
+    case $current in
+    -*) COMPREPLY=($(compgen -W "$options" -- "$current")) ;;
+    *) COMPREPLY=($(compgen -W "$words" -- "$current")) ;;
+    esac
+}
+
+complete -F _pfx pfx

@@ -1,0 +1,41 @@
+# Completion of pfx(8) for fish: /usr/share/fish/vendor_completions.d/pfx.fish
+
+complete -c pfx -f
+complete -c pfx -s h -l help -d 'Print help' -n 'not __fish_seen_subcommand_from help'
+complete -c pfx -n __fish_use_subcommand -a 'check test ctl lab node ask key help'
+complete -c pfx -n '__fish_seen_subcommand_from help' -a 'check test ctl lab help'
+
+set -l check '__fish_seen_subcommand_from check'
+complete -c pfx -n "$check" -l nft -d 'As what nft(8) loads'
+complete -c pfx -n "$check" -l interfaces -r -F -d 'The interfaces, a line each'
+complete -c pfx -n "$check" -l position -x -d 'The position of what is loaded'
+complete -c pfx -n "$check; and not __fish_contains_opt nft interfaces" -l anchor -d 'The text is one for an anchor'
+
+set -l node '__fish_seen_subcommand_from node'
+complete -c pfx -n "$node" -l me -x -d 'The number of the node'
+complete -c pfx -n "$node" -l cluster -x -d 'Number of the cluster'
+complete -c pfx -n "$node" -l store -r -F -d 'The file of its record'
+complete -c pfx -n "$node" -l turns -x -d 'End after so many turns'
+complete -c pfx -n "$node" -l answer -x -a learned -d 'When it answers an ask by UDP'
+complete -c pfx -n "$node" -l door -r -F -d 'A Unix socket for operators'
+complete -c pfx -n "$node" -l key -r -F -d 'A file with the key of the cluster'
+complete -c pfx -n "$node" -l other-key -r -F -d 'A file with a second key that is heard too'
+complete -c pfx -n "$node" -l unsealed -d 'Something below seals datagrams'
+
+set -l ask '__fish_seen_subcommand_from ask'
+complete -c pfx -n "$ask; and not __fish_contains_opt to" -l door -r -F -d 'The Unix socket of operators'
+complete -c pfx -n "$ask; and not __fish_contains_opt to" -l at -x -d 'Answer once so many positions are applied'
+complete -c pfx -n "$ask; and not __fish_contains_opt door" -l to -x -d 'The address of the node'
+complete -c pfx -n "$ask; and not __fish_contains_opt door" -l cluster -x -d 'Number of the cluster'
+complete -c pfx -n "$ask; and not __fish_contains_opt door" -l members -x -d 'How many members, 1 to 15'
+complete -c pfx -n "$ask; and not __fish_contains_opt door" -l node -x -d 'The number of the node'
+complete -c pfx -n "$ask" -l wait -x -d 'Seconds to wait for the answer'
+complete -c pfx -n "$ask" -s a -x -d 'The path of an anchor'
+complete -c pfx -n "$ask" -s f -r -F -d 'Load a text of rules'
+complete -c pfx -n "$ask" -s n -d 'Only read the text'
+complete -c pfx -n "$ask" -s F -x -a 'rules Tables all' -d 'Empty'
+complete -c pfx -n "$ask" -s t -x -d 'A table at the path'
+complete -c pfx -n "$ask" -s T -x -a 'add delete replace flush show test' -d 'What is done with the table'
+complete -c pfx -n "$ask" -s s -x -a 'rules Tables Anchors' -d 'List'
+complete -c pfx -n "$ask; and __fish_contains_opt door" \
+    -a 'test request log status health metrics sync stop'
