@@ -36,6 +36,9 @@ const UNSEALED: &str =
 
 const DOOR: &str = "A Unix socket at which operators ask, which is made";
 
+const METRICS: &str =
+    "A TCP address of this machine alone, as 127.0.0.1:9470, at which GET /metrics, /healthz and /readyz are answered";
+
 const MEMBER: &str =
     "The members' addresses in their order, 1 to 15 of them: IPV4:PORT, [IPV6]:PORT or NAME:PORT; a node binds its own";
 
@@ -53,7 +56,8 @@ const WAIT_MAX: u64 = 3_600;
 const NODE_BELOW: &str =
     "In the end it writes front F applied A: how many positions are learned without a gap, and applied. A refusal is
 refused CODE: 40 words, 83 no key in its file, or others may read it, 70 the store failed, 71 it is of another cluster
-or member, 72 a bad row, 73 another format, 82 its address is taken. With a key asks by UDP aren't heard.";
+or member, 72 a bad row, 73 another format, 82 its address is taken, or that of --metrics is none of this machine
+alone, 84 its door is taken. With a key or a door asks by UDP aren't heard.";
 
 const KEY_BELOW: &str =
     "It writes 64 hexadecimal digits, as pfx node --key takes them: (umask 077; pfx key > FILE)";
@@ -117,13 +121,15 @@ fn node_options<'a>(alloc: Global, node: Command<'a>) -> Result<Command<'a>, All
     let command = with(node, turns)?;
     let command = with(command, answer)?;
     let command = with(command, optional(alloc, "door", DOOR))?;
+    let metrics = optional(alloc, "metrics", METRICS).requires_arg("door")?;
+    let command = with(command, metrics)?;
     let command = with(command, optional(alloc, "key", KEY))?;
     let command = with(command, other)?;
     with(command, unsealed)
 }
 
 /// `node --me N --cluster C --store FILE [--turns T] [--key FILE [--other-key FILE]] [--unsealed]
-/// [--answer learned] ADDR..`
+/// [--answer learned] [--door PATH [--metrics ADDR]] ADDR..`
 fn node_command<'a>(alloc: Global) -> Result<Command<'a>, AllocError>
     ensures local { IfOk result (λ c. (out-Command c).has_globals ≡ false) }
 {

@@ -21,6 +21,9 @@ const WAIT: &str = "Seconds to wait for what comes of it, 0 to 3600";
 
 const AT: &str = "The node answers once it has applied so many positions, 0 to 1000000";
 
+const UNCHECKED: &str =
+    "Words and a text are asked as they are; else what is wrong with them is told before the node is asked";
+
 const BELOW: &str = "Words of a change, or of a listing; or, without pfctl's options:
   test PACKET..    the verdicts for packets        request N.NUMBER  what became of a request
   log [FROM]       what was learned                status            how the node is
@@ -47,7 +50,7 @@ fn with<'a>(command: Command<'a>, arg: Arg<'a>) -> Result<Command<'a>, AllocErro
     command.arg(arg)
 }
 
-/// `ask --door PATH [--wait S] [--at A] WORDS`
+/// `ask --door PATH [--wait S] [--at A] [--unchecked] WORDS`
 fn ask_command<'a>(alloc: Global) -> Result<Command<'a>, AllocError>
     ensures local { IfOk result (λ c. (out-Command c).has_globals ≡ false) }
 {
@@ -59,6 +62,11 @@ fn ask_command<'a>(alloc: Global) -> Result<Command<'a>, AllocError>
     let command = with(command, wait)?;
     let at = valued(alloc, "at", AT).value_parser(ValueParser::Unsigned(0, POSITIONS));
     let command = with(command, at)?;
+    let unchecked = Arg::new(alloc, "unchecked")
+        .long("unchecked")
+        .action(ArgAction::SetTrue)
+        .help(UNCHECKED);
+    let command = with(command, unchecked)?;
     pfctl_args(alloc, command)
 }
 
