@@ -69,8 +69,8 @@ ended_outcome without (ended.Front front applied) = Front front applied
 ended_outcome without (ended.Fault fault) = outcome_of fault
 ended_outcome without ended.NoWire = without
 
--- What a node's run over its record comes to: the record is opened, turns of the member and nothing else are made, and it
--- is given back. Where there is no wire that is 82, or memory is wanting.
+-- What a node's run over its record comes to: the record is opened, turns of the member and nothing else are made, and
+-- it is given back. Where there is no wire that is 82, or memory is wanting.
 abbrev pub ComesTo : {R : Type 0} → Ghosts R → Membership → (given : R) → Outcome → (back : R) → Type 0
 ComesTo G m given outcome back =
     (how : Ended) × (without : Outcome) × Runs G m given how back × (outcome ≡ ended_outcome without how)

@@ -272,8 +272,8 @@ fn run_at_door<R: Records>(
     }
 }
 
-/// What `node` comes to: 40 of its numbers, 83, the store's refusals, 82, and the first refusal of a turn, in this order.
-/// The store is closed, whatever came of it; what a node has committed stands also where closing fails.
+/// What `node` comes to: 40 of its numbers, 83, the store's refusals, 82, and the first refusal of a turn, in this
+/// order. The store is closed, whatever came of it; what a node has committed stands also where closing fails.
 pub(crate) fn node_outcome(rt: &HostRuntime, alloc: Global, words: NodeWords<'_, '_>) -> Outcome
     ensures { has_place words.entry.me (length words.entry.members.now) ≡ false → result ≡ Refused 40 }
 {

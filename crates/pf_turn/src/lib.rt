@@ -3,8 +3,8 @@
 //! # Organization
 //!
 //! - [`turn`]: one datagram is taken, or the clock ticks, and what is to be sent is sent.
-//! - [`run`]: a node runs, for so many turns: what comes is taken as it comes, and the clock ticks when [`Pace`] says so.
-//!   [`round`] is what it does between two looks at the clock.
+//! - [`run`]: a node runs, for so many turns: what comes is taken as it comes, and the clock ticks when [`Pace`] says
+//!   so. [`round`] is what it does between two looks at the clock.
 //! - [`serve`]: what has come is taken, and the clock ticks if that is due: so many turns, one after the other.
 //! - [`Room`]: the room that one turn after another uses.
 //! - `specs/Turns` says what a turn makes, and what several in a row do; [`laws`] that they are steps of the model.

@@ -57,15 +57,16 @@ pub enum Beat {
 }
 
 /// When a node's clock ticks: at once where commands wait and no attempt is under way; anew where an attempt isn't
-/// answered in four round trips and some more, a time that doubles with each loss; after a pause that grows where another
-/// node took the lead; and where nothing waits at the start, once a second, and at once while what it lacks is coming.
+/// answered in four round trips and some more, a time that doubles with each loss; after a pause that grows where
+/// another node took the lead; and where nothing waits at the start, once a second, and at once while what it lacks is
+/// coming.
 ///
-/// A node that lacks entries which others have learned asks for them soon. Where commands wait at it, it can't ask and has
-/// to propose, which takes the lead from who has it: it does so soon where it lacks few, and with pauses where it lacks
-/// many and others go on meanwhile.
+/// A node that lacks entries which others have learned asks for them soon. Where commands wait at it, it can't ask and
+/// has to propose, which takes the lead from who has it: it does so soon where it lacks few, and with pauses where it
+/// lacks many and others go on meanwhile.
 ///
-/// Round trips are learned from attempts that led to something. The clock decides when a tick comes, never what it does:
-/// whatever is answered here, a node makes turns and nothing else.
+/// Round trips are learned from attempts that led to something. The clock decides when a tick comes, never what it
+/// does: whatever is answered here, a node makes turns and nothing else.
 #[derive(Clone, Copy, Debug)]
 pub struct Pace {
     me: u8,
@@ -133,9 +134,9 @@ impl Pace {
         self.repeats = 0;
     }
 
-    /// Whether the accept requests and votes that were sent of the front's position are sent again now, since they may be
-    /// lost: two round trips and 5 ms after they were sent, and then again and again, in pauses that grow, 64 times at most.
-    /// It is asked after [`Pace::beat`], at the same time.
+    /// Whether the accept requests and votes that were sent of the front's position are sent again now, since they may
+    /// be lost: two round trips and 5 ms after they were sent, and then again and again, in pauses that grow, 64 times
+    /// at most. It is asked after [`Pace::beat`], at the same time.
     pub fn repeats(&mut self, now: u64) -> bool {
         if now < self.next_repeat() {
             return false;
@@ -236,8 +237,8 @@ impl Pace {
         2u64.saturating_pow(self.losses)
     }
 
-    /// When a node that lacks entries does something about it: soon after it is seen that its front stands still, and then
-    /// each time after its patience.
+    /// When a node that lacks entries does something about it: soon after it is seen that its front stands still, and
+    /// then each time after its patience.
     fn fills(&self) -> u64 {
         if self.ticked <= self.moved {
             self.moved.saturating_add(self.trip).saturating_add(GAP)

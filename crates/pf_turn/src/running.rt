@@ -118,8 +118,8 @@ fn repeat_if<W: Wire>(wire: &mut W, is_due: bool, front: u32)
     }
 }
 
-/// What has come is taken, 64 datagrams at most; then the clock ticks where the pace says so. These are turns of the node
-/// and nothing else. Answers how long may be waited before the next round.
+/// What has come is taken, 64 datagrams at most; then the clock ticks where the pace says so. These are turns of the
+/// node and nothing else. Answers how long may be waited before the next round.
 ///
 /// While the node lacks entries that others have, the wire is asked to keep back what is asked from outside; it is told
 /// which of the member's own requests were learned, and asked to send again what was sent and may be lost.
@@ -180,9 +180,9 @@ fn rounds<R: Records, W: Wire, C: Clock>(
     Ok(())
 }
 
-/// Works off what waits to be proposed, before the node ends: rounds until nothing waits, 3,000 at most, of which one with
-/// a wait counts for its milliseconds. These are turns of the node and nothing else. What is asked from outside meanwhile
-/// is kept back, where the wire can do that.
+/// Works off what waits to be proposed, before the node ends: rounds until nothing waits, 3,000 at most, of which one
+/// with a wait counts for its milliseconds. These are turns of the node and nothing else. What is asked from outside
+/// meanwhile is kept back, where the wire can do that.
 ///
 /// `start` is when the node started by this clock. The faults are those of [`Node::receive`] and [`Node::tick`].
 pub fn finish<R: Records, W: Wire, C: Clock>(
@@ -215,8 +215,8 @@ pub fn finish<R: Records, W: Wire, C: Clock>(
 }
 
 /// A node runs: it takes what comes as it comes, and its clock ticks when its pace says so ([`Pace`]), until so many
-/// turns are over, where each datagram counts for one, and each tick and each wait, of a tenth of a second at most. Then
-/// it works off what waits ([`finish`]).
+/// turns are over, where each datagram counts for one, and each tick and each wait, of a tenth of a second at most.
+/// Then it works off what waits ([`finish`]).
 ///
 /// The faults are those of [`Node::receive`] and [`Node::tick`]; one ends it.
 pub fn run<R: Records, W: Wire, C: Clock>(

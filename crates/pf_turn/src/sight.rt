@@ -56,8 +56,8 @@ impl Sight {
         }
     }
 
-    /// With what a datagram tells: who proposes or votes at a position, or lacks it, has learned all below; who tells an
-    /// entry has learned it too.
+    /// With what a datagram tells: who proposes or votes at a position, or lacks it, has learned all below; who tells
+    /// an entry has learned it too.
     fn with(self, datagram: &[u8]) -> Sight {
         match datagram.get(KIND_PLACE) {
             Some(1 | 4 | 11) => self.reaching(number_at(datagram, FAR_PLACE)),
