@@ -1,2 +1,3 @@
 pub mod Turns
 pub mod Living
+pub mod Releases

@@ -7,6 +7,7 @@
 //!   so. [`round`] is what it does between two looks at the clock.
 //! - [`serve`]: what has come is taken, and the clock ticks if that is due: so many turns, one after the other.
 //! - [`Room`]: the room that one turn after another uses.
+//! - [`own_number`]: which answer may go that waits until its command is learned.
 //! - `specs/Turns` says what a turn makes, and what several in a row do; [`laws`] that they are steps of the model.
 #![tactic(auto)]
 
@@ -23,6 +24,6 @@ pub use pf_node::Node;
 pub use px_replica::{Datagram, NodeFault};
 pub use px_transport::{FaultyWire, MemoryWire, Wire};
 pub use room::Room;
-pub use running::{Progress, finish, round, run};
+pub use running::{Progress, finish, own_number, round, run};
 pub use serving::{serve, tick_now};
 pub use turning::turn;

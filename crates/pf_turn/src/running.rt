@@ -2,14 +2,14 @@
 
 ghost use Rattle.std.specs.Prelude.{◌≡◌, ◌≤◌};
 ghost use Rattle.px_replica.specs.Faults.{fault_of};
-ghost use Rattle.pf_node.specs.Nodes.{applied_of};
+ghost use Rattle.pf_node.specs.Nodes.{applied_of, learned_by, membership_of};
+ghost use Rattle.pf_turn.specs.Releases.{number_taken};
 ghost use Rattle.pf_turn.specs.Turns.{Served, standing};
 
 use crate::pace::{Beat, Pace, View, microseconds};
 use crate::room::Room;
 use crate::serving::{drain, tick_now};
 use pf_node::Node;
-use px_model::EntryView;
 use px_records::Records;
 use px_replica::NodeFault;
 use px_transport::Wire;
@@ -32,12 +32,14 @@ fn view_of<R: Records>(node: &Node<R>, room: &Room, was: u32) -> View {
     }
 }
 
-/// The number of the entry learned at the position, if this member took its command in.
-fn own_number<R: Records>(node: &Node<R>, me: u8, position: u32) -> Option<u64> {
-    let Some(bytes) = node.learned(position) else {
-        return None;
-    };
-    match EntryView::read(bytes) {
+/// The number under which this member took in the command that is learned at the position; none where nothing is
+/// learned there, or another member took it in. An answer that waits until its command is learned is let go under a
+/// number that this says, and no other ([`Wire::release`]).
+pub fn own_number<R: Records>(node: &Node<R>, position: u32) -> Option<u64>
+    ensures { result ≡ number_taken (membership_of node.now).me (learned_by node.now position) }
+{
+    let me = node.membership().me();
+    match node.entry(position) {
         Some(entry) => {
             if entry.origin() == me {
                 Some(entry.number())
@@ -54,9 +56,8 @@ fn release<R: Records, W: Wire>(node: &Node<R>, wire: &mut W, from: u32)
     ensures given { W.given wire.new ≡ W.given wire.old }
     ensures quiet { W.handed wire.new ≡ W.handed wire.old }
 {
-    let me = node.membership().me();
     for position in from..node.front() {
-        if let Some(number) = own_number(node, me, position) {
+        if let Some(number) = own_number(node, position) {
             wire.release(number);
         }
     }
