@@ -157,15 +157,16 @@ class Cluster:
 
 
 class Member:
-    """A member that leads: it proposes entries of its own one after the other, and votes for them. It keeps no record, so
-    it is for clusters of a script alone. Nothing else may propose there."""
+    """A member that leads: it proposes entries of its own one after the other, and votes for them, and tells whoever lacks
+    one what a majority accepted. It keeps no record, so it is for clusters of a script alone. Nothing else may propose
+    there."""
 
     def __init__(self, cluster, me, key=None, other=None):
         self.cluster, self.me, self.key, self.other = cluster, me, key, other
         self.members = len(cluster.places)
         self.socket = socket.socket(socket.AF_INET, socket.SOCK_DGRAM)
         self.socket.bind(cluster.places[me])
-        self.round, self.position, self.sent_again = 0, 0, 0
+        self.round, self.position, self.sent_again, self.entries = 0, 0, 0, []
 
     def close(self):
         self.socket.close()
@@ -186,8 +187,30 @@ class Member:
                 return None
             data = opened(self.key, sealed_data) or (opened(self.other, sealed_data) if self.other else b"")
             if len(data) > 13 and data[:4] == b"PFXR" and data[11] == self.me:
-                return data[10], data[12], data[13:]
+                if data[12] == NEED:
+                    self.tell(data[10], int.from_bytes(data[13:17], "big"))
+                else:
+                    return data[10], data[12], data[13:]
         return None
+
+    def tell(self, to, position):
+        """Tells a node what was learned at a position, if it was."""
+        if position < len(self.entries) and to < self.members:
+            body = number(position, 4) + sized(self.entries[position])
+            data = datagram(self.members, self.me, to, LEARNED, body)
+            self.socket.sendto(sealed(self.key, data), self.cluster.places[to])
+
+    def await_learned(self, nodes=None, seconds=60):
+        """Until each of the nodes has learned all of its entries; False where that takes longer."""
+        end = time.time() + seconds
+        for n in self.cluster.nodes if nodes is None else nodes:
+            while len(self.cluster.learned(n)) < self.position:
+                if time.time() > end:
+                    return False
+                self.hear(time.time() + 0.2)
+                while self.hear(time.time() + 0.01) is not None:
+                    pass
+        return True
 
     def ballot(self):
         return number(256 * self.round + self.me, 8)
@@ -226,6 +249,7 @@ class Member:
             self.send(VOTE, same + sized(entry))
             if self.gather(VOTE, same, 0.2, heard):
                 self.position += 1
+                self.entries.append(entry)
                 return
             self.sent_again += 1
             if self.round != round_of:
