@@ -99,25 +99,46 @@ fn change(alloc: Global, made: Made) -> Result<Change, Refused>
     Err(Refused::Line)
 }
 
+/// Commits the change.
+fn commit<R: Records>(records: &mut R, change: Change) -> Result<(), Refused>
+    requires fits { ChangeFits AnyCommand (R.members records.old) (change_of change) }
+    requires rises { R.is_honest records.old → Rises (change_of change) (R.stored records.old) }
+    ensures { R.members records.new ≡ R.members records.old }
+{
+    let committed = records.commit(&change);
+    drop(change);
+    match committed {
+        Ok(()) => Ok(()),
+        Err(fault) => Err(Refused::Store(fault)),
+    }
+}
+
+/// The ballot promised at the position.
+fn promised<R: Records>(records: &mut R, position: u32) -> Result<u64, Refused>
+    ensures ok { R.is_honest records.new →
+        IfOk result (λ b. ((R.stored records.new).slots position).promised ≡ b) }
+    ensures same { R.members records.new ≡ R.members records.old }
+{
+    match records.read_slot(position) {
+        Ok(slot) => Ok(slot.promised),
+        Err(fault) => Err(Refused::Store(fault)),
+    }
+}
+
 /// Promises the ballot at the position. It must stand there then.
 fn promise<R: Records>(records: &mut R, position: u32, ballot: u64) -> Result<(), Refused>
     requires { R.members records.old ≡ 3 }
     ensures { R.members records.new ≡ 3 }
 {
-    let slot = match records.read_slot(position) {
-        Ok(slot) => slot,
-        Err(fault) => return Err(Refused::Store(fault)),
-    };
-    if slot.promised > ballot || position >= 1_000_000 || !is_ballot(ballot) {
+    let before = promised(records, position)?;
+    if before > ballot || position >= 1_000_000 || !is_ballot(ballot) {
         return Err(Refused::Line);
     }
-    if let Err(fault) = records.commit(&Change::Promised { position, ballot }) {
-        return Err(Refused::Store(fault));
-    }
-    match records.read_slot(position) {
-        Ok(slot) if slot.promised == ballot => Ok(()),
-        Ok(_) => Err(Refused::Lost),
-        Err(fault) => Err(Refused::Store(fault)),
+    commit(records, Change::Promised { position, ballot })?;
+    if promised(records, position)? == ballot {
+        Ok(())
+    } else {
+        Err(Refused::Lost)
     }
 }
 
@@ -129,10 +150,9 @@ pub(crate) fn make<R: Records>(alloc: Global, records: &mut R, made: Made) -> Re
     if made.word == "promise" {
         return promise(records, made.at, made.ballot as u64);
     }
-    let change = change(alloc, made)?;
-    match records.commit(&change) {
-        Ok(()) => Ok(()),
-        Err(fault) => Err(Refused::Store(fault)),
+    match change(alloc, made) {
+        Ok(change) => commit(records, change),
+        Err(refused) => Err(refused),
     }
 }
 

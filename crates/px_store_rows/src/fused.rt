@@ -109,3 +109,8 @@ pub(crate) fn attempt(
     }
     Some(Held { log: log?, db: db? })
 }
+
+/// Does the tasks with an empty store whose files are in memory. Whether there was memory for that.
+pub(crate) fn in_memory(alloc: Global, tasks: &str, out: &mut String) -> bool {
+    attempt(alloc, &Held::new(alloc), NEVER, tasks, out).is_some()
+}

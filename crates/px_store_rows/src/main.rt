@@ -7,7 +7,7 @@
 //!
 //! | Line | Does |
 //! |---|---|
-//! | `in FILE \| TASK \| ..` | opens the store in the file, or an empty one in memory, `in memory`, and does the tasks |
+//! | `in FILE \| TASK \| ..` | opens the store in the file, or in empty ones in memory, `in memory`, and does the tasks |
 //! | `twice FILE \| TASK \| ..` | the same; opens the file once more, which must be refused; does the tasks again |
 //! | `plain K WHEN \| STEP, .. \| STEP, ..` | steps over a record in memory whose `K`-th commit fails `before` or `after`
 //! its change (0: none does), then steps over the record itself |
@@ -33,8 +33,9 @@ mod stops;
 mod store;
 
 use crate::files::{cut, folder, in_file, text, twice};
+use crate::fused::in_memory;
 use crate::stops::stops;
-use crate::store::{in_memory, plain};
+use crate::store::plain;
 use std::io;
 
 /// Does what the line says, and what came of it is appended. Whether there was memory for that.
@@ -54,15 +55,21 @@ fn done(rt: &HostRuntime, line: &str, out: &mut String) -> bool {
     }
 }
 
+/// Does what the line says, and prints what came of it.
+fn tell(rt: &HostRuntime, line: &str) -> io::Result<()> {
+    let mut out = String::new(rt.alloc());
+    let shown = if done(rt, line, &mut out) {
+        out.as_str()
+    } else {
+        "memory"
+    };
+    println!(rt; "{line}: {shown}")
+}
+
 fn main(rt: HostRuntime) -> io::Result<()> {
-    for line in rt.lines(rt.alloc()) {
-        let line = line?;
-        let mut out = String::new(rt.alloc());
-        if done(&rt, &line, &mut out) {
-            println!(&rt; "{line}: {out}")?;
-        } else {
-            println!(&rt; "{line}: memory")?;
-        }
+    let input = io::read_to_string(rt.alloc(), rt.reader())?;
+    for line in input.lines() {
+        tell(&rt, line)?;
     }
     Ok(())
 }

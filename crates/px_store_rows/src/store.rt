@@ -144,14 +144,6 @@ pub(crate) fn work_once<S: Alter + Drop>(
     is_told
 }
 
-/// Does the tasks with an empty store in memory.
-pub(crate) fn in_memory(alloc: Global, tasks: &str, out: &mut String) -> bool {
-    match Connection::open_in_memory(alloc) {
-        Ok(conn) => work_once(alloc, conn, tasks, out),
-        Err(_) => say(out, "doesn't open"),
-    }
-}
-
 /// An empty record in memory of which the `K`-th commit fails `before` or `after` its change.
 fn faulty(alloc: Global, fails: &str) -> FaultyRecords<MemoryRecords>
     ensures { ⟦<FaultyRecords<MemoryRecords> as Records>⟧.members result ≡ 3 }
