@@ -14,6 +14,7 @@ use Rattle.pf_stored.specs.declared.shown.Wanted.{Wanted}
 
 -- it is given back as it was, and the configuration is the log's up to the first gap
 pub shows_record : {R : Type 0} {G : Ghosts R} (given back : R) (n : Node R G) (w : Wanted) (s : Shown) →
+    (G.is_honest (records_of n) → G.is_honest given) →
     (G.is_honest (records_of n) → state_in n ≡ started (G.stored given)) →
     (G.is_honest (records_of n) → learned_by n ≡ (G.stored given).learned) →
     applied_of n ≡ front (learned_by n) →
@@ -21,7 +22,7 @@ pub shows_record : {R : Type 0} {G : Ghosts R} (given back : R) (n : Node R G) (
     back ≡ records_of n →
     Shows (learned_by n) (applied_of n) (kept_of n) (config_of n) w s →
     G.is_honest back → ShowsRecord G given back w s
-shows_record {R} {G} given back n w s stands learned applied configured is shows honest =
+shows_record {R} {G} given back n w s was stands learned applied configured is shows honest =
     let own : G.is_honest (records_of n) = subst G.is_honest is honest in
     let log : learned_by n ≡ (G.stored given).learned = learned own in
     let same : G.stored (records_of n) ≡ G.stored given = ap (λ (x : NodeState Bytes). x.stored) (stands own) in
@@ -30,6 +31,7 @@ shows_record {R} {G} given back n w s stands learned applied configured is shows
     let second = ap (λ (x : Log Bytes). after x (applied_of n)) (sym log) in
     let whole = subst (λ (x : Log Bytes). Shows x (applied_of n) (kept_of n) (config_of n) w s) log shows in
     record {
+      was = was own;
       same = ap G.stored is ∙ same;
       shows = record {
         configuration = config_of n;

@@ -30,7 +30,8 @@ pub record ShowsLog (log : Log Bytes) (w : Wanted) (s : Shown) : Type 0 where
   pub configured : after log (front log) ≡ Some configuration
   pub shows : Shows log (front log) kept configuration w s
 
--- The record is given back as it was, and this is shown of it, if it could be opened and memory served.
+-- The record was honest and is given back as it was, and this is shown of it, if it could be opened and memory served.
 pub record ShowsRecord {R : Type 0} (G : Ghosts R) (given back : R) (w : Wanted) (s : Shown) : Type 0 where
+  pub was : G.is_honest given
   pub same : G.stored back ≡ G.stored given
   pub shows : ShowsLog (G.stored given).learned w s

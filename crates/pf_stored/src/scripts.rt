@@ -15,7 +15,7 @@ use px_records::Records;
 use std::alloc::{AllocError, Global};
 
 /// The number of the refusal where no script gives the configuration.
-const NO_SCRIPT: u8 = 90;
+const NO_SCRIPT: u8 = 91;
 
 /// Puts the command that bytes spell behind a script, unless it is refused at this configuration, where it is done.
 fn push_done(
@@ -65,7 +65,7 @@ fn log_dump<R: Records>(
 }
 
 /// A script that gives the node's configuration: one load a path, and where a path's rules are too long for that the
-/// commands of the log that weren't refused. 90 where neither gives it.
+/// commands of the log that weren't refused. 91 where neither gives it.
 pub(crate) fn show_script<R: Records>(alloc: Global, node: &Node<R>) -> Result<Shown, AllocError>
     ensures { IfOk result (λ s. s.refused ≡ false → Gives s.bytes.items (config_of node.now)) }
 {
