@@ -14,3 +14,6 @@ pub const POSITIONS_SPENT: u8 = 62;
 
 /// A file that can't be read.
 pub const UNREADABLE: u8 = 90;
+
+/// A script of a store's configuration, since none gives it.
+pub const NO_SCRIPT: u8 = 91;

@@ -1,6 +1,8 @@
 //! The table of refusals.
 
-use crate::numbers::{NO_PACKET, POSITIONS_SPENT, ROUNDS_SPENT, UNREADABLE, WAITING_FULL};
+use crate::numbers::{
+    NO_PACKET, NO_SCRIPT, POSITIONS_SPENT, ROUNDS_SPENT, UNREADABLE, WAITING_FULL,
+};
 use crate::paragraph::Explanation;
 
 const TEXT_STAYS: &str = "Nothing of the text is taken; what was loaded before stays as it was.";
@@ -12,7 +14,7 @@ const ASK_STAYS: &str = "Nothing is taken in, and the node goes on.";
 const STORE_STAYS: &str = "The node isn't started, and the store stays as it was.";
 
 /// Each refusal once, by number. `scripts/refusals` compares it with docs/LANGUAGE.md.
-pub const REFUSALS: [Explanation; 39] = [
+pub const REFUSALS: [Explanation; 40] = [
     Explanation {
         code: 1,
         name: "no number in an address",
@@ -317,5 +319,12 @@ pub const REFUSALS: [Explanation; 39] = [
             packets that aren't UTF-8",
         after: "Nothing of it is taken.",
         remedy: "See that the file is there, and that you may read it.",
+    },
+    Explanation {
+        code: NO_SCRIPT,
+        name: "no script",
+        meaning: "a script of a store's configuration: none gives it",
+        after: "No script is printed, and the store stays as it was.",
+        remedy: "Look by -s at what the store holds, and load it by hand.",
     },
 ];
