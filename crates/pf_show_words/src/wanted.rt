@@ -1,0 +1,109 @@
+//! What the words ask for.
+
+use clap::ArgMatches;
+use std::alloc::{AllocError, Global};
+
+/// What is asked for beside a listing.
+#[derive(Clone, Copy, Debug, PartialEq, Eq)]
+pub(crate) enum Kind {
+    /// pfctl's words.
+    Words,
+    /// The verdicts for packets.
+    Packets,
+    /// Lines of the log.
+    Log,
+    /// For nft(8).
+    Nft,
+    /// For pfctl(8).
+    Texts,
+    /// A script.
+    Script,
+}
+
+/// The words, none where there are none.
+fn or_none<'m, 'a>(words: Option<&'m [&'a str]>) -> &'m [&'a str] {
+    match words {
+        Some(words) => words,
+        None => &[],
+    }
+}
+
+/// The words behind the options, none where there are none.
+pub(crate) fn rest_of<'m, 'a>(matches: &'m ArgMatches<'a>) -> &'m [&'a str] {
+    or_none(matches.get_strs("address"))
+}
+
+/// Whether an option of pfctl's is there.
+fn has_listing(matches: &ArgMatches<'_>) -> bool {
+    ["path", "file", "flush", "table", "change", "show"]
+        .iter()
+        .any(|id| matches.get_str(id).is_some())
+        || matches.get_flag("check")
+}
+
+/// What the matches ask for; none where words don't go together.
+pub(crate) fn kind_of(matches: &ArgMatches<'_>) -> Option<Kind> {
+    let rest = rest_of(matches);
+    let is_plain = !has_listing(matches);
+    let whole = match (
+        matches.get_flag("nft"),
+        matches.get_flag("pf"),
+        matches.get_flag("script"),
+    ) {
+        (false, false, false) => None,
+        (true, false, false) => Some(Kind::Nft),
+        (false, true, false) => Some(Kind::Texts),
+        (false, false, true) => Some(Kind::Script),
+        _ => return None,
+    };
+    if let Some(kind) = whole {
+        return if is_plain && rest.is_empty() {
+            Some(kind)
+        } else {
+            None
+        };
+    }
+    if !is_plain {
+        return Some(Kind::Words);
+    }
+    match rest {
+        ["log"] => Some(Kind::Log),
+        ["test", _, ..] => Some(Kind::Packets),
+        _ => None,
+    }
+}
+
+/// Adds an option and its value, if the words have it.
+fn add_option<'a>(
+    words: &mut Vec<&'a str>,
+    matches: &ArgMatches<'a>,
+    option: &'a str,
+    id: &str,
+) -> Result<(), AllocError> {
+    if let Some(value) = matches.get_str(id) {
+        words.push(option)?;
+        words.push(value)?;
+    }
+    Ok(())
+}
+
+/// The line of pfctl's words, `pfctl` first.
+pub(crate) fn line_of<'a>(
+    alloc: Global,
+    matches: &ArgMatches<'a>,
+) -> Result<Vec<&'a str>, AllocError> {
+    let mut words = Vec::new(alloc);
+    words.push("pfctl")?;
+    if matches.get_flag("check") {
+        words.push("-n")?;
+    }
+    add_option(&mut words, matches, "-a", "path")?;
+    add_option(&mut words, matches, "-F", "flush")?;
+    add_option(&mut words, matches, "-t", "table")?;
+    add_option(&mut words, matches, "-T", "change")?;
+    add_option(&mut words, matches, "-s", "show")?;
+    for word in rest_of(matches) {
+        words.push(*word)?;
+    }
+    Ok(words)
+}

@@ -1,0 +1,90 @@
+//! The word `show`, as `clap` reads it.
+
+ghost use Rattle.std.specs.Prelude.{◌≡◌, IfOk, false};
+ghost use Rattle.clap.specs.declared.builder.command.Command.TheViews.{out-Command};
+
+use clap::builder::ValueParser;
+use clap::{Arg, ArgAction, Command};
+use pf_command::pfctl_args;
+use std::alloc::{AllocError, Global};
+
+/// The most positions.
+const POSITIONS: u64 = 1_000_000;
+
+/// What help says of each option, and below them.
+const STORE: &str = "The file of a node's record, which no node has open; it isn't changed";
+
+const NFT: &str = "The configuration as what nft(8) loads, three lines";
+
+const INTERFACES: &str =
+    "With --nft: the machine's interfaces, a line each: its name, then its groups";
+
+const PF: &str = "The rulesets as texts for pfctl(8), each behind the comment # pfctl -a PATH -f -";
+
+const SCRIPT: &str =
+    "A script in the form of ctl's that gives the configuration when it is asked of an empty cluster";
+
+const FROM: &str = "With log: the first position; else the last lines are shown";
+
+const COUNT: &str = "With log: how many lines at most; without --from 20 if it isn't said";
+
+const BELOW: &str = "Words of a listing as pfctl's, or without its options:
+  test PACKET..   the verdicts for packets       log   what was learned
+What is shown is of the configuration after the learned positions up to the first gap.
+A refusal is refused CODE: 70 no store, or one in use, 72 a bad row, 73 another format, 40 words that don't go together,
+20, 24, 30, 1 to 3 as for ctl, 87 to 89 as for check --nft, 91 no script gives the configuration.";
+
+/// An option with a value.
+fn valued<'a>(alloc: Global, name: &'a str, help: &'a str) -> Arg<'a>
+    ensures local { result.global ≡ false }
+{
+    Arg::new(alloc, name)
+        .long(name)
+        .action(ArgAction::Set)
+        .help(help)
+}
+
+/// An option without a value.
+fn flag<'a>(alloc: Global, name: &'a str, help: &'a str) -> Arg<'a>
+    ensures local { result.global ≡ false }
+{
+    Arg::new(alloc, name)
+        .long(name)
+        .action(ArgAction::SetTrue)
+        .help(help)
+}
+
+/// Adds one option.
+fn with<'a>(command: Command<'a>, arg: Arg<'a>) -> Result<Command<'a>, AllocError>
+    requires command { (out-Command command).has_globals ≡ false }
+    requires arg { arg.global ≡ false }
+    ensures local { IfOk result (λ c. (out-Command c).has_globals ≡ false) }
+{
+    command.arg(arg)
+}
+
+/// `show --store FILE [--nft --interfaces FILE] [--pf] [--script] [--from P] [--count N]`, and pfctl's words.
+fn show_command<'a>(alloc: Global) -> Result<Command<'a>, AllocError>
+    ensures local { IfOk result (λ c. (out-Command c).has_globals ≡ false) }
+{
+    let show = Command::new(alloc, "show")
+        .about("Shows what a node's store holds")
+        .after_help(BELOW);
+    let command = with(show, valued(alloc, "store", STORE).required(true))?;
+    let command = with(command, flag(alloc, "nft", NFT))?;
+    let command = with(command, valued(alloc, "interfaces", INTERFACES))?;
+    let command = with(command, flag(alloc, "pf", PF))?;
+    let command = with(command, flag(alloc, "script", SCRIPT))?;
+    let from = valued(alloc, "from", FROM).value_parser(ValueParser::Unsigned(0, POSITIONS));
+    let command = with(command, from)?;
+    let count = valued(alloc, "count", COUNT).value_parser(ValueParser::Unsigned(0, POSITIONS));
+    let command = with(command, count)?;
+    pfctl_args(alloc, command)
+}
+
+/// The program's words with `show`.
+pub(crate) fn command<'a>(alloc: Global) -> Result<Command<'a>, AllocError> {
+    let show = show_command(alloc)?;
+    let command = Command::new(alloc, "pfx").subcommand(show)?;
+    Ok(command.subcommand_required(true))
+}
