@@ -22,7 +22,8 @@ fn is_file(rt: &HostRuntime, path: &str) -> bool {
     }
 }
 
-/// The database in a file. Where there is no file 70 comes, and none is made; 73 where it has no byte and no log of writes.
+/// The database in a file. Where there is no file 70 comes, and none is made; 73 where it has no byte and no log of
+/// writes.
 fn open_file(rt: &HostRuntime, path: &str) -> Result<Connection<FileStore<File>>, Closed> {
     if !is_file(rt, path) {
         return Err(Closed::Refused(70));

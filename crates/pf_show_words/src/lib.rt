@@ -5,8 +5,8 @@
 //! - [`run_show`]: the word, over any writer.
 //! - [`show_store`]: what is shown of the record in a database; a refusal is [`Closed`].
 //!
-//! Within: `words` has the word as `clap` reads it, `wanted` what it asks for, `file` opens the store, `owner` reads whose
-//! it is, `outcome` has what is written.
+//! Within: `words` has the word as `clap` reads it, `wanted` what it asks for, `file` opens the store, `owner` reads
+//! whose it is, `outcome` has what is written.
 #![tactic(auto)]
 
 mod file;

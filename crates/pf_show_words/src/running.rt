@@ -84,8 +84,8 @@ fn outcome_of(rt: &HostRuntime, alloc: Global, matches: &ArgMatches<'_>) -> Outc
 }
 
 /// What the word `show` asks for, the program's name first: what a node's store holds, which no node has open and which
-/// isn't changed. It is written as `show_store` has it, or `refused CODE`: the numbers of [`Closed`](crate::Closed), or 40
-/// for words that don't go together. Other words are refused.
+/// isn't changed. It is written as `show_store` has it, or `refused CODE`: the numbers of [`Closed`](crate::Closed), or
+/// 40 for words that don't go together. Other words are refused.
 pub fn run_show<S: AsStr, W: Write>(
     rt: &HostRuntime,
     alloc: Global,

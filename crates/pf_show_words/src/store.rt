@@ -20,8 +20,8 @@ use std::alloc::Global;
 pub enum Closed {
     /// A growth was refused.
     Memory,
-    /// The number of the refusal: 70 where there is no store, or one that is in use or that the system refuses, 73 where it
-    /// hasn't format 3, 72 for a bad row.
+    /// The number of the refusal: 70 where there is no store, or one that is in use or that the system refuses, 73 where
+    /// it hasn't format 3, 72 for a bad row.
     Refused(u8),
 }
 
@@ -71,11 +71,11 @@ fn closed_for(fault: NodeFault) -> Closed {
     }
 }
 
-/// What is shown of the record in a store of format 3, and the record, which is as it was: of the configuration after the
-/// first learned entries, up to the first gap. To take such a store writes nothing.
+/// What is shown of the record in a store of format 3, and the record, which is as it was: of the configuration after
+/// the first learned entries, up to the first gap. To take such a store writes nothing.
 ///
-/// 73 where it hasn't format 3, 72 for a bad row, 70 where the database refuses; a script is shown as refused where there
-/// is none.
+/// 73 where it hasn't format 3, 72 for a bad row, 70 where the database refuses; a script is shown as refused where
+/// there is none.
 pub fn show_store<S: Alter + Drop>(
     alloc: Global,
     mut conn: Connection<S>,
