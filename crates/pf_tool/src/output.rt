@@ -1,5 +1,12 @@
 //! What a run writes.
 
+ghost use Rattle.std.specs.Prelude.{◌≡◌, IfOk, codes};
+ghost use Rattle.pf_tool.specs.Tool.{unread, quieted};
+ghost use Rattle.pf_tool.specs.inner.Output.{written};
+
+use pf_refusals::UNREADABLE;
+use std::alloc::{AllocError, Global};
+
 /// How a run ends that wrote all of its output.
 #[derive(Clone, Copy, Debug, PartialEq, Eq)]
 pub(crate) enum Ending {
@@ -12,4 +19,28 @@ pub(crate) enum Ending {
 pub(crate) struct Output {
     pub(crate) text: String,
     pub(crate) ending: Ending,
+}
+
+/// What is written of a file that can't be read.
+pub(crate) fn unread(alloc: Global) -> Result<Output, AllocError>
+    ensures { IfOk result (λ o. written o ≡ unread) }
+{
+    let text = format!(in alloc; "refused {UNREADABLE}\n")?;
+    Ok(Output {
+        text,
+        ending: Ending::Refused,
+    })
+}
+
+/// With `-q` nothing is written, and the run ends alike.
+pub(crate) fn quieted(alloc: Global, quiet: bool, output: Output) -> Output
+    ensures { written result ≡ quieted quiet (written output) }
+{
+    if quiet {
+        return Output {
+            text: String::new(alloc),
+            ending: output.ending,
+        };
+    }
+    output
 }
