@@ -96,7 +96,7 @@ check_output place input = checked (reading place Two input)
 
 -- a file that can't be read
 abbrev pub unread : Written
-unread = record { text = line (codes "refused 90"); ending = Refused }
+unread = refused_load (Some 90)
 
 -- check of a text, none of a file that can't be read
 abbrev pub checked_text : Place → Option (List ℕ) → Written
@@ -178,8 +178,8 @@ abbrev pub status_of : Ending → Status
 status_of Done = status.Done
 status_of Refused = status.Refused
 
--- What is asked for, over this input, with this table of refusals. Of a lab's script no more is said than how it ends: which positions a node has
--- applied is no part of the world.
+-- What is asked for, over this input, with this table of refusals. Of a lab's script no more is said than how it ends:
+-- which positions a node has applied is no part of the world.
 abbrev pub IsAnswer : List Explanation → CallValue → List ℕ → Written → Type 0
 IsAnswer table (Test packets) input w = w ≡ test_output packets input
 IsAnswer table (Check place) input w = w ≡ check_output place input

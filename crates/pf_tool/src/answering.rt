@@ -190,7 +190,8 @@ fn say_decided(
     }
 }
 
-/// The name of the text that is refused: of rules that are there, with lines that aren't packets' text, that of the lines.
+/// The name of the text that is refused: of rules that are there, with lines that aren't packets' text, that of the
+/// lines.
 fn refused_name<'s>(rules: &'s Source<'_>, lines: &'s Source<'_>, printed: &str) -> &'s str {
     if rules.bytes().is_some() && printed == "refused 90\n" {
         return lines.name;

@@ -57,14 +57,24 @@ pub(crate) fn checked_texts(
     ensures { IfOk result (λ o. written o ≡ checked_texts place (map text_in sources.now)) }
 {
     let mut text = String::new(alloc);
-    let mut ending = Ending::Done;
+    let mut is_any = false;
     for source in sources {
         let one = checked_text(alloc, place, source)?;
         text.push_str(one.text.as_str())?;
-        if one.ending == Ending::Refused {
-            ending = Ending::Refused;
-        }
         remarks.add(source.name, one.text.as_str())?;
+        if is_any {
+            continue;
+        }
+        is_any = one.is_refused();
     }
-    Ok(Output { text, ending })
+    if is_any {
+        return Ok(Output {
+            text,
+            ending: Ending::Refused,
+        });
+    }
+    Ok(Output {
+        text,
+        ending: Ending::Done,
+    })
 }

@@ -1,9 +1,10 @@
 //! What a run writes.
 
-ghost use Rattle.std.specs.Prelude.{◌≡◌, IfOk, codes};
-ghost use Rattle.pf_tool.specs.Tool.{unread, quieted};
+ghost use Rattle.std.specs.Prelude.{◌≡◌, IfOk};
+ghost use Rattle.pf_tool.specs.Tool.{unread, quieted, is_refused};
 ghost use Rattle.pf_tool.specs.inner.Output.{written};
 
+use crate::testing::refused_load;
 use pf_refusals::UNREADABLE;
 use std::alloc::{AllocError, Global};
 
@@ -21,15 +22,23 @@ pub(crate) struct Output {
     pub(crate) ending: Ending,
 }
 
+impl Output {
+    /// Whether the run ends as refused.
+    pub(crate) fn is_refused(&self) -> bool
+        ensures { result ≡ is_refused (written self.now).ending }
+    {
+        match self.ending {
+            Ending::Done => false,
+            Ending::Refused => true,
+        }
+    }
+}
+
 /// What is written of a file that can't be read.
 pub(crate) fn unread(alloc: Global) -> Result<Output, AllocError>
     ensures { IfOk result (λ o. written o ≡ unread) }
 {
-    let text = format!(in alloc; "refused {UNREADABLE}\n")?;
-    Ok(Output {
-        text,
-        ending: Ending::Refused,
-    })
+    refused_load(alloc, UNREADABLE)
 }
 
 /// With `-q` nothing is written, and the run ends alike.

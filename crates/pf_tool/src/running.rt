@@ -68,8 +68,8 @@ fn misnamed_words<W: Write>(text: &str, writer: &mut W) -> Status
     }
 }
 
-/// What the words ask for, the program's name first, with the table of refusals, the input, the output and the place for
-/// people's words that are lent; `is_terminal` says whether somebody looks at that place.
+/// What the words ask for, the program's name first, with the table of refusals, the input, the output and the place
+/// for people's words that are lent; `is_terminal` says whether somebody looks at that place.
 ///
 /// `test PACKET..` reads the text of a ruleset and writes a verdict line for each packet text in turn. A refused text
 /// gives `refused CAUSE line L` instead, and a text that is no packet `refused 30`, which ends the run. `check` writes
@@ -87,8 +87,8 @@ pub fn run<S: AsStr, R: Read, W: Write, E: Write>(
     errors: &mut E,
     is_terminal: bool,
 ) -> Status
-    ensures { Ran table.now result (call_of table.now (map S.text words.now)) (R.remaining reader.old) (W.contents writer.old)
-        (W.contents writer.new) }
+    ensures { Ran table.now result (call_of table.now (map S.text words.now)) (R.remaining reader.old)
+        (W.contents writer.old) (W.contents writer.new) }
 {
     let alloc = rt.alloc();
     let Ok(command) = command(alloc) else {

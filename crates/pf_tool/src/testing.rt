@@ -78,7 +78,7 @@ fn verdict_lines(alloc: Global, config: &Config, packets: &[&str]) -> Result<Out
 }
 
 /// The line of a load that is refused.
-fn refused_load(alloc: Global, code: u8) -> Result<Output, AllocError>
+pub(crate) fn refused_load(alloc: Global, code: u8) -> Result<Output, AllocError>
     ensures { IfOk result (λ o. written o ≡ refused_load (Some code)) }
 {
     let mut text = String::new(alloc);

@@ -5,7 +5,8 @@ ghost use Rattle.clap.specs.Words.{app_of, rule_of, with_rule};
 ghost use Rattle.clap.specs.declared.builder.command.Command.TheViews.{out-Command};
 ghost use Rattle.pf_tool.specs.Words.{flag_rule, lettered_rule, value_rule, lettered_value_rule, words_rule, word_rule};
 ghost use Rattle.pf_tool.specs.Words.{with_verbose, with_quiet, with_named};
-ghost use Rattle.pf_tool.specs.Words.{check_app, test_app, ctl_app, lab_app, explain_app, texts_app, scripts_app, pfx_app};
+ghost use Rattle.pf_tool.specs.Words.{check_app, test_app, ctl_app, lab_app, explain_app};
+ghost use Rattle.pf_tool.specs.Words.{texts_app, scripts_app, pfx_app};
 
 use clap::{Arg, ArgAction, Command};
 use std::alloc::{AllocError, Global};

@@ -3,4 +3,4 @@ use Rattle.pf_tool.proofs.source.sources_at.Given as goal
 
 -- a source for each path so far
 abbrev pub invariant-loop-path : goal.invariant-loop-path
-invariant-loop-path g l = length l.sources.items ≡ l.path-index
+invariant-loop-path l = length l.sources.items ≡ l.path-index
