@@ -1,10 +1,11 @@
 -- Texts in files, and the input in their place.
-use Rattle.std.proofs.Common.{◌≡◌, ℕ, Bool, List, Option, Some, None, [], ◌∷◌, length, ap}
+use Rattle.std.proofs.Common.{◌≡◌, ℕ, ◌<◌, ◌≤◌, Bool, List, Option, Some, None, [], ◌∷◌, length, map, ap, arith, Bor}
+use Rattle.std.specs.Option.{option_copied}
 use Rattle.std.specs.Prelude.{IfSome}
 use Rattle.std.proofs.lemmas.Option.{IfSome_then}
 use Rattle.clap.specs.Words.{Text}
 use Rattle.pf_grammar.specs.declared.place.Place.{Place}
-use Rattle.pf_tool.specs.Tool.{Written, AreChecked, AreTested, IsTested, AreRules, AreLines, quieted, checked_texts, tested_texts}
+use Rattle.pf_tool.specs.Tool.{Written, AreChecked, AreTested, IsTested, AreLines, quieted, checked_texts, tested_texts}
 
 -- what holds of each value holds of the one that there is
 pub of_any : {X : Type 0} (o : Option X) (P : X → Type 0) → ((x : X) → P x) → IfSome o P
@@ -42,3 +43,17 @@ pub under_input : (more : Option Text) (quiet : Bool) (packets : List Text) (byt
     → IfSome o (λ input. bytes ≡ input) → ((input : List ℕ) → bytes ≡ input → AreLines more packets lines input)
     → w ≡ quieted quiet (tested_texts packets (Some bytes) lines) → IfSome o (λ input. AreTested None more quiet packets input w)
 under_input more quiet packets bytes lines o w h k e = IfSome_then o h (λ input same. (Some bytes, ap Some same, (lines, k input same, e)))
+
+-- neither a file nor words have packets: the input has them too
+pub both_lines : (more : Option (Bor (List ℕ))) (packets : List (Bor (List ℕ))) (bytes input : List ℕ) → more ≡ None → length packets < 1 → bytes ≡ input
+    → AreLines (option_copied more) (map (λ p. p.now) packets) (Some bytes) input
+both_lines None [] bytes input e n same = ap Some same
+both_lines None (p ∷ packets) bytes input e n same = absurd (omega arith)
+both_lines (Some path) packets bytes input e n same = absurd cc
+
+-- words have packets, and no file
+pub no_lines : (more : Option (Bor (List ℕ))) (packets : List (Bor (List ℕ))) (bytes input : List ℕ) → more ≡ None → 1 ≤ length packets → bytes ≡ []
+    → AreLines (option_copied more) (map (λ p. p.now) packets) (Some bytes) input
+no_lines None [] bytes input e n none = absurd (omega arith)
+no_lines None (p ∷ packets) bytes input e n none = ap Some none
+no_lines (Some path) packets bytes input e n none = absurd cc
