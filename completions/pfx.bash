@@ -7,7 +7,7 @@ _pfx() {
     if ((COMP_CWORD == 1)); then
         case $current in
         -*) words="-h --help" ;;
-        *) words="check test ctl lab node ask key help" ;;
+        *) words="check test ctl lab explain node ask key help" ;;
         esac
         COMPREPLY=($(compgen -W "$words" -- "$current"))
         return
@@ -17,21 +17,25 @@ _pfx() {
     -T) COMPREPLY=($(compgen -W "add delete replace flush show test" -- "$current")); return ;;
     -s) COMPREPLY=($(compgen -W "rules Tables Anchors" -- "$current")); return ;;
     --answer) COMPREPLY=($(compgen -W "learned" -- "$current")); return ;;
-    -f | --store | --key | --other-key | --door | --interfaces) COMPREPLY=($(compgen -f -- "$current")); return ;;
+    -f | --file | --packets | --store | --key | --other-key | --door | --interfaces)
+        COMPREPLY=($(compgen -f -- "$current")); return ;;
     -a | -t | --me | --cluster | --turns | --to | --members | --node | --wait | --at | --position) return ;;
     esac
     case $word in
     check)
         options="--nft --interfaces --position"
-        [[ $seen == *" --nft "* || $seen == *" --interfaces "* ]] || options+=" --anchor" ;;
+        [[ $seen == *" --nft "* || $seen == *" --interfaces "* ]] || options+=" --anchor -q --quiet -v --verbose"
+        [[ $current == -* ]] || { COMPREPLY=($(compgen -f -- "$current")); return; } ;;
+    test) options="-f --file --packets -q --quiet -v --verbose" ;;
+    ctl) options="-v --verbose" ;;
     node) options="--me --cluster --store --turns --answer --door --key --other-key --unsealed" ;;
     ask)
         options="--wait -a -f -n -F -t -T -s"
         [[ $seen == *" --to "* ]] || options+=" --door --at"
         [[ $seen == *" --door "* ]] || options+=" --to --cluster --members --node"
         [[ $seen == *" --door "* ]] && words="test request log status health metrics sync stop" ;;
-    help) words="check test ctl lab help" ;;
-    test | ctl | lab | key) ;;
+    help) words="check test ctl lab explain help" ;;
+    lab | explain | key) ;;
     *) return ;;
     esac
     [[ $word == help ]] || options+=" -h --help"

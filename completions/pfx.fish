@@ -2,14 +2,24 @@
 
 complete -c pfx -f
 complete -c pfx -s h -l help -d 'Print help' -n 'not __fish_seen_subcommand_from help'
-complete -c pfx -n __fish_use_subcommand -a 'check test ctl lab node ask key help'
-complete -c pfx -n '__fish_seen_subcommand_from help' -a 'check test ctl lab help'
+complete -c pfx -n __fish_use_subcommand -a 'check test ctl lab explain node ask key help'
+complete -c pfx -n '__fish_seen_subcommand_from help' -a 'check test ctl lab explain help'
 
 set -l check '__fish_seen_subcommand_from check'
 complete -c pfx -n "$check" -l nft -d 'As what nft(8) loads'
 complete -c pfx -n "$check" -l interfaces -r -F -d 'The interfaces, a line each'
 complete -c pfx -n "$check" -l position -x -d 'The position of what is loaded'
 complete -c pfx -n "$check; and not __fish_contains_opt nft interfaces" -l anchor -d 'The text is one for an anchor'
+complete -c pfx -n "$check; and not __fish_contains_opt nft interfaces" -s q -l quiet -d 'The status alone'
+complete -c pfx -n "$check; and not __fish_contains_opt nft interfaces" -s v -l verbose -d 'Say what is refused'
+complete -c pfx -n "$check" -F
+
+set -l test '__fish_seen_subcommand_from test; and not __fish_seen_subcommand_from ask'
+complete -c pfx -n "$test" -s f -l file -r -F -d 'The file of rules'
+complete -c pfx -n "$test" -l packets -r -F -d 'A file of packets, one a line'
+complete -c pfx -n "$test" -s q -l quiet -d 'The status alone'
+complete -c pfx -n "$test" -s v -l verbose -d 'Say what is refused, and which rule decides'
+complete -c pfx -n '__fish_seen_subcommand_from ctl' -s v -l verbose -d 'Say what is refused'
 
 set -l node '__fish_seen_subcommand_from node'
 complete -c pfx -n "$node" -l me -x -d 'The number of the node'

@@ -1,5 +1,5 @@
 -- The word that a parse entered, and its packet words.
-use Rattle.std.proofs.Common.{◌≡◌, ℕ, true, List, Option, Some, None, [], ◌∷◌, inl, inr, refl, subst}
+use Rattle.std.proofs.Common.{◌≡◌, ℕ, true, List, Option, Some, None, [], ◌∷◌, inl, inr, refl, subst, sym, ◌⊎◌}
 use Rattle.std.specs.Prelude.{option_map}
 use Rattle.clap.specs.Words.{Row, Text, subcommand_rows_of, subcommand_rows, subcommand_name_of}
 use Rattle.clap.specs.declared.parser.matches.ArgMatches.{ArgMatches}
@@ -12,8 +12,9 @@ use Rattle.clap.specs.declared.error.kind.ErrorKind.TheVariants.{OutOfMemory}
 use Rattle.pf_io.specs.declared.status.Status.{Status}
 use Rattle.pf_io.specs.declared.status.Status.TheVariants as status
 use Rattle.pf_io.specs.Written.{IsMisused}
-use Rattle.pf_grammar.specs.declared.place.Place.{Place}
-use Rattle.pf_tool.specs.Tool.{pfx_app, CallValue, called, unless_faulty, call_of, Ran}
+use Rattle.pf_tool.specs.Words.{pfx_app, CallValue, called, unless_faulty, call_of}
+use Rattle.pf_refusals.specs.declared.paragraph.Explanation.{Explanation}
+use Rattle.pf_tool.specs.Tool.{Ran}
 
 -- a pair of two values of one thing
 abbrev paired : {T : Type 0} → (T → Text) → (T → List Row) → T → Text × List Row
@@ -25,42 +26,57 @@ both : (T : Type 0) (o : Option T) (f : T → Text) (g : T → List Row) (name :
 both T None f g name rows e h = absurd cc
 both T (Some x) f g name rows e h = let a : f x ≡ name = cc in let b : g x ≡ rows = cc in rw (a, b) refl
 
+none_both : (T : Type 0) (o : Option T) (f : T → Text) (g : T → List Row) → option_map f o ≡ None → option_map (paired f g) o ≡ None
+none_both T None f g e = refl
+none_both T (Some x) f g e = absurd cc
+
 -- the rows of the word, which is this one
 pub rows_entered : (m : ArgMatches) (name : Text) (rows : List Row) → subcommand_name_of m ≡ Some name
     → option_map (λ p. p.1) (subcommand_rows (out-ArgMatches m).subcommand) ≡ Some rows → subcommand_rows_of m ≡ Some (name, rows)
 rows_entered m name rows e f = both _ (out-ArgMatches m).subcommand _ _ name rows e f
 
+-- no word is entered
+pub none_entered : (m : ArgMatches) → subcommand_name_of m ≡ None → subcommand_rows_of m ≡ None
+none_entered m e = none_both _ (out-ArgMatches m).subcommand _ _ e
+
 -- a parse that passes says what is called
-pub call_entered : (words : List Text) (m : ArgMatches) → fault_of pfx_app words ≡ [] → subcommand_rows_of m ≡ subcommand_of pfx_app words
-    → call_of words ≡ called (subcommand_rows_of m)
+pub call_entered : (table : List Explanation) (words : List Text) (m : ArgMatches) → fault_of pfx_app words ≡ [] → subcommand_rows_of m ≡ subcommand_of pfx_app words
+    → call_of table words ≡ called table (subcommand_rows_of m)
 unfolding call_of
-call_entered words m e f = rw (e, f) refl
+call_entered table words m e f = rw (e, f) refl
 
 -- where memory ran out or something failed, nothing hangs on what was called
-unhindered : (s : Status) (call : Option CallValue) (input old new : Option (List ℕ)) → IsMisused s old new → (s ≡ status.Usage → ⊥) → Ran s call input old new
-unhindered status.Memory call input old new h k = h
-unhindered status.Failed call input old new h k = tt
-unhindered status.Done call input old new h k = absurd h
-unhindered status.Refused call input old new h k = absurd h
-unhindered status.Usage call input old new h k = absurd (k refl)
+unhindered : (table : List Explanation) (s : Status) (call : Option CallValue) (input old new : Option (List ℕ)) → IsMisused s old new → (s ≡ status.Usage → ⊥) → Ran table s call input old new
+unhindered table status.Memory call input old new h k = h
+unhindered table status.Failed call input old new h k = tt
+unhindered table status.Done call input old new h k = absurd h
+unhindered table status.Refused call input old new h k = absurd h
+unhindered table status.Usage call input old new h k = absurd (k refl)
 
-misused_over : (s : Status) (input old new : Option (List ℕ)) → IsMisused s old new → Ran s None input old new
-misused_over status.Memory input old new h = h
-misused_over status.Failed input old new h = tt
-misused_over status.Done input old new h = absurd h
-misused_over status.Refused input old new h = absurd h
-misused_over status.Usage input old new h = refl
+misused_over : (table : List Explanation) (s : Status) (input old new : Option (List ℕ)) → IsMisused s old new → Ran table s None input old new
+misused_over table status.Memory input old new h = h
+misused_over table status.Failed input old new h = tt
+misused_over table status.Done input old new h = absurd h
+misused_over table status.Refused input old new h = absurd h
+misused_over table status.Usage input old new h = refl
 
-refused_by : (s : Status) (kinds : Kinds) (call : Option CallValue) (e : Error) (input old new : Option (List ℕ)) → IsMisused s old new → HasKind kinds e
-    → (kind_of e ≡ OutOfMemory → s ≡ status.Usage → ⊥) → Ran s (unless_faulty kinds call) input old new
-refused_by s [] call e input old new h k none = elim k as (λ _. Ran s call input old new) [ inl m ↦ unhindered s call input old new h (none m) | inr bad ↦ absurd bad ]
-refused_by s (x ∷ xs) call e input old new h k none = misused_over s input old new h
+refused_by : (table : List Explanation) (s : Status) (kinds : Kinds) (call : Option CallValue) (e : Error) (input old new : Option (List ℕ)) → IsMisused s old new → HasKind kinds e
+    → (kind_of e ≡ OutOfMemory → s ≡ status.Usage → ⊥) → Ran table s (unless_faulty kinds call) input old new
+refused_by table s [] call e input old new h k none = elim k as (λ _. Ran table s call input old new) [ inl m ↦ unhindered table s call input old new h (none m) | inr bad ↦ absurd bad ]
+refused_by table s (x ∷ xs) call e input old new h k none = misused_over table s input old new h
 
 -- a parse that is refused
-pub call_refused : (s : Status) (words : List Text) (e : Error) (input old new : Option (List ℕ)) → IsMisused s old new
-    → HasKind (fault_of pfx_app words) e → (kind_of e ≡ OutOfMemory → s ≡ status.Usage → ⊥) → Ran s (call_of words) input old new
+pub call_refused : (table : List Explanation) (s : Status) (words : List Text) (e : Error) (input old new : Option (List ℕ)) → IsMisused s old new
+    → HasKind (fault_of pfx_app words) e → (kind_of e ≡ OutOfMemory → s ≡ status.Usage → ⊥) → Ran table s (call_of table words) input old new
 unfolding call_of
-call_refused s words e input old new h k none = refused_by s (fault_of pfx_app words) _ e input old new h k none
+call_refused table s words e input old new h k none = refused_by table s (fault_of pfx_app words) _ e input old new h k none
+
+-- what is said of words that ask for nothing
+pub misnamed_over : (table : List Explanation) (s : Status) (input old new : Option (List ℕ)) → (s ≡ status.Usage) ⊎ (s ≡ status.Failed) → Ran table s None input old new
+misnamed_over table s input old new h = elim h [
+  | inl e ↦ subst (λ r. Ran table r None input old new) (sym e) refl
+  | inr e ↦ subst (λ r. Ran table r None input old new) (sym e) tt
+]
 
 -- ---- what clap says of a command that is the program's
 
@@ -79,6 +95,3 @@ passes_program a words same h = let P : App → Type 0 = λ b. is_simple_and_fre
 
 pub rows_of_program : (a : App) (words : List Text) (m : ArgMatches) → a ≡ pfx_app → HasMatchesOf a words m → subcommand_rows_of m ≡ subcommand_of pfx_app words
 rows_of_program a words m same h = let P : App → Type 0 = λ b. HasMatchesOf b words m in (subst P same h simple).1
-
-abbrev pub some_place : Place → Option Place
-some_place place = Some place

@@ -1,3 +1,4 @@
-pub mod Ranges
 pub mod Calls
 pub mod Lines
+pub mod Utf8
+pub mod Files

@@ -1,17 +1,13 @@
--- The words of the program, and what it writes.
+-- What the program writes.
 use Rattle.std.specs.Prelude.{◌≡◌, ℕ, Bool, true, false, List, [], ◌∷◌, ◌++◌, Option, Some, None}
 use Rattle.std.specs.Prelude.{Result, Ok, Err}
-use Rattle.std.specs.Prelude.{IfSome, codes, decimal, bytes_eq, option_map, if◌then◌else◌}
+use Rattle.std.specs.Prelude.{IfSome, codes, decimal, length, map, option_map, if◌then◌else◌}
+use Rattle.std.specs.List.{flat_map, list_any}
 use Rattle.std.specs.Io.KnownBytes.{Appends}
-use Rattle.clap.specs.Words.{App, Row, Text, new_app, new_rule, with_rule, with_subcommand, subcommand_of, all_of}
-use Rattle.clap.specs.Words.{first_of}
-use Rattle.clap.specs.Faults.{fault_of}
-use Rattle.clap.specs.Kinds.{Kinds}
-use Rattle.clap.specs.declared.builder.action.ArgAction.TheVariants.{Append, SetTrue}
-use Rattle.clap.specs.Lexer.{usize_max}
+use Rattle.clap.specs.Words.{Text}
 use Rattle.pf_grammar.specs.declared.fault.Refusal.{Refusal}
 use Rattle.pf_grammar.specs.declared.place.Place.{Place}
-use Rattle.pf_grammar.specs.declared.place.Place.TheVariants.{Main, Anchor}
+use Rattle.pf_grammar.specs.declared.place.Place.TheVariants.{Main}
 use Rattle.pf_words.specs.declared.profile.Profile.TheVariants.{Two}
 use Rattle.pf_expansion.specs.Causes.{cause_code}
 use Rattle.pf_ruleset.specs.Rulesets.{RulesetValue}
@@ -25,104 +21,16 @@ use Rattle.pf_config.specs.Changes.{load_ruleset}
 use Rattle.pf_config.specs.Codes.{fault_code}
 use Rattle.pf_eval.specs.Verdicts.{judgement}
 use Rattle.pf_eval.specs.Seen.{verdict_text}
+use Rattle.pf_scripts.specs.Lines.{lines, words_if}
 use Rattle.pf_scripts.specs.Ctl.{printed}
+use Rattle.pf_refusals.specs.declared.paragraph.Explanation.{Explanation}
+use Rattle.pf_refusals.specs.Explained.{paragraph, paragraphs}
 use Rattle.pf_tool.specs.declared.output.Ending.{Ending}
 use Rattle.pf_tool.specs.declared.output.Ending.TheVariants.{Done, Refused}
+use Rattle.pf_tool.specs.Words.{CallValue, Test, Check, Ctl, Lab, Explain, CheckFiles, TestFiles}
 use Rattle.pf_io.specs.declared.status.Status.{Status}
 use Rattle.pf_io.specs.declared.status.Status.TheVariants as status
 use Rattle.pf_io.specs.Written.{line}
-
--- ---- what the words ask for
-
--- test PACKET..
-abbrev pub test_app : App
-test_app = with_rule (new_app (codes "test")) (record (new_rule (codes "packet")) {
-  action = Some Append;
-  required = true;
-  range = Some (record { start_inclusive = 1; end_inclusive = usize_max });
-})
-
--- check [--anchor]
-abbrev pub check_app : App
-check_app = with_rule (new_app (codes "check")) (record (new_rule (codes "anchor")) {
-  long = Some (codes "anchor");
-  action = Some SetTrue;
-})
-
--- ctl
-abbrev pub ctl_app : App
-ctl_app = new_app (codes "ctl")
-
--- lab
-abbrev pub lab_app : App
-lab_app = new_app (codes "lab")
-
--- the words that read a ruleset's text
-abbrev pub texts_app : App
-texts_app = with_subcommand (with_subcommand (new_app (codes "pfx")) check_app.top) test_app.top
-
--- the program: one of its words has to be named
-abbrev pub pfx_app : App
-pfx_app =
-    let named = with_subcommand (with_subcommand texts_app ctl_app.top) lab_app.top in
-    record named { top = record named.top { subcommand_required = true } }
-
--- what is asked for: verdicts for packet texts, what a text comes to at a place, or what a script prints, over one
--- configuration or over a lab
-pub data CallValue : Type 0 where
-  Test : (packets : List Text) → CallValue
-  Check : (place : Place) → CallValue
-  Ctl : CallValue
-  Lab : CallValue
-
--- the packet words of test, if that is the word
-abbrev pub packets_in : Option (Text × List Row) → Option (List Text)
-packets_in None = None
-packets_in (Some (name, rows)) = if bytes_eq name (codes "test") then all_of (codes "packet") rows else None
-
--- --anchor checks a text for an anchor
-abbrev pub place_for : Option Text → Place
-place_for None = Main
-place_for (Some text) = if bytes_eq text (codes "true") then Anchor else Main
-
--- the place of check, if that is the word
-abbrev pub place_in : Option (Text × List Row) → Option Place
-place_in None = None
-place_in (Some (name, rows)) = if bytes_eq name (codes "check") then Some (place_for (first_of (codes "anchor") rows))
-    else None
-
--- whether the word is ctl
-abbrev pub is_ctl : Option (Text × List Row) → Bool
-is_ctl None = false
-is_ctl (Some (name, rows)) = bytes_eq name (codes "ctl")
-
--- whether the word is lab
-abbrev pub is_lab : Option (Text × List Row) → Bool
-is_lab None = false
-is_lab (Some (name, rows)) = bytes_eq name (codes "lab")
-
--- which of the two scripts
-abbrev pub script_as : Bool → Bool → Option CallValue
-script_as true events = Some Ctl
-script_as false true = Some Lab
-script_as false false = None
-
--- what packet words ask for, or else a place, or else a script
-abbrev pub called_as : Option (List Text) → Option Place → Option CallValue → Option CallValue
-called_as (Some packets) place script = Some (Test packets)
-called_as None (Some place) script = Some (Check place)
-called_as None None script = script
-
-abbrev pub called : Option (Text × List Row) → Option CallValue
-called word = called_as (packets_in word) (place_in word) (script_as (is_ctl word) (is_lab word))
-
-abbrev pub unless_faulty : Kinds → Option CallValue → Option CallValue
-unless_faulty [] call = call
-unless_faulty (k ∷ ks) call = None
-
--- what the words after the program's name ask for, none where they aren't understood
-unfoldable pub call_of : List Text → Option CallValue
-call_of words = unless_faulty (fault_of pfx_app words) (called (subcommand_of pfx_app words))
 
 -- ---- what is written
 
@@ -184,27 +92,112 @@ checked (Ok rules) = record { text = shown rules; ending = Done }
 unfoldable pub check_output : Place → List ℕ → Written
 check_output place input = checked (reading place Two input)
 
+-- ---- texts in files
+
+-- a file that can't be read
+abbrev pub unread : Written
+unread = refused_load (Some 90)
+
+-- check of a text, none of a file that can't be read
+abbrev pub checked_text : Place → Option (List ℕ) → Written
+checked_text place None = unread
+checked_text place (Some text) = check_output place text
+
+abbrev pub is_refused : Ending → Bool
+is_refused Done = false
+is_refused Refused = true
+
+-- each text in turn; the run is refused where one of them is
+unfoldable pub checked_texts : Place → List (Option (List ℕ)) → Written
+checked_texts place texts = record {
+  text = flat_map (λ t. (checked_text place t).text) texts;
+  ending = if list_any (λ t. is_refused (checked_text place t).ending) texts then Refused else Done;
+}
+
+-- the packets of a text, one a line; none where a line isn't UTF-8
+unfoldable pub packet_texts : List ℕ → Option (List Text)
+packet_texts bytes = words_if (map (λ l. l.content) (lines bytes))
+
+-- the packets of words before those of lines
+abbrev pub tested_lines : List Text → List ℕ → Option (List Text) → Written
+tested_lines packets text None = unread
+tested_lines packets text (Some more) = test_output (packets ++ more) text
+
+-- test under rules, of packets in words and in lines; none of a file that can't be read
+abbrev pub tested_texts : List Text → Option (List ℕ) → Option (List ℕ) → Written
+tested_texts packets None bytes = unread
+tested_texts packets (Some text) None = unread
+tested_texts packets (Some text) (Some bytes) = tested_lines packets text (packet_texts bytes)
+
+-- with -q nothing is written
+abbrev pub quieted : Bool → Written → Written
+quieted true w = record { text = []; ending = w.ending }
+quieted false w = w
+
+-- the texts of files, whatever they hold; without files that of the input
+abbrev pub AreTexts : List Text → List (Option (List ℕ)) → List ℕ → Type 0
+AreTexts [] texts input = texts ≡ Some input ∷ []
+AreTexts (file ∷ files) texts input = length texts ≡ length (file ∷ files)
+
+-- check of files, or of the input
+abbrev pub AreChecked : Place → Bool → List Text → List ℕ → Written → Type 0
+AreChecked place quiet files input w = (texts : List (Option (List ℕ))) × AreTexts files texts input
+    × (w ≡ quieted quiet (checked_texts place texts))
+
+-- the rules of a file, whatever it holds; without a file those of the input
+abbrev pub AreRules : Option Text → Option (List ℕ) → List ℕ → Type 0
+AreRules (Some file) rules input = Unit {0}
+AreRules None rules input = rules ≡ Some input
+
+-- the packets of a file, whatever it holds; without a file and words those of the input
+abbrev pub AreLines : Option Text → List Text → Option (List ℕ) → List ℕ → Type 0
+AreLines (Some more) packets bytes input = Unit {0}
+AreLines None [] bytes input = bytes ≡ Some input
+AreLines None (packet ∷ packets) bytes input = bytes ≡ Some []
+
+-- test under these rules, of packets in words and behind them in lines
+abbrev pub IsTested : Option Text → Bool → List Text → Option (List ℕ) → List ℕ → Written → Type 0
+IsTested more quiet packets rules input w = (bytes : Option (List ℕ)) × AreLines more packets bytes input
+    × (w ≡ quieted quiet (tested_texts packets rules bytes))
+
+-- test under the rules of a file, or of the input
+abbrev pub AreTested : (file more : Option Text) → Bool → List Text → List ℕ → Written → Type 0
+AreTested file more quiet packets input w =
+    (rules : Option (List ℕ)) × AreRules file rules input × IsTested more quiet packets rules input w
+
+-- ---- refusals
+
+-- a refusal's paragraph, or all of a table
+abbrev pub explained : List Explanation → Option Explanation → Written
+explained table None = record { text = paragraphs table; ending = Done }
+explained table (Some r) = record { text = paragraph r; ending = Done }
+
+-- ---- a run
+
 abbrev pub status_of : Ending → Status
 status_of Done = status.Done
 status_of Refused = status.Refused
 
--- What is asked for, over this input. Of a lab's script no more is said than how it ends: which positions a node has
--- applied is no part of the world.
-abbrev pub IsAnswer : CallValue → List ℕ → Written → Type 0
-IsAnswer (Test packets) input w = w ≡ test_output packets input
-IsAnswer (Check place) input w = w ≡ check_output place input
-IsAnswer Ctl input w = w ≡ record { text = printed input; ending = Done }
-IsAnswer Lab input w = w.ending ≡ Done
+-- What is asked for, over this input, with this table of refusals. Of a lab's script no more is said than how it ends:
+-- which positions a node has applied is no part of the world.
+abbrev pub IsAnswer : List Explanation → CallValue → List ℕ → Written → Type 0
+IsAnswer table (Test packets) input w = w ≡ test_output packets input
+IsAnswer table (Check place) input w = w ≡ check_output place input
+IsAnswer table Ctl input w = w ≡ record { text = printed input; ending = Done }
+IsAnswer table Lab input w = w.ending ≡ Done
+IsAnswer table (Explain refusal) input w = w ≡ explained table refusal
+IsAnswer table (CheckFiles place quiet files) input w = AreChecked place quiet files input w
+IsAnswer table (TestFiles file more quiet packets) input w = AreTested file more quiet packets input w
 
 abbrev pub Writes : Option (List ℕ) → Option (List ℕ) → Status → Written → Type 0
 Writes old new ending written = Appends old new written.text × (ending ≡ status_of written.ending)
 
 -- What a run has done that ended so, over this input. Where memory ran out it wrote that alone; of a read or a write
 -- that failed, and of the text for words that aren't understood, nothing is said.
-abbrev pub Ran : Status → Option CallValue → Option (List ℕ) → Option (List ℕ) →
+abbrev pub Ran : List Explanation → Status → Option CallValue → Option (List ℕ) → Option (List ℕ) →
     Option (List ℕ) → Type 0
-Ran status.Memory call input old new = Appends old new (line (codes "memory"))
-Ran status.Failed call input old new = Unit {0}
-Ran ending (Some call) input old new =
-    IfSome input (λ bytes. (w : Written) × IsAnswer call bytes w × Writes old new ending w)
-Ran ending None input old new = ending ≡ status.Usage
+Ran table status.Memory call input old new = Appends old new (line (codes "memory"))
+Ran table status.Failed call input old new = Unit {0}
+Ran table ending (Some call) input old new =
+    IfSome input (λ bytes. (w : Written) × IsAnswer table call bytes w × Writes old new ending w)
+Ran table ending None input old new = ending ≡ status.Usage

@@ -1,19 +1,15 @@
-//! What the words ask for, and what is written of it.
+//! What the words ask for.
 
-ghost use Rattle.std.specs.Prelude.{◌≡◌, IfOk, map, option_map};
+ghost use Rattle.std.specs.Prelude.{◌≡◌, [], Some, map, option_map, unwrap_or};
 ghost use Rattle.std.specs.Option.{option_copied};
-ghost use Rattle.clap.specs.Words.{subcommand_rows_of};
-ghost use Rattle.pf_tool.specs.Tool.{packets_in, place_in, place_for, is_ctl, is_lab, called, IsAnswer};
+ghost use Rattle.clap.specs.Words.{found_of, rows_of, first_of, all_of, subcommand_rows_of};
+ghost use Rattle.pf_tool.specs.Words.{place_for, is_given, words_of, check_call, test_call, words_call, explain_as};
+ghost use Rattle.pf_tool.specs.Words.{called_by, called};
 ghost use Rattle.pf_tool.specs.inner.Calls.{asked};
-ghost use Rattle.pf_tool.specs.inner.Output.{written};
 
-use crate::checking::check_output;
-use crate::output::Output;
-use crate::scripts::{lab_output, script_output};
-use crate::testing::test_output;
 use clap::ArgMatches;
 use pf_grammar::Place;
-use std::alloc::{AllocError, Global};
+use pf_refusals::{Explanation, named};
 
 /// What the words ask for.
 #[derive(Clone, Copy)]
@@ -26,22 +22,31 @@ pub(crate) enum Call<'m, 'a> {
     Ctl,
     /// What a script of a lab's events prints.
     Lab,
+    /// A refusal's paragraph, or all of them.
+    Explain(Option<&'m Explanation>),
+    /// What the texts of files come to at a place; without files that of the input.
+    CheckFiles {
+        place: Place,
+        quiet: bool,
+        files: &'m [&'a str],
+    },
+    /// Verdicts for packets in words and in a file under a file's rules; what no file has is the input's.
+    TestFiles {
+        file: Option<&'a str>,
+        more: Option<&'a str>,
+        quiet: bool,
+        packets: &'m [&'a str],
+    },
 }
 
-/// The packet words of `test`, if that is the word.
-fn packets_of<'m, 'a>(matches: &'m ArgMatches<'a>) -> Option<&'m [&'a str]>
-    ensures { option_map (λ s. map (λ p. p.now) s.now) result ≡ packets_in (subcommand_rows_of matches.now) }
+/// Whether an option without a value was given.
+fn is_given(text: Option<&str>) -> bool
+    ensures { result ≡ is_given (option_copied text.entry) }
 {
-    let inner = matches.subcommand_matches("test")?;
-    inner.get_strs("packet")
-}
-
-/// The place of `check`, if that is the word.
-fn place_of(matches: &ArgMatches<'_>) -> Option<Place>
-    ensures { result ≡ place_in (subcommand_rows_of matches.now) }
-{
-    let inner = matches.subcommand_matches("check")?;
-    Some(place_for(inner.get_str("anchor")))
+    match text {
+        Some(text) => text == "true",
+        None => false,
+    }
 }
 
 /// The place that the value of `--anchor` says.
@@ -60,59 +65,166 @@ fn place_for(anchor: Option<&str>) -> Place
     }
 }
 
-/// Whether the word is `ctl`.
-fn is_ctl(matches: &ArgMatches<'_>) -> bool
-    ensures { result ≡ is_ctl (subcommand_rows_of matches.now) }
+/// The words, none where there are none.
+fn or_none<'m, 'a>(words: Option<&'m [&'a str]>) -> &'m [&'a str]
+    ensures { map (λ w. w.now) result.now
+        ≡ unwrap_or (option_map (λ s. map (λ w. w.now) s.now) words.entry) [] }
 {
-    match matches.subcommand_matches("ctl") {
-        Some(_) => true,
-        None => false,
+    match words {
+        Some(words) => words,
+        None => &[],
     }
 }
 
-/// Whether the word is `lab`.
-fn is_lab(matches: &ArgMatches<'_>) -> bool
-    ensures { result ≡ is_lab (subcommand_rows_of matches.now) }
+/// The value of an option.
+fn value_in<'a>(matches: &ArgMatches<'a>, id: &str) -> Option<&'a str>
+    ensures { option_copied result ≡ first_of id.now (rows_of (found_of matches.now)) }
 {
-    match matches.subcommand_matches("lab") {
-        Some(_) => true,
-        None => false,
-    }
+    matches.get_str(id)
 }
 
-/// What the matches of the words ask for, none where no word is named.
-pub(crate) fn call_in<'m, 'a>(matches: &'m ArgMatches<'a>) -> Option<Call<'m, 'a>>
-    ensures { option_map asked result ≡ called (subcommand_rows_of matches.now) }
+/// The values of any number of words.
+fn words_in<'m, 'a>(matches: &'m ArgMatches<'a>, id: &str) -> &'m [&'a str]
+    ensures { map (λ w. w.now) result.now ≡ words_of id.now (rows_of (found_of matches.now)) }
 {
-    match packets_of(matches) {
-        Some(packets) => Some(Call::Test(packets)),
-        None => match place_of(matches) {
-            Some(place) => Some(Call::Check(place)),
-            None => {
-                if is_ctl(matches) {
-                    return Some(Call::Ctl);
-                }
-                if is_lab(matches) {
-                    return Some(Call::Lab);
-                }
-                None
+    or_none(matches.get_strs(id))
+}
+
+/// What `check` asks for.
+fn check_call<'m, 'a>(inner: &'m ArgMatches<'a>) -> Call<'m, 'a>
+    ensures { asked result ≡ check_call (rows_of (found_of inner.now)) }
+{
+    let place = place_for(value_in(inner, "anchor"));
+    let quiet = is_given(value_in(inner, "quiet"));
+    let files = words_in(inner, "file");
+    match files {
+        [] => {
+            if quiet {
+                return Call::CheckFiles {
+                    place,
+                    quiet,
+                    files,
+                };
             }
+            Call::Check(place)
+        }
+        [_, ..] => Call::CheckFiles {
+            place,
+            quiet,
+            files,
         },
     }
 }
 
-/// What a call writes over this input. A growth that is refused is the error.
-pub(crate) fn output_of(
-    alloc: Global,
-    call: Call<'_, '_>,
-    input: &[u8],
-) -> Result<Output, AllocError>
-    ensures { IfOk result (λ o. IsAnswer (asked call.entry) input.now (written o)) }
+/// What `test` asks for without a file.
+fn words_call<'m, 'a>(quiet: bool, packets: &'m [&'a str]) -> Option<Call<'m, 'a>>
+    ensures { option_map asked result ≡ words_call quiet (map (λ p. p.now) packets.now) }
 {
-    match call {
-        Call::Test(packets) => test_output(alloc, packets, input),
-        Call::Check(place) => check_output(alloc, place, input),
-        Call::Ctl => script_output(alloc, input),
-        Call::Lab => lab_output(alloc, input),
+    match packets {
+        [] => None,
+        [_, ..] => {
+            if quiet {
+                return Some(Call::TestFiles {
+                    file: None,
+                    more: None,
+                    quiet,
+                    packets,
+                });
+            }
+            Some(Call::Test(packets))
+        }
+    }
+}
+
+/// What `test` asks for, none where it has no packet.
+fn test_call<'m, 'a>(inner: &'m ArgMatches<'a>) -> Option<Call<'m, 'a>>
+    ensures { option_map asked result ≡ test_call (rows_of (found_of inner.now)) }
+{
+    let file = value_in(inner, "file");
+    let more = value_in(inner, "packets");
+    let quiet = is_given(value_in(inner, "quiet"));
+    let packets = words_in(inner, "packet");
+    let files = Call::TestFiles {
+        file,
+        more,
+        quiet,
+        packets,
+    };
+    match file {
+        Some(_) => Some(files),
+        None => match more {
+            Some(_) => Some(files),
+            None => words_call(quiet, packets),
+        },
+    }
+}
+
+/// What `explain` asks for, none where no refusal has the number.
+fn explain_call<'m, 'a>(table: &'m [Explanation], code: Option<&str>) -> Option<Call<'m, 'a>>
+    ensures { option_map asked result ≡ explain_as table.now (option_copied code.entry) }
+{
+    match code {
+        None => Some(Call::Explain(None)),
+        Some(digits) => match named(table, digits) {
+            Some(row) => Some(Call::Explain(Some(row))),
+            None => None,
+        },
+    }
+}
+
+/// What one of the words asks for with the matches behind it.
+fn call_by<'m, 'a>(
+    table: &'m [Explanation],
+    word: &str,
+    inner: &'m ArgMatches<'a>,
+) -> Option<Call<'m, 'a>>
+    ensures { option_map asked result ≡ called_by table.now word.now (rows_of (found_of inner.now)) }
+{
+    if word == "check" {
+        return Some(check_call(inner));
+    }
+    if word == "test" {
+        return test_call(inner);
+    }
+    if word == "ctl" {
+        return Some(Call::Ctl);
+    }
+    if word == "lab" {
+        return Some(Call::Lab);
+    }
+    if word == "explain" {
+        return explain_call(table, value_in(inner, "code"));
+    }
+    None
+}
+
+/// What the matches of the words ask for with a table of refusals, none where they ask for nothing.
+pub(crate) fn call_in<'m, 'a>(
+    table: &'m [Explanation],
+    matches: &'m ArgMatches<'a>,
+) -> Option<Call<'m, 'a>>
+    ensures { option_map asked result ≡ called table.now (subcommand_rows_of matches.now) }
+{
+    match matches.subcommand() {
+        Some((word, inner)) => call_by(table, word, inner),
+        None => None,
+    }
+}
+
+/// Whether `-v` was given.
+pub(crate) fn is_verbose(matches: &ArgMatches<'_>) -> bool {
+    match matches.subcommand() {
+        Some((_, inner)) => is_given(value_in(inner, "verbose")),
+        None => false,
+    }
+}
+
+/// What is said of words that `clap` takes and that ask for nothing.
+pub(crate) fn misnamed(matches: &ArgMatches<'_>) -> &'static str {
+    match matches.subcommand_name() {
+        Some("test") =>
+            "error: no packet is given\n\nFor more information, try 'pfx test --help'.\n",
+        Some("explain") => "error: no refusal has this number; pfx explain shows all\n",
+        _ => "error: this word stands by itself, behind pfx\n",
     }
 }

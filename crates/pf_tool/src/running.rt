@@ -1,59 +1,96 @@
 //! A run of the program.
 
-ghost use Rattle.std.specs.Prelude.{◌≡◌, map, Some};
-ghost use Rattle.pf_tool.specs.Tool.{call_of, Ran};
+ghost use Rattle.std.specs.Prelude.{◌≡◌, ◌⊎◌, map, Some};
+ghost use Rattle.pf_tool.specs.Words.{call_of};
+ghost use Rattle.pf_tool.specs.Tool.{Ran};
 ghost use Rattle.pf_tool.specs.inner.Calls.{asked};
 
-use crate::call::{Call, call_in, output_of};
+use crate::answering::{RunFault, output_for};
+use crate::call::{Call, call_in, is_verbose, misnamed};
 use crate::output::Ending;
+use crate::remarks::{Level, Remarks};
 use crate::words::command;
-use pf_io::{InputFault, Status, misused, out_of_memory, read_all};
-use std::alloc::Global;
+use pf_io::{Status, misused, out_of_memory};
+use pf_refusals::Explanation;
 use std::convert::AsStr;
 use std::io::{Read, Write};
 
-/// Reads the input, and writes what is asked for.
-fn answer<R: Read, W: Write>(
-    alloc: Global,
+/// Does what is asked for, and writes it, with what is said to people.
+fn answer<R: Read, W: Write, E: Write>(
+    rt: &HostRuntime,
+    table: &[Explanation],
     call: Call<'_, '_>,
+    level: Level,
     reader: &mut R,
     writer: &mut W,
+    errors: &mut E,
 ) -> Status
-    ensures { Ran result (Some (asked call.entry)) (R.remaining reader.old) (W.contents writer.old)
+    ensures { Ran table.now result (Some (asked call.entry)) (R.remaining reader.old) (W.contents writer.old)
         (W.contents writer.new) }
 {
-    let input = match read_all(alloc, reader) {
-        Ok(input) => input,
-        Err(InputFault::Memory) => return out_of_memory(writer),
-        Err(InputFault::Failed | InputFault::TooLong) => return Status::Failed,
-    };
-    let Ok(output) = output_of(alloc, call, &input) else {
-        return out_of_memory(writer);
+    let mut remarks = Remarks::new(rt.alloc(), table, level);
+    let output = match output_for(rt, table, call, reader, &mut remarks) {
+        Ok(output) => output,
+        Err(RunFault::Memory) => return out_of_memory(writer),
+        Err(RunFault::Failed) => return Status::Failed,
     };
     match writer.write_all(output.text.as_bytes()) {
-        Ok(()) => match output.ending {
-            Ending::Done => Status::Done,
-            Ending::Refused => Status::Refused,
-        },
+        Ok(()) => {
+            // that people can't be told changes nothing
+            let _told = errors.write_all(remarks.as_str().as_bytes());
+            match output.ending {
+                Ending::Done => Status::Done,
+                Ending::Refused => Status::Refused,
+            }
+        }
         Err(_) => Status::Failed,
     }
 }
 
-/// What the words ask for, the program's name first, with the input and the output that are lent.
+/// What people are told: all with `-v`, what is refused where somebody looks on.
+fn level_of(is_verbose: bool, is_terminal: bool) -> Level {
+    if is_verbose {
+        return Level::Rules;
+    }
+    if is_terminal {
+        return Level::Refusals;
+    }
+    Level::Silent
+}
+
+/// Writes what is wrong with words that `clap` takes and that ask for nothing.
+fn misnamed_words<W: Write>(text: &str, writer: &mut W) -> Status
+    ensures { (result ≡ Status.Usage) ⊎ (result ≡ Status.Failed) }
+{
+    match writer.write_all(text.as_bytes()) {
+        Ok(()) => Status::Usage,
+        Err(_) => Status::Failed,
+    }
+}
+
+/// What the words ask for, the program's name first, with the table of refusals, the input, the output and the place
+/// for people's words that are lent; `is_terminal` says whether somebody looks at that place.
 ///
 /// `test PACKET..` reads the text of a ruleset and writes a verdict line for each packet text in turn. A refused text
 /// gives `refused CAUSE line L` instead, and a text that is no packet `refused 30`, which ends the run. `check` writes
 /// the ruleset that the text comes to, in its expanded form, or its refusal; with `--anchor` the text is one for an
-/// anchor. All that is written goes to the writer at once; the input is 16,777,216 bytes at most.
-pub fn run<S: AsStr, R: Read, W: Write>(
-    alloc: Global,
+/// anchor. Both read files where their words name some; one that can't be read gives `refused 90`. All that is written
+/// goes to the writer at once; an input, and a file, is 16,777,216 bytes at most. What is said to people, a line for
+/// each refusal and, with `-v`, the rules that decide, changes nothing of what is written, nor of the status. `explain`
+/// writes what the table says of a number, or all of it, and reads nothing.
+pub fn run<S: AsStr, R: Read, W: Write, E: Write>(
+    rt: &HostRuntime,
+    table: &[Explanation],
     words: &[S],
     reader: &mut R,
     writer: &mut W,
+    errors: &mut E,
+    is_terminal: bool,
 ) -> Status
-    ensures { Ran result (call_of (map S.text words.now)) (R.remaining reader.old) (W.contents writer.old)
-        (W.contents writer.new) }
+    ensures { Ran table.now result (call_of table.now (map S.text words.now)) (R.remaining reader.old)
+        (W.contents writer.old) (W.contents writer.new) }
 {
+    let alloc = rt.alloc();
     let Ok(command) = command(alloc) else {
         return out_of_memory(writer);
     };
@@ -61,8 +98,11 @@ pub fn run<S: AsStr, R: Read, W: Write>(
         Ok(matches) => matches,
         Err(error) => return misused(alloc, &error, writer),
     };
-    match call_in(&matches) {
-        Some(call) => answer(alloc, call, reader, writer),
-        None => Status::Usage,
+    match call_in(table, &matches) {
+        Some(call) => {
+            let level = level_of(is_verbose(&matches), is_terminal);
+            answer(rt, table, call, level, reader, writer, errors)
+        }
+        None => misnamed_words(misnamed(&matches), writer),
     }
 }

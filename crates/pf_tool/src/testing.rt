@@ -1,14 +1,16 @@
 //! The word `test`: the verdicts of a text's rules for packets.
 
 ghost use Rattle.std.specs.Prelude.{◌≡◌, ◌++◌, [], Some, IfOk, OnOk, map, option_map, string_bytes};
+ghost use Rattle.std.specs.Option.{option_copied};
 ghost use Rattle.pf_ruleset.specs.Rulesets.{ruleset_of};
 ghost use Rattle.pf_io.specs.Written.{line};
 ghost use Rattle.pf_tool.specs.Tool.{refusal_line, verdict_for, verdict_lines, tested_over, nothing_loaded};
-ghost use Rattle.pf_tool.specs.Tool.{refused_load, test_output};
+ghost use Rattle.pf_tool.specs.Tool.{refused_load, test_output, tested_lines, tested_texts};
 ghost use Rattle.pf_config.specs.Changes.{load_ruleset};
 ghost use Rattle.pf_tool.specs.inner.Output.{written};
 
-use crate::output::{Ending, Output};
+use crate::output::{Ending, Output, unread};
+use crate::packets::packet_texts;
 use pf_config::Config;
 use pf_eval::{PacketFault, parse_packet, show_verdict, verdict};
 use pf_grammar::{ParseFault, Place, Profile, Refusal, parse};
@@ -76,7 +78,7 @@ fn verdict_lines(alloc: Global, config: &Config, packets: &[&str]) -> Result<Out
 }
 
 /// The line of a load that is refused.
-fn refused_load(alloc: Global, code: u8) -> Result<Output, AllocError>
+pub(crate) fn refused_load(alloc: Global, code: u8) -> Result<Output, AllocError>
     ensures { IfOk result (λ o. written o ≡ refused_load (Some code)) }
 {
     let mut text = String::new(alloc);
@@ -123,5 +125,62 @@ pub(crate) fn test_output(
                 ending: Ending::Refused,
             })
         }
+    }
+}
+
+/// What `test` writes over this text for packets in words and, behind them, in lines; none where a line isn't UTF-8.
+fn tested_lines(
+    alloc: Global,
+    packets: &[&str],
+    text: &[u8],
+    lines: Option<&[&str]>,
+) -> Result<Output, AllocError>
+    ensures { IfOk result (λ o. written o ≡ tested_lines (map (λ p. p.now) packets.now) text.now
+        (option_map (λ more. map (λ p. p.now) more.now) lines.entry)) }
+{
+    match lines {
+        Some(more) => {
+            let mut all = Vec::new(alloc);
+            all.extend_from_slice(packets)?;
+            all.extend_from_slice(more)?;
+            test_output(alloc, &all, text)
+        }
+        None => unread(alloc),
+    }
+}
+
+/// What `test` writes over the bytes of rules for packets in words and, behind them, in the lines of others.
+fn tested_bytes(
+    alloc: Global,
+    packets: &[&str],
+    text: &[u8],
+    bytes: &[u8],
+) -> Result<Output, AllocError>
+    ensures { IfOk result (λ o. written o ≡ tested_texts (map (λ p. p.now) packets.now) (Some text.now)
+        (Some bytes.now)) }
+{
+    match packet_texts(alloc, bytes)? {
+        Some(more) => tested_lines(alloc, packets, text, Some(&more)),
+        None => tested_lines(alloc, packets, text, None),
+    }
+}
+
+/// What `test` writes under rules, for packets in words and, behind them, in lines; either may be of a file that can't
+/// be read.
+pub(crate) fn tested_texts(
+    alloc: Global,
+    packets: &[&str],
+    rules: Option<&[u8]>,
+    bytes: Option<&[u8]>,
+) -> Result<Output, AllocError>
+    ensures { IfOk result (λ o. written o ≡ tested_texts (map (λ p. p.now) packets.now) (option_copied rules.entry)
+        (option_copied bytes.entry)) }
+{
+    match rules {
+        Some(text) => match bytes {
+            Some(bytes) => tested_bytes(alloc, packets, text, bytes),
+            None => unread(alloc),
+        },
+        None => unread(alloc),
     }
 }

@@ -1,29 +1,37 @@
 //! The words of the program, as `clap` reads them.
 
-ghost use Rattle.std.specs.Prelude.{◌≡◌, IfOk, false};
-ghost use Rattle.clap.specs.Words.{app_of};
+ghost use Rattle.std.specs.Prelude.{◌≡◌, IfOk, false, codes};
+ghost use Rattle.clap.specs.Words.{app_of, rule_of, with_rule};
 ghost use Rattle.clap.specs.declared.builder.command.Command.TheViews.{out-Command};
-ghost use Rattle.pf_tool.specs.Tool.{check_app, test_app, ctl_app, lab_app, texts_app, pfx_app};
+ghost use Rattle.pf_tool.specs.Words.{flag_rule, lettered_rule, value_rule, lettered_value_rule, words_rule, word_rule};
+ghost use Rattle.pf_tool.specs.Words.{with_verbose, with_quiet, with_named};
+ghost use Rattle.pf_tool.specs.Words.{check_app, test_app, ctl_app, lab_app, explain_app};
+ghost use Rattle.pf_tool.specs.Words.{texts_app, scripts_app, pfx_app};
 
 use clap::{Arg, ArgAction, Command};
 use std::alloc::{AllocError, Global};
 
 /// What help says below its options.
-const WORDS_BELOW: &str = "pfx node --help and pfx ask --help tell of nodes over UDP.
+const WORDS_BELOW: &str = "pfx WORD --help says more of a word.
 
 Status: 0 done; 1 refused, out of memory (memory is written), a failed read or write, or more than 16777216 bytes of
 input; 2 words that aren't understood.";
 
 const CHECK_BELOW: &str =
-    "Standard input has the text, in the language of pf.conf: rules, anchors and their blocks, tables, macros, set.
+    "A file, or standard input, has the text, in the language of pf.conf: rules, anchors and
+their blocks, tables, macros, set. Of several files each is shown in turn.
 
-A refusal is refused CAUSE line L, L being the line at which the statement begins:
+A refusal is refused CAUSE line L, L being the line at which the statement begins; refused 90 is a file that can't be
+read. pfx explain CAUSE says what to do:
   10 bytes that are no token    11 a macro               12 not spelled by the grammar
   13 ports                      14 no combination        15 a reserved name
-  16 defined twice              17 set in an anchor      18 too many                   19 icmp-type";
+  16 defined twice              17 set in an anchor      18 too many                   19 icmp-type
+
+With --nft, --interfaces FILE and --position N it writes what nft loads: pfx check --nft --help.";
 
 const TEST_BELOW: &str =
-    "Standard input has the text, as for check. A packet is one word of the shell:
+    "A file, or standard input, has the text, as for check. A packet is one word of the shell,
+or a line of a file; with -f and no packet the lines of standard input:
   in|out on IF {group IF} proto P from ADDR [port N] to ADDR [port N] [flags LETTERS] [icmp-type N]
 as
   'in on em0 proto tcp from 10.1.2.3 port 4000 to 192.0.2.1 port 22 flags S'
@@ -48,45 +56,156 @@ const LAB_BELOW: &str =
   stop-before EVENT  stop-after EVENT   restart NODE       an event is an ask, a tick or a delivery
   test NODE PACKET   state              log NODE           sent";
 
-/// `test PACKET..`
+const NAMED_BELOW: &str = "pfx WORD --help, with this word, says what its options are.";
+
+/// What help says of each option.
+const ANCHOR: &str = "The text is one for an anchor, in which set is refused";
+
+const QUIET: &str = "Writes nothing: the status tells";
+
+const VERBOSE: &str =
+    "Says on standard error what is refused, and where; a terminal is told anyway";
+
+const FILES: &str = "Files of rules; without one it is standard input that is read";
+
+const RULES: &str = "The file of rules; without one it is standard input that is read";
+
+const PACKETS: &str = "A file of packets, one a line";
+
+const PACKET: &str = "Packets, each one word of the shell";
+
+const CODE: &str = "The number of a refusal; without one all are explained";
+
+/// An option without a value, and the letter for it.
+fn lettered<'a>(alloc: Global, id: &'a str, letter: char, help: &'a str) -> Arg<'a>
+    ensures rule { rule_of result ≡ lettered_rule id.entry.now letter }
+    ensures local { result.global ≡ false }
+{
+    Arg::new(alloc, id)
+        .long(id)
+        .short(letter)
+        .action(ArgAction::SetTrue)
+        .help(help)
+}
+
+/// `--anchor`
+fn anchor<'a>(alloc: Global) -> Arg<'a>
+    ensures rule { rule_of result ≡ flag_rule (codes "anchor") }
+    ensures local { result.global ≡ false }
+{
+    Arg::new(alloc, "anchor")
+        .long("anchor")
+        .action(ArgAction::SetTrue)
+        .help(ANCHOR)
+}
+
+/// `-f FILE`
+fn rules_file<'a>(alloc: Global) -> Arg<'a>
+    ensures rule { rule_of result ≡ lettered_value_rule (codes "file") 102 }
+    ensures local { result.global ≡ false }
+{
+    Arg::new(alloc, "file")
+        .long("file")
+        .short('f')
+        .action(ArgAction::Set)
+        .help(RULES)
+}
+
+/// `--packets FILE`
+fn packets_file<'a>(alloc: Global) -> Arg<'a>
+    ensures rule { rule_of result ≡ value_rule (codes "packets") }
+    ensures local { result.global ≡ false }
+{
+    Arg::new(alloc, "packets")
+        .long("packets")
+        .action(ArgAction::Set)
+        .help(PACKETS)
+}
+
+/// Any number of words.
+fn words<'a>(alloc: Global, id: &'a str, help: &'a str) -> Arg<'a>
+    ensures rule { rule_of result ≡ words_rule id.entry.now }
+    ensures local { result.global ≡ false }
+{
+    Arg::new(alloc, id)
+        .action(ArgAction::Append)
+        .num_args(0..)
+        .help(help)
+}
+
+/// The number of a refusal.
+fn code<'a>(alloc: Global) -> Arg<'a>
+    ensures rule { rule_of result ≡ word_rule (codes "code") }
+    ensures local { result.global ≡ false }
+{
+    Arg::new(alloc, "code").action(ArgAction::Set).help(CODE)
+}
+
+/// Adds one option.
+fn with_option<'a>(command: Command<'a>, arg: Arg<'a>) -> Result<Command<'a>, AllocError>
+    requires command { (out-Command command).has_globals ≡ false }
+    requires arg { arg.global ≡ false }
+    ensures app { IfOk result (λ c. app_of c ≡ with_rule (app_of command.entry) (rule_of arg.entry)) }
+    ensures local { IfOk result (λ c. (out-Command c).has_globals ≡ false) }
+{
+    command.arg(arg)
+}
+
+/// Adds `-v`.
+fn with_verbose<'a>(alloc: Global, command: Command<'a>) -> Result<Command<'a>, AllocError>
+    requires { (out-Command command).has_globals ≡ false }
+    ensures app { IfOk result (λ c. app_of c ≡ with_verbose (app_of command.entry)) }
+    ensures local { IfOk result (λ c. (out-Command c).has_globals ≡ false) }
+{
+    with_option(command, lettered(alloc, "verbose", 'v', VERBOSE))
+}
+
+/// Adds `-q` and `-v`.
+fn with_quiet<'a>(alloc: Global, command: Command<'a>) -> Result<Command<'a>, AllocError>
+    requires { (out-Command command).has_globals ≡ false }
+    ensures app { IfOk result (λ c. app_of c ≡ with_quiet (app_of command.entry)) }
+    ensures local { IfOk result (λ c. (out-Command c).has_globals ≡ false) }
+{
+    let command = with_option(command, lettered(alloc, "quiet", 'q', QUIET))?;
+    with_verbose(alloc, command)
+}
+
+/// `test [-f FILE] [--packets FILE] [-q] [-v] PACKET..`
 fn test_command<'a>(alloc: Global) -> Result<Command<'a>, AllocError>
     ensures app { IfOk result (λ c. app_of c ≡ test_app) }
     ensures local { IfOk result (λ c. (out-Command c).has_globals ≡ false) }
 {
-    let packet = Arg::new(alloc, "packet")
-        .action(ArgAction::Append)
-        .required(true)
-        .num_args(1..)
-        .help("Packets, each one word of the shell");
-    Command::new(alloc, "test")
+    let command = Command::new(alloc, "test")
         .about("Answers what becomes of packets under a text of rules")
-        .after_help(TEST_BELOW)
-        .arg(packet)
+        .after_help(TEST_BELOW);
+    let command = with_option(command, rules_file(alloc))?;
+    let command = with_option(command, packets_file(alloc))?;
+    let command = with_quiet(alloc, command)?;
+    with_option(command, words(alloc, "packet", PACKET))
 }
 
-/// `check [--anchor]`
+/// `check [--anchor] [-q] [-v] FILE..`
 fn check_command<'a>(alloc: Global) -> Result<Command<'a>, AllocError>
     ensures app { IfOk result (λ c. app_of c ≡ check_app) }
     ensures local { IfOk result (λ c. (out-Command c).has_globals ≡ false) }
 {
-    let anchor = Arg::new(alloc, "anchor")
-        .long("anchor")
-        .action(ArgAction::SetTrue)
-        .help("The text is one for an anchor, in which set is refused");
-    Command::new(alloc, "check")
+    let command = Command::new(alloc, "check")
         .about("Shows what a text of rules comes to, or why it is refused")
-        .after_help(CHECK_BELOW)
-        .arg(anchor)
+        .after_help(CHECK_BELOW);
+    let command = with_option(command, anchor(alloc))?;
+    let command = with_quiet(alloc, command)?;
+    with_option(command, words(alloc, "file", FILES))
 }
 
-/// `ctl`
-fn ctl_command<'a>(alloc: Global) -> Command<'a>
-    ensures app { app_of result ≡ ctl_app }
-    ensures local { (out-Command result).has_globals ≡ false }
+/// `ctl [-v]`
+fn ctl_command<'a>(alloc: Global) -> Result<Command<'a>, AllocError>
+    ensures app { IfOk result (λ c. app_of c ≡ ctl_app) }
+    ensures local { IfOk result (λ c. (out-Command c).has_globals ≡ false) }
 {
-    Command::new(alloc, "ctl")
+    let command = Command::new(alloc, "ctl")
         .about("Runs a script of pfctl's words over one configuration, empty at first")
-        .after_help(CTL_BELOW)
+        .after_help(CTL_BELOW);
+    with_verbose(alloc, command)
 }
 
 /// `lab`
@@ -97,6 +216,17 @@ fn lab_command<'a>(alloc: Global) -> Command<'a>
     Command::new(alloc, "lab")
         .about("Runs a script of the events of nodes that agree on one log")
         .after_help(LAB_BELOW)
+}
+
+/// `explain [CODE]`
+fn explain_command<'a>(alloc: Global) -> Result<Command<'a>, AllocError>
+    ensures app { IfOk result (λ c. app_of c ≡ explain_app) }
+    ensures local { IfOk result (λ c. (out-Command c).has_globals ≡ false) }
+{
+    let command = Command::new(alloc, "explain").about(
+        "Says what a refusal means, what stands after it, and what to do",
+    );
+    with_option(command, code(alloc))
 }
 
 /// The program with the words that read a ruleset's text.
@@ -112,12 +242,45 @@ fn texts_command<'a>(alloc: Global) -> Result<Command<'a>, AllocError>
         .subcommand(test)
 }
 
+/// The same with the words that read a script, and the one that reads nothing.
+fn scripts_command<'a>(alloc: Global) -> Result<Command<'a>, AllocError>
+    ensures { IfOk result (λ c. app_of c ≡ scripts_app) }
+{
+    let ctl = ctl_command(alloc)?;
+    let explain = explain_command(alloc)?;
+    texts_command(alloc)?
+        .subcommand(ctl)?
+        .subcommand(lab_command(alloc))?
+        .subcommand(explain)
+}
+
+/// Names a word whose options are another crate's, so that help lists it.
+fn with_named<'a>(
+    alloc: Global,
+    command: Command<'a>,
+    name: &'a str,
+    about: &'a str,
+) -> Result<Command<'a>, AllocError>
+    ensures { IfOk result (λ c. app_of c ≡ with_named name.entry.now (app_of command.entry)) }
+{
+    let named = Command::new(alloc, name)
+        .about(about)
+        .after_help(NAMED_BELOW);
+    command.subcommand(named)
+}
+
 /// All words of the program.
 pub(crate) fn command<'a>(alloc: Global) -> Result<Command<'a>, AllocError>
     ensures { IfOk result (λ c. app_of c ≡ pfx_app) }
 {
-    let command = texts_command(alloc)?
-        .subcommand(ctl_command(alloc))?
-        .subcommand(lab_command(alloc))?;
+    let command = scripts_command(alloc)?;
+    let command = with_named(alloc, command, "node", "Runs a node over UDP on its store")?;
+    let command = with_named(
+        alloc,
+        command,
+        "ask",
+        "Asks a node to take a command in, or at its door what it holds",
+    )?;
+    let command = with_named(alloc, command, "key", "Makes a cluster's key")?;
     Ok(command.subcommand_required(true))
 }

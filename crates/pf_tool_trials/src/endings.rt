@@ -1,22 +1,21 @@
 //! How a run ends that can't read its words, its input or its output.
 
-use crate::runs::{QUICK, SYN_PACKET};
-use pf_tool::{Status, run};
-use std::alloc::Global;
+use crate::runs::{QUICK, SYN_PACKET, ran};
+use pf_tool::Status;
 use std::io::{self, Error, ErrorKind, Read, Write};
 
 /// What words that there aren't end with, and how many bytes are written.
-fn told(alloc: Global, words: &[&str]) -> (u8, usize) {
+fn told(rt: &HostRuntime, words: &[&str]) -> (u8, usize) {
     let mut reader = QUICK;
-    let mut out = Vec::new(alloc);
-    let status = run(alloc, words, &mut reader, &mut out);
+    let mut out = Vec::new(rt.alloc());
+    let status = ran(rt, words, &mut reader, &mut out);
     (status.code(), out.len())
 }
 
 #[test]
 fn unknown_words_are_told_apart(rt: HostRuntime) {
     for words in [["pfx", "labs"], ["pfx", "test"]] {
-        let (code, length) = told(rt.alloc(), &words);
+        let (code, length) = told(&rt, &words);
         assert!(rt; code == 2 && length > 20);
     }
 }
@@ -62,29 +61,29 @@ impl Write for FailingWriter {
 const WORDS: [&str; 3] = ["pfx", "test", SYN_PACKET];
 
 /// Whether a run whose reader fails ends as failed, and writes nothing.
-fn is_failed_read(alloc: Global) -> bool {
+fn is_failed_read(rt: &HostRuntime) -> bool {
     let mut reader = FailingReader { given: false };
-    let mut out = Vec::new(alloc);
-    let status = run(alloc, &WORDS, &mut reader, &mut out);
+    let mut out = Vec::new(rt.alloc());
+    let status = ran(rt, &WORDS, &mut reader, &mut out);
     status == Status::Failed && status.code() == 1 && out.is_empty()
 }
 
 #[test]
 fn a_failed_read_writes_nothing(rt: HostRuntime) {
-    assert!(rt; is_failed_read(rt.alloc()));
+    assert!(rt; is_failed_read(&rt));
 }
 
 /// Whether a run whose writer fails ends as failed, and writes nothing more.
-fn is_failed_write(alloc: Global) -> bool {
+fn is_failed_write(rt: &HostRuntime) -> bool {
     let mut reader = QUICK;
     let mut writer = FailingWriter { taken: 0 };
-    let status = run(alloc, &WORDS, &mut reader, &mut writer);
+    let status = ran(rt, &WORDS, &mut reader, &mut writer);
     status == Status::Failed && writer.taken == 1
 }
 
 #[test]
 fn a_failed_write_ends_the_run(rt: HostRuntime) {
-    assert!(rt; is_failed_write(rt.alloc()));
+    assert!(rt; is_failed_write(&rt));
 }
 
 /// Fails once, and takes all from then on.
@@ -110,13 +109,13 @@ impl Write for OnceFailingWriter {
 }
 
 /// Whether these words write nothing behind a write that failed.
-fn is_silent(alloc: Global, words: &[&str]) -> bool {
+fn is_silent(rt: &HostRuntime, words: &[&str]) -> bool {
     let mut reader = QUICK;
     let mut writer = OnceFailingWriter {
         failed: false,
         taken: 0,
     };
-    let status = run(alloc, words, &mut reader, &mut writer);
+    let status = ran(rt, words, &mut reader, &mut writer);
     status == Status::Failed && writer.taken == 0
 }
 
@@ -128,7 +127,7 @@ fn nothing_is_written_after_a_failed_write(rt: HostRuntime) {
         &["pfx", "ctl"],
         &["pfx", "no such word"],
     ] {
-        assert!(rt; is_silent(rt.alloc(), words));
+        assert!(rt; is_silent(&rt, words));
     }
 }
 
@@ -148,16 +147,16 @@ impl Read for Newlines {
 }
 
 /// How a run ends that reads so many newlines, and how many bytes it writes.
-fn ended(alloc: Global, left: usize) -> (Status, usize) {
+fn ended(rt: &HostRuntime, left: usize) -> (Status, usize) {
     let mut reader = Newlines { left };
-    let mut out = Vec::new(alloc);
-    let status = run(alloc, &WORDS, &mut reader, &mut out);
+    let mut out = Vec::new(rt.alloc());
+    let status = ran(rt, &WORDS, &mut reader, &mut out);
     (status, out.len())
 }
 
 #[test]
 fn the_input_has_16777216_bytes_at_most(rt: HostRuntime) {
     // `pass default` and a newline, or nothing
-    assert!(rt; ended(rt.alloc(), 16_777_216) == (Status::Done, 13));
-    assert!(rt; ended(rt.alloc(), 16_777_217) == (Status::Failed, 0));
+    assert!(rt; ended(&rt, 16_777_216) == (Status::Done, 13));
+    assert!(rt; ended(&rt, 16_777_217) == (Status::Failed, 0));
 }

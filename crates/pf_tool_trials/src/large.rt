@@ -1,7 +1,6 @@
 //! Texts at the limits.
 
 use crate::runs::checked;
-use std::alloc::Global;
 use std::fmt::Write;
 use std::test::Fail;
 
@@ -63,8 +62,8 @@ fn push_text(text: &mut String, row: &str) -> Result<(), Fail> {
 }
 
 /// Whether the text is refused with this line; or accepted, and so many lines are written.
-fn is_written(alloc: Global, text: &[u8], wanted: &str) -> bool {
-    let (status, out) = checked(alloc, text);
+fn is_written(rt: &HostRuntime, text: &[u8], wanted: &str) -> bool {
+    let (status, out) = checked(rt, text);
     match wanted.parse::<usize>() {
         Ok(lines) => status == 0 && out.iter().filter(|b| **b == b'\n').count() == lines,
         Err(_) => status == 1 && out.strip_suffix(b"\n") == Some(wanted.as_bytes()),
@@ -72,18 +71,18 @@ fn is_written(alloc: Global, text: &[u8], wanted: &str) -> bool {
 }
 
 /// Whether the row's text is.
-fn is_answered(alloc: Global, row: &str) -> Result<bool, Fail> {
+fn is_answered(rt: &HostRuntime, row: &str) -> Result<bool, Fail> {
     let (parts, wanted) = row.split_once('>').unwrap_or((row, ""));
-    let mut text = String::new(alloc);
+    let mut text = String::new(rt.alloc());
     push_text(&mut text, parts)?;
-    Ok(is_written(alloc, text.as_bytes(), wanted))
+    Ok(is_written(rt, text.as_bytes(), wanted))
 }
 
 #[test]
 fn tokens_macros_rules_and_combinations_have_limits(rt: HostRuntime) -> Result<(), Fail> {
     let mut count = 0usize;
     for row in ROWS.lines() {
-        assert!(rt; is_answered(rt.alloc(), row)?, "{row}");
+        assert!(rt; is_answered(&rt, row)?, "{row}");
         count = count.saturating_add(1);
     }
     assert!(rt; count == COUNT);

@@ -1,0 +1,28 @@
+//! The word `explain`: what refusals mean.
+
+ghost use Rattle.std.specs.Prelude.{◌≡◌, IfOk};
+ghost use Rattle.std.specs.Option.{option_copied};
+ghost use Rattle.pf_tool.specs.Tool.{explained};
+ghost use Rattle.pf_tool.specs.inner.Output.{written};
+
+use crate::output::{Ending, Output};
+use pf_refusals::{Explanation, explain_all};
+use std::alloc::{AllocError, Global};
+
+/// What `explain` writes: a refusal's paragraph, or all of the table.
+pub(crate) fn explained(
+    alloc: Global,
+    table: &[Explanation],
+    row: Option<&Explanation>,
+) -> Result<Output, AllocError>
+    ensures { IfOk result (λ o. written o ≡ explained table.now (option_copied row.entry)) }
+{
+    let text = match row {
+        Some(row) => format!(in alloc; "{row}")?,
+        None => explain_all(alloc, table)?,
+    };
+    Ok(Output {
+        text,
+        ending: Ending::Done,
+    })
+}

@@ -1,0 +1,134 @@
+//! Words for people: what is refused, and which rules decide.
+
+use pf_refusals::{Explanation, NO_PACKET, Remark, explanation};
+use std::alloc::{AllocError, Global};
+
+/// What people are told.
+#[derive(Clone, Copy, Debug, PartialEq, Eq)]
+pub(crate) enum Level {
+    /// Nothing.
+    Silent,
+    /// What is refused.
+    Refusals,
+    /// What is refused, and which rules decide.
+    Rules,
+}
+
+/// What is said to people, a line each.
+#[derive(Debug, Drop)]
+pub(crate) struct Remarks<'t> {
+    alloc: Global,
+    table: &'t [Explanation],
+    level: Level,
+    text: String,
+}
+
+/// A printed refusal: its number, and the line that it names.
+#[derive(Clone, Copy, Debug, PartialEq, Eq)]
+struct Refused {
+    code: u8,
+    line: Option<u64>,
+}
+
+/// The refusal that a printed line is, none where it is another line.
+fn refusal_in(printed: &str) -> Option<Refused> {
+    let Some(told) = printed.strip_prefix("refused ") else {
+        return None;
+    };
+    let (code, line) = match told.split_once(" line ") {
+        Some((code, line)) => (code, line.parse::<u64>().ok()),
+        None => (told, None),
+    };
+    match code.parse::<u8>() {
+        Ok(code) => Some(Refused { code, line }),
+        Err(_) => None,
+    }
+}
+
+impl<'t> Remarks<'t> {
+    /// Nothing is said yet.
+    pub(crate) fn new(alloc: Global, table: &'t [Explanation], level: Level) -> Remarks<'t> {
+        Remarks {
+            alloc,
+            table,
+            level,
+            text: String::new(alloc),
+        }
+    }
+
+    /// What is said.
+    pub(crate) fn as_str(&self) -> &str {
+        self.text.as_str()
+    }
+
+    /// Whether it is to be said which rules decide.
+    pub(crate) fn has_rules(&self) -> bool {
+        self.level == Level::Rules
+    }
+
+    /// Says a line.
+    pub(crate) fn say(&mut self, line: &str) -> Result<(), AllocError> {
+        self.text.push_str(line)?;
+        self.text.push('\n')
+    }
+
+    /// Says that a refusal came there.
+    fn remark(&mut self, source: &str, line: Option<u64>, code: u8) -> Result<(), AllocError> {
+        let name = match explanation(self.table, code) {
+            Some(row) => row.name,
+            None => "refused",
+        };
+        let remark = Remark {
+            source,
+            line,
+            name,
+            code,
+        };
+        let said = format!(in self.alloc; "{remark}")?;
+        self.say(said.as_str())
+    }
+
+    /// Says that a packet is none, by its place from 1.
+    fn add_packet(&mut self, at: u64) -> Result<(), AllocError> {
+        let packet = format!(in self.alloc; "packet {at}")?;
+        self.remark(packet.as_str(), None, NO_PACKET)
+    }
+
+    /// Says what is refused of a text, of which `check` or `test` prints this.
+    pub(crate) fn add(&mut self, source: &str, printed: &str) -> Result<(), AllocError> {
+        if self.level == Level::Silent {
+            return Ok(());
+        }
+        let mut at = 0u64;
+        for line in printed.lines() {
+            at = at.saturating_add(1);
+            match refusal_in(line) {
+                Some(Refused { code, line }) => {
+                    if code == NO_PACKET {
+                        self.add_packet(at)?;
+                    } else {
+                        self.remark(source, line, code)?;
+                    }
+                }
+                None => {}
+            }
+        }
+        Ok(())
+    }
+
+    /// Says which of the lines that a script prints are refusals, by their places from 1.
+    pub(crate) fn add_script(&mut self, printed: &str) -> Result<(), AllocError> {
+        if self.level == Level::Silent {
+            return Ok(());
+        }
+        let mut at = 0u64;
+        for line in printed.lines() {
+            at = at.saturating_add(1);
+            match refusal_in(line) {
+                Some(Refused { code, .. }) => self.remark("stdout", Some(at), code)?,
+                None => {}
+            }
+        }
+        Ok(())
+    }
+}
