@@ -7,7 +7,7 @@ _pfx() {
     if ((COMP_CWORD == 1)); then
         case $current in
         -*) words="-h --help" ;;
-        *) words="check test ctl lab explain node ask key help" ;;
+        *) words="check test ctl lab explain node ask key show help" ;;
         esac
         COMPREPLY=($(compgen -W "$words" -- "$current"))
         return
@@ -20,6 +20,7 @@ _pfx() {
     -f | --file | --packets | --store | --key | --other-key | --door | --interfaces)
         COMPREPLY=($(compgen -f -- "$current")); return ;;
     -a | -t | --me | --cluster | --turns | --to | --members | --node | --wait | --at | --position) return ;;
+    --from | --count) return ;;
     esac
     case $word in
     check)
@@ -34,6 +35,9 @@ _pfx() {
         [[ $seen == *" --to "* ]] || options+=" --door --at"
         [[ $seen == *" --door "* ]] || options+=" --to --cluster --members --node"
         [[ $seen == *" --door "* ]] && words="test request log status health metrics sync stop" ;;
+    show)
+        options="--store --nft --interfaces --pf --script --from --count -a -f -n -F -t -T -s"
+        words="test log" ;;
     help) words="check test ctl lab explain help" ;;
     lab | explain | key) ;;
     *) return ;;

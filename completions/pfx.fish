@@ -2,7 +2,7 @@
 
 complete -c pfx -f
 complete -c pfx -s h -l help -d 'Print help' -n 'not __fish_seen_subcommand_from help'
-complete -c pfx -n __fish_use_subcommand -a 'check test ctl lab explain node ask key help'
+complete -c pfx -n __fish_use_subcommand -a 'check test ctl lab explain node ask key show help'
 complete -c pfx -n '__fish_seen_subcommand_from help' -a 'check test ctl lab explain help'
 
 set -l check '__fish_seen_subcommand_from check'
@@ -49,3 +49,20 @@ complete -c pfx -n "$ask" -s T -x -a 'add delete replace flush show test' -d 'Wh
 complete -c pfx -n "$ask" -s s -x -a 'rules Tables Anchors' -d 'List'
 complete -c pfx -n "$ask; and __fish_contains_opt door" \
     -a 'test request log status health metrics sync stop'
+
+set -l show '__fish_seen_subcommand_from show'
+complete -c pfx -n "$show" -l store -r -F -d 'The file of a record, which no node has open'
+complete -c pfx -n "$show" -l nft -d 'As what nft(8) loads'
+complete -c pfx -n "$show" -l interfaces -r -F -d 'The interfaces, a line each'
+complete -c pfx -n "$show" -l pf -d 'The rulesets as texts for pfctl(8)'
+complete -c pfx -n "$show" -l script -d 'A script that gives the configuration'
+complete -c pfx -n "$show" -l from -x -d 'With log: the first position'
+complete -c pfx -n "$show" -l count -x -d 'With log: how many lines at most'
+complete -c pfx -n "$show" -s a -x -d 'The path of an anchor'
+complete -c pfx -n "$show" -s f -r -F -d 'Load a text of rules'
+complete -c pfx -n "$show" -s n -d 'Only read the text'
+complete -c pfx -n "$show" -s F -x -a 'rules Tables all' -d 'Empty'
+complete -c pfx -n "$show" -s t -x -d 'A table at the path'
+complete -c pfx -n "$show" -s T -x -a 'add delete replace flush show test' -d 'What is done with the table'
+complete -c pfx -n "$show" -s s -x -a 'rules Tables Anchors' -d 'List'
+complete -c pfx -n "$show" -a 'test log'

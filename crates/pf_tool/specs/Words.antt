@@ -89,7 +89,9 @@ with_named name app = with_subcommand app (new_app name).top
 -- the program: one of its words has to be named
 abbrev pub pfx_app : App
 pfx_app =
-    let named = with_named (codes "key") (with_named (codes "ask") (with_named (codes "node") scripts_app)) in
+    let node = with_named (codes "node") scripts_app in
+    let key = with_named (codes "key") (with_named (codes "ask") node) in
+    let named = with_named (codes "show") key in
     record named { top = record named.top { subcommand_required = true } }
 
 -- ---- what they ask for

@@ -282,5 +282,6 @@ pub(crate) fn command<'a>(alloc: Global) -> Result<Command<'a>, AllocError>
         "Asks a node to take a command in, or at its door what it holds",
     )?;
     let command = with_named(alloc, command, "key", "Makes a cluster's key")?;
+    let command = with_named(alloc, command, "show", "Shows what a node's store holds")?;
     Ok(command.subcommand_required(true))
 }
