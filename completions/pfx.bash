@@ -27,7 +27,7 @@ _pfx() {
     node) options="--me --cluster --store --turns --answer --door --key --other-key --unsealed" ;;
     ask)
         options="--wait -a -f -n -F -t -T -s"
-        [[ $seen == *" --to "* ]] || options+=" --door --at"
+        [[ $seen == *" --to "* ]] || options+=" --door --at --unchecked"
         [[ $seen == *" --door "* ]] || options+=" --to --cluster --members --node"
         [[ $seen == *" --door "* ]] && words="test request log status health metrics sync stop" ;;
     help) words="check test ctl lab help" ;;

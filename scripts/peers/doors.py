@@ -33,7 +33,7 @@ class Doors(Cluster):
     def door(self, n):
         return self.path("%d.sock" % n)
 
-    def open(self, n, *words, members=None):
+    def open(self, n, *words):
         """Starts a node with its door, and waits until somebody answers there."""
         self.start(n, "--door", self.door(n), *words)
         end = time.time() + 30
@@ -47,7 +47,8 @@ class Doors(Cluster):
 
     def visit(self, n, *words, text=""):
         """What `pfx ask --door` prints, and its status."""
-        ran = subprocess.run([self.pfx, "ask", "--door", self.door(n), *words], input=text, capture_output=True, text=True)
+        command = [self.pfx, "ask", "--door", self.door(n), *words]
+        ran = subprocess.run(command, input=text, capture_output=True, text=True)
         return ran.returncode, ran.stdout + ran.stderr
 
     def say(self, n):
@@ -56,8 +57,8 @@ class Doors(Cluster):
 
 
 def replayed(pfx, changes, line=None):
-    """What `pfx ctl` prints for changes, each a line's words and its text or none, from the empty configuration on: a line
-    for each; and behind them what it prints for one line more."""
+    """What `pfx ctl` prints for changes, each a line's words and its text or none, from the empty configuration on: a
+    line for each; and behind them what it prints for one line more."""
     script = "".join("pfctl %s\n" % words + ("" if text is None else text + ".\n") for words, text in changes)
     ran = subprocess.run([pfx, "ctl"], input=script + (line + "\n" if line else ""), capture_output=True, text=True)
     lines = ran.stdout.splitlines(keepends=True)
