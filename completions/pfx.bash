@@ -18,13 +18,13 @@ _pfx() {
     -s) COMPREPLY=($(compgen -W "rules Tables Anchors" -- "$current")); return ;;
     --answer) COMPREPLY=($(compgen -W "learned" -- "$current")); return ;;
     -f | --store | --key | --other-key | --door | --interfaces) COMPREPLY=($(compgen -f -- "$current")); return ;;
-    -a | -t | --me | --cluster | --turns | --to | --members | --node | --wait | --at | --position) return ;;
+    -a | -t | --me | --cluster | --turns | --to | --members | --node | --wait | --at | --position | --metrics) return ;;
     esac
     case $word in
     check)
         options="--nft --interfaces --position"
         [[ $seen == *" --nft "* || $seen == *" --interfaces "* ]] || options+=" --anchor" ;;
-    node) options="--me --cluster --store --turns --answer --door --key --other-key --unsealed" ;;
+    node) options="--me --cluster --store --turns --answer --door --metrics --key --other-key --unsealed" ;;
     ask)
         options="--wait -a -f -n -F -t -T -s"
         [[ $seen == *" --to "* ]] || options+=" --door --at --unchecked"
