@@ -19,7 +19,7 @@ _pfx() {
     --answer) COMPREPLY=($(compgen -W "learned" -- "$current")); return ;;
     -f | --file | --packets | --store | --key | --other-key | --door | --interfaces)
         COMPREPLY=($(compgen -f -- "$current")); return ;;
-    -a | -t | --me | --cluster | --turns | --to | --members | --node | --wait | --at | --position) return ;;
+    -a | -t | --me | --cluster | --turns | --to | --members | --node | --wait | --at | --position | --metrics) return ;;
     --from | --count) return ;;
     esac
     case $word in
@@ -29,10 +29,10 @@ _pfx() {
         [[ $current == -* ]] || { COMPREPLY=($(compgen -f -- "$current")); return; } ;;
     test) options="-f --file --packets -q --quiet -v --verbose" ;;
     ctl) options="-v --verbose" ;;
-    node) options="--me --cluster --store --turns --answer --door --key --other-key --unsealed" ;;
+    node) options="--me --cluster --store --turns --answer --door --metrics --key --other-key --unsealed" ;;
     ask)
         options="--wait -a -f -n -F -t -T -s"
-        [[ $seen == *" --to "* ]] || options+=" --door --at"
+        [[ $seen == *" --to "* ]] || options+=" --door --at --unchecked"
         [[ $seen == *" --door "* ]] || options+=" --to --cluster --members --node"
         [[ $seen == *" --door "* ]] && words="test request log status health metrics sync stop" ;;
     show)

@@ -1,6 +1,9 @@
 //! Requests as the desk has them, and its answers as HTTP has them.
 
-ghost use Rattle.std.specs.Prelude.{⊤, ◌≡◌, OnErr};
+ghost use Rattle.std.specs.Prelude.{◌≡◌, ◌≤◌, [], true, IfOk, OnErr, OnOk, string_bytes};
+ghost use Rattle.http_server.specs.Response.{IsBlank};
+ghost use Rattle.pf_desk.specs.Answers.{answer_value};
+ghost use Rattle.pf_door.specs.Handling.{Says, IsAnswered, IsTurnedAway, IsHandled};
 
 use bytes::{BufMut, Bytes};
 use http::{HeaderName, HeaderValue, StatusCode};
@@ -11,12 +14,15 @@ use std::alloc::{AllocError, Global};
 
 /// A desk as a service: what comes as HTTP is asked of the desk.
 #[derive(Drop)]
-pub(crate) struct Clerk<'d, R: Records> {
-    pub(crate) desk: &'d mut Desk<R>,
-    pub(crate) tally: &'d Tally,
-    pub(crate) alloc: Global,
+pub(crate) struct Clerk<R: Records> {
+    pub(crate) desk: Desk<R>,
+    /// What was counted.
+    pub(crate) tally: Tally,
     /// Whether the node takes no change in now, since it lacks entries that others have.
     pub(crate) is_listening: bool,
+    /// Whether what comes now came where figures alone are told, and nothing is changed.
+    pub(crate) is_scraped: bool,
+    pub(crate) alloc: Global,
 }
 
 /// The kind of a plain text.
@@ -42,30 +48,29 @@ fn accepts_json(request: &http::Request<Bytes>) -> bool {
     }
 }
 
-/// Adds a field with a number.
-fn add_number(
-    alloc: Global,
-    response: &mut Response,
-    name: &[u8],
-    number: u64,
-) -> Result<(), AllocError> {
-    let text = number.to_string(alloc)?;
-    let Ok(name) = HeaderName::from_bytes(alloc, name) else {
-        return Err(AllocError);
-    };
-    let Ok(value) = HeaderValue::from_str(alloc, text.as_str()) else {
-        return Err(AllocError);
-    };
-    response.add_header(name, value)
+/// Whether the path is one of figures.
+fn is_of_figures(path: &str) -> bool {
+    matches!(path, "/metrics" | "/healthz" | "/readyz")
 }
 
-/// Adds a field with a text.
+/// Whether a change is asked for.
+fn is_change(request: &Request) -> bool {
+    match request {
+        Request::Change { .. } => true,
+        Request::Read { .. } | Request::Stop => false,
+    }
+}
+
+/// Adds a field.
 fn add_text(
     alloc: Global,
     response: &mut Response,
     name: &[u8],
     text: &str,
-) -> Result<(), AllocError> {
+) -> Result<(), AllocError>
+    ensures status { OnOk result (response.new.status ≡ response.old.status) }
+    ensures body { OnOk result (response.new.body.items ≡ response.old.body.items) }
+{
     let Ok(name) = HeaderName::from_bytes(alloc, name) else {
         return Err(AllocError);
     };
@@ -75,114 +80,212 @@ fn add_text(
     response.add_header(name, value)
 }
 
+/// Adds a field with a number.
+fn add_number(
+    alloc: Global,
+    response: &mut Response,
+    name: &[u8],
+    number: u64,
+) -> Result<(), AllocError>
+    ensures status { OnOk result (response.new.status ≡ response.old.status) }
+    ensures body { OnOk result (response.new.body.items ≡ response.old.body.items) }
+{
+    let text = number.to_string(alloc)?;
+    add_text(alloc, response, name, text.as_str())
+}
+
 /// The line of a refusal.
-fn refused(alloc: Global, code: u8) -> Result<Answer, AllocError> {
-    Ok(Answer {
-        code: status_of(code),
-        body: format!(in alloc; "refused {code}\n")?,
-    })
+fn refused(alloc: Global, code: u8) -> Result<String, AllocError> {
+    format!(in alloc; "refused {code}\n")
 }
 
-/// HTTP's status.
-fn status(code: u16) -> StatusCode {
-    match StatusCode::from_u16(code) {
-        Ok(status) => status,
-        Err(_) => StatusCode::INTERNAL_SERVER_ERROR,
-    }
-}
-
-impl<'d, R: Records> Clerk<'d, R> {
-    /// What a request is answered.
-    fn answer(&mut self, request: &Request) -> Result<Answer, AllocError>
-        ensures { OnErr result (self.new ≡ self.old) }
-    {
-        if self.is_listening {
-            if let Request::Change { .. } = request {
-                return Ok(Answer {
-                    code: 503,
-                    body: String::from_str(self.alloc, "waiting\n")?,
-                });
-            }
-        }
-        self.desk.answer(request, self.tally)
-    }
-
+impl<R: Records> Clerk<R> {
     /// Says which node answers, and after how many positions.
-    fn add_standing(&self, response: &mut Response) -> Result<(), AllocError> {
+    fn add_standing(&self, response: &mut Response) -> Result<(), AllocError>
+        ensures status { OnOk result (response.new.status ≡ response.old.status) }
+        ensures body { OnOk result (response.new.body.items ≡ response.old.body.items) }
+    {
         let node = &self.desk.node;
         let me = node.membership().me();
+        let applied = u64::from(node.applied());
         add_number(self.alloc, response, b"pfx-node", u64::from(me))?;
-        add_number(
-            self.alloc,
-            response,
-            b"pfx-applied",
-            u64::from(node.applied()),
-        )?;
+        add_number(self.alloc, response, b"pfx-applied", applied)?;
         add_number(self.alloc, response, b"pfx-front", u64::from(node.front()))
     }
 
-    /// Fills a response with an answer.
-    fn fill(&self, answer: &Answer, kind: &str, response: &mut Response) -> Result<(), AllocError> {
-        response.status = status(answer.code);
+    /// Adds the fields of an answer.
+    fn add_fields(&self, code: u16, kind: &str, response: &mut Response) -> Result<(), AllocError>
+        ensures status { OnOk result (response.new.status ≡ response.old.status) }
+        ensures body { OnOk result (response.new.body.items ≡ response.old.body.items) }
+    {
         self.add_standing(response)?;
         add_text(self.alloc, response, b"content-type", kind)?;
-        if answer.code == 503 {
+        if code == 503 {
             add_text(self.alloc, response, b"retry-after", "1")?;
         }
-        response.body.put_slice(answer.body.as_bytes())?;
         Ok(())
     }
 
+    /// Fills a response with an answer.
+    fn fill(&self, answer: &Answer, kind: &str, response: &mut Response) -> Result<(), AllocError>
+        requires { IsBlank response.old }
+        ensures status { OnOk result (response.new.status ≡ answer.now.code) }
+        ensures body { OnOk result (response.new.body.items ≡ string_bytes answer.now.body) }
+    {
+        let Ok(status) = StatusCode::from_u16(answer.code) else {
+            return Err(AllocError);
+        };
+        response.status = status;
+        self.add_fields(answer.code, kind, response)?;
+        response.body.put_slice(answer.body.as_bytes())
+    }
+
     /// Writes an answer; where memory is wanting for that it is 503 alone, since what was asked may be done.
-    fn write(&self, answer: &Answer, kind: &str, response: &mut Response) {
+    fn write(&self, answer: &Answer, kind: &str, response: &mut Response)
+        requires { IsBlank response.old }
+        ensures { Says response.new (answer_value answer.now) }
+    {
         if self.fill(answer, kind, response).is_err() {
             response.clear();
             response.status = StatusCode::SERVICE_UNAVAILABLE;
         }
     }
 
-    /// Answers a request.
-    fn serve(
+    /// Counts an answer.
+    pub(crate) fn count(&mut self, status: u16)
+        ensures desk { self.new.desk ≡ self.old.desk }
+        ensures scraped { self.new.is_scraped ≡ self.old.is_scraped }
+    {
+        if self.is_scraped {
+            return;
+        }
+        if status < 400 {
+            self.tally.served = self.tally.served.saturating_add(1);
+        } else if status < 500 {
+            self.tally.refused = self.tally.refused.saturating_add(1);
+        } else {
+            self.tally.unavailable = self.tally.unavailable.saturating_add(1);
+        }
+    }
+
+    /// Asks the desk.
+    fn ask(&mut self, request: &Request, response: &mut Response) -> Result<(), AllocError>
+        requires { IsBlank response.old }
+        ensures answered { OnOk result (IsAnswered self.old.desk self.new.desk self.old.tally request.now response.new) }
+        ensures memory { OnErr result (self.new ≡ self.old) }
+        ensures scraped { self.new.is_scraped ≡ self.old.is_scraped }
+    {
+        let answer = self.desk.answer(request, &self.tally)?;
+        self.write(&answer, content_type(request), response);
+        self.count(response.status.as_u16());
+        Ok(())
+    }
+
+    /// Asks nothing: what came is refused, with HTTP's status, 400 at least.
+    fn turn_away(&mut self, code: u16, body: String, response: &mut Response)
+        requires { IsBlank response.old }
+        ensures away { IsTurnedAway self.old.desk self.new.desk response.new }
+        ensures scraped { self.new.is_scraped ≡ self.old.is_scraped }
+    {
+        let answer = Answer {
+            code: code.max(400),
+            body,
+        };
+        self.write(&answer, TEXT, response);
+        self.count(response.status.as_u16());
+    }
+
+    /// The same without a body.
+    fn refuse(&mut self, code: u16, response: &mut Response)
+        requires { IsBlank response.old }
+        ensures away { IsTurnedAway self.old.desk self.new.desk response.new }
+        ensures scraped { self.new.is_scraped ≡ self.old.is_scraped }
+    {
+        let body = String::new(self.alloc);
+        self.turn_away(code, body, response);
+    }
+
+    /// Reads, where figures alone are told.
+    fn look(&mut self, request: &Request, response: &mut Response) -> Result<(), AllocError>
+        requires { IsBlank response.old }
+        ensures handled { OnOk result (IsHandled self.old self.new response.new) }
+        ensures still { self.new.desk ≡ self.old.desk }
+        ensures memory { OnErr result (self.new ≡ self.old) }
+        ensures scraped { self.new.is_scraped ≡ self.old.is_scraped }
+    {
+        match request {
+            Request::Read { at: _, read: _ } => self.ask(request, response),
+            Request::Change { .. } | Request::Stop => {
+                self.refuse(404, response);
+                Ok(())
+            }
+        }
+    }
+
+    /// Handles a request that was understood: a change isn't asked while the node takes none in.
+    fn pass_on(&mut self, request: &Request, response: &mut Response) -> Result<(), AllocError>
+        requires { IsBlank response.old }
+        ensures handled { OnOk result (IsHandled self.old self.new response.new) }
+        ensures still { self.old.is_scraped ≡ true → self.new.desk ≡ self.old.desk }
+        ensures memory { OnErr result (self.new ≡ self.old) }
+        ensures scraped { self.new.is_scraped ≡ self.old.is_scraped }
+    {
+        if self.is_scraped {
+            return self.look(request, response);
+        }
+        if self.is_listening && is_change(request) {
+            let body = String::from_str(self.alloc, "waiting\n")?;
+            self.turn_away(503, body, response);
+            return Ok(());
+        }
+        self.ask(request, response)
+    }
+
+    /// Handles a request.
+    fn handle(
         &mut self,
         request: &http::Request<Bytes>,
         response: &mut Response,
     ) -> Result<(), AllocError>
-        ensures { OnErr result (self.new ≡ self.old) }
+        requires { IsBlank response.old }
+        ensures handled { OnOk result (IsHandled self.old self.new response.new) }
+        ensures still { self.old.is_scraped ≡ true → self.new.desk ≡ self.old.desk }
+        ensures memory { OnErr result (self.new ≡ self.old) }
+        ensures scraped { self.new.is_scraped ≡ self.old.is_scraped }
     {
         let uri = request.uri();
+        if self.is_scraped && !is_of_figures(uri.path()) {
+            self.refuse(404, response);
+            return Ok(());
+        }
         let body: &[u8] = request.body();
         let query = uri.query().unwrap_or("");
         let is_json = accepts_json(request);
         let method = request.method().as_str();
         match request_in(self.alloc, method, uri.path(), query, body, is_json)? {
-            Routed::Asked(asked) => {
-                let answer = self.answer(&asked)?;
-                self.write(&answer, content_type(&asked), response);
-            }
+            Routed::Asked(asked) => self.pass_on(&asked, response),
             Routed::Refused(code) => {
-                let answer = Answer {
-                    code,
-                    body: String::new(self.alloc),
-                };
-                self.write(&answer, TEXT, response);
+                self.refuse(code, response);
+                Ok(())
             }
             Routed::Unread(code) => {
-                let answer = refused(self.alloc, code)?;
-                self.write(&answer, TEXT, response);
+                let body = refused(self.alloc, code)?;
+                self.turn_away(status_of(code), body, response);
+                Ok(())
             }
         }
-        Ok(())
     }
 }
 
-impl<'d, R: Records> Service for Clerk<'d, R> {
-    ghost answers = { λ old request response new. ⊤ };
+impl<R: Records> Service for Clerk<R> {
+    ghost answers = { λ old request response new. IsHandled old new response
+        × (old.is_scraped ≡ true → new.desk ≡ old.desk) × (new.is_scraped ≡ old.is_scraped) };
 
     fn call(
         &mut self,
         request: &http::Request<Bytes>,
         response: &mut Response,
     ) -> Result<(), AllocError> {
-        self.serve(request, response)
+        self.handle(request, response)
     }
 }

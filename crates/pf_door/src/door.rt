@@ -1,7 +1,11 @@
-//! The door: a Unix socket, and the seats at it.
+//! The door: a Unix socket, where figures alone are told a TCP port too, and the seats at both.
+
+ghost use Rattle.std.specs.Prelude.{◌≡◌};
+ghost use Rattle.pf_door.specs.Runs.{AreAsked};
 
 use crate::clerk::Clerk;
 use crate::seat::{Look, Seat};
+use crate::stream::{Listener, Stream};
 use mio::unix::SourceFd;
 use mio::{Events, Interest, Poll, Token};
 use px_records::Records;
@@ -9,15 +13,17 @@ use std::alloc::{AllocError, Global};
 use std::fs::{self, Files};
 use std::hash::RandomState;
 use std::io;
-use std::net::Net;
-use std::os::fd::{AsRawFd, RawFd};
+use std::net::{Net, SocketAddr, TcpListener, TcpStream};
+use std::os::fd::RawFd;
 use std::os::unix::fs::FileTypeExt;
 use std::os::unix::net::{UnixListener, UnixStream};
 use std::time::Duration;
 use thiserror::Error;
 
-/// How many operators are served at a time.
+/// How many operators are served at a time, and how many who are told figures.
 const SEATS: usize = 8;
+
+const FIGURE_SEATS: usize = 4;
 
 /// How many events are looked at after a wait; more stay for the next.
 const EVENTS: usize = 16;
@@ -31,21 +37,35 @@ pub enum DoorFault {
     /// 84: the door is another node's, is no socket, or the system refuses it.
     #[error("no door")]
     NoDoor,
+    /// 82: the system refuses the port of figures.
+    #[error("no port")]
+    NoPort,
+}
+
+/// Where connections come in, and the seats of those that did.
+#[derive(Drop)]
+struct Entrance {
+    listener: Listener,
+    seats: Vec<Seat>,
+    /// How many seats there are at most.
+    most: usize,
+    /// Which seat is looked at next.
+    next: usize,
+    /// Whether figures alone are told.
+    is_scraped: bool,
+    alloc: Global,
+    keys: RandomState,
 }
 
 /// The door of a node.
 #[derive(Drop)]
 pub struct Door {
-    listener: UnixListener,
-    seats: Vec<Seat>,
+    operators: Entrance,
+    figures: Option<Entrance>,
     poll: Poll,
     events: Events,
-    alloc: Global,
-    keys: RandomState,
-    /// Which seat is looked at next.
-    next: usize,
-    /// How many operators came.
-    came: u64,
+    /// Whether those who are told figures come first now.
+    is_figures_first: bool,
 }
 
 /// Takes away a socket that a node left which is gone: whether the path is free now.
@@ -60,10 +80,20 @@ fn free<RT: Files + Net>(rt: &RT, path: &str) -> bool {
 }
 
 /// The listening socket at the path, which doesn't wait.
-fn listen<RT: Files + Net>(rt: &RT, path: &str) -> io::Result<UnixListener> {
+fn listen<RT: Files + Net>(rt: &RT, path: &str) -> io::Result<Listener> {
     let listener = UnixListener::bind(rt, path)?;
     listener.set_nonblocking(true)?;
-    Ok(listener)
+    Ok(Listener::Local(listener))
+}
+
+/// The listening socket at the address, which doesn't wait.
+fn listen_at<RT>(rt: &RT, address: SocketAddr) -> io::Result<Listener>
+where
+    RT: Net<Listener = TcpListener, Stream = TcpStream>,
+{
+    let listener = TcpListener::bind(rt, address)?;
+    listener.set_nonblocking(true)?;
+    Ok(Listener::Tcp(listener))
 }
 
 /// Has a wait end when something comes at the descriptor.
@@ -75,45 +105,146 @@ fn watch(poll: &Poll, fd: RawFd) -> io::Result<()> {
     )
 }
 
+impl Entrance {
+    /// An entrance with so many seats.
+    fn new(
+        alloc: Global,
+        keys: RandomState,
+        listener: Listener,
+        most: usize,
+        is_scraped: bool,
+    ) -> Result<Entrance, AllocError> {
+        let seats = Vec::with_capacity(alloc, most)?;
+        Ok(Entrance {
+            listener,
+            seats,
+            most,
+            next: 0,
+            is_scraped,
+            alloc,
+            keys,
+        })
+    }
+
+    /// Whether anything is to be sent at a seat.
+    fn has_more(&self) -> bool {
+        self.seats.iter().any(|seat| seat.has_more())
+    }
+
+    /// Gives a seat to whoever waits for one, if one is free. Whether one came.
+    fn take_in(&mut self, poll: &Poll, now: u64) -> bool {
+        if self.seats.len() >= self.most {
+            return false;
+        }
+        match self.listener.next() {
+            Ok(Some(stream)) => {
+                self.seat(poll, stream, now);
+                true
+            }
+            Ok(None) => true,
+            Err(_) => false,
+        }
+    }
+
+    /// Gives a seat; where that can't be had the connection is closed.
+    fn seat(&mut self, poll: &Poll, stream: Stream, now: u64) {
+        let Ok(keys) = self.keys.clone() else {
+            return;
+        };
+        let seat = Seat::new(self.alloc, keys, stream, now);
+        if watch(poll, seat.raw_fd()).is_ok() {
+            let _seated = self.seats.push(seat);
+        }
+    }
+
+    /// Leaves a seat, and counts what was refused there before it was a request.
+    fn leave<R: Records>(&mut self, place: usize, clerk: &mut Clerk<R>)
+        ensures { clerk.new.desk ≡ clerk.old.desk }
+    {
+        if place >= self.seats.len() {
+            return;
+        }
+        let seat = self.seats.remove(place);
+        if let Some(status) = seat.refusal() {
+            clerk.count(status);
+        }
+    }
+
+    /// Looks at the next seat.
+    fn look<R: Records>(&mut self, clerk: &mut Clerk<R>, now: u64) -> Look
+        ensures { AreAsked clerk.old.desk clerk.new.desk }
+    {
+        if self.next >= self.seats.len() {
+            self.next = 0;
+        }
+        let place = self.next;
+        let Some(seat) = self.seats.get_mut(place) else {
+            return Look::Quiet;
+        };
+        let look = seat.look(clerk, now);
+        if look == Look::Left {
+            self.leave(place, clerk);
+        } else {
+            self.next = place.saturating_add(1);
+        }
+        look
+    }
+
+    /// Serves one seat after the other, each once, beginning behind the last; of what is asked one request is worked
+    /// at. Whether anything was done.
+    fn serve<R: Records>(&mut self, poll: &Poll, clerk: &mut Clerk<R>, now: u64) -> bool
+        ensures { AreAsked clerk.old.desk clerk.new.desk }
+    {
+        clerk.is_scraped = self.is_scraped;
+        let mut is_busy = self.take_in(poll, now);
+        for _seat in 0..self.seats.len() {
+            match self.look(clerk, now) {
+                Look::Quiet => {}
+                Look::Busy => return true,
+                Look::Left => is_busy = true,
+            }
+        }
+        is_busy
+    }
+}
+
 impl Door {
-    /// Opens the door at a path, where a socket that a node left which is gone is taken away first.
+    /// Opens the door at a path, where a socket that a node left which is gone is taken away first; and a port at which
+    /// figures alone are told, where one is asked for.
     ///
-    /// `NoDoor` (84) where another node answers there, where something else stands there, or where the system refuses the
-    /// socket: then nothing stands there that didn't before.
-    pub fn open<RT: Files + Net>(
+    /// `NoPort` (82) where the system refuses the port. `NoDoor` (84) where another node answers at the path, where
+    /// something else stands there, or where the system refuses the socket: then nothing stands there that didn't
+    /// before.
+    pub fn open<RT>(
         rt: &RT,
         alloc: Global,
         keys: RandomState,
         path: &str,
-    ) -> Result<Door, DoorFault> {
-        let Ok(events) = Events::with_capacity(alloc, EVENTS) else {
-            return Err(DoorFault::Memory);
-        };
-        let Ok(seats) = Vec::with_capacity(alloc, SEATS) else {
-            return Err(DoorFault::Memory);
-        };
+        figures: Option<SocketAddr>,
+    ) -> Result<Door, DoorFault>
+    where
+        RT: Files + Net<Listener = TcpListener, Stream = TcpStream>,
+    {
         let Ok(poll) = Poll::new(rt) else {
             return Err(DoorFault::NoDoor);
         };
-        if !free(rt, path) {
-            return Err(DoorFault::NoDoor);
-        }
-        let Ok(listener) = listen(rt, path) else {
-            return Err(DoorFault::NoDoor);
+        let Ok(events) = Events::with_capacity(alloc, EVENTS) else {
+            return Err(DoorFault::Memory);
         };
-        if watch(&poll, listener.as_raw_fd()).is_err() {
-            let _gone = fs::remove_file(rt, path);
-            return Err(DoorFault::NoDoor);
-        }
+        let figures = match open_figures(rt, alloc, &keys, &poll, figures) {
+            Ok(figures) => figures,
+            Err(fault) => return Err(fault),
+        };
+        let operators = match open_path(rt, alloc, keys, &poll, path) {
+            Ok(operators) => operators,
+            Err(fault) => return Err(fault),
+        };
         Ok(Door {
-            listener,
-            seats,
+            operators,
+            figures,
             poll,
             events,
-            alloc,
-            keys,
-            next: 0,
-            came: 0,
+            is_figures_first: false,
         })
     }
 
@@ -124,12 +255,12 @@ impl Door {
 
     /// How many operators are served now.
     pub fn seats(&self) -> usize {
-        self.seats.len()
+        self.operators.seats.len()
     }
 
-    /// Whether anything is to be sent at a seat.
+    /// Whether anything is to be sent to an operator.
     pub fn has_more(&self) -> bool {
-        self.seats.iter().any(|seat| seat.has_more())
+        self.operators.has_more()
     }
 
     /// Waits until something comes, so many milliseconds at most.
@@ -146,50 +277,101 @@ impl Door {
         let _gone = fs::remove_file(rt, path);
     }
 
-    /// Gives a seat to an operator who waits for one, if one is free. Whether one came.
-    fn take_in(&mut self, now: u64) -> bool {
-        if self.seats.len() >= SEATS {
-            return false;
+    /// Serves those who are told figures, if there is a port for them.
+    fn serve_figures<R: Records>(&mut self, clerk: &mut Clerk<R>, now: u64) -> bool
+        ensures { AreAsked clerk.old.desk clerk.new.desk }
+    {
+        match &mut self.figures {
+            Some(figures) => figures.serve(&self.poll, clerk, now),
+            None => false,
         }
-        let Ok((stream, _)) = self.listener.accept() else {
-            return false;
-        };
-        if stream.set_nonblocking(true).is_err() {
-            return true;
-        }
-        let Ok(keys) = self.keys.clone() else {
-            return true;
-        };
-        let seat = Seat::new(self.alloc, keys, stream, now);
-        if watch(&self.poll, seat.raw_fd()).is_ok() && self.seats.push(seat).is_ok() {
-            self.came = self.came.saturating_add(1);
-        }
-        true
     }
 
-    /// Serves one operator after the other, each once, beginning behind the last; of what they ask one request is worked
-    /// at. Whether anything was done.
-    pub(crate) fn serve<R: Records>(&mut self, clerk: &mut Clerk<'_, R>, now: u64) -> bool {
-        let mut is_busy = self.take_in(now);
-        for _seat in 0..self.seats.len() {
-            if self.next >= self.seats.len() {
-                self.next = 0;
-            }
-            if self.next >= self.seats.len() {
-                return is_busy;
-            }
-            match self.seats[self.next].look(clerk, now) {
-                Look::Quiet => self.next += 1,
-                Look::Busy => {
-                    self.next += 1;
-                    return true;
-                }
-                Look::Left => {
-                    let _gone = self.seats.remove(self.next);
-                    is_busy = true;
-                }
-            }
+    /// Serves those who are told figures, and operators where nothing was done there.
+    fn figures_first<R: Records>(&mut self, clerk: &mut Clerk<R>, now: u64) -> bool
+        ensures { AreAsked clerk.old.desk clerk.new.desk }
+    {
+        if self.serve_figures(clerk, now) {
+            return true;
         }
-        is_busy
+        self.operators.serve(&self.poll, clerk, now)
+    }
+
+    /// Serves operators, and those who are told figures where nothing was done there.
+    fn operators_first<R: Records>(&mut self, clerk: &mut Clerk<R>, now: u64) -> bool
+        ensures { AreAsked clerk.old.desk clerk.new.desk }
+    {
+        if self.operators.serve(&self.poll, clerk, now) {
+            return true;
+        }
+        self.serve_figures(clerk, now)
+    }
+
+    /// Serves whoever asks, operators and those who are told figures first in turn; one request is worked at. Whether
+    /// anything was done.
+    pub(crate) fn serve<R: Records>(&mut self, clerk: &mut Clerk<R>, now: u64) -> bool
+        ensures { AreAsked clerk.old.desk clerk.new.desk }
+    {
+        self.is_figures_first = !self.is_figures_first;
+        if self.is_figures_first {
+            return self.figures_first(clerk, now);
+        }
+        self.operators_first(clerk, now)
+    }
+}
+
+/// The entrance at a path.
+fn open_path<RT: Files + Net>(
+    rt: &RT,
+    alloc: Global,
+    keys: RandomState,
+    poll: &Poll,
+    path: &str,
+) -> Result<Entrance, DoorFault> {
+    if !free(rt, path) {
+        return Err(DoorFault::NoDoor);
+    }
+    let Ok(listener) = listen(rt, path) else {
+        return Err(DoorFault::NoDoor);
+    };
+    if watch(poll, listener.raw_fd()).is_err() {
+        let _gone = fs::remove_file(rt, path);
+        return Err(DoorFault::NoDoor);
+    }
+    match Entrance::new(alloc, keys, listener, SEATS, false) {
+        Ok(entrance) => Ok(entrance),
+        Err(AllocError) => {
+            let _gone = fs::remove_file(rt, path);
+            Err(DoorFault::Memory)
+        }
+    }
+}
+
+/// The entrance at the port of figures, if there is to be one.
+fn open_figures<RT>(
+    rt: &RT,
+    alloc: Global,
+    keys: &RandomState,
+    poll: &Poll,
+    address: Option<SocketAddr>,
+) -> Result<Option<Entrance>, DoorFault>
+where
+    RT: Net<Listener = TcpListener, Stream = TcpStream>,
+{
+    let Some(address) = address else {
+        return Ok(None);
+    };
+    let Ok(keys) = keys.clone() else {
+        return Err(DoorFault::Memory);
+    };
+    let Ok(listener) = listen_at(rt, address) else {
+        return Err(DoorFault::NoPort);
+    };
+    if watch(poll, listener.raw_fd()).is_err() {
+        return Err(DoorFault::NoPort);
+    }
+    match Entrance::new(alloc, keys, listener, FIGURE_SEATS, true) {
+        Ok(entrance) => Ok(Some(entrance)),
+        Err(AllocError) => Err(DoorFault::Memory),
     }
 }

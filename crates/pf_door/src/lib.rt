@@ -14,6 +14,7 @@ mod clerk;
 mod door;
 mod running;
 mod seat;
+mod stream;
 mod tallying;
 
 pub use door::{Door, DoorFault};

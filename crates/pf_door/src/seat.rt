@@ -1,11 +1,13 @@
-//! A seat at the door: an operator who is served.
+//! A seat: a connection over which requests come.
 
-use http_server::{Config, Connection, Service};
+ghost use Rattle.pf_door.specs.Handling.{Handles};
+
+use crate::stream::Stream;
+use http_server::{Config, Connection, Reason, Refusal, Service, State};
 use std::alloc::Global;
 use std::hash::RandomState;
 use std::io::{self, ErrorKind};
-use std::os::fd::{AsRawFd, RawFd};
-use std::os::unix::net::UnixStream;
+use std::os::fd::RawFd;
 
 /// How long a seat may move no byte, in microseconds.
 const QUIET: u64 = 30_000_000;
@@ -16,10 +18,10 @@ const MOST: u32 = 1_000;
 /// The most bytes that a body has.
 const BODY: usize = 65_536;
 
-/// An operator who is served.
+/// A connection over which requests come.
 #[derive(Drop)]
 pub(crate) struct Seat {
-    stream: UnixStream,
+    stream: Stream,
     connection: Connection,
     /// When it moved a byte last, in microseconds.
     moved: u64,
@@ -45,7 +47,7 @@ fn is_waiting(error: &io::Error) -> bool {
 
 impl Seat {
     /// A seat for whoever asks over the stream, which doesn't wait.
-    pub(crate) fn new(alloc: Global, keys: RandomState, stream: UnixStream, now: u64) -> Seat {
+    pub(crate) fn new(alloc: Global, keys: RandomState, stream: Stream, now: u64) -> Seat {
         let config = Config {
             max_body_len: BODY,
             max_pending: 0,
@@ -61,7 +63,7 @@ impl Seat {
 
     /// The descriptor of its stream.
     pub(crate) fn raw_fd(&self) -> RawFd {
-        self.stream.as_raw_fd()
+        self.stream.raw_fd()
     }
 
     /// Whether anything is to be sent.
@@ -69,12 +71,24 @@ impl Seat {
         self.connection.wants_write()
     }
 
+    /// HTTP's status, where what came last was refused before it was a request.
+    pub(crate) fn refusal(&self) -> Option<u16> {
+        match self.connection.state() {
+            State::Closing(Reason::Refused(why)) => Some(match why {
+                Refusal::InvalidResponse(_) => 500,
+                Refusal::UnknownCoding => 501,
+                _ => 400,
+            }),
+            _ => None,
+        }
+    }
+
     /// Reads once, if anything has come: whether bytes were moved, and none where the seat is left.
     fn read(&mut self) -> Option<bool> {
         if !self.connection.wants_read() {
             return Some(false);
         }
-        match self.connection.read_from(&mut &self.stream) {
+        match self.stream.read_into(&mut self.connection) {
             Ok(_) => Some(true),
             Err(error) => {
                 if is_waiting(&error) {
@@ -91,7 +105,7 @@ impl Seat {
         if !self.connection.wants_write() {
             return Some(false);
         }
-        match self.connection.write_to(&mut &self.stream) {
+        match self.stream.write_from(&mut self.connection) {
             Ok(_) => Some(true),
             Err(error) => {
                 if is_waiting(&error) {
@@ -110,29 +124,39 @@ impl Seat {
             || (self.served >= MOST && !self.connection.wants_write())
     }
 
-    /// Does what can be done at once: one read, one answer, one write.
-    pub(crate) fn look<S: Service>(&mut self, service: &mut S, now: u64) -> Look {
-        let Some(has_read) = self.read() else {
-            return Look::Left;
-        };
-        let was_pending = self.connection.wants_write();
-        self.connection.advance(service);
-        if !was_pending && self.connection.wants_write() {
-            self.served = self.served.saturating_add(1);
-        }
-        let Some(has_written) = self.write() else {
-            return Look::Left;
-        };
-        if has_read || has_written {
+    /// What became of the seat, where bytes were moved or not.
+    fn looked(&mut self, has_moved: bool, now: u64) -> Look {
+        if has_moved {
             self.moved = now;
         }
         if self.is_over(now) {
             return Look::Left;
         }
-        if has_read || has_written {
-            Look::Busy
-        } else {
-            Look::Quiet
+        if has_moved { Look::Busy } else { Look::Quiet }
+    }
+
+    /// Has the service answer what came, one request at most.
+    fn answer<S: Service>(&mut self, service: &mut S)
+        ensures { Handles S.answers service.old service.new }
+    {
+        let was_pending = self.connection.wants_write();
+        self.connection.advance(service);
+        if !was_pending && self.connection.wants_write() {
+            self.served = self.served.saturating_add(1);
         }
+    }
+
+    /// Does what can be done at once: one read, one answer, one write.
+    pub(crate) fn look<S: Service>(&mut self, service: &mut S, now: u64) -> Look
+        ensures { Handles S.answers service.old service.new }
+    {
+        let Some(has_read) = self.read() else {
+            return Look::Left;
+        };
+        self.answer(service);
+        let Some(has_written) = self.write() else {
+            return Look::Left;
+        };
+        self.looked(has_read || has_written, now)
     }
 }

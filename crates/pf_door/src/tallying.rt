@@ -1,172 +1,210 @@
 //! A wire that counts what goes over it.
 
 ghost use Rattle.std.specs.Prelude.{◌≡◌, ◌≤◌, IfSome, length};
+ghost use Rattle.pf_door.specs.Wiring.{below_of};
 
 use pf_desk::{PeerTally, Tally};
+use pf_turn::Progress;
 use px_transport::Wire;
+use px_wire::{Membership, Message, MessageView, decode};
 use std::alloc::{AllocError, Global};
-
-/// Where a datagram has its sender, its kind and, where it says what is lacking, its position.
-const FROM_PLACE: usize = 10;
-
-const KIND_PLACE: usize = 12;
-
-const NEED_PLACE: usize = 13;
-
-/// The kind of what is lacking.
-const NEED: u8 = 6;
 
 /// How long what a member said it lacks counts, in microseconds.
 const RECENT: u64 = 3_000_000;
 
-/// When a member was heard, and when it said what it lacks, in microseconds.
+/// What was counted of another member; times in microseconds.
 #[derive(Clone, Copy)]
-struct Heard {
-    last: Option<u64>,
-    needed: u64,
+struct Row {
+    node: u8,
+    /// When it was heard last.
+    heard: Option<u64>,
+    datagrams_in: u64,
+    datagrams_out: u64,
+    /// The position that it said it lacks, and when it did.
     need: u32,
+    needed: u64,
 }
 
-/// A wire that counts what goes over it, by the members' numbers in the datagrams.
+/// A wire that counts what goes over it: what is some member's by who sent it, what the wires below gave as an empty
+/// datagram as dropped, and all else as ignored.
 #[derive(Drop)]
 pub struct TallyWire<W> {
     inner: W,
-    tally: Tally,
-    heard: Vec<Heard>,
+    m: Membership,
+    rows: Vec<Row>,
+    unsent: u64,
+    dropped: u64,
+    ignored: u64,
+    /// How many datagrams came in this round.
+    came: u32,
     now: u64,
 }
 
-/// The four bytes at a place as a number, the highest first; 0 where they aren't all there.
-fn number_at(datagram: &[u8], place: usize) -> u32 {
-    match datagram.get(place..place.saturating_add(4)) {
-        Some([a, b, c, d]) => u32::from_be_bytes([*a, *b, *c, *d]),
-        _ => 0,
+/// The position that a message says is lacking.
+fn need_in(message: &MessageView<'_>) -> Option<u32> {
+    match message {
+        Message::Need { position } => Some(*position),
+        _ => None,
     }
 }
 
-/// A tally of a node that starts.
-fn first_tally(alloc: Global, members: u8, me: u8) -> Result<Tally, AllocError> {
-    let mut peers = Vec::new(alloc);
-    for node in 0..members {
-        if node != me {
-            peers.push(PeerTally {
+/// A row for each member but this one.
+fn first_rows(alloc: Global, m: Membership) -> Result<Vec<Row>, AllocError> {
+    let mut rows = Vec::new(alloc);
+    for node in 0..m.members() {
+        if node != m.me() {
+            rows.push(Row {
                 node,
-                ..PeerTally::default()
+                heard: None,
+                datagrams_in: 0,
+                datagrams_out: 0,
+                need: 0,
+                needed: 0,
             })?;
         }
     }
-    Ok(Tally {
-        up: 0,
-        peers,
-        unsent: 0,
-        dropped: 0,
-        ignored: 0,
-        turns: 0,
-        ticks: 0,
-        seats: 0,
-        served: 0,
-        refused: 0,
-        unavailable: 0,
-    })
+    Ok(rows)
+}
+
+impl Row {
+    /// What is told of the member, at this time.
+    fn told(&self, now: u64) -> PeerTally {
+        let is_recent = now.saturating_sub(self.needed) < RECENT;
+        PeerTally {
+            node: self.node,
+            heard: match self.heard {
+                Some(last) => Some(now.saturating_sub(last) / 1_000_000),
+                None => None,
+            },
+            datagrams_in: self.datagrams_in,
+            datagrams_out: self.datagrams_out,
+            need: if is_recent { self.need } else { 0 },
+        }
+    }
 }
 
 impl<W: Drop> TallyWire<W> {
-    /// The wire over another, for this member of so many.
-    pub fn new(alloc: Global, inner: W, members: u8, me: u8) -> Result<TallyWire<W>, AllocError> {
-        let tally = first_tally(alloc, members, me)?;
-        let heard = vec![in alloc; Heard {
-            last: None,
-            needed: 0,
-            need: 0
-        }; tally.peers.len()]?;
+    /// The wire over another, for this member.
+    pub fn new(alloc: Global, inner: W, m: Membership) -> Result<TallyWire<W>, AllocError> {
+        let rows = first_rows(alloc, m)?;
         Ok(TallyWire {
             inner,
-            tally,
-            heard,
+            m,
+            rows,
+            unsent: 0,
+            dropped: 0,
+            ignored: 0,
+            came: 0,
             now: 0,
         })
     }
 }
 
 impl<W> TallyWire<W> {
-    /// Counts so many turns up to this time, in microseconds since the start, and seats.
-    pub(crate) fn pass(&mut self, now: u64, turns: u32, seats: usize) {
-        self.now = now;
-        self.tally.up = now / 1_000_000;
-        self.tally.turns = self.tally.turns.saturating_add(u64::from(turns));
-        self.tally.seats = seats as u64;
-        for i in 0..self.heard.len() {
-            let Some(heard) = self.heard.get(i) else {
-                return;
-            };
-            let heard = *heard;
-            if let Some(peer) = self.tally.peers.get_mut(i) {
-                peer.heard = match heard.last {
-                    Some(last) => Some(now.saturating_sub(last) / 1_000_000),
-                    None => None,
-                };
-                let is_recent = now.saturating_sub(heard.needed) < RECENT;
-                peer.need = if is_recent { heard.need } else { 0 };
-            }
+    /// What is counted as a node starts: a row for each other member, and nothing that came.
+    pub fn first_tally(&self, alloc: Global) -> Result<Tally, AllocError> {
+        let mut peers = Vec::new(alloc);
+        for row in &self.rows {
+            peers.push(row.told(0))?;
         }
+        Ok(Tally {
+            up: 0,
+            peers,
+            unsent: 0,
+            dropped: 0,
+            ignored: 0,
+            turns: 0,
+            ticks: 0,
+            seats: 0,
+            served: 0,
+            refused: 0,
+            unavailable: 0,
+        })
     }
 
-    /// What was counted.
-    pub(crate) fn tally(&self) -> &Tally {
-        &self.tally
+    /// A round begins, at this time in microseconds since the start.
+    pub(crate) fn begin(&mut self, now: u64)
+        ensures below { below_of self.new ≡ below_of self.old }
+    {
+        self.now = now;
+        self.came = 0;
+    }
+
+    /// Tells what was counted, after a round that came to this. A turn that neither took a datagram nor is to be
+    /// followed by a wait was a tick.
+    pub(crate) fn tell(&self, tally: &mut Tally, made: Progress) {
+        tally.up = self.now / 1_000_000;
+        tally.unsent = self.unsent;
+        tally.dropped = self.dropped;
+        tally.ignored = self.ignored;
+        tally.turns = tally.turns.saturating_add(u64::from(made.turns));
+        if made.wait == 0 && made.turns > self.came {
+            tally.ticks = tally.ticks.saturating_add(1);
+        }
+        for i in 0..self.rows.len() {
+            if let (Some(peer), Some(row)) = (tally.peers.get_mut(i), self.rows.get(i)) {
+                *peer = row.told(self.now);
+            }
+        }
     }
 
     /// The place of a member's row.
     fn row_of(&self, node: u8) -> Option<usize> {
-        for i in 0..self.tally.peers.len().min(self.heard.len()) {
-            if self.tally.peers[i].node == node {
-                return Some(i);
-            }
+        self.rows.iter().position(|row| row.node == node)
+    }
+
+    /// Counts a datagram of a member, with the position that it says is lacking.
+    fn count_from(&mut self, from: u8, need: Option<u32>)
+        ensures below { below_of self.new ≡ below_of self.old }
+    {
+        let Some(place) = self.row_of(from) else {
+            return;
+        };
+        let now = self.now;
+        let Some(row) = self.rows.get_mut(place) else {
+            return;
+        };
+        row.heard = Some(now);
+        row.datagrams_in = row.datagrams_in.saturating_add(1);
+        if let Some(position) = need {
+            row.need = position;
+            row.needed = now;
         }
-        None
     }
 
     /// Counts a datagram that came.
     fn count_in(&mut self, datagram: &[u8])
-        ensures inner { self.new.inner ≡ self.old.inner }
+        ensures below { below_of self.new ≡ below_of self.old }
     {
-        let Some(from) = datagram.get(FROM_PLACE) else {
-            self.tally.dropped = self.tally.dropped.saturating_add(1);
+        self.came = self.came.saturating_add(1);
+        if datagram.is_empty() {
+            self.dropped = self.dropped.saturating_add(1);
             return;
-        };
-        let Some(row) = self.row_of(*from) else {
-            return;
-        };
-        if let Some(peer) = self.tally.peers.get_mut(row) {
-            peer.datagrams_in = peer.datagrams_in.saturating_add(1);
         }
-        let now = self.now;
-        if let Some(heard) = self.heard.get_mut(row) {
-            heard.last = Some(now);
-            if datagram.get(KIND_PLACE) == Some(&NEED) {
-                heard.need = number_at(datagram, NEED_PLACE);
-                heard.needed = now;
-            }
+        match decode(&self.m, datagram) {
+            Ok((from, message)) => self.count_from(from, need_in(&message)),
+            Err(_) => self.ignored = self.ignored.saturating_add(1),
         }
     }
 
     /// Counts a datagram that was handed to the wire.
     fn count_out(&mut self, to: u8, was_sent: bool)
-        ensures inner { self.new.inner ≡ self.old.inner }
+        ensures below { below_of self.new ≡ below_of self.old }
     {
         if !was_sent {
-            self.tally.unsent = self.tally.unsent.saturating_add(1);
+            self.unsent = self.unsent.saturating_add(1);
         }
-        if let Some(row) = self.row_of(to) {
-            if let Some(peer) = self.tally.peers.get_mut(row) {
-                peer.datagrams_out = peer.datagrams_out.saturating_add(1);
-            }
+        let Some(place) = self.row_of(to) else {
+            return;
+        };
+        if let Some(row) = self.rows.get_mut(place) {
+            row.datagrams_out = row.datagrams_out.saturating_add(1);
         }
     }
 
     /// Counts what came over the front of the bytes, if anything did.
     fn count_front(&mut self, came: Option<usize>, bytes: &[u8])
-        ensures inner { self.new.inner ≡ self.old.inner }
+        ensures below { below_of self.new ≡ below_of self.old }
     {
         if let Some(n) = came {
             if let Some(datagram) = bytes.get(..n) {

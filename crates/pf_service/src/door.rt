@@ -2,6 +2,7 @@
 
 ghost use Rattle.std.specs.Prelude.{◌≡◌, ◌<◌};
 
+use crate::hearing::HearingWire;
 use crate::outcome::{Outcome, fault_outcome};
 use pf_door::{Desk, Door, DoorFault, TallyWire, run_open};
 use pf_member::Membership;
@@ -11,6 +12,7 @@ use px_records::Records;
 use px_transport::{LoopbackWire, Wire};
 use std::alloc::Global;
 use std::hash::RandomState;
+use std::net::SocketAddr;
 use std::os::fd::RawFd;
 
 /// What the run of a node needs beside its record.
@@ -18,6 +20,8 @@ use std::os::fd::RawFd;
 pub(crate) struct DoorWords<'a> {
     /// Where the door is.
     pub(crate) path: &'a str,
+    /// Where figures are told over TCP, if they are.
+    pub(crate) figures: Option<SocketAddr>,
     /// The descriptor of the members' socket.
     pub(crate) fd: RawFd,
     pub(crate) turns: u64,
@@ -28,7 +32,7 @@ fn open_door(rt: &HostRuntime, alloc: Global, words: DoorWords<'_>) -> Result<Do
     let Ok(keys) = RandomState::new(rt) else {
         return Err(Outcome::Refused(84));
     };
-    match Door::open(rt, alloc, keys, words.path) {
+    match Door::open(rt, alloc, keys, words.path, words.figures) {
         Ok(mut door) => {
             if door.watch(words.fd) {
                 Ok(door)
@@ -38,7 +42,34 @@ fn open_door(rt: &HostRuntime, alloc: Global, words: DoorWords<'_>) -> Result<Do
         }
         Err(DoorFault::Memory) => Err(Outcome::Memory),
         Err(DoorFault::NoDoor) => Err(Outcome::Refused(84)),
+        Err(DoorFault::NoPort) => Err(Outcome::Refused(82)),
     }
+}
+
+/// A desk with the wire and the room that its node's turns use.
+fn served_by<R: Records, W: Wire + Drop>(
+    rt: &HostRuntime,
+    alloc: Global,
+    words: DoorWords<'_>,
+    desk: Desk<R>,
+    wire: &mut TallyWire<W>,
+    door: &mut Door,
+) -> (Outcome, Desk<R>) {
+    let Ok(tally) = wire.first_tally(alloc) else {
+        return (Outcome::Memory, desk);
+    };
+    let Ok(mut room) = Room::new(alloc) else {
+        return (Outcome::Memory, desk);
+    };
+    let (ended, desk) = run_open(alloc, desk, tally, wire, &mut room, door, rt, words.turns);
+    let outcome = match ended {
+        Ok(()) => Outcome::Front {
+            front: desk.node.front(),
+            applied: desk.node.applied(),
+        },
+        Err(fault) => fault_outcome(fault),
+    };
+    (outcome, desk)
 }
 
 /// What the turns of a node with an open door come to.
@@ -46,38 +77,21 @@ fn served<R: Records, W: Wire + Drop>(
     rt: &HostRuntime,
     alloc: Global,
     words: DoorWords<'_>,
-    desk: &mut Desk<R>,
+    desk: Desk<R>,
     wire: W,
-) -> Outcome {
+) -> (Outcome, Desk<R>) {
     let mut door = match open_door(rt, alloc, words) {
         Ok(door) => door,
-        Err(outcome) => return outcome,
+        Err(outcome) => return (outcome, desk),
     };
     let m = desk.node.membership();
-    let wire = LoopbackWire::new(alloc, wire, m.me());
-    let Ok(mut wire) = TallyWire::new(alloc, wire, m.members(), m.me()) else {
-        return Outcome::Memory;
+    let wire = LoopbackWire::new(alloc, HearingWire::new(rt, wire, m), m.me());
+    let (outcome, desk) = match TallyWire::new(alloc, wire, m) {
+        Ok(mut wire) => served_by(rt, alloc, words, desk, &mut wire, &mut door),
+        Err(_) => (Outcome::Memory, desk),
     };
-    let Ok(mut room) = Room::new(alloc) else {
-        return Outcome::Memory;
-    };
-    let ended = run_open(
-        alloc,
-        desk,
-        &mut wire,
-        &mut room,
-        &mut door,
-        rt,
-        words.turns,
-    );
     door.close(rt, words.path);
-    match ended {
-        Ok(()) => Outcome::Front {
-            front: desk.node.front(),
-            applied: desk.node.applied(),
-        },
-        Err(fault) => fault_outcome(fault),
-    }
+    (outcome, desk)
 }
 
 /// The run of a member over its record with its door open: the record is opened, and given back in the end.
@@ -96,7 +110,7 @@ pub(crate) fn run_with_door<R: Records, W: Wire + Drop>(
         Ok(node) => node,
         Err((fault, records)) => return (fault_outcome(fault), records),
     };
-    let mut desk = Desk::new(alloc, node);
-    let outcome = served(rt, alloc, words, &mut desk, wire);
+    let desk = Desk::new(alloc, node);
+    let (outcome, desk) = served(rt, alloc, words, desk, wire);
     (outcome, desk.close().close())
 }

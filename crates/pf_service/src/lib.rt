@@ -10,6 +10,7 @@
 
 mod ask;
 mod door;
+mod hearing;
 mod key;
 mod node;
 mod outcome;

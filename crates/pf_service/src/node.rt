@@ -7,6 +7,7 @@ ghost use Rattle.pf_service.specs.Outcomes.{adopt_outcome, ComesTo};
 ghost use Rattle.pf_service.specs.inner.Places.{is_count, has_place, turns_or_all};
 
 use crate::door::{DoorWords, run_with_door};
+use crate::hearing::HearingWire;
 use crate::key::{Keys, keys_for, warn_unsealed};
 use crate::outcome::{Outcome, ended_outcome};
 use clap::ArgMatches;
@@ -18,6 +19,7 @@ use px_sql::{AdoptFault, Identity, SqlRecords};
 use px_transport::{LoopbackWire, Wire};
 use sqlite::{Connection, Error, ErrorCode, File, FileStore};
 use std::alloc::Global;
+use std::net::SocketAddr;
 
 /// How long a turn waits for a datagram, in milliseconds.
 const WAIT_MS: u32 = 100;
@@ -40,6 +42,8 @@ pub(crate) struct NodeWords<'m, 'a> {
     pub(crate) answers_learned: bool,
     /// Where operators ask, if there is a door.
     pub(crate) door: Option<&'a str>,
+    /// Where figures are told over TCP, if they are.
+    pub(crate) metrics: Option<&'a str>,
     /// Where the members listen, in order.
     pub(crate) members: &'m [&'a str],
 }
@@ -86,6 +90,7 @@ impl<'m, 'a> NodeWords<'m, 'a> {
             other_key: matches.get_str("other-key"),
             is_unsealed: matches.get_flag("unsealed"),
             door: matches.get_str("door"),
+            metrics: matches.get_str("metrics"),
             answers_learned: matches.get_str("answer").is_some(),
             members: or_none(matches.get_strs("member")),
         })
@@ -210,12 +215,13 @@ fn run_over<R: Records, W: Wire + Drop>(
 {
     match wire {
         Ok(wire) => {
-            let wire = LoopbackWire::new(alloc, wire, words.me);
+            let wire = LoopbackWire::new(alloc, HearingWire::new(rt, wire, m), words.me);
             let (ended, records) = run_member(alloc, m, records, Some(wire), rt, words.turns);
             (ended_outcome(ended, Outcome::Memory), records)
         }
         Err(outcome) => {
-            let (ended, records) = run_member(alloc, m, records, None::<LoopbackWire<W>>, rt, 0);
+            let without = None::<LoopbackWire<HearingWire<W>>>;
+            let (ended, records) = run_member(alloc, m, records, without, rt, 0);
             (ended_outcome(ended, outcome), records)
         }
     }
@@ -241,6 +247,26 @@ fn run_node<R: Records>(
     }
 }
 
+/// Where figures are told over TCP, if they are: 82 for what is no address at which this machine alone is heard, with a
+/// port.
+fn figures_at(words: NodeWords<'_, '_>) -> Result<Option<SocketAddr>, Outcome>
+    ensures { OnErr result (result ≡ Err (Refused 82)) }
+{
+    let Some(text) = words.metrics else {
+        return Ok(None);
+    };
+    match text.parse::<SocketAddr>() {
+        Ok(address) => {
+            if address.ip().is_loopback() && address.port() != 0 {
+                Ok(Some(address))
+            } else {
+                Err(Outcome::Refused(82))
+            }
+        }
+        Err(_) => Err(Outcome::Refused(82)),
+    }
+}
+
 /// The run of a member with its door open, over a socket. What is asked by datagrams isn't heard.
 fn run_at_door<R: Records>(
     rt: &HostRuntime,
@@ -258,8 +284,13 @@ fn run_at_door<R: Records>(
         Ok(wire) => wire,
         Err(outcome) => return (outcome, records),
     };
+    let figures = match figures_at(words) {
+        Ok(figures) => figures,
+        Err(outcome) => return (outcome, records),
+    };
     let words = DoorWords {
         path,
+        figures,
         fd: wire.raw_fd(),
         turns: words.turns,
     };
@@ -272,7 +303,7 @@ fn run_at_door<R: Records>(
     }
 }
 
-/// What `node` comes to: 40 of its numbers, 83, the store's refusals, 82, and the first refusal of a turn, in this
+/// What `node` comes to: 40 of its numbers, 83, the store's refusals, 82, 84, and the first refusal of a turn, in this
 /// order. The store is closed, whatever came of it; what a node has committed stands also where closing fails.
 pub(crate) fn node_outcome(rt: &HostRuntime, alloc: Global, words: NodeWords<'_, '_>) -> Outcome
     ensures { has_place words.entry.me (length words.entry.members.now) ≡ false → result ≡ Refused 40 }

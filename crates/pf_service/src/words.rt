@@ -36,6 +36,9 @@ const UNSEALED: &str =
 
 const DOOR: &str = "A Unix socket at which operators ask, which is made";
 
+const METRICS: &str =
+    "A TCP address of this machine alone, as 127.0.0.1:9470, at which GET /metrics, /healthz and /readyz are answered";
+
 const MEMBER: &str =
     "The members' addresses in their order, 1 to 15 of them: IPV4:PORT, [IPV6]:PORT or NAME:PORT; a node binds its own";
 
@@ -53,7 +56,8 @@ const WAIT_MAX: u64 = 3_600;
 const NODE_BELOW: &str =
     "In the end it writes front F applied A: how many positions are learned without a gap, and applied. A refusal is
 refused CODE: 40 words, 83 no key in its file, or others may read it, 70 the store failed, 71 it is of another cluster
-or member, 72 a bad row, 73 another format, 82 its address is taken. With a key asks by UDP aren't heard.";
+or member, 72 a bad row, 73 another format, 82 its address is taken, or that of --metrics is none of this machine
+alone, 84 its door is taken. With a key or a door asks by UDP aren't heard.";
 
 const KEY_BELOW: &str =
     "It writes 64 hexadecimal digits, as pfx node --key takes them: (umask 077; pfx key > FILE)";
@@ -102,35 +106,119 @@ fn with<'a>(command: Command<'a>, arg: Arg<'a>) -> Result<Command<'a>, AllocErro
     command.arg(arg)
 }
 
+/// Adds an option that may not be had, for want of memory.
+fn with_made<'a>(
+    command: Command<'a>,
+    arg: Result<Arg<'a>, AllocError>,
+) -> Result<Command<'a>, AllocError>
+    requires command { (out-Command command).has_globals ≡ false }
+    requires arg { IfOk arg (λ a. a.global ≡ false) }
+    ensures local { IfOk result (λ c. (out-Command c).has_globals ≡ false) }
+{
+    match arg {
+        Ok(arg) => command.arg(arg),
+        Err(error) => {
+            drop(command);
+            Err(error)
+        }
+    }
+}
+
+/// `--turns T`
+fn with_turns<'a>(alloc: Global, command: Command<'a>) -> Result<Command<'a>, AllocError>
+    requires command { (out-Command command).has_globals ≡ false }
+    ensures local { IfOk result (λ c. (out-Command c).has_globals ≡ false) }
+{
+    with(
+        command,
+        optional(alloc, "turns", TURNS).value_parser(value_parser!(u32)),
+    )
+}
+
+/// `--answer learned`
+fn with_answer<'a>(alloc: Global, command: Command<'a>) -> Result<Command<'a>, AllocError>
+    requires command { (out-Command command).has_globals ≡ false }
+    ensures local { IfOk result (λ c. (out-Command c).has_globals ≡ false) }
+{
+    with(
+        command,
+        optional(alloc, "answer", ANSWER).value_parser(ValueParser::Names(ANSWERS)),
+    )
+}
+
+/// `--unsealed`
+fn with_unsealed<'a>(alloc: Global, command: Command<'a>) -> Result<Command<'a>, AllocError>
+    requires command { (out-Command command).has_globals ≡ false }
+    ensures local { IfOk result (λ c. (out-Command c).has_globals ≡ false) }
+{
+    let unsealed = Arg::new(alloc, "unsealed")
+        .long("unsealed")
+        .action(ArgAction::SetTrue)
+        .help(UNSEALED);
+    with(command, unsealed)
+}
+
+/// Adds an option with a text that stands only where another stands.
+fn with_below<'a>(
+    alloc: Global,
+    command: Command<'a>,
+    name: &'a str,
+    help: &'a str,
+    above: &'a str,
+) -> Result<Command<'a>, AllocError>
+    requires command { (out-Command command).has_globals ≡ false }
+    ensures local { IfOk result (λ c. (out-Command c).has_globals ≡ false) }
+{
+    with_made(command, optional(alloc, name, help).requires_arg(above))
+}
+
+/// The options of `node` about its keys that may be missing.
+fn with_keys<'a>(alloc: Global, command: Command<'a>) -> Result<Command<'a>, AllocError>
+    requires command { (out-Command command).has_globals ≡ false }
+    ensures local { IfOk result (λ c. (out-Command c).has_globals ≡ false) }
+{
+    let command = with(command, optional(alloc, "key", KEY))?;
+    let command = with_below(alloc, command, "other-key", OTHER_KEY, "key")?;
+    with_unsealed(alloc, command)
+}
+
+/// The options of `node` about operators that may be missing.
+fn with_door<'a>(alloc: Global, command: Command<'a>) -> Result<Command<'a>, AllocError>
+    requires command { (out-Command command).has_globals ≡ false }
+    ensures local { IfOk result (λ c. (out-Command c).has_globals ≡ false) }
+{
+    let command = with(command, optional(alloc, "door", DOOR))?;
+    with_below(alloc, command, "metrics", METRICS, "door")
+}
+
 /// The options of `node` that may be missing.
 fn node_options<'a>(alloc: Global, node: Command<'a>) -> Result<Command<'a>, AllocError>
     requires command { (out-Command node).has_globals ≡ false }
     ensures local { IfOk result (λ c. (out-Command c).has_globals ≡ false) }
 {
-    let turns = optional(alloc, "turns", TURNS).value_parser(value_parser!(u32));
-    let other = optional(alloc, "other-key", OTHER_KEY).requires_arg("key")?;
-    let answer = optional(alloc, "answer", ANSWER).value_parser(ValueParser::Names(ANSWERS));
-    let unsealed = Arg::new(alloc, "unsealed")
-        .long("unsealed")
-        .action(ArgAction::SetTrue)
-        .help(UNSEALED);
-    let command = with(node, turns)?;
-    let command = with(command, answer)?;
-    let command = with(command, optional(alloc, "door", DOOR))?;
-    let command = with(command, optional(alloc, "key", KEY))?;
-    let command = with(command, other)?;
-    with(command, unsealed)
+    let command = with_turns(alloc, node)?;
+    let command = with_answer(alloc, command)?;
+    let command = with_door(alloc, command)?;
+    with_keys(alloc, command)
 }
 
-/// `node --me N --cluster C --store FILE [--turns T] [--key FILE [--other-key FILE]] [--unsealed]
-/// [--answer learned] ADDR..`
-fn node_command<'a>(alloc: Global) -> Result<Command<'a>, AllocError>
+/// The members' addresses.
+fn with_members<'a>(alloc: Global, command: Command<'a>) -> Result<Command<'a>, AllocError>
+    requires command { (out-Command command).has_globals ≡ false }
     ensures local { IfOk result (λ c. (out-Command c).has_globals ≡ false) }
 {
     let addresses = Arg::new(alloc, "member")
         .action(ArgAction::Append)
         .num_args(0..)
         .help(MEMBER);
+    with(command, addresses)
+}
+
+/// `node --me N --cluster C --store FILE [--turns T] [--answer learned] [--door PATH [--metrics ADDR]]
+/// [--key FILE [--other-key FILE]] [--unsealed] ADDR..`
+fn node_command<'a>(alloc: Global) -> Result<Command<'a>, AllocError>
+    ensures local { IfOk result (λ c. (out-Command c).has_globals ≡ false) }
+{
     let node = Command::new(alloc, "node")
         .about("Runs a node on its store over UDP")
         .after_help(NODE_BELOW);
@@ -138,7 +226,16 @@ fn node_command<'a>(alloc: Global) -> Result<Command<'a>, AllocError>
     let command = with(command, large(alloc, "cluster", CLUSTER))?;
     let command = with(command, text(alloc, "store", STORE))?;
     let command = node_options(alloc, command)?;
-    with(command, addresses)
+    with_members(alloc, command)
+}
+
+/// `--wait S`
+fn with_wait<'a>(alloc: Global, command: Command<'a>) -> Result<Command<'a>, AllocError>
+    requires command { (out-Command command).has_globals ≡ false }
+    ensures local { IfOk result (λ c. (out-Command c).has_globals ≡ false) }
+{
+    let wait = optional(alloc, "wait", WAIT).value_parser(ValueParser::Unsigned(0, WAIT_MAX));
+    with(command, wait)
 }
 
 /// `ask --to ADDR --cluster C --members N --node N [--wait S]`, and pfctl's words.
@@ -152,8 +249,7 @@ fn ask_command<'a>(alloc: Global) -> Result<Command<'a>, AllocError>
     let command = with(command, large(alloc, "cluster", CLUSTER))?;
     let command = with(command, small(alloc, "members", MEMBERS))?;
     let command = with(command, small(alloc, "node", NODE))?;
-    let wait = optional(alloc, "wait", WAIT).value_parser(ValueParser::Unsigned(0, WAIT_MAX));
-    let command = with(command, wait)?;
+    let command = with_wait(alloc, command)?;
     pfctl_args(alloc, command)
 }
 
@@ -164,13 +260,24 @@ fn key_command<'a>(alloc: Global) -> Command<'a> {
         .after_help(KEY_BELOW)
 }
 
+/// Adds a word that may not be had, for want of memory.
+fn with_word<'a>(
+    command: Command<'a>,
+    word: Result<Command<'a>, AllocError>,
+) -> Result<Command<'a>, AllocError> {
+    match word {
+        Ok(word) => command.subcommand(word),
+        Err(error) => {
+            drop(command);
+            Err(error)
+        }
+    }
+}
+
 /// The words.
 pub(crate) fn command<'a>(alloc: Global) -> Result<Command<'a>, AllocError> {
-    let node = node_command(alloc)?;
-    let ask = ask_command(alloc)?;
-    let command = Command::new(alloc, "pfx")
-        .subcommand(node)?
-        .subcommand(ask)?
-        .subcommand(key_command(alloc))?;
+    let command = with_word(Command::new(alloc, "pfx"), node_command(alloc))?;
+    let command = with_word(command, ask_command(alloc))?;
+    let command = with_word(command, Ok(key_command(alloc)))?;
     Ok(command.subcommand_required(true))
 }

@@ -200,8 +200,8 @@ fn own_word(
     Ok(Some(found))
 }
 
-/// What is sent for the words, with the text that `-f` names: a listing, a word of the node itself where the words have no
-/// option of pfctl's, else a change.
+/// What is sent for the words, with the text that `-f` names: a listing, a word of the node itself where the words have
+/// no option of pfctl's, else a change.
 pub(crate) fn call_in(
     alloc: Global,
     matches: &ArgMatches<'_>,

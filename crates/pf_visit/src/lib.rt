@@ -4,11 +4,12 @@
 //!
 //! - [`run_visit`]: the word `ask` with `--door`, over any reader and writer.
 //!
-//! Within: `words` has the words as `clap` reads them, `call` what is sent for them, `exchange` one request and its answer
-//! over the socket, `visiting` how often it is asked.
+//! Within: `words` has the words as `clap` reads them, `call` what is sent for them, `checking` what they are refused
+//! for before that, `exchange` one request and its answer over the socket, `visiting` how often it is asked.
 #![tactic(auto)]
 
 mod call;
+mod checking;
 mod exchange;
 mod running;
 mod visiting;

@@ -1,12 +1,14 @@
 //! A run of `ask` with `--door`.
 
-use crate::call::call_in;
+use crate::call::{Call, call_in};
+use crate::checking::{Refused, refused_words};
 use crate::exchange::{Reply, VisitFault};
 use crate::visiting::visit;
 use crate::words::command;
 use clap::ArgMatches;
 use pf_io::{InputFault, Status, misused, out_of_memory, read_all};
-use std::alloc::Global;
+use pf_scripts::push_refusal;
+use std::alloc::{AllocError, Global};
 use std::convert::AsStr;
 use std::fs;
 use std::io::{Read, Write};
@@ -14,9 +16,14 @@ use std::io::{Read, Write};
 /// What a run comes to.
 enum Outcome {
     Reply(Reply),
-    Refused(u8),
+    Refused(Refused),
     Memory,
     Unread,
+}
+
+/// A refusal without a line.
+fn refused(code: u8) -> Outcome {
+    Outcome::Refused(Refused { code, line: 0 })
 }
 
 /// The text that `-f` names: of the input for `-`, else of a file; none without `-f`. A file that can't be read is 40.
@@ -31,7 +38,7 @@ fn text_for<R: Read>(
         Some("-") => read_all(alloc, reader),
         Some(path) => {
             let Ok(mut file) = fs::open(rt, path) else {
-                return Err(Outcome::Refused(40));
+                return Err(refused(40));
             };
             read_all(alloc, &mut file)
         }
@@ -43,6 +50,19 @@ fn text_for<R: Read>(
     }
 }
 
+/// What words of a change are refused for before a node is asked, unless they say that nothing is to be looked at.
+fn checked(
+    alloc: Global,
+    matches: &ArgMatches<'_>,
+    call: &Call,
+    text: &[u8],
+) -> Result<Option<Refused>, AllocError> {
+    if !call.is_change || call.is_sync || matches.get_flag("unchecked") {
+        return Ok(None);
+    }
+    refused_words(alloc, matches, text)
+}
+
 /// What the words come to.
 fn outcome_of<R: Read>(
     rt: &HostRuntime,
@@ -51,7 +71,7 @@ fn outcome_of<R: Read>(
     reader: &mut R,
 ) -> Outcome {
     let Some(door) = matches.get_str("door") else {
-        return Outcome::Refused(40);
+        return refused(40);
     };
     let seconds = matches.get_one::<u32>("wait").unwrap_or(0);
     let at = matches.get_one::<u32>("at").unwrap_or(0);
@@ -62,12 +82,24 @@ fn outcome_of<R: Read>(
     let Ok(call) = call_in(alloc, matches, text.as_slice(), at) else {
         return Outcome::Memory;
     };
+    match checked(alloc, matches, &call, text.as_slice()) {
+        Ok(None) => {}
+        Ok(Some(refused)) => return Outcome::Refused(refused),
+        Err(_) => return Outcome::Memory,
+    }
     match visit(rt, alloc, door, &call, seconds) {
         Ok(reply) => Outcome::Reply(reply),
         Err(VisitFault::Memory) => Outcome::Memory,
-        Err(VisitFault::NoDoor) => Outcome::Refused(85),
-        Err(VisitFault::BadAnswer) => Outcome::Refused(86),
+        Err(VisitFault::NoDoor) => refused(85),
+        Err(VisitFault::BadAnswer) => refused(86),
     }
+}
+
+/// The line of a refusal.
+fn refusal_line(alloc: Global, refused: Refused) -> Result<String, AllocError> {
+    let mut line = String::new(alloc);
+    push_refusal(alloc, &mut line, refused.code, refused.line)?;
+    Ok(line)
 }
 
 /// Writes what a run comes to.
@@ -83,8 +115,8 @@ fn write_outcome<W: Write>(alloc: Global, outcome: Outcome, writer: &mut W) -> S
                 Status::Refused
             }
         }
-        Outcome::Refused(code) => {
-            let Ok(line) = format!(in alloc; "refused {code}\n") else {
+        Outcome::Refused(refused) => {
+            let Ok(line) = refusal_line(alloc, refused) else {
                 return out_of_memory(writer);
             };
             match writer.write_all(line.as_bytes()) {
@@ -98,7 +130,9 @@ fn write_outcome<W: Write>(alloc: Global, outcome: Outcome, writer: &mut W) -> S
 }
 
 /// What the word `ask` with `--door` asks for, the program's name first: a request at a node's door, whose answer is
-/// written. 85 where nobody answers there, 86 where the answer is cut short or none.
+/// written. Words of a change that are refused wherever they are asked (40, 24, 1 to 3, 41), and a text that the
+/// grammar refuses, are told before the node is asked, unless `--unchecked` stands there. 85 where nobody answers at
+/// the door, 86 where the answer is cut short or none.
 pub fn run_visit<S: AsStr, R: Read, W: Write>(
     rt: &HostRuntime,
     alloc: Global,

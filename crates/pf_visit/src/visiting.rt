@@ -81,12 +81,21 @@ fn outcome_in(body: &[u8]) -> &[u8] {
     &[]
 }
 
+/// HTTP's status of what came of a command: 503 where it is waited for still.
+fn code_of(reply: &Reply) -> u16 {
+    if reply.body.as_slice() == WAITING {
+        503
+    } else {
+        reply.code
+    }
+}
+
 /// The line that a command was taken in, and behind it what came of it.
 fn joined(taken: Reply, reply: Reply) -> Result<Reply, AllocError> {
     let mut body = taken.body;
     body.extend_from_slice(outcome_in(reply.body.as_slice()))?;
     Ok(Reply {
-        code: reply.code,
+        code: code_of(&reply),
         body,
     })
 }
@@ -111,12 +120,15 @@ fn synced(alloc: Global, reply: Reply) -> Result<Reply, AllocError> {
                 body: Vec::from_slice(alloc, line.as_bytes())?,
             })
         }
-        None => Ok(reply),
+        None => Ok(Reply {
+            code: code_of(&reply),
+            body: reply.body,
+        }),
     }
 }
 
-/// Asks, and waits for so many seconds at most: for a node that isn't so far yet, and for what comes of a command that was
-/// taken in. No command is asked twice that may have been taken in.
+/// Asks, and waits for so many seconds at most: for a node that isn't so far yet, and for what comes of a command that
+/// was taken in. No command is asked twice that may have been taken in.
 pub(crate) fn visit<RT: Net + Clock>(
     rt: &RT,
     alloc: Global,

@@ -21,6 +21,9 @@ const WAIT: &str = "Seconds to wait for what comes of it, 0 to 3600";
 
 const AT: &str = "The node answers once it has applied so many positions, 0 to 1000000";
 
+const UNCHECKED: &str =
+    "Words and a text are asked as they are; else what is wrong with them is told before the node is asked";
+
 const BELOW: &str = "Words of a change, or of a listing; or, without pfctl's options:
   test PACKET..    the verdicts for packets        request N.NUMBER  what became of a request
   log [FROM]       what was learned                status            how the node is
@@ -47,7 +50,41 @@ fn with<'a>(command: Command<'a>, arg: Arg<'a>) -> Result<Command<'a>, AllocErro
     command.arg(arg)
 }
 
-/// `ask --door PATH [--wait S] [--at A] WORDS`
+/// `--wait S`
+fn with_wait<'a>(alloc: Global, command: Command<'a>) -> Result<Command<'a>, AllocError>
+    requires command { (out-Command command).has_globals ≡ false }
+    ensures local { IfOk result (λ c. (out-Command c).has_globals ≡ false) }
+{
+    with(
+        command,
+        valued(alloc, "wait", WAIT).value_parser(ValueParser::Unsigned(0, WAIT_MAX)),
+    )
+}
+
+/// `--at A`
+fn with_at<'a>(alloc: Global, command: Command<'a>) -> Result<Command<'a>, AllocError>
+    requires command { (out-Command command).has_globals ≡ false }
+    ensures local { IfOk result (λ c. (out-Command c).has_globals ≡ false) }
+{
+    with(
+        command,
+        valued(alloc, "at", AT).value_parser(ValueParser::Unsigned(0, POSITIONS)),
+    )
+}
+
+/// `--unchecked`
+fn with_unchecked<'a>(alloc: Global, command: Command<'a>) -> Result<Command<'a>, AllocError>
+    requires command { (out-Command command).has_globals ≡ false }
+    ensures local { IfOk result (λ c. (out-Command c).has_globals ≡ false) }
+{
+    let unchecked = Arg::new(alloc, "unchecked")
+        .long("unchecked")
+        .action(ArgAction::SetTrue)
+        .help(UNCHECKED);
+    with(command, unchecked)
+}
+
+/// `ask --door PATH [--wait S] [--at A] [--unchecked] WORDS`
 fn ask_command<'a>(alloc: Global) -> Result<Command<'a>, AllocError>
     ensures local { IfOk result (λ c. (out-Command c).has_globals ≡ false) }
 {
@@ -55,10 +92,9 @@ fn ask_command<'a>(alloc: Global) -> Result<Command<'a>, AllocError>
         .about("Asks a node at its door")
         .after_help(BELOW);
     let command = with(ask, valued(alloc, "door", DOOR).required(true))?;
-    let wait = valued(alloc, "wait", WAIT).value_parser(ValueParser::Unsigned(0, WAIT_MAX));
-    let command = with(command, wait)?;
-    let at = valued(alloc, "at", AT).value_parser(ValueParser::Unsigned(0, POSITIONS));
-    let command = with(command, at)?;
+    let command = with_wait(alloc, command)?;
+    let command = with_at(alloc, command)?;
+    let command = with_unchecked(alloc, command)?;
     pfctl_args(alloc, command)
 }
 

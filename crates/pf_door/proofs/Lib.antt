@@ -1,0 +1,2 @@
+mod Asking
+mod Going

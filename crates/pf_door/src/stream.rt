@@ -1,0 +1,104 @@
+//! Sockets in the file system, and sockets of TCP.
+
+use http_server::Connection;
+use std::io;
+use std::net::{TcpListener, TcpStream};
+use std::os::fd::{AsRawFd, RawFd};
+use std::os::unix::net::{UnixListener, UnixStream};
+
+/// A connection's socket.
+#[derive(Drop)]
+pub(crate) enum Stream {
+    /// One that came over a file.
+    Local(UnixStream),
+    /// One that came over TCP.
+    Tcp(TcpStream),
+}
+
+/// A listening socket.
+#[derive(Drop)]
+pub(crate) enum Listener {
+    /// One in the file system.
+    Local(UnixListener),
+    /// One of TCP.
+    Tcp(TcpListener),
+}
+
+impl Stream {
+    /// Its descriptor.
+    pub(crate) fn raw_fd(&self) -> RawFd {
+        match self {
+            Stream::Local(stream) => stream.as_raw_fd(),
+            Stream::Tcp(stream) => stream.as_raw_fd(),
+        }
+    }
+
+    /// Reads and writes don't wait from now on.
+    fn hasten(&self) -> io::Result<()> {
+        match self {
+            Stream::Local(stream) => stream.set_nonblocking(true),
+            Stream::Tcp(stream) => stream.set_nonblocking(true),
+        }
+    }
+
+    /// Reads once into the connection.
+    pub(crate) fn read_into(&self, connection: &mut Connection) -> io::Result<usize> {
+        match self {
+            Stream::Local(stream) => {
+                let mut from = stream;
+                connection.read_from(&mut from)
+            }
+            Stream::Tcp(stream) => {
+                let mut from = stream;
+                connection.read_from(&mut from)
+            }
+        }
+    }
+
+    /// Writes once out of the connection.
+    pub(crate) fn write_from(&self, connection: &mut Connection) -> io::Result<usize> {
+        match self {
+            Stream::Local(stream) => {
+                let mut to = stream;
+                connection.write_to(&mut to)
+            }
+            Stream::Tcp(stream) => {
+                let mut to = stream;
+                connection.write_to(&mut to)
+            }
+        }
+    }
+}
+
+impl Listener {
+    /// Its descriptor.
+    pub(crate) fn raw_fd(&self) -> RawFd {
+        match self {
+            Listener::Local(listener) => listener.as_raw_fd(),
+            Listener::Tcp(listener) => listener.as_raw_fd(),
+        }
+    }
+
+    /// The next connection that has come, if one has.
+    fn accept(&self) -> io::Result<Stream> {
+        match self {
+            Listener::Local(listener) => {
+                let (stream, _from) = listener.accept()?;
+                Ok(Stream::Local(stream))
+            }
+            Listener::Tcp(listener) => {
+                let (stream, _from) = listener.accept()?;
+                Ok(Stream::Tcp(stream))
+            }
+        }
+    }
+
+    /// The next connection that has come, which doesn't wait; an error where none has come.
+    pub(crate) fn next(&self) -> io::Result<Option<Stream>> {
+        let stream = self.accept()?;
+        match stream.hasten() {
+            Ok(()) => Ok(Some(stream)),
+            Err(_) => Ok(None),
+        }
+    }
+}
