@@ -32,7 +32,7 @@ _pfx() {
     node) options="--me --cluster --store --turns --answer --door --metrics --key --other-key --unsealed" ;;
     ask)
         options="--wait -a -f -n -F -t -T -s"
-        [[ $seen == *" --to "* ]] || options+=" --door --at --unchecked"
+        [[ $seen == *" --to "* ]] || options+=" --door --at --unchecked --script --from"
         [[ $seen == *" --door "* ]] || options+=" --to --cluster --members --node"
         [[ $seen == *" --door "* ]] && words="test request log status health metrics sync stop" ;;
     show)

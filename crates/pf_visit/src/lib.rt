@@ -5,13 +5,16 @@
 //! - [`run_visit`]: the word `ask` with `--door`, over any reader and writer.
 //!
 //! Within: `words` has the words as `clap` reads them, `call` what is sent for them, `checking` what they are refused
-//! for before that, `exchange` one request and its answer over the socket, `visiting` how often it is asked.
+//! for before that, `exchange` one request and its answer over the socket, `visiting` how often it is asked, `script`
+//! reads the changes of a script, and `scripting` asks them.
 #![tactic(auto)]
 
 mod call;
 mod checking;
 mod exchange;
 mod running;
+mod script;
+mod scripting;
 mod visiting;
 mod words;
 
