@@ -41,6 +41,7 @@ fn set_modes(rt: &HostRuntime) -> io::Result<()> {
 }
 
 /// A row's words, the program's name first.
+#[derive(Drop)]
 struct Words<'i> {
     words: Vec<&'i str>,
     /// Whether its input begins with what the last `show` wrote.

@@ -11,6 +11,7 @@ use std::io::{IsTerminal, Write};
 const MADE: &[u8] = b"ok";
 
 /// What is asked at which door.
+#[derive(Clone, Copy)]
 pub(crate) struct Errand<'a> {
     pub(crate) door: &'a str,
     pub(crate) script: &'a [u8],
