@@ -44,14 +44,14 @@ more log first c text p e h is s =
     let ls : lines (text ++ digits_line (Some b)) ≡ lines text ++ (line_of (encode_lower b) ∷ []) = lines_more text b h s.whole in
     let count : length (lines (text ++ digits_line (Some b))) ≡ length (lines text) + 1 =
         ap length ls ∙ length-append (lines text) (line_of (encode_lower b) ∷ []) in
-    let then : after_lines c (text ++ digits_line (Some b)) ≡ entry_applied (after_lines c text) e =
+    let moved : after_lines c (text ++ digits_line (Some b)) ≡ entry_applied (after_lines c text) e =
         ap (λ (l : List ScriptLine). fold after_line c l) ls
         ∙ fold_push after_line c (lines text) (line_of (encode_lower b))
         ∙ ap (λ (d : Result (List ℕ) FromHexError). after_decoded (after_lines c text) d) (decode_of-encode_lower b h) in
     record {
       whole = whole_more text b h s.whole;
-      place = let at = s.place in omega (arith, count, at);
-      configured = after_next log p (after_lines c text) _ e s.configured is then;
+      place = let there = s.place in omega (arith, count, there);
+      configured = after_next log p (after_lines c text) _ e s.configured is moved;
     }
 
 -- what a place of the log holds, as its line
@@ -82,7 +82,8 @@ lines_to : (log : Log Bytes) (first end : ℕ) (c : Configuration) → AreBytes 
 lines_to log first end c h known a = elim (cases_lt end first) [
   | inl beyond ↦
       let none : end - first ≡ 0 = omega arith in
-      let nothing : Reaches log first c (entries_before log end 0 []) = ap (λ (k : ℕ). after log k) (omega arith) ∙ a in
+      let e : first + 0 ≡ first = omega arith in
+      let nothing : Reaches log first c (entries_before log end 0 []) = ap (λ (k : ℕ). after log k) e ∙ a in
       subst (λ (n : ℕ). Reaches log first c (entries_before log end n [])) (sym none) nothing
   | inr within ↦
       let here : first ≡ end - (end - first) = omega arith in
@@ -96,7 +97,8 @@ lines_to log first end c h known a = elim (cases_lt end first) [
 -- what was taken of a text that a door answered
 pub followed : (old new : Configuration) (from to : ℕ) (text : List ℕ) → to ≡ from + length (lines text) →
     new ≡ after_lines old text → Follows old new from to text
-followed old new from to text at is log applied count h known a same =
-    let reach = lines_to log from (min applied (from + min count 1000)) old h (omega (arith, known)) a in
+followed old new from to text place is log applied count h known a same =
+    let within : min applied (from + min count 1000) ≤ front log = omega (arith, known) in
+    let reach = lines_to log from (min applied (from + min count 1000)) old h within a in
     let mine : Reaches log from old text = subst (λ (t : List ℕ). Reaches log from old t) (sym same) reach in
-    ap (λ (k : ℕ). after log k) at ∙ mine ∙ ap Some (sym is)
+    ap (λ (k : ℕ). after log k) place ∙ mine ∙ ap Some (sym is)
