@@ -7,7 +7,7 @@ _pfx() {
     if ((COMP_CWORD == 1)); then
         case $current in
         -*) words="-h --help" ;;
-        *) words="check test ctl lab explain node ask key show help" ;;
+        *) words="check test ctl lab explain node ask key show follow help" ;;
         esac
         COMPREPLY=($(compgen -W "$words" -- "$current"))
         return
@@ -16,6 +16,7 @@ _pfx() {
     -F) COMPREPLY=($(compgen -W "rules Tables all" -- "$current")); return ;;
     -T) COMPREPLY=($(compgen -W "add delete replace flush show test" -- "$current")); return ;;
     -s) COMPREPLY=($(compgen -W "rules Tables Anchors" -- "$current")); return ;;
+    --pf) [[ $word != follow ]] || { COMPREPLY=($(compgen -d -- "$current")); return; } ;;
     --answer) COMPREPLY=($(compgen -W "learned" -- "$current")); return ;;
     -f | --file | --packets | --store | --key | --other-key | --door | --interfaces)
         COMPREPLY=($(compgen -f -- "$current")); return ;;
@@ -38,6 +39,7 @@ _pfx() {
     show)
         options="--store --nft --interfaces --pf --script --from --count -a -f -n -F -t -T -s"
         words="test log" ;;
+    follow) options="--door --nft --interfaces --pf --turns" ;;
     help) words="check test ctl lab explain help" ;;
     lab | explain | key) ;;
     *) return ;;

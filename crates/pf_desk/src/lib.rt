@@ -15,6 +15,7 @@ mod answer;
 mod answering;
 mod changing;
 mod desk;
+mod entries;
 mod figures;
 mod health;
 mod json;

@@ -20,7 +20,7 @@ const FIELDS: usize = 64;
 
 /// Why there is no answer.
 #[derive(Clone, Copy, Debug, PartialEq, Eq)]
-pub(crate) enum VisitFault {
+pub enum VisitFault {
     /// A growth was refused.
     Memory,
     /// 85: nobody answers at the door.
@@ -119,5 +119,20 @@ pub(crate) fn exchange<RT: Net>(
         Ok(answer) => reply_in(alloc, answer.as_slice()),
         Err(InputFault::Memory) => Err(VisitFault::Memory),
         Err(InputFault::Failed | InputFault::TooLong) => Err(VisitFault::BadAnswer),
+    }
+}
+
+/// What is read at a door under a target, in one request: the body of an answer whose status is 200.
+pub fn read_at<RT: Net>(
+    rt: &RT,
+    alloc: Global,
+    door: &str,
+    target: String,
+) -> Result<Vec<u8>, VisitFault> {
+    let reply = exchange(rt, alloc, door, &Call::get(alloc, target))?;
+    if reply.code == 200 {
+        Ok(reply.body)
+    } else {
+        Err(VisitFault::BadAnswer)
     }
 }

@@ -24,11 +24,11 @@ const ASKED: &[u8] = b"asked ";
 /// What it answers once a command is applied.
 const APPLIED: &[u8] = b"applied ";
 
-/// Waits for a short time: for what never comes over a stream of its own.
-fn pause<RT: Net>(rt: &RT) {
+/// Waits for so many milliseconds: for what never comes over a stream of its own.
+pub fn pause<RT: Net>(rt: &RT, milliseconds: u64) {
     if let Ok((mut near, _far)) = UnixStream::pair(rt) {
         if near
-            .set_read_timeout(Some(Duration::from_millis(PAUSE)))
+            .set_read_timeout(Some(Duration::from_millis(milliseconds)))
             .is_ok()
         {
             let mut room = [0u8; 1];
@@ -71,7 +71,7 @@ fn ask_on<RT: Net + Clock>(
             return found;
         }
         if ask >= AT_ONCE {
-            pause(rt);
+            pause(rt, PAUSE);
         }
     }
     Err(VisitFault::BadAnswer)
