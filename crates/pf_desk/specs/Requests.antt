@@ -1,6 +1,6 @@
 -- What is answered to a request.
-use Rattle.std.specs.Prelude.{◌≡◌, ◌⊎◌, ℕ, Bool, true, false, [], map, length, nat_lt, Option, Result, codes}
-use Rattle.px_model.specs.Step.{front}
+use Rattle.std.specs.Prelude.{◌≡◌, ◌⊎◌, ◌-◌, ℕ, Bool, true, false, [], map, length, nat_lt, Option, Result, codes}
+use Rattle.px_model.specs.Step.{front, positions}
 use Rattle.px_records.specs.declared.records.Records.{Ghosts}
 use Rattle.pf_entry.specs.Entry as entries
 use Rattle.pf_scripts.specs.WordsRead.{change_in}
@@ -33,6 +33,7 @@ pub record AreFigures {R : Type 0} {G : Ghosts R} (n : Node R G) (f : Figures) :
   pub front : f.front ≡ front (learned_by n)
   pub applied : f.applied ≡ applied_of n
   pub waiting : f.waiting ≡ length (state_in n).volatile.waiting
+  pub left : f.left ≡ positions - front (learned_by n)
   pub failed : f.has_failed ≡ has_failed n
 
 -- the status of figures that are the node's, as JSON or in lines

@@ -6,6 +6,7 @@ ghost use Rattle.pf_desk.specs.Requests.{AreFigures};
 use pf_config::Config;
 use pf_node::Node;
 use pf_ruleset::Name;
+use px_core::POSITIONS;
 use px_records::Records;
 use std::alloc::AllocError;
 
@@ -26,6 +27,8 @@ pub struct Figures {
     pub round: u64,
     /// How many commands wait to be proposed.
     pub waiting: usize,
+    /// How many positions the log has left.
+    pub left: u32,
     /// Paths that have rules or tables.
     pub anchors: usize,
     /// Rules, at all paths.
@@ -93,6 +96,7 @@ impl Figures {
             applied: node.applied(),
             round: node.round(),
             waiting: node.waiting(),
+            left: POSITIONS - node.front(),
             anchors: counts.anchors,
             rules: counts.rules,
             tables: counts.tables,
