@@ -18,7 +18,7 @@ _pfx() {
     -s) COMPREPLY=($(compgen -W "rules Tables Anchors" -- "$current")); return ;;
     --pf) [[ $word != follow ]] || { COMPREPLY=($(compgen -d -- "$current")); return; } ;;
     --answer) COMPREPLY=($(compgen -W "learned" -- "$current")); return ;;
-    -f | --file | --packets | --store | --key | --other-key | --door | --interfaces)
+    -f | --file | --packets | --config | --store | --key | --other-key | --door | --interfaces)
         COMPREPLY=($(compgen -f -- "$current")); return ;;
     -a | -t | --me | --cluster | --turns | --to | --members | --node | --wait | --at | --position | --metrics) return ;;
     --from | --count) return ;;
@@ -30,7 +30,8 @@ _pfx() {
         [[ $current == -* ]] || { COMPREPLY=($(compgen -f -- "$current")); return; } ;;
     test) options="-f --file --packets -q --quiet -v --verbose" ;;
     ctl) options="-v --verbose" ;;
-    node) options="--me --cluster --store --turns --answer --door --metrics --key --other-key --unsealed" ;;
+    node)
+        options="--config --me --cluster --store --turns --answer --door --metrics --key --other-key --unsealed --quiet" ;;
     ask)
         options="--wait -a -f -n -F -t -T -s"
         [[ $seen == *" --to "* ]] || options+=" --door --at --unchecked --script --from"

@@ -22,6 +22,7 @@ complete -c pfx -n "$test" -s v -l verbose -d 'Say what is refused, and which ru
 complete -c pfx -n '__fish_seen_subcommand_from ctl' -s v -l verbose -d 'Say what is refused'
 
 set -l node '__fish_seen_subcommand_from node'
+complete -c pfx -n "$node" -l config -r -F -d 'A file of settings'
 complete -c pfx -n "$node" -l me -x -d 'The number of the node'
 complete -c pfx -n "$node" -l cluster -x -d 'Number of the cluster'
 complete -c pfx -n "$node" -l store -r -F -d 'The file of its record'
@@ -32,6 +33,7 @@ complete -c pfx -n "$node" -l metrics -x -d 'A TCP address of this machine alone
 complete -c pfx -n "$node" -l key -r -F -d 'A file with the key of the cluster'
 complete -c pfx -n "$node" -l other-key -r -F -d 'A file with a second key that is heard too'
 complete -c pfx -n "$node" -l unsealed -d 'Something below seals datagrams'
+complete -c pfx -n "$node" -l quiet -d 'Say warnings and errors alone'
 
 set -l ask '__fish_seen_subcommand_from ask'
 complete -c pfx -n "$ask; and not __fish_contains_opt to" -l door -r -F -d 'The Unix socket of operators'

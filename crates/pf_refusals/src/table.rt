@@ -14,7 +14,7 @@ const ASK_STAYS: &str = "Nothing is taken in, and the node goes on.";
 const STORE_STAYS: &str = "The node isn't started, and the store stays as it was.";
 
 /// Each refusal once, by number. `scripts/refusals` compares it with docs/LANGUAGE.md.
-pub const REFUSALS: [Explanation; 40] = [
+pub const REFUSALS: [Explanation; 41] = [
     Explanation {
         code: 1,
         name: "no number in an address",
@@ -326,5 +326,14 @@ pub const REFUSALS: [Explanation; 40] = [
         meaning: "a script of a store's configuration: none gives it",
         after: "No script is printed, and the store stays as it was.",
         remedy: "Look by -s at what the store holds, and load it by hand.",
+    },
+    Explanation {
+        code: 92,
+        name: "bad file of settings",
+        meaning: "a node's file of settings: it isn't TOML, has an unknown setting or a\n         \
+            value of another kind; a setting that neither it nor an option gives",
+        after: "No node is started.",
+        remedy: "Look at the named line, which standard error says more of, and at the\n         \
+            example in pfx-node(8).",
     },
 ];

@@ -23,6 +23,8 @@ pub(crate) enum Outcome {
     Key([u8; 32]),
     /// The number of the refusal.
     Refused(u8),
+    /// The number of the refusal, and the line of the file of settings.
+    RefusedLine { code: u8, line: u64 },
     /// No answer came.
     NoAnswer,
     /// Memory ran out.
@@ -66,6 +68,7 @@ fn line_of(alloc: Global, outcome: Outcome) -> Result<String, AllocError>
         Outcome::Asked { node, number } => asked_line(alloc, node, number),
         Outcome::Key(key) => key_text(alloc, &key),
         Outcome::Refused(code) => format!(in alloc; "refused {code}\n"),
+        Outcome::RefusedLine { code, line } => format!(in alloc; "refused {code} line {line}\n"),
         Outcome::NoAnswer => format!(in alloc; "no answer\n"),
         Outcome::Memory => format!(in alloc; "memory\n"),
         Outcome::Unread => Ok(String::new(alloc)),
@@ -81,6 +84,7 @@ fn status_of(outcome: Outcome) -> Status
         Outcome::Asked { .. } => Status::Done,
         Outcome::Key(_) => Status::Done,
         Outcome::Refused(_) => Status::Refused,
+        Outcome::RefusedLine { .. } => Status::Refused,
         Outcome::NoAnswer => Status::Refused,
         Outcome::Memory => Status::Memory,
         Outcome::Unread => Status::Failed,
