@@ -69,7 +69,7 @@ fn grouped(rt: &HostRuntime, members: &[&str], k: u64, wait: u32) -> Result<Vec<
 }
 
 /// The member with this number.
-fn party(parties: &mut [Party], me: usize) -> Result<&mut Party, Fail> {
+fn party_of(parties: &mut [Party], me: usize) -> Result<&mut Party, Fail> {
     let Some(party) = parties.get_mut(me) else {
         return Err(Fail::new("no member"));
     };
@@ -78,7 +78,7 @@ fn party(parties: &mut [Party], me: usize) -> Result<&mut Party, Fail> {
 
 /// One turn of a member.
 fn pace(parties: &mut [Party], me: usize, room: &mut Room) -> Result<(), Fail> {
-    let party = party(parties, me)?;
+    let party = party_of(parties, me)?;
     turn(&mut party.node, &mut party.wire, room)?;
     Ok(())
 }
@@ -183,9 +183,9 @@ fn ask_change(alloc: Global, node: &mut Node<MemoryRecords>, address: &str) -> R
 
 /// Each member is asked a command that changes what the others make.
 fn ask_all(alloc: Global, parties: &mut [Party]) -> Result<(), Fail> {
-    ask_load(alloc, &mut party(parties, 0)?.node, RULES)?;
-    ask_load(alloc, &mut party(parties, 1)?.node, ANCHOR)?;
-    ask_change(alloc, &mut party(parties, 2)?.node, "0.0.0.3")
+    ask_load(alloc, &mut party_of(parties, 0)?.node, RULES)?;
+    ask_load(alloc, &mut party_of(parties, 1)?.node, ANCHOR)?;
+    ask_change(alloc, &mut party_of(parties, 2)?.node, "0.0.0.3")
 }
 
 /// Two nodes that have applied equally much have one configuration.
@@ -225,7 +225,7 @@ fn paced(alloc: Global, parties: &mut [Party]) -> Result<u32, Fail> {
             return Err(Fail::new("two nodes differ"));
         }
     }
-    if party(parties, 0)?.wire.failures() == 0 {
+    if party_of(parties, 0)?.wire.failures() == 0 {
         return Err(Fail::new("nothing was lost"));
     }
     Ok(most_applied(parties))
