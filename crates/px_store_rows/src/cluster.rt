@@ -1,9 +1,10 @@
-//! A worked run of three nodes, each over a database in memory. A command is asked of the first one, which stops as
-//! soon as its next round is recorded, so that what it sends is lost, and starts anew from its database. The same
-//! command is asked again, the clock ticks, and every message is delivered once, in the order in which they were sent.
-
+//! A worked run of three nodes, each over a store of its own. A command is asked of the first one, which stops as soon
+//! as its next round is recorded, so that what it sends is lost, and starts anew from its store. The same command is
+//! asked again, the clock ticks, and every message is delivered once, in the order in which they were sent.
 ghost use Rattle.std.specs.Prelude.{◌≡◌, IfOk};
 
+use crate::said::say;
+use crate::store::adopted;
 use pf_eval::{parse_packet, show_verdict};
 use pf_node::{Command, Datagram, Membership, Node, NodeFault};
 use pf_ruleset::Path;
@@ -12,7 +13,7 @@ use px_records::Records;
 use px_sql::{Identity, SqlRecords};
 use sqlite::{Alter, Connection};
 use std::alloc::Global;
-use std::test::Fail;
+use std::fmt::Write;
 
 const PACKET: &str = "in on em0 proto tcp from 10.0.0.1 port 4000 to 192.0.2.1 port 22 flags S";
 
@@ -29,6 +30,15 @@ fn block(alloc: Global) -> Result<Command, NodeFault> {
         }),
         Err(_) => Err(NodeFault::Memory),
     }
+}
+
+/// The command is asked of the node.
+fn ask<R: Records>(alloc: Global, node: &mut Node<R>) -> Result<(), NodeFault> {
+    let command = block(alloc)?;
+    let asked = node.ask(&command);
+    drop(command);
+    asked?;
+    Ok(())
 }
 
 /// A member of the three with its record.
@@ -52,8 +62,7 @@ fn stopped<R: Records + Drop>(alloc: Global, records: R) -> Result<R, NodeFault>
     requires { R.members records ≡ 3 }
 {
     let mut node = member(alloc, 0, records)?;
-    let command = block(alloc)?;
-    node.ask(&command)?;
+    ask(alloc, &mut node)?;
     let mut lost = Vec::new(alloc);
     node.tick(&mut lost)?;
     Ok(node.close())
@@ -70,7 +79,7 @@ fn send(sent: &mut Vec<Datagram>, out: Vec<Datagram>) -> Result<(), NodeFault> {
 }
 
 /// The message of this number comes to its addressee; what that sends is appended.
-fn deliver<R: Records + Drop>(
+fn deliver<R: Records>(
     alloc: Global,
     nodes: &mut Vec<Node<R>>,
     sent: &mut Vec<Datagram>,
@@ -89,12 +98,11 @@ fn deliver<R: Records + Drop>(
 }
 
 /// The command is asked of the first node, its clock ticks, and every message is delivered.
-fn finish<R: Records + Drop>(alloc: Global, nodes: &mut Vec<Node<R>>) -> Result<(), NodeFault> {
+fn finish<R: Records>(alloc: Global, nodes: &mut Vec<Node<R>>) -> Result<(), NodeFault> {
     if nodes.is_empty() {
         return Err(NodeFault::Failed);
     }
-    let command = block(alloc)?;
-    nodes[0].ask(&command)?;
+    ask(alloc, &mut nodes[0])?;
     let mut sent = Vec::new(alloc);
     nodes[0].tick(&mut sent)?;
     for number in 0..MESSAGES {
@@ -124,7 +132,7 @@ fn run<R: Records + Drop>(alloc: Global, zero: R, one: R, two: R) -> Result<Vec<
     Ok(nodes)
 }
 
-/// The record of a member in a database.
+/// The record of a member in a store.
 fn record<S: Alter + Drop>(
     alloc: Global,
     conn: Connection<S>,
@@ -137,13 +145,13 @@ fn record<S: Alter + Drop>(
         members: 3,
         node,
     };
-    match SqlRecords::adopt(alloc, conn, identity) {
+    match adopted(alloc, conn, identity) {
         Ok(records) => Ok(records),
         Err(_) => Err(NodeFault::BadStore),
     }
 }
 
-/// The three nodes over empty databases, the run being over.
+/// The three nodes over empty stores, the run being over.
 fn nodes<S: Alter + Drop>(
     alloc: Global,
     zero: Connection<S>,
@@ -163,44 +171,49 @@ fn first<R: Records>(node: &Node<R>) -> Option<(u8, u64)> {
     Some((entry.origin(), entry.number()))
 }
 
-/// The node's verdict for a packet from 10.0.0.1.
-fn verdict<R: Records>(alloc: Global, node: &Node<R>) -> Result<String, NodeFault> {
+/// Tells the node's verdict for a packet from 10.0.0.1.
+fn say_verdict<R: Records>(alloc: Global, node: &Node<R>, out: &mut String) -> bool {
     let Ok(packet) = parse_packet(alloc, PACKET) else {
-        return Err(NodeFault::Failed);
+        return false;
     };
     match show_verdict(alloc, &node.verdict(&packet)) {
-        Ok(line) => Ok(line),
-        Err(_) => Err(NodeFault::Memory),
+        Ok(line) => say(out, line.as_str()),
+        Err(_) => false,
     }
 }
 
-/// Whether the node shows what the run comes to: its round, and the second request learned at the first position and
-/// applied.
-fn has_all<R: Records>(alloc: Global, node: &Node<R>, round: u64) -> Result<bool, NodeFault> {
-    let line = verdict(alloc, node)?;
-    let is_there = node.front() == 1 && node.applied() == 1 && node.round() == round;
-    Ok(is_there && first(node) == Some((0, 1)) && line.as_str() == "block drop @0")
+/// Tells what the node shows.
+fn say_node<R: Records>(alloc: Global, node: &Node<R>, out: &mut String) -> bool {
+    let (front, applied, round) = (node.front(), node.applied(), node.round());
+    let (origin, number) = first(node).unwrap_or((255, 0));
+    write!(
+        out,
+        "round {round} front {front} applied {applied} entry {number} of {origin}, "
+    )
+    .is_ok()
+        && say_verdict(alloc, node, out)
 }
 
-/// Whether each of the three nodes over these databases shows that.
-fn have_all<S: Alter + Drop>(
+/// Does the run over these empty stores, and tells what each node shows then.
+pub(crate) fn say_run<S: Alter + Drop>(
     alloc: Global,
     zero: Connection<S>,
     one: Connection<S>,
     two: Connection<S>,
-) -> Result<bool, NodeFault> {
-    let nodes = nodes(alloc, zero, one, two)?;
-    let [zero, one, two] = nodes.as_slice() else {
-        return Ok(false);
+    out: &mut String,
+) -> bool {
+    let Ok(nodes) = nodes(alloc, zero, one, two) else {
+        return say(out, "refused");
     };
-    Ok(has_all(alloc, zero, 2)? && has_all(alloc, one, 0)? && has_all(alloc, two, 0)?)
-}
-
-#[test]
-fn a_stop_after_the_round(rt: HostRuntime) -> Result<(), Fail> {
-    let zero = Connection::open_in_memory(rt.alloc())?;
-    let one = Connection::open_in_memory(rt.alloc())?;
-    let two = Connection::open_in_memory(rt.alloc())?;
-    assert!(rt; have_all(rt.alloc(), zero, one, two)?);
-    Ok(())
+    let mut is_first = true;
+    for node in &nodes {
+        if !is_first && !say(out, "; ") {
+            return false;
+        }
+        is_first = false;
+        if !say_node(alloc, node, out) {
+            return false;
+        }
+    }
+    true
 }

@@ -5,7 +5,7 @@ use std::alloc::{AllocError, Global};
 
 /// A member's record from one position on, below which everything is learned.
 #[derive(Drop)]
-pub struct Record {
+pub(crate) struct Record {
     meta: Meta,
     first: u32,
     slots: Vec<Slot>,
@@ -35,7 +35,7 @@ fn slot_at<'a>(slots: &'a [Slot], empty: &'a Slot, first: u32, reads: Reads) -> 
 
 impl Record {
     /// The first record, for positions from this one on.
-    pub fn new(alloc: Global, first: u32) -> Record {
+    pub(crate) fn new(alloc: Global, first: u32) -> Record {
         Record {
             meta: Meta {
                 round: 0,
@@ -78,7 +78,7 @@ impl Record {
     }
 
     /// One step of the member, whole. An event that can't come is refused for want of memory.
-    pub fn step(&mut self, core: &mut Core, event: &Event) -> Result<Sends, CoreFault> {
+    pub(crate) fn step(&mut self, core: &mut Core, event: &Event) -> Result<Sends, CoreFault> {
         if !core.takes(event) {
             return Err(CoreFault::Memory);
         }

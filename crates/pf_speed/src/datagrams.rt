@@ -1,11 +1,6 @@
-//! A datagram that is decoded many times, or copied many times, to be timed (`scripts/wire-speed`): a vote with an
-//! entry of so many bytes. The words are 1 to decode and 0 to copy, the entry's bytes, and how many times.
-#![tactic(auto)]
-
+//! A datagram that is decoded many times, or copied many times: a vote with an entry of so many bytes.
 use px_wire::{Membership, Message, decode};
 use std::alloc::{AllocError, Global};
-use std::io;
-use std::process::ExitCode;
 
 /// The bytes of an entry before its text: a load at the main ruleset, and the text's length.
 const FRONT: usize = 16;
@@ -56,8 +51,13 @@ fn copied(bytes: &mut [u8], room: &mut [u8], times: u32) -> u64 {
     sum
 }
 
-/// What the words ask for.
-fn sum_of(alloc: Global, decodes: u32, size: u32, times: u32) -> Result<u64, AllocError> {
+/// The sum of the positions of a vote of so many bytes that is decoded so many times, or copied, where `decodes` is 0.
+pub(crate) fn sum_of(
+    alloc: Global,
+    decodes: u32,
+    size: u32,
+    times: u32,
+) -> Result<u64, AllocError> {
     let mut bytes = vote_for(alloc, size as usize)?;
     if decodes == 0 {
         let mut room = Vec::from_slice(alloc, &bytes)?;
@@ -66,32 +66,5 @@ fn sum_of(alloc: Global, decodes: u32, size: u32, times: u32) -> Result<u64, All
     match Membership::new(7, 3, 1) {
         Some(reader) => Ok(decoded(&reader, &mut bytes, times)),
         None => Ok(0),
-    }
-}
-
-/// The numbers that the words say.
-fn numbers_of(rt: &HostRuntime) -> io::Result<Vec<u32>> {
-    let mut numbers = Vec::new(rt.alloc());
-    for word in std::env::args(rt)? {
-        if let Ok(number) = word.parse::<u32>() {
-            numbers.push(number)?;
-        }
-    }
-    Ok(numbers)
-}
-
-fn main(rt: HostRuntime) -> ExitCode {
-    let Ok(numbers) = numbers_of(&rt) else {
-        return ExitCode::from(2);
-    };
-    let [decodes, size, times] = numbers.as_slice() else {
-        return ExitCode::from(2);
-    };
-    let Ok(sum) = sum_of(rt.alloc(), *decodes, *size, *times) else {
-        return ExitCode::from(1);
-    };
-    match println!(&rt; "sum {sum}") {
-        Ok(()) => ExitCode::SUCCESS,
-        Err(_) => ExitCode::from(1),
     }
 }

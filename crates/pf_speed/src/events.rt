@@ -1,15 +1,8 @@
-//! Events through one member, to be timed (`scripts/core-speed`): an accept request, a vote and a telling at each
-//! position. The words say how many entries are learned before, and how many events come.
-#![tactic(auto)]
-
-mod record;
-
+//! Events through one member: an accept request, a vote and a telling at each position.
 use crate::record::Record;
 use px_core::{Core, CoreFault};
 use px_model::{Entry, EntryView, Event, Message};
 use std::alloc::Global;
-use std::io;
-use std::process::ExitCode;
 
 /// The spelling of the entry at a position, 100 bytes: a format, member 0, the position as its number, and zeros.
 fn spelling(position: u32) -> [u8; 100] {
@@ -66,8 +59,8 @@ fn opened(alloc: Global, learned: u32) -> Result<Core, CoreFault> {
     Ok(core)
 }
 
-/// The front after the events.
-fn front_after(alloc: Global, learned: u32, events: u32) -> Result<u32, CoreFault> {
+/// The front after so many events, of a member that has learned so many entries.
+pub(crate) fn front_after(alloc: Global, learned: u32, events: u32) -> Result<u32, CoreFault> {
     let mut core = opened(alloc, learned)?;
     let mut record = Record::new(alloc, learned);
     for number in 0..events {
@@ -78,31 +71,4 @@ fn front_after(alloc: Global, learned: u32, events: u32) -> Result<u32, CoreFaul
         }
     }
     Ok(core.front())
-}
-
-/// The numbers that the words say.
-fn numbers_of(rt: &HostRuntime) -> io::Result<Vec<u32>> {
-    let mut numbers = Vec::new(rt.alloc());
-    for word in std::env::args(rt)? {
-        if let Ok(number) = word.parse::<u32>() {
-            numbers.push(number)?;
-        }
-    }
-    Ok(numbers)
-}
-
-fn main(rt: HostRuntime) -> ExitCode {
-    let Ok(numbers) = numbers_of(&rt) else {
-        return ExitCode::from(2);
-    };
-    let [learned, events] = numbers.as_slice() else {
-        return ExitCode::from(2);
-    };
-    let Ok(front) = front_after(rt.alloc(), *learned, *events) else {
-        return ExitCode::from(1);
-    };
-    match println!(&rt; "front {front}") {
-        Ok(()) => ExitCode::SUCCESS,
-        Err(_) => ExitCode::from(1),
-    }
 }
