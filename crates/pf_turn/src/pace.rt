@@ -23,6 +23,9 @@ const GAP: u64 = 1_000;
 /// The most times in a row that an attempt's loss doubles the patience.
 const DOUBLINGS: u32 = 6;
 
+/// The longest time that a loss makes of a shorter one, in microseconds.
+const LONGEST: u64 = 4_000_000;
+
 /// How many entries a node may lack that are filled by the votes that it keeps, once it has the first.
 const NEAR: u32 = 48;
 
@@ -232,22 +235,20 @@ impl Pace {
     /// again.
     fn pause(&self, now: u64) -> u64 {
         let part = now % 8 + 2 * u64::from(self.me) + 1;
-        part.saturating_mul(self.trip / 4 + 1_000)
-            .saturating_mul(self.doubled())
+        self.longer(part.saturating_mul(self.trip / 4 + 1_000))
     }
 
     /// How long an attempt may take.
     fn patience(&self) -> u64 {
         let some = 20_000 + 5_000 * u64::from(self.me);
-        self.trip
-            .saturating_mul(4)
-            .saturating_add(some)
-            .saturating_mul(self.doubled())
+        self.longer(self.trip.saturating_mul(4).saturating_add(some))
     }
 
-    /// Two to the number of losses.
-    fn doubled(&self) -> u64 {
-        2u64.saturating_pow(self.losses)
+    /// A time that doubles with each loss, up to some seconds.
+    fn longer(&self, time: u64) -> u64 {
+        time.saturating_mul(2u64.saturating_pow(self.losses))
+            .min(LONGEST)
+            .max(time)
     }
 
     /// When a node that lacks entries does something about it: soon after it is seen that its front stands still, and

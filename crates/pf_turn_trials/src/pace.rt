@@ -103,6 +103,18 @@ fn what_was_begun_anew_measures_nothing(rt: HostRuntime) {
 }
 
 #[test]
+fn it_is_begun_anew_after_four_seconds_at_the_latest(rt: HostRuntime) {
+    let mut pace = Pace::new(0);
+    let mut now = 0u64;
+    assert!(rt; pace.beat(0, WAITING) == Beat::Tick);
+    for _ in 0..20u32 {
+        now = now.saturating_add(4_000_000);
+        assert!(rt; pace.beat(now, ATTEMPTING) == Beat::Tick);
+    }
+    assert!(rt; pace.beat(now + 3_999_999, ATTEMPTING) == Beat::Wait(1));
+}
+
+#[test]
 fn who_lost_the_lead_keeps_still(rt: HostRuntime) {
     let mut pace = Pace::new(1);
     assert!(rt; pace.beat(0, WAITING) == Beat::Tick);
