@@ -111,7 +111,7 @@ fn it_is_begun_anew_after_four_seconds_at_the_latest(rt: HostRuntime) {
         now = now.saturating_add(4_000_000);
         assert!(rt; pace.beat(now, ATTEMPTING) == Beat::Tick);
     }
-    assert!(rt; pace.beat(now + 3_999_999, ATTEMPTING) == Beat::Wait(1));
+    assert!(rt; pace.beat(now.saturating_add(3_999_999), ATTEMPTING) == Beat::Wait(1));
 }
 
 #[test]
