@@ -1,9 +1,10 @@
 //! What nft(8) is to load, one position after the other.
 
-ghost use Rattle.std.specs.Prelude.{◌≡◌, ◌≤◌, IfOk, OnErr, Some, None, Ok, true, false, length, take, drop};
+ghost use Rattle.std.specs.Prelude.{◌≡◌, ◌≤◌, ◌==◌, IfOk, OnErr, Some, None, Ok, true, length, not};
+ghost use Rattle.std.specs.List.{prefix_len};
 ghost use Rattle.pf_kernel.specs.Outputs.{config_output};
 ghost use Rattle.pf_kernel.specs.Seen.{written};
-ghost use Rattle.pf_follow.specs.Stepping.{line_end, two_ends, two_lines, end_line, IsSameAs, IsStep};
+ghost use Rattle.pf_follow.specs.Stepping.{line_end, two_lines, end_line, IsSameAs, IsStep};
 
 use pf_config::Config;
 use pf_kernel::{Written, config_output};
@@ -38,13 +39,21 @@ pub enum Step {
     Lines(Vec<u8>),
 }
 
-/// How many bytes the first line has, with its newline.
+/// How many bytes stand before the end of the first line.
 #[tactic(auto, using(crate::proofs::Ends::line_len_le))]
+fn line_len(text: &[u8]) -> usize
+    ensures value { result ≡ prefix_len (λ b. not (b == 10)) text.now }
+    ensures within { result ≤ length text.now }
+{
+    text.iter().take_while(|b| **b != b'\n').count()
+}
+
+/// How many bytes the first line has, with its newline.
 fn line_end(text: &[u8]) -> usize
     ensures value { result ≡ line_end text.now }
     ensures within { result ≤ length text.now }
 {
-    let len = text.iter().take_while(|b| **b != b'\n').count();
+    let len = line_len(text);
     if len < text.len() { len + 1 } else { len }
 }
 

@@ -13,10 +13,8 @@ use std::alloc::{AllocError, Global};
 use std::convert::AsStr;
 use std::io::Write;
 
-/// How long it waits where nothing is new, and where nobody answers, in milliseconds.
+/// How long it waits between two asks, but for entries that weren't all, in milliseconds.
 const PAUSE: u64 = 50;
-
-const LONG_PAUSE: u64 = 500;
 
 /// How many entries come at once at most, and with how many bytes of them no further one comes.
 const ENTRIES_MAX: u32 = 1_000;
@@ -96,7 +94,7 @@ fn follow<W: Write, E: Write>(
             }
             Asked::Nothing(fault) => {
                 say_nothing(errors, fault, &mut is_said);
-                pause(rt, LONG_PAUSE);
+                pause(rt, PAUSE);
             }
         }
     }
