@@ -1,7 +1,7 @@
 -- What a node's file of settings may say, of a TOML table as the data of its keys.
-use Rattle.std.specs.Prelude.{◌≡◌, ◌+◌, ◌==◌, ◌&&◌, ℕ, ℤ, pos, negsuc, List, [], ◌∷◌, length, Bool, true, false, if◌then◌else◌, Option, Some, None, is_some, option_and_then, IsUtf8, bytes_eq, codes, nat_le}
+use Rattle.std.specs.Prelude.{◌≡◌, ◌+◌, ◌==◌, ℕ, ℤ, pos, negsuc, List, [], ◌∷◌, length, Bool, true, false, if◌then◌else◌, Option, Some, None, is_some, option_and_then, IsUtf8, bytes_eq, codes, nat_le}
 use Rattle.std.specs.List.{filter}
-use Rattle.toml.specs.Data.{Data, Items, no_items, item, Members, no_members, member, as_str, as_bool, as_integer, as_array}
+use Rattle.toml.specs.Data.{Data, string, Items, no_items, item, Members, no_members, member, as_str, as_bool, as_integer, as_array}
 use Rattle.toml.specs.Parse.{parse_document}
 use Rattle.pf_node_file.specs.declared.kinds.Kind.{Kind}
 use Rattle.pf_node_file.specs.declared.kinds.Kind.TheVariants.{Text, Number, Flag, Texts, Answer}
@@ -43,7 +43,8 @@ is_number value most = at_most most (number_of value)
 -- each item is a text
 abbrev pub are_texts : Items → Bool
 are_texts no_items = true
-are_texts (item value values) = is_some (as_str value) && are_texts values
+are_texts (item (string text) values) = are_texts values
+are_texts (item _ values) = false
 
 abbrev pub are_texts_of : Option Items → Bool
 are_texts_of None = false
@@ -85,13 +86,10 @@ flag_at None = false
 flag_at (Some value) = is_true (as_bool value)
 
 -- the texts among some items, and those of a value that is a list of them
-abbrev pub text_before : Option (List ℕ) → List (List ℕ) → List (List ℕ)
-text_before None texts = texts
-text_before (Some text) texts = text ∷ texts
-
 abbrev pub texts_of : Items → List (List ℕ)
 texts_of no_items = []
-texts_of (item value values) = text_before (as_str value) (texts_of values)
+texts_of (item (string text) values) = text ∷ texts_of values
+texts_of (item _ values) = texts_of values
 
 abbrev pub texts_if : Option Items → List (List ℕ)
 texts_if None = []

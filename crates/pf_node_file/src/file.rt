@@ -149,8 +149,8 @@ fn texts_in(alloc: Global, values: &[Value]) -> Result<Vec<&str>, AllocError>
 {
     let mut texts = Vec::new(alloc);
     for value in values {
-        if let Some(text) = value.as_str() {
-            texts.push(text)?;
+        if let Value::String(text) = value {
+            texts.push(text.as_str())?;
         }
     }
     Ok(texts)

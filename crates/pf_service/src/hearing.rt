@@ -27,11 +27,13 @@ pub(crate) struct HearingWire<W> {
     is_said: bool,
     /// How many datagrams came since then that are no member's.
     others: u64,
+    /// Whether only warnings are said.
+    is_quiet: bool,
 }
 
 impl<W> HearingWire<W> {
     /// The wire over another, for this member.
-    pub(crate) fn new(rt: &HostRuntime, inner: W, m: Membership) -> HearingWire<W>
+    pub(crate) fn new(rt: &HostRuntime, inner: W, m: Membership, is_quiet: bool) -> HearingWire<W>
         ensures { below_of result ≡ inner }
     {
         HearingWire {
@@ -41,6 +43,7 @@ impl<W> HearingWire<W> {
             since: Instant::now(rt).ok(),
             is_said: false,
             others: 0,
+            is_quiet,
         }
     }
 
@@ -56,8 +59,11 @@ impl<W> HearingWire<W> {
     fn hear(&mut self, now: Option<Instant>)
         ensures { below_of self.new ≡ below_of self.old }
     {
-        if self.is_said {
-            let _said = eprintln!(self.rt; "pfx: node {} hears other members again", self.m.me());
+        if self.is_said && !self.is_quiet {
+            let _said = eprintln!(self.rt;
+                "pfx: info: node {} hears other members again",
+                self.m.me()
+            );
         }
         self.since = now;
         self.is_said = false;
@@ -81,7 +87,7 @@ impl<W> HearingWire<W> {
         }
         self.is_said = true;
         let _said = eprintln!(self.rt;
-            "pfx: node {} has heard no other member for {} seconds; {} datagrams came that aren't theirs. {}",
+            "pfx: warning: node {} has heard no other member for {} seconds; {} datagrams came that aren't theirs. {}",
             self.m.me(),
             QUIET,
             self.others,

@@ -27,7 +27,7 @@ fn key_refused(rt: &HostRuntime, path: &str, fault: KeyFault) -> Outcome
     if fault == KeyFault::Memory {
         return Outcome::Memory;
     }
-    let _said = eprintln!(rt; "pfx: {path} has no key: {fault}");
+    let _said = eprintln!(rt; "pfx: error: {path} has no key: {fault}");
     Outcome::Refused(83)
 }
 
@@ -106,7 +106,7 @@ pub(crate) fn warn_unsealed(rt: &HostRuntime, words: NodeWords<'_, '_>) {
         return;
     }
     let _said = eprintln!(rt;
-        "pfx: no --key: whoever can send datagrams to {own} can change what this cluster learns (--unsealed: all is well)"
+        "pfx: warning: no key: whoever can send datagrams to {own} can change what this cluster learns (unless --unsealed)"
     );
 }
 

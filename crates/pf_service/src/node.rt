@@ -263,7 +263,11 @@ fn run_over<R: Records, W: Wire + Drop>(
 {
     match wire {
         Ok(wire) => {
-            let wire = LoopbackWire::new(alloc, HearingWire::new(rt, wire, m), words.me);
+            let wire = LoopbackWire::new(
+                alloc,
+                HearingWire::new(rt, wire, m, words.is_quiet),
+                words.me,
+            );
             let (ended, records) = run_member(alloc, m, records, Some(wire), rt, words.turns);
             (ended_outcome(ended, Outcome::Memory), records)
         }
@@ -341,6 +345,7 @@ fn run_at_door<R: Records>(
         figures,
         fd: wire.raw_fd(),
         turns: words.turns,
+        is_quiet: words.is_quiet,
     };
     match keys {
         Some(keys) => match sealed(alloc, Ok(wire), keys) {
