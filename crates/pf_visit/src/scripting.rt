@@ -30,7 +30,7 @@ enum Went {
 }
 
 /// Asks one change, and waits for what comes of it.
-fn went(
+fn make(
     rt: &HostRuntime,
     alloc: Global,
     errand: &Errand<'_>,
@@ -72,7 +72,7 @@ fn ask_one<W: Write>(
     change: &Change<'_>,
     writer: &mut W,
 ) -> Option<Status> {
-    match went(rt, alloc, errand, change) {
+    match make(rt, alloc, errand, change) {
         Ok(Went::Made(said)) => match writer.write_all(said.as_slice()) {
             Ok(()) => None,
             Err(_) => Some(Status::Failed),
