@@ -13,7 +13,7 @@ class Kept(http.client.HTTPConnection):
 
     def __init__(self, path, seconds=30):
         super().__init__("pfx", timeout=seconds)
-        self.path = path
+        self.path, self.asked = path, 0
 
     def connect(self):
         self.sock = socket.socket(socket.AF_UNIX, socket.SOCK_STREAM)
@@ -21,7 +21,10 @@ class Kept(http.client.HTTPConnection):
         self.sock.connect(self.path)
 
     def ask(self, method, target, body=None, fields={}):
-        """HTTP's status, the answer's fields and its body."""
+        """HTTP's status, the answer's fields and its body. A door closes a connection behind its thousandth request."""
+        self.asked += 1
+        if self.asked % 1000 == 0:
+            self.close()
         self.request(method, target, body, fields)
         answer = self.getresponse()
         return answer.status, answer.headers, answer.read().decode()
