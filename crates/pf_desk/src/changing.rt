@@ -7,9 +7,9 @@ ghost use Rattle.pf_desk.specs.Answers.{answer_value};
 ghost use Rattle.pf_desk.specs.Changing.{Changes, AskedOnce, has_place, refused_by, asked_line, change_answer};
 
 use crate::answer::Answer;
+use crate::figures::positions_left;
 use pf_node::{Command, Node, NodeFault};
 use pf_scripts::{ChangeFault, push_number, read_change};
-use px_core::POSITIONS;
 use px_records::Records;
 use std::alloc::{AllocError, Global};
 
@@ -55,7 +55,7 @@ fn ask_once<R: Records>(node: &mut Node<R>, command: &Command) -> Changed
 fn has_place<R: Records>(node: &Node<R>) -> bool
     ensures { result ≡ has_place node.now }
 {
-    let left = POSITIONS - node.front();
+    let left = positions_left(node);
     node.waiting() < left as usize
 }
 

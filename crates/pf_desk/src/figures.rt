@@ -1,6 +1,8 @@
 //! A node in numbers.
 
-ghost use Rattle.std.specs.Prelude.{IfOk};
+ghost use Rattle.std.specs.Prelude.{◌≡◌, IfOk, ◌-◌};
+ghost use Rattle.px_model.specs.Step.{front, positions};
+ghost use Rattle.pf_node.specs.Nodes.{learned_by};
 ghost use Rattle.pf_desk.specs.Requests.{AreFigures};
 
 use pf_config::Config;
@@ -81,6 +83,14 @@ fn count_config(config: &Config) -> Result<Counts, AllocError> {
     Ok(counts)
 }
 
+/// How many positions the log has left.
+pub(crate) fn positions_left<R: Records>(node: &Node<R>) -> u32
+    ensures { result ≡ positions - front (learned_by node.now) }
+{
+    let front = node.front();
+    POSITIONS - front
+}
+
 impl Figures {
     /// A node in numbers.
     pub fn of<R: Records>(node: &Node<R>) -> Result<Figures, AllocError>
@@ -96,7 +106,7 @@ impl Figures {
             applied: node.applied(),
             round: node.round(),
             waiting: node.waiting(),
-            left: POSITIONS - node.front(),
+            left: positions_left(node),
             anchors: counts.anchors,
             rules: counts.rules,
             tables: counts.tables,
