@@ -6,9 +6,10 @@
 //! - [`show_node`]: the same of a node.
 //!
 //! Within: `words` has pfctl's words and packets, `logged` the log, `texts` rulesets for pfctl(8), `scripts` a script that
-//! gives the configuration.
+//! gives the configuration, `figures` how far it is.
 #![tactic(auto)]
 
+mod figures;
 mod logged;
 mod scripts;
 mod showing;

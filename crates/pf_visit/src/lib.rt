@@ -7,7 +7,7 @@
 //!
 //! Within: `words` has the words as `clap` reads them, `call` what is sent for them, `checking` what they are refused
 //! for before that, `exchange` one request and its answer over the socket, `visiting` how often it is asked, `script`
-//! reads the changes of a script, and `scripting` asks them.
+//! reads the changes of a script, `scripting` asks them, and `telling` has what people are told on standard error.
 #![tactic(auto)]
 
 mod call;
@@ -16,6 +16,7 @@ mod exchange;
 mod running;
 mod script;
 mod scripting;
+mod telling;
 mod visiting;
 mod words;
 

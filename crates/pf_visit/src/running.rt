@@ -5,6 +5,7 @@ use crate::checking::{Refused, refused_words};
 use crate::exchange::{Reply, VisitFault};
 use crate::script::refused_script;
 use crate::scripting::{Errand, ask_script};
+use crate::telling::tell_left;
 use crate::visiting::visit;
 use crate::words::command;
 use clap::ArgMatches;
@@ -91,7 +92,12 @@ fn outcome_of<R: Read>(
         Err(_) => return Outcome::Memory,
     }
     match visit(rt, alloc, door, &call, seconds) {
-        Ok(reply) => Outcome::Reply(reply),
+        Ok(reply) => {
+            if call.is_change {
+                tell_left(rt, reply.front);
+            }
+            Outcome::Reply(reply)
+        }
         Err(VisitFault::Memory) => Outcome::Memory,
         Err(VisitFault::NoDoor) => refused(85),
         Err(VisitFault::BadAnswer) => refused(86),

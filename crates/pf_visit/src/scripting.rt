@@ -2,10 +2,11 @@
 
 use crate::exchange::VisitFault;
 use crate::script::{Change, Left, ScriptFault, next_change};
+use crate::telling::{tell_left, tell_line};
 use crate::visiting::{outcome_behind, visit};
 use pf_io::{Status, out_of_memory};
 use std::alloc::{AllocError, Global};
-use std::io::{IsTerminal, Write};
+use std::io::Write;
 
 /// What comes of a change that was made.
 const MADE: &[u8] = b"ok";
@@ -38,6 +39,7 @@ fn make(
 ) -> Result<Went, VisitFault> {
     let call = change.call(alloc)?;
     let reply = visit(rt, alloc, errand.door, &call, errand.seconds)?;
+    tell_left(rt, reply.front);
     let outcome = outcome_behind(reply.body.as_slice());
     if outcome.starts_with(MADE) {
         return Ok(Went::Made(Vec::from_slice(alloc, outcome)?));
@@ -54,14 +56,6 @@ fn write_end<W: Write>(alloc: Global, said: &[u8], line: u64, writer: &mut W) ->
         return Status::Failed;
     }
     Status::Refused
-}
-
-/// Says on a terminal how far it is.
-fn tell(rt: &HostRuntime, line: u64) {
-    let mut errors = rt.stderr();
-    if errors.is_terminal() {
-        let _said = eprint!(rt; "\rline {line}");
-    }
 }
 
 /// Asks one change and writes what came of it; none where it was made, else how the script ends.
@@ -104,7 +98,7 @@ pub(crate) fn ask_script<W: Write>(
             Err(ScriptFault::Memory) => return out_of_memory(writer),
         };
         if change.line >= errand.from {
-            tell(rt, change.line);
+            tell_line(rt, change.line);
             if let Some(status) = ask_one(rt, alloc, errand, &change, writer) {
                 return status;
             }

@@ -118,6 +118,7 @@ fn joined(taken: Reply, reply: Reply) -> Result<Reply, AllocError> {
     Ok(Reply {
         code: code_of(&reply),
         body,
+        front: reply.front,
     })
 }
 
@@ -139,10 +140,12 @@ fn synced(alloc: Global, reply: Reply) -> Result<Reply, AllocError> {
             Ok(Reply {
                 code: reply.code,
                 body: Vec::from_slice(alloc, line.as_bytes())?,
+                front: reply.front,
             })
         }
         None => Ok(Reply {
             code: code_of(&reply),
+            front: reply.front,
             body: reply.body,
         }),
     }
