@@ -152,9 +152,8 @@ impl<R: Records> Desk<R> {
     }
 
     /// Takes the change in that a line of pfctl's words asks for, `pfctl` itself first, with the text of its file: one
-    /// ask of the node, or a refusal with nothing changed: 62 where the positions that are left are those of commands that
-    /// wait. Where memory is wanting nothing has changed, and the node
-    /// wasn't asked.
+    /// ask of the node, or a refusal with nothing changed: 62 where the positions that are left are those of commands
+    /// that wait. Where memory is wanting nothing has changed, and the node wasn't asked.
     pub fn change(&mut self, words: &[&str], text: &[u8]) -> Result<Changed, AllocError>
         ensures changes { IfOk result (Changes self.old.node self.new.node
             (change_in (map (λ w. w.now) words.now) text.now)) }

@@ -110,8 +110,8 @@ impl Kernel {
     }
 
     /// What is to be loaded of the configuration after so many entries: nothing where it would be rendered under the
-    /// names of what was handed out last as that was; else its first two lines, and the last line of what was handed out
-    /// last. Where it can't be rendered, what was handed out last stands.
+    /// names of what was handed out last as that was; else its first two lines, and the last line of what was handed
+    /// out last. Where it can't be rendered, what was handed out last stands.
     pub fn step(
         &mut self,
         alloc: Global,

@@ -90,9 +90,9 @@ impl Mirror {
         }
     }
 
-    /// Takes the entries of a text of lines, the first of them at this mirror's position: what a door answers from there
-    /// on. So a mirror that has the configuration after the first entries of a node's log has it again. Where a line isn't
-    /// taken those before it are.
+    /// Takes the entries of a text of lines, the first of them at this mirror's position: what a door answers from
+    /// there on. So a mirror that has the configuration after the first entries of a node's log has it again. Where a
+    /// line isn't taken those before it are.
     pub fn take(&mut self, alloc: Global, text: &[u8]) -> Result<(), TakeFault>
         ensures config { OnOk result (self.new.config ≡ after_lines self.old.config text.now) }
         ensures position { OnOk result (self.new.position ≡ self.old.position + length (lines text.now)) }

@@ -93,8 +93,8 @@ impl TextFiles {
         )
     }
 
-    /// Writes those files of a configuration that aren't written so yet, empty ones for paths that are gone, and answers
-    /// whether all could be.
+    /// Writes those files of a configuration that aren't written so yet, empty ones for paths that are gone, and
+    /// answers whether all could be.
     pub(crate) fn write(
         &mut self,
         rt: &HostRuntime,

@@ -187,9 +187,9 @@ fn followed<W: Write, E: Write>(
     }
 }
 
-/// What the word `follow` asks for, the program's name first: the rules of a running node's configuration, whole, once it
-/// has applied a command and each time that what it applies changes them; for nft(8) to the writer, for pfctl(8) into
-/// files. Refusals go to `errors`.
+/// What the word `follow` asks for, the program's name first: the rules of a running node's configuration, whole, once
+/// it has applied a command and each time that what it applies changes them; for nft(8) to the writer, for pfctl(8)
+/// into files. Refusals go to `errors`.
 pub fn run_follow<S: AsStr, W: Write, E: Write>(
     rt: &HostRuntime,
     alloc: Global,

@@ -1,7 +1,9 @@
 -- What a node's file of settings may say, of a TOML table as the data of its keys.
-use Rattle.std.specs.Prelude.{◌≡◌, ◌+◌, ◌==◌, ℕ, ℤ, pos, negsuc, List, [], ◌∷◌, length, Bool, true, false, if◌then◌else◌, Option, Some, None, is_some, option_and_then, IsUtf8, bytes_eq, codes, nat_le}
+use Rattle.std.specs.Prelude.{◌≡◌, ◌+◌, ◌==◌, ℕ, ℤ, pos, negsuc, List, [], ◌∷◌, length, Bool, true, false}
+use Rattle.std.specs.Prelude.{if◌then◌else◌, Option, Some, None, is_some, option_and_then, IsUtf8, bytes_eq, codes, nat_le}
 use Rattle.std.specs.List.{filter}
-use Rattle.toml.specs.Data.{Data, string, Items, no_items, item, Members, no_members, member, as_str, as_bool, as_integer, as_array}
+use Rattle.toml.specs.Data.{Data, string, Items, no_items, item, Members, no_members, member}
+use Rattle.toml.specs.Data.{as_str, as_bool, as_integer, as_array}
 use Rattle.toml.specs.Parse.{parse_document}
 use Rattle.pf_node_file.specs.declared.kinds.Kind.{Kind}
 use Rattle.pf_node_file.specs.declared.kinds.Kind.TheVariants.{Text, Number, Flag, Texts, Answer}

@@ -17,7 +17,8 @@ use Rattle.pf_io.specs.declared.status.Status.{Status}
 use Rattle.pf_io.specs.declared.status.Status.TheVariants as status
 use Rattle.pf_io.specs.Written.{line}
 use Rattle.pf_service.specs.declared.outcome.Outcome.{Outcome}
-use Rattle.pf_service.specs.declared.outcome.Outcome.TheVariants.{Front, Asked, Key, Refused, RefusedLine, NoAnswer, Memory, Unread}
+use Rattle.pf_service.specs.declared.outcome.Outcome.TheVariants.{Front, Asked, Key, Refused, RefusedLine, NoAnswer}
+use Rattle.pf_service.specs.declared.outcome.Outcome.TheVariants.{Memory, Unread}
 
 abbrev pub line_of : Outcome → List ℕ
 line_of (Front front applied) = line (codes "front " ++ decimal front ++ codes " applied " ++ decimal applied)

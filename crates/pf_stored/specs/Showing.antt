@@ -13,8 +13,8 @@ use Rattle.pf_stored.specs.declared.shown.Shown.{Shown}
 use Rattle.pf_stored.specs.declared.shown.Wanted.{Wanted}
 use Rattle.pf_stored.specs.declared.shown.Wanted.TheVariants as wanted
 
--- What is shown of the configuration after the first k entries of a log. Of texts for pfctl(8) nothing is said; a script,
--- unless it is refused, gives the configuration.
+-- What is shown of the configuration after the first k entries of a log. Of texts for pfctl(8) nothing is said; a
+-- script, unless it is refused, gives the configuration.
 abbrev pub Shows : Log Bytes → (k kept : ℕ) → Configuration → Wanted → Shown → Type 0
 Shows log k kept c (wanted.Words words) s = shown_value s ≡ listed c (map (λ w. w.now) words.now)
 Shows log k kept c (wanted.Packets packets) s = shown_value s ≡ verdicts c (map (λ p. p.now) packets.now)
