@@ -49,19 +49,19 @@ pub record AskedOnce {R : Type 0} {G : Ghosts R} (s t : Node R G) (command : ent
   pub applied : applied_of t ≡ applied_of s
   pub config : config_of t ≡ config_of s
 
--- whether more positions are left than commands wait, so that one more has a place
-abbrev pub has_place : {R : Type 0} {G : Ghosts R} → Node R G → Bool
-has_place n = nat_lt (length (state_in n).volatile.waiting) (positions - front (learned_by n))
+-- whether more positions are left than commands wait, so that one more has its own
+abbrev pub has_position : {R : Type 0} {G : Ghosts R} → Node R G → Bool
+has_position n = nat_lt (length (state_in n).volatile.waiting) (positions - front (learned_by n))
 
--- one ask where the command has a place; else 62 and nothing else
+-- one ask where the command has a position; else 62 and nothing else
 abbrev pub ChangesIf : {R : Type 0} {G : Ghosts R} → Bool → (s t : Node R G) → entries.Command → Changed → Type 0
 ChangesIf true s t command changed = AskedOnce s t command changed
 ChangesIf false s t command changed = (t ≡ s) × (changed ≡ Refused 62)
 
--- the words' refusal and nothing else, or one ask where the command has a place
+-- the words' refusal and nothing else, or one ask where the command has a position
 abbrev pub Changes : {R : Type 0} {G : Ghosts R} → (s t : Node R G) → Result entries.Command ℕ → Changed → Type 0
 Changes s t (Err code) changed = (t ≡ s) × (changed ≡ Refused code)
-Changes s t (Ok command) changed = ChangesIf (has_place s) s t command changed
+Changes s t (Ok command) changed = ChangesIf (has_position s) s t command changed
 
 -- ---- the numbers that were given
 

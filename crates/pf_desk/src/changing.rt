@@ -4,7 +4,7 @@ ghost use Rattle.std.specs.Prelude.{◌≡◌, OnErr, IfOk, map, string_bytes};
 ghost use Rattle.pf_entry.specs.Owned.{command_value};
 ghost use Rattle.pf_scripts.specs.WordsRead.{change_in};
 ghost use Rattle.pf_desk.specs.Answers.{answer_value};
-ghost use Rattle.pf_desk.specs.Changing.{Changes, AskedOnce, has_place, refused_by, asked_line, change_answer};
+ghost use Rattle.pf_desk.specs.Changing.{Changes, AskedOnce, has_position, refused_by, asked_line, change_answer};
 
 use crate::answer::Answer;
 use crate::figures::positions_left;
@@ -51,9 +51,9 @@ fn ask_once<R: Records>(node: &mut Node<R>, command: &Command) -> Changed
     }
 }
 
-/// Whether more positions are left than commands wait, so that one more has a place.
-fn has_place<R: Records>(node: &Node<R>) -> bool
-    ensures { result ≡ has_place node.now }
+/// Whether more positions are left than commands wait, so that one more has its own.
+fn has_position<R: Records>(node: &Node<R>) -> bool
+    ensures { result ≡ has_position node.now }
 {
     let left = positions_left(node);
     node.waiting() < left as usize
@@ -73,7 +73,7 @@ pub(crate) fn change_node<R: Records>(
 {
     match read_change(alloc, words, text) {
         Ok(command) => {
-            if !has_place(node) {
+            if !has_position(node) {
                 return Ok(Changed::Refused(62));
             }
             Ok(ask_once(node, &command))

@@ -11,10 +11,10 @@ use px_records::Records;
 use std::alloc::{AllocError, Global};
 
 /// How many entries are shown at most.
-const ENTRIES_MAX: u32 = 1_000;
+pub const ENTRIES_MAX: u32 = 1_000;
 
 /// Once the lines have so many bytes, no further one is shown.
-const BYTES_MAX: usize = 262_144;
+pub const ENTRIES_BYTES: usize = 262_144;
 
 /// Puts the line of a position's entry behind the text.
 fn push_entry<R: Records>(
@@ -50,7 +50,7 @@ fn push_entries<R: Records>(
 {
     let mut left = count;
     while left > 0 {
-        if out.as_bytes().len() >= BYTES_MAX {
+        if out.as_bytes().len() >= ENTRIES_BYTES {
             return Ok(());
         }
         push_entry(alloc, out, node, end - left)?;

@@ -36,6 +36,7 @@ mod words;
 pub use answer::{Answer, status_of};
 pub use changing::Changed;
 pub use desk::Desk;
+pub use entries::{ENTRIES_BYTES, ENTRIES_MAX};
 pub use figures::Figures;
 pub use health::Health;
 pub use pf_node::Node;

@@ -1,6 +1,6 @@
 //! What nft(8) is to load, one position after the other.
 
-ghost use Rattle.std.specs.Prelude.{◌≡◌, ◌≤◌, ◌==◌, IfOk, OnErr, Some, None, Ok, true, length, not};
+ghost use Rattle.std.specs.Prelude.{◌≡◌, ◌≤◌, ◌==◌, ◌↔◌, IfOk, OnErr, IsTrue, Some, None, length, not};
 ghost use Rattle.std.specs.List.{prefix_len};
 ghost use Rattle.pf_kernel.specs.Outputs.{config_output};
 ghost use Rattle.pf_kernel.specs.Seen.{written};
@@ -98,7 +98,7 @@ impl Kernel {
 
     /// Whether this is what was handed out last, but for the names.
     fn is_same(&self, alloc: Global, config: &Config) -> Result<bool, AllocError>
-        ensures { result ≡ Ok true → IsSameAs self.now.interfaces.items self.now.last config.now }
+        ensures { IfOk result (λ same. IsTrue same ↔ IsSameAs self.now.interfaces.items self.now.last config.now) }
     {
         match &self.last {
             Some(last) => {

@@ -6,11 +6,13 @@ use pf_ruleset::Name;
 use std::alloc::{AllocError, Global};
 use std::fs;
 
-/// A file and what was written to it last.
+/// A file and its text.
 #[derive(Drop)]
 struct TextFile {
     name: String,
     text: String,
+    /// Whether the text stands there.
+    is_put: bool,
 }
 
 /// The files of a folder.
@@ -45,12 +47,14 @@ fn files_of(alloc: Global, config: &Config) -> Result<Vec<TextFile>, AllocError>
         files.push(TextFile {
             name: file_name(alloc, path)?,
             text,
+            is_put: false,
         })?;
     }
     if !has_main {
         files.push(TextFile {
             name: String::from_str(alloc, "main.conf")?,
             text: String::new(alloc),
+            is_put: false,
         })?;
     }
     Ok(files)
@@ -61,10 +65,9 @@ fn has_name(files: &[TextFile], name: &str) -> bool {
     files.iter().any(|file| file.name.as_str() == name)
 }
 
-/// Whether this was written there last.
-fn is_written(files: &[TextFile], file: &TextFile) -> bool {
-    files.iter().any(|old| old.name.as_str() == file.name.as_str()
-        && old.text.as_str() == file.text.as_str())
+/// Whether this stands there.
+fn is_written(files: &[TextFile], name: &str, text: &str) -> bool {
+    files.iter().any(|old| old.is_put && old.name.as_str() == name && old.text.as_str() == text)
 }
 
 impl TextFiles {
@@ -93,6 +96,20 @@ impl TextFiles {
         )
     }
 
+    /// Writes a file unless it stands there, and answers whether it does now.
+    fn stands(
+        &self,
+        rt: &HostRuntime,
+        alloc: Global,
+        name: &str,
+        text: &str,
+    ) -> Result<bool, AllocError> {
+        if is_written(self.written.as_slice(), name, text) {
+            return Ok(true);
+        }
+        self.put(rt, alloc, name, text)
+    }
+
     /// Writes those files of a configuration that aren't written so yet, empty ones for paths that are gone, and
     /// answers whether all could be.
     pub(crate) fn write(
@@ -101,22 +118,22 @@ impl TextFiles {
         alloc: Global,
         config: &Config,
     ) -> Result<bool, AllocError> {
-        let files = files_of(alloc, config)?;
-        for file in files.as_slice() {
-            if !is_written(self.written.as_slice(), file)
-                && !self.put(rt, alloc, file.name.as_str(), file.text.as_str())?
-            {
-                return Ok(false);
+        let mut files = files_of(alloc, config)?;
+        for old in self.written.as_slice() {
+            if !has_name(files.as_slice(), old.name.as_str()) && !old.text.is_empty() {
+                files.push(TextFile {
+                    name: String::from_str(alloc, old.name.as_str())?,
+                    text: String::new(alloc),
+                    is_put: false,
+                })?;
             }
         }
-        for old in self.written.as_slice() {
-            if !has_name(files.as_slice(), old.name.as_str())
-                && !self.put(rt, alloc, old.name.as_str(), "")?
-            {
-                return Ok(false);
-            }
+        let mut is_whole = true;
+        for file in &mut files {
+            file.is_put = self.stands(rt, alloc, file.name.as_str(), file.text.as_str())?;
+            is_whole = is_whole && file.is_put;
         }
         self.written = files;
-        Ok(true)
+        Ok(is_whole)
     }
 }

@@ -12,6 +12,8 @@ pub(crate) struct Outlets {
     pub(crate) kernel: Option<Kernel>,
     /// Texts for pfctl(8).
     pub(crate) files: Option<TextFiles>,
+    /// Whether a file couldn't be written, so that what stands there is of an earlier configuration.
+    pub(crate) is_behind: bool,
 }
 
 /// Why nothing more can be written.
@@ -21,6 +23,8 @@ pub(crate) enum WriteFault {
     Memory,
     /// The output is closed.
     Closed,
+    /// The log at the door is another than the one that was followed.
+    Another,
 }
 
 impl From<AllocError> for WriteFault {
@@ -60,8 +64,17 @@ fn write_kernel<W: Write, E: Write>(
 }
 
 impl Outlets {
+    /// Before anything is written.
+    pub(crate) fn new(kernel: Option<Kernel>, files: Option<TextFiles>) -> Outlets {
+        Outlets {
+            kernel,
+            files,
+            is_behind: false,
+        }
+    }
+
     /// Writes the configuration where it is to be written. What is refused is said, and so is a file that couldn't be
-    /// written.
+    /// written, once until it could be.
     pub(crate) fn write<W: Write, E: Write>(
         &mut self,
         rt: &HostRuntime,
@@ -71,9 +84,11 @@ impl Outlets {
         errors: &mut E,
     ) -> Result<(), WriteFault> {
         if let Some(files) = &mut self.files {
-            if !files.write(rt, alloc, &mirror.config)? {
+            let is_behind = !files.write(rt, alloc, &mirror.config)?;
+            if is_behind && !self.is_behind {
                 say(errors, alloc, mirror.position, "a file couldn't be written\n")?;
             }
+            self.is_behind = is_behind;
         }
         match &mut self.kernel {
             Some(kernel) => write_kernel(alloc, kernel, mirror, writer, errors),

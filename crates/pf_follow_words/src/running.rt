@@ -4,6 +4,7 @@ use crate::files::TextFiles;
 use crate::outlets::{Outlets, WriteFault};
 use crate::words::command;
 use clap::ArgMatches;
+use pf_desk::{ENTRIES_BYTES, ENTRIES_MAX};
 use pf_follow::{Kernel, Mirror, TakeFault};
 use pf_io::{Status, misused};
 use pf_kernel::machine_in;
@@ -16,10 +17,8 @@ use std::io::Write;
 /// How long it waits between two asks, but for entries that weren't all, in milliseconds.
 const PAUSE: u64 = 50;
 
-/// How many entries come at once at most, and with how many bytes of them no further one comes.
-const ENTRIES_MAX: u32 = 1_000;
-
-const BYTES_MAX: usize = 262_144;
+/// After how many asks a file is tried again that couldn't be written.
+const AGAIN: u64 = 20;
 
 /// What asking once came to.
 #[derive(Clone, Copy, PartialEq, Eq)]
@@ -28,6 +27,8 @@ enum Asked {
     More,
     /// All that is applied.
     All,
+    /// The log at the door is shorter than what was followed of it.
+    Another,
     /// Nobody answers, or what comes is no answer of a node's.
     Nothing(VisitFault),
 }
@@ -41,26 +42,29 @@ fn ask_on(
 ) -> Result<Asked, AllocError> {
     let first = mirror.position;
     let target = format!(in alloc; "/v1/entries?from={first}")?;
-    let lines = match read_at(rt, alloc, door, target) {
-        Ok(lines) => lines,
+    let reply = match read_at(rt, alloc, door, target) {
+        Ok(reply) => reply,
         Err(VisitFault::Memory) => return Err(AllocError),
         Err(fault) => return Ok(Asked::Nothing(fault)),
     };
-    match mirror.take(alloc, lines.as_slice()) {
+    if reply.front.is_some_and(|front| front < first) {
+        return Ok(Asked::Another);
+    }
+    match mirror.take(alloc, reply.body.as_slice()) {
         Ok(()) => {}
         Err(TakeFault::Memory) => return Err(AllocError),
         Err(TakeFault::BadLine) => return Ok(Asked::Nothing(VisitFault::BadAnswer)),
     }
-    if mirror.position.saturating_sub(first) >= ENTRIES_MAX || lines.len() >= BYTES_MAX {
+    if mirror.position.saturating_sub(first) >= ENTRIES_MAX || reply.body.len() >= ENTRIES_BYTES {
         return Ok(Asked::More);
     }
     Ok(Asked::All)
 }
 
-/// Says that there is no answer, unless that was said before.
-fn say_nothing<E: Write>(errors: &mut E, fault: VisitFault, is_said: &mut bool) {
-    if !*is_said {
-        *is_said = true;
+/// Says that there is no answer, unless that was said last.
+fn say_nothing<E: Write>(errors: &mut E, fault: VisitFault, said: &mut Option<VisitFault>) {
+    if *said != Some(fault) {
+        *said = Some(fault);
         let line = match fault {
             VisitFault::BadAnswer => "pfx: refused 86, asked again\n",
             _ => "pfx: refused 85, asked again\n",
@@ -69,7 +73,7 @@ fn say_nothing<E: Write>(errors: &mut E, fault: VisitFault, is_said: &mut bool) 
     }
 }
 
-/// Follows until the output is closed, or the door was asked so often.
+/// Follows until the output is closed, or the door was asked so often, or another log is there.
 fn follow<W: Write, E: Write>(
     rt: &HostRuntime,
     alloc: Global,
@@ -80,20 +84,21 @@ fn follow<W: Write, E: Write>(
     errors: &mut E,
 ) -> Result<(), WriteFault> {
     let mut mirror = Mirror::new(alloc)?;
-    let mut is_said = false;
-    for _turn in 0..turns {
+    let mut said = None;
+    for turn in 0..turns {
         match ask_on(rt, alloc, door, &mut mirror)? {
-            Asked::More => is_said = false,
+            Asked::More => said = None,
             Asked::All => {
-                is_said = false;
-                if mirror.is_moved {
+                said = None;
+                if mirror.is_moved || (outlets.is_behind && turn % AGAIN == 0) {
                     mirror.is_moved = false;
                     outlets.write(rt, alloc, &mirror, writer, errors)?;
                 }
                 pause(rt, PAUSE);
             }
+            Asked::Another => return Err(WriteFault::Another),
             Asked::Nothing(fault) => {
-                say_nothing(errors, fault, &mut is_said);
+                say_nothing(errors, fault, &mut said);
                 pause(rt, PAUSE);
             }
         }
@@ -107,6 +112,14 @@ fn refused<E: Write>(alloc: Global, code: u8, errors: &mut E) -> Status {
         return Status::Memory;
     };
     match errors.write_all(line.as_bytes()) {
+        Ok(()) => Status::Refused,
+        Err(_) => Status::Failed,
+    }
+}
+
+/// That the log at the door is another than the one that was followed, said on standard error.
+fn another<E: Write>(errors: &mut E) -> Status {
+    match errors.write_all(b"pfx: the log at the door is another than the one followed\n") {
         Ok(()) => Status::Refused,
         Err(_) => Status::Failed,
     }
@@ -144,20 +157,14 @@ fn outlets_for(
     };
     match (matches.get_flag("nft"), matches.get_str("interfaces")) {
         (true, Some(file)) => match kernel_for(rt, alloc, file)? {
-            Some(kernel) => Ok(Ok(Outlets {
-                kernel: Some(kernel),
-                files,
-            })),
+            Some(kernel) => Ok(Ok(Outlets::new(Some(kernel), files))),
             None => Ok(Err(89)),
         },
         (false, None) => {
             if files.is_none() {
                 return Ok(Err(40));
             }
-            Ok(Ok(Outlets {
-                kernel: None,
-                files,
-            }))
+            Ok(Ok(Outlets::new(None, files)))
         }
         _ => Ok(Err(40)),
     }
@@ -183,6 +190,7 @@ fn followed<W: Write, E: Write>(
     match follow(rt, alloc, door, turns, &mut outlets, writer, errors) {
         Ok(()) => Status::Done,
         Err(WriteFault::Closed) => Status::Failed,
+        Err(WriteFault::Another) => another(errors),
         Err(WriteFault::Memory) => memory(errors),
     }
 }

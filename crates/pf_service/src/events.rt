@@ -34,6 +34,9 @@ pub(crate) fn say_end(rt: &HostRuntime, words: NodeWords<'_, '_>, outcome: Outco
                 );
             }
         }
+        Outcome::Memory => {
+            let _said = eprintln!(rt; "pfx: error: node {} ends, out of memory", words.me);
+        }
         _ => {}
     }
 }

@@ -1,6 +1,6 @@
 //! The word `node`: a node over UDP.
 
-ghost use Rattle.std.specs.Prelude.{◌≡◌, ◌<◌, ◌⊎◌, ◌↔◌, Err, false, length, IfSome, OnErr, IsSome, IsTrue};
+ghost use Rattle.std.specs.Prelude.{◌≡◌, ◌<◌, ◌≤◌, ◌⊎◌, ◌↔◌, Err, false, length, IfSome, OnErr, IsSome, IsTrue};
 ghost use Rattle.std.specs.Prelude.{ℕ, Some, None, map, option_map, option_and_then, unwrap_or};
 ghost use Rattle.toml.specs.Data.{as_str, get_member};
 ghost use Rattle.pf_node_file.specs.Files.{settings_of};
@@ -82,6 +82,9 @@ fn number_or(given: Option<u32>, file: &NodeFile, name: &str) -> Option<u32>
     ensures given { (n : ℕ) → given ≡ Some n → result ≡ Some n }
     ensures file { given ≡ None → IfSome result (λ n.
         option_and_then number_of (get_member name.now (settings_of file.now)) ≡ Some n) }
+    ensures kept { given ≡ None → (n : ℕ) →
+        option_and_then number_of (get_member name.now (settings_of file.now)) ≡ Some n → n ≤ 4294967295 →
+        result ≡ Some n }
 {
     if given.is_some() {
         return given;

@@ -37,10 +37,10 @@ impl From<AllocError> for VisitFault {
 
 /// An answer: HTTP's status and the body, and how many positions the node knows the commands of.
 #[derive(Debug, Drop)]
-pub(crate) struct Reply {
-    pub(crate) code: u16,
-    pub(crate) body: Vec<u8>,
-    pub(crate) front: Option<u32>,
+pub struct Reply {
+    pub code: u16,
+    pub body: Vec<u8>,
+    pub front: Option<u32>,
 }
 
 /// The request's bytes.
@@ -134,16 +134,16 @@ pub(crate) fn exchange<RT: Net>(
     }
 }
 
-/// What is read at a door under a target, in one request: the body of an answer whose status is 200.
+/// What is read at a door under a target, in one request: an answer whose status is 200.
 pub fn read_at<RT: Net>(
     rt: &RT,
     alloc: Global,
     door: &str,
     target: String,
-) -> Result<Vec<u8>, VisitFault> {
+) -> Result<Reply, VisitFault> {
     let reply = exchange(rt, alloc, door, &Call::get(alloc, target))?;
     if reply.code == 200 {
-        Ok(reply.body)
+        Ok(reply)
     } else {
         Err(VisitFault::BadAnswer)
     }

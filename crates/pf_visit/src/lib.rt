@@ -3,7 +3,7 @@
 //! # Organization
 //!
 //! - [`run_visit`]: the word `ask` with `--door`, over any reader and writer.
-//! - [`read_at`], [`pause`]: one read at a door, and the time between two.
+//! - [`read_at`], [`pause`]: one read at a door with its [`Reply`], and the time between two.
 //!
 //! Within: `words` has the words as `clap` reads them, `call` what is sent for them, `checking` what they are refused
 //! for before that, `exchange` one request and its answer over the socket, `visiting` how often it is asked, `script`
@@ -20,7 +20,7 @@ mod telling;
 mod visiting;
 mod words;
 
-pub use exchange::{VisitFault, read_at};
+pub use exchange::{Reply, VisitFault, read_at};
 pub use pf_io::Status;
 pub use running::run_visit;
 pub use visiting::pause;

@@ -77,6 +77,9 @@ fn outcome_of<R: Read>(
     let Some(door) = matches.get_str("door") else {
         return refused(40);
     };
+    if matches.get_one::<u32>("from").is_some() {
+        return refused(40);
+    }
     let seconds = matches.get_one::<u32>("wait").unwrap_or(0);
     let at = matches.get_one::<u32>("at").unwrap_or(0);
     let text = match text_for(rt, alloc, matches.get_str("file"), reader) {
@@ -147,6 +150,7 @@ fn has_others(matches: &ArgMatches<'_>) -> bool {
         .iter()
         .any(|id| matches.get_str(id).is_some())
         || matches.get_strs("address").is_some()
+        || matches.get_one::<u32>("at").is_some()
         || matches.get_flag("check")
 }
 

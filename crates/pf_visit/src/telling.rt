@@ -1,9 +1,7 @@
 //! What people are told beside an answer, on standard error.
 
+use crate::words::POSITIONS;
 use std::io::IsTerminal;
-
-/// How many positions a log has.
-const POSITIONS: u32 = 1_000_000;
 
 /// From this front on each ask is told how many are left.
 const NEAR_THE_END: u32 = 900_000;
@@ -12,7 +10,7 @@ const NEAR_THE_END: u32 = 900_000;
 pub(crate) fn tell_left(rt: &HostRuntime, front: Option<u32>) {
     if let Some(front) = front {
         if front >= NEAR_THE_END {
-            let left = POSITIONS.saturating_sub(front);
+            let left = POSITIONS.saturating_sub(u64::from(front));
             let _said = eprint!(rt; "pfx: {left} positions left in the log\n");
         }
     }
@@ -22,6 +20,6 @@ pub(crate) fn tell_left(rt: &HostRuntime, front: Option<u32>) {
 pub(crate) fn tell_line(rt: &HostRuntime, line: u64) {
     let mut errors = rt.stderr();
     if errors.is_terminal() {
-        let _said = eprint!(rt; "\rline {line}");
+        let _said = eprint!(rt; "\rline {line}: ");
     }
 }

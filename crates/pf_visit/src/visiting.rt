@@ -132,6 +132,15 @@ fn position_in(body: &[u8]) -> Option<u32> {
     }
 }
 
+/// What stands for an answer that didn't come to what was taken in.
+fn waiting(alloc: Global) -> Result<Reply, AllocError> {
+    Ok(Reply {
+        code: 503,
+        body: Vec::from_slice(alloc, WAITING)?,
+        front: None,
+    })
+}
+
 /// How many positions a node has applied that applied this command.
 fn synced(alloc: Global, reply: Reply) -> Result<Reply, AllocError> {
     match position_in(reply.body.as_slice()) {
@@ -152,8 +161,8 @@ fn synced(alloc: Global, reply: Reply) -> Result<Reply, AllocError> {
 }
 
 /// Asks, and waits for so many seconds at most: for a node that isn't so far yet, and for what comes of a command that
-/// was taken in, whose position is asked for again where no answer comes. No command is asked twice that may have been
-/// taken in.
+/// was taken in, whose position is asked for again where no answer comes; it is `waiting` where none came in time. No
+/// command is asked twice that may have been taken in.
 pub(crate) fn visit<RT: Net + Clock>(
     rt: &RT,
     alloc: Global,
@@ -173,7 +182,11 @@ pub(crate) fn visit<RT: Net + Clock>(
     }
     let mut call_of = Call::get(alloc, target);
     call_of.is_repeatable = true;
-    let reply = ask_on(rt, alloc, door, &call_of, start, seconds)?;
+    let reply = match ask_on(rt, alloc, door, &call_of, start, seconds) {
+        Ok(reply) => reply,
+        Err(VisitFault::Memory) => return Err(VisitFault::Memory),
+        Err(VisitFault::NoDoor | VisitFault::BadAnswer) => waiting(alloc)?,
+    };
     if call.is_sync {
         return Ok(synced(alloc, reply)?);
     }

@@ -12,7 +12,7 @@ use std::alloc::{AllocError, Global};
 const WAIT_MAX: u64 = 3_600;
 
 /// The most positions.
-const POSITIONS: u64 = 1_000_000;
+pub(crate) const POSITIONS: u64 = 1_000_000;
 
 /// The last line of a script that can be named.
 const LINES: u64 = 4_294_967_295;

@@ -12,7 +12,7 @@ loop-left-preserved g c =
     let n = c.loop-left.left in
     let some : 0 < n = omega arith in
     let same : length c.as_bytes.result.now ≡ length text = ap length c.as_bytes.ensures.value in
-    let room : length text < 262144 = omega (arith, same, c.if-as_bytes-ge-BYTES_MAX.false) in
+    let room : length text < 262144 = omega (arith, same, c.if-as_bytes-ge-ENTRIES_BYTES.false) in
     record {
       rest = ap (λ (t : List ℕ). entries_before log c.args.end (n - 1) t) c.in_ok-push_entry.ensures
           ∙ sym (entries_step log c.args.end n text some room) ∙ c.loop-left.invariant.rest;
