@@ -191,17 +191,18 @@ pub const REFUSALS: [Explanation; 41] = [
         name: "no round left",
         meaning: "a tick, since every round is used",
         after: "The node proposes nothing more; what was learned stays.",
-        remedy: "Take down what the nodes hold by -s, and load it into a new cluster\n         \
-            with new stores.",
+        remedy: "Make a successor: pfx show --store FILE --script, whose commands\n         \
+            pfx ask --script asks of a new cluster.",
     },
     Explanation {
         code: POSITIONS_SPENT,
         name: "no position left",
-        meaning: "a command, since every position or number is used",
+        meaning: "a command, since every position or number is used, or at a door those\n         \
+            left are of commands that wait",
         after: "Nothing is taken in; what was learned stays, and verdicts are\n         \
             answered.",
-        remedy: "Take down what the nodes hold by -s, and load it into a new cluster\n         \
-            with new stores.",
+        remedy: "Make a successor: pfx show --store FILE --script, whose commands\n         \
+            pfx ask --script asks of a new cluster.",
     },
     Explanation {
         code: 70,

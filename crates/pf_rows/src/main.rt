@@ -9,12 +9,14 @@
 //! are told behind `! `, and a line `-- STATUS`.
 #![tactic(auto)]
 
+use pf_follow_words::run_follow;
 use pf_io::Status;
 use pf_kernel_words::{asks_nft, run_nft};
 use pf_refusals::REFUSALS;
 use pf_service::run_net;
 use pf_show_words::run_show;
 use pf_tool::run;
+use pf_visit::run_visit;
 use std::alloc::Global;
 use std::fs::{self, Permissions};
 use std::io::{self, Write};
@@ -80,6 +82,24 @@ fn run_kept(rt: &HostRuntime, words: &[&str], kept: &mut Vec<u8>) -> io::Result<
     Ok(status)
 }
 
+/// Prints what people are told.
+fn print_told(rt: &HostRuntime, told: &[u8]) -> io::Result<()> {
+    if let Ok(told) = std::str::from_utf8(told) {
+        for line in told.lines() {
+            println!(rt; "! {line}")?;
+        }
+    }
+    Ok(())
+}
+
+/// Follows a node, and prints what people are told.
+fn run_followed(rt: &HostRuntime, words: &[&str]) -> io::Result<Status> {
+    let mut told = Vec::new(rt.alloc());
+    let status = run_follow(rt, rt.alloc(), words, &mut io::writer(rt), &mut told);
+    print_told(rt, told.as_slice())?;
+    Ok(status)
+}
+
 /// Does what a text's words ask for, and prints what people are told.
 fn run_text(rt: &HostRuntime, words: &[&str], mut input: &[u8]) -> io::Result<Status> {
     let mut told = Vec::new(rt.alloc());
@@ -92,12 +112,13 @@ fn run_text(rt: &HostRuntime, words: &[&str], mut input: &[u8]) -> io::Result<St
         &mut told,
         false,
     );
-    if let Ok(told) = std::str::from_utf8(told.as_slice()) {
-        for line in told.lines() {
-            println!(rt; "! {line}")?;
-        }
-    }
+    print_told(rt, told.as_slice())?;
     Ok(status)
+}
+
+/// Whether the words ask at a node's door.
+fn asks_at_door(words: &[&str]) -> bool {
+    words.get(1) == Some(&"ask") && words.iter().any(|it| it.starts_with("--door"))
 }
 
 /// Runs a row as the program does, and prints it behind its line.
@@ -109,9 +130,13 @@ fn run_row(
 ) -> io::Result<()> {
     let alloc = rt.alloc();
     let status = match words.get(1) {
+        _ if asks_at_door(words) => {
+            run_visit(rt, alloc, words, &mut input, &mut io::writer(rt))
+        }
         Some(&("node" | "ask" | "key")) => {
             run_net(rt, alloc, words, &mut input, &mut io::writer(rt))
         }
+        Some(&"follow") => run_followed(rt, words)?,
         Some(&"show") => run_kept(rt, words, kept)?,
         _ => if asks_nft(words) {
             run_nft(rt, alloc, words, &mut input, &mut io::writer(rt))
