@@ -1,7 +1,8 @@
 //! A file of settings that was read.
 
-ghost use Rattle.std.specs.Prelude.{◌≡◌, Some, None, map, option_map, option_and_then, IfOk, IfErr};
-ghost use Rattle.toml.specs.Data.{as_str, as_bool, get_member};
+ghost use Rattle.std.specs.Prelude.{◌≡◌, Some, None, map, option_map, option_and_then, IfOk, IfErr, IfSome, IsUtf8};
+ghost use Rattle.toml.specs.Data.{Members, as_str, as_bool, get_member};
+ghost use Rattle.toml.specs.Errors.{IsMemory};
 ghost use Rattle.toml.specs.Parse.{parse_document};
 ghost use Rattle.toml.specs.View.{view, table_view, items_view};
 ghost use Rattle.pf_node_file.specs.Settings.{first_wrong, number_of, is_true, flag_at, texts_of, texts_at, IsRefused};
@@ -33,7 +34,10 @@ fn first_wrong(table: &Table) -> Option<&str>
 }
 
 /// What a text that isn't TOML is refused for.
-fn syntax_fault(text: &[u8], error: Error) -> FileFault {
+fn syntax_fault(text: &[u8], error: Error) -> FileFault
+    requires { ¬ IsMemory error → IsUtf8 text.now → parse_document text.now ≡ None }
+    ensures { IsRefused result text.now }
+{
     match error.span() {
         Some(span) => FileFault::Syntax(line_at(text, span.start)),
         None => FileFault::Memory,
@@ -41,7 +45,10 @@ fn syntax_fault(text: &[u8], error: Error) -> FileFault {
 }
 
 /// What a key is refused for.
-fn key_fault(text: &[u8], key: &str) -> FileFault {
+fn key_fault(text: &[u8], key: &str) -> FileFault
+    requires { (ms : Members) × (parse_document text.now ≡ Some ms) × (first_wrong ms ≡ Some key.now) }
+    ensures { IsRefused result text.now }
+{
     let line = line_of(text, key);
     match kind_of(key) {
         Some(_) => FileFault::Value(line),
@@ -50,7 +57,11 @@ fn key_fault(text: &[u8], key: &str) -> FileFault {
 }
 
 /// What a table is refused for, if it is.
-fn table_fault(text: &[u8], table: &Table) -> Option<FileFault> {
+fn table_fault(text: &[u8], table: &Table) -> Option<FileFault>
+    requires { parse_document text.now ≡ Some (table_view table.now) }
+    ensures none { result ≡ None → first_wrong (table_view table.now) ≡ None }
+    ensures some { IfSome result (λ fault. IsRefused fault text.now) }
+{
     match first_wrong(table) {
         Some(key) => Some(key_fault(text, key)),
         None => None,

@@ -71,6 +71,7 @@ fn position_of<E>(message: &Message<E>) -> u32 {
         Message::Learned { position, .. } => *position,
         Message::Ask { .. } => 0,
         Message::Asked { .. } => 0,
+        Message::AskRefused { .. } => 0,
     }
 }
 
