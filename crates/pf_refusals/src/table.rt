@@ -332,7 +332,8 @@ pub const REFUSALS: [Explanation; 41] = [
         code: 92,
         name: "bad file of settings",
         meaning: "a node's file of settings: it isn't TOML, has an unknown setting or a\n         \
-            value of another kind; a setting that neither it nor an option gives",
+            value of another kind; me, cluster or store that neither it nor an\n         \
+            option gives; other-key without a key, metrics without a door",
         after: "No node is started.",
         remedy: "Look at the named line, which standard error says more of, and at the\n         \
             example in pfx-node(8).",
