@@ -30,10 +30,10 @@ pub record AreFigures {R : Type 0} {G : Ghosts R} (n : Node R G) (f : Figures) :
   pub node : f.node ≡ (membership_of n).me
   pub members : f.members ≡ (membership_of n).members
   pub cluster : f.cluster ≡ (membership_of n).cluster
+  pub left : f.left ≡ positions - front (learned_by n)
   pub front : f.front ≡ front (learned_by n)
   pub applied : f.applied ≡ applied_of n
   pub waiting : f.waiting ≡ length (state_in n).volatile.waiting
-  pub left : f.left ≡ positions - front (learned_by n)
   pub failed : f.has_failed ≡ has_failed n
 
 -- the status of figures that are the node's, as JSON or in lines
