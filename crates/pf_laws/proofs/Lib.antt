@@ -1,1 +1,4 @@
 pub mod Depths
+pub mod Changed
+pub mod Readings
+pub mod Logs

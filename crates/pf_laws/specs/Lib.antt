@@ -1,2 +1,4 @@
 pub mod Targets
 pub mod Walks
+pub mod Maps
+pub mod Logs

@@ -3,8 +3,15 @@
 //! # Organization
 //!
 //! - [`nine_levels_are_all`], [`one_walk`]: the hits of a verdict are those of one equation over all paths.
+//! - [`changes_keep_a_map`], [`commands_keep_a_map`], [`logs_leave_maps`], [`logs_have_targets`]: the configuration
+//!   after a log is a map.
+//! - [`parts_are_in_order`]: the parts of a table are in order of address.
 #![tactic(auto)]
 
 mod levels;
+mod maps;
 
 pub use levels::{nine_levels_are_all, one_walk};
+pub use maps::{
+    changes_keep_a_map, commands_keep_a_map, logs_have_targets, logs_leave_maps, parts_are_in_order,
+};
