@@ -6,12 +6,15 @@
 //! - [`changes_keep_a_map`], [`commands_keep_a_map`], [`logs_leave_maps`], [`logs_have_targets`]: the configuration
 //!   after a log is a map.
 //! - [`parts_are_in_order`]: the parts of a table are in order of address.
+//! - [`shown_is_read_again`]: what is shown of a ruleset is read as that ruleset.
 #![tactic(auto)]
 
 mod levels;
 mod maps;
+mod shown;
 
 pub use levels::{nine_levels_are_all, one_walk};
 pub use maps::{
     changes_keep_a_map, commands_keep_a_map, logs_have_targets, logs_leave_maps, parts_are_in_order,
 };
+pub use shown::shown_is_read_again;
