@@ -1,59 +1,66 @@
--- What is shown of a rule with its block has no fault while it is read, if it isn't too long: its blocks nest no deeper
--- than those of the text that gave it, and it is written in tokens that are good.
+-- A ruleset that a text gives is what its shown text gives. What is shown of a rule with its block has no fault while
+-- it is read, if it isn't too long: its blocks nest no deeper than those of the text, and its tokens are good.
 use Rattle.std.proofs.Common.{◌≡◌, ℕ, ◌+◌, ◌-◌, ◌≤◌, Bool, true, false, ◌&&◌, ◌||◌, cond, List, [], ◌∷◌, ◌++◌, map, length, Option, Some, None, Result, Ok, Err, refl, sym, subst, ap, ◌∙◌, append_assoc, arith, length-append}
 use Rattle.std.specs.Prelude.{codes, nat_le, nat_lt}
 use Rattle.std.specs.List.{list_all, AllByRecursion}
-use Rattle.std.proofs.lemmas.Bool.{or_parts, leb-true}
+use Rattle.std.proofs.lemmas.Bool.{false≢true, or_parts, leb-true}
 use Rattle.std.proofs.lemmas.Bool.Decides.{nat_tests}
 use Rattle.std.proofs.lemmas.List.{append-nil, length-map}
 use Rattle.pf_words.specs.declared.profile.Profile.{Profile}
+use Rattle.pf_words.specs.Words.{is_interface_name}
 use Rattle.pf_tokens.specs.declared.fault.ReadingFault.{ReadingFault}
 use Rattle.pf_tokens.specs.declared.symbol.Symbol.TheVariants.{Open, Close}
 use Rattle.pf_tokens.specs.declared.defining.DefinitionFault.{DefinitionFault}
 use Rattle.pf_tokens.specs.declared.defining.DefinitionFault.TheVariants as defining
 use Rattle.pf_tokens.specs.Tokens.{Token, Word, Quoted, Mark, Newline, Placed, tokens}
 use Rattle.pf_tokens.specs.Macros.{Definition, depth_after}
-use Rattle.pf_tokens.specs.Faults.{reading_fault, or_fault, is_bad, is_unknown}
+use Rattle.pf_tokens.specs.Faults.{reading_fault, is_bad, is_unknown}
 use Rattle.pf_tokens.specs.Parsing.{tokens_of}
 use Rattle.pf_tokens.specs.Defining.{definition_at}
 use Rattle.pf_tokens.specs.Reading.{reading_from}
 use Rattle.pf_ruleset.specs.declared.parts.Policy.{Policy}
 use Rattle.pf_ruleset.specs.declared.parts.FlagTest.{FlagTest}
 use Rattle.pf_ruleset.specs.declared.rule.Rule.{Rule}
-use Rattle.pf_ruleset.specs.declared.rule.Conditions.{Conditions}
 use Rattle.pf_ruleset.specs.Items.{Target, Heading, ItemValue, ItemValues, no_items, one_more, values_of}
 use Rattle.pf_ruleset.specs.Items as item
-use Rattle.pf_ruleset.specs.Rulesets.{RulesetValue}
+use Rattle.pf_ruleset.specs.Names.{Name}
+use Rattle.pf_ruleset.specs.Rulesets.{RulesetValue, TableValue}
 use Rattle.pf_conditions.specs.Conditions.{ConditionsText}
-use Rattle.pf_statements.specs.Anchors.{AnchorText, HeadingText}
-use Rattle.pf_statements.specs.Statements.{Statement, Sets, Setting, RuleText, ItemText, RuleItem, AnchorItem, BlockItem, ItemTexts, no_texts, one_text, value_of}
-use Rattle.pf_statements.specs.Grammar.{IsSetting, PolicySetting, SkipSetting, IsItem, ABlock, IsStatement, SetStatement, TableStatement, RuleStatement, AnchorStatement, BlockStatement}
+use Rattle.pf_statements.specs.Anchors.{HeadingText}
+use Rattle.pf_statements.specs.Statements.{Statement, Sets, Setting, ItemText, RuleItem, AnchorItem, BlockItem, ItemTexts, no_texts, one_text, value_of}
+use Rattle.pf_statements.specs.Grammar.{IsSetting, PolicySetting, SkipSetting, ABlock, IsStatement, SetStatement, TableStatement, RuleStatement, AnchorStatement, BlockStatement}
 use Rattle.pf_statements.proofs.StatementsSpelled.{statement_took}
 use Rattle.pf_expansion.specs.declared.cause.Cause.{Cause}
-use Rattle.pf_expansion.specs.declared.cause.Cause.TheVariants.{Ports, NoCombination, Reserved, TooMany, IcmpType, Twice}
-use Rattle.pf_expansion.specs.Expansion.{expanded, combined, rule_flags}
-use Rattle.pf_expansion.specs.Causes.{bad_ports, has_no_combination, has_too_many, bad_types, lowest, condition_causes}
-use Rattle.pf_expansion.specs.Anchors.{anchor_flags, headings, heading_with, is_misnamed}
-use Rattle.pf_expansion.specs.Blocks.{named, unnamed_after, carried, item_values, block_values, block_causes, item_judged, item_misnamed, is_twice, unnamed_in, is_unnamed, unnamed_with}
-use Rattle.pf_show.specs.Shown.{shown, shown_item, target_text}
+use Rattle.pf_expansion.specs.declared.cause.Cause.TheVariants.{Ports, NoCombination, Reserved, Twice, SetHere, TooMany, IcmpType}
+use Rattle.pf_expansion.specs.Expansion.{expanded, rule_flags}
+use Rattle.pf_expansion.specs.Causes.{bad_ports, has_no_combination, has_too_many, bad_types, is_deep, lowest, condition_causes}
+use Rattle.pf_expansion.specs.Tables.{table_value, is_defined, is_too_long}
+use Rattle.pf_expansion.specs.Anchors.{anchor_flags, headings, is_misnamed}
+use Rattle.pf_expansion.specs.Blocks.{Path, any_among, comes_again, paths_within, named, unnamed_after, carried, item_values, block_values, item_judged, item_misnamed, is_twice, unnamed_in, is_unnamed}
+use Rattle.pf_show.specs.Shown.{shown, shown_item, target_text, skip_line, shown_rules, table_lines}
 use Rattle.pf_grammar.specs.declared.fault.Refusal.{Refusal}
 use Rattle.pf_grammar.specs.declared.place.Place.{Place}
-use Rattle.pf_grammar.specs.Again.{FitsStatement}
-use Rattle.pf_grammar.specs.Causes.{statement_cause}
+use Rattle.pf_grammar.specs.declared.place.Place.TheVariants.{Main, Anchor}
+use Rattle.pf_grammar.specs.Causes.{is_anchor, setting_causes, statement_cause}
 use Rattle.pf_grammar.specs.Reading.{Sofar, nothing, macros_of, judge, statement_outcome, defined, answered, unless_fault, after_statement, ruleset_if, reading}
-use Rattle.pf_grammar.proofs.Made.{reading_keeps}
-use Rattle.pf_grammar.proofs.Told.{FitsRule, rule_tokens}
-use Rattle.pf_grammar.proofs.RuleFits.{FitsText, text_fits, expanded_fit}
+use Rattle.pf_grammar.proofs.Made.{reading_keeps, some_fits, name_fits}
+use Rattle.pf_grammar.proofs.Told.{rule_tokens}
+use Rattle.pf_grammar.proofs.RuleFits.{text_fits, expanded_fit}
 use Rattle.pf_grammar.proofs.RuleParts.{more_tokens}
-use Rattle.pf_grammar.proofs.Lines.{Simple, rule_short}
+use Rattle.pf_grammar.proofs.Lines.{Simple, so_far, rule_short}
 use Rattle.pf_grammar.proofs.Lines as lines
 use Rattle.pf_grammar.proofs.Parts.{lexed, at_line}
 use Rattle.pf_grammar.proofs.AnchorLine.{as_rule, anchor_tokens, anchor_short, more_short, simple_string}
 use Rattle.pf_grammar.proofs.AnchorFits.{anchor_text_fits, headings_fit}
-use Rattle.pf_grammar.proofs.BlockFits.{AllFit, Clear, anchor_fits, item_fits}
+use Rattle.pf_grammar.proofs.BlockFits.{Clear, filters_all, anchor_fits, item_fits}
+use Rattle.pf_grammar.proofs.BlockPaths.{from_append, from_all, filters_none, anchors_none, from_carried, item_paths_are}
 use Rattle.pf_grammar.proofs.BlockValues.{FitsItem, name_tokens, heading_tokens, item_tokens, block_tokens}
 use Rattle.pf_grammar.proofs.BlockLines.{end_line, placed_item, item_lexes, item_tokens_of, tokens_append}
-use Rattle.pf_grammar.proofs.RoundTrip.{reading_again}
+use Rattle.pf_grammar.proofs.ItemsAgain.{FitsFrom, IsStatementLong, items_again}
+use Rattle.pf_grammar.proofs.ReadingSteps.{Room, few_stay}
+use Rattle.pf_grammar.proofs.SkipLine.{AreNames, skip_again}
+use Rattle.pf_grammar.proofs.TableLine.{FitTables, tables_again}
+use Rattle.pf_grammar.proofs.TablesFit.{table_text_fits, table_fits, tables_append}
 use Rattle.pf_laws.specs.Lengths.{is_short}
 use Rattle.pf_laws.proofs.Braces.{low, fault_low, opened, at_most, both_true, text_shallow, texts_shallow, item_shallow}
 use Rattle.pf_laws.proofs.Changed.{all_append as each_append}
@@ -102,25 +109,14 @@ mutual
       let both = both_true (text_shallow d x) (texts_shallow d items) h in
       all_append (shallow d) (item_values p u x) (block_values p (unnamed_after u x) items) (rules_shallow d p u x both.0) (blocks_shallow d p (unnamed_after u x) items both.1)
 
--- ---- rules that a text gives can be shown, and their blocks nest so
+-- ---- what a text gives can be shown, and its blocks nest so
 
-abbrev FitsOne : Profile → ItemValue → Type 0
-FitsOne profile i = (u : ℕ) × FitsItem profile u i
-
-each_fits : (profile : Profile) (u : ℕ) (xs : List ItemValue) → AllFit profile u xs → AllByRecursion (FitsOne profile) xs
-each_fits profile u [] fits = tt
-each_fits profile u (x ∷ xs) fits = ((u, fits.0), each_fits profile (unnamed_with u x) xs fits.1)
-
-filters_fit : (profile : Profile) (rs : List Rule) → AllByRecursion (FitsRule profile) rs → AllByRecursion (FitsOne profile) (map (λ (r : Rule). item.Filters r) rs)
-filters_fit profile [] fits = tt
-filters_fit profile (r ∷ rs) fits = ((0, fits.0), filters_fit profile rs fits.1)
-
-record IsFit (profile : Profile) (sofar : Sofar) : Type 0 where
-  each : AllByRecursion (FitsOne profile) sofar.content.items
+record IsFit (place : Place) (profile : Profile) (sofar : Sofar) : Type 0 where
+  skip : AreNames profile sofar.content.skip
+  main : is_anchor place ≡ true → sofar.content.skip ≡ []
+  tables : FitTables profile [] sofar.content.tables
+  items : FitsFrom profile [] sofar.content.items
   deep : list_all (shallow 0) sofar.content.items ≡ true
-
-with_more : (profile : Profile) (sofar : Sofar) (more : List ItemValue) → IsFit profile sofar → AllByRecursion (FitsOne profile) more → list_all (shallow 0) more ≡ true → AllByRecursion (FitsOne profile) (sofar.content.items ++ more) × (list_all (shallow 0) (sofar.content.items ++ more) ≡ true)
-with_more profile sofar more fits each deep = (each_append (FitsOne profile) sofar.content.items more fits.each each, all_append (shallow 0) sofar.content.items more fits.deep deep)
 
 record NoCause (text : ConditionsText) (reserved : Bool) : Type 0 where
   ports : bad_ports text ≡ false
@@ -139,33 +135,75 @@ none_found test before reserved text e = cases (bad_ports text) (has_no_combinat
     cases false false false false true p_is r_is t_is e = absurd cc
     cases false false false false false p_is r_is t_is e = record { ports = p_is; free = r_is; types = t_is }
 
-six : (a b c d e f : Bool) → lowest ((a, Ports) ∷ (b, NoCombination) ∷ (c, Reserved) ∷ (d, Twice) ∷ (e, TooMany) ∷ (f, IcmpType) ∷ []) ≡ None → (a ≡ false) × (b ≡ false) × (c ≡ false) × (e ≡ false) × (f ≡ false)
+six : (a b c d e f : Bool) → lowest ((a, Ports) ∷ (b, NoCombination) ∷ (c, Reserved) ∷ (d, Twice) ∷ (e, TooMany) ∷ (f, IcmpType) ∷ []) ≡ None → (a ≡ false) × (b ≡ false) × (c ≡ false) × (d ≡ false) × (e ≡ false) × (f ≡ false)
 six true b c d e f is = absurd cc
 six false true c d e f is = absurd cc
 six false false true d e f is = absurd cc
 six false false false true e f is = absurd cc
 six false false false false true f is = absurd cc
 six false false false false false true is = absurd cc
-six false false false false false false is = (refl, refl, refl, refl, refl)
+six false false false false false false is = (refl, refl, refl, refl, refl, refl)
 
-setting_fits : (profile : Profile) (sofar : Sofar) (ts : List Token) (setting : Setting) → IsSetting profile ts setting → IsFit profile sofar → IsFit profile (after_statement sofar (Some (Sets setting)))
-setting_fits profile sofar _ _ (PolicySetting ts said is) h = record { each = h.each; deep = h.deep }
-setting_fits profile sofar _ _ (SkipSetting ts names is) h = record { each = h.each; deep = h.deep }
+-- nothing is set in a text for an anchor
+set_main : (place : Place) (b : Bool) → lowest ((is_anchor place, SetHere) ∷ (b, TooMany) ∷ []) ≡ None → is_anchor place ≡ true → ⊥
+set_main Main b e anchor = false≢true anchor
+set_main Anchor b e anchor = cc
 
-statement_fits : (place : Place) (profile : Profile) (sofar : Sofar) (ts : List Token) (s : Statement) → IsStatement profile ts s → low 0 ts ≡ true → statement_cause place sofar.content.tables sofar.content.items (Some s) ≡ None → IsFit profile sofar → IsFit profile (after_statement sofar (Some s))
-statement_fits place profile sofar _ _ (SetStatement ts setting is) l e h = setting_fits profile sofar ts setting is h
-statement_fits place profile sofar _ _ (TableStatement ts table is) l e h = record { each = h.each; deep = h.deep }
+two : (a b : Bool) → lowest ((a, Twice) ∷ (b, TooMany) ∷ []) ≡ None → (a ≡ false) × (b ≡ false)
+two true b e = absurd cc
+two false true e = absurd cc
+two false false e = (refl, refl)
+
+setting_fits : (place : Place) (profile : Profile) (sofar : Sofar) (ts : List Token) (setting : Setting) → IsSetting profile ts setting → lowest (setting_causes place setting) ≡ None → IsFit place profile sofar → IsFit place profile (after_statement sofar (Some (Sets setting)))
+setting_fits place profile sofar _ _ (PolicySetting ts said is) e h = record { skip = h.skip; main = h.main; tables = h.tables; items = h.items; deep = h.deep }
+setting_fits place profile sofar _ _ (SkipSetting ts names is) e h = record {
+  skip = each_append (λ name. is_interface_name profile name ≡ true) sofar.content.skip names.items h.skip (some_fits (λ name. is_interface_name profile name ≡ true) (name_fits profile) ts names is);
+  main = λ anchor. absurd (set_main place (is_deep names) e anchor);
+  tables = h.tables;
+  items = h.items;
+  deep = h.deep;
+}
+
+once_is : (p : Policy) (before : List ItemValue) (h : HeadingText) (block : ItemTexts) → Clear (item_judged (BlockItem h block)) → is_twice before (BlockItem h block) ≡ false → (any_among (paths_within [] (values_of before)) (paths_within [] (values_of (item_values p (unnamed_in 0 before) (BlockItem h block)))) || comes_again (paths_within [] (values_of (item_values p (unnamed_in 0 before) (BlockItem h block))))) ≡ false
+unfolding is_twice
+once_is p before h block clear e = ap (λ (ps : List Path). any_among (paths_within [] (values_of before)) ps || comes_again ps) (item_paths_are p [] (unnamed_in 0 before) (BlockItem h block) clear) ∙ e
+
+statement_fits : (place : Place) (profile : Profile) (sofar : Sofar) (ts : List Token) (s : Statement) → IsStatement profile ts s → low 0 ts ≡ true → statement_cause place sofar.content.tables sofar.content.items (Some s) ≡ None → IsFit place profile sofar → IsFit place profile (after_statement sofar (Some s))
+statement_fits place profile sofar _ _ (SetStatement ts setting is) l e h = setting_fits place profile sofar ts setting is e h
+statement_fits place profile sofar _ _ (TableStatement ts table is) l e h =
+    let none = two (is_defined sofar.content.tables table.name) (is_too_long table.entries) e in
+    record {
+      skip = h.skip;
+      main = h.main;
+      tables = tables_append profile [] sofar.content.tables (table_value table) h.tables (table_fits profile table (table_text_fits profile ts table is) none.1) none.0;
+      items = h.items;
+      deep = h.deep;
+    }
 statement_fits place profile sofar _ _ (RuleStatement ts rule is) l e h =
+    let u = unnamed_in 0 sofar.content.items in
     let none = none_found (rule_flags rule) (length sofar.content.items) false rule.conditions e in
     let rules = expanded sofar.policy rule in
-    let all = with_more profile sofar (map (λ (r : Rule). item.Filters r) rules) h (filters_fit profile rules (expanded_fit profile sofar.policy rule (text_fits profile ts rule is) none.ports none.types)) (filters_shallow 0 rules) in
-    record { each = all.0; deep = all.1 }
+    let more = map (λ (r : Rule). item.Filters r) rules in
+    let fits = filters_all profile u rules (expanded_fit profile sofar.policy rule (text_fits profile ts rule is) none.ports none.types) in
+    record {
+      skip = h.skip;
+      main = h.main;
+      tables = h.tables;
+      items = from_append profile [] sofar.content.items more h.items (from_all profile sofar.content.items more fits (filters_none rules));
+      deep = all_append (shallow 0) sofar.content.items more h.deep (filters_shallow 0 rules);
+    }
 statement_fits place profile sofar _ _ (AnchorStatement ts a is) l e h =
     let u = unnamed_in 0 sofar.content.items in
     let none = none_found (anchor_flags a) (length sofar.content.items) (is_misnamed u a.target) a.conditions e in
+    let more = map (λ (g : Heading). item.Anchors g) (headings a) in
     let fits = (anchor_fits profile u a none.free (headings_fit profile a (anchor_text_fits profile ts a is) none.ports none.types)).0 in
-    let all = with_more profile sofar (map (λ (g : Heading). item.Anchors g) (headings a)) h (each_fits profile u _ fits) (anchors_shallow 0 (headings a)) in
-    record { each = all.0; deep = all.1 }
+    record {
+      skip = h.skip;
+      main = h.main;
+      tables = h.tables;
+      items = from_append profile [] sofar.content.items more h.items (from_all profile sofar.content.items more fits (anchors_none (headings a)));
+      deep = all_append (shallow 0) sofar.content.items more h.deep (anchors_shallow 0 (headings a));
+    }
 statement_fits place profile sofar _ _ (BlockStatement ts us g items is wild are) l e h =
     let u = unnamed_in 0 sofar.content.items in
     let x = BlockItem g items in
@@ -173,14 +211,20 @@ statement_fits place profile sofar _ _ (BlockStatement ts us g items is wild are
     let block = ABlock ts us g items is wild are in
     let ws = Word (codes "anchor") ∷ (ts ++ (Mark Open ∷ (us ++ (Mark Close ∷ [])))) in
     let none = six j.ports j.combination (item_misnamed u x) (is_twice sofar.content.items x) (j.many || nat_lt 1024 (length sofar.content.items + j.rules)) j.types e in
-    let many = or_parts j.many (nat_lt 1024 (length sofar.content.items + j.rules)) none.3 in
-    let clear : Clear j = record { ports = none.0; combination = none.1; many = many.0; types = none.4 } in
+    let many = or_parts j.many (nat_lt 1024 (length sofar.content.items + j.rules)) none.4 in
+    let clear : Clear j = record { ports = none.0; combination = none.1; many = many.0; types = none.5 } in
     let fits = (item_fits profile sofar.policy u ws x block clear none.2).0 in
     let deep = item_shallow profile ws x block 0 [] (omega arith) (subst (λ (r : List Token). low 0 r ≡ true) (sym (append-nil ws)) l) in
-    let all = with_more profile sofar (item_values sofar.policy u x) h (each_fits profile u _ fits) (rules_shallow 0 sofar.policy u x deep) in
-    record { each = all.0; deep = all.1 }
+    let more = item_values sofar.policy u x in
+    record {
+      skip = h.skip;
+      main = h.main;
+      tables = h.tables;
+      items = from_append profile [] sofar.content.items more h.items (from_carried profile sofar.content.items (headings (named u g)) (values_of (block_values sofar.policy 0 items)) fits (once_is sofar.policy sofar.content.items g items clear none.3));
+      deep = all_append (shallow 0) sofar.content.items more h.deep (rules_shallow 0 sofar.policy u x deep);
+    }
 
-value_fits : (place : Place) (profile : Profile) (sofar : Sofar) (ts : List Token) (value : Option Statement) → value_of profile ts ≡ value → low 0 ts ≡ true → statement_cause place sofar.content.tables sofar.content.items value ≡ None → IsFit profile sofar → IsFit profile (after_statement sofar value)
+value_fits : (place : Place) (profile : Profile) (sofar : Sofar) (ts : List Token) (value : Option Statement) → value_of profile ts ≡ value → low 0 ts ≡ true → statement_cause place sofar.content.tables sofar.content.items value ≡ None → IsFit place profile sofar → IsFit place profile (after_statement sofar value)
 value_fits place profile sofar ts None e l k h = h
 value_fits place profile sofar ts (Some s) e l k h = statement_fits place profile sofar ts s (statement_took profile ts s e) l k h
 
@@ -188,23 +232,23 @@ none_answered : (line : ℕ) (sofar next : Sofar) (value : Option Statement) (ca
 none_answered line sofar next value None e = refl
 none_answered line sofar next value (Some cause) e = absurd cc
 
-defined_fits : (profile : Profile) (line : ℕ) (sofar next : Sofar) (r : Result Definition DefinitionFault) → IsFit profile sofar → defined line sofar r ≡ Ok next → IsFit profile next
-defined_fits profile line sofar next (Ok d) h e = subst (IsFit profile) (done_is (record sofar { macros = sofar.macros ++ d ∷ [] }) next e) (record { each = h.each; deep = h.deep })
-defined_fits profile line sofar next (Err defining.Memory) h e = absurd cc
-defined_fits profile line sofar next (Err defining.Macro) h e = absurd cc
-defined_fits profile line sofar next (Err defining.Syntax) h e = absurd cc
+defined_fits : (place : Place) (profile : Profile) (line : ℕ) (sofar next : Sofar) (r : Result Definition DefinitionFault) → IsFit place profile sofar → defined line sofar r ≡ Ok next → IsFit place profile next
+defined_fits place profile line sofar next (Ok d) h e = subst (IsFit place profile) (done_is (record sofar { macros = sofar.macros ++ d ∷ [] }) next e) (record { skip = h.skip; main = h.main; tables = h.tables; items = h.items; deep = h.deep })
+defined_fits place profile line sofar next (Err defining.Memory) h e = absurd cc
+defined_fits place profile line sofar next (Err defining.Macro) h e = absurd cc
+defined_fits place profile line sofar next (Err defining.Syntax) h e = absurd cc
 
-outcome_fits : (place : Place) (profile : Profile) (sofar next : Sofar) (line : ℕ) (w : Bool) (ts : List Token) → low 0 ts ≡ true → IsFit profile sofar → statement_outcome place profile sofar line w ts ≡ Ok next → IsFit profile next
-outcome_fits place profile sofar next line true ts l h e = defined_fits profile line sofar next (definition_at profile sofar.macros ts) h e
+outcome_fits : (place : Place) (profile : Profile) (sofar next : Sofar) (line : ℕ) (w : Bool) (ts : List Token) → low 0 ts ≡ true → IsFit place profile sofar → statement_outcome place profile sofar line w ts ≡ Ok next → IsFit place profile next
+outcome_fits place profile sofar next line true ts l h e = defined_fits place profile line sofar next (definition_at profile sofar.macros ts) h e
 outcome_fits place profile sofar next line false ts l h e =
     let cause = statement_cause place sofar.content.tables sofar.content.items (value_of profile ts) in
-    subst (IsFit profile) (answered_is line sofar next (value_of profile ts) cause e) (value_fits place profile sofar ts (value_of profile ts) refl l (none_answered line sofar next (value_of profile ts) cause e) h)
+    subst (IsFit place profile) (answered_is line sofar next (value_of profile ts) cause e) (value_fits place profile sofar ts (value_of profile ts) refl l (none_answered line sofar next (value_of profile ts) cause e) h)
 
 unless_both : (line : ℕ) (o : Option ReadingFault) (r : Result Sofar Refusal) (next : Sofar) → unless_fault line o r ≡ Ok next → (o ≡ None) × (r ≡ Ok next)
 unless_both line None r next e = (refl, e)
 unless_both line (Some fault) r next e = absurd cc
 
-judge_fits : (place : Place) (profile : Profile) (sofar next : Sofar) (line : ℕ) (w : Bool) (ts : List Placed) → IsFit profile sofar → judge place profile sofar line w ts ≡ Ok next → IsFit profile next
+judge_fits : (place : Place) (profile : Profile) (sofar next : Sofar) (line : ℕ) (w : Bool) (ts : List Placed) → IsFit place profile sofar → judge place profile sofar line w ts ≡ Ok next → IsFit place profile next
 judge_fits place profile sofar next line w ts h e =
     let both = unless_both line (reading_fault sofar.macros 0 0 (tokens_of ts)) (statement_outcome place profile sofar line w (tokens_of ts)) next e in
     outcome_fits place profile sofar next line w (tokens_of ts) (fault_low sofar.macros 0 0 (tokens_of ts) both.0) h both.1
@@ -294,36 +338,56 @@ shown_tokens profile u i fits =
     let lexes : tokens (shown_item i) ≡ placed_item 1 i ++ (at_line (end_line 1 i) Newline ∷ []) = ap (lexed 1) (sym (append-nil (shown_item i))) ∙ item_lexes profile u 1 i [] fits in
     ap tokens_of lexes ∙ tokens_append (placed_item 1 i) (at_line (end_line 1 i) Newline ∷ []) ∙ ap (λ (ts : List Token). ts ++ (Newline ∷ [])) (item_tokens_of 1 i)
 
-short_tokens : (profile : Profile) (u : ℕ) (i : ItemValue) → FitsItem profile u i → is_short i ≡ true → length (item_tokens i ++ (Newline ∷ [])) ≤ 65536
-short_tokens profile u (item.Filters r) fits e = let l = length-append (rule_tokens r) (Newline ∷ []) in let s = (rule_short r).short in omega (arith, l, s)
-short_tokens profile u (item.Anchors g) fits e = let l = length-append (anchor_tokens g) (Newline ∷ []) in let s = (anchor_short g).short in omega (arith, l, s)
+short_tokens : (profile : Profile) (u : ℕ) (i : ItemValue) → FitsItem profile u i → is_short i ≡ true → length (item_tokens i) ≤ 65536
+short_tokens profile u (item.Filters r) fits e = let s = (rule_short r).short in omega (arith, s)
+short_tokens profile u (item.Anchors g) fits e = let s = (anchor_short g).short in omega (arith, s)
 short_tokens profile u (item.Blocks g block) fits e =
     let i = item.Blocks g block in
-    let few = leb-true (length (tokens (shown_item i))) 65536 e in
+    let few = leb-true (length (tokens (shown_item i))) 65537 e in
     let same = ap (λ (ts : List Token). length ts) (shown_tokens profile u i fits) in
     let l = length-map (tokens (shown_item i)) (λ (p : Placed). p.token) in
-    omega (arith, few, same, l)
+    let k = length-append (item_tokens i) (Newline ∷ []) in
+    omega (arith, few, same, l, k)
 
-statement_is : (profile : Profile) (i : ItemValue) → FitsOne profile i → shallow 0 i ≡ true → is_short i ≡ true → FitsStatement i
-statement_is profile i fits h e =
-    ap (reading_fault [] 0 0) (shown_tokens profile fits.0 i fits.1)
-    ∙ no_fault 0 0 (item_tokens i ++ (Newline ∷ [])) (each_append IsClean (item_tokens i) (Newline ∷ []) (item_clean i) ((refl, refl), tt)) (item_low 0 i (Newline ∷ []) (omega arith) h refl) (let few = short_tokens profile fits.0 i fits.1 e in omega (arith, few))
+long_is : (profile : Profile) (u : ℕ) (i : ItemValue) → FitsItem profile u i → shallow 0 i ≡ true → is_short i ≡ true → IsStatementLong i
+long_is profile u i fits h e =
+    let few = short_tokens profile u i fits e in
+    no_fault 0 0 (item_tokens i) (item_clean i) (subst (λ (r : List Token). low 0 r ≡ true) (append-nil (item_tokens i)) (item_low 0 i [] (omega arith) h refl)) (omega (arith, few))
 
-all_statements : (profile : Profile) (items : List ItemValue) → AllByRecursion (FitsOne profile) items → list_all (shallow 0) items ≡ true → list_all is_short items ≡ true → AllByRecursion FitsStatement items
-all_statements profile [] fits h e = tt
-all_statements profile (i ∷ items) fits h e =
+all_long : (profile : Profile) (before items : List ItemValue) → FitsFrom profile before items → list_all (shallow 0) items ≡ true → list_all is_short items ≡ true → AllByRecursion IsStatementLong items
+all_long profile before [] fits h e = tt
+all_long profile before (i ∷ items) fits h e =
     let deep = both_true (shallow 0 i) (list_all (shallow 0) items) h in
     let short = both_true (is_short i) (list_all is_short items) e in
-    (statement_is profile i fits.0 deep.0 short.0, all_statements profile items fits.1 deep.1 short.1)
+    (long_is profile (unnamed_in 0 before) i fits.0 deep.0 short.0, all_long profile (before ++ i ∷ []) items fits.2 deep.1 short.1)
 
-statements : (place : Place) (profile : Profile) (text : List ℕ) (r : RulesetValue) → list_all is_short r.items ≡ true → reading place profile text ≡ Ok r → AllByRecursion FitsStatement r.items
-unfolding reading
-statements place profile text r short e =
-    let m = made_is (reading_from macros_of (judge place profile) nothing [] (tokens text)) r e in
-    let fits = reading_keeps (IsFit profile) macros_of (judge place profile) (judge_fits place profile) (tokens text) nothing m.0 [] (record { each = tt; deep = refl }) m.1 in
-    let short' : list_all is_short m.0.content.items ≡ true = subst (λ (s : RulesetValue). list_all is_short s.items ≡ true) (sym m.2) short in
-    subst (λ (s : RulesetValue). AllByRecursion FitsStatement s.items) m.2 (all_statements profile m.0.content.items fits.each fits.deep short')
+-- ---- a whole text
+
+abbrev value : List Name → List TableValue → List ItemValue → RulesetValue
+value skip tables items = record { skip = skip; tables = tables; items = items }
+
+-- tables and rules behind the skipped interfaces
+behind_skip : (place : Place) (profile : Profile) (p : Policy) (skip : List Name) (sofar : Sofar) (n : ℕ) → IsFit place profile sofar → length sofar.content.items ≤ 1024 → list_all is_short sofar.content.items ≡ true
+    → reading_from macros_of (judge place profile) (so_far p skip [] []) [] (lexed n (table_lines sofar.content.tables ++ shown_rules sofar.content.items)) ≡ Ok (so_far p skip sofar.content.tables sofar.content.items)
+behind_skip place profile p skip sofar n fits room short =
+    tables_again place profile p skip [] sofar.content.tables n (shown_rules sofar.content.items) fits.tables
+    ∙ items_again place profile sofar.content.items p skip sofar.content.tables [] (n + length sofar.content.tables) fits.items (all_long profile [] sofar.content.items fits.items fits.deep short) (omega (arith, room))
+
+whole_again : (place : Place) (profile : Profile) (sofar : Sofar) (skip : List Name) → sofar.content.skip ≡ skip → AreNames profile skip → IsFit place profile sofar → length sofar.content.items ≤ 1024 → list_all is_short sofar.content.items ≡ true → length skip ≤ 65531
+    → ruleset_if (reading_from macros_of (judge place profile) nothing [] (tokens (skip_line skip ++ (table_lines sofar.content.tables ++ shown_rules sofar.content.items)))) ≡ Ok (value skip sofar.content.tables sofar.content.items)
+whole_again place profile sofar [] is names fits room short few = ap ruleset_if (behind_skip place profile nothing.policy [] sofar 1 fits room short)
+whole_again Main profile sofar (name ∷ more) is names fits room short few =
+    ap ruleset_if (skip_again profile nothing.policy name more (table_lines sofar.content.tables ++ shown_rules sofar.content.items) names few ∙ behind_skip Main profile nothing.policy (name ∷ more) sofar 2 fits room short)
+whole_again Anchor profile sofar (name ∷ more) is names fits room short few = absurd (let none = fits.main refl in cc)
 
 -- what is asked of rules with a block is only their length
 pub shown_again : (place : Place) (profile : Profile) (text : List ℕ) (r : RulesetValue) → length r.skip ≤ 65531 → list_all is_short r.items ≡ true → reading place profile text ≡ Ok r → reading place profile (shown r) ≡ Ok r
-shown_again place profile text r few short e = reading_again place profile text r few (statements place profile text r short e) e
+unfolding reading shown
+shown_again place profile text r few short e =
+    let m = made_is (reading_from macros_of (judge place profile) nothing [] (tokens text)) r e in
+    let fits = reading_keeps (λ (s : Sofar). IsFit place profile s × Room s.content.items) macros_of (judge place profile)
+        (λ sofar next line w ts h e. (judge_fits place profile sofar next line w ts h.0 e, few_stay place profile sofar next line w ts h.1 e))
+        (tokens text) nothing m.0 [] (record { skip = tt; main = λ anchor. refl; tables = tt; items = tt; deep = refl }, (omega arith, refl)) m.1 in
+    let few' : length m.0.content.skip ≤ 65531 = subst (λ (s : RulesetValue). length s.skip ≤ 65531) (sym m.2) few in
+    let short' : list_all is_short m.0.content.items ≡ true = subst (λ (s : RulesetValue). list_all is_short s.items ≡ true) (sym m.2) short in
+    subst (λ (s : RulesetValue). ruleset_if (reading_from macros_of (judge place profile) nothing [] (tokens (skip_line s.skip ++ (table_lines s.tables ++ shown_rules s.items)))) ≡ Ok s) m.2 (whole_again place profile m.0 m.0.content.skip refl fits.0.skip fits.0 fits.1.0 short' few')

@@ -1,5 +1,5 @@
 -- Each change of a configuration leaves a map.
-use Rattle.std.proofs.Common.{◌≡◌, ℕ, ◌+◌, ◌≤◌, Bool, true, false, ◌&&◌, ◌||◌, cond, List, [], ◌∷◌, ◌++◌, map, length, fold, Option, Some, None, Result, Ok, Err, refl, sym, subst, ap, ◌∙◌, append_assoc, arith, length-append}
+use Rattle.std.proofs.Common.{◌≡◌, ℕ, ◌+◌, ◌≤◌, Bool, true, false, ◌||◌, cond, List, [], ◌∷◌, ◌++◌, length, fold, Option, Some, None, Ok, Err, refl, sym, subst, ap, append_assoc, arith, length-append}
 use Rattle.std.specs.Prelude.{not, nat_le, nat_lt, filter, unwrap_or, if◌then◌else◌}
 use Rattle.std.specs.declared.cmp.Ordering.TheVariants.{Less}
 use Rattle.std.specs.List.{list_all, list_any, AllByRecursion}
@@ -17,15 +17,12 @@ use Rattle.pf_table.specs.Tables.{TableValue}
 use Rattle.pf_table.specs.Contents.{with_entries, contents_of, without_entries}
 use Rattle.pf_table.specs.Parts.{IsOrdered}
 use Rattle.pf_table.proofs.Lookups as entries
-use Rattle.pf_config.specs.declared.fault.ConfigFault.{ConfigFault}
 use Rattle.pf_config.specs.declared.fault.ConfigFault.TheVariants.{ConstTable, TableFull, AnchorsFull, BadPath}
 use Rattle.pf_config.specs.Map.{Configuration, AnchorValue, Path, path_eq, anchor_at, rules_in, tables_in, tables_at, table_at, named, name_after}
-use Rattle.pf_config.specs.Changes.{is_empty, is_nothing, unless_nothing, is_path_before, anchors_before, anchors_behind, with_anchor, with_rules, with_tables, without_unnamed, is_some_unnamed, used_tables, is_used, used_alone, tidied_of, tidied, Definition, tables_before, tables_behind, with_table, entries_in, listed, defined_table, defined, Block, placed, loaded, unless_full, is_too_deep, load, flush_rules, flush_tables, flush_all, new_table, with_contents, set_table, filled, set_filled, fill, add, replace, drain, delete, flush_table}
-use Rattle.pf_config.specs.Ordered.{AreOrdered}
+use Rattle.pf_config.specs.Changes.{is_empty, is_nothing, unless_nothing, is_path_before, anchors_before, anchors_behind, with_anchor, with_rules, with_tables, without_unnamed, is_some_unnamed, used_tables, is_used, used_alone, tidied_of, tidied, Definition, tables_before, tables_behind, with_table, entries_in, listed, defined_table, defined, Block, placed, loaded, unless_full, is_too_deep, load, flush_rules, flush_tables, flush_all, new_table, with_contents, set_table, set_filled, fill, add, replace, drain, delete, flush_table}
 use Rattle.pf_config.proofs.Treed.{both_true, is_less, path_same}
 use Rattle.pf_config.proofs.Entries.{paths_total, turn}
 use Rattle.pf_config.proofs.Ordered as tables
-use Rattle.pf_laws.specs.Targets.{has_target}
 use Rattle.pf_laws.specs.Maps.{IsPath, AreRules, AreTables, IsAnchor, AreRising, IsMap, AnswersMap}
 
 -- ---- lists

@@ -1,13 +1,12 @@
 -- The configuration after a log is a map.
-use Rattle.std.proofs.Common.{◌≡◌, ℕ, Bool, true, false, ◌&&◌, List, [], ◌∷◌, map, length, fold, Result, Ok, Err, refl, sym, subst, ap, ◌∙◌, arith}
+use Rattle.std.proofs.Common.{◌≡◌, ℕ, true, List, [], ◌∷◌, map, length, fold, Result, Ok, Err, refl, arith}
 use Rattle.std.specs.Prelude.{not, nat_le}
 use Rattle.std.specs.List.{list_all, AllByRecursion}
 use Rattle.pf_words.specs.declared.profile.Profile.{Profile}
 use Rattle.pf_words.specs.Words.{is_anchor_text}
 use Rattle.pf_ruleset.specs.Names.{Name, begins_below, is_path_name}
-use Rattle.pf_ruleset.specs.Items.{ItemValue, rule_in, values_of}
+use Rattle.pf_ruleset.specs.Items.{rule_in, values_of}
 use Rattle.pf_ruleset.specs.Rulesets.{RulesetValue}
-use Rattle.pf_table.specs.Tables.{TableValue}
 use Rattle.pf_config.specs.declared.fault.ConfigFault.{ConfigFault}
 use Rattle.pf_config.specs.Map.{Configuration, AnchorValue, Path}
 use Rattle.pf_config.specs.Changes as change
@@ -15,7 +14,7 @@ use Rattle.pf_config.proofs.Treed.{both_true}
 use Rattle.pf_grammar.specs.declared.fault.Refusal.{Refusal}
 use Rattle.pf_grammar.specs.Reading.{reading}
 use Rattle.pf_entry.specs.Entry.{Command, load, flush_rules, flush_tables, flush_all, add, delete, replace, flush_table, Entry, path_of, are_names}
-use Rattle.pf_effect.specs.Effect.{Effect, RefusedCommand, uncounted, counted, entries_of, place_at, loaded, effect, changed, after_command, empty, after}
+use Rattle.pf_effect.specs.Effect.{uncounted, counted, entries_of, place_at, loaded, effect, changed, after_command, empty, after}
 use Rattle.pf_laws.specs.Targets.{has_target, have_targets}
 use Rattle.pf_laws.specs.Maps.{IsPath, IsAnchor, IsMap, AnswersMap}
 use Rattle.pf_laws.specs.Logs.{has_path, have_paths}

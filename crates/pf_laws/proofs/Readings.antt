@@ -1,5 +1,5 @@
 -- The rules that a text gives evaluate anchors by 1 to 8 names each, and stand in blocks of 1,024 at most.
-use Rattle.std.proofs.Common.{◌≡◌, ℕ, ◌+◌, ◌<◌, ◌≤◌, Bool, true, false, ◌&&◌, cond, List, [], ◌∷◌, ◌++◌, map, length, Option, Some, None, Result, Ok, Err, refl, sym, subst, ap, ◌∙◌, arith}
+use Rattle.std.proofs.Common.{◌≡◌, ℕ, ◌+◌, ◌<◌, ◌≤◌, Bool, true, false, ◌&&◌, cond, List, [], ◌∷◌, ◌++◌, map, length, Option, Some, None, Result, Ok, Err, refl, subst, arith}
 use Rattle.std.specs.Prelude.{nat_le, nat_lt}
 use Rattle.std.specs.List.{list_all, list_any, AllByRecursion}
 use Rattle.std.proofs.lemmas.Bool.{or_parts}
@@ -24,16 +24,16 @@ use Rattle.pf_ruleset.specs.Items.{AnyRule, Target, Heading, ItemValue, ItemValu
 use Rattle.pf_ruleset.specs.Items as item
 use Rattle.pf_ruleset.specs.Rulesets.{RulesetValue}
 use Rattle.pf_statements.specs.Anchors.{AnchorText, HeadingText, anchor_with}
-use Rattle.pf_statements.specs.Statements.{Statement, Sets, Setting, ItemText, RuleItem, AnchorItem, BlockItem, ItemTexts, no_texts, one_text, value_of}
+use Rattle.pf_statements.specs.Statements.{Statement, Sets, Setting, ItemText, BlockItem, ItemTexts, value_of}
 use Rattle.pf_statements.specs.Grammar.{IsSetting, PolicySetting, SkipSetting, IsHeading, IsItem, ARule, AnAnchor, ABlock, AreItems, NoItem, EmptyLine, OneItem, IsStatement, SetStatement, TableStatement, RuleStatement, AnchorStatement, BlockStatement}
 use Rattle.pf_statements.proofs.StatementsSpelled.{statement_took}
 use Rattle.pf_expansion.specs.declared.cause.Cause.{Cause}
 use Rattle.pf_expansion.specs.Expansion.{expanded, combined}
-use Rattle.pf_expansion.specs.Anchors.{anchor_flags, given_name, headings, heading_with}
+use Rattle.pf_expansion.specs.Anchors.{anchor_flags, headings, heading_with}
 use Rattle.pf_expansion.specs.Blocks.{given_target, next_unnamed, target_or_given, named, unnamed_after, carried, item_values, block_values, unnamed_in}
 use Rattle.pf_expansion.proofs.Given.{given_form}
 use Rattle.pf_config.specs.Map.{Path}
-use Rattle.pf_config.specs.Changes.{Block, blocks_of, blocks_in}
+use Rattle.pf_config.specs.Changes.{blocks_of, blocks_in}
 use Rattle.pf_config.proofs.Treed.{both_true}
 use Rattle.pf_grammar.specs.declared.fault.Refusal.{Refusal}
 use Rattle.pf_grammar.specs.declared.place.Place.{Place}
@@ -41,7 +41,7 @@ use Rattle.pf_grammar.specs.Causes.{statement_cause}
 use Rattle.pf_grammar.specs.Reading.{Sofar, nothing, macros_of, judge, statement_outcome, defined, answered, unless_fault, after_statement, ruleset_if, reading}
 use Rattle.pf_grammar.proofs.Made.{reading_keeps}
 use Rattle.pf_grammar.proofs.Targets.{AreAnchorNames}
-use Rattle.pf_grammar.proofs.AnchorFits.{Few, FitsAnchorText, anchor_text_fits, heading_text_fits, said_text_fits}
+use Rattle.pf_grammar.proofs.AnchorFits.{FitsAnchorText, anchor_text_fits, heading_text_fits, said_text_fits}
 use Rattle.pf_grammar.proofs.ReadingSteps.{Room, few_stay}
 use Rattle.pf_laws.specs.Targets.{has_target}
 use Rattle.pf_laws.specs.Maps.{AreRules}
