@@ -386,8 +386,8 @@ unfolding reading shown
 shown_again place profile text r few short e =
     let m = made_is (reading_from macros_of (judge place profile) nothing [] (tokens text)) r e in
     let fits = reading_keeps (λ (s : Sofar). IsFit place profile s × Room s.content.items) macros_of (judge place profile)
-        (λ sofar next line w ts h e. (judge_fits place profile sofar next line w ts h.0 e, few_stay place profile sofar next line w ts h.1 e))
-        (tokens text) nothing m.0 [] (record { skip = tt; main = λ anchor. refl; tables = tt; items = tt; deep = refl }, (omega arith, refl)) m.1 in
+    (λ sofar next line w ts h e. (judge_fits place profile sofar next line w ts h.0 e, few_stay place profile sofar next line w ts h.1 e))
+    (tokens text) nothing m.0 [] (record { skip = tt; main = λ anchor. refl; tables = tt; items = tt; deep = refl }, (omega arith, refl)) m.1 in
     let few' : length m.0.content.skip ≤ 65531 = subst (λ (s : RulesetValue). length s.skip ≤ 65531) (sym m.2) few in
     let short' : list_all is_short m.0.content.items ≡ true = subst (λ (s : RulesetValue). list_all is_short s.items ≡ true) (sym m.2) short in
     subst (λ (s : RulesetValue). ruleset_if (reading_from macros_of (judge place profile) nothing [] (tokens (skip_line s.skip ++ (table_lines s.tables ++ shown_rules s.items)))) ≡ Ok s) m.2 (whole_again place profile m.0 m.0.content.skip refl fits.0.skip fits.0 fits.1.0 short' few')

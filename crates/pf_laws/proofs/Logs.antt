@@ -13,7 +13,7 @@ use Rattle.pf_config.specs.Changes as change
 use Rattle.pf_config.proofs.Treed.{both_true}
 use Rattle.pf_grammar.specs.declared.fault.Refusal.{Refusal}
 use Rattle.pf_grammar.specs.Reading.{reading}
-use Rattle.pf_entry.specs.Entry.{Command, load, flush_rules, flush_tables, flush_all, add, delete, replace, flush_table, Entry, path_of, are_names}
+use Rattle.pf_entry.specs.Entry.{Command, load, flush_rules, flush_tables, flush_all, add, delete, replace, flush_table, Entry, path_of, are_names, Fits}
 use Rattle.pf_effect.specs.Effect.{uncounted, counted, entries_of, place_at, loaded, effect, changed, after_command, empty, after}
 use Rattle.pf_laws.specs.Targets.{has_target, have_targets}
 use Rattle.pf_laws.specs.Maps.{IsPath, IsAnchor, IsMap, AnswersMap}
@@ -80,6 +80,10 @@ entries_keep c (e ∷ es) h k =
 pub log_map : (es : List Entry) → have_paths es ≡ true → IsMap (after es)
 unfolding after
 log_map es k = entries_keep empty es (record { anchors = tt; rising = tt; few = omega arith }) k
+
+pub spelled_paths : (es : List Entry) → AllByRecursion Fits es → have_paths es ≡ true
+spelled_paths [] h = refl
+spelled_paths (e ∷ es) h = rw h.0.names (spelled_paths es h.1)
 
 -- ---- its rules name anchors
 

@@ -1,13 +1,14 @@
 //! A configuration is a map from paths: what its changes leave, and so what a log leaves.
 
 ghost use Rattle.std.specs.Prelude.{◌≡◌, Bool, List, filter, true, ℕ};
+ghost use Rattle.std.specs.List.{AllByRecursion};
 ghost use Rattle.pf_ruleset.specs.Names.{Name};
 ghost use Rattle.pf_ruleset.specs.declared.ruleset.TableEntry.{TableEntry};
 ghost use Rattle.pf_table.specs.Parts.{IsOrdered};
 ghost use Rattle.pf_table.specs.Tables.{is_of};
 ghost use Rattle.pf_config.specs.Changes.{add, replace, delete, flush_table, flush_rules, flush_tables, flush_all};
 ghost use Rattle.pf_config.specs.Map.{Configuration, Path};
-ghost use Rattle.pf_entry.specs.Entry.{Command, Entry, are_names, path_of};
+ghost use Rattle.pf_entry.specs.Entry.{Command, Entry, Fits, are_names, path_of};
 ghost use Rattle.pf_effect.specs.Effect.{after, after_command};
 ghost use Rattle.pf_laws.specs.Logs.{have_paths};
 ghost use Rattle.pf_laws.specs.Maps.{AnswersMap, IsMap, IsPath};
@@ -44,7 +45,7 @@ pub fn commands_keep_a_map()
         IsMap (after_command c command) }
 {}
 
-/// So what a log leaves is a map, whatever its commands are. Entries that have a spelling have such paths.
+/// So what a log leaves is a map, whatever its commands are.
 pub fn logs_leave_maps()
     ensures { (entries : List Entry) → have_paths entries ≡ true → IsMap (after entries) }
 {}
@@ -52,4 +53,9 @@ pub fn logs_leave_maps()
 /// And each of its anchor rules names anchors, as the law on nine levels asks.
 pub fn logs_have_targets()
     ensures { (entries : List Entry) → have_paths entries ≡ true → have_targets (after entries) ≡ true }
+{}
+
+/// Entries that have a spelling have such paths.
+pub fn spelled_logs_have_paths()
+    ensures { (entries : List Entry) → AllByRecursion Fits entries → have_paths entries ≡ true }
 {}
