@@ -2,7 +2,8 @@
 use Rattle.std.specs.Prelude.{◌≡◌, ◌≤◌, List, [], length, if◌then◌else◌}
 use Rattle.pf_config.specs.Map.{Configuration, Path, rules_at}
 use Rattle.pf_eval.specs.Packets.{PacketValue}
-use Rattle.pf_eval.specs.Verdicts.{Hit, hits_with, target_hits, tables_in, last_spot, Judgement, Skipped, Decided, is_skipped}
+use Rattle.pf_eval.specs.Verdicts.{Hit, hits_with, target_hits, tables_in, last_spot, Judgement, Skipped, Decided}
+use Rattle.pf_eval.specs.Verdicts.{is_skipped}
 
 -- what is hit at a path is what its rules come to, where an anchor rule comes to what is hit at its target
 abbrev pub AreHits : Configuration → PacketValue → (Path → List Hit) → Type 0

@@ -14,8 +14,8 @@ ghost use Rattle.pf_laws.specs.Logs.{have_paths};
 ghost use Rattle.pf_laws.specs.Maps.{AnswersMap, IsMap, IsPath};
 ghost use Rattle.pf_laws.specs.Targets.{have_targets};
 
-/// A change of one table, and each flush, leaves a map if there was one and the path is one that a path can be: 8 names at
-/// most, each an anchor's. (The calls of a configuration take names of any number.)
+/// A change of one table, and each flush, leaves a map if there was one and the path is one that a path can be: 8
+/// names at most, each an anchor's. (The calls of a configuration take names of any number.)
 pub fn changes_keep_a_map()
     ensures add { (c : Configuration) (p : Path) (name : Name) (list : List TableEntry) → IsMap c → IsPath p →
         AnswersMap (add c p name list) }
@@ -30,16 +30,17 @@ pub fn changes_keep_a_map()
     ensures flush_all { (c : Configuration) (p : Path) → IsMap c → IsPath p → IsMap (flush_all c p) }
 {}
 
-/// Of entries in order those of one family and length are in order: of address, since that is what is left to differ. So
-/// `Table::part` lends them in order of address, as `Table::entries` has the whole in order.
+/// Of entries in order those of one family and length are in order: of address, since that is what is left to differ.
+/// So `Table::part` lends them in order of address, as `Table::entries` has the whole in order.
 pub fn parts_are_in_order()
     ensures { (entries : List TableEntry) (v6 : Bool) (len : ℕ) → IsOrdered entries →
         IsOrdered (filter (is_of v6 len) entries) }
 {}
 
-/// A command at a path that commands may have leaves a map, if it was one: each path once, in byte order, with at most 8
-/// names, each an anchor's; no entry empty; at most 1,024 entries; at most 1,024 rules at a path, and anchor rules name
-/// 1 to 8 anchors; each name of a table once, and in a table each prefix once, in order of family, length and address.
+/// A command at a path that commands may have leaves a map, if there was one: each path once, in byte order, with at
+/// most 8 names, each an anchor's; no entry empty; at most 1,024 entries; at most 1,024 rules at a path, and the target
+/// of an anchor rule has 1 to 8 names; each name of a table once, and in a table each prefix once, in order of family,
+/// length and address.
 pub fn commands_keep_a_map()
     ensures { (c : Configuration) (command : Command) → IsMap c → are_names (path_of command) ≡ true →
         IsMap (after_command c command) }
