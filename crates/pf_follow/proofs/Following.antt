@@ -43,11 +43,11 @@ more log first c text p e h is s =
     let b = spelled e in
     let ls : lines (text ++ digits_line (Some b)) ≡ lines text ++ (line_of (encode_lower b) ∷ []) = lines_more text b h s.whole in
     let count : length (lines (text ++ digits_line (Some b))) ≡ length (lines text) + 1 =
-        ap length ls ∙ length-append (lines text) (line_of (encode_lower b) ∷ []) in
+    ap length ls ∙ length-append (lines text) (line_of (encode_lower b) ∷ []) in
     let moved : after_lines c (text ++ digits_line (Some b)) ≡ entry_applied (after_lines c text) e =
-        ap (λ (l : List ScriptLine). fold after_line c l) ls
-        ∙ fold_push after_line c (lines text) (line_of (encode_lower b))
-        ∙ ap (λ (d : Result (List ℕ) FromHexError). after_decoded (after_lines c text) d) (decode_of-encode_lower b h) in
+    ap (λ (l : List ScriptLine). fold after_line c l) ls
+    ∙ fold_push after_line c (lines text) (line_of (encode_lower b))
+    ∙ ap (λ (d : Result (List ℕ) FromHexError). after_decoded (after_lines c text) d) (decode_of-encode_lower b h) in
     record {
       whole = whole_more text b h s.whole;
       place = let there = s.place in omega (arith, count, there);
@@ -67,11 +67,11 @@ steps log first c end (suc n) text h within known s =
     let here = below_front log p (omega arith) in
     let next : p + 1 ≡ end - n = omega arith in
     let on : Stands log first c (text ++ entry_line log p) (end - n) =
-        subst (λ (k : ℕ). Stands log first c (text ++ entry_line log p) k) next
-        (subst (λ (l : List ℕ). Stands log first c (text ++ l) (p + 1)) (line_at log p here.0 here.1)
-        (more log first c text p here.0 (h p here.0 here.1) here.1 s)) in
+    subst (λ (k : ℕ). Stands log first c (text ++ entry_line log p) k) next
+    (subst (λ (l : List ℕ). Stands log first c (text ++ l) (p + 1)) (line_at log p here.0 here.1)
+    (more log first c text p here.0 (h p here.0 here.1) here.1 s)) in
     elim (nat_lt (length text) 262144) as (λ q. Reaches log first c
-        (if q then entries_before log end n (text ++ entry_line log p) else text)) [
+    (if q then entries_before log end n (text ++ entry_line log p) else text)) [
       | true ↦ steps log first c end n (text ++ entry_line log p) h (omega arith) known on
       | false ↦ reached log first c text p s
     ]

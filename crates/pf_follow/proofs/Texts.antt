@@ -37,8 +37,8 @@ lines_encoded [] rest h = refl
 lines_encoded (x ∷ b) rest h =
     let fits : x < 256 = h 0 in
     two_before (slice_index lower_digits (x / 16)) (slice_index lower_digits (x % 16)) (encode_lower b ++ (10 ∷ rest))
-        (encode_lower b) (lines rest) (no_newline (x / 16) (omega arith)) (no_newline (x % 16) (omega arith))
-        (lines_encoded b rest (λ k. h (suc k)))
+    (encode_lower b) (lines rest) (no_newline (x / 16) (omega arith)) (no_newline (x % 16) (omega arith))
+    (lines_encoded b rest (λ k. h (suc k)))
 
 -- what follows a text is cut into lines as if it stood alone
 abbrev pub IsWhole : List ℕ → Type 0

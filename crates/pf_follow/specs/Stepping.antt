@@ -45,5 +45,5 @@ IsStep file old new c position (step.Refused line) =
     (new ≡ old) × (config_output (Some file) position c ≡ record { text = string_bytes line; refused = true })
 IsStep file old new c position (step.Lines lines) =
     (IsSameAs file old c → ⊥) × MatchOption new ⊥ (λ l. (l.position ≡ position)
-      × (config_output (Some file) position c ≡ shown (string_bytes l.text))
-      × (lines.items ≡ two_lines (string_bytes l.text) ++ end_of old))
+    × (config_output (Some file) position c ≡ shown (string_bytes l.text))
+    × (lines.items ≡ two_lines (string_bytes l.text) ++ end_of old))

@@ -80,20 +80,10 @@ impl Kernel {
     }
 
     /// What is rendered under names of a position.
-    fn rendered(
-        &self,
-        alloc: Global,
-        config: &Config,
-        position: u32,
-    ) -> Result<Written, AllocError>
+    fn rendered(&self, alloc: Global, config: &Config, position: u32) -> Result<Written, AllocError>
         ensures { IfOk result (λ w. written w ≡ config_output (Some self.now.interfaces.items) position config.now) }
     {
-        config_output(
-            alloc,
-            Some(self.interfaces.as_slice()),
-            config,
-            position,
-        )
+        config_output(alloc, Some(self.interfaces.as_slice()), config, position)
     }
 
     /// Whether this is what was handed out last, but for the names.

@@ -34,7 +34,12 @@ impl From<AllocError> for WriteFault {
 }
 
 /// Says what came at a position.
-fn say<E: Write>(errors: &mut E, alloc: Global, position: u32, what: &str) -> Result<(), AllocError> {
+fn say<E: Write>(
+    errors: &mut E,
+    alloc: Global,
+    position: u32,
+    what: &str,
+) -> Result<(), AllocError> {
     let line = format!(in alloc; "pfx: at {position} {what}")?;
     let _said = errors.write_all(line.as_bytes());
     Ok(())
@@ -86,7 +91,12 @@ impl Outlets {
         if let Some(files) = &mut self.files {
             let is_behind = !files.write(rt, alloc, &mirror.config)?;
             if is_behind && !self.is_behind {
-                say(errors, alloc, mirror.position, "a file couldn't be written\n")?;
+                say(
+                    errors,
+                    alloc,
+                    mirror.position,
+                    "a file couldn't be written\n",
+                )?;
             }
             self.is_behind = is_behind;
         }

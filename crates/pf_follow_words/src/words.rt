@@ -18,7 +18,8 @@ const PF: &str =
 
 const TURNS: &str = "How often the door is asked; without an end if it isn't said";
 
-const BELOW: &str = "Once the node has applied a command, and each time that what it applies changes the rules, they are
+const BELOW: &str =
+    "Once the node has applied a command, and each time that what it applies changes the rules, they are
 written whole. With --nft: the sets of the position, all rules in place of those before, and the end of the sets and
 chains of the position written before. A door where nobody answers is asked again. Refusals are said on standard
 error: 87 and 88 as for check --nft, what was written before stands; 89 the file of interfaces, 40 words that don't go

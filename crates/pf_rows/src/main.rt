@@ -130,9 +130,7 @@ fn run_row(
 ) -> io::Result<()> {
     let alloc = rt.alloc();
     let status = match words.get(1) {
-        _ if asks_at_door(words) => {
-            run_visit(rt, alloc, words, &mut input, &mut io::writer(rt))
-        }
+        _ if asks_at_door(words) => { run_visit(rt, alloc, words, &mut input, &mut io::writer(rt)) }
         Some(&("node" | "ask" | "key")) => {
             run_net(rt, alloc, words, &mut input, &mut io::writer(rt))
         }

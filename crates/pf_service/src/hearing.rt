@@ -198,10 +198,7 @@ impl<W> HearingWire<W> {
                 self.lacking = None;
                 let now = Instant::now(&self.rt).ok();
                 if !self.is_quiet && !is_within(Some(since), now, LACKING) {
-                    let _said = eprintln!(self.rt;
-                        "pfx: info: node {} has caught up",
-                        self.m.me()
-                    );
+                    let _said = eprintln!(self.rt; "pfx: info: node {} has caught up", self.m.me());
                 }
             },
         }

@@ -17,7 +17,11 @@ pub(crate) fn show_figures(alloc: Global, applied: u32) -> Result<Shown, AllocEr
     text.push_str("applied ")?;
     push_number(alloc, &mut text, u64::from(applied))?;
     text.push_str(" left ")?;
-    push_number(alloc, &mut text, u64::from(POSITIONS.saturating_sub(applied)))?;
+    push_number(
+        alloc,
+        &mut text,
+        u64::from(POSITIONS.saturating_sub(applied)),
+    )?;
     text.push('\n')?;
     as_shown(alloc, text.as_str(), false)
 }

@@ -11,7 +11,7 @@ returns-clause-follows c =
     let none : length (lines c.loop-line.left.now) ≡ 0 = ap (λ (t : List ℕ). length (lines t)) nothing in
     let sums = c.loop-line.invariant.position in
     let place : c.loop-line.self.position ≡ c.args.self.now.position + length (lines c.args.text.now) =
-        omega (arith, none, sums) in
+    omega (arith, none, sums) in
     followed c.args.self.now.config c.loop-line.self.config c.args.self.now.position c.loop-line.self.position
-        c.args.text.now place
-        (ap (λ (t : List ℕ). after_lines c.loop-line.self.config t) (sym nothing) ∙ c.loop-line.invariant.config)
+    c.args.text.now place
+    (ap (λ (t : List ℕ). after_lines c.loop-line.self.config t) (sym nothing) ∙ c.loop-line.invariant.config)
