@@ -183,8 +183,8 @@ fn ask_change(alloc: Global, node: &mut Node<MemoryRecords>, address: &str) -> R
 
 /// Each member is asked a command that changes what the others make.
 fn ask_all(alloc: Global, parties: &mut [Party]) -> Result<(), Fail> {
-    ask_load(alloc, &mut party_of(parties, 0)?.node, RULES)?;
-    ask_load(alloc, &mut party_of(parties, 1)?.node, ANCHOR)?;
+    ask_load(alloc, &mut party_of(parties, 0)?.node, RULES.as_bytes())?;
+    ask_load(alloc, &mut party_of(parties, 1)?.node, ANCHOR.as_bytes())?;
     ask_change(alloc, &mut party_of(parties, 2)?.node, "0.0.0.3")
 }
 

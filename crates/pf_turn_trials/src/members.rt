@@ -33,9 +33,9 @@ pub(crate) fn ask(node: &mut Node<MemoryRecords>, command: Command) -> Result<()
 pub(crate) fn ask_load(
     alloc: Global,
     node: &mut Node<MemoryRecords>,
-    text: &str,
+    text: &[u8],
 ) -> Result<(), Fail> {
-    let text = Vec::from_slice(alloc, text.as_bytes())?;
+    let text = Vec::from_slice(alloc, text)?;
     let command = Command::Load {
         path: Path::main(alloc),
         profile: Profile::Two,

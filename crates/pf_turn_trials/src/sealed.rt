@@ -32,10 +32,10 @@ fn asked(alloc: Global) -> Result<Vec<Node<MemoryRecords>>, Fail> {
     for me in 0..3u8 {
         nodes.push(member(alloc, 3, me)?)?;
     }
-    let mut text = "block from 10/8\n";
+    let mut text = b"block from 10/8\n".as_slice();
     for node in &mut nodes {
         ask_load(alloc, node, text)?;
-        text = "pass quick proto udp\n";
+        text = b"pass quick proto udp\n".as_slice();
     }
     Ok(nodes)
 }
