@@ -4,7 +4,7 @@ use crate::node::NodeWords;
 use crate::outcome::Outcome;
 
 /// Says that a node begins, and with what.
-pub(crate) fn say_start(rt: &HostRuntime, words: NodeWords<'_, '_>) {
+pub(crate) fn say_start(rt: &HostRuntime, words: NodeWords<'_, '_, '_>) {
     if words.is_quiet {
         return;
     }
@@ -18,7 +18,7 @@ pub(crate) fn say_start(rt: &HostRuntime, words: NodeWords<'_, '_>) {
 }
 
 /// Says what a node ends with: an error of a refusal, else how far it came.
-pub(crate) fn say_end(rt: &HostRuntime, words: NodeWords<'_, '_>, outcome: Outcome) {
+pub(crate) fn say_end(rt: &HostRuntime, words: NodeWords<'_, '_, '_>, outcome: Outcome) {
     match outcome {
         Outcome::Refused(code) => {
             let _said = eprintln!(rt;

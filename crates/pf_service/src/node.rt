@@ -1,7 +1,7 @@
 //! The word `node`: a node over UDP.
 
 ghost use Rattle.std.specs.Prelude.{◌≡◌, ◌<◌, ◌≤◌, ◌⊎◌, ◌↔◌, Err, false, length, IfSome, OnErr, IsSome, IsTrue};
-ghost use Rattle.std.specs.Prelude.{ℕ, Some, None, map, option_map, option_and_then, unwrap_or};
+ghost use Rattle.std.specs.Prelude.{ℕ, Some, None, option_map, option_and_then};
 ghost use Rattle.toml.specs.Data.{as_str, get_member};
 ghost use Rattle.pf_node_file.specs.Files.{settings_of};
 ghost use Rattle.pf_node_file.specs.Settings.{number_of};
@@ -31,7 +31,7 @@ const WAIT_MS: u32 = 100;
 
 /// What the words of `node` say.
 #[derive(Clone, Copy)]
-pub(crate) struct NodeWords<'m, 'a> {
+pub(crate) struct NodeWords<'m, 'w, 'a> {
     /// This node's number.
     pub(crate) me: u8,
     pub(crate) cluster: u32,
@@ -52,22 +52,11 @@ pub(crate) struct NodeWords<'m, 'a> {
     /// Whether only warnings and errors are said.
     pub(crate) is_quiet: bool,
     /// Where the members listen, in order.
-    pub(crate) members: &'m [&'a str],
-}
-
-/// The words, those of the file where there are none.
-fn or_listed<'m, 'a>(words: Option<&'m [&'a str]>, listed: &'m [&'a str]) -> &'m [&'a str]
-    ensures { map (λ w. w.now) result.now
-        ≡ unwrap_or (option_map (λ s. map (λ w. w.now) s.now) words.entry) (map (λ w. w.now) listed.now) }
-{
-    match words {
-        Some(words) => words,
-        None => listed,
-    }
+    pub(crate) members: &'m [&'w str],
 }
 
 /// The text of an option, that of the file where it isn't given.
-fn text_or<'s>(given: Option<&'s str>, file: &'s NodeFile, name: &str) -> Option<&'s str>
+fn text_or<'g: 's, 's>(given: Option<&'g str>, file: &'s NodeFile, name: &str) -> Option<&'s str>
     ensures { option_map (λ t. t.now) result ≡ chosen (option_map (λ t. t.now) given.entry)
         (option_and_then as_str (get_member name.now (settings_of file.now))) }
 {
@@ -105,14 +94,14 @@ fn turns_or_all(turns: Option<u32>) -> u64
     }
 }
 
-impl<'m> NodeWords<'m, 'm> {
-    /// What the matches of the words and a file of settings with these members say; none where one of them is wanting.
+impl<'m, 'w, 'a> NodeWords<'m, 'w, 'a> {
+    /// What the matches of the words and a file of settings say, with these members; none where one of them is wanting.
     /// `clap` has refused numbers out of range.
-    pub(crate) fn of(
-        matches: &'m ArgMatches<'m>,
-        file: &'m NodeFile,
-        listed: &'m [&'m str],
-    ) -> Option<NodeWords<'m, 'm>> {
+    pub(crate) fn of<'g: 'a>(
+        matches: &ArgMatches<'g>,
+        file: &'a NodeFile,
+        members: &'m [&'w str],
+    ) -> Option<NodeWords<'m, 'w, 'a>> {
         let Some(me) = number_or(matches.get_one::<u32>("me"), file, "me") else {
             return None;
         };
@@ -137,7 +126,7 @@ impl<'m> NodeWords<'m, 'm> {
             metrics: text_or(matches.get_str("metrics"), file, "metrics"),
             answers_learned: text_or(matches.get_str("answer"), file, "answer").is_some(),
             is_quiet: matches.get_flag("quiet") || file.flag("quiet"),
-            members: or_listed(matches.get_strs("member"), listed),
+            members,
         })
     }
 
@@ -162,7 +151,7 @@ fn count(members: &[&str]) -> Option<u8>
 }
 
 /// The cluster, how many members it has, and which one this is; none where the number is none of theirs.
-fn membership(words: NodeWords<'_, '_>) -> Option<Membership>
+fn membership(words: NodeWords<'_, '_, '_>) -> Option<Membership>
     ensures some { IfSome result (λ m. (m.cluster ≡ words.entry.cluster) × (m.me ≡ words.entry.me) ×
         (m.members ≡ length words.entry.members.now)) }
     ensures here { IfSome result (λ m. m.me < m.members) }
@@ -214,7 +203,7 @@ fn identity_of(m: Membership) -> Identity
 fn bind(
     rt: &HostRuntime,
     alloc: Global,
-    words: NodeWords<'_, '_>,
+    words: NodeWords<'_, '_, '_>,
 ) -> Result<UdpWire<HostRuntime>, Outcome>
     ensures { OnErr result ((result ≡ Err Memory) ⊎ (result ≡ Err (Refused 82))) }
 {
@@ -254,7 +243,7 @@ fn sealed(
 fn run_over<R: Records, W: Wire + Drop>(
     rt: &HostRuntime,
     alloc: Global,
-    words: NodeWords<'_, '_>,
+    words: NodeWords<'_, '_, '_>,
     m: Membership,
     records: R,
     wire: Result<W, Outcome>,
@@ -286,7 +275,7 @@ fn run_over<R: Records, W: Wire + Drop>(
 fn run_node<R: Records>(
     rt: &HostRuntime,
     alloc: Global,
-    words: NodeWords<'_, '_>,
+    words: NodeWords<'_, '_, '_>,
     m: Membership,
     records: R,
     keys: Option<Keys>,
@@ -304,7 +293,7 @@ fn run_node<R: Records>(
 
 /// Where figures are told over TCP, if they are: 82 for what is no address at which this machine alone is heard, with a
 /// port.
-fn figures_at(words: NodeWords<'_, '_>) -> Result<Option<SocketAddr>, Outcome>
+fn figures_at(words: NodeWords<'_, '_, '_>) -> Result<Option<SocketAddr>, Outcome>
     ensures { OnErr result (result ≡ Err (Refused 82)) }
 {
     let Some(text) = words.metrics else {
@@ -326,7 +315,7 @@ fn figures_at(words: NodeWords<'_, '_>) -> Result<Option<SocketAddr>, Outcome>
 fn run_at_door<R: Records>(
     rt: &HostRuntime,
     alloc: Global,
-    words: NodeWords<'_, '_>,
+    words: NodeWords<'_, '_, '_>,
     path: &str,
     m: Membership,
     records: R,
@@ -361,7 +350,7 @@ fn run_at_door<R: Records>(
 
 /// What `node` comes to: 40 of its numbers, 83, the store's refusals, 82, 84, and the first refusal of a turn, in this
 /// order. The store is closed, whatever came of it; what a node has committed stands also where closing fails.
-pub(crate) fn node_outcome(rt: &HostRuntime, alloc: Global, words: NodeWords<'_, '_>) -> Outcome
+pub(crate) fn node_outcome(rt: &HostRuntime, alloc: Global, words: NodeWords<'_, '_, '_>) -> Outcome
     ensures { has_place words.entry.me (length words.entry.members.now) ≡ false → result ≡ Refused 40 }
 {
     let Some(m) = membership(words) else {

@@ -67,23 +67,37 @@ fn lacking(rt: &HostRuntime) -> Outcome {
     Outcome::Refused(BAD_SETTINGS)
 }
 
-/// What `node` comes to with these settings; an option goes before them.
-fn outcome_with(
+/// What `node` comes to with these settings and members; an option goes before the file's.
+fn outcome_for<'g: 'f, 'f>(
     rt: &HostRuntime,
     alloc: Global,
-    matches: &ArgMatches<'_>,
-    file: &NodeFile,
+    matches: &ArgMatches<'g>,
+    file: &'f NodeFile,
+    members: &[&str],
 ) -> Outcome {
-    let Ok(listed) = file.texts(alloc, "members") else {
-        return Outcome::Memory;
-    };
-    match NodeWords::of(matches, file, listed.as_slice()) {
+    match NodeWords::of(matches, file, members) {
         Some(words) => if words.is_whole() {
             node_outcome(rt, alloc, words)
         } else {
             lacking(rt)
         },
         None => lacking(rt),
+    }
+}
+
+/// What `node` comes to with these settings; the words' members go before the file's.
+fn outcome_with<'g: 'f, 'f>(
+    rt: &HostRuntime,
+    alloc: Global,
+    matches: &ArgMatches<'g>,
+    file: &'f NodeFile,
+) -> Outcome {
+    if let Some(members) = matches.get_strs("member") {
+        return outcome_for(rt, alloc, matches, file, members);
+    }
+    match file.texts(alloc, "members") {
+        Ok(listed) => outcome_for(rt, alloc, matches, file, listed.as_slice()),
+        Err(_) => Outcome::Memory,
     }
 }
 
