@@ -7,7 +7,7 @@ _pfx() {
     if ((COMP_CWORD == 1)); then
         case $current in
         -*) words="-h --help" ;;
-        *) words="check test ctl lab explain node ask key show help" ;;
+        *) words="check test ctl lab explain node ask key show follow help" ;;
         esac
         COMPREPLY=($(compgen -W "$words" -- "$current"))
         return
@@ -16,8 +16,9 @@ _pfx() {
     -F) COMPREPLY=($(compgen -W "rules Tables all" -- "$current")); return ;;
     -T) COMPREPLY=($(compgen -W "add delete replace flush show test" -- "$current")); return ;;
     -s) COMPREPLY=($(compgen -W "rules Tables Anchors" -- "$current")); return ;;
+    --pf) [[ $word != follow ]] || { COMPREPLY=($(compgen -d -- "$current")); return; } ;;
     --answer) COMPREPLY=($(compgen -W "learned" -- "$current")); return ;;
-    -f | --file | --packets | --store | --key | --other-key | --door | --interfaces)
+    -f | --file | --packets | --config | --store | --key | --other-key | --door | --interfaces)
         COMPREPLY=($(compgen -f -- "$current")); return ;;
     -a | -t | --me | --cluster | --turns | --to | --members | --node | --wait | --at | --position | --metrics) return ;;
     --from | --count) return ;;
@@ -29,15 +30,17 @@ _pfx() {
         [[ $current == -* ]] || { COMPREPLY=($(compgen -f -- "$current")); return; } ;;
     test) options="-f --file --packets -q --quiet -v --verbose" ;;
     ctl) options="-v --verbose" ;;
-    node) options="--me --cluster --store --turns --answer --door --metrics --key --other-key --unsealed" ;;
+    node)
+        options="--config --me --cluster --store --turns --answer --door --metrics --key --other-key --unsealed --quiet" ;;
     ask)
         options="--wait -a -f -n -F -t -T -s"
-        [[ $seen == *" --to "* ]] || options+=" --door --at --unchecked"
+        [[ $seen == *" --to "* ]] || options+=" --door --at --unchecked --script --from"
         [[ $seen == *" --door "* ]] || options+=" --to --cluster --members --node"
         [[ $seen == *" --door "* ]] && words="test request log status health metrics sync stop" ;;
     show)
         options="--store --nft --interfaces --pf --script --from --count -a -f -n -F -t -T -s"
         words="test log" ;;
+    follow) options="--door --nft --interfaces --pf --turns" ;;
     help) words="check test ctl lab explain help" ;;
     lab | explain | key) ;;
     *) return ;;

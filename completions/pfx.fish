@@ -2,7 +2,7 @@
 
 complete -c pfx -f
 complete -c pfx -s h -l help -d 'Print help' -n 'not __fish_seen_subcommand_from help'
-complete -c pfx -n __fish_use_subcommand -a 'check test ctl lab explain node ask key show help'
+complete -c pfx -n __fish_use_subcommand -a 'check test ctl lab explain node ask key show follow help'
 complete -c pfx -n '__fish_seen_subcommand_from help' -a 'check test ctl lab explain help'
 
 set -l check '__fish_seen_subcommand_from check'
@@ -22,6 +22,7 @@ complete -c pfx -n "$test" -s v -l verbose -d 'Say what is refused, and which ru
 complete -c pfx -n '__fish_seen_subcommand_from ctl' -s v -l verbose -d 'Say what is refused'
 
 set -l node '__fish_seen_subcommand_from node'
+complete -c pfx -n "$node" -l config -r -F -d 'A file of settings'
 complete -c pfx -n "$node" -l me -x -d 'The number of the node'
 complete -c pfx -n "$node" -l cluster -x -d 'Number of the cluster'
 complete -c pfx -n "$node" -l store -r -F -d 'The file of its record'
@@ -32,11 +33,14 @@ complete -c pfx -n "$node" -l metrics -x -d 'A TCP address of this machine alone
 complete -c pfx -n "$node" -l key -r -F -d 'A file with the key of the cluster'
 complete -c pfx -n "$node" -l other-key -r -F -d 'A file with a second key that is heard too'
 complete -c pfx -n "$node" -l unsealed -d 'Something below seals datagrams'
+complete -c pfx -n "$node" -l quiet -d 'Say warnings and errors alone'
 
 set -l ask '__fish_seen_subcommand_from ask'
 complete -c pfx -n "$ask; and not __fish_contains_opt to" -l door -r -F -d 'The Unix socket of operators'
 complete -c pfx -n "$ask; and not __fish_contains_opt to" -l at -x -d 'Answer once so many positions are applied'
 complete -c pfx -n "$ask; and not __fish_contains_opt to" -l unchecked -d 'Ask words and a text as they are'
+complete -c pfx -n "$ask; and not __fish_contains_opt to" -l script -r -F -d 'Ask the changes of a script'
+complete -c pfx -n "$ask; and not __fish_contains_opt to" -l from -x -d 'The first line of the script'
 complete -c pfx -n "$ask; and not __fish_contains_opt door" -l to -x -d 'The address of the node'
 complete -c pfx -n "$ask; and not __fish_contains_opt door" -l cluster -x -d 'Number of the cluster'
 complete -c pfx -n "$ask; and not __fish_contains_opt door" -l members -x -d 'How many members, 1 to 15'
@@ -68,3 +72,10 @@ complete -c pfx -n "$show" -s t -x -d 'A table at the path'
 complete -c pfx -n "$show" -s T -x -a 'add delete replace flush show test' -d 'What is done with the table'
 complete -c pfx -n "$show" -s s -x -a 'rules Tables Anchors' -d 'List'
 complete -c pfx -n "$show" -a 'test log'
+
+set -l follow '__fish_seen_subcommand_from follow'
+complete -c pfx -n "$follow" -l door -r -F -d 'The Unix socket of the node'
+complete -c pfx -n "$follow" -l nft -d 'Lines for nft(8)'
+complete -c pfx -n "$follow" -l interfaces -r -F -d 'The interfaces, a line each'
+complete -c pfx -n "$follow" -l pf -x -a '(__fish_complete_directories)' -d 'A folder for texts for pfctl(8)'
+complete -c pfx -n "$follow" -l turns -x -d 'How often the door is asked'

@@ -1,4 +1,4 @@
-/* The tags of many datagrams by OpenSSL: what crates/px_seal_speed does, with its words, and its output. */
+/* The tags of many datagrams by OpenSSL: what crates/pf_speed does for its word `tag`, with the words behind it. */
 #include <openssl/evp.h>
 #include <openssl/hmac.h>
 #include <stdio.h>

@@ -1,14 +1,16 @@
 -- What a change does: one ask of the node, or nothing.
-use Rattle.std.specs.Prelude.{◌≡◌, ℕ, List, [], ◌++◌, Option, Some, None, Result, Ok, Err, codes, decimal}
+use Rattle.std.specs.Prelude.{◌≡◌, ℕ, Bool, true, false, List, [], ◌++◌, ◌-◌, length, nat_lt, codes, decimal}
+use Rattle.std.specs.Prelude.{Option, Some, None, Result, Ok, Err}
 use Rattle.px_model.specs.Node.Input.{Asks}
 use Rattle.px_model.specs.Spelling.{Bytes, command_in}
+use Rattle.px_model.specs.Step.{front, positions}
 use Rattle.px_records.specs.declared.records.Records.{Ghosts}
 use Rattle.px_replica.specs.Calls.{Call}
 use Rattle.px_replica.specs.declared.fault.NodeFault.{NodeFault}
 use Rattle.px_replica.specs.declared.fault.NodeFault.TheVariants as fault
 use Rattle.pf_entry.specs.Entry as entries
 use Rattle.pf_entry.specs.Entry.{spelling}
-use Rattle.pf_node.specs.Nodes.{replica_of, records_of, membership_of, applied_of, config_of}
+use Rattle.pf_node.specs.Nodes.{replica_of, records_of, membership_of, applied_of, config_of, learned_by, state_in}
 use Rattle.pf_node.specs.declared.state.Node.{Node}
 use Rattle.pf_scripts.specs.Lines.{line}
 use Rattle.pf_desk.specs.Answers.{AnswerValue, refused}
@@ -47,10 +49,19 @@ pub record AskedOnce {R : Type 0} {G : Ghosts R} (s t : Node R G) (command : ent
   pub applied : applied_of t ≡ applied_of s
   pub config : config_of t ≡ config_of s
 
--- the words' refusal and nothing else, or one ask
+-- whether more positions are left than commands wait, so that one more has its own
+abbrev pub has_position : {R : Type 0} {G : Ghosts R} → Node R G → Bool
+has_position n = nat_lt (length (state_in n).volatile.waiting) (positions - front (learned_by n))
+
+-- one ask where the command has a position; else 62 and nothing else
+abbrev pub ChangesIf : {R : Type 0} {G : Ghosts R} → Bool → (s t : Node R G) → entries.Command → Changed → Type 0
+ChangesIf true s t command changed = AskedOnce s t command changed
+ChangesIf false s t command changed = (t ≡ s) × (changed ≡ Refused 62)
+
+-- the words' refusal and nothing else, or one ask where the command has a position
 abbrev pub Changes : {R : Type 0} {G : Ghosts R} → (s t : Node R G) → Result entries.Command ℕ → Changed → Type 0
 Changes s t (Err code) changed = (t ≡ s) × (changed ≡ Refused code)
-Changes s t (Ok command) changed = AskedOnce s t command changed
+Changes s t (Ok command) changed = ChangesIf (has_position s) s t command changed
 
 -- ---- the numbers that were given
 

@@ -1,5 +1,6 @@
 pub mod Answers
 pub mod Changing
+pub mod EntryLines
 pub mod Health
 pub mod Listings
 pub mod LogLines

@@ -1,6 +1,6 @@
 -- What is answered to a request.
-use Rattle.std.specs.Prelude.{◌≡◌, ◌⊎◌, ℕ, Bool, true, false, [], map, length, nat_lt, Option, Result, codes}
-use Rattle.px_model.specs.Step.{front}
+use Rattle.std.specs.Prelude.{◌≡◌, ◌⊎◌, ◌-◌, ℕ, Bool, true, false, [], map, length, nat_lt, Option, Result, codes}
+use Rattle.px_model.specs.Step.{front, positions}
 use Rattle.px_records.specs.declared.records.Records.{Ghosts}
 use Rattle.pf_entry.specs.Entry as entries
 use Rattle.pf_scripts.specs.WordsRead.{change_in}
@@ -16,6 +16,7 @@ use Rattle.pf_desk.specs.declared.request.Request.TheVariants as request
 use Rattle.pf_desk.specs.declared.tally.Tally.{Tally}
 use Rattle.pf_desk.specs.Answers.{AnswerValue, shown, listed, verdicts}
 use Rattle.pf_desk.specs.Changing.{Changes, with_number, change_answer}
+use Rattle.pf_desk.specs.EntryLines.{entries_answer}
 use Rattle.pf_desk.specs.Health.{health, health_answer, ready_answer}
 use Rattle.pf_desk.specs.Listings.{words_of}
 use Rattle.pf_desk.specs.LogLines.{log_answer}
@@ -29,6 +30,7 @@ pub record AreFigures {R : Type 0} {G : Ghosts R} (n : Node R G) (f : Figures) :
   pub node : f.node ≡ (membership_of n).me
   pub members : f.members ≡ (membership_of n).members
   pub cluster : f.cluster ≡ (membership_of n).cluster
+  pub left : f.left ≡ positions - front (learned_by n)
   pub front : f.front ≡ front (learned_by n)
   pub applied : f.applied ≡ applied_of n
   pub waiting : f.waiting ≡ length (state_in n).volatile.waiting
@@ -47,6 +49,7 @@ IsRead n taken t (read.List listing) a = a ≡ listed (config_of n) (words_of li
 IsRead n taken t (read.Test packets) a = a ≡ verdicts (config_of n) (map (λ p. p.now) packets.items)
 IsRead n taken t (read.Standing origin number) a = a ≡ standing n taken origin number
 IsRead n taken t (read.Log from) a = a ≡ log_answer n from
+IsRead n taken t (read.Entries from count) a = a ≡ entries_answer n from count
 IsRead n taken t (read.Status json) a = IsStatus n t json a
 IsRead n taken t read.Health a = a ≡ health_answer (health n t.peers.items)
 IsRead n taken t read.Ready a = a ≡ ready_answer (health n t.peers.items)

@@ -35,7 +35,7 @@ node_line f up =
 abbrev pub front_line : Figures → List ℕ
 front_line f =
     line (fields ((codes "front ", f.front) ∷ (codes " applied ", f.applied) ∷ (codes " round ", f.round)
-    ∷ (codes " waiting ", f.waiting) ∷ []))
+    ∷ (codes " waiting ", f.waiting) ∷ (codes " left ", f.left) ∷ []))
 
 abbrev pub config_line : Figures → List ℕ
 config_line f =

@@ -27,8 +27,9 @@ figures_json f up =
 
 abbrev pub config_json : Figures → List ℕ
 config_json f =
-    fields ((codes ",\"round\":", f.round) ∷ (codes ",\"waiting\":", f.waiting) ∷ (codes ",\"anchors\":", f.anchors)
-    ∷ (codes ",\"rules\":", f.rules) ∷ (codes ",\"tables\":", f.tables) ∷ (codes ",\"addresses\":", f.addresses) ∷ [])
+    fields ((codes ",\"round\":", f.round) ∷ (codes ",\"waiting\":", f.waiting) ∷ (codes ",\"left\":", f.left)
+    ∷ (codes ",\"anchors\":", f.anchors) ∷ (codes ",\"rules\":", f.rules) ∷ (codes ",\"tables\":", f.tables)
+    ∷ (codes ",\"addresses\":", f.addresses) ∷ [])
 
 abbrev pub wire_json : Tally → List ℕ
 wire_json t =

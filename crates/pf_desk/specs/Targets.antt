@@ -2,7 +2,8 @@
 use Rattle.std.specs.Prelude.{ℕ, List, Option, Some, None, codes, bytes_eq, if◌then◌else◌}
 use Rattle.pf_desk.specs.declared.target.Target.{Target}
 use Rattle.pf_desk.specs.declared.target.Target.TheVariants.{Changes, Requests, Rules, Tables, Anchors, Table}
-use Rattle.pf_desk.specs.declared.target.Target.TheVariants.{TableTest, Test, Log, Status, Health, Ready, Metrics, Stop}
+use Rattle.pf_desk.specs.declared.target.Target.TheVariants.{TableTest, Test, Log, Entries, Status, Health, Ready}
+use Rattle.pf_desk.specs.declared.target.Target.TheVariants.{Metrics, Stop}
 
 -- what a path names, but for the paths of requests
 abbrev pub plain_target : List ℕ → Option Target
@@ -15,6 +16,7 @@ plain_target path =
     else if bytes_eq path (codes "/v1/table-test") then Some TableTest
     else if bytes_eq path (codes "/v1/test") then Some Test
     else if bytes_eq path (codes "/v1/log") then Some Log
+    else if bytes_eq path (codes "/v1/entries") then Some Entries
     else if bytes_eq path (codes "/v1/status") then Some Status
     else if bytes_eq path (codes "/healthz") then Some Health
     else if bytes_eq path (codes "/readyz") then Some Ready
@@ -34,6 +36,7 @@ method_of Tables = codes "GET"
 method_of Anchors = codes "GET"
 method_of Table = codes "GET"
 method_of Log = codes "GET"
+method_of Entries = codes "GET"
 method_of Status = codes "GET"
 method_of Health = codes "GET"
 method_of Ready = codes "GET"

@@ -13,6 +13,7 @@ ghost use Rattle.pf_desk.specs.Standing.{standing};
 use crate::answer::Answer;
 use crate::changing::{Changed, change_node};
 use crate::desk::Desk;
+use crate::entries::entries;
 use crate::figures::Figures;
 use crate::health::Health;
 use crate::json::status_json;
@@ -130,6 +131,7 @@ impl<R: Records> Desk<R> {
             Read::Test { packets } => self.test(packets),
             Read::Standing { origin, number } => self.standing(*origin, *number),
             Read::Log { from } => log(self.alloc, &self.node, *from),
+            Read::Entries { from, count } => entries(self.alloc, &self.node, *from, *count),
             Read::Status { json } => self.status(*json, tally),
             Read::Health => self.health(tally).health_answer(self.alloc),
             Read::Ready => self.health(tally).ready_answer(self.alloc),
@@ -150,8 +152,8 @@ impl<R: Records> Desk<R> {
     }
 
     /// Takes the change in that a line of pfctl's words asks for, `pfctl` itself first, with the text of its file: one
-    /// ask of the node, or a refusal with nothing changed. Where memory is wanting nothing has changed, and the node
-    /// wasn't asked.
+    /// ask of the node, or a refusal with nothing changed: 62 where the positions that are left are those of commands
+    /// that wait. Where memory is wanting nothing has changed, and the node wasn't asked.
     pub fn change(&mut self, words: &[&str], text: &[u8]) -> Result<Changed, AllocError>
         ensures changes { IfOk result (Changes self.old.node self.new.node
             (change_in (map (λ w. w.now) words.now) text.now)) }

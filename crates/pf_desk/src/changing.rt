@@ -4,9 +4,10 @@ ghost use Rattle.std.specs.Prelude.{◌≡◌, OnErr, IfOk, map, string_bytes};
 ghost use Rattle.pf_entry.specs.Owned.{command_value};
 ghost use Rattle.pf_scripts.specs.WordsRead.{change_in};
 ghost use Rattle.pf_desk.specs.Answers.{answer_value};
-ghost use Rattle.pf_desk.specs.Changing.{Changes, AskedOnce, refused_by, asked_line, change_answer};
+ghost use Rattle.pf_desk.specs.Changing.{Changes, AskedOnce, has_position, refused_by, asked_line, change_answer};
 
 use crate::answer::Answer;
+use crate::figures::positions_left;
 use pf_node::{Command, Node, NodeFault};
 use pf_scripts::{ChangeFault, push_number, read_change};
 use px_records::Records;
@@ -50,8 +51,17 @@ fn ask_once<R: Records>(node: &mut Node<R>, command: &Command) -> Changed
     }
 }
 
+/// Whether more positions are left than commands wait, so that one more has its own.
+fn has_position<R: Records>(node: &Node<R>) -> bool
+    ensures { result ≡ has_position node.now }
+{
+    let left = positions_left(node);
+    node.waiting() < left as usize
+}
+
 /// Takes the change in that a line of pfctl's words asks for, `pfctl` itself first, with the text of its file: one ask
-/// of the node, or a refusal with nothing changed.
+/// of the node, or a refusal with nothing changed, which is 62 where every position that is left is one of a command
+/// that waits.
 pub(crate) fn change_node<R: Records>(
     alloc: Global,
     node: &mut Node<R>,
@@ -62,7 +72,12 @@ pub(crate) fn change_node<R: Records>(
     ensures memory { OnErr result (node.new ≡ node.old) }
 {
     match read_change(alloc, words, text) {
-        Ok(command) => Ok(ask_once(node, &command)),
+        Ok(command) => {
+            if !has_position(node) {
+                return Ok(Changed::Refused(62));
+            }
+            Ok(ask_once(node, &command))
+        }
         Err(ChangeFault::Refused(code)) => Ok(Changed::Refused(code)),
         Err(ChangeFault::Memory) => Err(AllocError),
     }

@@ -1,11 +1,14 @@
 //! A node in numbers.
 
-ghost use Rattle.std.specs.Prelude.{IfOk};
+ghost use Rattle.std.specs.Prelude.{◌≡◌, IfOk, ◌-◌};
+ghost use Rattle.px_model.specs.Step.{front, positions};
+ghost use Rattle.pf_node.specs.Nodes.{learned_by};
 ghost use Rattle.pf_desk.specs.Requests.{AreFigures};
 
 use pf_config::Config;
 use pf_node::Node;
 use pf_ruleset::Name;
+use px_core::POSITIONS;
 use px_records::Records;
 use std::alloc::AllocError;
 
@@ -26,6 +29,8 @@ pub struct Figures {
     pub round: u64,
     /// How many commands wait to be proposed.
     pub waiting: usize,
+    /// How many positions the log has left.
+    pub left: u32,
     /// Paths that have rules or tables.
     pub anchors: usize,
     /// Rules, at all paths.
@@ -78,6 +83,14 @@ fn count_config(config: &Config) -> Result<Counts, AllocError> {
     Ok(counts)
 }
 
+/// How many positions the log has left.
+pub(crate) fn positions_left<R: Records>(node: &Node<R>) -> u32
+    ensures { result ≡ positions - front (learned_by node.now) }
+{
+    let front = node.front();
+    POSITIONS - front
+}
+
 impl Figures {
     /// A node in numbers.
     pub fn of<R: Records>(node: &Node<R>) -> Result<Figures, AllocError>
@@ -93,6 +106,7 @@ impl Figures {
             applied: node.applied(),
             round: node.round(),
             waiting: node.waiting(),
+            left: positions_left(node),
             anchors: counts.anchors,
             rules: counts.rules,
             tables: counts.tables,

@@ -81,6 +81,7 @@ fn push_config(alloc: Global, out: &mut String, f: &Figures) -> Result<(), Alloc
         &[
             (",\"round\":", f.round),
             (",\"waiting\":", f.waiting as u64),
+            (",\"left\":", u64::from(f.left)),
             (",\"anchors\":", f.anchors as u64),
             (",\"rules\":", f.rules as u64),
             (",\"tables\":", f.tables as u64),

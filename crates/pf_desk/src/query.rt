@@ -15,6 +15,8 @@ pub(crate) struct Query {
     pub(crate) at: Option<u32>,
     /// The first position.
     pub(crate) from: Option<u32>,
+    /// How many positions at most.
+    pub(crate) count: Option<u32>,
 }
 
 /// A number of decimal digits alone.
@@ -50,6 +52,7 @@ impl Query {
             table: None,
             at: None,
             from: None,
+            count: None,
         }
     }
 
@@ -70,6 +73,10 @@ impl Query {
         if name == "from" && self.from.is_none() {
             self.from = position_in(value);
             return Ok(self.from.is_some());
+        }
+        if name == "count" && self.count.is_none() {
+            self.count = position_in(value);
+            return Ok(self.count.is_some());
         }
         Ok(false)
     }

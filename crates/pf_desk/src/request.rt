@@ -55,6 +55,13 @@ pub enum Read<'a> {
         /// The first position.
         from: Option<u32>,
     },
+    /// The entries at the applied positions, as they are spelled.
+    Entries {
+        /// The first position, 0 if it isn't said.
+        from: Option<u32>,
+        /// How many at most, 1,000 if it isn't said or is more.
+        count: Option<u32>,
+    },
     /// How the node is, in lines or as JSON.
     Status {
         /// As JSON.

@@ -100,6 +100,7 @@ fn read_in<'a>(
         path,
         table,
         from,
+        count,
         ..
     } = query;
     let path = or_empty(alloc, path);
@@ -112,6 +113,7 @@ fn read_in<'a>(
         Target::TableTest => table_test_in(alloc, path, table, body),
         Target::Test => test_in(alloc, body),
         Target::Log => Ok(Some(Read::Log { from })),
+        Target::Entries => Ok(Some(Read::Entries { from, count })),
         Target::Status => Ok(Some(Read::Status { json })),
         Target::Health => Ok(Some(Read::Health)),
         Target::Ready => Ok(Some(Read::Ready)),

@@ -100,6 +100,7 @@ fn push_front(alloc: Global, out: &mut String, f: &Figures) -> Result<(), AllocE
             (" applied ", u64::from(f.applied)),
             (" round ", f.round),
             (" waiting ", f.waiting as u64),
+            (" left ", u64::from(f.left)),
         ],
     )
 }

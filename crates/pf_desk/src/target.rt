@@ -15,6 +15,7 @@ pub(crate) enum Target {
     TableTest,
     Test,
     Log,
+    Entries,
     Status,
     Health,
     Ready,
@@ -36,6 +37,7 @@ impl Target {
             "/v1/table-test" => Some(Target::TableTest),
             "/v1/test" => Some(Target::Test),
             "/v1/log" => Some(Target::Log),
+            "/v1/entries" => Some(Target::Entries),
             "/v1/status" => Some(Target::Status),
             "/healthz" => Some(Target::Health),
             "/readyz" => Some(Target::Ready),
@@ -57,6 +59,7 @@ impl Target {
             | Target::Anchors
             | Target::Table
             | Target::Log
+            | Target::Entries
             | Target::Status
             | Target::Health
             | Target::Ready
@@ -71,6 +74,7 @@ impl Target {
             Target::Table | Target::TableTest => name == "a" || name == "t" || name == "at",
             Target::Anchors | Target::Test | Target::Requests | Target::Status => name == "at",
             Target::Log => name == "from" || name == "at",
+            Target::Entries => name == "from" || name == "count" || name == "at",
             Target::Changes | Target::Health | Target::Ready | Target::Metrics | Target::Stop => {
                 false
             }

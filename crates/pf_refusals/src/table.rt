@@ -14,7 +14,7 @@ const ASK_STAYS: &str = "Nothing is taken in, and the node goes on.";
 const STORE_STAYS: &str = "The node isn't started, and the store stays as it was.";
 
 /// Each refusal once, by number. `scripts/refusals` compares it with docs/LANGUAGE.md.
-pub const REFUSALS: [Explanation; 40] = [
+pub const REFUSALS: [Explanation; 41] = [
     Explanation {
         code: 1,
         name: "no number in an address",
@@ -191,17 +191,18 @@ pub const REFUSALS: [Explanation; 40] = [
         name: "no round left",
         meaning: "a tick, since every round is used",
         after: "The node proposes nothing more; what was learned stays.",
-        remedy: "Take down what the nodes hold by -s, and load it into a new cluster\n         \
-            with new stores.",
+        remedy: "Make a successor: pfx show --store FILE --script, whose commands\n         \
+            pfx ask --script asks of a new cluster.",
     },
     Explanation {
         code: POSITIONS_SPENT,
         name: "no position left",
-        meaning: "a command, since every position or number is used",
+        meaning: "a command, since every position or number is used, or at a door those\n         \
+            left are of commands that wait",
         after: "Nothing is taken in; what was learned stays, and verdicts are\n         \
             answered.",
-        remedy: "Take down what the nodes hold by -s, and load it into a new cluster\n         \
-            with new stores.",
+        remedy: "Make a successor: pfx show --store FILE --script, whose commands\n         \
+            pfx ask --script asks of a new cluster.",
     },
     Explanation {
         code: 70,
@@ -326,5 +327,15 @@ pub const REFUSALS: [Explanation; 40] = [
         meaning: "a script of a store's configuration: none gives it",
         after: "No script is printed, and the store stays as it was.",
         remedy: "Look by -s at what the store holds, and load it by hand.",
+    },
+    Explanation {
+        code: 92,
+        name: "bad file of settings",
+        meaning: "a node's file of settings: it isn't TOML, has an unknown setting or a\n         \
+            value of another kind; me, cluster or store that neither it nor an\n         \
+            option gives; other-key without a key, metrics without a door",
+        after: "No node is started.",
+        remedy: "Look at the named line, which standard error says more of, and at the\n         \
+            example in pfx-node(8).",
     },
 ];

@@ -17,13 +17,15 @@ use Rattle.pf_io.specs.declared.status.Status.{Status}
 use Rattle.pf_io.specs.declared.status.Status.TheVariants as status
 use Rattle.pf_io.specs.Written.{line}
 use Rattle.pf_service.specs.declared.outcome.Outcome.{Outcome}
-use Rattle.pf_service.specs.declared.outcome.Outcome.TheVariants.{Front, Asked, Key, Refused, NoAnswer, Memory, Unread}
+use Rattle.pf_service.specs.declared.outcome.Outcome.TheVariants.{Front, Asked, Key, Refused, RefusedLine, NoAnswer}
+use Rattle.pf_service.specs.declared.outcome.Outcome.TheVariants.{Memory, Unread}
 
 abbrev pub line_of : Outcome → List ℕ
 line_of (Front front applied) = line (codes "front " ++ decimal front ++ codes " applied " ++ decimal applied)
 line_of (Asked node number) = line (codes "asked " ++ decimal node ++ codes "." ++ decimal number)
 line_of (Key key) = key_text key
 line_of (Refused code) = line (codes "refused " ++ decimal code)
+line_of (RefusedLine code at) = line (codes "refused " ++ decimal code ++ codes " line " ++ decimal at)
 line_of NoAnswer = line (codes "no answer")
 line_of Memory = line (codes "memory")
 line_of Unread = []
@@ -33,6 +35,7 @@ status_of (Front front applied) = status.Done
 status_of (Asked node number) = status.Done
 status_of (Key key) = status.Done
 status_of (Refused code) = status.Refused
+status_of (RefusedLine code at) = status.Refused
 status_of NoAnswer = status.Refused
 status_of Memory = status.Memory
 status_of Unread = status.Failed

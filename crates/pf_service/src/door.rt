@@ -25,6 +25,8 @@ pub(crate) struct DoorWords<'a> {
     /// The descriptor of the members' socket.
     pub(crate) fd: RawFd,
     pub(crate) turns: u64,
+    /// Whether only warnings and errors are said.
+    pub(crate) is_quiet: bool,
 }
 
 /// The door, which is opened too when a datagram comes.
@@ -85,7 +87,7 @@ fn served<R: Records, W: Wire + Drop>(
         Err(outcome) => return (outcome, desk),
     };
     let m = desk.node.membership();
-    let wire = LoopbackWire::new(alloc, HearingWire::new(rt, wire, m), m.me());
+    let wire = LoopbackWire::new(alloc, HearingWire::new(rt, wire, m, words.is_quiet), m.me());
     let (outcome, desk) = match TallyWire::new(alloc, wire, m) {
         Ok(mut wire) => served_by(rt, alloc, words, desk, &mut wire, &mut door),
         Err(_) => (Outcome::Memory, desk),

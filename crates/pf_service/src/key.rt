@@ -27,7 +27,7 @@ fn key_refused(rt: &HostRuntime, path: &str, fault: KeyFault) -> Outcome
     if fault == KeyFault::Memory {
         return Outcome::Memory;
     }
-    let _said = eprintln!(rt; "pfx: {path} has no key: {fault}");
+    let _said = eprintln!(rt; "pfx: error: {path} has no key: {fault}");
     Outcome::Refused(83)
 }
 
@@ -35,7 +35,7 @@ fn key_refused(rt: &HostRuntime, path: &str, fault: KeyFault) -> Outcome
 fn key_in(
     rt: &HostRuntime,
     alloc: Global,
-    words: NodeWords<'_, '_>,
+    words: NodeWords<'_, '_, '_>,
     path: &str,
 ) -> Result<[u8; 32], Outcome>
     ensures { OnErr result ((result ≡ Err Memory) ⊎ (result ≡ Err (Refused 83))) }
@@ -54,7 +54,7 @@ fn key_in(
 pub(crate) fn keys_for(
     rt: &HostRuntime,
     alloc: Global,
-    words: NodeWords<'_, '_>,
+    words: NodeWords<'_, '_, '_>,
 ) -> Result<Option<Keys>, Outcome>
     ensures { OnErr result ((result ≡ Err Memory) ⊎ (result ≡ Err (Refused 83))) }
 {
@@ -98,7 +98,7 @@ fn is_loopback(text: &str) -> bool
 }
 
 /// Says on standard error that the datagrams of a node carry no tag, where others than this machine may send it some.
-pub(crate) fn warn_unsealed(rt: &HostRuntime, words: NodeWords<'_, '_>) {
+pub(crate) fn warn_unsealed(rt: &HostRuntime, words: NodeWords<'_, '_, '_>) {
     let Some(own) = words.members.get(usize::from(words.me)) else {
         return;
     };
@@ -106,7 +106,7 @@ pub(crate) fn warn_unsealed(rt: &HostRuntime, words: NodeWords<'_, '_>) {
         return;
     }
     let _said = eprintln!(rt;
-        "pfx: no --key: whoever can send datagrams to {own} can change what this cluster learns (--unsealed: all is well)"
+        "pfx: warning: no key: whoever can send datagrams to {own} can change what this cluster learns (unless --unsealed)"
     );
 }
 

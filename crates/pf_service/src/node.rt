@@ -1,18 +1,23 @@
 //! The word `node`: a node over UDP.
 
-ghost use Rattle.std.specs.Prelude.{◌≡◌, ◌<◌, ◌⊎◌, ◌↔◌, Err, false, length, IfSome, OnErr, IsSome, IsTrue};
-ghost use Rattle.std.specs.Prelude.{[], map, option_map, unwrap_or};
+ghost use Rattle.std.specs.Prelude.{◌≡◌, ◌<◌, ◌≤◌, ◌⊎◌, ◌↔◌, Err, false, length, IfSome, OnErr, IsSome, IsTrue};
+ghost use Rattle.std.specs.Prelude.{ℕ, Some, None, option_map, option_and_then};
+ghost use Rattle.toml.specs.Data.{as_str, get_member};
+ghost use Rattle.pf_node_file.specs.Files.{settings_of};
+ghost use Rattle.pf_node_file.specs.Settings.{number_of};
 ghost use Rattle.pf_service.specs.declared.outcome.Outcome.TheVariants.{Memory, Refused};
 ghost use Rattle.pf_service.specs.Outcomes.{adopt_outcome, ComesTo};
-ghost use Rattle.pf_service.specs.inner.Places.{is_count, has_place, turns_or_all};
+ghost use Rattle.pf_service.specs.inner.Places.{is_count, has_place, turns_or_all, chosen};
 
 use crate::door::{DoorWords, run_with_door};
+use crate::events::{say_end, say_start};
 use crate::hearing::HearingWire;
 use crate::key::{Keys, keys_for, warn_unsealed};
 use crate::outcome::{Outcome, ended_outcome};
 use clap::ArgMatches;
 use pf_member::{Membership, run_member};
 use pf_net::{BindFault, UdpWire};
+use pf_node_file::NodeFile;
 use px_records::Records;
 use px_seal::{MembersWire, SealedWire};
 use px_sql::{AdoptFault, Identity, SqlRecords};
@@ -26,7 +31,7 @@ const WAIT_MS: u32 = 100;
 
 /// What the words of `node` say.
 #[derive(Clone, Copy)]
-pub(crate) struct NodeWords<'m, 'a> {
+pub(crate) struct NodeWords<'m, 'w, 'a> {
     /// This node's number.
     pub(crate) me: u8,
     pub(crate) cluster: u32,
@@ -44,18 +49,38 @@ pub(crate) struct NodeWords<'m, 'a> {
     pub(crate) door: Option<&'a str>,
     /// Where figures are told over TCP, if they are.
     pub(crate) metrics: Option<&'a str>,
+    /// Whether only warnings and errors are said.
+    pub(crate) is_quiet: bool,
     /// Where the members listen, in order.
-    pub(crate) members: &'m [&'a str],
+    pub(crate) members: &'m [&'w str],
 }
 
-/// The words, none where there are none.
-fn or_none<'m, 'a>(words: Option<&'m [&'a str]>) -> &'m [&'a str]
-    ensures { map (λ w. w.now) result.now
-        ≡ unwrap_or (option_map (λ s. map (λ w. w.now) s.now) words.entry) [] }
+/// The text of an option, that of the file where it isn't given.
+fn text_or<'g: 's, 's>(given: Option<&'g str>, file: &'s NodeFile, name: &str) -> Option<&'s str>
+    ensures { option_map (λ t. t.now) result ≡ chosen (option_map (λ t. t.now) given.entry)
+        (option_and_then as_str (get_member name.now (settings_of file.now))) }
 {
-    match words {
-        Some(words) => words,
-        None => &[],
+    match given {
+        Some(text) => Some(text),
+        None => file.text(name),
+    }
+}
+
+/// The number of an option, that of the file where it isn't given.
+fn number_or(given: Option<u32>, file: &NodeFile, name: &str) -> Option<u32>
+    ensures given { (n : ℕ) → given ≡ Some n → result ≡ Some n }
+    ensures file { given ≡ None → IfSome result (λ n.
+        option_and_then number_of (get_member name.now (settings_of file.now)) ≡ Some n) }
+    ensures kept { given ≡ None → (n : ℕ) →
+        option_and_then number_of (get_member name.now (settings_of file.now)) ≡ Some n → n ≤ 4294967295 →
+        result ≡ Some n }
+{
+    if given.is_some() {
+        return given;
+    }
+    match file.number(name) {
+        Some(number) => u32::try_from(number).ok(),
+        None => None,
     }
 }
 
@@ -69,16 +94,24 @@ fn turns_or_all(turns: Option<u32>) -> u64
     }
 }
 
-impl<'m, 'a> NodeWords<'m, 'a> {
-    /// What the matches of the words say. `clap` has refused numbers out of range and words that are missing.
-    pub(crate) fn of(matches: &'m ArgMatches<'a>) -> Option<NodeWords<'m, 'a>> {
-        let Some(me) = matches.get_one::<u8>("me") else {
+impl<'m, 'w, 'a> NodeWords<'m, 'w, 'a> {
+    /// What the matches of the words and a file of settings say, with these members; none where one of them is wanting.
+    /// `clap` has refused numbers out of range.
+    pub(crate) fn of<'g: 'a>(
+        matches: &ArgMatches<'g>,
+        file: &'a NodeFile,
+        members: &'m [&'w str],
+    ) -> Option<NodeWords<'m, 'w, 'a>> {
+        let Some(me) = number_or(matches.get_one::<u32>("me"), file, "me") else {
             return None;
         };
-        let Some(cluster) = matches.get_one::<u32>("cluster") else {
+        let Ok(me) = u8::try_from(me) else {
             return None;
         };
-        let Some(store) = matches.get_str("store") else {
+        let Some(cluster) = number_or(matches.get_one::<u32>("cluster"), file, "cluster") else {
+            return None;
+        };
+        let Some(store) = text_or(matches.get_str("store"), file, "store") else {
             return None;
         };
         Some(NodeWords {
@@ -86,14 +119,21 @@ impl<'m, 'a> NodeWords<'m, 'a> {
             cluster,
             store,
             turns: turns_or_all(matches.get_one::<u32>("turns")),
-            key: matches.get_str("key"),
-            other_key: matches.get_str("other-key"),
-            is_unsealed: matches.get_flag("unsealed"),
-            door: matches.get_str("door"),
-            metrics: matches.get_str("metrics"),
-            answers_learned: matches.get_str("answer").is_some(),
-            members: or_none(matches.get_strs("member")),
+            key: text_or(matches.get_str("key"), file, "key"),
+            other_key: text_or(matches.get_str("other-key"), file, "other-key"),
+            is_unsealed: matches.get_flag("unsealed") || file.flag("unsealed"),
+            door: text_or(matches.get_str("door"), file, "door"),
+            metrics: text_or(matches.get_str("metrics"), file, "metrics"),
+            answers_learned: text_or(matches.get_str("answer"), file, "answer").is_some(),
+            is_quiet: matches.get_flag("quiet") || file.flag("quiet"),
+            members,
         })
+    }
+
+    /// Whether each setting has the one that it wants: a second key a key, figures a door.
+    pub(crate) fn is_whole(self) -> bool {
+        (self.other_key.is_none() || self.key.is_some())
+            && (self.metrics.is_none() || self.door.is_some())
     }
 }
 
@@ -111,7 +151,7 @@ fn count(members: &[&str]) -> Option<u8>
 }
 
 /// The cluster, how many members it has, and which one this is; none where the number is none of theirs.
-fn membership(words: NodeWords<'_, '_>) -> Option<Membership>
+fn membership(words: NodeWords<'_, '_, '_>) -> Option<Membership>
     ensures some { IfSome result (λ m. (m.cluster ≡ words.entry.cluster) × (m.me ≡ words.entry.me) ×
         (m.members ≡ length words.entry.members.now)) }
     ensures here { IfSome result (λ m. m.me < m.members) }
@@ -163,7 +203,7 @@ fn identity_of(m: Membership) -> Identity
 fn bind(
     rt: &HostRuntime,
     alloc: Global,
-    words: NodeWords<'_, '_>,
+    words: NodeWords<'_, '_, '_>,
 ) -> Result<UdpWire<HostRuntime>, Outcome>
     ensures { OnErr result ((result ≡ Err Memory) ⊎ (result ≡ Err (Refused 82))) }
 {
@@ -203,7 +243,7 @@ fn sealed(
 fn run_over<R: Records, W: Wire + Drop>(
     rt: &HostRuntime,
     alloc: Global,
-    words: NodeWords<'_, '_>,
+    words: NodeWords<'_, '_, '_>,
     m: Membership,
     records: R,
     wire: Result<W, Outcome>,
@@ -215,7 +255,11 @@ fn run_over<R: Records, W: Wire + Drop>(
 {
     match wire {
         Ok(wire) => {
-            let wire = LoopbackWire::new(alloc, HearingWire::new(rt, wire, m), words.me);
+            let wire = LoopbackWire::new(
+                alloc,
+                HearingWire::new(rt, wire, m, words.is_quiet),
+                words.me,
+            );
             let (ended, records) = run_member(alloc, m, records, Some(wire), rt, words.turns);
             (ended_outcome(ended, Outcome::Memory), records)
         }
@@ -231,7 +275,7 @@ fn run_over<R: Records, W: Wire + Drop>(
 fn run_node<R: Records>(
     rt: &HostRuntime,
     alloc: Global,
-    words: NodeWords<'_, '_>,
+    words: NodeWords<'_, '_, '_>,
     m: Membership,
     records: R,
     keys: Option<Keys>,
@@ -249,7 +293,7 @@ fn run_node<R: Records>(
 
 /// Where figures are told over TCP, if they are: 82 for what is no address at which this machine alone is heard, with a
 /// port.
-fn figures_at(words: NodeWords<'_, '_>) -> Result<Option<SocketAddr>, Outcome>
+fn figures_at(words: NodeWords<'_, '_, '_>) -> Result<Option<SocketAddr>, Outcome>
     ensures { OnErr result (result ≡ Err (Refused 82)) }
 {
     let Some(text) = words.metrics else {
@@ -271,7 +315,7 @@ fn figures_at(words: NodeWords<'_, '_>) -> Result<Option<SocketAddr>, Outcome>
 fn run_at_door<R: Records>(
     rt: &HostRuntime,
     alloc: Global,
-    words: NodeWords<'_, '_>,
+    words: NodeWords<'_, '_, '_>,
     path: &str,
     m: Membership,
     records: R,
@@ -293,6 +337,7 @@ fn run_at_door<R: Records>(
         figures,
         fd: wire.raw_fd(),
         turns: words.turns,
+        is_quiet: words.is_quiet,
     };
     match keys {
         Some(keys) => match sealed(alloc, Ok(wire), keys) {
@@ -305,7 +350,7 @@ fn run_at_door<R: Records>(
 
 /// What `node` comes to: 40 of its numbers, 83, the store's refusals, 82, 84, and the first refusal of a turn, in this
 /// order. The store is closed, whatever came of it; what a node has committed stands also where closing fails.
-pub(crate) fn node_outcome(rt: &HostRuntime, alloc: Global, words: NodeWords<'_, '_>) -> Outcome
+pub(crate) fn node_outcome(rt: &HostRuntime, alloc: Global, words: NodeWords<'_, '_, '_>) -> Outcome
     ensures { has_place words.entry.me (length words.entry.members.now) ≡ false → result ≡ Refused 40 }
 {
     let Some(m) = membership(words) else {
@@ -324,10 +369,12 @@ pub(crate) fn node_outcome(rt: &HostRuntime, alloc: Global, words: NodeWords<'_,
         Ok(records) => records,
         Err((fault, _)) => return adopt_outcome(fault),
     };
+    say_start(rt, words);
     let (outcome, records) = match words.door {
         Some(path) => run_at_door(rt, alloc, words, path, m, records, keys),
         None => run_node(rt, alloc, words, m, records, keys),
     };
+    say_end(rt, words, outcome);
     let _closed = records.release().close();
     outcome
 }

@@ -1,7 +1,7 @@
 //! What a run of `node`, `ask` or `key` comes to.
 
 ghost use Rattle.std.specs.Prelude.{◌≡◌, IfOk, string_bytes};
-ghost use Rattle.pf_service.specs.declared.outcome.Outcome.TheVariants.{Front, Asked};
+ghost use Rattle.pf_service.specs.declared.outcome.Outcome.TheVariants.{Front, Asked, RefusedLine};
 ghost use Rattle.pf_service.specs.Outcomes.{line_of, status_of, Wrote, outcome_of, answer_outcome, ended_outcome};
 
 use pf_io::{Status, out_of_memory};
@@ -23,6 +23,8 @@ pub(crate) enum Outcome {
     Key([u8; 32]),
     /// The number of the refusal.
     Refused(u8),
+    /// The number of the refusal, and the line of the file of settings.
+    RefusedLine { code: u8, line: u64 },
     /// No answer came.
     NoAnswer,
     /// Memory ran out.
@@ -57,6 +59,19 @@ fn asked_line(alloc: Global, node: u8, number: u64) -> Result<String, AllocError
     Ok(text)
 }
 
+/// `refused CODE line L`
+fn refused_line(alloc: Global, code: u8, at: u64) -> Result<String, AllocError>
+    ensures { IfOk result (λ text. string_bytes text ≡ line_of (RefusedLine code at)) }
+{
+    let mut text = String::new(alloc);
+    text.push_str("refused ")?;
+    text.push_str(code.to_string(alloc)?.as_str())?;
+    text.push_str(" line ")?;
+    text.push_str(at.to_string(alloc)?.as_str())?;
+    text.push('\n')?;
+    Ok(text)
+}
+
 /// The line of an outcome; none is written where something couldn't be read.
 fn line_of(alloc: Global, outcome: Outcome) -> Result<String, AllocError>
     ensures { IfOk result (λ text. string_bytes text ≡ line_of outcome) }
@@ -66,6 +81,7 @@ fn line_of(alloc: Global, outcome: Outcome) -> Result<String, AllocError>
         Outcome::Asked { node, number } => asked_line(alloc, node, number),
         Outcome::Key(key) => key_text(alloc, &key),
         Outcome::Refused(code) => format!(in alloc; "refused {code}\n"),
+        Outcome::RefusedLine { code, line } => refused_line(alloc, code, line),
         Outcome::NoAnswer => format!(in alloc; "no answer\n"),
         Outcome::Memory => format!(in alloc; "memory\n"),
         Outcome::Unread => Ok(String::new(alloc)),
@@ -81,6 +97,7 @@ fn status_of(outcome: Outcome) -> Status
         Outcome::Asked { .. } => Status::Done,
         Outcome::Key(_) => Status::Done,
         Outcome::Refused(_) => Status::Refused,
+        Outcome::RefusedLine { .. } => Status::Refused,
         Outcome::NoAnswer => Status::Refused,
         Outcome::Memory => Status::Memory,
         Outcome::Unread => Status::Failed,

@@ -6,8 +6,8 @@ ghost use Rattle.pf_service.specs.Outcomes.{Ran};
 
 use crate::ask::{AskWords, ask_outcome};
 use crate::key::key_outcome;
-use crate::node::{NodeWords, node_outcome};
 use crate::outcome::{Outcome, write_outcome};
+use crate::settings::settled_outcome;
 use crate::words::command;
 use clap::ArgMatches;
 use pf_io::{Status, misused, out_of_memory};
@@ -23,10 +23,7 @@ fn outcome_of<R: Read>(
     reader: &mut R,
 ) -> Option<Outcome> {
     if let Some(inner) = matches.subcommand_matches("node") {
-        return match NodeWords::of(inner) {
-            Some(words) => Some(node_outcome(rt, alloc, words)),
-            None => None,
-        };
+        return Some(settled_outcome(rt, alloc, inner));
     }
     if matches.subcommand_matches("key").is_some() {
         return Some(key_outcome(rt));

@@ -4,11 +4,14 @@ ghost use Rattle.std.specs.Prelude.{◌≡◌, IfOk, false};
 ghost use Rattle.clap.specs.declared.builder.command.Command.TheViews.{out-Command};
 
 use clap::builder::ValueParser;
-use clap::{Arg, ArgAction, Command, value_parser};
+use clap::{Arg, ArgAction, ArgGroup, Command, value_parser};
 use pf_command::pfctl_args;
 use std::alloc::{AllocError, Global};
 
 /// What help says of each option, and below them.
+const CONFIG: &str =
+    "A file of settings in TOML, by these options' names, and members for the addresses; an option given here goes first";
+
 const ME: &str = "The node's number, from 0 on";
 
 const CLUSTER: &str = "The cluster's number, 0 to 4294967295";
@@ -30,6 +33,8 @@ const ANSWER: &str =
 
 /// The times of an answer.
 const ANSWERS: &[&str] = &["learned"];
+
+const QUIET: &str = "Of what happens, only warnings and errors are said on standard error";
 
 const UNSEALED: &str =
     "Something below seals datagrams, as IPsec or WireGuard do: nothing is said of a missing key";
@@ -57,7 +62,8 @@ const NODE_BELOW: &str =
     "In the end it writes front F applied A: how many positions are learned without a gap, and applied. A refusal is
 refused CODE: 40 words, 83 no key in its file, or others may read it, 70 the store failed, 71 it is of another cluster
 or member, 72 a bad row, 73 another format, 82 its address is taken, or that of --metrics is none of this machine
-alone, 84 its door is taken. With a key or a door asks by UDP aren't heard.";
+alone, 84 its door is taken, 90 its file of settings can't be read, 92 (with the line) that file is wrong. With a key or
+a door asks by UDP aren't heard.";
 
 const KEY_BELOW: &str =
     "It writes 64 hexadecimal digits, as pfx node --key takes them: (umask 077; pfx key > FILE)";
@@ -124,6 +130,27 @@ fn with_made<'a>(
     }
 }
 
+/// Adds an option that has to stand in the words where no file of settings does.
+fn with_required<'a>(command: Command<'a>, arg: Arg<'a>) -> Result<Command<'a>, AllocError>
+    requires command { (out-Command command).has_globals ≡ false }
+    requires arg { arg.global ≡ false }
+    ensures local { IfOk result (λ c. (out-Command c).has_globals ≡ false) }
+{
+    with_made(command, arg.required_unless_present("config"))
+}
+
+/// `--me N --cluster C --store FILE`, or a file of settings that has them.
+fn with_place<'a>(alloc: Global, command: Command<'a>) -> Result<Command<'a>, AllocError>
+    requires command { (out-Command command).has_globals ≡ false }
+    ensures local { IfOk result (λ c. (out-Command c).has_globals ≡ false) }
+{
+    let me = optional(alloc, "me", ME).value_parser(value_parser!(u8));
+    let command = with_required(command, me)?;
+    let cluster = optional(alloc, "cluster", CLUSTER).value_parser(value_parser!(u32));
+    let command = with_required(command, cluster)?;
+    with_required(command, optional(alloc, "store", STORE))
+}
+
 /// `--turns T`
 fn with_turns<'a>(alloc: Global, command: Command<'a>) -> Result<Command<'a>, AllocError>
     requires command { (out-Command command).has_globals ≡ false }
@@ -146,16 +173,46 @@ fn with_answer<'a>(alloc: Global, command: Command<'a>) -> Result<Command<'a>, A
     )
 }
 
-/// `--unsealed`
-fn with_unsealed<'a>(alloc: Global, command: Command<'a>) -> Result<Command<'a>, AllocError>
+/// Adds an option without a value.
+fn with_flag<'a>(
+    alloc: Global,
+    command: Command<'a>,
+    name: &'a str,
+    help: &'a str,
+) -> Result<Command<'a>, AllocError>
     requires command { (out-Command command).has_globals ≡ false }
     ensures local { IfOk result (λ c. (out-Command c).has_globals ≡ false) }
 {
-    let unsealed = Arg::new(alloc, "unsealed")
-        .long("unsealed")
+    let flag = Arg::new(alloc, name)
+        .long(name)
         .action(ArgAction::SetTrue)
-        .help(UNSEALED);
-    with(command, unsealed)
+        .help(help);
+    with(command, flag)
+}
+
+/// The name of a group of two options, of which what wants the group wants either.
+fn either<'a>(alloc: Global, name: &'a str, one: &'a str) -> Result<ArgGroup<'a>, AllocError> {
+    let group = ArgGroup::new(alloc, name).arg(one)?;
+    Ok(group.arg("config")?.multiple(true))
+}
+
+/// Adds such a group, whose other option is the file of settings.
+fn with_either<'a>(
+    alloc: Global,
+    command: Command<'a>,
+    name: &'a str,
+    one: &'a str,
+) -> Result<Command<'a>, AllocError>
+    requires command { (out-Command command).has_globals ≡ false }
+    ensures local { IfOk result (λ c. (out-Command c).has_globals ≡ false) }
+{
+    match either(alloc, name, one) {
+        Ok(group) => command.group(group),
+        Err(error) => {
+            drop(command);
+            Err(error)
+        }
+    }
 }
 
 /// Adds an option with a text that stands only where another stands.
@@ -178,8 +235,9 @@ fn with_keys<'a>(alloc: Global, command: Command<'a>) -> Result<Command<'a>, All
     ensures local { IfOk result (λ c. (out-Command c).has_globals ≡ false) }
 {
     let command = with(command, optional(alloc, "key", KEY))?;
-    let command = with_below(alloc, command, "other-key", OTHER_KEY, "key")?;
-    with_unsealed(alloc, command)
+    let command = with_either(alloc, command, "a key", "key")?;
+    let command = with_below(alloc, command, "other-key", OTHER_KEY, "a key")?;
+    with_flag(alloc, command, "unsealed", UNSEALED)
 }
 
 /// The options of `node` about operators that may be missing.
@@ -188,7 +246,8 @@ fn with_door<'a>(alloc: Global, command: Command<'a>) -> Result<Command<'a>, All
     ensures local { IfOk result (λ c. (out-Command c).has_globals ≡ false) }
 {
     let command = with(command, optional(alloc, "door", DOOR))?;
-    with_below(alloc, command, "metrics", METRICS, "door")
+    let command = with_either(alloc, command, "a door", "door")?;
+    with_below(alloc, command, "metrics", METRICS, "a door")
 }
 
 /// The options of `node` that may be missing.
@@ -199,7 +258,8 @@ fn node_options<'a>(alloc: Global, node: Command<'a>) -> Result<Command<'a>, All
     let command = with_turns(alloc, node)?;
     let command = with_answer(alloc, command)?;
     let command = with_door(alloc, command)?;
-    with_keys(alloc, command)
+    let command = with_keys(alloc, command)?;
+    with_flag(alloc, command, "quiet", QUIET)
 }
 
 /// The members' addresses.
@@ -214,17 +274,16 @@ fn with_members<'a>(alloc: Global, command: Command<'a>) -> Result<Command<'a>, 
     with(command, addresses)
 }
 
-/// `node --me N --cluster C --store FILE [--turns T] [--answer learned] [--door PATH [--metrics ADDR]]
-/// [--key FILE [--other-key FILE]] [--unsealed] ADDR..`
+/// `node [--config FILE] --me N --cluster C --store FILE [--turns T] [--answer learned] [--door PATH [--metrics ADDR]]
+/// [--key FILE [--other-key FILE]] [--unsealed] [--quiet] ADDR..`
 fn node_command<'a>(alloc: Global) -> Result<Command<'a>, AllocError>
     ensures local { IfOk result (λ c. (out-Command c).has_globals ≡ false) }
 {
     let node = Command::new(alloc, "node")
         .about("Runs a node on its store over UDP")
         .after_help(NODE_BELOW);
-    let command = with(node, small(alloc, "me", ME))?;
-    let command = with(command, large(alloc, "cluster", CLUSTER))?;
-    let command = with(command, text(alloc, "store", STORE))?;
+    let command = with(node, optional(alloc, "config", CONFIG))?;
+    let command = with_place(alloc, command)?;
     let command = node_options(alloc, command)?;
     with_members(alloc, command)
 }

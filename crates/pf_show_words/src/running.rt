@@ -77,6 +77,7 @@ fn outcome_of(rt: &HostRuntime, alloc: Global, matches: &ArgMatches<'_>) -> Outc
         Kind::Nft => nft_outcome(rt, alloc, store, matches.get_str("interfaces")),
         Kind::Texts => shown_of(rt, alloc, store, Wanted::Texts),
         Kind::Script => shown_of(rt, alloc, store, Wanted::Script),
+        Kind::Figures => shown_of(rt, alloc, store, Wanted::Figures),
         Kind::Log => log_outcome(rt, alloc, store, matches),
         Kind::Packets => packets_outcome(rt, alloc, store, rest_of(matches)),
         Kind::Words => words_outcome(rt, alloc, store, matches),

@@ -20,8 +20,8 @@ use std::alloc::Global;
 pub enum Closed {
     /// A growth was refused.
     Memory,
-    /// The number of the refusal: 70 where there is no store, or one that is in use or that the system refuses, 73 where
-    /// it hasn't format 3, 72 for a bad row.
+    /// The number of the refusal: 70 where there is no store, or one that is in use or that the system refuses, 73
+    /// where it hasn't format 3, 72 for a bad row.
     Refused(u8),
 }
 

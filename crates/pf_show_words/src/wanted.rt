@@ -18,6 +18,8 @@ pub(crate) enum Kind {
     Texts,
     /// A script.
     Script,
+    /// How many positions are applied and left.
+    Figures,
 }
 
 /// The words, none where there are none.
@@ -67,6 +69,7 @@ pub(crate) fn kind_of(matches: &ArgMatches<'_>) -> Option<Kind> {
         return Some(Kind::Words);
     }
     match rest {
+        [] => Some(Kind::Figures),
         ["log"] => Some(Kind::Log),
         ["test", _, ..] => Some(Kind::Packets),
         _ => None,

@@ -30,6 +30,7 @@ const COUNT: &str = "With log: how many lines at most; without --from 20 if it i
 
 const BELOW: &str = "Words of a listing as pfctl's, or without its options:
   test PACKET..   the verdicts for packets       log   what was learned
+Without either how many positions are applied, and how many are left in the log.
 What is shown is of the configuration after the learned positions up to the first gap.
 A refusal is refused CODE: 70 no store, or one in use, 72 a bad row, 73 another format, 40 words that don't go together,
 20, 24, 30, 1 to 3 as for ctl, 87 to 89 as for check --nft, 91 no script gives the configuration.";

@@ -1,154 +1,189 @@
-//! Look-ups in a table of 4,096 entries, to be timed (`scripts/table-speed`): a third single addresses, a third of 24
-//! bits (IPv6: 64), a third shorter, a tenth of them negated. The words say the family (4 or 6), how often the table is
-//! made, and how many addresses are looked up.
+//! What is timed. The first word says what, the others how much of it:
 //!
-//! Where one word alone is a number, the texts of packets are read, to be timed (`scripts/packet-speed`): each other word,
-//! as often as the number says.
+//! - `table FAMILY BUILDS LOOKUPS` makes a table of IPv4 (4) or IPv6 (6) so often, and looks so many addresses up:
+//!   `found` and how many it holds.
+//! - `packets TIMES TEXT ..` reads each text as a packet so many times: `found` and how often it was one.
+//! - `events LEARNED EVENTS` takes so many events through a member that has learned so many entries: `front` and the
+//!   first position that isn't learned then.
+//! - `datagram DECODES BYTES TIMES` decodes (1) or copies (0) a vote with an entry of so many bytes so many times:
+//!   `sum` and that of what was read.
+//! - `tag ANEW BYTES TIMES` makes the tags of so many datagrams of so many bytes, the key made ready for each (1) or
+//!   once (0): `sum` and that of their first bytes.
+//!
+//! With no words each line of the standard input has them, tabs between. The status is 2 for other words, and 1 where
+//! memory is wanting or the answer can't be written.
 #![tactic(auto)]
 
-ghost use Rattle.std.specs.Prelude.{◌≤◌};
+mod datagrams;
+mod events;
+mod packets;
+mod record;
+mod tables;
+mod tags;
 
-use pf_addr::{Addr, Prefix};
-use pf_eval::parse_packet;
-use pf_ruleset::TableEntry;
-use pf_table::Table;
-use std::alloc::{AllocError, Global};
+use std::alloc::Global;
 use std::io;
 use std::process::ExitCode;
 
-/// The number after this one, of numbers that look random.
-fn next(x: u32) -> u32 {
-    x.wrapping_mul(1_664_525).wrapping_add(1_013_904_223)
+/// Why there is no answer.
+#[derive(Clone, Copy)]
+enum Fault {
+    /// The words are none of those.
+    Words,
+    /// Memory is wanting, or the answer can't be written.
+    Memory,
 }
 
-/// The bits of an IPv6 address of a number.
-fn wide(x: u32) -> u128 {
-    let bits = x as u128;
-    (bits << 96) | (bits << 64) | (bits << 32) | bits
+/// The number that a word says.
+fn number(words: &[&str], at: usize) -> Option<u32> {
+    words.get(at)?.parse::<u32>().ok()
 }
 
-/// The address of a number.
-fn addr_of(v6: bool, x: u32) -> Addr {
-    if v6 { Addr::V6(wide(x)) } else { Addr::V4(x) }
+/// The two numbers that the words say.
+fn two(words: &[&str]) -> Option<(u32, u32)> {
+    if words.len() != 3 {
+        return None;
+    }
+    Some((number(words, 1)?, number(words, 2)?))
 }
 
-/// The length of the IPv4 entry at a place.
-fn len_in_v4(place: u32) -> u8
-    ensures { result ≤ 32 }
-{
-    match place % 3 {
-        0 => 32,
-        1 => 24,
-        _ => 8 + (place % 16) as u8,
+/// The three numbers that the words say.
+fn three(words: &[&str]) -> Option<(u32, u32, u32)> {
+    if words.len() != 4 {
+        return None;
+    }
+    Some((number(words, 1)?, number(words, 2)?, number(words, 3)?))
+}
+
+/// How many addresses were found.
+fn table_found(alloc: Global, words: &[&str]) -> Result<u64, Fault> {
+    let Some((family, builds, lookups)) = three(words) else {
+        return Err(Fault::Words);
+    };
+    match tables::found_after(alloc, family == 6, builds, lookups) {
+        Ok(found) => Ok(found as u64),
+        Err(_) => Err(Fault::Memory),
     }
 }
 
-/// The length of the IPv6 entry at a place.
-fn len_in_v6(place: u32) -> u8
-    ensures { result ≤ 128 }
-{
-    match place % 3 {
-        0 => 128,
-        1 => 64,
-        _ => 32 + (place % 16) as u8,
+/// How often a text was read.
+fn packets_found(alloc: Global, words: &[&str]) -> Result<u64, Fault> {
+    match (number(words, 1), words.get(2..)) {
+        (Some(times), Some(texts)) => Ok(packets::packets_read(alloc, texts, times) as u64),
+        _ => Err(Fault::Words),
     }
 }
 
-/// The prefix of the entry at a place, around the address of a number.
-fn prefix_of(v6: bool, x: u32, place: u32) -> Prefix {
-    if v6 {
-        Prefix::containing(Addr::V6(wide(x)), len_in_v6(place))
-    } else {
-        Prefix::containing(Addr::V4(x), len_in_v4(place))
+/// The front after the events.
+fn events_front(alloc: Global, words: &[&str]) -> Result<u64, Fault> {
+    let Some((learned, events)) = two(words) else {
+        return Err(Fault::Words);
+    };
+    match events::front_after(alloc, learned, events) {
+        Ok(front) => Ok(front as u64),
+        Err(_) => Err(Fault::Memory),
     }
 }
 
-/// The entries, in the order of their places.
-fn entries(alloc: Global, v6: bool) -> Result<Vec<TableEntry>, AllocError> {
-    let mut list = Vec::new(alloc);
-    let mut x = 1u32;
-    for place in 0..4_096u32 {
-        x = next(x);
-        list.push(TableEntry {
-            negated: place % 10 == 9,
-            prefix: prefix_of(v6, x, place),
-        })?;
+/// The sum over what was decoded, or copied.
+fn datagram_sum(alloc: Global, words: &[&str]) -> Result<u64, Fault> {
+    let Some((decodes, bytes, times)) = three(words) else {
+        return Err(Fault::Words);
+    };
+    match datagrams::sum_of(alloc, decodes, bytes, times) {
+        Ok(sum) => Ok(sum),
+        Err(_) => Err(Fault::Memory),
     }
-    Ok(list)
 }
 
-/// How many of so many addresses are in the table: every second one is an entry's, in turn.
-fn count(table: &Table, v6: bool, lookups: u32) -> u32 {
-    let mut own = 1u32;
-    let mut other = 7u32;
-    let mut found = 0u32;
-    for turn in 0..lookups {
-        if turn % 8_192 == 0 {
-            own = 1;
+/// The sum over the tags.
+fn tag_sum(alloc: Global, words: &[&str]) -> Result<u64, Fault> {
+    let Some((anew, bytes, times)) = three(words) else {
+        return Err(Fault::Words);
+    };
+    match tags::sum_of(alloc, anew, bytes, times) {
+        Ok(sum) => Ok(sum),
+        Err(_) => Err(Fault::Memory),
+    }
+}
+
+/// What the words come to: a name and a number.
+fn answer(alloc: Global, words: &[&str]) -> Result<(&'static str, u64), Fault> {
+    let Some(first) = words.first() else {
+        return Err(Fault::Words);
+    };
+    match *first {
+        "table" => Ok(("found", table_found(alloc, words)?)),
+        "packets" => Ok(("found", packets_found(alloc, words)?)),
+        "events" => Ok(("front", events_front(alloc, words)?)),
+        "datagram" => Ok(("sum", datagram_sum(alloc, words)?)),
+        "tag" => Ok(("sum", tag_sum(alloc, words)?)),
+        _ => Err(Fault::Words),
+    }
+}
+
+/// Writes what the words come to.
+fn tell(rt: &HostRuntime, words: &[&str]) -> Result<(), Fault> {
+    let (name, number) = answer(rt.alloc(), words)?;
+    match println!(rt; "{name} {number}") {
+        Ok(()) => Ok(()),
+        Err(_) => Err(Fault::Memory),
+    }
+}
+
+/// Writes what the words of a line come to.
+fn tell_line(rt: &HostRuntime, line: &str) -> Result<(), Fault> {
+    let mut words = Vec::new(rt.alloc());
+    for word in line.split('\t') {
+        if words.push(word).is_err() {
+            return Err(Fault::Memory);
         }
-        let x = if turn % 2 == 0 {
-            own = next(own);
-            own
-        } else {
-            other = next(other);
-            other
-        };
-        if table.holds(addr_of(v6, x)) {
-            found = found.wrapping_add(1);
+    }
+    tell(rt, &words)
+}
+
+/// Writes what each line of the standard input comes to.
+fn tell_lines(rt: &HostRuntime) -> Result<(), Fault> {
+    let Ok(input) = io::read_to_string(rt.alloc(), rt.reader()) else {
+        return Err(Fault::Memory);
+    };
+    for line in input.lines() {
+        tell_line(rt, line)?;
+    }
+    Ok(())
+}
+
+/// Writes what the words of the program come to, or the lines.
+fn tell_all(rt: &HostRuntime, words: &[String]) -> Result<(), Fault> {
+    let mut list = Vec::new(rt.alloc());
+    for word in words {
+        if list.push(word.as_str()).is_err() {
+            return Err(Fault::Memory);
         }
     }
-    found
-}
-
-/// The table is made so often, and so many addresses are looked up in the last one.
-fn found_after(alloc: Global, v6: bool, builds: u32, lookups: u32) -> Result<u32, AllocError> {
-    let list = entries(alloc, v6)?;
-    let mut table = Table::new(alloc, true, false)?;
-    for _ in 0..builds {
-        table = Table::of(alloc, true, false, &list)?;
+    match list.get(1..) {
+        Some([]) => tell_lines(rt),
+        Some(rest) => tell(rt, rest),
+        None => tell_lines(rt),
     }
-    Ok(count(&table, v6, lookups))
 }
 
-/// The numbers that the words say.
-fn numbers_of(rt: &HostRuntime) -> io::Result<Vec<u32>> {
-    let mut numbers = Vec::new(rt.alloc());
+/// The words of the program, its name first.
+fn words_of(rt: &HostRuntime) -> io::Result<Vec<String>> {
+    let mut words = Vec::new(rt.alloc());
     for word in std::env::args(rt)? {
-        if let Ok(number) = word.parse::<u32>() {
-            numbers.push(number)?;
-        }
+        words.push(word)?;
     }
-    Ok(numbers)
-}
-
-/// How often a word was read as a packet, where each is read so many times.
-fn packets_read(rt: &HostRuntime, rounds: u32) -> io::Result<u32> {
-    let alloc = rt.alloc();
-    let mut read = 0u32;
-    for word in std::env::args(rt)? {
-        for _ in 0..rounds {
-            if parse_packet(alloc, word.as_str()).is_ok() {
-                read = read.wrapping_add(1);
-            }
-        }
-    }
-    Ok(read)
+    Ok(words)
 }
 
 fn main(rt: HostRuntime) -> ExitCode {
-    let Ok(numbers) = numbers_of(&rt) else {
-        return ExitCode::from(2);
-    };
-    let found = match numbers.as_slice() {
-        [rounds] => packets_read(&rt, *rounds).ok(),
-        [family, builds, lookups] => found_after(rt.alloc(), *family == 6, *builds, *lookups).ok(),
-        _ => return ExitCode::from(2),
-    };
-    let Some(found) = found else {
+    let Ok(words) = words_of(&rt) else {
         return ExitCode::from(1);
     };
-    match println!(&rt; "found {found}") {
+    match tell_all(&rt, &words) {
         Ok(()) => ExitCode::SUCCESS,
-        Err(_) => ExitCode::from(1),
+        Err(Fault::Words) => ExitCode::from(2),
+        Err(Fault::Memory) => ExitCode::from(1),
     }
 }

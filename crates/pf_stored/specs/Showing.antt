@@ -8,13 +8,13 @@ use Rattle.pf_config.specs.Map.{Configuration}
 use Rattle.pf_node.specs.Applied.{after}
 use Rattle.pf_kernel.specs.Outputs.{config_output}
 use Rattle.pf_dump.specs.Scripts.{Gives}
-use Rattle.pf_stored.specs.Writing.{listed, verdicts, log_shown, of_kernel, shown_value}
+use Rattle.pf_stored.specs.Writing.{listed, verdicts, log_shown, figures, of_kernel, shown_value}
 use Rattle.pf_stored.specs.declared.shown.Shown.{Shown}
 use Rattle.pf_stored.specs.declared.shown.Wanted.{Wanted}
 use Rattle.pf_stored.specs.declared.shown.Wanted.TheVariants as wanted
 
--- What is shown of the configuration after the first k entries of a log. Of texts for pfctl(8) nothing is said; a script,
--- unless it is refused, gives the configuration.
+-- What is shown of the configuration after the first k entries of a log. Of texts for pfctl(8) nothing is said; a
+-- script, unless it is refused, gives the configuration.
 abbrev pub Shows : Log Bytes → (k kept : ℕ) → Configuration → Wanted → Shown → Type 0
 Shows log k kept c (wanted.Words words) s = shown_value s ≡ listed c (map (λ w. w.now) words.now)
 Shows log k kept c (wanted.Packets packets) s = shown_value s ≡ verdicts c (map (λ p. p.now) packets.now)
@@ -22,6 +22,7 @@ Shows log k kept c (wanted.Log from count) s = shown_value s ≡ log_shown log k
 Shows log k kept c (wanted.Nft file) s = shown_value s ≡ of_kernel (config_output (option_map (λ t. t.now) file) k c)
 Shows log k kept c wanted.Texts s = s.refused ≡ false
 Shows log k kept c wanted.Script s = s.refused ≡ false → Gives s.bytes.items c
+Shows log k kept c wanted.Figures s = shown_value s ≡ figures k
 
 -- of the first entries of the log that stands in a record, up to the first gap
 pub record ShowsLog (log : Log Bytes) (w : Wanted) (s : Shown) : Type 0 where

@@ -1,9 +1,10 @@
 -- What is written of a configuration and of a log.
 use Rattle.std.specs.Prelude.{◌≡◌, ℕ, Bool, true, false, List, [], ◌∷◌, ◌++◌, ◌+◌, ◌-◌, min, Option, Some, None}
-use Rattle.std.specs.Prelude.{option_map, unwrap_or}
+use Rattle.std.specs.Prelude.{option_map, unwrap_or, codes, decimal}
 use Rattle.clap.specs.Words.{Text}
 use Rattle.px_model.specs.Node.{Log}
 use Rattle.px_model.specs.Spelling.{Bytes}
+use Rattle.px_model.specs.Step.{positions}
 use Rattle.pf_config.specs.Map.{Configuration}
 use Rattle.pf_eval.specs.Packets.{PacketValue}
 use Rattle.pf_eval.specs.PacketTexts.{packet_of}
@@ -76,6 +77,12 @@ lines_from log applied kept first end = lines_before log applied kept end (end -
 abbrev pub log_shown : Log Bytes → (applied kept : ℕ) → Option ℕ → Option ℕ → ShownValue
 log_shown log applied kept from count =
     let first = first_of applied from count in written (lines_from log applied kept first (end_of applied first count))
+
+-- ---- figures
+
+-- how many positions are applied, and how many the log has left
+abbrev pub figures : ℕ → ShownValue
+figures k = written (codes "applied " ++ decimal k ++ codes " left " ++ decimal (positions - k) ++ codes "\n")
 
 -- ---- rules for nft(8)
 

@@ -5,10 +5,11 @@
 //! - [`show_record`]: what is shown of a record, as [`Wanted`]; the record is given back as it was.
 //! - [`show_node`]: the same of a node.
 //!
-//! Within: `words` has pfctl's words and packets, `logged` the log, `texts` rulesets for pfctl(8), `scripts` a script that
-//! gives the configuration.
+//! Within: `words` has pfctl's words and packets, `logged` the log, `texts` rulesets for pfctl(8), `scripts` a script
+//! that gives the configuration, `figures` how far it is.
 #![tactic(auto)]
 
+mod figures;
 mod logged;
 mod scripts;
 mod showing;

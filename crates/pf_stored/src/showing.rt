@@ -7,6 +7,7 @@ ghost use Rattle.pf_kernel.specs.Outputs.{config_output};
 ghost use Rattle.pf_stored.specs.Writing.{of_kernel, shown_value};
 ghost use Rattle.pf_stored.specs.Showing.{Shows, ShowsRecord};
 
+use crate::figures::show_figures;
 use crate::logged::show_log;
 use crate::scripts::show_script;
 use crate::shown::{Shown, Wanted};
@@ -58,6 +59,7 @@ pub fn show_node<R: Records>(
         Wanted::Nft { interfaces } => show_nft(alloc, interfaces, node.config(), node.applied()),
         Wanted::Texts => show_texts(alloc, node.config()),
         Wanted::Script => show_script(alloc, node),
+        Wanted::Figures => show_figures(alloc, node.applied()),
     }
 }
 

@@ -21,6 +21,8 @@ pub enum Wanted<'a> {
     Texts,
     /// A script that gives the configuration.
     Script,
+    /// How many positions are applied, and how many the log has left.
+    Figures,
 }
 
 /// All that is to be written, and whether it is a refusal.

@@ -16,8 +16,8 @@ fn push_comment(out: &mut String, path: &[Name]) -> Result<(), AllocError> {
     out.push_str("-f -\n")
 }
 
-/// Puts the texts of all paths that a command may load behind another, main last: before each a comment that is the command
-/// which loads it, `# pfctl -a PATH -f -`.
+/// Puts the texts of all paths that a command may load behind another, main last: before each a comment that is the
+/// command which loads it, `# pfctl -a PATH -f -`.
 pub fn push_texts(alloc: Global, out: &mut String, config: &Config) -> Result<(), AllocError> {
     for path in text_paths(alloc, config)? {
         push_comment(out, path)?;

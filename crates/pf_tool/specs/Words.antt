@@ -91,7 +91,7 @@ abbrev pub pfx_app : App
 pfx_app =
     let node = with_named (codes "node") scripts_app in
     let key = with_named (codes "key") (with_named (codes "ask") node) in
-    let named = with_named (codes "show") key in
+    let named = with_named (codes "follow") (with_named (codes "show") key) in
     record named { top = record named.top { subcommand_required = true } }
 
 -- ---- what they ask for

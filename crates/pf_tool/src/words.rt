@@ -283,5 +283,11 @@ pub(crate) fn command<'a>(alloc: Global) -> Result<Command<'a>, AllocError>
     )?;
     let command = with_named(alloc, command, "key", "Makes a cluster's key")?;
     let command = with_named(alloc, command, "show", "Shows what a node's store holds")?;
+    let command = with_named(
+        alloc,
+        command,
+        "follow",
+        "Follows what a node applies, as rules for a kernel",
+    )?;
     Ok(command.subcommand_required(true))
 }

@@ -1,7 +1,9 @@
 //! Tests of the words `check` and `test` that are no rows of pf_rows: texts at limits, reads and writes that fail, and
-//! what the place and the profile decide.
+//! what the place and the profile decide, of texts and of loads as entries.
 #![tactic(auto)]
 
+#[cfg(test)]
+mod effects;
 #[cfg(test)]
 mod endings;
 #[cfg(test)]

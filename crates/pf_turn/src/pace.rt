@@ -23,6 +23,9 @@ const GAP: u64 = 1_000;
 /// The most times in a row that an attempt's loss doubles the patience.
 const DOUBLINGS: u32 = 6;
 
+/// The longest time that a loss makes of a shorter one, in microseconds.
+const LONGEST: u64 = 4_000_000;
+
 /// How many entries a node may lack that are filled by the votes that it keeps, once it has the first.
 const NEAR: u32 = 48;
 
@@ -65,7 +68,7 @@ pub enum Beat {
 /// has to propose, which takes the lead from who has it: it does so soon where it lacks few, and with pauses where it
 /// lacks many and others go on meanwhile.
 ///
-/// Round trips are learned from attempts that led to something. The clock decides when a tick comes, never what it
+/// Round trips are learned from attempts that led to something and weren't begun anew meanwhile. The clock decides when a tick comes, never what it
 /// does: whatever is answered here, a node makes turns and nothing else.
 #[derive(Clone, Copy, Debug)]
 pub struct Pace {
@@ -90,6 +93,8 @@ pub struct Pace {
     repeats: u32,
     front: u32,
     is_proposing: bool,
+    /// Whether the attempt is the first since the last one ended, so that it is known when what comes of it was asked.
+    is_first: bool,
     is_behind: bool,
 }
 
@@ -110,6 +115,7 @@ impl Pace {
             repeats: REPEATS,
             front: 0,
             is_proposing: false,
+            is_first: false,
             is_behind: false,
         }
     }
@@ -171,12 +177,13 @@ impl Pace {
     fn look(&mut self, now: u64, view: View) {
         if view.front != self.front {
             if self.is_proposing {
-                self.measure(now);
+                self.succeed(now);
+            } else {
+                self.losses = 0;
             }
             self.front = view.front;
             self.moved = now;
             self.forget();
-            self.losses = 0;
             self.hold = now;
             self.is_proposing = false;
         } else if self.is_proposing && !view.is_attempting {
@@ -200,13 +207,22 @@ impl Pace {
         self.is_behind = is_behind;
     }
 
-    /// An attempt led to something: a longer time counts half, a shorter one an eighth.
+    /// The time of an attempt: a longer one counts half, a shorter one an eighth.
     fn measure(&mut self, now: u64) {
         let sample = now.saturating_sub(self.ticked).max(TRIPS.0).min(TRIPS.1);
         if sample > self.trip {
             self.trip = self.trip / 2 + sample / 2;
         } else {
             self.trip = self.trip - self.trip / 8 + sample / 8;
+        }
+    }
+
+    /// An attempt led to something. If it was begun anew meanwhile nobody knows which of them did, and so not how long a
+    /// round trip is: then the patience stays as long as it has become.
+    fn succeed(&mut self, now: u64) {
+        if self.is_first {
+            self.measure(now);
+            self.losses = 0;
         }
     }
 
@@ -219,22 +235,20 @@ impl Pace {
     /// again.
     fn pause(&self, now: u64) -> u64 {
         let part = now % 8 + 2 * u64::from(self.me) + 1;
-        part.saturating_mul(self.trip / 4 + 1_000)
-            .saturating_mul(self.doubled())
+        self.longer(part.saturating_mul(self.trip / 4 + 1_000))
     }
 
     /// How long an attempt may take.
     fn patience(&self) -> u64 {
         let some = 20_000 + 5_000 * u64::from(self.me);
-        self.trip
-            .saturating_mul(4)
-            .saturating_add(some)
-            .saturating_mul(self.doubled())
+        self.longer(self.trip.saturating_mul(4).saturating_add(some))
     }
 
-    /// Two to the number of losses.
-    fn doubled(&self) -> u64 {
-        2u64.saturating_pow(self.losses)
+    /// A time that doubles with each loss, up to some seconds.
+    fn longer(&self, time: u64) -> u64 {
+        time.saturating_mul(2u64.saturating_pow(self.losses))
+            .min(LONGEST)
+            .max(time)
     }
 
     /// When a node that lacks entries does something about it: soon after it is seen that its front stands still, and
@@ -286,6 +300,7 @@ impl Pace {
         if view.is_attempting {
             self.lose();
         }
+        self.is_first = !view.is_attempting;
         self.is_proposing = view.waiting > 0;
         self.ticked = now;
         if view.waiting > 0 {

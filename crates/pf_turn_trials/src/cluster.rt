@@ -1,11 +1,12 @@
 ghost use Rattle.std.specs.Prelude.{◌<◌};
 
 use crate::listing::listing;
+use crate::members::{ask, ask_load, member};
 use pf_addr::parse_prefix;
-use pf_entry::{Profile, TableName};
+use pf_entry::TableName;
 use pf_eval::{parse_packet, show_verdict};
 use pf_net::UdpWire;
-use pf_node::{Command, Membership, Node};
+use pf_node::{Command, Node};
 use pf_ruleset::{Path, TableEntry};
 use pf_turn::{Room, turn};
 use px_records::MemoryRecords;
@@ -35,20 +36,6 @@ const ASKED: [u8; 29] = [
     0, 0,
 ];
 
-/// A node with an empty record in memory.
-fn node(alloc: Global, me: u8) -> Result<Node<MemoryRecords>, Fail> {
-    let Some(m) = Membership::new(7, 3, me) else {
-        return Err(Fail::new("no member"));
-    };
-    if m.me() >= m.members() {
-        return Err(Fail::new("nobody"));
-    }
-    match Node::open(alloc, m, MemoryRecords::new(alloc, m.members())) {
-        Ok(node) => Ok(node),
-        Err((fault, _)) => Err(Fail::new(fault)),
-    }
-}
-
 /// A member with its wire.
 #[derive(Drop)]
 struct Party {
@@ -62,43 +49,86 @@ fn joined(rt: &HostRuntime, members: &[&str], me: u8, k: u64, wait: u32) -> Resu
     requires wait { 0 < wait }
 {
     let wire = UdpWire::bind(rt, rt.alloc(), members, me, wait)?;
-    let node = node(rt.alloc(), me)?;
+    let node = member(rt.alloc(), 3, me)?;
     Ok(Party {
         node,
         wire: FaultyWire::new(wire, k),
     })
 }
 
-/// One turn.
-fn pace(party: &mut Party, room: &mut Room) -> Result<(), Fail> {
+/// All three of them.
+fn grouped(rt: &HostRuntime, members: &[&str], k: u64, wait: u32) -> Result<Vec<Party>, Fail>
+    requires faulty { 0 < k }
+    requires wait { 0 < wait }
+{
+    let mut parties = Vec::new(rt.alloc());
+    for me in 0..3u8 {
+        parties.push(joined(rt, members, me, k, wait)?)?;
+    }
+    Ok(parties)
+}
+
+/// The member with this number.
+fn party_of(parties: &mut [Party], me: usize) -> Result<&mut Party, Fail> {
+    let Some(party) = parties.get_mut(me) else {
+        return Err(Fail::new("no member"));
+    };
+    Ok(party)
+}
+
+/// One turn of a member.
+fn pace(parties: &mut [Party], me: usize, room: &mut Room) -> Result<(), Fail> {
+    let party = party_of(parties, me)?;
     turn(&mut party.node, &mut party.wire, room)?;
     Ok(())
 }
 
-/// Whether a node shows that the load is applied.
-fn blocks(alloc: Global, party: &Party) -> Result<bool, Fail> {
+/// The node's verdict for the packet.
+fn verdict_of(alloc: Global, node: &Node<MemoryRecords>) -> Result<String, Fail> {
     let packet = parse_packet(alloc, PACKET)?;
-    let line = show_verdict(alloc, &party.node.verdict(&packet))?;
-    let is_there = party.node.front() == 1 && party.node.applied() == 1;
-    Ok(is_there && line.as_str() == "block drop @0")
+    let line = show_verdict(alloc, &node.verdict(&packet));
+    drop(packet);
+    Ok(line?)
+}
+
+/// Whether each node shows that the load is applied.
+fn all_block(alloc: Global, parties: &[Party]) -> Result<bool, Fail> {
+    for party in parties {
+        let line = verdict_of(alloc, &party.node)?;
+        let is_there = party.node.front() == 1 && party.node.applied() == 1;
+        if !is_there || line.as_str() != "block drop @0" {
+            return Ok(false);
+        }
+    }
+    Ok(parties.len() == 3)
 }
 
 /// Whether the first member answers an Ask as taken in.
-fn is_asked<W: Wire>(zero: &mut Party, asker: &mut W, room: &mut Room) -> Result<bool, Fail> {
+fn is_asked<W: Wire>(parties: &mut [Party], asker: &mut W, room: &mut Room) -> Result<bool, Fail> {
     let is_sent = asker.send(0, &ASK);
-    pace(zero, room)?;
+    pace(parties, 0, room)?;
     let mut answer = [0u8; 29];
     let came = asker.recv(&mut answer);
     Ok(is_sent && came == Some(29) && answer == ASKED)
 }
 
+/// Whether all have applied one command.
+fn have_applied(parties: &[Party]) -> bool {
+    for party in parties {
+        if party.node.applied() != 1 {
+            return false;
+        }
+    }
+    true
+}
+
 /// Up to 200 turns of each, until all have applied the load.
-fn spread(zero: &mut Party, one: &mut Party, two: &mut Party, room: &mut Room) -> Result<(), Fail> {
+fn spread(parties: &mut [Party], room: &mut Room) -> Result<(), Fail> {
     for _ in 0..200 {
-        pace(zero, room)?;
-        pace(one, room)?;
-        pace(two, room)?;
-        if zero.node.applied() == 1 && one.node.applied() == 1 && two.node.applied() == 1 {
+        for me in 0..3usize {
+            pace(parties, me, room)?;
+        }
+        if have_applied(parties) {
             break;
         }
     }
@@ -106,44 +136,24 @@ fn spread(zero: &mut Party, one: &mut Party, two: &mut Party, room: &mut Room) -
 }
 
 /// Whether a load that is asked from outside is applied by each.
-fn is_spread<W: Wire>(
-    rt: &HostRuntime,
-    zero: &mut Party,
-    one: &mut Party,
-    two: &mut Party,
-    asker: &mut W,
-) -> Result<bool, Fail> {
-    let mut room = Room::new(rt.alloc())?;
-    if !is_asked(zero, asker, &mut room)? {
+fn is_spread<W: Wire>(alloc: Global, parties: &mut [Party], asker: &mut W) -> Result<bool, Fail> {
+    let mut room = Room::new(alloc)?;
+    if !is_asked(parties, asker, &mut room)? {
         return Ok(false);
     }
-    spread(zero, one, two, &mut room)?;
-    let alloc = rt.alloc();
-    Ok(blocks(alloc, zero)? && blocks(alloc, one)? && blocks(alloc, two)?)
+    spread(parties, &mut room)?;
+    all_block(alloc, parties)
 }
 
 #[test]
 fn loopback(rt: HostRuntime) -> Result<(), Fail> {
     let members = ["127.0.0.1:39481", "127.0.0.1:39482", "127.0.0.1:39483"];
     let mut asker = UdpWire::bind(&rt, rt.alloc(), &members[..1], 255, 200)?;
-    let mut zero = joined(&rt, &members, 0, u64::MAX, 10)?;
-    let mut one = joined(&rt, &members, 1, u64::MAX, 10)?;
-    let mut two = joined(&rt, &members, 2, u64::MAX, 10)?;
-    assert!(rt; is_spread(&rt, &mut zero, &mut one, &mut two, &mut asker)?);
-    Ok(())
-}
-
-/// The member is asked a load of a text at main.
-fn ask_load(alloc: Global, party: &mut Party, text: &str) -> Result<(), Fail> {
-    let text = Vec::from_slice(alloc, text.as_bytes())?;
-    let command = Command::Load {
-        path: Path::main(alloc),
-        profile: Profile::Two,
-        text,
-    };
-    let asked = party.node.ask(&command);
-    drop(command);
-    asked?;
+    let mut parties = grouped(&rt, &members, u64::MAX, 10)?;
+    let is_there = is_spread(rt.alloc(), &mut parties, &mut asker);
+    drop(parties);
+    drop(asker);
+    assert!(rt; is_there?);
     Ok(())
 }
 
@@ -157,8 +167,8 @@ fn only(alloc: Global, address: &str) -> Result<Vec<TableEntry>, Fail> {
     Ok(items)
 }
 
-/// The member is asked that the main ruleset's table `t` hold the address alone.
-fn ask_change(alloc: Global, party: &mut Party, address: &str) -> Result<(), Fail> {
+/// The node is asked that the main ruleset's table `t` hold the address alone.
+fn ask_change(alloc: Global, node: &mut Node<MemoryRecords>, address: &str) -> Result<(), Fail> {
     let addresses = only(alloc, address)?;
     let Some(table) = TableName::new(alloc, b"t")? else {
         return Err(Fail::new("no name"));
@@ -168,10 +178,14 @@ fn ask_change(alloc: Global, party: &mut Party, address: &str) -> Result<(), Fai
         table,
         addresses,
     };
-    let asked = party.node.ask(&command);
-    drop(command);
-    asked?;
-    Ok(())
+    ask(node, command)
+}
+
+/// Each member is asked a command that changes what the others make.
+fn ask_all(alloc: Global, parties: &mut [Party]) -> Result<(), Fail> {
+    ask_load(alloc, &mut party_of(parties, 0)?.node, RULES.as_bytes())?;
+    ask_load(alloc, &mut party_of(parties, 1)?.node, ANCHOR.as_bytes())?;
+    ask_change(alloc, &mut party_of(parties, 2)?.node, "0.0.0.3")
 }
 
 /// Two nodes that have applied equally much have one configuration.
@@ -184,38 +198,37 @@ fn agree(alloc: Global, a: &Party, b: &Party) -> Result<bool, Fail> {
     Ok(one.as_str() == other.as_str())
 }
 
-/// A turn of the first, after which any two agree.
-fn pace_among(
-    alloc: Global,
-    first: &mut Party,
-    second: &Party,
-    third: &Party,
-    room: &mut Room,
-) -> Result<(), Fail> {
-    pace(first, room)?;
-    if agree(alloc, first, second)? && agree(alloc, second, third)? && agree(alloc, first, third)? {
-        Ok(())
-    } else {
-        Err(Fail::new("two nodes differ"))
-    }
+/// Any two of the three do.
+fn all_agree(alloc: Global, parties: &[Party]) -> Result<bool, Fail> {
+    let [zero, one, two] = parties else {
+        return Ok(false);
+    };
+    Ok(agree(alloc, zero, one)? && agree(alloc, one, two)? && agree(alloc, zero, two)?)
 }
 
-/// 600 turns of three nodes: how many commands were applied. Each of the three commands changes what the others make.
-fn paced(alloc: Global, zero: &mut Party, one: &mut Party, two: &mut Party) -> Result<u32, Fail> {
-    ask_load(alloc, zero, RULES)?;
-    ask_load(alloc, one, ANCHOR)?;
-    ask_change(alloc, two, "0.0.0.3")?;
-    let mut room = Room::new(alloc)?;
-    for _ in 0..200 {
-        pace_among(alloc, zero, one, two, &mut room)?;
-        pace_among(alloc, one, zero, two, &mut room)?;
-        pace_among(alloc, two, zero, one, &mut room)?;
+/// The most commands that one of them has applied.
+fn most_applied(parties: &[Party]) -> u32 {
+    let mut most = 0u32;
+    for party in parties {
+        most = party.node.applied().max(most);
     }
-    if zero.wire.failures() == 0 {
+    most
+}
+
+/// 600 turns of three nodes, after each of which any two agree: how many commands were applied.
+fn paced(alloc: Global, parties: &mut [Party]) -> Result<u32, Fail> {
+    ask_all(alloc, parties)?;
+    let mut room = Room::new(alloc)?;
+    for number in 0..600usize {
+        pace(parties, number % 3, &mut room)?;
+        if !all_agree(alloc, parties)? {
+            return Err(Fail::new("two nodes differ"));
+        }
+    }
+    if party_of(parties, 0)?.wire.failures() == 0 {
         return Err(Fail::new("nothing was lost"));
     }
-    let most = zero.node.applied().max(one.node.applied());
-    Ok(most.max(two.node.applied()))
+    Ok(most_applied(parties))
 }
 
 /// The same over wires of which each `k`-th receive and send fails.
@@ -223,10 +236,10 @@ fn lossy(rt: &HostRuntime, k: u64) -> Result<u32, Fail>
     requires { 0 < k }
 {
     let members = ["127.0.0.1:39491", "127.0.0.1:39492", "127.0.0.1:39493"];
-    let mut zero = joined(rt, &members, 0, k, 5)?;
-    let mut one = joined(rt, &members, 1, k, 5)?;
-    let mut two = joined(rt, &members, 2, k, 5)?;
-    paced(rt.alloc(), &mut zero, &mut one, &mut two)
+    let mut parties = grouped(rt, &members, k, 5)?;
+    let applied = paced(rt.alloc(), &mut parties);
+    drop(parties);
+    applied
 }
 
 #[test]

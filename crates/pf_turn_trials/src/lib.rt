@@ -9,6 +9,8 @@ mod ending;
 #[cfg(test)]
 mod listing;
 #[cfg(test)]
+mod members;
+#[cfg(test)]
 mod pace;
 #[cfg(test)]
 mod sealed;

@@ -84,6 +84,37 @@ fn a_lost_attempt_is_begun_anew_later_each_time(rt: HostRuntime) {
 }
 
 #[test]
+fn what_was_begun_anew_measures_nothing(rt: HostRuntime) {
+    let mut pace = Pace::new(0);
+    let learned = View {
+        front: 1,
+        ..WAITING
+    };
+    let attempting = View {
+        front: 1,
+        ..ATTEMPTING
+    };
+    assert!(rt; pace.beat(0, WAITING) == Beat::Tick);
+    assert!(rt; pace.beat(100_000, ATTEMPTING) == Beat::Tick);
+    // what was asked first is learned 50 ms after it was asked again: the patience stays doubled
+    assert!(rt; pace.beat(150_000, learned) == Beat::Tick);
+    assert!(rt; pace.beat(349_999, attempting) == Beat::Wait(1));
+    assert!(rt; pace.beat(350_000, attempting) == Beat::Tick);
+}
+
+#[test]
+fn it_is_begun_anew_after_four_seconds_at_the_latest(rt: HostRuntime) {
+    let mut pace = Pace::new(0);
+    let mut now = 0u64;
+    assert!(rt; pace.beat(0, WAITING) == Beat::Tick);
+    for _ in 0..20u32 {
+        now = now.saturating_add(4_000_000);
+        assert!(rt; pace.beat(now, ATTEMPTING) == Beat::Tick);
+    }
+    assert!(rt; pace.beat(now.saturating_add(3_999_999), ATTEMPTING) == Beat::Wait(1));
+}
+
+#[test]
 fn who_lost_the_lead_keeps_still(rt: HostRuntime) {
     let mut pace = Pace::new(1);
     assert!(rt; pace.beat(0, WAITING) == Beat::Tick);

@@ -14,6 +14,8 @@ pub(crate) struct Call {
     pub(crate) is_change: bool,
     /// Whether that command is asked for its position alone.
     pub(crate) is_sync: bool,
+    /// Whether it is sent again where no answer comes.
+    pub(crate) is_repeatable: bool,
 }
 
 impl Call {
@@ -25,6 +27,7 @@ impl Call {
             body: Vec::new(alloc),
             is_change: false,
             is_sync: false,
+            is_repeatable: false,
         }
     }
 
@@ -35,16 +38,18 @@ impl Call {
             body,
             is_change: false,
             is_sync: false,
+            is_repeatable: false,
         }
     }
 
-    fn change(target: String, body: Vec<u8>) -> Call {
+    pub(crate) fn change(target: String, body: Vec<u8>) -> Call {
         Call {
             method: "POST",
             target,
             body,
             is_change: true,
             is_sync: false,
+            is_repeatable: false,
         }
     }
 }
@@ -172,6 +177,7 @@ fn sync(alloc: Global) -> Result<Call, AllocError> {
         body: Vec::from_slice(alloc, b"-f -\nsync\n")?,
         is_change: true,
         is_sync: true,
+        is_repeatable: false,
     })
 }
 

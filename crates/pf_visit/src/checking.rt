@@ -32,7 +32,10 @@ fn refused_text(
 }
 
 /// What a command is refused for whatever stands at the node: a text that the grammar refuses.
-fn refused_command(alloc: Global, command: &Command) -> Result<Option<Refused>, AllocError> {
+pub(crate) fn refused_command(
+    alloc: Global,
+    command: &Command,
+) -> Result<Option<Refused>, AllocError> {
     match command {
         Command::Load {
             path,

@@ -20,7 +20,7 @@ const FIELDS: usize = 64;
 
 /// Why there is no answer.
 #[derive(Clone, Copy, Debug, PartialEq, Eq)]
-pub(crate) enum VisitFault {
+pub enum VisitFault {
     /// A growth was refused.
     Memory,
     /// 85: nobody answers at the door.
@@ -35,11 +35,12 @@ impl From<AllocError> for VisitFault {
     }
 }
 
-/// An answer: HTTP's status and the body.
+/// An answer: HTTP's status and the body, and how many positions the node knows the commands of.
 #[derive(Debug, Drop)]
-pub(crate) struct Reply {
-    pub(crate) code: u16,
-    pub(crate) body: Vec<u8>,
+pub struct Reply {
+    pub code: u16,
+    pub body: Vec<u8>,
+    pub front: Option<u32>,
 }
 
 /// The request's bytes.
@@ -64,21 +65,31 @@ fn connect<RT: Net>(rt: &RT, door: &str) -> io::Result<UnixStream> {
     Ok(stream)
 }
 
-/// Whether the answer's fields say that its body has this length, or say nothing of it.
-fn has_length(bytes: &[u8], fields: &[HeaderSpan], len: usize) -> bool {
+/// The value of the first of the answer's fields that has this name.
+fn field_of<'a>(bytes: &'a [u8], fields: &[HeaderSpan], wanted: &[u8]) -> Option<&'a str> {
     for field in fields {
         let name = bytes.get(field.name.start..field.name.end);
         let value = bytes.get(field.value.start..field.value.end);
         if let (Some(name), Some(value)) = (name, value) {
-            if name.eq_ignore_ascii_case(b"content-length") {
-                return std::str::from_utf8(value)
-                    .ok()
-                    .and_then(|it| it.parse::<usize>().ok())
-                    == Some(len);
+            if name.eq_ignore_ascii_case(wanted) {
+                return std::str::from_utf8(value).ok();
             }
         }
     }
-    true
+    None
+}
+
+/// Whether the answer's fields say that its body has this length, or say nothing of it.
+fn has_length(bytes: &[u8], fields: &[HeaderSpan], len: usize) -> bool {
+    match field_of(bytes, fields, b"content-length") {
+        Some(value) => value.parse::<usize>().ok() == Some(len),
+        None => true,
+    }
+}
+
+/// The front that the answer's fields tell.
+fn front_in(bytes: &[u8], fields: &[HeaderSpan]) -> Option<u32> {
+    field_of(bytes, fields, b"pfx-front")?.parse::<u32>().ok()
 }
 
 /// The answer that the bytes are.
@@ -99,6 +110,7 @@ fn reply_in(alloc: Global, bytes: &[u8]) -> Result<Reply, VisitFault> {
     Ok(Reply {
         code: head.code,
         body: Vec::from_slice(alloc, body)?,
+        front: front_in(bytes, fields),
     })
 }
 
@@ -119,5 +131,20 @@ pub(crate) fn exchange<RT: Net>(
         Ok(answer) => reply_in(alloc, answer.as_slice()),
         Err(InputFault::Memory) => Err(VisitFault::Memory),
         Err(InputFault::Failed | InputFault::TooLong) => Err(VisitFault::BadAnswer),
+    }
+}
+
+/// What is read at a door under a target, in one request: an answer whose status is 200.
+pub fn read_at<RT: Net>(
+    rt: &RT,
+    alloc: Global,
+    door: &str,
+    target: String,
+) -> Result<Reply, VisitFault> {
+    let reply = exchange(rt, alloc, door, &Call::get(alloc, target))?;
+    if reply.code == 200 {
+        Ok(reply)
+    } else {
+        Err(VisitFault::BadAnswer)
     }
 }

@@ -3,17 +3,24 @@
 //! # Organization
 //!
 //! - [`run_visit`]: the word `ask` with `--door`, over any reader and writer.
+//! - [`read_at`], [`pause`]: one read at a door with its [`Reply`], and the time between two.
 //!
 //! Within: `words` has the words as `clap` reads them, `call` what is sent for them, `checking` what they are refused
-//! for before that, `exchange` one request and its answer over the socket, `visiting` how often it is asked.
+//! for before that, `exchange` one request and its answer over the socket, `visiting` how often it is asked, `script`
+//! reads the changes of a script, `scripting` asks them, and `telling` has what people are told on standard error.
 #![tactic(auto)]
 
 mod call;
 mod checking;
 mod exchange;
 mod running;
+mod script;
+mod scripting;
+mod telling;
 mod visiting;
 mod words;
 
+pub use exchange::{Reply, VisitFault, read_at};
 pub use pf_io::Status;
 pub use running::run_visit;
+pub use visiting::pause;

@@ -3,6 +3,9 @@
 use crate::call::{Call, call_in};
 use crate::checking::{Refused, refused_words};
 use crate::exchange::{Reply, VisitFault};
+use crate::script::refused_script;
+use crate::scripting::{Errand, ask_script};
+use crate::telling::tell_left;
 use crate::visiting::visit;
 use crate::words::command;
 use clap::ArgMatches;
@@ -26,14 +29,15 @@ fn refused(code: u8) -> Outcome {
     Outcome::Refused(Refused { code, line: 0 })
 }
 
-/// The text that `-f` names: of the input for `-`, else of a file; none without `-f`. A file that can't be read is 40.
+/// The text that an option names: of the input for `-`, else of a file; none without it. A file that can't be read is
+/// 40.
 fn text_for<R: Read>(
     rt: &HostRuntime,
     alloc: Global,
-    matches: &ArgMatches<'_>,
+    named: Option<&str>,
     reader: &mut R,
 ) -> Result<Vec<u8>, Outcome> {
-    let read = match matches.get_str("file") {
+    let read = match named {
         None => return Ok(Vec::new(alloc)),
         Some("-") => read_all(alloc, reader),
         Some(path) => {
@@ -73,9 +77,12 @@ fn outcome_of<R: Read>(
     let Some(door) = matches.get_str("door") else {
         return refused(40);
     };
+    if matches.get_one::<u32>("from").is_some() {
+        return refused(40);
+    }
     let seconds = matches.get_one::<u32>("wait").unwrap_or(0);
     let at = matches.get_one::<u32>("at").unwrap_or(0);
-    let text = match text_for(rt, alloc, matches, reader) {
+    let text = match text_for(rt, alloc, matches.get_str("file"), reader) {
         Ok(text) => text,
         Err(outcome) => return outcome,
     };
@@ -88,7 +95,12 @@ fn outcome_of<R: Read>(
         Err(_) => return Outcome::Memory,
     }
     match visit(rt, alloc, door, &call, seconds) {
-        Ok(reply) => Outcome::Reply(reply),
+        Ok(reply) => {
+            if call.is_change {
+                tell_left(rt, reply.front);
+            }
+            Outcome::Reply(reply)
+        }
         Err(VisitFault::Memory) => Outcome::Memory,
         Err(VisitFault::NoDoor) => refused(85),
         Err(VisitFault::BadAnswer) => refused(86),
@@ -129,10 +141,67 @@ fn write_outcome<W: Write>(alloc: Global, outcome: Outcome, writer: &mut W) -> S
     }
 }
 
+/// How long it is waited for what comes of a script's change, in seconds, where no word says it.
+const WAIT: u32 = 60;
+
+/// Whether words stand beside a script that are none of it.
+fn has_others(matches: &ArgMatches<'_>) -> bool {
+    ["path", "file", "flush", "table", "change", "show"]
+        .iter()
+        .any(|id| matches.get_str(id).is_some())
+        || matches.get_strs("address").is_some()
+        || matches.get_one::<u32>("at").is_some()
+        || matches.get_flag("check")
+}
+
+/// What a script is refused for before a node is asked, unless the words say that nothing is to be looked at.
+fn checked_script(
+    alloc: Global,
+    matches: &ArgMatches<'_>,
+    errand: &Errand<'_>,
+) -> Result<Option<Refused>, AllocError> {
+    if matches.get_flag("unchecked") {
+        return Ok(None);
+    }
+    refused_script(alloc, errand.script, errand.from)
+}
+
+/// Asks the changes of a script.
+fn run_script<R: Read, W: Write>(
+    rt: &HostRuntime,
+    alloc: Global,
+    matches: &ArgMatches<'_>,
+    file: &str,
+    reader: &mut R,
+    writer: &mut W,
+) -> Status {
+    let Some(door) = matches.get_str("door") else {
+        return write_outcome(alloc, refused(40), writer);
+    };
+    if has_others(matches) {
+        return write_outcome(alloc, refused(40), writer);
+    }
+    let script = match text_for(rt, alloc, Some(file), reader) {
+        Ok(script) => script,
+        Err(outcome) => return write_outcome(alloc, outcome, writer),
+    };
+    let errand = Errand {
+        door,
+        script: script.as_slice(),
+        from: u64::from(matches.get_one::<u32>("from").unwrap_or(1)),
+        seconds: matches.get_one::<u32>("wait").unwrap_or(WAIT).max(1),
+    };
+    match checked_script(alloc, matches, &errand) {
+        Ok(None) => ask_script(rt, alloc, &errand, writer),
+        Ok(Some(refused)) => write_outcome(alloc, Outcome::Refused(refused), writer),
+        Err(_) => out_of_memory(writer),
+    }
+}
+
 /// What the word `ask` with `--door` asks for, the program's name first: a request at a node's door, whose answer is
-/// written. Words of a change that are refused wherever they are asked (40, 24, 1 to 3, 41), and a text that the
-/// grammar refuses, are told before the node is asked, unless `--unchecked` stands there. 85 where nobody answers at
-/// the door, 86 where the answer is cut short or none.
+/// written; with `--script` each change of a script, one after the other. Words of a change that are refused wherever
+/// they are asked (40, 24, 1 to 3, 41), and a text that the grammar refuses, are told before the node is asked, unless
+/// `--unchecked` stands there. 85 where nobody answers at the door, 86 where the answer is cut short or none.
 pub fn run_visit<S: AsStr, R: Read, W: Write>(
     rt: &HostRuntime,
     alloc: Global,
@@ -149,6 +218,9 @@ pub fn run_visit<S: AsStr, R: Read, W: Write>(
     };
     match matches.subcommand_matches("ask") {
         Some(inner) => {
+            if let Some(file) = inner.get_str("script") {
+                return run_script(rt, alloc, inner, file, reader, writer);
+            }
             let outcome = outcome_of(rt, alloc, inner, reader);
             write_outcome(alloc, outcome, writer)
         }

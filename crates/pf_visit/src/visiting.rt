@@ -24,11 +24,11 @@ const ASKED: &[u8] = b"asked ";
 /// What it answers once a command is applied.
 const APPLIED: &[u8] = b"applied ";
 
-/// Waits for a short time: for what never comes over a stream of its own.
-fn pause<RT: Net>(rt: &RT) {
+/// Waits for so many milliseconds: for what never comes over a stream of its own.
+pub fn pause<RT: Net>(rt: &RT, milliseconds: u64) {
     if let Ok((mut near, _far)) = UnixStream::pair(rt) {
         if near
-            .set_read_timeout(Some(Duration::from_millis(PAUSE)))
+            .set_read_timeout(Some(Duration::from_millis(milliseconds)))
             .is_ok()
         {
             let mut room = [0u8; 1];
@@ -46,7 +46,17 @@ fn has_time<RT: Clock>(rt: &RT, start: Option<Instant>, seconds: u32) -> bool {
     }
 }
 
-/// Asks again while the node says that it is waiting, for so many seconds at most.
+/// Whether it is to be asked again: the node says that it is waiting; or there is no answer to what takes no command
+/// in, as while the node is started anew.
+fn is_open(call: &Call, found: &Result<Reply, VisitFault>) -> bool {
+    match found {
+        Ok(reply) => reply.body.as_slice() == WAITING,
+        Err(VisitFault::Memory) => false,
+        Err(VisitFault::NoDoor | VisitFault::BadAnswer) => call.is_repeatable,
+    }
+}
+
+/// Asks again while that is to be done, for so many seconds at most.
 fn ask_on<RT: Net + Clock>(
     rt: &RT,
     alloc: Global,
@@ -56,12 +66,12 @@ fn ask_on<RT: Net + Clock>(
     seconds: u32,
 ) -> Result<Reply, VisitFault> {
     for ask in 0..u64::MAX {
-        let reply = exchange(rt, alloc, door, call)?;
-        if reply.body.as_slice() != WAITING || !has_time(rt, start, seconds) {
-            return Ok(reply);
+        let found = exchange(rt, alloc, door, call);
+        if !is_open(call, &found) || !has_time(rt, start, seconds) {
+            return found;
         }
         if ask >= AT_ONCE {
-            pause(rt);
+            pause(rt, PAUSE);
         }
     }
     Err(VisitFault::BadAnswer)
@@ -74,9 +84,9 @@ fn request_of<'a>(body: &'a [u8]) -> Option<&'a str> {
     std::str::from_utf8(number).ok()
 }
 
-/// What is behind the line that tells the position.
-fn outcome_in(body: &[u8]) -> &[u8] {
-    if !body.starts_with(APPLIED) {
+/// What is behind the first line, if that begins so; else all of it.
+fn behind<'a>(body: &'a [u8], begin: &[u8]) -> &'a [u8] {
+    if !body.starts_with(begin) {
         return body;
     }
     for i in 0..body.len() {
@@ -85,6 +95,11 @@ fn outcome_in(body: &[u8]) -> &[u8] {
         }
     }
     &[]
+}
+
+/// What came of a command, behind the line that it was taken in.
+pub(crate) fn outcome_behind(body: &[u8]) -> &[u8] {
+    behind(body, ASKED)
 }
 
 /// HTTP's status of what came of a command: 503 where it is waited for still.
@@ -99,10 +114,11 @@ fn code_of(reply: &Reply) -> u16 {
 /// The line that a command was taken in, and behind it what came of it.
 fn joined(taken: Reply, reply: Reply) -> Result<Reply, AllocError> {
     let mut body = taken.body;
-    body.extend_from_slice(outcome_in(reply.body.as_slice()))?;
+    body.extend_from_slice(behind(reply.body.as_slice(), APPLIED))?;
     Ok(Reply {
         code: code_of(&reply),
         body,
+        front: reply.front,
     })
 }
 
@@ -116,6 +132,15 @@ fn position_in(body: &[u8]) -> Option<u32> {
     }
 }
 
+/// What stands for an answer that didn't come to what was taken in.
+fn waiting(alloc: Global) -> Result<Reply, AllocError> {
+    Ok(Reply {
+        code: 503,
+        body: Vec::from_slice(alloc, WAITING)?,
+        front: None,
+    })
+}
+
 /// How many positions a node has applied that applied this command.
 fn synced(alloc: Global, reply: Reply) -> Result<Reply, AllocError> {
     match position_in(reply.body.as_slice()) {
@@ -124,17 +149,20 @@ fn synced(alloc: Global, reply: Reply) -> Result<Reply, AllocError> {
             Ok(Reply {
                 code: reply.code,
                 body: Vec::from_slice(alloc, line.as_bytes())?,
+                front: reply.front,
             })
         }
         None => Ok(Reply {
             code: code_of(&reply),
+            front: reply.front,
             body: reply.body,
         }),
     }
 }
 
 /// Asks, and waits for so many seconds at most: for a node that isn't so far yet, and for what comes of a command that
-/// was taken in. No command is asked twice that may have been taken in.
+/// was taken in, whose position is asked for again where no answer comes; it is `waiting` where none came in time. No
+/// command is asked twice that may have been taken in.
 pub(crate) fn visit<RT: Net + Clock>(
     rt: &RT,
     alloc: Global,
@@ -152,7 +180,13 @@ pub(crate) fn visit<RT: Net + Clock>(
         Some(request) => target.push_str(request)?,
         None => return Ok(taken),
     }
-    let reply = ask_on(rt, alloc, door, &Call::get(alloc, target), start, seconds)?;
+    let mut call_of = Call::get(alloc, target);
+    call_of.is_repeatable = true;
+    let reply = match ask_on(rt, alloc, door, &call_of, start, seconds) {
+        Ok(reply) => reply,
+        Err(VisitFault::Memory) => return Err(VisitFault::Memory),
+        Err(VisitFault::NoDoor | VisitFault::BadAnswer) => waiting(alloc)?,
+    };
     if call.is_sync {
         return Ok(synced(alloc, reply)?);
     }

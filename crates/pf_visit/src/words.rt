@@ -12,7 +12,10 @@ use std::alloc::{AllocError, Global};
 const WAIT_MAX: u64 = 3_600;
 
 /// The most positions.
-const POSITIONS: u64 = 1_000_000;
+pub(crate) const POSITIONS: u64 = 1_000_000;
+
+/// The last line of a script that can be named.
+const LINES: u64 = 4_294_967_295;
 
 /// What help says of each option, and below them.
 const DOOR: &str = "The Unix socket at which the node answers operators";
@@ -23,6 +26,11 @@ const AT: &str = "The node answers once it has applied so many positions, 0 to 1
 
 const UNCHECKED: &str =
     "Words and a text are asked as they are; else what is wrong with them is told before the node is asked";
+
+const SCRIPT: &str =
+    "A file (- the input) of changes in the form of ctl's, each asked once what came of the one before it is known";
+
+const FROM: &str = "With --script: the number of the first line that is asked";
 
 const BELOW: &str = "Words of a change, or of a listing; or, without pfctl's options:
   test PACKET..    the verdicts for packets        request N.NUMBER  what became of a request
@@ -84,7 +92,19 @@ fn with_unchecked<'a>(alloc: Global, command: Command<'a>) -> Result<Command<'a>
     with(command, unchecked)
 }
 
-/// `ask --door PATH [--wait S] [--at A] [--unchecked] WORDS`
+/// `--script FILE [--from LINE]`
+fn with_script<'a>(alloc: Global, command: Command<'a>) -> Result<Command<'a>, AllocError>
+    requires command { (out-Command command).has_globals ≡ false }
+    ensures local { IfOk result (λ c. (out-Command c).has_globals ≡ false) }
+{
+    let command = with(command, valued(alloc, "script", SCRIPT))?;
+    with(
+        command,
+        valued(alloc, "from", FROM).value_parser(ValueParser::Unsigned(1, LINES)),
+    )
+}
+
+/// `ask --door PATH [--wait S] [--at A] [--unchecked] WORDS`, or with `--script FILE [--from LINE]` in their place
 fn ask_command<'a>(alloc: Global) -> Result<Command<'a>, AllocError>
     ensures local { IfOk result (λ c. (out-Command c).has_globals ≡ false) }
 {
@@ -95,6 +115,7 @@ fn ask_command<'a>(alloc: Global) -> Result<Command<'a>, AllocError>
     let command = with_wait(alloc, command)?;
     let command = with_at(alloc, command)?;
     let command = with_unchecked(alloc, command)?;
+    let command = with_script(alloc, command)?;
     pfctl_args(alloc, command)
 }
 

@@ -1,4 +1,5 @@
 //! Files in memory that stop.
+use crate::cluster::say_run;
 use crate::said::say;
 use crate::store::work;
 use sqlite::{Connection, FileStore, Files, Options};
@@ -113,4 +114,19 @@ pub(crate) fn attempt(
 /// Does the tasks with an empty store whose files are in memory. Whether there was memory for that.
 pub(crate) fn in_memory(alloc: Global, tasks: &str, out: &mut String) -> bool {
     attempt(alloc, &Held::new(alloc), NEVER, tasks, out).is_some()
+}
+
+/// An empty store whose files are in memory.
+fn empty(alloc: Global) -> Option<Connection<FileStore<Fuse<Memory>>>> {
+    let log = file(alloc, &[], NEVER.log)?;
+    let db = file(alloc, &[], NEVER.db)?;
+    opened(alloc, Files { log, db }).ok()
+}
+
+/// Does a run of three nodes over empty stores whose files are in memory, and tells what they show.
+pub(crate) fn nodes_in_memory(alloc: Global, out: &mut String) -> bool {
+    let (Some(zero), Some(one), Some(two)) = (empty(alloc), empty(alloc), empty(alloc)) else {
+        return false;
+    };
+    say_run(alloc, zero, one, two, out)
 }

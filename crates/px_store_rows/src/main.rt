@@ -12,6 +12,7 @@
 //! | `plain K WHEN \| STEP, .. \| STEP, ..` | steps over a record in memory whose `K`-th commit fails `before` or `after`
 //! its change (0: none does), then steps over the record itself |
 //! | `stops BEFORE \| SQL \| RECORD \| CHANGE \| RECORD \| ..` | a run in files that stop (see [`stops`]) |
+//! | `nodes in memory` | a run of three nodes over empty stores in memory, one of which stops (see [`cluster`]) |
 //! | `text FILE`, `folder FILE`, `cut FILE BYTES` | writes a text, makes a folder, leaves the first bytes of the file |
 //!
 //! | Task | Does |
@@ -24,6 +25,7 @@
 #![tactic(auto)]
 
 mod change;
+mod cluster;
 mod files;
 mod fused;
 mod record;
@@ -33,7 +35,7 @@ mod stops;
 mod store;
 
 use crate::files::{cut, folder, in_file, text, twice};
-use crate::fused::in_memory;
+use crate::fused::{in_memory, nodes_in_memory};
 use crate::stops::stops;
 use crate::store::plain;
 use std::io;
@@ -47,6 +49,7 @@ fn done(rt: &HostRuntime, line: &str, out: &mut String) -> bool {
         "in" => in_file(rt, file, tasks, out),
         "twice" => twice(rt, file, tasks, out),
         "plain" => plain(rt.alloc(), file, tasks, out),
+        "nodes" => nodes_in_memory(rt.alloc(), out),
         "stops" => stops(rt.alloc(), file, tasks, out),
         "text" => text(rt, file, out),
         "folder" => folder(rt, file, out),

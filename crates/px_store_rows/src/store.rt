@@ -27,7 +27,7 @@ fn identity_of(word: &str) -> Option<Identity>
 }
 
 /// The record in a store, else why not, and the store.
-fn adopted<S: Alter + Drop>(
+pub(crate) fn adopted<S: Alter + Drop>(
     alloc: Global,
     conn: Connection<S>,
     identity: Identity,

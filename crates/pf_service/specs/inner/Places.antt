@@ -30,3 +30,8 @@ is_loopback_ip (V6 bits) = bits == 1
 abbrev pub is_loopback : Option Address → Bool
 is_loopback None = false
 is_loopback (Some a) = is_loopback_ip a.ip
+
+-- what is given goes before what else there is
+abbrev pub chosen : {A : Type 0} → Option A → Option A → Option A
+chosen None other = other
+chosen (Some given) other = Some given

@@ -1,0 +1,3 @@
+mod Ends
+mod Texts
+pub mod Following

@@ -1,0 +1,16 @@
+use Rattle.std.proofs.Common.{◌≡◌, ◌+◌, false, length, fold}
+use Rattle.pf_scripts.specs.Lines.{lines}
+use Rattle.pf_follow.specs.Following.{after_lines}
+use Rattle.pf_follow.proofs.mirror.Mirror.take.Given as goal
+
+-- what was taken so far, with what the lines that are left lead to
+abbrev pub invariant-loop-line : goal.invariant-loop-line
+invariant-loop-line l = record {
+  config : after_lines l.self.config l.left ≡ after_lines l.fn.self.config l.fn.text;
+  position : l.self.position + length (lines l.left) ≡ l.fn.self.position + length (lines l.fn.text);
+  still : l.self.is_moved ≡ false → l.self.config ≡ l.fn.self.config;
+  before : l.self.is_moved ≡ false → l.fn.self.is_moved ≡ false;
+}
+
+abbrev pub decreases-loop-line : goal.decreases-loop-line
+decreases-loop-line l = length l.left

@@ -1,0 +1,49 @@
+-- What nft(8) is to load of one configuration after the other.
+use Rattle.std.specs.Prelude.{◌≡◌, ℕ, ◌+◌, Bool, true, false, List, [], ◌++◌, ◌==◌, Option, Some, None, MatchOption}
+use Rattle.std.specs.Prelude.{length, take, drop, not, nat_lt, if◌then◌else◌, string_bytes, IfSome}
+use Rattle.std.specs.List.{prefix_len}
+use Rattle.pf_config.specs.Map.{Configuration}
+use Rattle.pf_kernel.specs.Outputs.{Written, config_output}
+use Rattle.pf_follow.specs.declared.kernel.Loaded.{Loaded}
+use Rattle.pf_follow.specs.declared.kernel.Step.{Step}
+use Rattle.pf_follow.specs.declared.kernel.Step.TheVariants as step
+
+-- how many bytes the first line has, with its newline
+abbrev pub line_end : List ℕ → ℕ
+line_end text =
+    let len = prefix_len (λ b. not (b == 10)) text in if nat_lt len (length text) then len + 1 else len
+
+-- how many the first two have
+abbrev pub two_ends : List ℕ → ℕ
+two_ends text = line_end text + line_end (drop (line_end text) text)
+
+abbrev pub two_lines : List ℕ → List ℕ
+two_lines text = take (two_ends text) text
+
+-- what stands behind them
+abbrev pub end_line : List ℕ → List ℕ
+end_line text = drop (two_ends text) text
+
+-- the line that ends what was handed out
+abbrev pub end_of : Option Loaded → List ℕ
+end_of None = []
+end_of (Some l) = end_line (string_bytes l.text)
+
+abbrev pub shown : List ℕ → Written
+shown text = record { text = text; refused = false }
+
+-- under the names of what was handed out, a configuration would be that
+abbrev pub IsSameAs : (file : List ℕ) → Option Loaded → Configuration → Type 0
+IsSameAs file last c =
+    MatchOption last ⊥ (λ l. config_output (Some file) l.position c ≡ shown (string_bytes l.text))
+
+-- what comes of a configuration after what was handed out before
+abbrev pub IsStep : (file : List ℕ) → (old new : Option Loaded) → Configuration → (position : ℕ) → Step → Type 0
+IsStep file old new c position step.Same =
+    (new ≡ old) × IsSameAs file old c
+IsStep file old new c position (step.Refused line) =
+    (new ≡ old) × (config_output (Some file) position c ≡ record { text = string_bytes line; refused = true })
+IsStep file old new c position (step.Lines lines) =
+    (IsSameAs file old c → ⊥) × MatchOption new ⊥ (λ l. (l.position ≡ position)
+    × (config_output (Some file) position c ≡ shown (string_bytes l.text))
+    × (lines.items ≡ two_lines (string_bytes l.text) ++ end_of old))

@@ -1,0 +1,135 @@
+//! What nft(8) is to load, one position after the other.
+
+ghost use Rattle.std.specs.Prelude.{◌≡◌, ◌≤◌, ◌==◌, ◌↔◌, IfOk, OnErr, IsTrue, Some, None, length, not};
+ghost use Rattle.std.specs.List.{prefix_len};
+ghost use Rattle.pf_kernel.specs.Outputs.{config_output};
+ghost use Rattle.pf_kernel.specs.Seen.{written};
+ghost use Rattle.pf_follow.specs.Stepping.{line_end, two_lines, end_line, IsSameAs, IsStep};
+
+use pf_config::Config;
+use pf_kernel::{Written, config_output};
+use std::alloc::{AllocError, Global};
+
+/// What was handed out last.
+#[derive(Drop)]
+struct Loaded {
+    /// The position whose names it has.
+    position: u32,
+    /// Its three lines.
+    text: String,
+}
+
+/// What a kernel was told, on a machine with these interfaces.
+#[derive(Drop)]
+pub struct Kernel {
+    /// The file that lists the interfaces.
+    interfaces: Vec<u8>,
+    /// What was handed out last.
+    last: Option<Loaded>,
+}
+
+/// What comes of a configuration.
+#[derive(Drop)]
+pub enum Step {
+    /// Nothing: it is what was handed out last, but for the names.
+    Same,
+    /// A refusal's line: it can't be rendered, and what was handed out last stands.
+    Refused(String),
+    /// Lines for nft(8), a transaction each: sets, rules, and the end of what was handed out last.
+    Lines(Vec<u8>),
+}
+
+/// How many bytes stand before the end of the first line.
+#[tactic(auto, using(crate::proofs::Ends::line_len_le))]
+fn line_len(text: &[u8]) -> usize
+    ensures value { result ≡ prefix_len (λ b. not (b == 10)) text.now }
+    ensures within { result ≤ length text.now }
+{
+    text.iter().take_while(|b| **b != b'\n').count()
+}
+
+/// How many bytes the first line has, with its newline.
+fn line_end(text: &[u8]) -> usize
+    ensures value { result ≡ line_end text.now }
+    ensures within { result ≤ length text.now }
+{
+    let len = line_len(text);
+    if len < text.len() { len + 1 } else { len }
+}
+
+/// The first two lines, and what stands behind them.
+fn cut_end(text: &[u8]) -> (&[u8], &[u8])
+    ensures front { result.0.now ≡ two_lines text.now }
+    ensures end { result.1.now ≡ end_line text.now }
+{
+    let first = line_end(text);
+    let (_, rest) = text.split_at(first);
+    text.split_at(first + line_end(rest))
+}
+
+impl Kernel {
+    /// Nothing was handed out yet.
+    pub fn new(interfaces: Vec<u8>) -> Kernel
+        ensures interfaces { result.interfaces ≡ interfaces }
+        ensures last { result.last ≡ None }
+    {
+        Kernel {
+            interfaces,
+            last: None,
+        }
+    }
+
+    /// What is rendered under names of a position.
+    fn rendered(&self, alloc: Global, config: &Config, position: u32) -> Result<Written, AllocError>
+        ensures { IfOk result (λ w. written w ≡ config_output (Some self.now.interfaces.items) position config.now) }
+    {
+        config_output(alloc, Some(self.interfaces.as_slice()), config, position)
+    }
+
+    /// Whether this is what was handed out last, but for the names.
+    fn is_same(&self, alloc: Global, config: &Config) -> Result<bool, AllocError>
+        ensures { IfOk result (λ same. IsTrue same ↔ IsSameAs self.now.interfaces.items self.now.last config.now) }
+    {
+        match &self.last {
+            Some(last) => {
+                let again = self.rendered(alloc, config, last.position)?;
+                Ok(!again.refused && again.text.as_str() == last.text.as_str())
+            }
+            None => Ok(false),
+        }
+    }
+
+    /// What is to be loaded of the configuration after so many entries: nothing where it would be rendered under the
+    /// names of what was handed out last as that was; else its first two lines, and the last line of what was handed
+    /// out last. Where it can't be rendered, what was handed out last stands.
+    pub fn step(
+        &mut self,
+        alloc: Global,
+        config: &Config,
+        position: u32,
+    ) -> Result<Step, AllocError>
+        ensures steps { IfOk result (λ s. IsStep self.old.interfaces.items self.old.last self.new.last config.now
+            position s) }
+        ensures interfaces { self.new.interfaces ≡ self.old.interfaces }
+        ensures memory { OnErr result (self.new ≡ self.old) }
+    {
+        if self.is_same(alloc, config)? {
+            return Ok(Step::Same);
+        }
+        let written = self.rendered(alloc, config, position)?;
+        if written.refused {
+            return Ok(Step::Refused(written.text));
+        }
+        let (front, _) = cut_end(written.text.as_bytes());
+        let mut lines = Vec::from_slice(alloc, front)?;
+        if let Some(last) = &self.last {
+            let (_, end) = cut_end(last.text.as_bytes());
+            lines.extend_from_slice(end)?;
+        }
+        self.last = Some(Loaded {
+            position,
+            text: written.text,
+        });
+        Ok(Step::Lines(lines))
+    }
+}

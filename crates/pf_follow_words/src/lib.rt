@@ -1,0 +1,16 @@
+//! The word `follow` of the program: what a running node applies, as rules for a kernel, each time that changes them.
+//!
+//! # Organization
+//!
+//! - [`run_follow`]: the word, over any writers.
+//!
+//! Within: `words` has the word as `clap` reads it, `running` the loop, `outlets` where it is written, `files` the
+//! texts for pfctl(8).
+#![tactic(auto)]
+
+mod files;
+mod outlets;
+mod running;
+mod words;
+
+pub use running::run_follow;

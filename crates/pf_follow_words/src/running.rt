@@ -1,0 +1,219 @@
+//! A run of `follow`.
+
+use crate::files::TextFiles;
+use crate::outlets::{Outlets, WriteFault};
+use crate::words::command;
+use clap::ArgMatches;
+use pf_desk::{ENTRIES_BYTES, ENTRIES_MAX};
+use pf_follow::{Kernel, Mirror, TakeFault};
+use pf_io::{Status, misused};
+use pf_kernel::machine_in;
+use pf_kernel_words::read_file;
+use pf_visit::{VisitFault, pause, read_at};
+use std::alloc::{AllocError, Global};
+use std::convert::AsStr;
+use std::io::Write;
+
+/// How long it waits between two asks, but for entries that weren't all, in milliseconds.
+const PAUSE: u64 = 50;
+
+/// After how many asks a file is tried again that couldn't be written.
+const AGAIN: u64 = 20;
+
+/// What asking once came to.
+#[derive(Clone, Copy, PartialEq, Eq)]
+enum Asked {
+    /// Entries that weren't all.
+    More,
+    /// All that is applied.
+    All,
+    /// The log at the door is shorter than what was followed of it.
+    Another,
+    /// Nobody answers, or what comes is no answer of a node's.
+    Nothing(VisitFault),
+}
+
+/// Takes what is new at the door.
+fn ask_on(
+    rt: &HostRuntime,
+    alloc: Global,
+    door: &str,
+    mirror: &mut Mirror,
+) -> Result<Asked, AllocError> {
+    let first = mirror.position;
+    let target = format!(in alloc; "/v1/entries?from={first}")?;
+    let reply = match read_at(rt, alloc, door, target) {
+        Ok(reply) => reply,
+        Err(VisitFault::Memory) => return Err(AllocError),
+        Err(fault) => return Ok(Asked::Nothing(fault)),
+    };
+    if reply.front.is_some_and(|front| front < first) {
+        return Ok(Asked::Another);
+    }
+    match mirror.take(alloc, reply.body.as_slice()) {
+        Ok(()) => {}
+        Err(TakeFault::Memory) => return Err(AllocError),
+        Err(TakeFault::BadLine) => return Ok(Asked::Nothing(VisitFault::BadAnswer)),
+    }
+    if mirror.position.saturating_sub(first) >= ENTRIES_MAX || reply.body.len() >= ENTRIES_BYTES {
+        return Ok(Asked::More);
+    }
+    Ok(Asked::All)
+}
+
+/// Says that there is no answer, unless that was said last.
+fn say_nothing<E: Write>(errors: &mut E, fault: VisitFault, said: &mut Option<VisitFault>) {
+    if *said != Some(fault) {
+        *said = Some(fault);
+        let line = match fault {
+            VisitFault::BadAnswer => "pfx: refused 86, asked again\n",
+            _ => "pfx: refused 85, asked again\n",
+        };
+        let _said = errors.write_all(line.as_bytes());
+    }
+}
+
+/// Follows until the output is closed, or the door was asked so often, or another log is there.
+fn follow<W: Write, E: Write>(
+    rt: &HostRuntime,
+    alloc: Global,
+    door: &str,
+    turns: u64,
+    outlets: &mut Outlets,
+    writer: &mut W,
+    errors: &mut E,
+) -> Result<(), WriteFault> {
+    let mut mirror = Mirror::new(alloc)?;
+    let mut said = None;
+    for turn in 0..turns {
+        match ask_on(rt, alloc, door, &mut mirror)? {
+            Asked::More => said = None,
+            Asked::All => {
+                said = None;
+                if mirror.is_moved || (outlets.is_behind && turn % AGAIN == 0) {
+                    mirror.is_moved = false;
+                    outlets.write(rt, alloc, &mirror, writer, errors)?;
+                }
+                pause(rt, PAUSE);
+            }
+            Asked::Another => return Err(WriteFault::Another),
+            Asked::Nothing(fault) => {
+                say_nothing(errors, fault, &mut said);
+                pause(rt, PAUSE);
+            }
+        }
+    }
+    Ok(())
+}
+
+/// A refusal by its number, said on standard error, since what is written goes to nft(8).
+fn refused<E: Write>(alloc: Global, code: u8, errors: &mut E) -> Status {
+    let Ok(line) = format!(in alloc; "refused {code}\n") else {
+        return Status::Memory;
+    };
+    match errors.write_all(line.as_bytes()) {
+        Ok(()) => Status::Refused,
+        Err(_) => Status::Failed,
+    }
+}
+
+/// That the log at the door is another than the one that was followed, said on standard error.
+fn another<E: Write>(errors: &mut E) -> Status {
+    match errors.write_all(b"pfx: the log at the door is another than the one followed\n") {
+        Ok(()) => Status::Refused,
+        Err(_) => Status::Failed,
+    }
+}
+
+/// Want of memory, said on standard error.
+fn memory<E: Write>(errors: &mut E) -> Status {
+    match errors.write_all(b"memory\n") {
+        Ok(()) => Status::Memory,
+        Err(_) => Status::Failed,
+    }
+}
+
+/// What a file of interfaces makes of a kernel; none where it lists none.
+fn kernel_for(rt: &HostRuntime, alloc: Global, file: &str) -> Result<Option<Kernel>, AllocError> {
+    let Some(text) = read_file(rt, alloc, file)? else {
+        return Ok(None);
+    };
+    match machine_in(alloc, text.as_slice())? {
+        Some(_) => Ok(Some(Kernel::new(text))),
+        None => Ok(None),
+    }
+}
+
+/// Where the words want it written. 40 where they want it nowhere, or `--nft` and `--interfaces` aren't both there; 89
+/// where the file lists no interfaces.
+fn outlets_for(
+    rt: &HostRuntime,
+    alloc: Global,
+    matches: &ArgMatches<'_>,
+) -> Result<Result<Outlets, u8>, AllocError> {
+    let files = match matches.get_str("pf") {
+        Some(folder) => Some(TextFiles::new(alloc, folder)?),
+        None => None,
+    };
+    match (matches.get_flag("nft"), matches.get_str("interfaces")) {
+        (true, Some(file)) => match kernel_for(rt, alloc, file)? {
+            Some(kernel) => Ok(Ok(Outlets::new(Some(kernel), files))),
+            None => Ok(Err(89)),
+        },
+        (false, None) => {
+            if files.is_none() {
+                return Ok(Err(40));
+            }
+            Ok(Ok(Outlets::new(None, files)))
+        }
+        _ => Ok(Err(40)),
+    }
+}
+
+/// What the matches ask for.
+fn followed<W: Write, E: Write>(
+    rt: &HostRuntime,
+    alloc: Global,
+    matches: &ArgMatches<'_>,
+    writer: &mut W,
+    errors: &mut E,
+) -> Status {
+    let Some(door) = matches.get_str("door") else {
+        return Status::Usage;
+    };
+    let turns = matches.get_one::<u64>("turns").unwrap_or(u64::MAX);
+    let mut outlets = match outlets_for(rt, alloc, matches) {
+        Ok(Ok(outlets)) => outlets,
+        Ok(Err(code)) => return refused(alloc, code, errors),
+        Err(_) => return memory(errors),
+    };
+    match follow(rt, alloc, door, turns, &mut outlets, writer, errors) {
+        Ok(()) => Status::Done,
+        Err(WriteFault::Closed) => Status::Failed,
+        Err(WriteFault::Another) => another(errors),
+        Err(WriteFault::Memory) => memory(errors),
+    }
+}
+
+/// What the word `follow` asks for, the program's name first: the rules of a running node's configuration, whole, once
+/// it has applied a command and each time that what it applies changes them; for nft(8) to the writer, for pfctl(8)
+/// into files. Refusals go to `errors`.
+pub fn run_follow<S: AsStr, W: Write, E: Write>(
+    rt: &HostRuntime,
+    alloc: Global,
+    words: &[S],
+    writer: &mut W,
+    errors: &mut E,
+) -> Status {
+    let Ok(command) = command(alloc) else {
+        return memory(errors);
+    };
+    let matches = match command.try_get_matches_from(words) {
+        Ok(matches) => matches,
+        Err(error) => return misused(alloc, &error, writer),
+    };
+    match matches.subcommand_matches("follow") {
+        Some(inner) => followed(rt, alloc, inner, writer, errors),
+        None => Status::Usage,
+    }
+}

@@ -1,0 +1,73 @@
+//! The word `follow`, as `clap` reads it.
+
+ghost use Rattle.std.specs.Prelude.{◌≡◌, IfOk, false};
+ghost use Rattle.clap.specs.declared.builder.command.Command.TheViews.{out-Command};
+
+use clap::{Arg, ArgAction, Command, value_parser};
+use std::alloc::{AllocError, Global};
+
+const DOOR: &str = "The Unix socket at which the node answers operators";
+
+const NFT: &str = "Lines for nft(8) on standard output, a transaction each";
+
+const INTERFACES: &str =
+    "With --nft: the machine's interfaces, a line each: its name, then its groups";
+
+const PF: &str =
+    "A folder for texts for pfctl(8): main.conf, and anchor+NAME+NAME.conf for each path";
+
+const TURNS: &str = "How often the door is asked; without an end if it isn't said";
+
+const BELOW: &str =
+    "Once the node has applied a command, and each time that what it applies changes the rules, they are
+written whole. With --nft: the sets of the position, all rules in place of those before, and the end of the sets and
+chains of the position written before. A door where nobody answers is asked again. Refusals are said on standard
+error: 87 and 88 as for check --nft, what was written before stands; 89 the file of interfaces, 40 words that don't go
+together, and it ends.";
+
+/// An option with a value.
+fn valued<'a>(alloc: Global, name: &'a str, help: &'a str) -> Arg<'a>
+    ensures local { result.global ≡ false }
+{
+    Arg::new(alloc, name)
+        .long(name)
+        .action(ArgAction::Set)
+        .help(help)
+}
+
+/// Adds one option.
+fn with<'a>(command: Command<'a>, arg: Arg<'a>) -> Result<Command<'a>, AllocError>
+    requires command { (out-Command command).has_globals ≡ false }
+    requires arg { arg.global ≡ false }
+    ensures local { IfOk result (λ c. (out-Command c).has_globals ≡ false) }
+{
+    command.arg(arg)
+}
+
+/// `follow --door PATH [--nft --interfaces FILE] [--pf DIR] [--turns T]`
+fn follow_command<'a>(alloc: Global) -> Result<Command<'a>, AllocError>
+    ensures local { IfOk result (λ c. (out-Command c).has_globals ≡ false) }
+{
+    let follow = Command::new(alloc, "follow")
+        .about("Follows what a node applies, as rules for a kernel")
+        .after_help(BELOW);
+    let nft = Arg::new(alloc, "nft")
+        .long("nft")
+        .action(ArgAction::SetTrue)
+        .help(NFT);
+    let command = with(follow, valued(alloc, "door", DOOR).required(true))?;
+    let command = with(command, nft)?;
+    let command = with(command, valued(alloc, "interfaces", INTERFACES))?;
+    let command = with(command, valued(alloc, "pf", PF))?;
+    with(
+        command,
+        valued(alloc, "turns", TURNS).value_parser(value_parser!(u64)),
+    )
+}
+
+/// The program's words with `follow`.
+pub(crate) fn command<'a>(alloc: Global) -> Result<Command<'a>, AllocError> {
+    let follow = follow_command(alloc)?;
+    let command = Command::new(alloc, "pfx").subcommand(follow)?;
+    Ok(command.subcommand_required(true))
+}

@@ -1,0 +1,45 @@
+//! Members with empty records in memory, and what is asked of them.
+
+use pf_entry::Profile;
+use pf_node::{Command, Membership, Node};
+use pf_ruleset::Path;
+use px_records::MemoryRecords;
+use std::alloc::Global;
+use std::test::Fail;
+
+/// The member with this number, of so many of cluster 7.
+pub(crate) fn member(alloc: Global, members: u8, me: u8) -> Result<Node<MemoryRecords>, Fail> {
+    let Some(m) = Membership::new(7, members, me) else {
+        return Err(Fail::new("no member"));
+    };
+    if m.me() >= m.members() {
+        return Err(Fail::new("nobody"));
+    }
+    match Node::open(alloc, m, MemoryRecords::new(alloc, m.members())) {
+        Ok(node) => Ok(node),
+        Err((fault, _)) => Err(Fail::new(fault)),
+    }
+}
+
+/// The node is asked the command.
+pub(crate) fn ask(node: &mut Node<MemoryRecords>, command: Command) -> Result<(), Fail> {
+    let asked = node.ask(&command);
+    drop(command);
+    asked?;
+    Ok(())
+}
+
+/// The node is asked a load of a text at main.
+pub(crate) fn ask_load(
+    alloc: Global,
+    node: &mut Node<MemoryRecords>,
+    text: &[u8],
+) -> Result<(), Fail> {
+    let text = Vec::from_slice(alloc, text)?;
+    let command = Command::Load {
+        path: Path::main(alloc),
+        profile: Profile::Two,
+        text,
+    };
+    ask(node, command)
+}

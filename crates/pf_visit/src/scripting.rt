@@ -1,0 +1,108 @@
+//! A script's changes are asked at a door, one after the other.
+
+use crate::exchange::VisitFault;
+use crate::script::{Change, Left, ScriptFault, next_change};
+use crate::telling::{tell_left, tell_line};
+use crate::visiting::{outcome_behind, visit};
+use pf_io::{Status, out_of_memory};
+use std::alloc::{AllocError, Global};
+use std::io::Write;
+
+/// What comes of a change that was made.
+const MADE: &[u8] = b"ok";
+
+/// What is asked at which door.
+#[derive(Clone, Copy)]
+pub(crate) struct Errand<'a> {
+    pub(crate) door: &'a str,
+    pub(crate) script: &'a [u8],
+    /// The first line that is asked.
+    pub(crate) from: u64,
+    /// For how many seconds it is waited for what comes of a change.
+    pub(crate) seconds: u32,
+}
+
+/// How a change went.
+enum Went {
+    /// It was made: what is printed.
+    Made(Vec<u8>),
+    /// It wasn't, or nobody knows: what is printed.
+    Stopped(Vec<u8>),
+}
+
+/// Asks one change, and waits for what comes of it.
+fn make(
+    rt: &HostRuntime,
+    alloc: Global,
+    errand: &Errand<'_>,
+    change: &Change<'_>,
+) -> Result<Went, VisitFault> {
+    let call = change.call(alloc)?;
+    let reply = visit(rt, alloc, errand.door, &call, errand.seconds)?;
+    tell_left(rt, reply.front);
+    let outcome = outcome_behind(reply.body.as_slice());
+    if outcome.starts_with(MADE) {
+        return Ok(Went::Made(Vec::from_slice(alloc, outcome)?));
+    }
+    Ok(Went::Stopped(reply.body))
+}
+
+/// Writes what ends a script, and the line at which it ended.
+fn write_end<W: Write>(alloc: Global, said: &[u8], line: u64, writer: &mut W) -> Status {
+    let Ok(below) = format!(in alloc; "line {line}\n") else {
+        return out_of_memory(writer);
+    };
+    if writer.write_all(said).is_err() || writer.write_all(below.as_bytes()).is_err() {
+        return Status::Failed;
+    }
+    Status::Refused
+}
+
+/// Asks one change and writes what came of it; none where it was made, else how the script ends.
+fn ask_one<W: Write>(
+    rt: &HostRuntime,
+    alloc: Global,
+    errand: &Errand<'_>,
+    change: &Change<'_>,
+    writer: &mut W,
+) -> Option<Status> {
+    match make(rt, alloc, errand, change) {
+        Ok(Went::Made(said)) => match writer.write_all(said.as_slice()) {
+            Ok(()) => None,
+            Err(_) => Some(Status::Failed),
+        },
+        Ok(Went::Stopped(said)) => Some(write_end(alloc, said.as_slice(), change.line, writer)),
+        Err(VisitFault::Memory) => Some(out_of_memory(writer)),
+        Err(VisitFault::NoDoor) => Some(write_end(alloc, b"refused 85\n", change.line, writer)),
+        Err(VisitFault::BadAnswer) => Some(write_end(alloc, b"refused 86\n", change.line, writer)),
+    }
+}
+
+/// Asks the script's changes, each once what came of the one before it is known, and writes a line of each. It ends at
+/// the first that isn't made, or of which nobody knows, with the number of its line.
+pub(crate) fn ask_script<W: Write>(
+    rt: &HostRuntime,
+    alloc: Global,
+    errand: &Errand<'_>,
+    writer: &mut W,
+) -> Status {
+    let mut left = Left {
+        bytes: errand.script,
+        line: 1,
+    };
+    for _ in 0..=errand.script.len() {
+        let change = match next_change(alloc, &mut left) {
+            Ok(Some(change)) => change,
+            Ok(None) => return Status::Done,
+            Err(ScriptFault::Line(line)) => return write_end(alloc, b"refused 40\n", line, writer),
+            Err(ScriptFault::Memory) => return out_of_memory(writer),
+        };
+        if change.line >= errand.from {
+            tell_line(rt, change.line);
+            if let Some(status) = ask_one(rt, alloc, errand, &change, writer) {
+                return status;
+            }
+        }
+    }
+    Status::Done
+}
