@@ -3,3 +3,7 @@ pub mod Asking
 pub mod LabLines
 pub mod Shown
 pub mod Seen
+pub mod Beginnings
+pub mod Stages
+pub mod Scripts
+pub mod Benches

@@ -17,9 +17,6 @@ pub(crate) enum LineFault {
 /// The number of an unknown line, and of words that don't go together.
 pub(crate) const UNKNOWN: LineFault = LineFault::Refused(40);
 
-/// The number where no such node or message is.
-pub(crate) const NOT_THERE: LineFault = LineFault::Refused(81);
-
 impl From<AllocError> for LineFault {
     ghost from_gives = { λ _ e. e ≡ Memory };
 

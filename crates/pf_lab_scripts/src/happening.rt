@@ -1,33 +1,46 @@
 //! An event of a script.
 
+ghost use Rattle.std.specs.Prelude.{◌≡◌, ◌++◌, ◌≤◌, ◌<◌, ℕ, OnOk, Option, option_map, string_bytes, length, unwrap_or};
+ghost use Rattle.std.specs.Prelude.{slice_get, false, nat_eq, ◌||◌, Some};
+ghost use Rattle.std.specs.Option.{option_copied};
+ghost use Rattle.pf_lab_scripts.specs.Seen.{action_value, event_value};
+ghost use Rattle.pf_lab_scripts.specs.Stages.{Stage, asked_line, asked_node, outcome_line, delivered_by, marked};
+ghost use Rattle.pf_lab_scripts.specs.Stages.{carried, happened, event_line};
+ghost use Rattle.pf_lab_scripts.specs.Scripts.{Exactly};
+ghost use Rattle.pf_lab_scripts.specs.Benches.{IsBench, Does};
+
 use crate::bench::Bench;
-use crate::fault::{LineFault, NOT_THERE};
 use pf_lab::{LabAction, LabEvent, LabFault, Outcome};
 use pf_scripts::{push_line, push_number, push_refusal};
 use std::alloc::{AllocError, Global};
 
-/// The action of an event; a restart has none.
-fn action_of(event: &LabEvent) -> Option<&LabAction> {
-    match event {
-        LabEvent::Runs(action) => Some(action),
-        LabEvent::StopBefore(action) => Some(action),
-        LabEvent::StopAfter(action) => Some(action),
-        LabEvent::Restart(_) => None,
+/// The message that an action delivers.
+fn carried(action: &LabAction) -> Option<usize>
+    ensures { result ≡ carried (action_value action.now) }
+{
+    match action {
+        LabAction::Deliver(k) => Some(*k),
+        LabAction::Ask(_, _) => None,
+        LabAction::Tick(_) => None,
     }
 }
 
 /// The message that an event delivers, be it under a stop.
-fn message_of(event: &LabEvent) -> Option<usize> {
-    match action_of(event) {
-        Some(LabAction::Deliver(k)) => Some(*k),
-        Some(LabAction::Ask(_, _)) => None,
-        Some(LabAction::Tick(_)) => None,
-        None => None,
+fn delivered_by(event: &LabEvent) -> Option<usize>
+    ensures { result ≡ delivered_by (event_value event.now) }
+{
+    match event {
+        LabEvent::Runs(action) => carried(action),
+        LabEvent::StopBefore(action) => carried(action),
+        LabEvent::StopAfter(action) => carried(action),
+        LabEvent::Restart(_) => None,
     }
 }
 
 /// The node that an event asks, not under a stop.
-fn asked_by(event: &LabEvent) -> Option<u8> {
+fn asked_node(event: &LabEvent) -> Option<u8>
+    ensures { result ≡ asked_node (event_value event.now) }
+{
     match event {
         LabEvent::Runs(LabAction::Ask(m, _)) => Some(*m),
         LabEvent::Runs(LabAction::Tick(_)) => None,
@@ -39,7 +52,9 @@ fn asked_by(event: &LabEvent) -> Option<u8> {
 }
 
 /// `asked NODE.NUMBER`
-fn push_asked(alloc: Global, out: &mut String, node: u8, number: u64) -> Result<(), AllocError> {
+fn push_asked(alloc: Global, out: &mut String, node: u8, number: u64) -> Result<(), AllocError>
+    ensures { OnOk result (string_bytes out.new ≡ string_bytes out.old ++ asked_line node number) }
+{
     out.push_str("asked ")?;
     push_number(alloc, out, u64::from(node))?;
     out.push('.')?;
@@ -53,7 +68,9 @@ fn push_outcome(
     out: &mut String,
     asked: Option<u8>,
     outcome: Outcome,
-) -> Result<(), AllocError> {
+) -> Result<(), AllocError>
+    ensures { OnOk result (string_bytes out.new ≡ string_bytes out.old ++ outcome_line asked outcome) }
+{
     match outcome {
         Outcome::Nothing => Ok(()),
         Outcome::Refused(code) => push_refusal(alloc, out, code, 0),
@@ -68,35 +85,72 @@ fn push_outcome(
     }
 }
 
+/// Makes the list so long, at the least.
+#[tactic(auto, using(crate::proofs::Marks::one_more))]
+fn lengthen(marks: &mut Vec<bool>, len: usize) -> Result<(), AllocError>
+    ensures long { OnOk result (len ≤ length marks.new.items) }
+    ensures same { OnOk result ((j : ℕ) → unwrap_or (slice_get marks.new.items j) false
+        ≡ unwrap_or (slice_get marks.old.items j) false) }
+{
+    while marks.len() < len {
+        marks.push(false)?;
+    }
+    Ok(())
+}
+
+/// Sets the mark of this number.
+#[tactic(auto, using(crate::proofs::Marks::one_set))]
+fn set_mark(marks: &mut Vec<bool>, k: usize)
+    requires { k < length marks.old.items }
+    ensures { (j : ℕ) → unwrap_or (slice_get marks.new.items j) false
+        ≡ (nat_eq j k || unwrap_or (slice_get marks.old.items j) false) }
+{
+    marks[k] = true;
+}
+
 impl Bench {
     /// The message counts as delivered.
-    fn mark(&mut self, k: usize) -> Result<(), AllocError> {
-        if k < self.passed || k >= self.lab.sent().len() {
+    #[tactic(auto, using(crate::proofs::Done::mark_made, crate::proofs::Done::mark_none))]
+    fn mark(&mut self, k: usize) -> Result<(), AllocError>
+        ensures { (n : ℕ) (s : Stage) → IsBench n s self.old → OnOk result (IsBench n (marked (Some k) s) self.new) }
+    {
+        if k >= self.lab.sent().len() {
             return Ok(());
         }
-        if k >= self.delivered.len() {
-            self.delivered.resize(k + 1, false)?;
-        }
-        self.delivered[k] = true;
+        lengthen(&mut self.delivered, k + 1)?;
+        set_mark(&mut self.delivered, k);
         Ok(())
     }
 
+    /// The message counts as delivered, if there is one.
+    fn mark_if(&mut self, message: Option<usize>) -> Result<(), AllocError>
+        ensures { (n : ℕ) (s : Stage) → IsBench n s self.old → OnOk result (IsBench n (marked message s) self.new) }
+    {
+        match message {
+            Some(k) => self.mark(k),
+            None => Ok(()),
+        }
+    }
+
     /// Makes an event happen, and prints what becomes of it.
+    #[tactic(auto, using(crate::proofs::Done::event_known, crate::proofs::Done::event_unknown))]
     pub(crate) fn happen(
         &mut self,
         alloc: Global,
         event: &LabEvent,
         out: &mut String,
-    ) -> Result<(), LineFault> {
-        let outcome = match self.lab.step(event) {
-            Ok(outcome) => outcome,
-            Err(LabFault::BadEvent) => return Err(NOT_THERE),
-            Err(LabFault::Memory) => return Err(LineFault::Memory),
-        };
-        if let Some(k) = message_of(event) {
-            self.mark(k)?;
+    ) -> Result<(), AllocError>
+        ensures { (n : ℕ) (s : Stage) → IsBench n s self.old → OnOk result
+            (Does n (happened n s (event_value event.now)) (Exactly (event_line n s.world (event_value event.now)))
+            self.new (string_bytes out.old) (string_bytes out.new)) }
+    {
+        match self.lab.step(event) {
+            Ok(outcome) => {
+                self.mark_if(delivered_by(event))?;
+                push_outcome(alloc, out, asked_node(event), outcome)
+            }
+            Err(LabFault::BadEvent) => push_refusal(alloc, out, 81, 0),
+            Err(LabFault::Memory) => Err(AllocError),
         }
-        push_outcome(alloc, out, asked_by(event), outcome)?;
-        Ok(())
     }
 }

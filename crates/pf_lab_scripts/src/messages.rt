@@ -1,6 +1,11 @@
 //! Messages as lines.
 
-ghost use Rattle.std.specs.Prelude.{◌≡◌, ◌++◌, OnOk, string_bytes};
+ghost use Rattle.std.specs.Prelude.{◌≡◌, ◌≤◌, ◌++◌, OnOk, string_bytes};
+ghost use Rattle.px_model.specs.Node.{Envelope};
+ghost use Rattle.px_model.specs.Spelling.{Bytes};
+ghost use Rattle.px_wire.specs.Members.{as_sent};
+ghost use Rattle.px_replica.specs.Spelled.{IsSpelled};
+ghost use Rattle.pf_lab.specs.Labs.{cluster_of};
 ghost use Rattle.px_model.specs.Entries.{view_of};
 ghost use Rattle.px_wire.specs.Views.{message_of, accepted_of};
 ghost use Rattle.pf_lab_scripts.specs.Shown.{kind_word, ballot_part, position_part, entry_part, accepted_part};
@@ -164,7 +169,11 @@ pub(crate) fn push_datagram(
     members: u8,
     k: usize,
     datagram: &Datagram,
-) -> Result<(), AllocError> {
+) -> Result<(), AllocError>
+    ensures { (x : Envelope Bytes) → 1 ≤ members → members ≤ 15 → IsSpelled (cluster_of members) x datagram.now →
+        OnOk result (string_bytes out.new ≡ string_bytes out.old
+        ++ message_line k x.sender x.addressee (as_sent x.message)) }
+{
     let Some(m) = Membership::new(0, members, datagram.to) else {
         return Ok(());
     };

@@ -1,6 +1,12 @@
 //! A script over one lab.
 
-ghost use Rattle.std.specs.Prelude.{◌≤◌, IfOk, IfSome};
+ghost use Rattle.std.specs.Prelude.{◌≡◌, ◌≤◌, ℕ, IfOk, OnOk, IfSome, map, option_map, string_bytes, None};
+ghost use Rattle.pf_scripts.specs.Lines.{lines};
+ghost use Rattle.pf_scripts.specs.Seen.{waiting_of};
+ghost use Rattle.pf_lab_scripts.specs.Stages.{Stage, begun};
+ghost use Rattle.pf_lab_scripts.specs.Beginnings.{members_in, beginning};
+ghost use Rattle.pf_lab_scripts.specs.Scripts.{at_end, Prints, PrintsFrom, IsPrinted};
+ghost use Rattle.pf_lab_scripts.specs.Benches.{IsBench, Grows};
 ghost use Rattle.pf_lab_scripts.specs.declared.running.TheConstants.{MEMBERS};
 
 use crate::bench::Bench;
@@ -15,7 +21,8 @@ const MEMBERS: u64 = 15;
 
 /// How many members the words `members N` say; none for other words, or unless there are 1 to 15.
 fn members_in(words: &[&str]) -> Option<u8>
-    ensures { IfSome result (λ n. (1 ≤ n) × (n ≤ MEMBERS)) }
+    ensures few { IfSome result (λ n. (1 ≤ n) × (n ≤ MEMBERS)) }
+    ensures members { result ≡ members_in (map (λ w. w.now) words.now) }
 {
     let [first, number] = words else {
         return None;
@@ -31,21 +38,24 @@ fn members_in(words: &[&str]) -> Option<u8>
 }
 
 /// How many members the first line says that isn't blank, and what stands behind it; none where it doesn't.
-fn begun(alloc: Global, script: &[u8]) -> Result<Option<(u8, &[u8])>, AllocError>
-    ensures { IfOk result (λ o. IfSome o (λ b. (1 ≤ b.0) × (b.0 ≤ MEMBERS))) }
+fn beginning(alloc: Global, script: &[u8]) -> Result<Option<(u8, &[u8])>, AllocError>
+    ensures few { IfOk result (λ o. IfSome o (λ b. (1 ≤ b.0) × (b.0 ≤ MEMBERS))) }
+    ensures begins { IfOk result (λ o. option_map (λ b. (b.0, lines b.1.now)) o ≡ beginning (lines script.now)) }
 {
     let mut left = script;
     while let Some((line, rest)) = cut_line(left) {
         let Some(words) = words_in(alloc, line.content)? else {
             return Ok(None);
         };
-        if !words.is_empty() {
-            return match members_in(&words) {
-                Some(members) => Ok(Some((members, rest))),
-                None => Ok(None),
-            };
+        match words.as_slice() {
+            [] => left = rest,
+            [_, ..] => {
+                return match members_in(&words) {
+                    Some(members) => Ok(Some((members, rest))),
+                    None => Ok(None),
+                };
+            }
         }
-        left = rest;
     }
     Ok(None)
 }
@@ -54,6 +64,7 @@ fn begun(alloc: Global, script: &[u8]) -> Result<Option<(u8, &[u8])>, AllocError
 fn new_bench(alloc: Global, members: u8) -> Result<Bench, AllocError>
     requires some { 1 ≤ members }
     requires few { members ≤ MEMBERS }
+    ensures { IfOk result (λ bench. IsBench members begun bench) }
 {
     match Lab::new(alloc, members) {
         Ok(lab) => Ok(Bench {
@@ -73,7 +84,11 @@ fn finish(
     bench: &mut Bench,
     waiting: Option<Waiting<'_>>,
     out: &mut String,
-) -> Result<(), AllocError> {
+) -> Result<(), AllocError>
+    ensures { (n : ℕ) (s : Stage) → IsBench n s bench.old → OnOk result
+        (Grows (Prints (at_end n s (option_map waiting_of waiting.entry))) (string_bytes out.old)
+        (string_bytes out.new)) }
+{
     match waiting {
         Some(waiting) => run_words(alloc, bench, &waiting.words, &waiting.text, out),
         None => Ok(()),
@@ -81,13 +96,16 @@ fn finish(
 }
 
 /// Does the lines behind the first.
-fn run_lines(alloc: Global, members: u8, lines: &[u8], out: &mut String) -> Result<(), AllocError>
+#[tactic(auto, using(crate::proofs::Going::goes_begin, crate::proofs::Going::goes_on, crate::proofs::Going::goes_end))]
+fn run_lines(alloc: Global, members: u8, script: &[u8], out: &mut String) -> Result<(), AllocError>
     requires some { 1 ≤ members }
     requires few { members ≤ MEMBERS }
+    ensures { OnOk result (Grows (PrintsFrom members begun None (lines script.now)) (string_bytes out.old)
+        (string_bytes out.new)) }
 {
     let mut bench = new_bench(alloc, members)?;
     let mut waiting = None;
-    let mut left = lines;
+    let mut left = script;
     while let Some((line, rest)) = cut_line(left) {
         waiting = step(alloc, &mut bench, waiting, line, out)?;
         left = rest;
@@ -96,9 +114,11 @@ fn run_lines(alloc: Global, members: u8, lines: &[u8], out: &mut String) -> Resu
 }
 
 /// What a script of a lab's events prints.
-pub fn lab(alloc: Global, script: &[u8]) -> Result<String, AllocError> {
+pub fn lab(alloc: Global, script: &[u8]) -> Result<String, AllocError>
+    ensures { IfOk result (λ text. IsPrinted script.now (string_bytes text)) }
+{
     let mut out = String::new(alloc);
-    match begun(alloc, script)? {
+    match beginning(alloc, script)? {
         Some((members, lines)) => run_lines(alloc, members, lines, &mut out)?,
         None => push_refusal(alloc, &mut out, 40, 0)?,
     }

@@ -1,17 +1,23 @@
 //! What a script shows of its lab.
 
-ghost use Rattle.std.specs.Prelude.{◌≡◌, ◌++◌, ◌+◌, OnOk, string_bytes, Some};
+ghost use Rattle.std.specs.Prelude.{◌≡◌, ◌++◌, ◌+◌, ◌≤◌, ◌<◌, ℕ, OnOk, string_bytes, Some, map, drop};
 ghost use Rattle.px_model.specs.Entries.{view_of};
 ghost use Rattle.px_model.specs.Step.{front};
-ghost use Rattle.pf_node.specs.Nodes.{learned_by};
+ghost use Rattle.px_model.specs.World.{NodeState};
+ghost use Rattle.px_model.specs.Spelling.{Bytes};
+ghost use Rattle.pf_node.specs.Nodes.{learned_by, applied_of};
+ghost use Rattle.pf_lab.specs.Labs.{IsShown};
 ghost use Rattle.pf_lab_scripts.specs.Shown.{entry_line, log_lines};
+ghost use Rattle.pf_lab_scripts.specs.Stages.{Stage};
+ghost use Rattle.pf_lab_scripts.specs.Scripts.{running_line, stopped_line, StateIf, AreStates, Prints, log_shown};
+ghost use Rattle.pf_lab_scripts.specs.Scripts.{verdict_shown, all_shown, IsVerdict, message_lines};
+ghost use Rattle.pf_lab_scripts.specs.Benches.{IsBench, Grows};
 
 use crate::bench::Bench;
-use crate::fault::{LineFault, NOT_THERE};
 use crate::messages::push_datagram;
 use crate::printing::push_named;
 use pf_node::Node;
-use pf_scripts::{push_line, push_number, test_packet};
+use pf_scripts::{push_line, push_number, push_refusal, test_packet};
 use px_model::EntryView;
 use px_records::MemoryRecords;
 use std::alloc::{AllocError, Global};
@@ -19,23 +25,30 @@ use std::alloc::{AllocError, Global};
 /// Nothing is learned so many positions or more past a node's front.
 const WINDOW: u32 = 64;
 
-/// `node N round R front F applied A`, or `node N stopped`
-fn push_node(
+/// `node N round R front F applied A`
+fn push_running(
     alloc: Global,
     out: &mut String,
     m: u8,
-    node: Option<&Node<MemoryRecords>>,
-) -> Result<(), AllocError> {
+    node: &Node<MemoryRecords>,
+) -> Result<(), AllocError>
+    ensures behind { applied_of node.now ≤ front (learned_by node.now) }
+    ensures line { (s : NodeState Bytes) → IsShown s node.now → OnOk result (string_bytes out.new ≡ string_bytes out.old
+        ++ running_line m s.stored.meta.round (front s.stored.learned) (applied_of node.now)) }
+{
     push_named(alloc, out, "node ", u64::from(m))?;
-    match node {
-        Some(node) => {
-            push_named(alloc, out, " round ", node.round())?;
-            push_named(alloc, out, " front ", u64::from(node.front()))?;
-            push_named(alloc, out, " applied ", u64::from(node.applied()))?;
-        }
-        None => out.push_str(" stopped")?,
-    }
+    push_named(alloc, out, " round ", node.round())?;
+    push_named(alloc, out, " front ", u64::from(node.front()))?;
+    push_named(alloc, out, " applied ", u64::from(node.applied()))?;
     out.push('\n')
+}
+
+/// `node N stopped`
+fn push_stopped(alloc: Global, out: &mut String, m: u8) -> Result<(), AllocError>
+    ensures { OnOk result (string_bytes out.new ≡ string_bytes out.old ++ stopped_line m) }
+{
+    push_named(alloc, out, "node ", u64::from(m))?;
+    push_line(out, " stopped")
 }
 
 /// `POSITION ORIGIN.NUMBER`
@@ -69,49 +82,91 @@ fn push_log(alloc: Global, out: &mut String, node: &Node<MemoryRecords>) -> Resu
     Ok(())
 }
 
+/// The verdict of a node that runs.
+#[tactic(auto, using(crate::proofs::NodesShown::verdict_grows))]
+fn push_verdict(
+    alloc: Global,
+    node: &Node<MemoryRecords>,
+    packet: &[&str],
+    out: &mut String,
+) -> Result<(), AllocError>
+    ensures { (s : NodeState Bytes) → IsShown s node.now → OnOk result
+        (Grows (IsVerdict s (map (λ w. w.now) packet.now)) (string_bytes out.old) (string_bytes out.new)) }
+{
+    let _applied = node.applied();
+    test_packet(alloc, node.config(), packet, out)
+}
+
 impl Bench {
-    /// The node, none where it is stopped.
-    fn node(&self, m: u8) -> Result<Option<&Node<MemoryRecords>>, LineFault> {
-        if m >= self.members {
-            return Err(NOT_THERE);
+    /// Prints how far a node is.
+    #[tactic(auto, using(crate::proofs::NodesShown::running_grows, crate::proofs::NodesShown::stopped_grows))]
+    fn show_node(&self, alloc: Global, m: u8, out: &mut String) -> Result<(), AllocError>
+        ensures { (n : ℕ) (s : Stage) → IsBench n s self.now → m < n → OnOk result
+            (Grows (StateIf (s.world.nodes m).is_up m (s.world.nodes m)) (string_bytes out.old)
+            (string_bytes out.new)) }
+    {
+        match self.lab.node(m) {
+            Some(node) => push_running(alloc, out, m, node),
+            None => push_stopped(alloc, out, m),
         }
-        Ok(self.lab.node(m))
     }
 
     /// Prints how far each node is.
-    pub(crate) fn show_state(&self, alloc: Global, out: &mut String) -> Result<(), AllocError> {
+    #[tactic(auto, using(crate::proofs::NodesShown::states_begin, crate::proofs::NodesShown::states_go_on))]
+    pub(crate) fn show_state(&self, alloc: Global, out: &mut String) -> Result<(), AllocError>
+        ensures { (n : ℕ) (s : Stage) → IsBench n s self.now → OnOk result
+            (Grows (AreStates n s.world) (string_bytes out.old) (string_bytes out.new)) }
+    {
         for m in 0..self.members {
-            push_node(alloc, out, m, self.lab.node(m))?;
+            self.show_node(alloc, m, out)?;
         }
         Ok(())
     }
 
     /// Prints what the node has learned.
-    pub(crate) fn show_log(&self, alloc: Global, m: u8, out: &mut String) -> Result<(), LineFault> {
-        match self.node(m)? {
-            Some(node) => push_log(alloc, out, node)?,
-            None => push_line(out, "stopped")?,
+    #[tactic(auto, using(crate::proofs::NodesShown::log_running, crate::proofs::NodesShown::log_stopped, crate::proofs::NodesShown::log_unknown))]
+    pub(crate) fn show_log(&self, alloc: Global, m: u8, out: &mut String) -> Result<(), AllocError>
+        ensures { (n : ℕ) (s : Stage) → IsBench n s self.now → OnOk result
+            (string_bytes out.new ≡ string_bytes out.old ++ log_shown n m s.world) }
+    {
+        if m >= self.members {
+            return push_refusal(alloc, out, 81, 0);
         }
-        Ok(())
+        match self.lab.node(m) {
+            Some(node) => push_log(alloc, out, node),
+            None => push_line(out, "stopped"),
+        }
     }
 
     /// Prints the node's verdict for a packet.
+    #[tactic(auto, using(crate::proofs::NodesShown::verdict_running, crate::proofs::NodesShown::verdict_stopped, crate::proofs::NodesShown::verdict_unknown))]
     pub(crate) fn show_verdict(
         &self,
         alloc: Global,
         m: u8,
         packet: &[&str],
         out: &mut String,
-    ) -> Result<(), LineFault> {
-        match self.node(m)? {
-            Some(node) => test_packet(alloc, node.config(), packet, out)?,
-            None => push_line(out, "stopped")?,
+    ) -> Result<(), AllocError>
+        ensures { (n : ℕ) (s : Stage) → IsBench n s self.now → OnOk result
+            (Grows (Prints (verdict_shown n m s.world (map (λ w. w.now) packet.now))) (string_bytes out.old)
+            (string_bytes out.new)) }
+    {
+        if m >= self.members {
+            return push_refusal(alloc, out, 81, 0);
         }
-        Ok(())
+        match self.lab.node(m) {
+            Some(node) => push_verdict(alloc, node, packet, out),
+            None => push_line(out, "stopped"),
+        }
     }
 
     /// Prints the messages not shown yet.
-    pub(crate) fn show_sent(&mut self, alloc: Global, out: &mut String) -> Result<(), AllocError> {
+    #[tactic(auto, using(crate::proofs::Telling::sent_goes_on, crate::proofs::Telling::sent_ends, crate::proofs::Telling::shown_all))]
+    pub(crate) fn show_sent(&mut self, alloc: Global, out: &mut String) -> Result<(), AllocError>
+        ensures bench { (n : ℕ) (s : Stage) → IsBench n s self.old → OnOk result (IsBench n (all_shown s) self.new) }
+        ensures lines { (n : ℕ) (s : Stage) → IsBench n s self.old → OnOk result (string_bytes out.new
+            ≡ string_bytes out.old ++ message_lines s.shown (drop s.shown s.world.sent)) }
+    {
         let sent = self.lab.sent();
         for k in self.shown..sent.len() {
             push_datagram(alloc, out, self.members, k, &sent[k])?;

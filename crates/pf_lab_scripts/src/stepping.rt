@@ -1,7 +1,12 @@
 //! A line of a script.
 
-ghost use Rattle.std.specs.Prelude.{◌≡◌, IfOk, map};
-ghost use Rattle.pf_lab_scripts.specs.LabLines.{is_followed};
+ghost use Rattle.std.specs.Prelude.{◌≡◌, ℕ, IfOk, OnOk, map, option_map, string_bytes, Some};
+ghost use Rattle.pf_scripts.specs.Seen.{line_of, waiting_of};
+ghost use Rattle.pf_lab_scripts.specs.LabLines.{is_followed, line_asked};
+ghost use Rattle.pf_lab_scripts.specs.Seen.{line_value};
+ghost use Rattle.pf_lab_scripts.specs.Stages.{Stage};
+ghost use Rattle.pf_lab_scripts.specs.Scripts.{line_done, at_words, stepped};
+ghost use Rattle.pf_lab_scripts.specs.Benches.{IsBench, Does, WordsDone, Steps};
 
 use crate::bench::Bench;
 use crate::fault::LineFault;
@@ -10,37 +15,41 @@ use pf_scripts::{Line, Waiting, push_bytes, push_refusal, takes_text, words_in};
 use std::alloc::{AllocError, Global};
 
 /// Does what a line asks for.
+#[tactic(auto, using(crate::proofs::Done::does_text, crate::proofs::Done::does_nothing, crate::proofs::Done::does_grow))]
 fn run_line(
     alloc: Global,
     bench: &mut Bench,
     line: LabLine<'_, '_>,
     out: &mut String,
-) -> Result<(), LineFault> {
+) -> Result<(), AllocError>
+    ensures { (n : ℕ) (s : Stage) → IsBench n s bench.old → OnOk result
+        (Does n (line_done n s (line_value line.entry)).stage (line_done n s (line_value line.entry)).output bench.new
+        (string_bytes out.old) (string_bytes out.new)) }
+{
     match line {
-        LabLine::Happens(event) => bench.happen(alloc, &event, out)?,
-        LabLine::Run => bench.run()?,
-        LabLine::Test(m, packet) => bench.show_verdict(alloc, m, packet, out)?,
-        LabLine::State => bench.show_state(alloc, out)?,
-        LabLine::Log(m) => bench.show_log(alloc, m, out)?,
-        LabLine::Sent => bench.show_sent(alloc, out)?,
+        LabLine::Happens(event) => bench.happen(alloc, &event, out),
+        LabLine::Run => bench.run(),
+        LabLine::Test(m, packet) => bench.show_verdict(alloc, m, packet, out),
+        LabLine::State => bench.show_state(alloc, out),
+        LabLine::Log(m) => bench.show_log(alloc, m, out),
+        LabLine::Sent => bench.show_sent(alloc, out),
     }
-    Ok(())
 }
 
 /// Does what a line with words asks for, or prints its refusal; `text` is what stands behind it.
+#[tactic(auto, using(crate::proofs::Done::does_text))]
 pub(crate) fn run_words(
     alloc: Global,
     bench: &mut Bench,
     words: &[&str],
     text: &[u8],
     out: &mut String,
-) -> Result<(), AllocError> {
-    let done = match line_in(alloc, words, text) {
+) -> Result<(), AllocError>
+    ensures { (n : ℕ) (s : Stage) → IsBench n s bench.old → OnOk result (WordsDone n s
+        (line_asked (map (λ w. w.now) words.now) text.now) bench.new (string_bytes out.old) (string_bytes out.new)) }
+{
+    match line_in(alloc, words, text) {
         Ok(line) => run_line(alloc, bench, line, out),
-        Err(fault) => Err(fault),
-    };
-    match done {
-        Ok(()) => Ok(()),
         Err(LineFault::Refused(code)) => push_refusal(alloc, out, code, 0),
         Err(LineFault::Memory) => Err(AllocError),
     }
@@ -63,12 +72,17 @@ fn is_followed(alloc: Global, words: &[&str]) -> Result<bool, AllocError>
 }
 
 /// Does a line with words, unless a text follows it.
+#[tactic(auto, using(crate::proofs::Done::does_nothing))]
 fn begin<'a>(
     alloc: Global,
     bench: &mut Bench,
     words: Vec<&'a str>,
     out: &mut String,
-) -> Result<Option<Waiting<'a>>, AllocError> {
+) -> Result<Option<Waiting<'a>>, AllocError>
+    ensures { (n : ℕ) (s : Stage) → IsBench n s bench.old → IfOk result (λ w. Steps n
+        (at_words n s (Some (map (λ x. x.now) words.entry.items))) bench.new (option_map waiting_of w)
+        (string_bytes out.old) (string_bytes out.new)) }
+{
     if words.is_empty() {
         return Ok(None);
     }
@@ -83,13 +97,18 @@ fn begin<'a>(
 }
 
 /// Does a line: one of a text, or one with words. Answers what waits for its text then.
+#[tactic(auto, using(crate::proofs::Done::does_nothing, crate::proofs::Done::does_text))]
 pub(crate) fn step<'a>(
     alloc: Global,
     bench: &mut Bench,
     waiting: Option<Waiting<'a>>,
     line: Line<'a>,
     out: &mut String,
-) -> Result<Option<Waiting<'a>>, AllocError> {
+) -> Result<Option<Waiting<'a>>, AllocError>
+    ensures { (n : ℕ) (s : Stage) → IsBench n s bench.old → IfOk result (λ w. Steps n
+        (stepped n s (option_map waiting_of waiting.entry) (line_of line.entry)) bench.new (option_map waiting_of w)
+        (string_bytes out.old) (string_bytes out.new)) }
+{
     let Some(waiting) = waiting else {
         let Some(words) = words_in(alloc, line.content)? else {
             push_refusal(alloc, out, 40, 0)?;
