@@ -1,5 +1,5 @@
 -- What a door's lines of entries do to a configuration.
-use Rattle.std.specs.Prelude.{◌≡◌, ℕ, ◌≤◌, List, Option, Some, Result, Ok, Err, OnOk}
+use Rattle.std.specs.Prelude.{◌≡◌, ℕ, ◌+◌, ◌≤◌, ◌⊎◌, List, [], ◌∷◌, Option, Some, Result, Ok, Err, OnOk}
 use Rattle.std.specs.List.{fold}
 use Rattle.hex.specs.Hex.{IsBytes, decode_of}
 use Rattle.hex.specs.declared.error.FromHexError.{FromHexError}
@@ -24,6 +24,13 @@ after_line c l = after_decoded c (decode_of l.content)
 -- after those of all lines of a text
 abbrev pub after_lines : Configuration → List ℕ → Configuration
 after_lines c text = fold after_line c (lines text)
+
+-- Lines were taken one after the other up to one that wasn't, or to the last: the configuration is then that after the
+-- lines before it, and it stands so many entries further.
+abbrev pub StopsIn : (old new : Configuration) → (from to : ℕ) → List ScriptLine → Type 0
+StopsIn old new from to [] = (new ≡ old) × (to ≡ from)
+StopsIn old new from to (l ∷ ls) =
+    ((new ≡ old) × (to ≡ from)) ⊎ StopsIn (after_line old l) new (from + 1) to ls
 
 -- each entry of a log is spelled in bytes
 abbrev pub AreBytes : Log Bytes → Type 0

@@ -6,7 +6,7 @@ ghost use Rattle.pf_effect.specs.Effect.{empty};
 ghost use Rattle.pf_entry.specs.Reading.{reading};
 ghost use Rattle.pf_node.specs.Applied.{after_read};
 ghost use Rattle.pf_scripts.specs.Lines.{lines};
-ghost use Rattle.pf_follow.specs.Following.{after_decoded, after_lines, Follows};
+ghost use Rattle.pf_follow.specs.Following.{after_decoded, after_lines, Follows, StopsIn};
 
 use hex::FromHexError;
 use pf_config::Config;
@@ -97,6 +97,8 @@ impl Mirror {
         ensures config { OnOk result (self.new.config ≡ after_lines self.old.config text.now) }
         ensures position { OnOk result (self.new.position ≡ self.old.position + length (lines text.now)) }
         ensures still { self.new.is_moved ≡ false → self.new.config ≡ self.old.config }
+        ensures err { OnErr result (StopsIn self.old.config self.new.config self.old.position self.new.position
+            (lines text.now)) }
         ensures follows { OnOk result (Follows self.old.config self.new.config self.old.position self.new.position
             text.now) }
     {

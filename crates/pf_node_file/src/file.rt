@@ -1,7 +1,7 @@
 //! A file of settings that was read.
 
 ghost use Rattle.std.specs.Prelude.{◌≡◌, Some, None, map, option_map, option_and_then, IfOk, IfErr, IfSome, IsUtf8};
-ghost use Rattle.toml.specs.Data.{Members, as_str, as_bool, get_member};
+ghost use Rattle.toml.specs.Data.{Members, no_members, as_str, as_bool, get_member};
 ghost use Rattle.toml.specs.Errors.{IsMemory};
 ghost use Rattle.toml.specs.Parse.{parse_document};
 ghost use Rattle.toml.specs.View.{view, table_view, items_view};
@@ -70,7 +70,9 @@ fn table_fault(text: &[u8], table: &Table) -> Option<FileFault>
 
 impl NodeFile {
     /// A file without any setting.
-    pub fn empty(alloc: Global) -> NodeFile {
+    pub fn empty(alloc: Global) -> NodeFile
+        ensures { settings_of result ≡ no_members }
+    {
         NodeFile {
             table: Table::new(alloc),
         }
