@@ -33,7 +33,7 @@ fn block(alloc: Global) -> Result<Command, NodeFault> {
 }
 
 /// The command is asked of the node.
-pub(crate) fn ask<R: Records>(alloc: Global, node: &mut Node<R>) -> Result<(), NodeFault> {
+fn ask<R: Records>(alloc: Global, node: &mut Node<R>) -> Result<(), NodeFault> {
     let command = block(alloc)?;
     let asked = node.ask(&command);
     drop(command);
@@ -41,28 +41,17 @@ pub(crate) fn ask<R: Records>(alloc: Global, node: &mut Node<R>) -> Result<(), N
     Ok(())
 }
 
-/// A member of the three with its record, else the record.
-pub(crate) fn open_member<R: Records>(
-    alloc: Global,
-    me: u8,
-    records: R,
-) -> Result<Node<R>, (NodeFault, R)>
-    requires { R.members records ≡ 3 }
-{
-    let Some(m) = Membership::new(7, 3, me) else {
-        return Err((NodeFault::Failed, records));
-    };
-    if m.me() >= m.members() {
-        return Err((NodeFault::Failed, records));
-    }
-    Node::open(alloc, m, records)
-}
-
 /// A member of the three with its record.
 fn member<R: Records + Drop>(alloc: Global, me: u8, records: R) -> Result<Node<R>, NodeFault>
     requires { R.members records ≡ 3 }
 {
-    match open_member(alloc, me, records) {
+    let Some(m) = Membership::new(7, 3, me) else {
+        return Err(NodeFault::Failed);
+    };
+    if m.me() >= m.members() {
+        return Err(NodeFault::Failed);
+    }
+    match Node::open(alloc, m, records) {
         Ok(node) => Ok(node),
         Err((fault, _)) => Err(fault),
     }
@@ -80,7 +69,7 @@ fn stopped<R: Records + Drop>(alloc: Global, records: R) -> Result<R, NodeFault>
 }
 
 /// Messages are on their way.
-pub(crate) fn send(sent: &mut Vec<Datagram>, out: Vec<Datagram>) -> Result<(), NodeFault> {
+fn send(sent: &mut Vec<Datagram>, out: Vec<Datagram>) -> Result<(), NodeFault> {
     for datagram in out {
         if sent.push(datagram).is_err() {
             return Err(NodeFault::Memory);
@@ -183,7 +172,7 @@ fn first<R: Records>(node: &Node<R>) -> Option<(u8, u64)> {
 }
 
 /// Tells the node's verdict for a packet from 10.0.0.1.
-pub(crate) fn say_verdict<R: Records>(alloc: Global, node: &Node<R>, out: &mut String) -> bool {
+fn say_verdict<R: Records>(alloc: Global, node: &Node<R>, out: &mut String) -> bool {
     let Ok(packet) = parse_packet(alloc, PACKET) else {
         return false;
     };

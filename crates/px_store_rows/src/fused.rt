@@ -21,21 +21,6 @@ impl Held {
             db: Vec::new(alloc),
         }
     }
-
-    /// The files with these bytes.
-    pub(crate) fn of(log: Vec<u8>, db: Vec<u8>) -> Held {
-        Held { log, db }
-    }
-
-    /// The log's bytes.
-    pub(crate) fn log(&self) -> &[u8] {
-        self.log.as_slice()
-    }
-
-    /// The database's bytes.
-    pub(crate) fn db(&self) -> &[u8] {
-        self.db.as_slice()
-    }
 }
 
 /// Which of the two files stops, and what is lost then.
@@ -56,7 +41,7 @@ pub(crate) const NEVER: Stop = Stop {
 };
 
 /// The store in the files, else the files. The log is copied into the database when it has eight pages.
-pub(crate) fn opened<D: Disk + Drop>(
+fn opened<D: Disk + Drop>(
     alloc: Global,
     files: Files<D>,
 ) -> Result<Connection<FileStore<D>>, Files<D>> {
@@ -90,7 +75,7 @@ fn work_in<D: Disk + Drop>(
 }
 
 /// A file that holds the bytes and stops after so many calls.
-pub(crate) fn file(alloc: Global, bytes: &[u8], calls: u64) -> Option<Fuse<Memory>> {
+fn file(alloc: Global, bytes: &[u8], calls: u64) -> Option<Fuse<Memory>> {
     let mut memory = Memory::new(alloc);
     let is_held = memory.write_at(0, bytes).is_ok() && memory.sync().is_ok();
     let file = Fuse::new(memory, calls);
@@ -98,7 +83,7 @@ pub(crate) fn file(alloc: Global, bytes: &[u8], calls: u64) -> Option<Fuse<Memor
 }
 
 /// What a file holds after its stop.
-pub(crate) fn left(alloc: Global, mut file: Fuse<Memory>, loses: bool) -> Option<Vec<u8>> {
+fn left(alloc: Global, mut file: Fuse<Memory>, loses: bool) -> Option<Vec<u8>> {
     if loses {
         file.crash();
     }

@@ -13,13 +13,11 @@
 //! its change (0: none does), then steps over the record itself |
 //! | `stops BEFORE \| SQL \| RECORD \| CHANGE \| RECORD \| ..` | a run in files that stop (see [`stops`]) |
 //! | `nodes in memory` | a run of three nodes over empty stores in memory, one of which stops (see [`cluster`]) |
-//! | `stopped nodes` | runs of three nodes, of which the first one's files stop (see [`stopped`]) |
 //! | `text FILE`, `folder FILE`, `cut FILE BYTES` | writes a text, makes a folder, leaves the first bytes of the file |
 //!
 //! | Task | Does |
 //! |---|---|
 //! | `take STEP, ..` | takes the store as member 0 of cluster 7, `other` as that of cluster 8, `second` as member 1 |
-//! | `node STEP, ..` | takes the store as member 0 of cluster 7, and walks a node over it (see [`node`]) |
 //! | `sql STATEMENTS` | runs statements that answer nothing |
 //! | `count` | reads the format that its row says, and counts its tables |
 //!
@@ -30,17 +28,14 @@ mod change;
 mod cluster;
 mod files;
 mod fused;
-mod node;
 mod record;
 mod said;
 mod step;
-mod stopped;
 mod stops;
 mod store;
 
 use crate::files::{cut, folder, in_file, text, twice};
 use crate::fused::{in_memory, nodes_in_memory};
-use crate::stopped::stopped_nodes;
 use crate::stops::stops;
 use crate::store::plain;
 use std::io;
@@ -55,7 +50,6 @@ fn done(rt: &HostRuntime, line: &str, out: &mut String) -> bool {
         "twice" => twice(rt, file, tasks, out),
         "plain" => plain(rt.alloc(), file, tasks, out),
         "nodes" => nodes_in_memory(rt.alloc(), out),
-        "stopped" => stopped_nodes(rt.alloc(), out),
         "stops" => stops(rt.alloc(), file, tasks, out),
         "text" => text(rt, file, out),
         "folder" => folder(rt, file, out),

@@ -109,7 +109,7 @@ fn attempted(alloc: Global, run: Run, held: &Held, stop: Stop) -> Option<Came> {
 }
 
 /// The stop after so many calls on one of the files.
-pub(crate) fn stop_after(calls: u64, log: bool, loses: bool) -> Stop {
+fn stop_after(calls: u64, log: bool, loses: bool) -> Stop {
     let (log, db) = if log {
         (calls, u64::MAX)
     } else {

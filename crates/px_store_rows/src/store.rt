@@ -1,7 +1,6 @@
 //! Stores and what is done with them, whatever they are kept in.
 ghost use Rattle.std.specs.Prelude.{◌≡◌, IfOk, IfSome};
 
-use crate::node::walked;
 use crate::said::{say, say_number};
 use crate::step::follow;
 use px_records::{FaultyRecords, MemoryRecords, Records, When};
@@ -66,27 +65,6 @@ fn take<S: Alter + Drop>(
     }
 }
 
-/// Takes the store as member 0 of cluster 7, does the steps with a node over its record, and gives it back.
-fn take_node<S: Alter + Drop>(
-    alloc: Global,
-    conn: Connection<S>,
-    steps: &str,
-    out: &mut String,
-) -> (bool, Connection<S>) {
-    let identity = Identity {
-        cluster: 7,
-        members: 3,
-        node: 0,
-    };
-    match adopted(alloc, conn, identity) {
-        Ok(records) => {
-            let (is_told, records) = walked(alloc, records, steps, out);
-            (is_told, records.release())
-        }
-        Err((fault, conn)) => (say_refused(out, fault), conn),
-    }
-}
-
 /// The format that the store's row says.
 fn format_of<S: Alter>(conn: &mut Connection<S>) -> Option<u32> {
     let row = conn.query_row("SELECT format FROM meta", &[]).ok()?;
@@ -127,9 +105,6 @@ fn do_task<S: Alter + Drop>(
     out: &mut String,
 ) -> (bool, Connection<S>) {
     let (word, rest) = task.split_once(' ').unwrap_or((task, ""));
-    if word == "node" {
-        return take_node(alloc, conn, rest, out);
-    }
     match identity_of(word) {
         Some(identity) => take(alloc, conn, identity, rest, out),
         None => {
