@@ -68,8 +68,8 @@ pub enum Beat {
 /// has to propose, which takes the lead from who has it: it does so soon where it lacks few, and with pauses where it
 /// lacks many and others go on meanwhile.
 ///
-/// Round trips are learned from attempts that led to something and weren't begun anew meanwhile. The clock decides when a tick comes, never what it
-/// does: whatever is answered here, a node makes turns and nothing else.
+/// Round trips are learned from attempts that led to something and weren't begun anew meanwhile. The clock decides when
+/// a tick comes, never what it does: whatever is answered here, a node makes turns and nothing else.
 #[derive(Clone, Copy, Debug)]
 pub struct Pace {
     me: u8,
@@ -217,8 +217,8 @@ impl Pace {
         }
     }
 
-    /// An attempt led to something. If it was begun anew meanwhile nobody knows which of them did, and so not how long a
-    /// round trip is: then the patience stays as long as it has become.
+    /// An attempt led to something. If it was begun anew meanwhile nobody knows which of them did, and so not how long
+    /// a round trip is: then the patience stays as long as it has become.
     fn succeed(&mut self, now: u64) {
         if self.is_first {
             self.measure(now);

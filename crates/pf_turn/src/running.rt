@@ -122,8 +122,9 @@ fn repeat_if<W: Wire>(wire: &mut W, is_due: bool, front: u32)
 /// What has come is taken, 64 datagrams at most; then the clock ticks where the pace says so. These are turns of the
 /// node and nothing else. Answers how long may be waited before the next round.
 ///
-/// While the node lacks entries that others have, the wire is asked to keep back what is asked from outside; it is told
-/// which of the member's own requests were learned, and asked to send again what was sent and may be lost.
+/// At its start, and while the node lacks entries that others have, the wire is asked to keep back what is asked from
+/// outside, from the first datagram on; it is told which of the member's own requests were learned, and asked to send
+/// again what was sent and may be lost.
 ///
 /// `now` is the time in microseconds since the node started, which never goes back. The faults are those of
 /// [`Node::receive`] and [`Node::tick`]; after one nothing is to be sent.
@@ -139,6 +140,7 @@ pub fn round<R: Records, W: Wire>(
     ensures grows { applied_of node.old ≤ applied_of node.new }
 {
     let was = node.front();
+    wire.defer_asks(pace.is_listening(now));
     let taken = match drain(node, wire, room, MOST) {
         Ok(taken) => taken,
         Err(fault) => return Err(fault),
