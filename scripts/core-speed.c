@@ -1,4 +1,4 @@
-/* The events of crates/pf_speed through a member written plainly in C: what core-speed compares with.
+/* The events of crates/speed_calls through a member written plainly in C: what core-speed compares with.
    Words: how many entries are learned before, how many events come. */
 #include <stdint.h>
 #include <stdio.h>

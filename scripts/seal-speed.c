@@ -1,4 +1,4 @@
-/* The tags of many datagrams by OpenSSL: what crates/pf_speed does for its word `tag`, with the words behind it. */
+/* The tags of many datagrams by OpenSSL: what crates/speed_calls does for its word `tag`, with the words behind it. */
 #include <openssl/evp.h>
 #include <openssl/hmac.h>
 #include <stdio.h>

@@ -1,4 +1,4 @@
-// The look-ups of crates/pf_speed, with one hash table for each length. The same words behind `table`, the same answer.
+// The look-ups of crates/speed_calls, with one hash table for each length. The same words behind `table`, the same answer.
 #include <stdio.h>
 #include <stdlib.h>
 #include <string.h>

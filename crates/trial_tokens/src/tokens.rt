@@ -1,6 +1,6 @@
 //! Tokens, statements, macros and lists.
 
-ghost use Rattle.pf_token_trials.specs.Answers.{negated_at, negated_shorter};
+ghost use Rattle.trial_tokens.specs.Answers.{negated_at, negated_shorter};
 
 use crate::told::expect;
 use pf_tokens::{
