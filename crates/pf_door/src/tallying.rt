@@ -255,6 +255,10 @@ impl<W: Wire> Wire for TallyWire<W> {
         self.inner.repeat(front);
     }
 
+    fn repeat_to(&mut self, to: u8, front: u32) {
+        self.inner.repeat_to(to, front);
+    }
+
     fn failures(&self) -> u64 {
         self.inner.failures()
     }

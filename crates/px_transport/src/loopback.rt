@@ -213,6 +213,17 @@ impl<W: Wire> Wire for LoopbackWire<W> {
         self.below.repeat(front);
     }
 
+    fn repeat_to(&mut self, to: u8, front: u32)
+        ensures kept { (kept_of self.new ≡ kept_of self.old) × (me_of self.new ≡ me_of self.old) }
+        ensures given { given_past (W.given (below_of self.new)) self.new ≡
+            given_past (W.given (below_of self.old)) self.old }
+        ensures quiet { handed_past (W.handed (below_of self.new)) self.new ≡
+            handed_past (W.handed (below_of self.old)) self.old }
+        ensures counts { W.failed (below_of self.old) ≤ W.failed (below_of self.new) }
+    {
+        self.below.repeat_to(to, front);
+    }
+
     fn failures(&self) -> u64 {
         self.below.failures()
     }

@@ -66,6 +66,14 @@ pub trait Wire {
         ensures counts { failed self.old ≤ failed self.new }
     {}
 
+    /// What was sent to this member of the positions from this one on is sent to it again, since it may lack them, where
+    /// the wire keeps it: a datagram may come twice.
+    fn repeat_to(&mut self, _to: u8, _front: u32)
+        ensures given { given self.new ≡ given self.old }
+        ensures quiet { handed self.new ≡ handed self.old }
+        ensures counts { failed self.old ≤ failed self.new }
+    {}
+
     /// How many sends were answered `false`, and how many faults the receives and waits met, up to 2^64 - 1.
     fn failures(&self) -> u64
         ensures { result ≡ failed self.now };
