@@ -29,8 +29,14 @@ const LONGEST: u64 = 4_000_000;
 /// How many entries a node may lack that are filled by the votes that it keeps, once it has the first.
 const NEAR: u32 = 48;
 
+/// After how many entries more a node that lacks some asks on.
+const STEP: u32 = 16;
+
 /// The most times that what was sent is sent again while nothing moves the front.
 const REPEATS: u32 = 64;
+
+/// After how many of them the pause grows.
+const SLOWER: u32 = 16;
 
 /// The longest wait, in milliseconds.
 const LONGEST_WAIT: u64 = 100;
@@ -42,6 +48,8 @@ pub struct View {
     pub waiting: usize,
     /// Whether an attempt is under way.
     pub is_attempting: bool,
+    /// Whether a majority has promised: then what an attempt waits for is votes.
+    pub is_leading: bool,
     /// The least position not learned.
     pub front: u32,
     /// Whether an entry that was asked for has come since the last look.
@@ -68,8 +76,9 @@ pub enum Beat {
 /// has to propose, which takes the lead from who has it: it does so soon where it lacks few, and with pauses where it
 /// lacks many and others go on meanwhile.
 ///
-/// Round trips are learned from attempts that led to something and weren't begun anew meanwhile. The clock decides when a tick comes, never what it
-/// does: whatever is answered here, a node makes turns and nothing else.
+/// Two times are learned. How long an attempt takes, from those that led to something and weren't begun anew meanwhile;
+/// and how long an answer takes, from what was sent once and answered, to be sent again after that. The clock decides
+/// when a tick comes, never what it does: whatever is answered here, a node makes turns and nothing else.
 #[derive(Clone, Copy, Debug)]
 pub struct Pace {
     me: u8,
@@ -84,18 +93,24 @@ pub struct Pace {
     /// How far others have come, and when that was seen first.
     reached: u32,
     reached_at: u64,
-    /// A round trip, in microseconds.
+    /// How long an attempt takes, in microseconds.
     trip: u64,
+    /// How long an answer takes where nothing is lost, in microseconds.
+    answer: u64,
     /// How many attempts in a row came to nothing.
     losses: u32,
     /// When what isn't answered was sent last, and how many times again; 64 where nothing is to be sent again.
     repeated: u64,
     repeats: u32,
     front: u32,
+    /// The front when the clock ticked last.
+    asked: u32,
     is_proposing: bool,
+    is_leading: bool,
     /// Whether the attempt is the first since the last one ended, so that it is known when what comes of it was asked.
     is_first: bool,
     is_behind: bool,
+    is_ending: bool,
 }
 
 impl Pace {
@@ -110,13 +125,17 @@ impl Pace {
             reached: 0,
             reached_at: 0,
             trip: FIRST_TRIP,
+            answer: FIRST_TRIP,
             losses: 0,
             repeated: 0,
             repeats: REPEATS,
             front: 0,
+            asked: 0,
             is_proposing: false,
+            is_leading: false,
             is_first: false,
             is_behind: false,
+            is_ending: false,
         }
     }
 
@@ -141,14 +160,15 @@ impl Pace {
     }
 
     /// Whether the accept requests and votes that were sent of the front's position are sent again now, since they may
-    /// be lost: two round trips and 5 ms after they were sent, and then again and again, in pauses that grow, 64 times
-    /// at most. It is asked after [`Pace::beat`], at the same time.
+    /// be lost: one and a half times as long after they were sent as an answer takes, and 5 ms more, and then again and
+    /// again, in pauses that grow, 64 times at most. It is asked after [`Pace::beat`], at the same time.
     pub fn repeats(&mut self, now: u64) -> bool {
         if now < self.next_repeat() {
             return false;
         }
         self.repeated = now;
         self.repeats = self.repeats.saturating_add(1);
+        self.answer = (self.answer + self.answer / 1_024).min(TRIPS.1);
         true
     }
 
@@ -157,8 +177,8 @@ impl Pace {
         if self.repeats >= REPEATS {
             return u64::MAX;
         }
-        let pause = self.trip.saturating_mul(2).saturating_add(5_000);
-        let times = u64::from(self.repeats / 8 + 1);
+        let pause = (self.answer + self.answer / 2).saturating_add(5_000);
+        let times = u64::from(self.repeats / SLOWER + 1);
         self.repeated.saturating_add(pause.saturating_mul(times))
     }
 
@@ -167,10 +187,16 @@ impl Pace {
         self.repeats = REPEATS;
     }
 
-    /// Whether the node listens, and takes no command in: at its start, and while it lacks entries that others have and
-    /// is being told them.
+    /// From now on the node takes no command in.
+    pub fn end(&mut self) {
+        self.is_ending = true;
+    }
+
+    /// Whether the node listens, and takes no command in: at its start, while it lacks entries that others have and is
+    /// being told them, and when it ends.
     pub fn is_listening(&self, now: u64) -> bool {
-        now < START || (self.is_behind && now < self.moved.saturating_add(BEHIND))
+        let is_told = self.is_behind && now < self.moved.saturating_add(BEHIND);
+        now < START || is_told || self.is_ending
     }
 
     /// What came of the attempt.
@@ -191,7 +217,18 @@ impl Pace {
             self.forget();
             self.lose();
             self.hold = now.saturating_add(self.pause(now));
+        } else if self.is_proposing && view.is_leading && !self.is_leading {
+            self.promised(now);
         }
+        self.is_leading = view.is_leading;
+    }
+
+    /// A majority has promised, and accept requests went out.
+    fn promised(&mut self, now: u64) {
+        if self.is_first {
+            self.time_answer(now.saturating_sub(self.ticked));
+        }
+        self.sent(now);
     }
 
     /// Whether others have come further.
@@ -217,9 +254,19 @@ impl Pace {
         }
     }
 
+    /// The time that an answer took which was asked for once: it counts half.
+    fn time_answer(&mut self, time: u64) {
+        let sample = time.max(TRIPS.0).min(TRIPS.1);
+        self.answer = self.answer / 2 + sample / 2;
+    }
+
     /// An attempt led to something. If it was begun anew meanwhile nobody knows which of them did, and so not how long a
-    /// round trip is: then the patience stays as long as it has become.
+    /// round trip is: then the patience stays as long as it has become. In the same way nobody knows how long an answer
+    /// took to what was sent again.
     fn succeed(&mut self, now: u64) {
+        if self.repeats == 0 && self.is_leading {
+            self.time_answer(now.saturating_sub(self.repeated));
+        }
         if self.is_first {
             self.measure(now);
             self.losses = 0;
@@ -238,10 +285,16 @@ impl Pace {
         self.longer(part.saturating_mul(self.trip / 4 + 1_000))
     }
 
-    /// How long an attempt may take.
+    /// How long an attempt may take: one that waits for promises is one answer, and those that are lost aren't sent
+    /// again.
     fn patience(&self) -> u64 {
         let some = 20_000 + 5_000 * u64::from(self.me);
-        self.longer(self.trip.saturating_mul(4).saturating_add(some))
+        let trip = if self.is_proposing && !self.is_leading {
+            self.answer
+        } else {
+            self.trip.max(self.answer)
+        };
+        self.longer(trip.saturating_mul(4).saturating_add(some))
     }
 
     /// A time that doubles with each loss, up to some seconds.
@@ -288,7 +341,7 @@ impl Pace {
         if !self.is_behind {
             return self.asks;
         }
-        if view.is_told {
+        if view.is_told || view.front >= self.asked.saturating_add(STEP) {
             0
         } else {
             self.asks.min(self.fills())
@@ -303,6 +356,7 @@ impl Pace {
         self.is_first = !view.is_attempting;
         self.is_proposing = view.waiting > 0;
         self.ticked = now;
+        self.asked = view.front;
         if view.waiting > 0 {
             self.sent(now);
         }

@@ -9,6 +9,7 @@ ghost use Rattle.pf_turn.specs.Turns.{Served, standing};
 use crate::pace::{Beat, Pace, View, microseconds};
 use crate::room::Room;
 use crate::serving::{drain, tick_now};
+use crate::sight::Sight;
 use pf_node::Node;
 use px_records::Records;
 use px_replica::NodeFault;
@@ -18,6 +19,9 @@ use std::time::{Clock, Instant};
 /// How many datagrams are taken before it is looked whether the clock is to tick.
 const MOST: u32 = 64;
 
+/// How many members there are at most.
+const MEMBERS: u8 = 15;
+
 /// How many rounds a node makes at most to work off what waits when it ends.
 const LAST_ROUNDS: u32 = 3_000;
 
@@ -26,6 +30,7 @@ fn view_of<R: Records>(node: &Node<R>, room: &Room, was: u32) -> View {
     View {
         waiting: node.waiting(),
         is_attempting: node.is_attempting(),
+        is_leading: node.is_leading(),
         front: node.front(),
         is_told: room.sight.is_told && node.front() != was,
         reached: room.sight.reached,
@@ -119,11 +124,24 @@ fn repeat_if<W: Wire>(wire: &mut W, is_due: bool, front: u32)
     }
 }
 
+/// Members that told that they lack entries below the front are sent again what was sent to them of those.
+fn remind<W: Wire>(wire: &mut W, sight: &Sight, front: u32)
+    ensures given { W.given wire.new ≡ W.given wire.old }
+    ensures quiet { W.handed wire.new ≡ W.handed wire.old }
+{
+    for member in 0..MEMBERS {
+        if let Some(position) = sight.lacks(member, front) {
+            wire.repeat_to(member, position);
+        }
+    }
+}
+
 /// What has come is taken, 64 datagrams at most; then the clock ticks where the pace says so. These are turns of the
 /// node and nothing else. Answers how long may be waited before the next round.
 ///
-/// While the node lacks entries that others have, the wire is asked to keep back what is asked from outside; it is told
-/// which of the member's own requests were learned, and asked to send again what was sent and may be lost.
+/// At its start, while the node lacks entries that others have, and when it ends, the wire is asked to keep back what is
+/// asked from outside; it is told which of the member's own requests were learned, and asked to send again what was sent
+/// and may be lost, or is lacked by a member that told so.
 ///
 /// `now` is the time in microseconds since the node started, which never goes back. The faults are those of
 /// [`Node::receive`] and [`Node::tick`]; after one nothing is to be sent.
@@ -139,11 +157,13 @@ pub fn round<R: Records, W: Wire>(
     ensures grows { applied_of node.old ≤ applied_of node.new }
 {
     let was = node.front();
+    wire.defer_asks(pace.is_listening(now));
     let taken = match drain(node, wire, room, MOST) {
         Ok(taken) => taken,
         Err(fault) => return Err(fault),
     };
     release(node, wire, was);
+    remind(wire, &room.sight, node.front());
     let view = view_of(node, room, was);
     let beat = beat(pace, room, now, view);
     repeat_if(wire, pace.repeats(now), node.front());
@@ -198,12 +218,12 @@ pub fn finish<R: Records, W: Wire, C: Clock>(
         (fault_of result) }
     ensures grows { applied_of node.old ≤ applied_of node.new }
 {
+    pace.end();
     let mut left = LAST_ROUNDS;
     for _round in 0..LAST_ROUNDS {
         if left == 0 || node.waiting() == 0 {
             return Ok(());
         }
-        wire.defer_asks(true);
         match round(node, wire, room, pace, microseconds(clock, start)) {
             Ok(made) => {
                 wire.wait(made.wait);

@@ -1,5 +1,8 @@
 //! What datagrams tell of how far other members have come.
 
+/// Where a datagram has its sender's number.
+const FROM_PLACE: usize = 10;
+
 /// Where a datagram has its kind.
 const KIND_PLACE: usize = 12;
 
@@ -19,6 +22,9 @@ pub(crate) struct Sight {
     pub(crate) is_told: bool,
     /// Whether an accept request has come since the last look.
     pub(crate) is_accepting: bool,
+    /// For each member that has told since the last look how far it is: one more than the position from which on it is
+    /// to be told what it lacks; 0 for the others.
+    lacking: [u32; 15],
 }
 
 /// The four bytes at a place as a number, the highest first; 0 where they aren't all there.
@@ -36,6 +42,7 @@ impl Sight {
             reached: 0,
             is_told: false,
             is_accepting: false,
+            lacking: [0; 15],
         }
     }
 
@@ -43,9 +50,30 @@ impl Sight {
     pub(crate) fn looked(self) -> Sight {
         Sight {
             reached: self.reached,
-            is_told: false,
-            is_accepting: false,
+            ..Sight::new()
         }
+    }
+
+    /// The position from which on this member is to be told what it lacks, if it lacks any of those below the front.
+    pub(crate) fn lacks(&self, member: u8, front: u32) -> Option<u32> {
+        match self.lacking.get(usize::from(member)) {
+            Some(&next) => {
+                if next > 0 && next <= front {
+                    Some(next - 1)
+                } else {
+                    None
+                }
+            }
+            None => None,
+        }
+    }
+
+    /// This member lacks the positions from this one on.
+    fn lacking(mut self, member: u8, position: u32) -> Sight {
+        if let Some(next) = self.lacking.get_mut(usize::from(member)) {
+            *next = position.saturating_add(1);
+        }
+        self
     }
 
     /// A member has learned all below this position.
@@ -56,20 +84,39 @@ impl Sight {
         }
     }
 
-    /// With what a datagram tells: who proposes or votes at a position, or lacks it, has learned all below; who tells
-    /// an entry has learned it too.
-    fn with(self, datagram: &[u8]) -> Sight {
-        match datagram.get(KIND_PLACE) {
-            Some(1 | 4 | 11) => self.reaching(number_at(datagram, FAR_PLACE)),
-            Some(3) => Sight {
+    /// With what a datagram of this member tells: who proposes or votes at a position, or lacks it, has learned all
+    /// below; who tells an entry has learned it too. A need is answered with its own entry.
+    fn with(self, member: u8, kind: u8, datagram: &[u8]) -> Sight {
+        let (near, far) = (
+            number_at(datagram, NEAR_PLACE),
+            number_at(datagram, FAR_PLACE),
+        );
+        match kind {
+            1 | 11 => self.reaching(far).lacking(member, far),
+            3 => Sight {
                 is_accepting: true,
-                ..self.reaching(number_at(datagram, FAR_PLACE))
+                ..self.reaching(far)
             },
-            Some(6) => self.reaching(number_at(datagram, NEAR_PLACE)),
-            Some(7) => Sight {
+            4 => self.reaching(far),
+            6 => self.reaching(near).lacking(member, near.saturating_add(1)),
+            7 => Sight {
                 is_told: true,
-                ..self.reaching(number_at(datagram, NEAR_PLACE).saturating_add(1))
+                ..self.reaching(near.saturating_add(1))
             },
+            _ => self,
+        }
+    }
+
+    /// With what a datagram tells, if a member sent it.
+    fn seeing(self, datagram: &[u8]) -> Sight {
+        match (datagram.get(FROM_PLACE), datagram.get(KIND_PLACE)) {
+            (Some(&member), Some(&kind)) => {
+                if member < 15 {
+                    self.with(member, kind, datagram)
+                } else {
+                    self
+                }
+            }
             _ => self,
         }
     }
@@ -78,7 +125,7 @@ impl Sight {
     pub(crate) fn after(self, room: &Vec<u8>, len: Option<usize>) -> Sight {
         match len {
             Some(len) => match room.get(..len) {
-                Some(datagram) => self.with(datagram),
+                Some(datagram) => self.seeing(datagram),
                 None => self,
             },
             None => self,

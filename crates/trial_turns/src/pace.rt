@@ -6,6 +6,7 @@ use pf_turn::{Beat, Pace, View};
 const IDLE: View = View {
     waiting: 0,
     is_attempting: false,
+    is_leading: false,
     front: 0,
     is_told: false,
     reached: 0,
@@ -15,6 +16,7 @@ const IDLE: View = View {
 const ATTEMPTING: View = View {
     waiting: 1,
     is_attempting: true,
+    is_leading: false,
     front: 0,
     is_told: false,
     reached: 0,
@@ -24,6 +26,7 @@ const ATTEMPTING: View = View {
 const WAITING: View = View {
     waiting: 1,
     is_attempting: false,
+    is_leading: false,
     front: 0,
     is_told: false,
     reached: 0,
@@ -33,6 +36,7 @@ const WAITING: View = View {
 const TOLD: View = View {
     waiting: 0,
     is_attempting: false,
+    is_leading: false,
     front: 7,
     is_told: true,
     reached: 9,
@@ -42,6 +46,7 @@ const TOLD: View = View {
 const BEHIND: View = View {
     waiting: 1,
     is_attempting: false,
+    is_leading: false,
     front: 3,
     is_told: false,
     reached: 9,
@@ -118,7 +123,7 @@ fn it_is_begun_anew_after_four_seconds_at_the_latest(rt: HostRuntime) {
 fn who_lost_the_lead_keeps_still(rt: HostRuntime) {
     let mut pace = Pace::new(1);
     assert!(rt; pace.beat(0, WAITING) == Beat::Tick);
-    assert!(rt; pace.beat(1_000, ATTEMPTING) == Beat::Wait(45));
+    assert!(rt; pace.beat(1_000, ATTEMPTING) == Beat::Wait(35));
     // the attempt is gone, and nothing was learned: a part of the clock's 0 and the number's 2, and 1, of 6 ms, twice
     assert!(rt; pace.beat(2_000, WAITING) == Beat::Wait(37));
 }
@@ -173,14 +178,125 @@ fn what_may_be_lost_is_sent_again(rt: HostRuntime) {
     let mut pace = Pace::new(0);
     assert!(rt; !pace.repeats(1_000_000));
     assert!(rt; pace.beat(2_000_000, WAITING) == Beat::Tick);
-    // two trips of 20 ms, and 5 ms more
-    assert!(rt; !pace.repeats(2_044_999));
-    assert!(rt; pace.repeats(2_045_000));
-    assert!(rt; !pace.repeats(2_089_999));
-    assert!(rt; pace.repeats(2_090_000));
+    // one and a half times 20 ms, and 5 ms more
+    assert!(rt; !pace.repeats(2_034_999));
+    assert!(rt; pace.repeats(2_035_000));
+    // an answer is taken to take 19 us longer now, a 1,024th
+    assert!(rt; !pace.repeats(2_070_027));
+    assert!(rt; pace.repeats(2_070_028));
     // the position is learned
-    assert!(rt; pace.beat(2_095_000, TOLD) == Beat::Tick);
+    assert!(rt; pace.beat(2_075_000, TOLD) == Beat::Tick);
     assert!(rt; !pace.repeats(9_000_000));
+}
+
+#[test]
+fn how_long_an_answer_takes_is_learned_from_promises(rt: HostRuntime) {
+    let mut pace = Pace::new(0);
+    let accepting = View {
+        is_leading: true,
+        ..ATTEMPTING
+    };
+    assert!(rt; pace.beat(0, WAITING) == Beat::Tick);
+    // promised after 4 ms: 12 ms is half of 20 and of 4, so it is sent again 18 and 5 ms later
+    assert!(rt; pace.beat(4_000, accepting) == Beat::Wait(24));
+    assert!(rt; !pace.repeats(26_999));
+    assert!(rt; pace.repeats(27_000));
+}
+
+#[test]
+fn how_long_an_answer_takes_is_learned_from_votes(rt: HostRuntime) {
+    let mut pace = Pace::new(0);
+    let accepting = View {
+        is_leading: true,
+        ..ATTEMPTING
+    };
+    let learned = View {
+        front: 1,
+        is_leading: true,
+        ..WAITING
+    };
+    assert!(rt; pace.beat(0, WAITING) == Beat::Tick);
+    assert!(rt; pace.beat(4_000, accepting) == Beat::Wait(24));
+    // learned 2 ms after the accept requests went out: 7 ms is half of 12 and of 2
+    assert!(rt; pace.beat(6_000, learned) == Beat::Tick);
+    assert!(rt; !pace.repeats(21_499));
+    assert!(rt; pace.repeats(21_500));
+}
+
+#[test]
+fn what_was_sent_again_tells_no_answers_time(rt: HostRuntime) {
+    let mut pace = Pace::new(0);
+    let accepting = View {
+        is_leading: true,
+        ..ATTEMPTING
+    };
+    let learned = View {
+        front: 1,
+        is_leading: true,
+        ..WAITING
+    };
+    assert!(rt; pace.beat(0, WAITING) == Beat::Tick);
+    assert!(rt; pace.beat(4_000, accepting) == Beat::Wait(24));
+    assert!(rt; pace.repeats(27_000));
+    // 12 ms and a 1,024th, 12.011, as before; so 18.016 and 5 ms later
+    assert!(rt; pace.beat(28_000, learned) == Beat::Tick);
+    assert!(rt; !pace.repeats(51_015));
+    assert!(rt; pace.repeats(51_016));
+}
+
+#[test]
+fn promises_that_are_lost_are_asked_for_soon(rt: HostRuntime) {
+    let mut pace = Pace::new(0);
+    let accepting = View {
+        is_leading: true,
+        ..ATTEMPTING
+    };
+    let learned = View {
+        front: 1,
+        is_leading: true,
+        ..WAITING
+    };
+    let preparing = View {
+        front: 1,
+        ..ATTEMPTING
+    };
+    assert!(rt; pace.beat(0, WAITING) == Beat::Tick);
+    assert!(rt; pace.beat(4_000, accepting) == Beat::Wait(24));
+    // the attempt took 44 ms, an answer 40 of them: 32 and 26
+    assert!(rt; pace.beat(44_000, learned) == Beat::Tick);
+    // the lead is lost: four answers and 20 ms
+    assert!(rt; pace.beat(44_100, preparing) == Beat::Wait(44));
+    assert!(rt; pace.beat(167_999, preparing) == Beat::Wait(1));
+    assert!(rt; pace.beat(168_000, preparing) == Beat::Tick);
+}
+
+#[test]
+fn who_lacks_entries_asks_on_after_16(rt: HostRuntime) {
+    let mut pace = Pace::new(0);
+    let lacking = View {
+        front: 3,
+        reached: 99,
+        ..IDLE
+    };
+    let some = View {
+        front: 18,
+        ..lacking
+    };
+    let more = View {
+        front: 19,
+        ..lacking
+    };
+    assert!(rt; pace.beat(0, lacking) == Beat::Tick);
+    assert!(rt; pace.beat(1_000, some) == Beat::Wait(22));
+    assert!(rt; pace.beat(2_000, more) == Beat::Tick);
+}
+
+#[test]
+fn no_command_is_taken_in_at_the_end(rt: HostRuntime) {
+    let mut pace = Pace::new(0);
+    assert!(rt; !pace.is_listening(200_000));
+    pace.end();
+    assert!(rt; pace.is_listening(200_000));
 }
 
 #[test]

@@ -3,10 +3,22 @@ use Rattle.std.proofs.Common.{◌∙◌, refl}
 use Rattle.pf_turn.proofs.Chains.{served_none, served_then}
 use Rattle.pf_turn.proofs.running.round.Goals as goal
 
+pub returns-in-Err-clause-served : goal.returns-in-Err-clause-served
+returns-in-Err-clause-served g c =
+    served_then _ _ _ _ (served_none _ _ (record {
+      replica = refl;
+      given = c.defer_asks.ensures.given;
+      handed = c.defer_asks.ensures.quiet;
+    })) c.in-Err.ensures.served
+
 pub returns-clause-served : goal.returns-clause-served
 returns-clause-served g c =
-    served_then _ _ _ _ c.in-Ok.ensures.served (served_then _ _ _ _ (served_none _ _ (record {
+    served_then _ _ _ _ (served_none _ _ (record {
       replica = refl;
-      given = c.defer_asks.ensures.given ∙ (c.repeat_if.ensures.given ∙ c.release.ensures.given);
-      handed = c.defer_asks.ensures.quiet ∙ (c.repeat_if.ensures.quiet ∙ c.release.ensures.quiet);
-    })) c.tick_if.ensures.served)
+      given = c.defer_asks.ensures.given;
+      handed = c.defer_asks.ensures.quiet;
+    })) (served_then _ _ _ _ c.in-Ok.ensures.served (served_then _ _ _ _ (served_none _ _ (record {
+      replica = refl;
+      given = c.defer_asks-2.ensures.given ∙ (c.repeat_if.ensures.given ∙ (c.remind.ensures.given ∙ c.release.ensures.given));
+      handed = c.defer_asks-2.ensures.quiet ∙ (c.repeat_if.ensures.quiet ∙ (c.remind.ensures.quiet ∙ c.release.ensures.quiet));
+    })) c.tick_if.ensures.served))
