@@ -11,9 +11,9 @@ const MOST_KEPT: usize = 30;
 /// How many members there are at most.
 const MEMBERS: usize = 15;
 
-/// How many bytes a millisecond go to a member again in datagrams longer than a packet. The system cuts these, and of one
-/// of which a piece is lost the other pieces take the receiver's room for pieces, 4 MiB on Linux, for 30 s: at 139 bytes
-/// a millisecond that would be full.
+/// How many bytes a millisecond go to a member again in datagrams longer than a packet. The system cuts these, and of
+/// one of which a piece is lost the other pieces take the receiver's room for pieces, 4 MiB on Linux, for 30 s: at
+/// 139 bytes a millisecond that would be full.
 const LARGE_RATE: u64 = 131;
 
 /// The accept requests and votes of one ballot at one position that were sent last, with for whom; and the accept
@@ -26,7 +26,7 @@ pub(crate) struct Repeats {
     kept: Vec<(u8, Vec<u8>)>,
     /// The accept request that was given last; empty where there is none, or memory was wanting.
     accept: Vec<u8>,
-    /// Before when nothing longer than a packet goes to each member again, in microseconds.
+    /// For each member, before when nothing longer than a packet goes to it again, in microseconds.
     large: [u64; MEMBERS],
 }
 
@@ -49,8 +49,8 @@ impl Repeats {
         Ok(())
     }
 
-    /// Keeps a datagram that was sent, if it is an accept request or a vote; what is of another ballot or position is let
-    /// go. Where memory is wanting it isn't kept.
+    /// Keeps a datagram that was sent, if it is an accept request or a vote; what is of another ballot or position is
+    /// let go. Where memory is wanting it isn't kept.
     pub(crate) fn keep(&mut self, to: u8, bytes: &[u8]) {
         let Some((ballot, position)) = place_of(bytes) else {
             return;
@@ -121,8 +121,8 @@ impl Repeats {
         }
     }
 
-    /// A datagram was sent to this member: if it is one that is kept, and longer than a packet, the next such goes again
-    /// when this has had its time.
+    /// A datagram of so many bytes, more than a packet's, was sent to this member at this time: the next such goes to
+    /// it again when this one's bytes have had their time.
     pub(crate) fn sent_large(&mut self, to: u8, length: usize, now: u64) {
         let time = (length as u64).saturating_mul(1_000) / LARGE_RATE;
         if let Some(due) = self.large.get_mut(usize::from(to)) {

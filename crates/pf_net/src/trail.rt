@@ -71,8 +71,8 @@ impl Told {
         }
     }
 
-    /// The position from which on votes are sent to the member, if it lacks this one and what comes after: none where it
-    /// doesn't come on, and it isn't time yet to send all again.
+    /// The position from which on votes are sent to the member, if it lacks this one and what comes after: none where
+    /// it doesn't come on, and it isn't time yet to send all again.
     fn start(self, from: u32, now: u64) -> Option<u32> {
         if from > self.from && self.steps(from) < STEPS {
             return Some(from.max(self.end));
@@ -186,8 +186,9 @@ impl Trail {
         Ok(())
     }
 
-    /// Keeps a datagram that was sent to a member, if it is a vote that fits into a packet and isn't of a lower position
-    /// than the last; of its position what is of another ballot is let go. Where memory is wanting it isn't kept.
+    /// Keeps a datagram that was sent to a member, if it is a vote that fits into a packet and isn't of a lower
+    /// position than the last; of its position what is of another ballot is let go. Where memory is wanting it isn't
+    /// kept.
     pub(crate) fn keep(&mut self, to: u8, bytes: &[u8]) {
         if !is_vote(bytes) || bytes.len() > PACKET {
             return;

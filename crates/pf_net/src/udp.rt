@@ -65,18 +65,18 @@ impl<T: Drop> From<AllocFailed<T>> for BindFault {
 /// between two receives no more than a 64th of the wait counts, so that slow turns alone end none before 64 datagrams.
 ///
 /// A datagram that comes from elsewhere than a member's address is given as an empty one, which is nobody's, and is
-/// counted, unless its sender's number is 255, of one who asks. While asks are deferred, 64 of them are kept for later,
-/// and an empty datagram is given in place of each. With [`UdpWire::answer_learned`] an answer that a command was taken in
-/// is sent once that is learned.
+/// counted, unless its sender's number is 255, of one who asks. While asks are deferred, 64 of them are kept for
+/// later, and an empty datagram is given in place of each. With [`UdpWire::answer_learned`] an answer that a command
+/// was taken in is sent once that is learned.
 ///
 /// The accept requests and votes that were sent last are kept, those of one ballot at one position, and sent again by
-/// [`Wire::repeat`]; those longer than a packet no faster than 131 bytes a millisecond to each member, since their pieces
-/// fill its room for pieces where some are lost. The accept request that was given last, if it comes again while the vote
-/// for it is kept, is answered by that, and an empty datagram is given in its place.
+/// [`Wire::repeat`]; those longer than a packet no faster than 131 bytes a millisecond to each member, since their
+/// pieces fill its room for pieces where some are lost. The accept request that was given last, if it comes again
+/// while the vote for it is kept, is answered by that, and an empty datagram is given in its place.
 ///
-/// Of the votes that fit into a packet the last 32,768 are kept, and 8 MiB at most. [`Wire::repeat_to`] sends a member those
-/// that it lacks, at 63 positions at most and no more than its socket takes in: those that it wasn't sent again yet where
-/// it comes on, and all where it doesn't, each 20 ms at most.
+/// Of the votes that fit into a packet the last 32,768 are kept, and 8 MiB at most. [`Wire::repeat_to`] sends a
+/// member those that it lacks, at 63 positions at most and no more than its socket takes in: those that it wasn't
+/// sent again yet where it comes on, and all where it doesn't, each 20 ms at most.
 #[derive(Drop)]
 pub struct UdpWire<C> {
     socket: UdpSocket,

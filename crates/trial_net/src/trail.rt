@@ -12,17 +12,23 @@ const VOTE: [u8; 27] = [
 ];
 
 /// The same for this member, of this round's ballot, at this position.
-fn vote(to: u8, round: u8, position: u8) -> [u8; 1480] {
+fn vote(to: u8, round: u8, position: u32) -> [u8; 1480] {
     let mut bytes = [0u8; 1480];
     bytes[..27].copy_from_slice(&VOTE);
     bytes[11] = to;
     bytes[19] = round;
-    bytes[24] = position;
+    bytes[21..25].copy_from_slice(&position.to_be_bytes());
     bytes
 }
 
 /// Whether a vote of so many bytes is sent, and comes.
-fn votes<A: Wire, B: Wire>(zero: &mut A, other: &mut B, to: u8, position: u8, size: usize) -> bool {
+fn votes<A: Wire, B: Wire>(
+    zero: &mut A,
+    other: &mut B,
+    to: u8,
+    position: u32,
+    size: usize,
+) -> bool {
     let mut room = [0u8; 1480];
     let bytes = vote(to, 1, position);
     let bytes = &bytes[..size.min(1480)];
@@ -30,7 +36,7 @@ fn votes<A: Wire, B: Wire>(zero: &mut A, other: &mut B, to: u8, position: u8, si
 }
 
 /// The same of each position from one to before another.
-fn votes_at<A: Wire, B: Wire>(zero: &mut A, one: &mut B, from: u8, to: u8, size: usize) -> bool {
+fn votes_at<A: Wire, B: Wire>(zero: &mut A, one: &mut B, from: u32, to: u32, size: usize) -> bool {
     for position in from..to {
         if !votes(zero, one, 1, position, size) {
             return false;
@@ -39,20 +45,21 @@ fn votes_at<A: Wire, B: Wire>(zero: &mut A, one: &mut B, from: u8, to: u8, size:
     true
 }
 
-/// The position of the vote that has come, and its round; of another datagram 255, and of none 0.
-fn next<W: Wire>(wire: &mut W, to: u8) -> (u8, u8) {
+/// The position of the vote that has come, and its round; of another datagram round 255, and of none 0.
+fn next<W: Wire>(wire: &mut W, to: u8) -> (u32, u8) {
     let mut room = [0u8; 1480];
     let Some(n) = wire.poll(&mut room) else {
         return (0, 0);
     };
     if n < 27 || room[12] != 4 || room[11] != to {
-        return (255, 0);
+        return (0, 255);
     }
-    (room[24], room[19])
+    let position = u32::from_be_bytes([room[21], room[22], room[23], room[24]]);
+    (position, room[19])
 }
 
 /// Whether votes at the positions from one to before another have come in order, and nothing else.
-fn has<W: Wire>(wire: &mut W, from: u8, to: u8) -> bool {
+fn has<W: Wire>(wire: &mut W, from: u32, to: u32) -> bool {
     for position in from..to {
         if next(wire, 1) != (position, 1) {
             return false;
@@ -250,5 +257,45 @@ fn a_long_vote_is_not_kept_nor_one_below_the_last(rt: HostRuntime) -> Result<(),
     let mut zero = UdpWire::bind(&rt, rt.alloc(), &members, 0, 100)?;
     let mut one = UdpWire::bind(&rt, rt.alloc(), &members, 1, 100)?;
     assert!(rt; leaves_out(&mut zero, &mut one));
+    Ok(())
+}
+
+/// Whether votes of so many bytes are sent, one at each position from 1 to before another, and taken.
+fn floods<A: Wire, B: Wire>(zero: &mut A, one: &mut B, to: u32, size: usize) -> bool {
+    let mut room = [0u8; 1480];
+    for position in 1..to {
+        let bytes = vote(1, 1, position);
+        if !zero.send(1, &bytes[..size.min(1480)]) {
+            return false;
+        }
+        let _came = one.poll(&mut room);
+    }
+    true
+}
+
+/// Whether of 32,778 votes the last 32,768 are kept.
+fn keeps_the_last<A: Wire, B: Wire>(zero: &mut A, one: &mut B) -> bool {
+    let is_sent = floods(zero, one, 32_779, 27);
+    zero.repeat_to(1, 1);
+    is_sent && has(one, 11, 64)
+}
+
+/// Whether of 5,708 votes of 1,472 bytes the last 5,698 are kept, which are just less than 8 MiB.
+fn keeps_8_mib<A: Wire, B: Wire>(zero: &mut A, one: &mut B) -> bool {
+    let is_sent = floods(zero, one, 5_709, 1472);
+    zero.repeat_to(1, 1);
+    is_sent && has(one, 11, 60)
+}
+
+#[test]
+fn of_more_votes_the_oldest_go(rt: HostRuntime) -> Result<(), Fail> {
+    let members = ["127.0.0.1:39590", "127.0.0.1:39591"];
+    let mut one = UdpWire::bind(&rt, rt.alloc(), &members, 1, 100)?;
+    {
+        let mut zero = UdpWire::bind(&rt, rt.alloc(), &members, 0, 100)?;
+        assert!(rt; keeps_the_last(&mut zero, &mut one));
+    }
+    let mut zero = UdpWire::bind(&rt, rt.alloc(), &members, 0, 100)?;
+    assert!(rt; keeps_8_mib(&mut zero, &mut one));
     Ok(())
 }
