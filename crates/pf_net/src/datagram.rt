@@ -40,3 +40,8 @@ pub(crate) fn place_of(datagram: &[u8]) -> Option<(u64, u32)> {
         _ => None,
     }
 }
+
+/// Whether a datagram is an accept request or a vote, and longer than a packet.
+pub(crate) fn is_large(datagram: &[u8]) -> bool {
+    datagram.len() > PACKET && place_of(datagram).is_some()
+}

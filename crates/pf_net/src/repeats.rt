@@ -2,7 +2,7 @@
 
 ghost use Rattle.std.specs.Prelude.{◌≤◌, length, IfSome};
 
-use crate::datagram::{PACKET, is_accept, is_vote, place_of};
+use crate::datagram::{is_accept, is_vote, place_of};
 use std::alloc::{AllocError, Global};
 
 /// How many datagrams are kept at most: an accept request and a vote for each of 15 members.
@@ -129,9 +129,4 @@ impl Repeats {
             *due = now.saturating_add(time);
         }
     }
-}
-
-/// Whether a datagram is one that is kept, and longer than a packet.
-pub(crate) fn is_large(datagram: &[u8]) -> bool {
-    datagram.len() > PACKET && place_of(datagram).is_some()
 }

@@ -9,9 +9,9 @@ ghost use Rattle.pf_net.specs.Members.{peers_of, me_of, strangers_of, Drops};
 
 use crate::address::Address;
 use crate::askers::Askers;
-use crate::datagram::PACKET;
+use crate::datagram::is_large;
 use crate::host::find;
-use crate::repeats::{Repeats, is_large};
+use crate::repeats::Repeats;
 use crate::trail::Trail;
 use px_transport::Wire;
 use std::alloc::{AllocError, AllocFailed, Global};
@@ -401,18 +401,18 @@ impl<C: Clock> UdpWire<C> {
         ensures failures { self.new.failures ≡ self.old.failures }
         ensures strangers { self.new.strangers ≡ self.old.strangers }
     {
-        let (to, length, is_sent) = match self.repeats.get(i) {
-            Some((to, bytes)) => {
-                if bytes.len() > PACKET && !self.repeats.is_large_due(to, now) {
-                    return true;
-                }
-                (to, bytes.len(), self.sent_bytes(to, bytes))
-            }
-            None => return false,
+        let Some((to, bytes)) = self.repeats.get(i) else {
+            return false;
         };
-        if length > PACKET {
-            self.repeats.sent_large(to, length, now);
+        if !is_large(bytes) {
+            return self.sent_bytes(to, bytes);
         }
+        if !self.repeats.is_large_due(to, now) {
+            return true;
+        }
+        let length = bytes.len();
+        let is_sent = self.sent_bytes(to, bytes);
+        self.repeats.sent_large(to, length, now);
         is_sent
     }
 

@@ -64,7 +64,9 @@ fn answers<W: Wire>(zero: &mut W, one: &mut W) -> bool {
     let is_open = zero.send(1, &ACCEPT) && has(one, &ACCEPT) && has_none(zero);
     let is_voted = one.send(0, &VOTE) && has(zero, &VOTE);
     let is_answered = zero.send(1, &ACCEPT) && has(one, &[]) && has(zero, &VOTE);
-    is_first && is_open && is_voted && is_answered && one.failures() == 0
+    let mut room = [0u8; 64];
+    let is_received = zero.send(1, &ACCEPT) && one.recv(&mut room) == Some(0) && has(zero, &VOTE);
+    is_first && is_open && is_voted && is_answered && is_received && one.failures() == 0
 }
 
 /// Whether an accept request is given that isn't the same, or comes from elsewhere.
@@ -77,6 +79,14 @@ fn gives<W: Wire>(zero: &mut W, one: &mut W, two: &mut W) -> bool {
     is_other && is_back && is_two && zero.send(1, &ACCEPT) && has(one, &[]) && has(zero, &VOTE)
 }
 
+/// Whether an accept request is given again once the next position is voted for.
+fn goes_on<W: Wire>(zero: &mut W, one: &mut W) -> bool {
+    let mut next = VOTE;
+    next[24] = 6;
+    let is_voted = one.send(0, &next) && has(zero, &next);
+    is_voted && zero.send(1, &ACCEPT) && has(one, &ACCEPT) && has_none(zero)
+}
+
 #[test]
 fn an_accept_that_comes_again_is_answered_by_the_vote(rt: HostRuntime) -> Result<(), Fail> {
     let members = ["127.0.0.1:39563", "127.0.0.1:39564", "127.0.0.1:39565"];
@@ -85,6 +95,7 @@ fn an_accept_that_comes_again_is_answered_by_the_vote(rt: HostRuntime) -> Result
     let mut two = UdpWire::bind(&rt, rt.alloc(), &members, 2, 100)?;
     assert!(rt; answers(&mut zero, &mut one));
     assert!(rt; gives(&mut zero, &mut one, &mut two));
+    assert!(rt; goes_on(&mut zero, &mut one));
     Ok(())
 }
 
