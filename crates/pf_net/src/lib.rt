@@ -10,8 +10,10 @@ mod address;
 mod answer;
 mod askers;
 mod asking;
+mod datagram;
 mod host;
 mod repeats;
+mod trail;
 mod udp;
 
 pub use address::{Address, parse_address};

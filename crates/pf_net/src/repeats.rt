@@ -2,46 +2,32 @@
 
 ghost use Rattle.std.specs.Prelude.{◌≤◌, length, IfSome};
 
+use crate::datagram::{is_accept, is_vote, place_of};
 use std::alloc::{AllocError, Global};
 
 /// How many datagrams are kept at most: an accept request and a vote for each of 15 members.
 const MOST_KEPT: usize = 30;
 
-/// Where a datagram has its kind, and those that are kept: accept requests and votes.
-const KIND_PLACE: usize = 12;
+/// How many members there are at most.
+const MEMBERS: usize = 15;
 
-const ACCEPT: u8 = 3;
+/// How many bytes a millisecond go to a member again in datagrams longer than a packet. The system cuts these, and of
+/// one of which a piece is lost the other pieces take the receiver's room for pieces, 4 MiB on Linux, for 30 s: at
+/// 139 bytes a millisecond that would be full.
+const LARGE_RATE: u64 = 131;
 
-const VOTE: u8 = 4;
-
-/// Where such a datagram has its ballot, and behind that its position.
-const BALLOT_PLACE: usize = 13;
-
-const POSITION_PLACE: usize = 21;
-
-/// The accept requests and votes of one ballot at one position that were sent last, with for whom.
+/// The accept requests and votes of one ballot at one position that were sent last, with for whom; and the accept
+/// request that was given last.
 #[derive(Drop)]
 pub(crate) struct Repeats {
     alloc: Global,
     ballot: u64,
     position: u32,
     kept: Vec<(u8, Vec<u8>)>,
-}
-
-/// The ballot and the position of an accept request or a vote; none of another datagram.
-fn place_of(datagram: &[u8]) -> Option<(u64, u32)> {
-    match datagram.get(KIND_PLACE) {
-        Some(&(ACCEPT | VOTE)) => {}
-        _ => return None,
-    }
-    let ballot = match datagram.get(BALLOT_PLACE..BALLOT_PLACE + 8) {
-        Some([a, b, c, d, e, f, g, h]) => { u64::from_be_bytes([*a, *b, *c, *d, *e, *f, *g, *h]) }
-        _ => return None,
-    };
-    match datagram.get(POSITION_PLACE..POSITION_PLACE + 4) {
-        Some([a, b, c, d]) => Some((ballot, u32::from_be_bytes([*a, *b, *c, *d]))),
-        _ => None,
-    }
+    /// The accept request that was given last; empty where there is none, or memory was wanting.
+    accept: Vec<u8>,
+    /// For each member, before when nothing longer than a packet goes to it again, in microseconds.
+    large: [u64; MEMBERS],
 }
 
 impl Repeats {
@@ -52,6 +38,8 @@ impl Repeats {
             ballot: 0,
             position: 0,
             kept: Vec::new(alloc),
+            accept: Vec::new(alloc),
+            large: [0; MEMBERS],
         }
     }
 
@@ -61,8 +49,8 @@ impl Repeats {
         Ok(())
     }
 
-    /// Keeps a datagram that was sent, if it is an accept request or a vote; what is of another ballot or position is let
-    /// go. Where memory is wanting it isn't kept.
+    /// Keeps a datagram that was sent, if it is an accept request or a vote; what is of another ballot or position is
+    /// let go. Where memory is wanting it isn't kept.
     pub(crate) fn keep(&mut self, to: u8, bytes: &[u8]) {
         let Some((ballot, position)) = place_of(bytes) else {
             return;
@@ -96,6 +84,49 @@ impl Repeats {
         match self.kept.get(i) {
             Some((to, bytes)) => Some((*to, bytes.as_slice())),
             None => None,
+        }
+    }
+
+    /// Remembers a datagram that is given, if it is an accept request. Where memory is wanting none is remembered.
+    pub(crate) fn came(&mut self, datagram: &[u8]) {
+        if is_accept(datagram) {
+            self.accept.clear();
+            let _kept = self.accept.extend_from_slice(datagram);
+        }
+    }
+
+    /// The number of the vote that answers this accept request of a member, if it is the one that was given last, byte
+    /// for byte, and its vote is kept.
+    pub(crate) fn vote_for(&self, member: u8, accept: &[u8]) -> Option<usize> {
+        if self.accept.as_slice() != accept
+            || place_of(accept) != Some((self.ballot, self.position))
+        {
+            return None;
+        }
+        for i in 0..self.kept.len() {
+            if let Some((to, bytes)) = self.get(i) {
+                if to == member && is_vote(bytes) {
+                    return Some(i);
+                }
+            }
+        }
+        None
+    }
+
+    /// Whether a datagram longer than a packet may go to this member again, at this time in microseconds.
+    pub(crate) fn is_large_due(&self, to: u8, now: u64) -> bool {
+        match self.large.get(usize::from(to)) {
+            Some(due) => now >= *due,
+            None => false,
+        }
+    }
+
+    /// A datagram of so many bytes, more than a packet's, was sent to this member at this time: the next such goes to
+    /// it again when this one's bytes have had their time.
+    pub(crate) fn sent_large(&mut self, to: u8, length: usize, now: u64) {
+        let time = (length as u64).saturating_mul(1_000) / LARGE_RATE;
+        if let Some(due) = self.large.get_mut(usize::from(to)) {
+            *due = now.saturating_add(time);
         }
     }
 }

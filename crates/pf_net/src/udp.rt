@@ -9,8 +9,10 @@ ghost use Rattle.pf_net.specs.Members.{peers_of, me_of, strangers_of, Drops};
 
 use crate::address::Address;
 use crate::askers::Askers;
+use crate::datagram::is_large;
 use crate::host::find;
 use crate::repeats::Repeats;
+use crate::trail::Trail;
 use px_transport::Wire;
 use std::alloc::{AllocError, AllocFailed, Global};
 use std::io::ErrorKind;
@@ -63,14 +65,24 @@ impl<T: Drop> From<AllocFailed<T>> for BindFault {
 /// between two receives no more than a 64th of the wait counts, so that slow turns alone end none before 64 datagrams.
 ///
 /// A datagram that comes from elsewhere than a member's address is given as an empty one, which is nobody's, and is
-/// counted, unless its sender's number is 255, of one who asks. While asks are deferred, 64 of them are kept for later,
-/// and an empty datagram is given in place of each. With [`UdpWire::answer_learned`] an answer that a command was taken in
-/// is sent once that is learned. The accept requests and votes that were sent last are kept, those of one ballot at one
-/// position, and sent again by [`Wire::repeat`].
+/// counted, unless its sender's number is 255, of one who asks. While asks are deferred, 64 of them are kept for
+/// later, and an empty datagram is given in place of each. With [`UdpWire::answer_learned`] an answer that a command
+/// was taken in is sent once that is learned.
+///
+/// The accept requests and votes that were sent last are kept, those of one ballot at one position, and sent again by
+/// [`Wire::repeat`]; those longer than a packet no faster than 131 bytes a millisecond to each member, since their
+/// pieces fill its room for pieces where some are lost. The accept request that was given last, if it comes again
+/// while the vote for it is kept, is answered by that, and an empty datagram is given in its place.
+///
+/// Of the votes that fit into a packet the last 32,768 are kept, and 8 MiB at most. [`Wire::repeat_to`] sends a
+/// member those that it lacks, at 63 positions at most and no more than its socket takes in: those that it wasn't
+/// sent again yet where it comes on, and all where it doesn't, each 20 ms at most.
 #[derive(Drop)]
 pub struct UdpWire<C> {
     socket: UdpSocket,
     clock: C,
+    /// When a member began.
+    started: Option<Instant>,
     peers: Vec<Address>,
     me: u8,
     wait: Duration,
@@ -85,6 +97,7 @@ pub struct UdpWire<C> {
     is_blocking: bool,
     askers: Askers,
     repeats: Repeats,
+    trail: Trail,
     strangers: u64,
     failures: u64,
 }
@@ -114,6 +127,17 @@ fn own_address(peers: &[Address], me: u8) -> Option<SocketAddr> {
     match peers.first() {
         Some(address) => Some(address.any_port()),
         None => Some(SocketAddr::new(IpAddr::V4(Ipv4Addr::UNSPECIFIED), 0)),
+    }
+}
+
+/// The clock's reading, for a member.
+fn reading<C: Clock>(clock: &C, me: u8) -> Option<Instant> {
+    if me == ASKER {
+        return None;
+    }
+    match Instant::now(clock) {
+        Ok(now) => Some(now),
+        Err(_) => None,
     }
 }
 
@@ -153,9 +177,11 @@ impl<R: Net + Clock + Copy> UdpWire<R> {
         if socket.set_read_timeout(Some(wait)).is_err() {
             return Err(BindFault::NoSocket);
         }
+        let trail = Trail::new(alloc, peers.len());
         Ok(UdpWire {
             socket,
             clock: *rt,
+            started: reading(rt, me),
             peers,
             me,
             wait,
@@ -166,6 +192,7 @@ impl<R: Net + Clock + Copy> UdpWire<R> {
             is_blocking: true,
             askers: Askers::new(alloc),
             repeats: Repeats::new(alloc),
+            trail,
             strangers: 0,
             failures: 0,
         })
@@ -295,12 +322,16 @@ impl<C> UdpWire<C> {
 impl<C: Clock> UdpWire<C> {
     /// The clock's reading, for a member.
     fn now(&self) -> Option<Instant> {
-        if self.me == ASKER {
-            return None;
-        }
-        match Instant::now(&self.clock) {
-            Ok(now) => Some(now),
-            Err(_) => None,
+        reading(&self.clock, self.me)
+    }
+
+    /// The time since a member began, in microseconds; none has passed where the clock can't be read.
+    fn microseconds(&self) -> u64 {
+        match (self.started, self.now()) {
+            (Some(started), Some(now)) => {
+                u64::try_from(now.duration_since(started).as_micros()).unwrap_or(u64::MAX)
+            }
+            _ => 0,
         }
     }
 
@@ -357,15 +388,95 @@ impl<C: Clock> UdpWire<C> {
         }
     }
 
-    /// Whether what was kept with this number was sent again.
-    fn sent_again(&self, i: usize) -> bool {
-        match self.repeats.get(i) {
-            Some((to, bytes)) => match self.address(to) {
-                Some(there) => self.sent_to(bytes, there),
-                None => false,
-            },
+    /// Whether the bytes were sent to this member.
+    fn sent_bytes(&self, to: u8, bytes: &[u8]) -> bool {
+        match self.address(to) {
+            Some(there) => self.sent_to(bytes, there),
             None => false,
         }
+    }
+
+    /// Whether what was kept with this number was sent again, or is to wait since it is longer than a packet.
+    fn sent_again(&mut self, i: usize, now: u64) -> bool
+        ensures failures { self.new.failures ≡ self.old.failures }
+        ensures strangers { self.new.strangers ≡ self.old.strangers }
+    {
+        let Some((to, bytes)) = self.repeats.get(i) else {
+            return false;
+        };
+        if !is_large(bytes) {
+            return self.sent_bytes(to, bytes);
+        }
+        if !self.repeats.is_large_due(to, now) {
+            return true;
+        }
+        let length = bytes.len();
+        let is_sent = self.sent_bytes(to, bytes);
+        self.repeats.sent_large(to, length, now);
+        is_sent
+    }
+
+    /// Whether the vote with this number was sent again, if it is this member's.
+    fn told_again(&self, to: u8, i: usize) -> bool {
+        match self.trail.get(i) {
+            Some((member, bytes)) => member != to || self.sent_bytes(to, bytes),
+            None => true,
+        }
+    }
+
+    /// Keeps what was sent to a member, if that may be lost.
+    fn keep(&mut self, to: u8, bytes: &[u8])
+        ensures failures { self.new.failures ≡ self.old.failures }
+        ensures strangers { self.new.strangers ≡ self.old.strangers }
+    {
+        self.repeats.keep(to, bytes);
+        self.trail.keep(to, bytes);
+        if is_large(bytes) {
+            let now = self.microseconds();
+            self.repeats.sent_large(to, bytes.len(), now);
+        }
+    }
+
+    /// Whether the datagram is the accept request that was given last, and is the member's whose number and address it
+    /// has, and its vote is kept: then that is sent again.
+    fn answers_again(&mut self, from: SocketAddr, datagram: &[u8]) -> bool
+        ensures failures { self.old.failures ≤ self.new.failures }
+        ensures strangers { self.new.strangers ≡ self.old.strangers }
+    {
+        let Some(member) = datagram.get(FROM_PLACE) else {
+            return false;
+        };
+        if self.peers.get(usize::from(*member)) != Some(&Address::of_socket(from)) {
+            return false;
+        }
+        let Some(i) = self.repeats.vote_for(*member, datagram) else {
+            return false;
+        };
+        let is_sent = match self.repeats.get(i) {
+            Some((_, vote)) => self.sent_to(vote, from),
+            None => false,
+        };
+        if !is_sent {
+            self.count_failure();
+        }
+        true
+    }
+
+    /// What is given of a datagram that came: what is admitted of it, and nothing of an accept request that is answered
+    /// already.
+    fn take_in(&mut self, from: SocketAddr, datagram: &[u8]) -> usize
+        ensures failures { self.old.failures ≤ self.new.failures }
+        ensures fits { result ≤ length datagram.now }
+        ensures dropped { Drops (strangers_of self.old) (Some result) (strangers_of self.new) }
+    {
+        if self.answers_again(from, datagram) {
+            return 0;
+        }
+        let n = self.admit(from, datagram);
+        if n > 0 {
+            self.repeats.came(datagram);
+        }
+        n
     }
 
     /// Whether all of the bytes were sent there.
@@ -400,7 +511,7 @@ impl<C: Clock> Wire for UdpWire<C> {
             Ok((n, from)) => {
                 self.since = self.now();
                 self.pass(began, self.since, self.wait);
-                Some(self.admit(from, &into[..n]))
+                Some(self.take_in(from, &into[..n]))
             }
             Err(error) => {
                 self.met(error.kind());
@@ -424,7 +535,7 @@ impl<C: Clock> Wire for UdpWire<C> {
             return None;
         }
         match self.socket.recv_from(into) {
-            Ok((n, from)) => Some(self.admit(from, &into[..n])),
+            Ok((n, from)) => Some(self.take_in(from, &into[..n])),
             Err(error) => {
                 self.met(error.kind());
                 None
@@ -455,7 +566,7 @@ impl<C: Clock> Wire for UdpWire<C> {
             self.failures = self.failures.saturating_add(1);
         }
         if to != ASKER {
-            self.repeats.keep(to, bytes);
+            self.keep(to, bytes);
         }
         sent
     }
@@ -473,8 +584,19 @@ impl<C: Clock> Wire for UdpWire<C> {
     }
 
     fn repeat(&mut self, front: u32) {
+        let now = self.microseconds();
         for i in 0..self.repeats.count(front) {
-            if !self.sent_again(i) {
+            if !self.sent_again(i, now) {
+                self.count_failure();
+            }
+        }
+    }
+
+    fn repeat_to(&mut self, to: u8, front: u32) {
+        let now = self.microseconds();
+        let votes = self.trail.walk(to, front, now);
+        for i in votes.begin..votes.end {
+            if !self.told_again(to, i) {
                 self.count_failure();
             }
         }

@@ -5,6 +5,10 @@
 #[cfg(test)]
 mod asking;
 #[cfg(test)]
+mod bench;
+#[cfg(test)]
 mod repeats;
 #[cfg(test)]
 mod sockets;
+#[cfg(test)]
+mod trail;

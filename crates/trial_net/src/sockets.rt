@@ -1,53 +1,9 @@
+use crate::bench::Bench;
 use pf_addr::Addr;
 use pf_net::{BindFault, UdpWire, parse_address};
 use px_transport::Wire;
 use std::cell::Cell;
-use std::io;
-use std::net::{Net, SocketAddr, TcpListener, TcpStream, UdpSocket};
 use std::test::Fail;
-use std::time::{Clock, Duration};
-
-/// The system's network, and a clock of the test's own in milliseconds, which moves on with each reading. Without a
-/// step it fails.
-#[derive(Clone, Copy)]
-struct Bench<'a> {
-    rt: HostRuntime,
-    now: &'a Cell<u64>,
-    step: Option<u64>,
-}
-
-impl Clock for Bench<'_> {
-    fn monotonic(&self) -> io::Result<Duration> {
-        let Some(step) = self.step else {
-            return Err(io::Error::from(io::ErrorKind::Unsupported));
-        };
-        let now = self.now.get();
-        self.now.set(now.saturating_add(step));
-        Ok(Duration::from_millis(now))
-    }
-
-    fn since_1970(&self) -> io::Result<Duration> {
-        self.monotonic()
-    }
-}
-
-impl Net for Bench<'_> {
-    type Stream = TcpStream;
-
-    type Listener = TcpListener;
-
-    fn bind(&self, addr: SocketAddr) -> io::Result<TcpListener> {
-        Net::bind(&self.rt, addr)
-    }
-
-    fn connect(&self, addr: SocketAddr) -> io::Result<TcpStream> {
-        Net::connect(&self.rt, addr)
-    }
-
-    fn bind_udp(&self, addr: SocketAddr) -> io::Result<UdpSocket> {
-        self.rt.bind_udp(addr)
-    }
-}
 
 /// A datagram of one who asks: 255 stands where its sender's number does.
 const ASK: [u8; 11] = [0, 0, 0, 0, 0, 0, 0, 0, 0, 0, 255];

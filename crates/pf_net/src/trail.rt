@@ -1,0 +1,273 @@
+//! The votes that a member sent, for those who lack them later.
+
+use crate::datagram::{PACKET, is_vote, place_of};
+use std::alloc::{AllocError, Global};
+use std::collections::VecDeque;
+
+/// How many votes are kept at most, and how many bytes of them.
+const MOST_VOTES: usize = 32_768;
+
+const MOST_BYTES: usize = 8 * 1_024 * 1_024;
+
+/// How many members there are at most.
+const MEMBERS: usize = 15;
+
+/// How many positions a member takes votes in at, from the first that it lacks on. It is answered the one below by who
+/// learned it, so one less than the 64 of its window are sent.
+const WINDOW: u32 = 63;
+
+/// How often a member comes on by just one before it is taken to lack what it was sent.
+const STEPS: u8 = 3;
+
+/// How long nothing is sent a second time to the same member, in microseconds.
+const PAUSE: u64 = 20_000;
+
+/// How many bytes a member's socket takes in before they are read, as Linux counts them, where nobody set another size
+/// (212,992) and with some left free.
+const ROOM: usize = 196_608;
+
+/// What such a socket counts for a datagram beside twice its bytes, at most.
+const OVERHEAD: usize = 1_024;
+
+/// A vote that was sent.
+#[derive(Drop)]
+struct Sent {
+    position: u32,
+    ballot: u64,
+    to: u8,
+    bytes: Vec<u8>,
+}
+
+/// What a member was told of the votes.
+#[derive(Clone, Copy)]
+struct Told {
+    /// The first position that it lacked when it was looked at last.
+    from: u32,
+    /// How many times in a row it has come on by just one since.
+    steps: u8,
+    /// One past the last position that was sent to it.
+    end: u32,
+    /// Before when nothing is sent to it a second time, in microseconds.
+    again: u64,
+}
+
+impl Told {
+    /// Nothing. Whatever it lacks, it is taken for one that went back.
+    fn new() -> Told {
+        Told {
+            from: u32::MAX,
+            steps: 0,
+            end: 0,
+            again: 0,
+        }
+    }
+
+    /// How many times in a row the member has come on by just one, if it lacks this position now.
+    fn steps(self, from: u32) -> u8 {
+        if self.from.checked_add(1) == Some(from) {
+            self.steps.saturating_add(1)
+        } else {
+            0
+        }
+    }
+
+    /// The position from which on votes are sent to the member, if it lacks this one and what comes after: none where
+    /// it doesn't come on, and it isn't time yet to send all again.
+    fn start(self, from: u32, now: u64) -> Option<u32> {
+        if from > self.from && self.steps(from) < STEPS {
+            return Some(from.max(self.end));
+        }
+        if now < self.again { None } else { Some(from) }
+    }
+
+    /// The same after votes up to before this position were sent, if any were.
+    fn after(self, from: u32, end: Option<u32>, now: u64) -> Told {
+        let steps = self.steps(from);
+        match end {
+            Some(end) => Told {
+                from,
+                steps,
+                end,
+                again: now.saturating_add(PAUSE),
+            },
+            None => Told {
+                from,
+                steps,
+                end: self.end,
+                again: self.again,
+            },
+        }
+    }
+}
+
+/// Votes in a row, among which a member's are sent to it.
+#[derive(Clone, Copy)]
+pub(crate) struct Stretch {
+    /// The number of the first.
+    pub(crate) begin: usize,
+    /// One past the number of the last.
+    pub(crate) end: usize,
+    /// One past the last position that is the member's.
+    position: Option<u32>,
+}
+
+/// The votes that were sent last, in ascending order of position, those of one ballot at each position; and what each
+/// member was told of them again.
+#[derive(Drop)]
+pub(crate) struct Trail {
+    alloc: Global,
+    votes: VecDeque<Sent>,
+    /// How many bytes they have.
+    size: usize,
+    told: [Told; MEMBERS],
+    /// What of a member's socket is this member's to fill.
+    room: usize,
+}
+
+impl Trail {
+    /// Nothing is kept, of a group of so many members. Takes no memory.
+    pub(crate) fn new(alloc: Global, members: usize) -> Trail {
+        Trail {
+            alloc,
+            votes: VecDeque::new(alloc),
+            size: 0,
+            told: [Told::new(); MEMBERS],
+            room: ROOM / members.saturating_sub(1).max(1),
+        }
+    }
+
+    /// Lets go what is kept of this position in another ballot.
+    fn clear(&mut self, position: u32, ballot: u64) {
+        for _vote in 0..self.votes.len() {
+            match self.votes.back() {
+                Some(last) if last.position == position && last.ballot != ballot => {}
+                _ => return,
+            }
+            if let Some(last) = self.votes.pop_back() {
+                self.size = self.size.saturating_sub(last.bytes.len());
+            }
+        }
+    }
+
+    /// Whether this member's vote at the position is kept, which is that of the last.
+    fn has(&self, position: u32, to: u8) -> bool {
+        for vote in self.votes.iter().rev() {
+            if vote.position != position {
+                return false;
+            }
+            if vote.to == to {
+                return true;
+            }
+        }
+        false
+    }
+
+    /// Lets the oldest go, as long as there is too much.
+    fn trim(&mut self) {
+        for _vote in 0..self.votes.len() {
+            if self.votes.len() <= MOST_VOTES && self.size <= MOST_BYTES {
+                return;
+            }
+            if let Some(first) = self.votes.pop_front() {
+                self.size = self.size.saturating_sub(first.bytes.len());
+            }
+        }
+    }
+
+    fn push(&mut self, position: u32, ballot: u64, to: u8, bytes: &[u8]) -> Result<(), AllocError> {
+        let copy = Vec::from_slice(self.alloc, bytes)?;
+        self.votes.push_back(Sent {
+            position,
+            ballot,
+            to,
+            bytes: copy,
+        })?;
+        self.size = self.size.saturating_add(bytes.len());
+        Ok(())
+    }
+
+    /// Keeps a datagram that was sent to a member, if it is a vote that fits into a packet and isn't of a lower
+    /// position than the last; of its position what is of another ballot is let go. Where memory is wanting it isn't
+    /// kept.
+    pub(crate) fn keep(&mut self, to: u8, bytes: &[u8]) {
+        if !is_vote(bytes) || bytes.len() > PACKET {
+            return;
+        }
+        let Some((ballot, position)) = place_of(bytes) else {
+            return;
+        };
+        if let Some(last) = self.votes.back() {
+            if position < last.position {
+                return;
+            }
+        }
+        self.clear(position, ballot);
+        if !self.has(position, to) {
+            let _kept = self.push(position, ballot, to, bytes);
+            self.trim();
+        }
+    }
+
+    /// The vote with this number, and for whom it is.
+    pub(crate) fn get(&self, i: usize) -> Option<(u8, &[u8])> {
+        match self.votes.get(i) {
+            Some(vote) => Some((vote.to, vote.bytes.as_slice())),
+            None => None,
+        }
+    }
+
+    /// The number of the first vote at this position or a later one.
+    fn place(&self, position: u32) -> usize {
+        self.votes.partition_point(|vote| vote.position < position)
+    }
+
+    /// The votes from this number on, before a position, that are the member's and fit into its socket; the first fits
+    /// always.
+    fn reach(&self, to: u8, begin: usize, before: u32) -> Stretch {
+        let mut all = Stretch {
+            begin,
+            end: begin,
+            position: None,
+        };
+        let mut room = self.room;
+        for i in begin..self.votes.len() {
+            let Some(vote) = self.votes.get(i) else {
+                return all;
+            };
+            if vote.position >= before {
+                return all;
+            }
+            if vote.to == to {
+                let cost = vote.bytes.len().saturating_mul(2).saturating_add(OVERHEAD);
+                if all.position.is_some() && cost > room {
+                    return all;
+                }
+                room = room.saturating_sub(cost);
+                all.end = i + 1;
+                all.position = Some(vote.position.saturating_add(1));
+            }
+        }
+        all
+    }
+
+    /// The votes that are sent again to a member that lacks the entry of this position and those after it, at this time
+    /// in microseconds.
+    pub(crate) fn walk(&mut self, to: u8, from: u32, now: u64) -> Stretch {
+        let mut all = Stretch {
+            begin: 0,
+            end: 0,
+            position: None,
+        };
+        let told = match self.told.get(usize::from(to)) {
+            Some(told) => *told,
+            None => return all,
+        };
+        if let Some(start) = told.start(from, now) {
+            all = self.reach(to, self.place(start), from.saturating_add(WINDOW));
+        }
+        if let Some(place) = self.told.get_mut(usize::from(to)) {
+            *place = told.after(from, all.position, now);
+        }
+        all
+    }
+}

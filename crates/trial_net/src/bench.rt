@@ -1,0 +1,48 @@
+//! A clock of the tests' own.
+
+use std::cell::Cell;
+use std::io;
+use std::net::{Net, SocketAddr, TcpListener, TcpStream, UdpSocket};
+use std::time::{Clock, Duration};
+
+/// The system's network, and a clock of the test's own in milliseconds, which moves on with each reading. Without a
+/// step it fails.
+#[derive(Clone, Copy)]
+pub(crate) struct Bench<'a> {
+    pub(crate) rt: HostRuntime,
+    pub(crate) now: &'a Cell<u64>,
+    pub(crate) step: Option<u64>,
+}
+
+impl Clock for Bench<'_> {
+    fn monotonic(&self) -> io::Result<Duration> {
+        let Some(step) = self.step else {
+            return Err(io::Error::from(io::ErrorKind::Unsupported));
+        };
+        let now = self.now.get();
+        self.now.set(now.saturating_add(step));
+        Ok(Duration::from_millis(now))
+    }
+
+    fn since_1970(&self) -> io::Result<Duration> {
+        self.monotonic()
+    }
+}
+
+impl Net for Bench<'_> {
+    type Stream = TcpStream;
+
+    type Listener = TcpListener;
+
+    fn bind(&self, addr: SocketAddr) -> io::Result<TcpListener> {
+        Net::bind(&self.rt, addr)
+    }
+
+    fn connect(&self, addr: SocketAddr) -> io::Result<TcpStream> {
+        Net::connect(&self.rt, addr)
+    }
+
+    fn bind_udp(&self, addr: SocketAddr) -> io::Result<UdpSocket> {
+        self.rt.bind_udp(addr)
+    }
+}
