@@ -27,6 +27,9 @@ const ASKER: u8 = 255;
 /// Where a datagram has its sender's number.
 const FROM_PLACE: usize = 10;
 
+/// How many accept requests that came again are answered in a row before none is said to have come.
+const MOST_ANSWERED: u32 = 64;
+
 /// The part of a member's wait that the time between two receives counts as at most.
 const PART: u32 = 64;
 
@@ -71,8 +74,8 @@ impl<T: Drop> From<AllocFailed<T>> for BindFault {
 ///
 /// The accept requests and votes that were sent last are kept, those of one ballot at one position, and sent again by
 /// [`Wire::repeat`]; those longer than a packet no faster than 131 bytes a millisecond to each member, since their
-/// pieces fill its room for pieces where some are lost. The accept request that was given last, if it comes again
-/// while the vote for it is kept, is answered by that, and an empty datagram is given in its place.
+/// pieces fill its room for pieces where some are lost. The accept request that was given last, where it comes again
+/// and is polled while the vote for it is kept, is answered by that and isn't given.
 ///
 /// Of the votes that fit into a packet the last 32,768 are kept, and 8 MiB at most. [`Wire::repeat_to`] sends a
 /// member those that it lacks, at 63 positions at most and no more than its socket takes in: those that it wasn't
@@ -462,21 +465,32 @@ impl<C: Clock> UdpWire<C> {
         true
     }
 
-    /// What is given of a datagram that came: what is admitted of it, and nothing of an accept request that is answered
-    /// already.
+    /// What is given of a datagram that came: what is admitted of it.
     fn take_in(&mut self, from: SocketAddr, datagram: &[u8]) -> usize
-        ensures failures { self.old.failures ≤ self.new.failures }
+        ensures failures { self.new.failures ≡ self.old.failures }
         ensures fits { result ≤ length datagram.now }
         ensures dropped { Drops (strangers_of self.old) (Some result) (strangers_of self.new) }
     {
-        if self.answers_again(from, datagram) {
-            return 0;
-        }
         let n = self.admit(from, datagram);
         if n > 0 {
             self.repeats.came(datagram);
         }
         n
+    }
+
+    /// A datagram that has come, which is written over the front: how many bytes it has, and from where it came.
+    fn come(&mut self, into: &mut [u8]) -> Option<(usize, SocketAddr)>
+        ensures failures { self.old.failures ≤ self.new.failures }
+        ensures strangers { self.new.strangers ≡ self.old.strangers }
+        ensures fits { IfSome result (λ r. r.0 ≤ length into.new) }
+    {
+        match self.socket.recv_from(into) {
+            Ok((n, from)) => Some((n, from)),
+            Err(error) => {
+                self.met(error.kind());
+                None
+            }
+        }
     }
 
     /// Whether all of the bytes were sent there.
@@ -534,13 +548,15 @@ impl<C: Clock> Wire for UdpWire<C> {
         if !self.set_blocking(false) {
             return None;
         }
-        match self.socket.recv_from(into) {
-            Ok((n, from)) => Some(self.take_in(from, &into[..n])),
-            Err(error) => {
-                self.met(error.kind());
-                None
+        for _answered in 0..MOST_ANSWERED {
+            let Some((n, from)) = self.come(into) else {
+                return None;
+            };
+            if !self.answers_again(from, &into[..n]) {
+                return Some(self.take_in(from, &into[..n]));
             }
         }
+        None
     }
 
     fn wait(&mut self, milliseconds: u32) {

@@ -63,10 +63,17 @@ fn answers<W: Wire>(zero: &mut W, one: &mut W) -> bool {
     let is_first = zero.send(1, &ACCEPT) && has(one, &ACCEPT);
     let is_open = zero.send(1, &ACCEPT) && has(one, &ACCEPT) && has_none(zero);
     let is_voted = one.send(0, &VOTE) && has(zero, &VOTE);
-    let is_answered = zero.send(1, &ACCEPT) && has(one, &[]) && has(zero, &VOTE);
-    let mut room = [0u8; 64];
-    let is_received = zero.send(1, &ACCEPT) && one.recv(&mut room) == Some(0) && has(zero, &VOTE);
-    is_first && is_open && is_voted && is_answered && is_received && one.failures() == 0
+    let is_answered = zero.send(1, &ACCEPT) && has_none(one) && has(zero, &VOTE);
+    let mut need = ACCEPT;
+    need[12] = 6;
+    let is_passed = zero.send(1, &ACCEPT) && zero.send(1, &need) && has(one, &need);
+    is_first
+        && is_open
+        && is_voted
+        && is_answered
+        && is_passed
+        && has(zero, &VOTE)
+        && one.failures() == 0
 }
 
 /// Whether an accept request is given that isn't the same, or comes from elsewhere.
@@ -76,7 +83,7 @@ fn gives<W: Wire>(zero: &mut W, one: &mut W, two: &mut W) -> bool {
     let is_other = zero.send(1, &other) && has(one, &other) && has_none(zero);
     let is_back = zero.send(1, &ACCEPT) && has(one, &ACCEPT) && has_none(zero);
     let is_two = two.send(1, &ACCEPT) && has(one, &ACCEPT) && has_none(two);
-    is_other && is_back && is_two && zero.send(1, &ACCEPT) && has(one, &[]) && has(zero, &VOTE)
+    is_other && is_back && is_two && zero.send(1, &ACCEPT) && has_none(one) && has(zero, &VOTE)
 }
 
 /// Whether an accept request is given again once the next position is voted for.
