@@ -46,9 +46,10 @@ const VOTE: [u8; 30] = [
     1, 1,
 ];
 
-/// Whether these bytes are what has come.
+/// Whether these bytes are what comes.
 fn has<W: Wire>(wire: &mut W, wanted: &[u8]) -> bool {
     let mut room = [0u8; 64];
+    wire.wait(1000);
     wire.poll(&mut room) == Some(wanted.len()) && room.get(..wanted.len()) == Some(wanted)
 }
 
@@ -98,7 +99,7 @@ fn goes_on<W: Wire>(zero: &mut W, one: &mut W) -> bool {
 fn an_accept_that_comes_again_is_answered_by_the_vote(rt: HostRuntime) -> Result<(), Fail> {
     let members = ["127.0.0.1:39563", "127.0.0.1:39564", "127.0.0.1:39565"];
     let mut zero = UdpWire::bind(&rt, rt.alloc(), &members, 0, 100)?;
-    let mut one = UdpWire::bind(&rt, rt.alloc(), &members, 1, 100)?;
+    let mut one = UdpWire::bind(&rt, rt.alloc(), &members, 1, 1000)?;
     let mut two = UdpWire::bind(&rt, rt.alloc(), &members, 2, 100)?;
     assert!(rt; answers(&mut zero, &mut one));
     assert!(rt; gives(&mut zero, &mut one, &mut two));
@@ -106,23 +107,19 @@ fn an_accept_that_comes_again_is_answered_by_the_vote(rt: HostRuntime) -> Result
     Ok(())
 }
 
-/// How many bytes have come; 0 where nothing has.
-fn size<W: Wire>(wire: &mut W) -> usize {
+/// Whether a datagram of so many bytes comes, or with 0 none has.
+fn has_size<W: Wire>(wire: &mut W, size: usize) -> bool {
     let mut room = [0u8; 13_200];
-    wire.poll(&mut room).unwrap_or(0)
+    if size > 0 {
+        wire.wait(1000);
+    }
+    wire.poll(&mut room).unwrap_or(0) == size
 }
 
-/// How many bytes are sent again to each of two members at this time.
-fn again<A: Wire, B: Wire>(
-    zero: &mut A,
-    one: &mut B,
-    two: &mut B,
-    now: &Cell<u64>,
-    time: u64,
-) -> (usize, usize) {
-    now.set(time);
+/// Whether the short one is sent again to a member, and so many bytes of the large one to another.
+fn again<A: Wire, B: Wire>(zero: &mut A, one: &mut B, two: &mut B, size: usize) -> bool {
     zero.repeat(5);
-    (size(one), size(two))
+    has_size(two, 30) && has_size(one, size)
 }
 
 /// Whether a datagram of 13,100 bytes goes again each 100 ms, and a short one each time.
@@ -130,13 +127,17 @@ fn waits<A: Wire, B: Wire>(zero: &mut A, one: &mut B, two: &mut B, now: &Cell<u6
     let mut large = [0u8; 13_100];
     large[..30].copy_from_slice(&ACCEPT);
     now.set(1000);
-    let is_sent = zero.send(1, &large) && size(one) == 13_100;
-    let is_both = zero.send(2, &ACCEPT) && size(two) == 30;
-    let is_first = again(zero, one, two, now, 1099) == (0, 30)
-        && again(zero, one, two, now, 1100) == (13_100, 30);
-    let is_second = again(zero, one, two, now, 1199) == (0, 30)
-        && again(zero, one, two, now, 1200) == (13_100, 30);
-    is_sent && is_both && is_first && is_second && zero.failures() == 0
+    let is_large = zero.send(1, &large) && has_size(one, 13_100);
+    let is_sent = is_large && zero.send(2, &ACCEPT) && has_size(two, 30);
+    now.set(1099);
+    let is_early = again(zero, one, two, 0);
+    now.set(1100);
+    let is_first = again(zero, one, two, 13_100);
+    now.set(1199);
+    let is_second_early = again(zero, one, two, 0);
+    now.set(1200);
+    let is_second = again(zero, one, two, 13_100);
+    is_sent && is_early && is_first && is_second_early && is_second && zero.failures() == 0
 }
 
 #[test]

@@ -32,7 +32,9 @@ fn votes<A: Wire, B: Wire>(
     let mut room = [0u8; 1480];
     let bytes = vote(to, 1, position);
     let bytes = &bytes[..size.min(1480)];
-    zero.send(to, bytes) && other.poll(&mut room) == Some(bytes.len())
+    let is_sent = zero.send(to, bytes);
+    other.wait(1000);
+    is_sent && other.poll(&mut room) == Some(bytes.len())
 }
 
 /// The same of each position from one to before another.
@@ -45,9 +47,10 @@ fn votes_at<A: Wire, B: Wire>(zero: &mut A, one: &mut B, from: u32, to: u32, siz
     true
 }
 
-/// The position of the vote that has come, and its round; of another datagram round 255, and of none 0.
+/// The position of the vote that comes, and its round; of another datagram round 255, and of none 0.
 fn next<W: Wire>(wire: &mut W, to: u8) -> (u32, u8) {
     let mut room = [0u8; 1480];
+    wire.wait(1000);
     let Some(n) = wire.poll(&mut room) else {
         return (0, 0);
     };
@@ -58,14 +61,20 @@ fn next<W: Wire>(wire: &mut W, to: u8) -> (u32, u8) {
     (position, room[19])
 }
 
-/// Whether votes at the positions from one to before another have come in order, and nothing else.
+/// Whether nothing has come.
+fn has_none<W: Wire>(wire: &mut W) -> bool {
+    let mut room = [0u8; 1480];
+    wire.poll(&mut room).is_none()
+}
+
+/// Whether votes at the positions from one to before another come in order, and nothing else has.
 fn has<W: Wire>(wire: &mut W, from: u32, to: u32) -> bool {
     for position in from..to {
         if next(wire, 1) != (position, 1) {
             return false;
         }
     }
-    next(wire, 1) == (0, 0)
+    has_none(wire)
 }
 
 /// Whether of votes for two members those are sent again that the one lacks.
@@ -76,9 +85,9 @@ fn lacks<A: Wire, B: Wire>(zero: &mut A, one: &mut B, two: &mut B) -> bool {
         && votes(zero, two, 2, 6, 27)
         && votes(zero, one, 1, 7, 27);
     zero.repeat_to(1, 6);
-    let is_one = has(one, 6, 8) && next(two, 2) == (0, 0);
+    let is_one = has(one, 6, 8) && has_none(two);
     zero.repeat_to(2, 6);
-    let is_two = next(two, 2) == (6, 1) && next(two, 2) == (0, 0) && has(one, 0, 0);
+    let is_two = next(two, 2) == (6, 1) && has_none(two) && has_none(one);
     zero.repeat_to(0, 6);
     zero.repeat_to(15, 6);
     is_sent && is_one && is_two && zero.failures() == 0
@@ -158,9 +167,9 @@ fn replaces<A: Wire, B: Wire>(zero: &mut A, one: &mut B, two: &mut B) -> bool {
         && votes(zero, two, 2, 6, 27);
     let is_later = zero.send(1, &vote(1, 2, 6)[..27]) && next(one, 1) == (6, 2);
     zero.repeat_to(2, 5);
-    let is_two = next(two, 2) == (5, 1) && next(two, 2) == (0, 0);
+    let is_two = next(two, 2) == (5, 1) && has_none(two);
     zero.repeat_to(1, 5);
-    let is_one = next(one, 1) == (5, 1) && next(one, 1) == (6, 2) && has(one, 0, 0);
+    let is_one = next(one, 1) == (5, 1) && next(one, 1) == (6, 2) && has_none(one);
     is_sent && is_later && is_two && is_one
 }
 
@@ -186,11 +195,11 @@ fn stands<A: Wire, B: Wire>(zero: &mut A, one: &mut B, now: &Cell<u64>) -> bool 
     again(zero, now, 1000, 3);
     let is_first = has(one, 3, 10);
     again(zero, now, 1019, 3);
-    let is_early = has(one, 0, 0);
+    let is_early = has_none(one);
     again(zero, now, 1020, 3);
     let is_second = has(one, 3, 10);
     again(zero, now, 1039, 2);
-    let is_back_early = has(one, 0, 0);
+    let is_back_early = has_none(one);
     again(zero, now, 1040, 2);
     is_sent && is_first && is_early && is_second && is_back_early && has(one, 2, 10)
 }
@@ -218,11 +227,11 @@ fn steps<A: Wire, B: Wire>(zero: &mut A, one: &mut B, now: &Cell<u64>) -> bool {
     let is_first = has(one, 1, 10);
     again(zero, now, 100, 2);
     again(zero, now, 200, 3);
-    let is_early = has(one, 0, 0);
+    let is_early = has_none(one);
     again(zero, now, 300, 4);
     let is_third = has(one, 4, 10);
     again(zero, now, 319, 5);
-    let is_fourth_early = has(one, 0, 0);
+    let is_fourth_early = has_none(one);
     again(zero, now, 320, 6);
     is_sent && is_first && is_early && is_third && is_fourth_early && has(one, 6, 10)
 }
@@ -260,29 +269,16 @@ fn a_long_vote_is_not_kept_nor_one_below_the_last(rt: HostRuntime) -> Result<(),
     Ok(())
 }
 
-/// Whether votes of so many bytes are sent, one at each position from 1 to before another, and taken.
-fn floods<A: Wire, B: Wire>(zero: &mut A, one: &mut B, to: u32, size: usize) -> bool {
-    let mut room = [0u8; 1480];
-    for position in 1..to {
-        let bytes = vote(1, 1, position);
-        if !zero.send(1, &bytes[..size.min(1480)]) {
-            return false;
-        }
-        let _came = one.poll(&mut room);
-    }
-    true
-}
-
 /// Whether of 32,778 votes the last 32,768 are kept.
 fn keeps_the_last<A: Wire, B: Wire>(zero: &mut A, one: &mut B) -> bool {
-    let is_sent = floods(zero, one, 32_779, 27);
+    let is_sent = votes_at(zero, one, 1, 32_779, 27);
     zero.repeat_to(1, 1);
     is_sent && has(one, 11, 64)
 }
 
 /// Whether of 5,708 votes of 1,472 bytes the last 5,698 are kept, which are just less than 8 MiB.
 fn keeps_8_mib<A: Wire, B: Wire>(zero: &mut A, one: &mut B) -> bool {
-    let is_sent = floods(zero, one, 5_709, 1472);
+    let is_sent = votes_at(zero, one, 1, 5_709, 1472);
     zero.repeat_to(1, 1);
     is_sent && has(one, 11, 60)
 }
