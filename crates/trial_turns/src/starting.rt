@@ -20,7 +20,7 @@ fn waiting(
     node: &mut Node<MemoryRecords>,
     times: [u64; 3],
 ) -> Result<[usize; 3], Fail> {
-    let members = ["127.0.0.1:39571", "127.0.0.1:39572", "127.0.0.1:39573"];
+    let members = ["127.0.0.1:39611", "127.0.0.1:39612", "127.0.0.1:39613"];
     let mut wire = UdpWire::bind(rt, rt.alloc(), &members, 0, 100)?;
     let mut asker = UdpWire::bind(rt, rt.alloc(), &members[..1], 255, 100)?;
     if !asker.send(0, &ASK) {
