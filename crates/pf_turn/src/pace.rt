@@ -168,7 +168,7 @@ impl Pace {
         }
         self.repeated = now;
         self.repeats = self.repeats.saturating_add(1);
-        self.answer = (self.answer + self.answer / 1_024).min(TRIPS.1);
+        self.answer = self.answer.saturating_add(self.answer / 1_024).min(TRIPS.1);
         true
     }
 
@@ -177,7 +177,10 @@ impl Pace {
         if self.repeats >= REPEATS {
             return u64::MAX;
         }
-        let pause = (self.answer + self.answer / 2).saturating_add(5_000);
+        let pause = self
+            .answer
+            .saturating_add(self.answer / 2)
+            .saturating_add(5_000);
         let times = u64::from(self.repeats / SLOWER + 1);
         self.repeated.saturating_add(pause.saturating_mul(times))
     }
