@@ -1,7 +1,8 @@
 //! Where a datagram has what the wire looks at.
 
-/// The most bytes of a datagram that goes in one packet over Ethernet; a longer one is cut into several.
-pub(crate) const PACKET: usize = 1_472;
+/// The most bytes of a datagram that goes in one packet everywhere: the least packet that IPv6 must carry (RFC 8200, 5),
+/// without the headers of IPv6 and UDP. A longer one may be cut into several.
+pub(crate) const PACKET: usize = 1_232;
 
 /// Where a datagram has its kind, and the kinds of those that are kept: accept requests and votes.
 const KIND_PLACE: usize = 12;

@@ -11,9 +11,9 @@ const MOST_KEPT: usize = 30;
 /// How many members there are at most.
 const MEMBERS: usize = 15;
 
-/// How many bytes a millisecond go to a member again in datagrams longer than a packet. The system cuts these, and of
-/// one of which a piece is lost the other pieces take the receiver's room for pieces, 4 MiB on Linux, for 30 s: at
-/// 139 bytes a millisecond that would be full.
+/// How many bytes a millisecond go to a member again from all others together in datagrams longer than a packet. The
+/// system cuts these, and of one of which a piece is lost the other pieces take the receiver's room for pieces, 4 MiB on
+/// Linux, for 30 s: at 139 bytes a millisecond that would be full.
 const LARGE_RATE: u64 = 131;
 
 /// The accept requests and votes of one ballot at one position that were sent last, with for whom; and the accept
@@ -28,11 +28,13 @@ pub(crate) struct Repeats {
     accept: Vec<u8>,
     /// For each member, before when nothing longer than a packet goes to it again, in microseconds.
     large: [u64; MEMBERS],
+    /// How many other members there are, 1 at least.
+    others: u64,
 }
 
 impl Repeats {
-    /// Nothing is kept. Takes no memory.
-    pub(crate) fn new(alloc: Global) -> Repeats {
+    /// Nothing is kept, of a group of so many members. Takes no memory.
+    pub(crate) fn new(alloc: Global, members: usize) -> Repeats {
         Repeats {
             alloc,
             ballot: 0,
@@ -40,6 +42,7 @@ impl Repeats {
             kept: Vec::new(alloc),
             accept: Vec::new(alloc),
             large: [0; MEMBERS],
+            others: members.saturating_sub(1).max(1) as u64,
         }
     }
 
@@ -124,9 +127,10 @@ impl Repeats {
     /// A datagram of so many bytes, more than a packet's, was sent to this member at this time: the next such goes to
     /// it again when this one's bytes have had their time.
     pub(crate) fn sent_large(&mut self, to: u8, length: usize, now: u64) {
-        let time = (length as u64).saturating_mul(1_000) / LARGE_RATE;
+        let length = (length as u64).saturating_mul(self.others);
+        let time = length.saturating_mul(1_000) / LARGE_RATE;
         if let Some(due) = self.large.get_mut(usize::from(to)) {
-            *due = now.saturating_add(time);
+            *due = now.max(*due).saturating_add(time);
         }
     }
 }

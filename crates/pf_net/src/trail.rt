@@ -22,11 +22,14 @@ const STEPS: u8 = 3;
 /// How long nothing is sent a second time to the same member, in microseconds.
 const PAUSE: u64 = 20_000;
 
+/// How often this member's part of a socket may be filled, in microseconds.
+const FILLING: u64 = 10_000;
+
 /// How many bytes a member's socket takes in before they are read, as Linux counts them, where nobody set another size
 /// (212,992) and with some left free.
 const ROOM: usize = 196_608;
 
-/// What such a socket counts for a datagram beside twice its bytes, at most.
+/// What such a socket counts for a datagram beside twice its bytes, over loopback and most devices.
 const OVERHEAD: usize = 1_024;
 
 /// A vote that was sent.
@@ -49,16 +52,33 @@ struct Told {
     end: u32,
     /// Before when nothing is sent to it a second time, in microseconds.
     again: u64,
+    /// What is left of this member's part of its socket, and when that was all of it.
+    room: usize,
+    filled: u64,
 }
 
 impl Told {
-    /// Nothing. Whatever it lacks, it is taken for one that went back.
-    fn new() -> Told {
+    /// Nothing, with all of this room. Whatever it lacks, it is taken for one that went back.
+    fn new(room: usize) -> Told {
         Told {
             from: u32::MAX,
             steps: 0,
             end: 0,
             again: 0,
+            room,
+            filled: 0,
+        }
+    }
+
+    /// The same with all of this room again, if it is time.
+    fn emptied(self, room: usize, now: u64) -> Told {
+        if now < self.filled.saturating_add(FILLING) {
+            return self;
+        }
+        Told {
+            room,
+            filled: now,
+            ..self
         }
     }
 
@@ -81,21 +101,20 @@ impl Told {
     }
 
     /// The same after votes up to before this position were sent, if any were.
-    fn after(self, from: u32, end: Option<u32>, now: u64) -> Told {
-        let steps = self.steps(from);
-        match end {
+    fn after(self, from: u32, votes: Stretch, now: u64) -> Told {
+        let seen = Told {
+            from,
+            steps: self.steps(from),
+            ..self
+        };
+        match votes.position {
             Some(end) => Told {
-                from,
-                steps,
                 end,
                 again: now.saturating_add(PAUSE),
+                room: votes.room,
+                ..seen
             },
-            None => Told {
-                from,
-                steps,
-                end: self.end,
-                again: self.again,
-            },
+            None => seen,
         }
     }
 }
@@ -109,6 +128,8 @@ pub(crate) struct Stretch {
     pub(crate) end: usize,
     /// One past the last position that is the member's.
     position: Option<u32>,
+    /// What they leave of the room in its socket.
+    room: usize,
 }
 
 /// The votes that were sent last, in ascending order of position, those of one ballot at each position; and what each
@@ -127,12 +148,13 @@ pub(crate) struct Trail {
 impl Trail {
     /// Nothing is kept, of a group of so many members. Takes no memory.
     pub(crate) fn new(alloc: Global, members: usize) -> Trail {
+        let room = ROOM / members.saturating_sub(1).max(1);
         Trail {
             alloc,
             votes: VecDeque::new(alloc),
             size: 0,
-            told: [Told::new(); MEMBERS],
-            room: ROOM / members.saturating_sub(1).max(1),
+            told: [Told::new(room); MEMBERS],
+            room,
         }
     }
 
@@ -221,15 +243,14 @@ impl Trail {
         self.votes.partition_point(|vote| vote.position < position)
     }
 
-    /// The votes from this number on, before a position, that are the member's and fit into its socket; the first fits
-    /// always.
-    fn reach(&self, to: u8, begin: usize, before: u32) -> Stretch {
+    /// The votes from this number on, before a position, that are the member's and fit into so much of its socket.
+    fn reach(&self, to: u8, begin: usize, before: u32, room: usize) -> Stretch {
         let mut all = Stretch {
             begin,
             end: begin,
             position: None,
+            room,
         };
-        let mut room = self.room;
         for i in begin..self.votes.len() {
             let Some(vote) = self.votes.get(i) else {
                 return all;
@@ -239,10 +260,10 @@ impl Trail {
             }
             if vote.to == to {
                 let cost = vote.bytes.len().saturating_mul(2).saturating_add(OVERHEAD);
-                if all.position.is_some() && cost > room {
+                if cost > all.room {
                     return all;
                 }
-                room = room.saturating_sub(cost);
+                all.room = all.room.saturating_sub(cost);
                 all.end = i + 1;
                 all.position = Some(vote.position.saturating_add(1));
             }
@@ -257,16 +278,18 @@ impl Trail {
             begin: 0,
             end: 0,
             position: None,
+            room: 0,
         };
         let told = match self.told.get(usize::from(to)) {
-            Some(told) => *told,
+            Some(told) => told.emptied(self.room, now),
             None => return all,
         };
         if let Some(start) = told.start(from, now) {
-            all = self.reach(to, self.place(start), from.saturating_add(WINDOW));
+            let before = from.saturating_add(WINDOW);
+            all = self.reach(to, self.place(start), before, told.room);
         }
         if let Some(place) = self.told.get_mut(usize::from(to)) {
-            *place = told.after(from, all.position, now);
+            *place = told.after(from, all, now);
         }
         all
     }

@@ -78,8 +78,9 @@ impl<T: Drop> From<AllocFailed<T>> for BindFault {
 /// and is polled while the vote for it is kept, is answered by that and isn't given.
 ///
 /// Of the votes that fit into a packet the last 32,768 are kept, and 8 MiB at most. [`Wire::repeat_to`] sends a
-/// member those that it lacks, at 63 positions at most and no more than its socket takes in: those that it wasn't
-/// sent again yet where it comes on, and all where it doesn't, each 20 ms at most.
+/// member those that it lacks, at 63 positions at most and in 10 ms no more than this member's part of what its socket
+/// takes in: those that it wasn't sent again yet where it comes on, and all where it doesn't, or comes on by just one
+/// three times in a row, each 20 ms at most.
 #[derive(Drop)]
 pub struct UdpWire<C> {
     socket: UdpSocket,
@@ -180,7 +181,10 @@ impl<R: Net + Clock + Copy> UdpWire<R> {
         if socket.set_read_timeout(Some(wait)).is_err() {
             return Err(BindFault::NoSocket);
         }
-        let trail = Trail::new(alloc, peers.len());
+        let (repeats, trail) = (
+            Repeats::new(alloc, peers.len()),
+            Trail::new(alloc, peers.len()),
+        );
         Ok(UdpWire {
             socket,
             clock: *rt,
@@ -194,7 +198,7 @@ impl<R: Net + Clock + Copy> UdpWire<R> {
             timeout: wait,
             is_blocking: true,
             askers: Askers::new(alloc),
-            repeats: Repeats::new(alloc),
+            repeats,
             trail,
             strangers: 0,
             failures: 0,
@@ -455,11 +459,8 @@ impl<C: Clock> UdpWire<C> {
         let Some(i) = self.repeats.vote_for(*member, datagram) else {
             return false;
         };
-        let is_sent = match self.repeats.get(i) {
-            Some((_, vote)) => self.sent_to(vote, from),
-            None => false,
-        };
-        if !is_sent {
+        let now = self.microseconds();
+        if !self.sent_again(i, now) {
             self.count_failure();
         }
         true

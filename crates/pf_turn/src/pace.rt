@@ -102,6 +102,10 @@ pub struct Pace {
     /// When what isn't answered was sent last, and how many times again; 64 where nothing is to be sent again.
     repeated: u64,
     repeats: u32,
+    /// When the accept requests of the attempt went out, and whether what is learned next answers them: nothing was sent
+    /// again since, and nobody else's came.
+    accepting: u64,
+    is_timed: bool,
     front: u32,
     /// The front when the clock ticked last.
     asked: u32,
@@ -129,6 +133,8 @@ impl Pace {
             losses: 0,
             repeated: 0,
             repeats: REPEATS,
+            accepting: 0,
+            is_timed: false,
             front: 0,
             asked: 0,
             is_proposing: false,
@@ -153,10 +159,18 @@ impl Pace {
         Beat::Wait(milliseconds.min(LONGEST_WAIT) as u32)
     }
 
-    /// Accept requests or votes were sent, which nobody has answered yet.
+    /// Votes for what another proposes were sent, which may be lost.
     pub fn sent(&mut self, now: u64) {
         self.repeated = now;
         self.repeats = 0;
+        self.is_timed = false;
+    }
+
+    /// The accept requests of an attempt were sent.
+    fn accept(&mut self, now: u64) {
+        self.sent(now);
+        self.accepting = now;
+        self.is_timed = true;
     }
 
     /// Whether the accept requests and votes that were sent of the front's position are sent again now, since they may
@@ -168,7 +182,8 @@ impl Pace {
         }
         self.repeated = now;
         self.repeats = self.repeats.saturating_add(1);
-        self.answer = self.answer.saturating_add(self.answer / 1_024).min(TRIPS.1);
+        self.answer = self.answer.saturating_add(self.answer / 32).min(TRIPS.1);
+        self.is_timed = false;
         true
     }
 
@@ -188,6 +203,7 @@ impl Pace {
     /// Nothing that was sent so far is to be sent again.
     fn forget(&mut self) {
         self.repeats = REPEATS;
+        self.is_timed = false;
     }
 
     /// From now on the node takes no command in.
@@ -226,12 +242,11 @@ impl Pace {
         self.is_leading = view.is_leading;
     }
 
-    /// A majority has promised, and accept requests went out.
+    /// A majority has promised, and accept requests went out. Promises are of the round that was begun last, whatever was
+    /// lost before.
     fn promised(&mut self, now: u64) {
-        if self.is_first {
-            self.time_answer(now.saturating_sub(self.ticked));
-        }
-        self.sent(now);
+        self.time_answer(now.saturating_sub(self.ticked));
+        self.accept(now);
     }
 
     /// Whether others have come further.
@@ -267,8 +282,8 @@ impl Pace {
     /// round trip is: then the patience stays as long as it has become. In the same way nobody knows how long an answer
     /// took to what was sent again.
     fn succeed(&mut self, now: u64) {
-        if self.repeats == 0 && self.is_leading {
-            self.time_answer(now.saturating_sub(self.repeated));
+        if self.is_timed {
+            self.time_answer(now.saturating_sub(self.accepting));
         }
         if self.is_first {
             self.measure(now);
@@ -355,13 +370,16 @@ impl Pace {
     fn tick(&mut self, now: u64, view: View) {
         if view.is_attempting {
             self.lose();
+            self.is_leading = false;
         }
         self.is_first = !view.is_attempting;
         self.is_proposing = view.waiting > 0;
         self.ticked = now;
         self.asked = view.front;
-        if view.waiting > 0 {
-            self.sent(now);
+        if view.waiting > 0 && self.is_leading {
+            self.accept(now);
+        } else {
+            self.is_timed = false;
         }
         self.asks = now.saturating_add(IDLE);
     }

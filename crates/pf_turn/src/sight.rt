@@ -1,7 +1,9 @@
 //! What datagrams tell of how far other members have come.
 
-/// Where a datagram has its sender's number.
+/// Where a datagram has its sender's number, and behind that the number of whom it is for.
 const FROM_PLACE: usize = 10;
+
+const TO_PLACE: usize = 11;
 
 /// Where a datagram has its kind.
 const KIND_PLACE: usize = 12;
@@ -12,15 +14,15 @@ const NEAR_PLACE: usize = 13;
 /// Where all other kinds that have a position have it.
 const FAR_PLACE: usize = 21;
 
-/// What was seen of other members since the start, by kinds and positions of datagrams alone. It decides when the clock
-/// ticks, and nothing else.
+/// What was seen of other members since the start, by kinds and positions of datagrams alone. It decides when the
+/// clock ticks and what is sent again, and nothing else.
 #[derive(Clone, Copy, Debug, PartialEq, Eq)]
 pub(crate) struct Sight {
     /// A position below which some member has learned all, as far as is seen.
     pub(crate) reached: u32,
     /// Whether an entry that was asked for has come since the last look.
     pub(crate) is_told: bool,
-    /// Whether an accept request has come since the last look.
+    /// Whether another's accept request has come since the last look.
     pub(crate) is_accepting: bool,
     /// For each member that has told since the last look how far it is: one more than the position from which on it is
     /// to be told what it lacks; 0 for the others.
@@ -94,7 +96,7 @@ impl Sight {
         match kind {
             1 | 11 => self.reaching(far).lacking(member, far),
             3 => Sight {
-                is_accepting: true,
+                is_accepting: self.is_accepting || datagram.get(TO_PLACE) != Some(&member),
                 ..self.reaching(far)
             },
             4 => self.reaching(far),

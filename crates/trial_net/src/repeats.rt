@@ -122,20 +122,20 @@ fn again<A: Wire, B: Wire>(zero: &mut A, one: &mut B, two: &mut B, size: usize) 
     has_size(two, 30) && has_size(one, size)
 }
 
-/// Whether a datagram of 13,100 bytes goes again each 100 ms, and a short one each time.
+/// Whether a datagram of 13,100 bytes goes again each 200 ms, and a short one each time.
 fn waits<A: Wire, B: Wire>(zero: &mut A, one: &mut B, two: &mut B, now: &Cell<u64>) -> bool {
     let mut large = [0u8; 13_100];
     large[..30].copy_from_slice(&ACCEPT);
     now.set(1000);
     let is_large = zero.send(1, &large) && has_size(one, 13_100);
     let is_sent = is_large && zero.send(2, &ACCEPT) && has_size(two, 30);
-    now.set(1099);
-    let is_early = again(zero, one, two, 0);
-    now.set(1100);
-    let is_first = again(zero, one, two, 13_100);
     now.set(1199);
-    let is_second_early = again(zero, one, two, 0);
+    let is_early = again(zero, one, two, 0);
     now.set(1200);
+    let is_first = again(zero, one, two, 13_100);
+    now.set(1399);
+    let is_second_early = again(zero, one, two, 0);
+    now.set(1400);
     let is_second = again(zero, one, two, 13_100);
     is_sent && is_early && is_first && is_second_early && is_second && zero.failures() == 0
 }

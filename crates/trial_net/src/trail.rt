@@ -125,29 +125,38 @@ fn who_comes_on_is_sent_what_it_was_not_at_63_positions(rt: HostRuntime) -> Resu
     Ok(())
 }
 
-/// Whether of votes of 1,472 bytes 49 go again, which are 194,432 bytes of a socket.
-fn fits<A: Wire, B: Wire>(zero: &mut A, one: &mut B) -> bool {
-    let is_sent = votes_at(zero, one, 1, 61, 1472);
-    zero.repeat_to(1, 1);
-    let is_first = has(one, 1, 50);
-    zero.repeat_to(1, 3);
-    is_sent && is_first && has(one, 50, 61)
+/// Whether of votes of 1,232 bytes 56 go again in 10 ms, which are 195,328 bytes of a socket.
+fn fits<A: Wire, B: Wire>(zero: &mut A, one: &mut B, now: &Cell<u64>) -> bool {
+    let is_sent = votes_at(zero, one, 1, 61, 1232);
+    again(zero, now, 1000, 1);
+    let is_first = has(one, 1, 57);
+    again(zero, now, 1009, 3);
+    let is_full = has_none(one);
+    again(zero, now, 1010, 5);
+    is_sent && is_first && is_full && has(one, 57, 61)
 }
 
 #[test]
 fn no_more_is_sent_again_than_fits_the_socket(rt: HostRuntime) -> Result<(), Fail> {
     let members = ["127.0.0.1:39576", "127.0.0.1:39577"];
-    let mut zero = UdpWire::bind(&rt, rt.alloc(), &members, 0, 100)?;
+    let now = Cell::new(0);
+    let step = Some(0);
+    let bench = Bench {
+        rt,
+        now: &now,
+        step,
+    };
+    let mut zero = UdpWire::bind(&bench, rt.alloc(), &members, 0, 100)?;
     let mut one = UdpWire::bind(&rt, rt.alloc(), &members, 1, 100)?;
-    assert!(rt; fits(&mut zero, &mut one));
+    assert!(rt; fits(&mut zero, &mut one, &now));
     Ok(())
 }
 
 /// Whether each of two others gets half of that.
 fn shares<A: Wire, B: Wire>(zero: &mut A, one: &mut B) -> bool {
-    let is_sent = votes_at(zero, one, 1, 61, 1472);
+    let is_sent = votes_at(zero, one, 1, 61, 1232);
     zero.repeat_to(1, 1);
-    is_sent && has(one, 1, 25)
+    is_sent && has(one, 1, 29)
 }
 
 #[test]
@@ -254,8 +263,8 @@ fn who_comes_on_by_one_is_sent_all_again_at_the_third_time(rt: HostRuntime) -> R
 
 /// Whether a vote longer than a packet isn't kept, nor one below the last.
 fn leaves_out<A: Wire, B: Wire>(zero: &mut A, one: &mut B) -> bool {
-    let is_sent = votes(zero, one, 1, 5, 1473) && votes(zero, one, 1, 7, 1472);
-    let is_lower = votes(zero, one, 1, 6, 27) && votes(zero, one, 1, 7, 1472);
+    let is_sent = votes(zero, one, 1, 5, 1233) && votes(zero, one, 1, 7, 1232);
+    let is_lower = votes(zero, one, 1, 6, 27) && votes(zero, one, 1, 7, 1232);
     zero.repeat_to(1, 1);
     is_sent && is_lower && has(one, 7, 8)
 }
@@ -276,11 +285,11 @@ fn keeps_the_last<A: Wire, B: Wire>(zero: &mut A, one: &mut B) -> bool {
     is_sent && has(one, 11, 64)
 }
 
-/// Whether of 5,708 votes of 1,472 bytes the last 5,698 are kept, which are just less than 8 MiB.
+/// Whether of 6,818 votes of 1,232 bytes the last 6,808 are kept, which are just less than 8 MiB.
 fn keeps_8_mib<A: Wire, B: Wire>(zero: &mut A, one: &mut B) -> bool {
-    let is_sent = votes_at(zero, one, 1, 5_709, 1472);
+    let is_sent = votes_at(zero, one, 1, 6_819, 1232);
     zero.repeat_to(1, 1);
-    is_sent && has(one, 11, 60)
+    is_sent && has(one, 11, 64)
 }
 
 #[test]

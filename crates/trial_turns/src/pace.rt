@@ -32,6 +32,16 @@ const WAITING: View = View {
     reached: 0,
 };
 
+/// One with a command that waits, to which a majority has promised.
+const LEADING: View = View {
+    waiting: 1,
+    is_attempting: false,
+    is_leading: true,
+    front: 0,
+    is_told: false,
+    reached: 0,
+};
+
 /// One that lacks two entries, of which it has just been told one.
 const TOLD: View = View {
     waiting: 0,
@@ -123,7 +133,7 @@ fn it_is_begun_anew_after_four_seconds_at_the_latest(rt: HostRuntime) {
 fn who_lost_the_lead_keeps_still(rt: HostRuntime) {
     let mut pace = Pace::new(1);
     assert!(rt; pace.beat(0, WAITING) == Beat::Tick);
-    assert!(rt; pace.beat(1_000, ATTEMPTING) == Beat::Wait(35));
+    assert!(rt; pace.beat(1_000, ATTEMPTING) == Beat::Wait(100));
     // the attempt is gone, and nothing was learned: a part of the clock's 0 and the number's 2, and 1, of 6 ms, twice
     assert!(rt; pace.beat(2_000, WAITING) == Beat::Wait(37));
 }
@@ -177,13 +187,13 @@ fn no_command_is_taken_in_at_the_start(rt: HostRuntime) {
 fn what_may_be_lost_is_sent_again(rt: HostRuntime) {
     let mut pace = Pace::new(0);
     assert!(rt; !pace.repeats(1_000_000));
-    assert!(rt; pace.beat(2_000_000, WAITING) == Beat::Tick);
+    assert!(rt; pace.beat(2_000_000, LEADING) == Beat::Tick);
     // one and a half times 20 ms, and 5 ms more
     assert!(rt; !pace.repeats(2_034_999));
     assert!(rt; pace.repeats(2_035_000));
-    // an answer is taken to take 19 us longer now, a 1,024th
-    assert!(rt; !pace.repeats(2_070_027));
-    assert!(rt; pace.repeats(2_070_028));
+    // an answer is taken to take a 32nd longer now, 20.625 ms
+    assert!(rt; !pace.repeats(2_070_936));
+    assert!(rt; pace.repeats(2_070_937));
     // the position is learned
     assert!(rt; pace.beat(2_075_000, TOLD) == Beat::Tick);
     assert!(rt; !pace.repeats(9_000_000));
@@ -238,10 +248,75 @@ fn what_was_sent_again_tells_no_answers_time(rt: HostRuntime) {
     assert!(rt; pace.beat(0, WAITING) == Beat::Tick);
     assert!(rt; pace.beat(4_000, accepting) == Beat::Wait(24));
     assert!(rt; pace.repeats(27_000));
-    // 12 ms and a 1,024th, 12.011, as before; so 18.016 and 5 ms later
+    // 12 ms and a 32nd, 12.375, as before; so 18.562 and 5 ms later
     assert!(rt; pace.beat(28_000, learned) == Beat::Tick);
-    assert!(rt; !pace.repeats(51_015));
-    assert!(rt; pace.repeats(51_016));
+    assert!(rt; !pace.repeats(51_561));
+    assert!(rt; pace.repeats(51_562));
+}
+
+#[test]
+fn what_another_proposed_meanwhile_tells_no_answers_time(rt: HostRuntime) {
+    let mut pace = Pace::new(0);
+    let accepting = View {
+        is_attempting: true,
+        ..LEADING
+    };
+    let learned = View {
+        front: 1,
+        ..LEADING
+    };
+    assert!(rt; pace.beat(0, WAITING) == Beat::Tick);
+    assert!(rt; pace.beat(4_000, accepting) == Beat::Wait(24));
+    pace.sent(5_000);
+    // 12 ms as before
+    assert!(rt; pace.beat(6_000, learned) == Beat::Tick);
+    assert!(rt; !pace.repeats(28_999));
+    assert!(rt; pace.repeats(29_000));
+}
+
+#[test]
+fn promises_of_a_round_begun_anew_tell_an_answers_time(rt: HostRuntime) {
+    let mut pace = Pace::new(0);
+    let accepting = View {
+        is_attempting: true,
+        ..LEADING
+    };
+    assert!(rt; pace.beat(0, WAITING) == Beat::Tick);
+    assert!(rt; pace.beat(100_000, ATTEMPTING) == Beat::Tick);
+    // 35 ms is half of 20 and of 50
+    assert!(rt; pace.beat(150_000, accepting) == Beat::Wait(58));
+    assert!(rt; !pace.repeats(207_499));
+    assert!(rt; pace.repeats(207_500));
+}
+
+/// The time at which a pace ends that has seen answers of half a millisecond alone, until 64 times something was sent
+/// again.
+fn mistaken(pace: &mut Pace) -> u64 {
+    let mut now = 0u64;
+    for front in 0..40u32 {
+        let view = View { front, ..LEADING };
+        let _beat = pace.beat(now, view);
+        now = now.saturating_add(500);
+    }
+    for _ in 0..64u32 {
+        now = now.saturating_add(1_000_000);
+        let _is_due = pace.repeats(now);
+    }
+    now
+}
+
+#[test]
+fn an_answers_time_that_was_taken_too_short_grows(rt: HostRuntime) {
+    let mut pace = Pace::new(0);
+    let now = mistaken(&mut pace);
+    let learned = View {
+        front: 99,
+        ..LEADING
+    };
+    assert!(rt; pace.beat(now, learned) == Beat::Tick);
+    // from half a millisecond to more than 3
+    assert!(rt; !pace.repeats(now.saturating_add(9_500)));
+    assert!(rt; pace.repeats(now.saturating_add(11_000)));
 }
 
 #[test]
