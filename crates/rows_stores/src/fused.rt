@@ -11,6 +11,8 @@ use std::alloc::Global;
 pub(crate) struct Held {
     log: Vec<u8>,
     db: Vec<u8>,
+    /// Whether either file has refused a call, or would refuse one more.
+    pub(crate) is_spent: bool,
 }
 
 impl Held {
@@ -19,6 +21,7 @@ impl Held {
         Held {
             log: Vec::new(alloc),
             db: Vec::new(alloc),
+            is_spent: false,
         }
     }
 }
@@ -102,13 +105,18 @@ pub(crate) fn attempt(
     let log = file(alloc, &held.log, stop.log)?;
     let db = file(alloc, &held.db, stop.db)?;
     let (is_told, files) = work_in(alloc, Files { log, db }, tasks, out);
-    let Files { log, db } = files;
+    let Files { mut log, mut db } = files;
+    let is_spent = log.len().is_err() || db.len().is_err();
     let log = left(alloc, log, stop.loses);
     let db = left(alloc, db, stop.loses);
     if !is_told {
         return None;
     }
-    Some(Held { log: log?, db: db? })
+    Some(Held {
+        log: log?,
+        db: db?,
+        is_spent,
+    })
 }
 
 /// Does the tasks with an empty store whose files are in memory. Whether there was memory for that.
