@@ -85,6 +85,14 @@ fn file(alloc: Global, bytes: &[u8], calls: u64) -> Option<Fuse<Memory>> {
     if is_held { Some(file) } else { None }
 }
 
+/// Whether a file has refused a call, or refuses one more.
+fn is_spent(file: &mut Fuse<Memory>) -> bool {
+    if !file.may_be_used() {
+        return true;
+    }
+    file.len().is_err()
+}
+
 /// What a file holds after its stop.
 fn left(alloc: Global, mut file: Fuse<Memory>, loses: bool) -> Option<Vec<u8>> {
     if loses {
@@ -106,7 +114,7 @@ pub(crate) fn attempt(
     let db = file(alloc, &held.db, stop.db)?;
     let (is_told, files) = work_in(alloc, Files { log, db }, tasks, out);
     let Files { mut log, mut db } = files;
-    let is_spent = log.len().is_err() || db.len().is_err();
+    let is_spent = is_spent(&mut log) || is_spent(&mut db);
     let log = left(alloc, log, stop.loses);
     let db = left(alloc, db, stop.loses);
     if !is_told {
