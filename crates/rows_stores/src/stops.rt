@@ -18,7 +18,7 @@ pub(crate) struct Work {
     task: &'static str,
     /// What stands behind the steps.
     look: &'static str,
-    /// The task that tells what a stop left.
+    /// The tasks that tell what a stop left.
     again: &'static str,
 }
 
@@ -26,14 +26,14 @@ pub(crate) struct Work {
 pub(crate) const CHANGES: Work = Work {
     task: "take ",
     look: "show, slot 0, slot 1, learned 0",
-    again: "take show, slot 0, slot 1, learned 0",
+    again: "count | take show, slot 0, slot 1, learned 0",
 };
 
 /// Steps of a node over it; it is looked at after a new node has opened it.
 pub(crate) const STEPS: Work = Work {
     task: "node ",
     look: "then show, slot 0, slot 1, learned 0",
-    again: "node then show, slot 0, slot 1, learned 0",
+    again: "count | node then show, slot 0, slot 1, learned 0",
 };
 
 /// A run in files that stop.
@@ -45,7 +45,7 @@ struct Run<'a> {
     parts: &'a [&'a str],
     /// The tasks that make the changes and look.
     tasks: &'a str,
-    /// The task that looks again.
+    /// The tasks that tell what a stop left.
     again: &'a str,
 }
 
@@ -128,16 +128,12 @@ fn judged(run: Run, said: &str, counted: &str, again: &str) -> Came {
 
 /// What a stop leaves. None where memory is wanting.
 fn attempted(alloc: Global, run: Run, held: &Held, stop: Stop) -> Option<Came> {
-    let (mut said, mut counted, mut again) = (
-        String::new(alloc),
-        String::new(alloc),
-        String::new(alloc),
-    );
+    let (mut said, mut found) = (String::new(alloc), String::new(alloc));
     let left = attempt(alloc, held, stop, run.tasks, &mut said)?;
     let is_spent = left.is_spent;
-    let left = attempt(alloc, &left, NEVER, "count", &mut counted)?;
-    let _left = attempt(alloc, &left, NEVER, run.again, &mut again)?;
-    let came = judged(run, &said, &counted, &again);
+    let _left = attempt(alloc, &left, NEVER, run.again, &mut found)?;
+    let (counted, again) = found.as_str().split_once("; ").unwrap_or(("", ""));
+    let came = judged(run, &said, counted, again);
     Some(if is_spent && came == Came::Whole {
         Came::Stopped
     } else {
