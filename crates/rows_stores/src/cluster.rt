@@ -33,7 +33,7 @@ fn block(alloc: Global) -> Result<Command, NodeFault> {
 }
 
 /// The command is asked of the node.
-fn ask<R: Records>(alloc: Global, node: &mut Node<R>) -> Result<(), NodeFault> {
+pub(crate) fn ask<R: Records>(alloc: Global, node: &mut Node<R>) -> Result<(), NodeFault> {
     let command = block(alloc)?;
     let asked = node.ask(&command);
     drop(command);
@@ -41,17 +41,28 @@ fn ask<R: Records>(alloc: Global, node: &mut Node<R>) -> Result<(), NodeFault> {
     Ok(())
 }
 
+/// A member of the three with its record, else why not, and the record.
+pub(crate) fn opened<R: Records>(
+    alloc: Global,
+    me: u8,
+    records: R,
+) -> Result<Node<R>, (NodeFault, R)>
+    requires { R.members records ≡ 3 }
+{
+    let Some(m) = Membership::new(7, 3, me) else {
+        return Err((NodeFault::Failed, records));
+    };
+    if m.me() >= m.members() {
+        return Err((NodeFault::Failed, records));
+    }
+    Node::open(alloc, m, records)
+}
+
 /// A member of the three with its record.
 fn member<R: Records + Drop>(alloc: Global, me: u8, records: R) -> Result<Node<R>, NodeFault>
     requires { R.members records ≡ 3 }
 {
-    let Some(m) = Membership::new(7, 3, me) else {
-        return Err(NodeFault::Failed);
-    };
-    if m.me() >= m.members() {
-        return Err(NodeFault::Failed);
-    }
-    match Node::open(alloc, m, records) {
+    match opened(alloc, me, records) {
         Ok(node) => Ok(node),
         Err((fault, _)) => Err(fault),
     }

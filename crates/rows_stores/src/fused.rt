@@ -11,6 +11,8 @@ use std::alloc::Global;
 pub(crate) struct Held {
     log: Vec<u8>,
     db: Vec<u8>,
+    /// Whether either file has refused a call, or would refuse one more.
+    pub(crate) is_spent: bool,
 }
 
 impl Held {
@@ -19,6 +21,7 @@ impl Held {
         Held {
             log: Vec::new(alloc),
             db: Vec::new(alloc),
+            is_spent: false,
         }
     }
 }
@@ -82,6 +85,14 @@ fn file(alloc: Global, bytes: &[u8], calls: u64) -> Option<Fuse<Memory>> {
     if is_held { Some(file) } else { None }
 }
 
+/// Whether a file has refused a call, or refuses one more.
+fn is_spent(file: &mut Fuse<Memory>) -> bool {
+    if !file.may_be_used() {
+        return true;
+    }
+    file.len().is_err()
+}
+
 /// What a file holds after its stop.
 fn left(alloc: Global, mut file: Fuse<Memory>, loses: bool) -> Option<Vec<u8>> {
     if loses {
@@ -102,13 +113,18 @@ pub(crate) fn attempt(
     let log = file(alloc, &held.log, stop.log)?;
     let db = file(alloc, &held.db, stop.db)?;
     let (is_told, files) = work_in(alloc, Files { log, db }, tasks, out);
-    let Files { log, db } = files;
+    let Files { mut log, mut db } = files;
+    let is_spent = is_spent(&mut log) || is_spent(&mut db);
     let log = left(alloc, log, stop.loses);
     let db = left(alloc, db, stop.loses);
     if !is_told {
         return None;
     }
-    Some(Held { log: log?, db: db? })
+    Some(Held {
+        log: log?,
+        db: db?,
+        is_spent,
+    })
 }
 
 /// Does the tasks with an empty store whose files are in memory. Whether there was memory for that.

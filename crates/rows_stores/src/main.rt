@@ -12,12 +12,15 @@
 //! | `plain K WHEN \| STEP, .. \| STEP, ..` | steps over a record in memory whose `K`-th commit fails `before` or `after`
 //! its change (0: none does), then steps over the record itself |
 //! | `stops BEFORE \| SQL \| RECORD \| CHANGE \| RECORD \| ..` | a run in files that stop (see [`stops`]) |
+//! | `node-stops BEFORE \| SQL \| RECORD \| STEP \| RECORD \| ..` | a node's run in files that stop |
 //! | `nodes in memory` | a run of three nodes over empty stores in memory, one of which stops (see [`cluster`]) |
 //! | `text FILE`, `folder FILE`, `cut FILE BYTES` | writes a text, makes a folder, leaves the first bytes of the file |
 //!
 //! | Task | Does |
 //! |---|---|
 //! | `take STEP, ..` | takes the store as member 0 of cluster 7, `other` as that of cluster 8, `second` as member 1 |
+//! | `node STEP, .. then STEP, ..` | a node's steps (see [`node`]) over the store of member 0, then those of its
+//! record, which the node gave back and which is taken again |
 //! | `sql STATEMENTS` | runs statements that answer nothing |
 //! | `count` | reads the format that its row says, and counts its tables |
 //!
@@ -28,6 +31,7 @@ mod change;
 mod cluster;
 mod files;
 mod fused;
+mod node;
 mod record;
 mod said;
 mod step;
@@ -36,7 +40,7 @@ mod store;
 
 use crate::files::{cut, folder, in_file, text, twice};
 use crate::fused::{in_memory, nodes_in_memory};
-use crate::stops::stops;
+use crate::stops::{CHANGES, STEPS, stops};
 use crate::store::plain;
 use std::io;
 
@@ -50,7 +54,8 @@ fn done(rt: &HostRuntime, line: &str, out: &mut String) -> bool {
         "twice" => twice(rt, file, tasks, out),
         "plain" => plain(rt.alloc(), file, tasks, out),
         "nodes" => nodes_in_memory(rt.alloc(), out),
-        "stops" => stops(rt.alloc(), file, tasks, out),
+        "stops" => stops(rt.alloc(), CHANGES, file, tasks, out),
+        "node-stops" => stops(rt.alloc(), STEPS, file, tasks, out),
         "text" => text(rt, file, out),
         "folder" => folder(rt, file, out),
         "cut" => cut(rt, file, out),

@@ -1,16 +1,40 @@
 //! The files of a store stop at one call after the other.
 //!
 //! A line says what is counted of the store before, the statements that make it, or none, what its record shows then,
-//! and changes of the record, each with what the record shows behind it. What the record shows is told by `show`, the
-//! slots of the first two positions and what is learned at the first. A stop must leave a store as it was or one of
-//! format 3 with four tables; taken again, its record must be that before the change at which the stop came, or that
-//! with it.
+//! and changes of the record (`stops`) or steps of a node over it (`node-stops`), each with what the record shows
+//! behind it. What the record shows is told by `show`, the slots of the first two positions and what is learned at the
+//! first. A stop must leave a store as it was or one of format 3 with four tables; taken again, or opened again by a
+//! new node, its record must be that before the change or step at which the stop came, or that with it. A line that
+//! holds tells how many calls on either file its run has.
 use crate::fused::{Held, NEVER, Stop, attempt};
 use crate::said::say;
 use std::alloc::{AllocError, Global};
+use std::fmt::Write;
 
-/// What is told of a record.
-const LOOK: &str = "show, slot 0, slot 1, learned 0";
+/// What is done with a store, and how its record is looked at.
+#[derive(Clone, Copy)]
+pub(crate) struct Work {
+    /// The word of the task.
+    task: &'static str,
+    /// What stands behind the steps.
+    look: &'static str,
+    /// The tasks that tell what a stop left.
+    again: &'static str,
+}
+
+/// Changes of the record itself.
+pub(crate) const CHANGES: Work = Work {
+    task: "take ",
+    look: "show, slot 0, slot 1, learned 0",
+    again: "count | take show, slot 0, slot 1, learned 0",
+};
+
+/// Steps of a node over it; it is looked at after a new node has opened it.
+pub(crate) const STEPS: Work = Work {
+    task: "node ",
+    look: "then show, slot 0, slot 1, learned 0",
+    again: "count | node then show, slot 0, slot 1, learned 0",
+};
 
 /// A run in files that stop.
 #[derive(Clone, Copy)]
@@ -21,6 +45,19 @@ struct Run<'a> {
     parts: &'a [&'a str],
     /// The tasks that make the changes and look.
     tasks: &'a str,
+    /// The tasks that tell what a stop left.
+    again: &'a str,
+}
+
+/// What the trials of a run come to.
+#[derive(Clone, Copy)]
+struct Trials {
+    /// How many calls on the log there are.
+    log: u64,
+    /// How many on the database.
+    db: u64,
+    /// What came last.
+    came: Came,
 }
 
 /// What a trial comes to.
@@ -56,12 +93,12 @@ fn made(said: &str) -> (usize, &str) {
     let mut rest = said;
     let mut count = 0usize;
     for _ in 0..100 {
-        match rest.strip_prefix("done, ") {
-            Some(behind) => {
+        match rest.split_once(", ") {
+            Some((told, behind)) if told.starts_with("done") => {
                 rest = behind;
                 count = count.saturating_add(1);
             }
-            None => return (count, rest),
+            _ => return (count, rest),
         }
     }
     (count, rest)
@@ -91,21 +128,17 @@ fn judged(run: Run, said: &str, counted: &str, again: &str) -> Came {
 
 /// What a stop leaves. None where memory is wanting.
 fn attempted(alloc: Global, run: Run, held: &Held, stop: Stop) -> Option<Came> {
-    let (mut said, mut counted, mut again) = (
-        String::new(alloc),
-        String::new(alloc),
-        String::new(alloc),
-    );
+    let (mut said, mut found) = (String::new(alloc), String::new(alloc));
     let left = attempt(alloc, held, stop, run.tasks, &mut said)?;
-    let left = attempt(alloc, &left, NEVER, "count", &mut counted)?;
-    let _left = attempt(
-        alloc,
-        &left,
-        NEVER,
-        "take show, slot 0, slot 1, learned 0",
-        &mut again,
-    )?;
-    Some(judged(run, &said, &counted, &again))
+    let is_spent = left.is_spent;
+    let _left = attempt(alloc, &left, NEVER, run.again, &mut found)?;
+    let (counted, again) = found.as_str().split_once("; ").unwrap_or(("", ""));
+    let came = judged(run, &said, counted, again);
+    Some(if is_spent && came == Came::Whole {
+        Came::Stopped
+    } else {
+        came
+    })
 }
 
 /// The stop after so many calls on one of the files.
@@ -118,40 +151,55 @@ fn stop_after(calls: u64, log: bool, loses: bool) -> Stop {
     Stop { log, db, loses }
 }
 
-/// One file stops after so many calls, counted upwards until nothing stops: how many it was, and what came last.
+/// One file stops after so many calls, counted upwards until nothing stops: how many it has, and what came last.
 fn first_end(alloc: Global, run: Run, held: &Held, log: bool, loses: bool) -> Option<(u64, Came)> {
     for calls in 0..10_000u64 {
         let came = attempted(alloc, run, held, stop_after(calls, log, loses))?;
         if came != Came::Stopped {
-            return Some((calls, came));
+            return Some((calls.saturating_sub(1), came));
         }
     }
     Some((0, Came::Stopped))
 }
 
-/// Either file stops, and what is written stays or is lost: what was found, and the least number of calls after which
-/// nothing stopped.
-fn trial(alloc: Global, run: Run, held: &Held) -> Option<(u64, Came)> {
-    let mut least = u64::MAX;
+/// Either file stops, and what is written stays or is lost: what was found.
+fn trial(alloc: Global, run: Run, held: &Held) -> Option<Trials> {
+    let mut found = Trials {
+        log: 0,
+        db: 0,
+        came: Came::Whole,
+    };
     for (log, loses) in [(false, false), (false, true), (true, false), (true, true)] {
         let (calls, came) = first_end(alloc, run, held, log, loses)?;
+        found = if log {
+            Trials {
+                log: calls,
+                came,
+                ..found
+            }
+        } else {
+            Trials {
+                db: calls,
+                came,
+                ..found
+            }
+        };
         if came != Came::Whole {
-            return Some((calls, came));
+            return Some(found);
         }
-        least = least.min(calls);
     }
-    Some((least, Came::Whole))
+    Some(found)
 }
 
 /// The tasks that make the changes and look.
-fn tasks(alloc: Global, parts: &[&str]) -> Result<String, AllocError> {
+fn tasks(alloc: Global, work: Work, parts: &[&str]) -> Result<String, AllocError> {
     let mut tasks = String::new(alloc);
-    tasks.push_str("take ")?;
+    tasks.push_str(work.task)?;
     for change in parts.iter().skip(1).step_by(2) {
         tasks.push_str(change)?;
         tasks.push_str(", ")?;
     }
-    tasks.push_str(LOOK)?;
+    tasks.push_str(work.look)?;
     Ok(tasks)
 }
 
@@ -174,31 +222,41 @@ fn held(alloc: Global, sql: &str) -> Option<Held> {
     attempt(alloc, &none, NEVER, sql, &mut said)
 }
 
-/// What the trials of a line come to.
-fn found(alloc: Global, before: &str, line: &str) -> Option<(u64, Came, usize)> {
+/// What the trials of a line come to, and how many changes it has.
+fn found(alloc: Global, work: Work, before: &str, line: &str) -> Option<(Trials, usize)> {
     let (sql, rest) = line.split_once(" | ")?;
     let parts = parts_of(alloc, rest).ok()?;
-    let tasks = tasks(alloc, &parts).ok()?;
+    let tasks = tasks(alloc, work, &parts).ok()?;
     let held = held(alloc, sql)?;
     let run = Run {
         before,
         parts: &parts,
         tasks: &tasks,
+        again: work.again,
     };
-    let (least, came) = trial(alloc, run, &held)?;
-    Some((least, came, run.changes()))
+    Some((trial(alloc, run, &held)?, run.changes()))
+}
+
+/// Tells what was found of so many changes.
+fn say_found(out: &mut String, found: Trials, changes: usize) -> bool {
+    match found.came {
+        Came::Whole if found.log.min(found.db) > changes.max(1) as u64 => write!(
+            out,
+            "before each change or with it, at each of {} calls on the log and {} on the database",
+            found.log, found.db
+        )
+        .is_ok(),
+        Came::Whole => say(out, "too few calls"),
+        Came::Stopped => say(out, "it always stops"),
+        Came::InParts => say(out, "a store in parts"),
+        Came::Other => say(out, "another record"),
+    }
 }
 
 /// Does the line, and tells what was found.
-pub(crate) fn stops(alloc: Global, before: &str, line: &str, out: &mut String) -> bool {
-    match found(alloc, before, line) {
-        Some((least, Came::Whole, changes)) if least > changes.max(1) as u64 => {
-            say(out, "before each change or with it")
-        }
-        Some((_, Came::Whole, _)) => say(out, "too few calls"),
-        Some((_, Came::Stopped, _)) => say(out, "it always stops"),
-        Some((_, Came::InParts, _)) => say(out, "a store in parts"),
-        Some((_, Came::Other, _)) => say(out, "another record"),
+pub(crate) fn stops(alloc: Global, work: Work, before: &str, line: &str, out: &mut String) -> bool {
+    match found(alloc, work, before, line) {
+        Some((found, changes)) => say_found(out, found, changes),
         None => false,
     }
 }

@@ -1,6 +1,7 @@
 //! Stores and what is done with them, whatever they are kept in.
 ghost use Rattle.std.specs.Prelude.{◌≡◌, IfOk, IfSome};
 
+use crate::node::walked;
 use crate::said::{say, say_number};
 use crate::step::follow;
 use px_records::{FaultyRecords, MemoryRecords, Records, When};
@@ -65,6 +66,30 @@ fn take<S: Alter + Drop>(
     }
 }
 
+/// Takes the store as member 0 of cluster 7, does a node's steps over its record, gives it back, takes it again and
+/// does the record's steps, which stand behind `then`.
+fn take_node<S: Alter + Drop>(
+    alloc: Global,
+    conn: Connection<S>,
+    line: &str,
+    out: &mut String,
+) -> (bool, Connection<S>) {
+    let (steps, look) = line.split_once("then ").unwrap_or((line, ""));
+    let identity = Identity {
+        cluster: 7,
+        members: 3,
+        node: 0,
+    };
+    match adopted(alloc, conn, identity) {
+        Ok(records) => {
+            let (is_told, records) = walked(alloc, records, steps, out);
+            let (is_shown, conn) = take(alloc, records.release(), identity, look, out);
+            (is_told && is_shown, conn)
+        }
+        Err((fault, conn)) => (say_refused(out, fault), conn),
+    }
+}
+
 /// The format that the store's row says.
 fn format_of<S: Alter>(conn: &mut Connection<S>) -> Option<u32> {
     let row = conn.query_row("SELECT format FROM meta", &[]).ok()?;
@@ -105,6 +130,9 @@ fn do_task<S: Alter + Drop>(
     out: &mut String,
 ) -> (bool, Connection<S>) {
     let (word, rest) = task.split_once(' ').unwrap_or((task, ""));
+    if word == "node" {
+        return take_node(alloc, conn, rest, out);
+    }
     match identity_of(word) {
         Some(identity) => take(alloc, conn, identity, rest, out),
         None => {
