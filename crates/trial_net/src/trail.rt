@@ -168,13 +168,20 @@ fn the_others_share_a_socket(rt: HostRuntime) -> Result<(), Fail> {
     Ok(())
 }
 
+/// Whether member 1 is sent a vote of another ballot at position 6.
+fn votes_later<A: Wire>(zero: &mut A) -> bool {
+    let bytes = vote(1, 2, 6);
+    let bytes = &bytes[..27];
+    zero.send(1, bytes)
+}
+
 /// Whether a vote of another ballot stands in place of those of its position, for all members.
 fn replaces<A: Wire, B: Wire>(zero: &mut A, one: &mut B, two: &mut B) -> bool {
     let is_sent = votes(zero, one, 1, 5, 27)
         && votes(zero, two, 2, 5, 27)
         && votes(zero, one, 1, 6, 27)
         && votes(zero, two, 2, 6, 27);
-    let is_later = zero.send(1, &vote(1, 2, 6)[..27]) && next(one, 1) == (6, 2);
+    let is_later = votes_later(zero) && next(one, 1) == (6, 2);
     zero.repeat_to(2, 5);
     let is_two = next(two, 2) == (5, 1) && has_none(two);
     zero.repeat_to(1, 5);

@@ -1,5 +1,7 @@
 //! Members that tell how far they are, and what they are sent again.
 
+ghost use Rattle.std.specs.Prelude.{None};
+
 use crate::members::{ask, member};
 use pf_node::{Command, Node};
 use pf_ruleset::Path;
