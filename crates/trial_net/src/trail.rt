@@ -168,10 +168,10 @@ fn the_others_share_a_socket(rt: HostRuntime) -> Result<(), Fail> {
     Ok(())
 }
 
-/// Whether member 1 is sent a vote of another ballot at position 6.
-fn votes_later<A: Wire>(zero: &mut A) -> bool {
+/// Whether member 1 is sent so many bytes of a vote of another ballot at position 6.
+fn votes_later<A: Wire>(zero: &mut A, size: usize) -> bool {
     let bytes = vote(1, 2, 6);
-    let bytes = &bytes[..27];
+    let bytes = &bytes[..size.min(1480)];
     zero.send(1, bytes)
 }
 
@@ -181,7 +181,7 @@ fn replaces<A: Wire, B: Wire>(zero: &mut A, one: &mut B, two: &mut B) -> bool {
         && votes(zero, two, 2, 5, 27)
         && votes(zero, one, 1, 6, 27)
         && votes(zero, two, 2, 6, 27);
-    let is_later = votes_later(zero) && next(one, 1) == (6, 2);
+    let is_later = votes_later(zero, 27) && next(one, 1) == (6, 2);
     zero.repeat_to(2, 5);
     let is_two = next(two, 2) == (5, 1) && has_none(two);
     zero.repeat_to(1, 5);
