@@ -171,7 +171,8 @@ fn step<'a>(
     }
 }
 
-/// The configuration that a script makes of an empty one; none where one of its lines is no change, or a text has no end.
+/// The configuration that a script makes of an empty one; none where one of its lines is no change, or a text has no
+/// end.
 #[tactic(auto, unfolding(crate::specs::Scripts::configured))]
 pub(crate) fn replayed(alloc: Global, script: &[u8]) -> Result<Option<Config>, AllocError>
     ensures { IfOk result (λ o. IfSome o (λ c. c ≡ configured script.now)) }
