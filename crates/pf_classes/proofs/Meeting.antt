@@ -2,7 +2,8 @@
 use Rattle.std.proofs.Common.{◌≡◌, ℕ, ◌+◌, ◌-◌, ◌%◌, ◌<◌, ◌≤◌, true, inl, inr, arith}
 use Rattle.std.proofs.lemmas.Bool.{cases_lt, le-leb, leb-true, or_left, or_right}
 use Rattle.pf_classes.specs.declared.interval.Interval.{Interval}
-use Rattle.pf_classes.specs.Intervals.{is_within, meets}
+use Rattle.pf_classes.specs.Intervals.{is_within}
+use Rattle.pf_classes.specs.inner.Intervals.{meets}
 
 -- where the first number isn't within, the interval begins between it and the number that is
 begins_between : (f w a n b : ℕ) → a ≤ n → n ≤ b → b < 4294967296 → (n + (4294967296 - f)) % 4294967296 ≤ w → w < (a + (4294967296 - f)) % 4294967296 →

@@ -2,3 +2,4 @@ pub mod Intervals
 pub mod Rows
 pub mod Columns
 pub mod Classes
+pub mod inner

@@ -14,10 +14,6 @@ abbrev pub Marks : List Interval → ℕ → List ℕ → Type 0
 Marks intervals n row =
     (i : ℕ) → (x : Interval) → slice_get intervals i ≡ Some x → is_within x n ≡ true → HasBit row i
 
--- the same for each number from a to b
-abbrev pub MarksBetween : List Interval → (a b : ℕ) → List ℕ → Type 0
-MarksBetween intervals a b row = (n : ℕ) → a ≤ n → n ≤ b → Marks intervals n row
-
 -- all three rows have a bit for this place
 abbrev pub HasPlace : Row → ℕ → Type 0
 HasPlace row i = HasBit row.source.now i × HasBit row.destination.now i × HasBit row.destination_port.now i

@@ -2,8 +2,8 @@
 
 ghost use Rattle.std.specs.Prelude.{◌≡◌, ℕ, ◌+◌, ◌≤◌, ◌<◌, IfOk, length, get_or, Some, true, slice_get};
 ghost use Rattle.std.specs.Int.{bit_at};
-ghost use Rattle.pf_classes.specs.Intervals.{meets};
-ghost use Rattle.pf_classes.specs.Rows.{MarksBetween};
+ghost use Rattle.pf_classes.specs.inner.Intervals.{meets};
+ghost use Rattle.pf_classes.specs.inner.Rows.{MarksBetween};
 ghost use Rattle.std.specs.Global.{Vec};
 ghost use Rattle.pf_classes.specs.declared.interval.Interval.{Interval};
 ghost use Rattle.pf_classes.specs.declared.classes.TheConstants.{PLACES_MAX};

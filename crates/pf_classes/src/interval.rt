@@ -1,7 +1,8 @@
 //! Intervals of numbers.
 
 ghost use Rattle.std.specs.Prelude.{◌≡◌};
-ghost use Rattle.pf_classes.specs.Intervals.{is_within, meets};
+ghost use Rattle.pf_classes.specs.Intervals.{is_within};
+ghost use Rattle.pf_classes.specs.inner.Intervals.{meets};
 
 /// The numbers of 32 bits from a first one on: so many as the width says, and one more. Past the greatest number they
 /// go on with 0.

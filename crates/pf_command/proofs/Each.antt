@@ -12,7 +12,7 @@ use Rattle.pf_ruleset.specs.declared.ruleset.TableEntry as rust
 use Rattle.pf_entry.specs.Views.{address_of}
 use Rattle.pf_entry.specs.Owned.{addresses_value}
 use Rattle.pf_command.specs.declared.fault.CommandFault.{CommandFault}
-use Rattle.pf_command.specs.Answers.{lowest_of, ReadsEntries, vec_read}
+use Rattle.pf_command.specs.inner.Answers.{lowest_of, ReadsEntries, vec_read}
 use denote.Ref.{Bor}
 
 -- values and the lowest fault of words so far, before what the others come to

@@ -1,21 +1,13 @@
 -- What the code's values stand for, and what its calls answer.
-use Rattle.std.specs.Prelude.{◌≡◌, ℕ, false, List, map, Option, Some, None, Result, Ok, Err, Vec}
-use Rattle.std.specs.Option.{option_copied}
-use Rattle.pf_addr.specs.declared.addr.Addr.{Addr}
-use Rattle.pf_addr.specs.declared.fault.AddrFault.{AddrFault}
+use Rattle.std.specs.Prelude.{◌≡◌, ℕ, false, Option, Some, None, Result, Ok, Err}
 use Rattle.pf_addr.specs.Faults.{fault_code}
-use Rattle.pf_ruleset.specs.declared.ruleset.TableEntry as rust
-use Rattle.pf_ruleset.specs.Names.{Name}
-use Rattle.pf_entry.specs.Entry.{Address}
-use Rattle.pf_entry.specs.Views.{address_of}
-use Rattle.pf_entry.specs.Owned.{command_value, addresses_value}
-use Rattle.pf_command.specs.declared.given.Given.{Given}
+use Rattle.pf_entry.specs.Owned.{command_value}
 use Rattle.pf_command.specs.declared.action.Action.{Action}
 use Rattle.pf_command.specs.declared.action.Action.TheVariants as action
 use Rattle.pf_command.specs.declared.fault.CommandFault.{CommandFault}
 use Rattle.pf_command.specs.declared.fault.CommandFault.TheVariants.{Memory, Usage, BadPath, BadAddress, TooLong}
-use Rattle.pf_command.specs.Asked.{GivenWords, Asked, ActionValue, Change, CheckOnly, ShowRules, ShowTables}
-use Rattle.pf_command.specs.Asked.{ShowAnchors, TableShow, TableTest, lower, is_too_long}
+use Rattle.pf_command.specs.Asked.{Asked, ActionValue, Change, CheckOnly, ShowRules, ShowTables}
+use Rattle.pf_command.specs.Asked.{ShowAnchors, TableShow, TableTest, is_too_long}
 
 -- none for want of memory
 abbrev pub command_fault_code : CommandFault → Option ℕ
@@ -25,18 +17,6 @@ command_fault_code BadPath = Some 24
 command_fault_code (BadAddress fault) = Some (fault_code fault)
 command_fault_code TooLong = Some 41
 
-abbrev pub given_of : Given → GivenWords
-given_of given = record {
-  path = option_copied given.path;
-  file = option_copied given.file;
-  check = given.check;
-  flush = option_copied given.flush;
-  table = option_copied given.table;
-  change = option_copied given.change;
-  show = option_copied given.show;
-  addresses = map (λ w. w.now) given.addresses.now;
-}
-
 abbrev pub action_value : Action → ActionValue
 action_value (action.Change command) = Change (command_value command)
 action_value (action.CheckOnly path) = CheckOnly path
@@ -45,49 +25,6 @@ action_value (action.ShowTables path) = ShowTables path
 action_value action.ShowAnchors = ShowAnchors
 action_value (action.TableShow path table) = TableShow path table
 action_value (action.TableTest path table list) = TableTest path table list.items
-
--- ---- addresses
-
-abbrev pub entry_read : Result rust.TableEntry AddrFault → Result Address AddrFault
-entry_read (Ok entry) = Ok (address_of entry)
-entry_read (Err fault) = Err fault
-
-abbrev pub lowest_of : Option AddrFault → AddrFault → AddrFault
-lowest_of None fault = fault
-lowest_of (Some first) fault = lower first fault
-
-abbrev pub vec_read : {X A : Type 0} → Result (Vec X A) CommandFault → Result (List X) CommandFault
-vec_read (Ok v) = Ok v.items
-vec_read (Err fault) = Err fault
-
-abbrev pub FailsToRead : {X : Type 0} → CommandFault → Result (List X) AddrFault → Type 0
-FailsToRead Memory read = Unit {0}
-FailsToRead Usage read = ⊥
-FailsToRead BadPath read = ⊥
-FailsToRead (BadAddress fault) read = read ≡ Err fault
-FailsToRead TooLong read = ⊥
-
--- the values that words spell, or the lowest fault
-abbrev pub Reads : Result (List Addr) CommandFault → Result (List Addr) AddrFault → Type 0
-Reads (Ok list) read = read ≡ Ok list
-Reads (Err fault) read = FailsToRead fault read
-
-abbrev pub ReadsEntries : Result (List rust.TableEntry) CommandFault → Result (List Address) AddrFault → Type 0
-ReadsEntries (Ok list) read = read ≡ Ok (addresses_value list)
-ReadsEntries (Err fault) read = FailsToRead fault read
-
--- ---- paths
-
-abbrev pub NoPathGiven : CommandFault → Option (List Name) → Type 0
-NoPathGiven Memory path = Unit {0}
-NoPathGiven Usage path = ⊥
-NoPathGiven BadPath path = path ≡ None
-NoPathGiven (BadAddress fault) path = ⊥
-NoPathGiven TooLong path = ⊥
-
-abbrev pub PathGiven : Result (List Name) CommandFault → Option (List Name) → Type 0
-PathGiven (Ok p) path = path ≡ Some p
-PathGiven (Err fault) path = NoPathGiven fault path
 
 -- ---- actions
 

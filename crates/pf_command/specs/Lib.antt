@@ -1,3 +1,4 @@
 pub mod Options
 pub mod Asked
 pub mod Answers
+pub mod inner

@@ -3,7 +3,7 @@
 ghost use Rattle.std.specs.Prelude.{◌≡◌, map, length, IfOk};
 ghost use Rattle.pf_addr.specs.Spelling.{addr_of, prefix_of};
 ghost use Rattle.pf_command.specs.Asked.{entry_of, each, lower, signed};
-ghost use Rattle.pf_command.specs.Answers.{entry_read, vec_read, Reads, ReadsEntries, lowest_of};
+ghost use Rattle.pf_command.specs.inner.Answers.{entry_read, vec_read, Reads, ReadsEntries, lowest_of};
 
 use crate::fault::CommandFault;
 use pf_addr::{Addr, AddrFault, parse_addr, parse_prefix};

@@ -2,7 +2,7 @@
 
 ghost use Rattle.std.specs.Prelude.{◌≡◌};
 ghost use Rattle.pf_command.specs.Asked.{flush_word, table_word, show_word, load_word, chosen, may_have, word_of};
-ghost use Rattle.pf_command.specs.Answers.{given_of};
+ghost use Rattle.pf_command.specs.inner.Answers.{given_of};
 
 use crate::given::Given;
 

@@ -4,7 +4,7 @@ ghost use Rattle.std.specs.Prelude.{◌≡◌, [], map, option_map, unwrap_or, c
 ghost use Rattle.std.specs.Option.{option_copied};
 ghost use Rattle.clap.specs.Words.{found_of, rows_of, first_of, all_of};
 ghost use Rattle.pf_command.specs.Asked.{given_in, is_given};
-ghost use Rattle.pf_command.specs.Answers.{given_of};
+ghost use Rattle.pf_command.specs.inner.Answers.{given_of};
 
 use clap::ArgMatches;
 

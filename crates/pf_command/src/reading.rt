@@ -6,7 +6,8 @@ ghost use Rattle.clap.specs.Words.{found_of, rows_of};
 ghost use Rattle.pf_entry.specs.Owned.{command_value};
 ghost use Rattle.pf_command.specs.Asked.{given_in, asked, change, whole_action, table_action, whole_asked, table_asked};
 ghost use Rattle.pf_command.specs.Asked.{path_given, table_given, may_have};
-ghost use Rattle.pf_command.specs.Answers.{given_of, Answers, PathGiven, IsShort};
+ghost use Rattle.pf_command.specs.Answers.{Answers, IsShort};
+ghost use Rattle.pf_command.specs.inner.Answers.{given_of, PathGiven};
 
 use crate::action::Action;
 use crate::addresses::{addresses, entries};

@@ -1,24 +1,11 @@
 -- What the code's written conditions stand for.
-use Rattle.std.specs.Prelude.{ℕ, Option, Some, None}
+use Rattle.std.specs.Prelude.{Option, Some, None}
 use Rattle.pf_tokens.specs.declared.lists.Listed.{Listed}
 use Rattle.pf_tokens.specs.Lists.{Elements, elements_of}
-use Rattle.pf_ruleset.specs.declared.parts.PortTest.{PortTest}
-use Rattle.pf_ruleset.specs.declared.parts.PortTest.TheVariants as tests
-use Rattle.pf_conditions.specs.declared.written.Comparison.{Comparison}
-use Rattle.pf_conditions.specs.declared.written.Comparison.TheVariants as operator
 use Rattle.pf_conditions.specs.declared.written.End as written
 use Rattle.pf_conditions.specs.declared.written.Common as common
 use Rattle.pf_conditions.specs.declared.written.WrittenConditions.{WrittenConditions}
 use Rattle.pf_conditions.specs.Conditions.{Ends, CommonText, ConditionsText}
-
--- the test of an operator
-abbrev pub compared : Comparison → ℕ → PortTest
-compared operator.Equal = tests.Equal
-compared operator.NotEqual = tests.NotEqual
-compared operator.Less = tests.Less
-compared operator.LessEqual = tests.LessEqual
-compared operator.Greater = tests.Greater
-compared operator.GreaterEqual = tests.GreaterEqual
 
 abbrev pub list_of : {X : Type 0} → Option (Listed X) → Option (Elements X)
 list_of None = None
@@ -26,9 +13,6 @@ list_of (Some list) = Some (elements_of list)
 
 abbrev pub ends_of : written.End → Ends
 ends_of e = record { hosts = elements_of e.hosts; ports = list_of e.ports }
-
-abbrev pub pair_of : (written.End × written.End) → Ends × Ends
-pair_of ends = (ends_of ends.0, ends_of ends.1)
 
 abbrev pub common_of : common.Common → CommonText
 common_of c = record {

@@ -4,7 +4,8 @@ ghost use Rattle.std.specs.Prelude.{◌≡◌, IfOk};
 ghost use Rattle.pf_tokens.specs.Lists.{elements_of};
 ghost use Rattle.pf_tokens.specs.Parsing.{left, later, Parses};
 ghost use Rattle.pf_conditions.specs.Conditions.{any_end, spec_at, part_at, end_behind, ends_at};
-ghost use Rattle.pf_conditions.specs.Seen.{ends_of, pair_of};
+ghost use Rattle.pf_conditions.specs.Seen.{ends_of};
+ghost use Rattle.pf_conditions.specs.inner.Seen.{pair_of};
 
 use crate::behind::read_behind;
 use crate::hosts::{HostProduction, any_host};

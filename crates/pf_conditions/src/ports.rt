@@ -8,7 +8,7 @@ ghost use Rattle.pf_ruleset.specs.declared.parts.PortTest.TheVariants as tests;
 ghost use Rattle.pf_words.specs.Words.{port_of};
 ghost use Rattle.pf_conditions.specs.Conditions.{colon_parts, one_port, two_ports, lone_test, port_word_at};
 ghost use Rattle.pf_conditions.specs.Conditions.{operator_at, compared_at, port_behind, port_at};
-ghost use Rattle.pf_conditions.specs.Seen.{compared};
+ghost use Rattle.pf_conditions.specs.inner.Seen.{compared};
 ghost use Rattle.pf_conditions.specs.inner.Shorter.{port_shorter};
 
 use crate::cut::cut;

@@ -11,7 +11,9 @@ use Rattle.pf_ruleset.specs.Items.{AnyRule}
 use Rattle.pf_table.specs.Tables.{TableValue}
 use Rattle.pf_config.specs.Map.{AnchorValue, Path, name_after}
 use Rattle.pf_config.specs.Changes.{is_empty, is_nothing, unless_nothing, is_some_unnamed, without_unnamed, refers, refer, is_used, used_alone, used_tables, tidied_of}
-use Rattle.pf_config.specs.Trees.{AnchorTree, below, own_entry, last_name, IsKid, AreKids, some_kid, and_then, room_after, own_count, any_unnamed, is_idle, sheds, any_sheds, are_apart}
+use Rattle.pf_config.specs.Trees.{AnchorTree, below, own_entry, last_name, IsKid, AreKids, and_then}
+use Rattle.pf_config.specs.inner.Trees.{some_kid, room_after, own_count, any_unnamed, is_idle, sheds, any_sheds}
+use Rattle.pf_config.specs.inner.Trees.{are_apart}
 use Rattle.pf_config.proofs.Treed.{both_true, bytes_same, same_bytes, begins, begins_more, kid_begins, kids_above, append_nil}
 use Rattle.pf_config.proofs.Entries.{below_append, below_some}
 use Rattle.pf_config.proofs.Descents.{begins_chain}

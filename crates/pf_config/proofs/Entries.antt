@@ -15,7 +15,9 @@ use Rattle.pf_ruleset.specs.Items.{AnyRule}
 use Rattle.pf_table.specs.Tables.{TableValue}
 use Rattle.pf_config.specs.Map.{AnchorValue, Path}
 use Rattle.pf_config.specs.Changes.{is_empty, unless_nothing, is_path_before, anchors_before, anchors_behind, with_anchor}
-use Rattle.pf_config.specs.Trees.{AnchorTree, part_below, some_part, child_at, anchors_of, below, own_entry, last_name, is_named, IsKid, AreKids, kids_before, kids_behind, some_kid, placed_in, TakesPlace}
+use Rattle.pf_config.specs.Trees.{AnchorTree, part_below, some_part, child_at, below, own_entry, last_name, IsKid}
+use Rattle.pf_config.specs.Trees.{AreKids}
+use Rattle.pf_config.specs.inner.Trees.{anchors_of, is_named, kids_before, kids_behind, some_kid, placed_in, TakesPlace}
 use Rattle.pf_config.proofs.Treed.{both_true, append_nil, bytes_same, same_bytes, begins, kid_begins, begins_more, is_less, before_other, other_turned, kids_above, kids_above_chain, last_of, child_is}
 
 -- ---- the order of paths

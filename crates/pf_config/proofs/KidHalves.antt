@@ -11,7 +11,8 @@ use Rattle.std.proofs.lemmas.Map.Lookups.{exact_bytes}
 use Rattle.std.proofs.lemmas.Map.Text.{is_eq-slice_cmp}
 use Rattle.pf_ruleset.specs.Names.{Name, is_before}
 use Rattle.pf_config.specs.Map.{Path}
-use Rattle.pf_config.specs.Trees.{AnchorTree, AreKids, shared, last_name, is_named}
+use Rattle.pf_config.specs.Trees.{AnchorTree, AreKids, shared, last_name}
+use Rattle.pf_config.specs.inner.Trees.{is_named}
 use Rattle.pf_config.specs.inner.KidOrder.{AreInOrder}
 use Rattle.pf_config.proofs.Treed.{both_true, name_chain, before_other, kids_above, kids_above_chain, same_bytes}
 use Rattle.pf_config.proofs.Ordered.{turned}

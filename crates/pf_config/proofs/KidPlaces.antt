@@ -16,7 +16,8 @@ use Rattle.pf_ruleset.specs.Items.{AnyRule}
 use Rattle.pf_table.specs.Tables.{TableValue}
 use Rattle.pf_config.specs.Map.{Path}
 use Rattle.pf_config.specs.Changes.{is_empty}
-use Rattle.pf_config.specs.Trees.{AnchorTree, shared, below, own_entry, last_name, is_named, AreKids, kids_before, kids_behind, some_kid, anchors_of, child_at, placed_in}
+use Rattle.pf_config.specs.Trees.{AnchorTree, shared, below, own_entry, last_name, AreKids, child_at}
+use Rattle.pf_config.specs.inner.Trees.{is_named, kids_before, kids_behind, some_kid, anchors_of, placed_in}
 use Rattle.pf_config.specs.inner.KidOrder.{AreInOrder}
 use Rattle.pf_config.proofs.Treed.{both_true, append_nil, bytes_same, same_bytes, name_chain, before_other, other_turned, kids_above, kids_above_chain, child_is}
 use Rattle.pf_config.proofs.Entries.{kids_again, kid_placed, takes_place, placed_begins}

@@ -18,7 +18,8 @@ use Rattle.pf_ruleset.specs.Names.{Name, is_before}
 use Rattle.pf_table.specs.Tables.{TableValue}
 use Rattle.pf_config.specs.Map.{named}
 use Rattle.pf_config.specs.Changes.{with_table, tables_before, tables_behind}
-use Rattle.pf_config.specs.Ordered.{AreOrdered, AreKeyed}
+use Rattle.pf_config.specs.Ordered.{AreOrdered}
+use Rattle.pf_config.specs.inner.Ordered.{AreKeyed}
 use Rattle.pf_config.proofs.Treed.{both_true, is_less, name_chain, before_other}
 
 -- ---- names

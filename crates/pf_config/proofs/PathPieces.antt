@@ -5,7 +5,8 @@ use Rattle.std.specs.List.{list_all}
 use Rattle.std.proofs.lemmas.List.{take_more, get_or-drop}
 use Rattle.pf_words.specs.Words.{is_anchor_text}
 use Rattle.pf_ruleset.specs.Names.{is_path_name, path_if, begins_below}
-use Rattle.pf_config.specs.PathTexts.{pieces, pieces_from, names_if, some_path}
+use Rattle.pf_config.specs.PathTexts.{pieces, pieces_from, some_path}
+use Rattle.pf_config.specs.inner.PathTexts.{names_if}
 
 at_drop : (text : List ℕ) (start i : ℕ) → start ≤ i → get_or (drop start text) (i - start) 0 ≡ get_or text i 0
 at_drop text start i h = get_or-drop start text (i - start) 0 ∙ ap (λ n. get_or text n 0) (omega arith)

@@ -10,7 +10,8 @@ use Rattle.pf_ruleset.specs.Items.{AnyRule}
 use Rattle.pf_table.specs.Tables.{TableValue}
 use Rattle.pf_config.specs.Map.{AnchorValue, Path, path_eq, anchor_at, rules_in, tables_in}
 use Rattle.pf_config.specs.Changes.{is_empty, is_path_before, anchors_before, anchors_behind, with_anchor, with_tables, without_unnamed, placed, tidied, loaded, defined, Block, Definition}
-use Rattle.pf_config.specs.Trees.{own_entry, with_text}
+use Rattle.pf_config.specs.Trees.{own_entry}
+use Rattle.pf_config.specs.inner.Trees.{with_text}
 use Rattle.pf_config.proofs.Treed.{is_less, at_append, at_own, both_true, empty_is, path_same}
 use Rattle.pf_config.proofs.Entries.{Sided, sides_join, unless_own, paths_total, turn}
 

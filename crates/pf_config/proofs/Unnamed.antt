@@ -8,7 +8,8 @@ use Rattle.pf_ruleset.specs.Items.{AnyRule}
 use Rattle.pf_table.specs.Tables.{TableValue}
 use Rattle.pf_config.specs.Map.{AnchorValue, Path, name_after, names_after}
 use Rattle.pf_config.specs.Changes.{is_empty}
-use Rattle.pf_config.specs.Trees.{AnchorTree, below, own_entry, last_name, AreKids, passes, any_unnamed, anchor_in}
+use Rattle.pf_config.specs.Trees.{AnchorTree, below, own_entry, last_name, AreKids, anchor_in}
+use Rattle.pf_config.specs.inner.Trees.{passes, any_unnamed}
 use Rattle.pf_config.proofs.Treed.{both_true, begins, kid_begins}
 use Rattle.pf_config.proofs.Kids.{after_is, after_own}
 use Rattle.pf_config.proofs.Descents.{names_found, no_names_found}

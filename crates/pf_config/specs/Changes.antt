@@ -240,15 +240,6 @@ abbrev pub fill : Configuration → Path → Name → TableValue → List TableE
     Result Configuration ConfigFault
 fill c p name t entries = set_filled c p name (filled t entries)
 
--- a call fails for want of memory, or with the fault that is defined
-abbrev pub FailsWith : {A : Type 0} → ConfigFault → Result A ConfigFault → Type 0
-FailsWith Memory r = Unit {0}
-FailsWith NoTable r = r ≡ Err NoTable
-FailsWith ConstTable r = r ≡ Err ConstTable
-FailsWith TableFull r = r ≡ Err TableFull
-FailsWith AnchorsFull r = r ≡ Err AnchorsFull
-FailsWith BadPath r = r ≡ Err BadPath
-
 unfoldable pub add : Configuration → Path → Name → List TableEntry → Result Configuration ConfigFault
 add c p name list = let t = unwrap_or (table_at c p name) new_table in fill c p name t (with_entries t.entries list)
 

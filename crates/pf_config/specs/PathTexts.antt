@@ -1,8 +1,6 @@
 -- Paths as text: names between slashes, none for the main ruleset.
 use Rattle.std.specs.Prelude.{◌≡◌, ℕ, List, [], ◌∷◌, ◌++◌, ◌==◌, Option, Some, None, Result, Ok}
 use Rattle.std.specs.Prelude.{Err, if◌then◌else◌}
-use Rattle.std.specs.List.{list_all}
-use Rattle.pf_words.specs.Words.{is_anchor_text}
 use Rattle.pf_ruleset.specs.Names.{Name, path_if}
 use Rattle.pf_config.specs.declared.fault.ConfigFault.{ConfigFault}
 use Rattle.pf_config.specs.declared.fault.ConfigFault.TheVariants.{NoTable, ConstTable, TableFull, AnchorsFull, BadPath}
@@ -16,10 +14,6 @@ pieces_from begun (b ∷ bytes) = if b == 47 then begun ∷ pieces_from [] bytes
 
 abbrev pub pieces : List ℕ → List (List ℕ)
 pieces text = pieces_from [] text
-
--- the pieces, if each is an anchor's name
-abbrev pub names_if : List (List ℕ) → Option (List Name)
-names_if pieces = if list_all is_anchor_text pieces then Some pieces else None
 
 abbrev pub some_path : List ℕ → Option (List Name)
 some_path [] = Some []

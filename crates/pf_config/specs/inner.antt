@@ -5,3 +5,7 @@ pub mod Referring
 pub mod RisingNames
 pub mod Texts
 pub mod TreeFalls
+pub mod Changes
+pub mod Ordered
+pub mod PathTexts
+pub mod Trees

@@ -2,7 +2,8 @@
 
 ghost use Rattle.std.specs.Prelude.{◌≡◌, ◌≤◌, ◌++◌, false, length, IfOk, OnOk};
 ghost use Rattle.std.specs.List.{list_any};
-ghost use Rattle.pf_ruleset.specs.Items.{is_overfull, values_of};
+ghost use Rattle.pf_ruleset.specs.Items.{values_of};
+ghost use Rattle.pf_ruleset.specs.inner.Items.{is_overfull};
 ghost use Rattle.pf_ruleset.specs.Seen.{item_of, items_of};
 ghost use Rattle.pf_config.specs.Changes.{blocks_of, blocks_in};
 

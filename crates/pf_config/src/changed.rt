@@ -5,7 +5,7 @@ ghost use Rattle.std.specs.Prelude.{◌≡◌, ◌≤◌, [], IfOk, map, length}
 ghost use Rattle.pf_ruleset.specs.Seen.{rule_of};
 ghost use Rattle.pf_config.specs.Map.{anchor_at, rules_in, tables_in};
 ghost use Rattle.pf_config.specs.Changes.{with_tables, with_rules, placed, tidied, without_unnamed};
-ghost use Rattle.pf_config.specs.Trees.{any_unnamed};
+ghost use Rattle.pf_config.specs.inner.Trees.{any_unnamed};
 ghost use Rattle.pf_config.specs.declared.config.TheConstants.{RULES_MAX};
 
 use crate::anchor::{Anchor, with_entry};

@@ -4,7 +4,7 @@ ghost use Rattle.std.specs.Prelude.{◌≡◌, [], IfOk, fold, map};
 ghost use Rattle.std.specs.List.{list_any};
 ghost use Rattle.pf_config.specs.Changes.{placed, defined, defined_table, is_too_deep, loaded, without_unnamed};
 ghost use Rattle.pf_config.specs.inner.Texts.{definition_of};
-ghost use Rattle.pf_config.specs.Trees.{with_text};
+ghost use Rattle.pf_config.specs.inner.Trees.{with_text};
 
 use crate::anchor::{Anchor, with_entry};
 use crate::changed::{cut, placed, tables_at, tidied};

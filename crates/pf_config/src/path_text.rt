@@ -1,7 +1,8 @@
 //! Paths as text.
 
 ghost use Rattle.std.specs.Prelude.{◌≡◌, IfOk, map, option_map};
-ghost use Rattle.pf_config.specs.PathTexts.{pieces, names_if, path_of, PathAnswers};
+ghost use Rattle.pf_config.specs.PathTexts.{pieces, path_of, PathAnswers};
+ghost use Rattle.pf_config.specs.inner.PathTexts.{names_if};
 
 use crate::fault::ConfigFault;
 use pf_ruleset::{Name, Path};

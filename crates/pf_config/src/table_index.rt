@@ -23,7 +23,7 @@ impl Model for TableIndex {
     ghost use Rattle.std.specs.Map.{values_of};
     ghost use Rattle.pf_ruleset.specs.Names.{Name};
     ghost use Rattle.pf_table.specs.Tables.{TableValue};
-    ghost use Rattle.pf_config.specs.Ordered.{AreKeyed};
+    ghost use Rattle.pf_config.specs.inner.Ordered.{AreKeyed};
 
     ghost Value = { List (Name × TableValue) };
 

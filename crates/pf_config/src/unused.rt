@@ -4,7 +4,7 @@ ghost use Rattle.std.specs.Prelude.{◌≡◌, [], IfOk, filter, map};
 ghost use Rattle.std.specs.List.{list_any};
 ghost use Rattle.pf_ruleset.specs.Seen.{rule_of};
 ghost use Rattle.pf_config.specs.Changes.{is_at_table, conditions_refer, refers, is_used, used_tables};
-ghost use Rattle.pf_config.specs.Trees.{is_idle};
+ghost use Rattle.pf_config.specs.inner.Trees.{is_idle};
 ghost use Rattle.pf_config.specs.Ordered.{AreOrdered};
 ghost use Rattle.pf_config.specs.inner.Referring.{KnowsAll, goes_by, stays_by};
 

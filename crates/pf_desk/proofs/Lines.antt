@@ -13,7 +13,7 @@ use Rattle.pf_scripts.specs.Ctl.{is_counted, change_line}
 use Rattle.pf_node.specs.Applied.{after}
 use Rattle.pf_node.specs.Outcomes.{outcome_of, outcome_read, outcome_in, outcome_at}
 use Rattle.pf_node.specs.declared.outcomes.Outcome.{Outcome}
-use Rattle.pf_desk.specs.Outcomes.{outcome_line, counts_read, counts_in}
+use Rattle.pf_desk.specs.inner.Outcomes.{outcome_line, counts_read, counts_in}
 use Rattle.pf_desk.specs.Standing.{line_read, line_in, line_at, kept_line}
 
 -- ---- whether counts are shown

@@ -4,10 +4,8 @@ pub mod EntryLines
 pub mod Health
 pub mod Listings
 pub mod LogLines
-pub mod Metrics
-pub mod Outcomes
 pub mod Requests
 pub mod Standing
 pub mod Status
 pub mod StatusJson
-pub mod Targets
+pub mod inner

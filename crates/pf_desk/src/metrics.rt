@@ -1,7 +1,7 @@
 //! Numbers for Prometheus, in its text format 0.0.4.
 
 ghost use Rattle.std.specs.Prelude.{◌≡◌, ◌++◌, IfOk, OnOk, string_bytes};
-ghost use Rattle.pf_desk.specs.Metrics.{heading, metric, labelled, sample};
+ghost use Rattle.pf_desk.specs.inner.Metrics.{heading, metric, labelled, sample};
 
 use crate::answer::Answer;
 use crate::figures::Figures;

@@ -6,7 +6,7 @@ ghost use Rattle.pf_entry.specs.Reading.{reading};
 ghost use Rattle.pf_entry.specs.Views.{command_of};
 ghost use Rattle.pf_scripts.specs.Ctl.{is_counted};
 ghost use Rattle.pf_node.specs.Nodes.{learned_by, applied_of, kept_of};
-ghost use Rattle.pf_desk.specs.Outcomes.{outcome_line, counts_read, counts_in};
+ghost use Rattle.pf_desk.specs.inner.Outcomes.{outcome_line, counts_read, counts_in};
 ghost use Rattle.pf_desk.specs.Standing.{kept_line};
 
 use pf_effect::Applied;

@@ -1,7 +1,7 @@
 //! Paths and their methods.
 
 ghost use Rattle.std.specs.Prelude.{◌≡◌};
-ghost use Rattle.pf_desk.specs.Targets.{method_of, plain_target};
+ghost use Rattle.pf_desk.specs.inner.Targets.{method_of, plain_target};
 
 /// What a path names.
 #[derive(Clone, Copy, Debug, PartialEq, Eq)]

@@ -5,8 +5,8 @@ use Rattle.http_server.specs.Exchange.{Call, Chain}
 use Rattle.http_server.specs.declared.response.Response.{Response}
 use Rattle.px_records.specs.declared.records.Records.{Ghosts}
 use Rattle.pf_desk.specs.declared.desk.Desk.{Desk}
-use Rattle.pf_door.specs.Handling.{IsHandled}
-use Rattle.pf_door.specs.Runs.{Asks, AreAsked}
+use Rattle.pf_door.specs.inner.Handling.{IsHandled}
+use Rattle.pf_door.specs.inner.Runs.{Asks, AreAsked}
 use Rattle.pf_door.specs.declared.clerk.Clerk.{Clerk}
 
 pub asked_none : {R : Type 0} {G : Ghosts R} (s t : Desk R G) → t ≡ s → AreAsked s t

@@ -6,7 +6,8 @@ use Rattle.px_replica.specs.declared.fault.NodeFault.{NodeFault}
 use Rattle.px_transport.specs.declared.wire.Wire as wires
 use Rattle.pf_desk.specs.declared.desk.Desk.{Desk}
 use Rattle.pf_turn.specs.Turns.{Served}
-use Rattle.pf_door.specs.Runs.{Place, place, stand_of, Ran, Asks, AreAsked, Steps, Opened}
+use Rattle.pf_door.specs.Runs.{Place, place, stand_of, Ran, Steps, Opened}
+use Rattle.pf_door.specs.inner.Runs.{Asks, AreAsked}
 
 steps_then : {R : Type 0} {G : Ghosts R} (m n : ℕ) (x y z : Place G) → Steps m x y → Steps n y z → (k : ℕ) × Steps k x z
 steps_then {R} {G} m zero x y z a e = (m, subst (λ (w : Place G). Steps m x w) (sym e) a)

@@ -1,3 +1,3 @@
-pub mod Handling
 pub mod Runs
 pub mod Wiring
+pub mod inner

@@ -39,14 +39,6 @@ pub record IsAsked {R : Type 0} {G : Ghosts R} (s t : Desk R G) : Type 0 where
   pub answer : AnswerValue
   pub answers : Answers s t counted request answer
 
--- so many requests, one after another
-abbrev pub Asks : {R : Type 0} {G : Ghosts R} → (requests : ℕ) → (s t : Desk R G) → Type 0
-Asks zero s t = t ≡ s
-Asks {R} {G} (suc n) s u = (t : Desk R G) × Asks n s t × IsAsked t u
-
-abbrev pub AreAsked : {R : Type 0} {G : Ghosts R} → (s t : Desk R G) → Type 0
-AreAsked s t = (requests : ℕ) × Asks requests s t
-
 -- a request was asked, and the wire was left alone
 pub record Asked {R : Type 0} {G : Ghosts R} (x y : Place G) : Type 0 where
   pub asked : IsAsked x.desk y.desk

@@ -3,7 +3,7 @@
 ghost use Rattle.std.specs.Prelude.{◌≡◌, ◌≤◌, [], true, IfOk, OnErr, OnOk, string_bytes};
 ghost use Rattle.http_server.specs.Response.{IsBlank};
 ghost use Rattle.pf_desk.specs.Answers.{answer_value};
-ghost use Rattle.pf_door.specs.Handling.{Says, IsAnswered, IsTurnedAway, IsHandled};
+ghost use Rattle.pf_door.specs.inner.Handling.{Says, IsAnswered, IsTurnedAway, IsHandled};
 
 use bytes::{BufMut, Bytes};
 use http::{HeaderName, HeaderValue, StatusCode};

@@ -1,7 +1,7 @@
 //! The door: a Unix socket, where figures alone are told a TCP port too, and the seats at both.
 
 ghost use Rattle.std.specs.Prelude.{◌≡◌};
-ghost use Rattle.pf_door.specs.Runs.{AreAsked};
+ghost use Rattle.pf_door.specs.inner.Runs.{AreAsked};
 
 use crate::clerk::Clerk;
 use crate::seat::{Look, Seat};

@@ -1,6 +1,6 @@
 //! A seat: a connection over which requests come.
 
-ghost use Rattle.pf_door.specs.Handling.{Handles};
+ghost use Rattle.pf_door.specs.inner.Handling.{Handles};
 
 use crate::stream::Stream;
 use http_server::{Config, Connection, Reason, Refusal, Service, State};

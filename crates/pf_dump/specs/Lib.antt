@@ -1,2 +1,2 @@
 pub mod Scripts
-pub mod Seen
+pub mod inner

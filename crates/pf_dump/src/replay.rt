@@ -6,9 +6,10 @@ ghost use Rattle.pf_entry.specs.Owned.{command_value};
 ghost use Rattle.pf_entry.specs.Views.{command_of};
 ghost use Rattle.pf_effect.specs.Effect.{after_command};
 ghost use Rattle.pf_scripts.specs.Ctl.{pfctl, pfctl_line, at_words, stepped};
-ghost use Rattle.pf_scripts.specs.Seen.{line_of, waiting_of};
+ghost use Rattle.pf_scripts.specs.Seen.{line_of};
+ghost use Rattle.pf_scripts.specs.inner.Seen.{waiting_of};
 ghost use Rattle.pf_dump.specs.Scripts.{configured};
-ghost use Rattle.pf_dump.specs.Seen.{StepsTo};
+ghost use Rattle.pf_dump.specs.inner.Seen.{StepsTo};
 
 use pf_command::{ApplyFault, Command, CommandView, EncodeFault, Entry, apply, decode, encode};
 use pf_config::Config;
@@ -170,7 +171,8 @@ fn step<'a>(
     }
 }
 
-/// The configuration that a script makes of an empty one; none where one of its lines is no change, or a text has no end.
+/// The configuration that a script makes of an empty one; none where one of its lines is no change, or a text has no
+/// end.
 #[tactic(auto, unfolding(crate::specs::Scripts::configured))]
 pub(crate) fn replayed(alloc: Global, script: &[u8]) -> Result<Option<Config>, AllocError>
     ensures { IfOk result (λ o. IfSome o (λ c. c ≡ configured script.now)) }

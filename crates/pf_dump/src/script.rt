@@ -93,8 +93,8 @@ fn push_entries(
     Ok(())
 }
 
-/// Puts the lines of a path behind a script: its load, and before it the entries of its tables where the text would be too
-/// long with them.
+/// Puts the lines of a path behind a script: its load, and before it the entries of its tables where the text would be
+/// too long with them.
 fn push_lines(
     alloc: Global,
     script: &mut Vec<u8>,

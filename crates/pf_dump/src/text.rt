@@ -31,8 +31,8 @@ enum Stepped {
     Opens(Level),
 }
 
-/// The paths that a command may load: main, which comes last, and those with rules or tables that aren't below an unnamed
-/// block, in byte order. Main is left out where nothing stands there and no interface is skipped.
+/// The paths that a command may load: main, which comes last, and those with rules or tables that aren't below an
+/// unnamed block, in byte order. Main is left out where nothing stands there and no interface is skipped.
 pub fn text_paths(alloc: Global, config: &Config) -> Result<Vec<&[Name]>, AllocError> {
     let mut found = Vec::new(alloc);
     let mut has_main = !config.skip().is_empty();

@@ -13,7 +13,8 @@ use Rattle.pf_effect.specs.declared.commands.Applied.{Applied}
 use Rattle.pf_effect.specs.declared.fault.ApplyFault.{ApplyFault}
 use Rattle.pf_effect.specs.declared.fault.ApplyFault.TheVariants as answer
 use Rattle.pf_effect.specs.Effect.{Effect, RefusedCommand, refused_change, uncounted, counted, contents_at, entries_of, changed}
-use Rattle.pf_effect.specs.Answers.{Applies, Leaves, answer_of, fault_of_change, Counts}
+use Rattle.pf_effect.specs.Answers.{Applies, Leaves}
+use Rattle.pf_effect.specs.inner.Answers.{answer_of, fault_of_change, Counts}
 use Rattle.pf_effect.proofs.Contents.{add_holds, replace_holds, delete_holds, flush_holds}
 
 -- the entries of a list are these again

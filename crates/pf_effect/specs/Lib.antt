@@ -1,2 +1,3 @@
 pub mod Effect
 pub mod Answers
+pub mod inner

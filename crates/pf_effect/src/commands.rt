@@ -6,7 +6,8 @@ ghost use Rattle.pf_grammar.specs.Reading.{reading};
 ghost use Rattle.pf_entry.specs.Entry.{are_names, path_of, rest_fits};
 ghost use Rattle.pf_entry.specs.Views.{addresses_of, command_of};
 ghost use Rattle.pf_effect.specs.Effect.{effect, entries_of, place_at, loaded, counted, after_command};
-ghost use Rattle.pf_effect.specs.Answers.{Applies, Leaves, answer_of};
+ghost use Rattle.pf_effect.specs.Answers.{Applies, Leaves};
+ghost use Rattle.pf_effect.specs.inner.Answers.{answer_of};
 
 use crate::counts::{added, deleted, emptied, replaced};
 use crate::fault::ApplyFault;

@@ -3,7 +3,7 @@
 ghost use Rattle.std.specs.Prelude.{◌≡◌, [], IfOk};
 ghost use Rattle.pf_table.specs.Contents.{with_entries, contents_of, without_entries};
 ghost use Rattle.pf_effect.specs.Effect.{contents_at};
-ghost use Rattle.pf_effect.specs.Answers.{Counts};
+ghost use Rattle.pf_effect.specs.inner.Answers.{Counts};
 
 use crate::commands::Applied;
 use pf_config::{Config, Table};

@@ -2,7 +2,7 @@
 
 ghost use Rattle.std.specs.Prelude.{◌≡◌};
 ghost use Rattle.pf_effect.specs.declared.fault.ApplyFault.TheVariants.{Memory};
-ghost use Rattle.pf_effect.specs.Answers.{fault_of_change, fault_of_text};
+ghost use Rattle.pf_effect.specs.inner.Answers.{fault_of_change, fault_of_text};
 
 use pf_config::ConfigFault;
 use pf_grammar::Refusal;

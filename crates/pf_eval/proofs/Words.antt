@@ -4,7 +4,7 @@ use Rattle.std.proofs.lemmas.List.{take_more, get_or-drop, take_all, take_rest, 
 use Rattle.std.proofs.lemmas.Bool.{false≢true}
 use Rattle.std.specs.Prelude.{not}
 use Rattle.std.specs.List.{list_all}
-use Rattle.pf_eval.specs.Cursors.{begins_plain}
+use Rattle.pf_eval.specs.inner.Cursors.{begins_plain}
 use Rattle.std.proofs.lemmas.Slice.Eq.{bytes_eq-Decides}
 use Rattle.std.specs.Prelude.{bytes_eq}
 use Rattle.pf_eval.specs.PacketTexts.{is_blank, ended, words_from, words, begins}

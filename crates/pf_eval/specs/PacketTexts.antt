@@ -46,13 +46,10 @@ abbrev pub Read : Type 0 → Type 0
 Read X = Option (X × List Word)
 
 infixl 10 ◌>>=◌
+
 abbrev pub ◌>>=◌ : {A B : Type 0} → Option A → (A → Option B) → Option B
 (Some x) >>= f = f x
 None >>= f = None
-
-abbrev pub is_empty : List Word → Bool
-is_empty [] = true
-is_empty (w ∷ ws) = false
 
 -- whether this word comes next
 abbrev pub begins : Word → List Word → Bool

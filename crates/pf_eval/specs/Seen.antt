@@ -1,16 +1,12 @@
 -- What a verdict of the code stands for, and how it is shown.
-use Rattle.std.specs.Prelude.{ℕ, List, [], ◌∷◌, ◌++◌, Option, Some, None, codes, decimal}
-use Rattle.std.specs.Borrow.{Bor}
+use Rattle.std.specs.Prelude.{ℕ, List, [], ◌∷◌, ◌++◌, Some, None, codes, decimal}
 use Rattle.std.specs.List.{flat_map}
 use Rattle.pf_ruleset.specs.declared.rule.Action.{Action}
 use Rattle.pf_ruleset.specs.declared.rule.Action.TheVariants as act
 use Rattle.pf_ruleset.specs.Names.{Name}
-use Rattle.pf_config.specs.Map.{Configuration, Path, table_for}
 use Rattle.pf_eval.specs.declared.answer.Spot as code
 use Rattle.pf_eval.specs.declared.answer.Verdict.{Verdict}
 use Rattle.pf_eval.specs.declared.answer.Verdict.TheVariants as verdict
-use Rattle.pf_eval.specs.declared.scope.Scope.{Scope}
-use Rattle.pf_eval.specs.Matching.{Tables}
 use Rattle.pf_eval.specs.Verdicts.{Judgement, Skipped, Decided, Spot}
 
 abbrev pub spot_of : Action → code.Spot → Spot
@@ -23,15 +19,6 @@ judgement_of verdict.Default = Decided None
 judgement_of (verdict.Pass s) = Decided (Some (spot_of act.Pass s))
 judgement_of (verdict.Drop s) = Decided (Some (spot_of act.Drop s))
 judgement_of (verdict.Return s) = Decided (Some (spot_of act.Return s))
-
--- the tables that rules at a path may name, where there is a configuration
-abbrev pub tables_at : Option (Bor Configuration) → Path → Tables
-tables_at None p name = None
-tables_at (Some c) p name = table_for c.now p name
-
--- the tables that the rules of a scope may name
-unfoldable pub tables_of : Scope → Tables
-tables_of s name = tables_at s.config s.path.now name
 
 -- a path's names, with / between them
 abbrev pub path_text : List Name → List ℕ

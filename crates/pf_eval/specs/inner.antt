@@ -2,3 +2,6 @@
 pub mod Sieves
 pub mod Searching
 pub mod TwoWalks
+pub mod Cursors
+pub mod PacketTexts
+pub mod Seen

@@ -5,12 +5,13 @@ ghost use Rattle.std.specs.Prelude.{option_map, codes};
 ghost use Rattle.std.specs.Prelude.{if◌then◌else◌, not};
 ghost use Rattle.std.specs.List.{list_all};
 ghost use Rattle.std.specs.Option.{option_copied};
-ghost use Rattle.pf_eval.specs.PacketTexts.{is_blank, is_empty, begins, word_at, word_after, value, keyed, optional};
+ghost use Rattle.pf_eval.specs.PacketTexts.{is_blank, begins, word_at, word_after, value, keyed, optional};
+ghost use Rattle.pf_eval.specs.inner.PacketTexts.{is_empty};
 ghost use Rattle.pf_eval.specs.PacketTexts.{direction_of, name_of, address_of, port_number_of, type_number_of};
 ghost use Rattle.pf_eval.specs.PacketTexts.{groups_at, end_at, words};
 ghost use Rattle.pf_words.specs.Words.{protocol_of, flags_of};
 ghost use Rattle.pf_eval.specs.declared.fault.PacketFault.TheVariants.{Memory};
-ghost use Rattle.pf_eval.specs.Cursors.{left, end_of, Reads, ReadsAll};
+ghost use Rattle.pf_eval.specs.inner.Cursors.{left, end_of, Reads, ReadsAll};
 
 use crate::fault::PacketFault;
 use crate::word::{behind, first_word};

@@ -1,7 +1,7 @@
 //! A filter rule that matches.
 
 ghost use Rattle.std.specs.Prelude.{◌≡◌};
-ghost use Rattle.pf_eval.specs.Seen.{tables_of};
+ghost use Rattle.pf_eval.specs.inner.Seen.{tables_of};
 ghost use Rattle.pf_eval.specs.inner.TwoWalks.{rule_spot, quick_spot, other_spot, spot_in};
 
 use crate::matching::matches;

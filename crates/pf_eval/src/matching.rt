@@ -1,7 +1,7 @@
 //! Whether a rule matches a packet.
 
 ghost use Rattle.std.specs.Prelude.{◌≡◌, ◌==◌};
-ghost use Rattle.pf_eval.specs.Seen.{tables_of};
+ghost use Rattle.pf_eval.specs.inner.Seen.{tables_of};
 ghost use Rattle.pf_eval.specs.Matching.{direction_eq, on_interface, of_family, in_some, in_addresses, at_host};
 ghost use Rattle.pf_eval.specs.Matching.{port_passes, flag_passes, just, flags_pass, matches, is_such, is_between};
 ghost use Rattle.pf_eval.specs.Matching.{if_set, if_there};
@@ -110,7 +110,7 @@ fn in_addresses(scope: Scope<'_>, addr: Addr, set: &Addresses) -> bool
 }
 
 /// Whether the address is in the table of that name; in none where there is no such table.
-#[tactic(auto, unfolding(crate::specs::Seen::tables_of))]
+#[tactic(auto, unfolding(crate::specs::inner::Seen::tables_of))]
 fn in_table(scope: Scope<'_>, name: &TableName, addr: Addr) -> bool
     ensures { result ≡ in_some addr (tables_of scope.entry name.now) }
 {

@@ -3,7 +3,8 @@
 ghost use Rattle.std.specs.Prelude.{◌≡◌, ◌&&◌};
 ghost use Rattle.pf_eval.specs.PacketTexts.{same_family, has_ports, is_there_if, only_if, agrees, said_flags};
 ghost use Rattle.pf_eval.specs.PacketTexts.{packet_at, packet_of, words};
-ghost use Rattle.pf_eval.specs.Cursors.{Answers, end_of};
+ghost use Rattle.pf_eval.specs.Cursors.{Answers};
+ghost use Rattle.pf_eval.specs.inner.Cursors.{end_of};
 
 use crate::cursor::{Cursor, End};
 use crate::fault::PacketFault;

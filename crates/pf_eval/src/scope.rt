@@ -1,7 +1,7 @@
 //! Where a rule is evaluated.
 
 ghost use Rattle.std.specs.Prelude.{◌≡◌, []};
-ghost use Rattle.pf_eval.specs.Seen.{tables_of};
+ghost use Rattle.pf_eval.specs.inner.Seen.{tables_of};
 ghost use Rattle.pf_eval.specs.Verdicts.{no_tables, tables_in};
 
 use pf_config::Config;
@@ -15,7 +15,7 @@ pub(crate) struct Scope<'c> {
 }
 
 /// The scope of the rules at a path.
-#[tactic(auto, unfolding(crate::specs::Seen::tables_of))]
+#[tactic(auto, unfolding(crate::specs::inner::Seen::tables_of))]
 pub(crate) fn scope_at<'c>(config: &'c Config, path: &'c [Name]) -> Scope<'c>
     ensures tables { tables_of result ≡ tables_in config.now path.now }
     ensures path { result.path.now ≡ path.now }
@@ -27,7 +27,7 @@ pub(crate) fn scope_at<'c>(config: &'c Config, path: &'c [Name]) -> Scope<'c>
 }
 
 /// The scope of rules that stand alone.
-#[tactic(auto, unfolding(crate::specs::Seen::tables_of))]
+#[tactic(auto, unfolding(crate::specs::inner::Seen::tables_of))]
 pub(crate) fn nowhere<'r>() -> Scope<'r>
     ensures tables { tables_of result ≡ no_tables }
     ensures path { result.path.now ≡ [] }

@@ -3,7 +3,7 @@
 ghost use Rattle.std.specs.Prelude.{◌≡◌, ◌++◌, ◌∷◌, ◌<◌, IfOk, IfSome, OnOk, Some, None, drop, length, map};
 ghost use Rattle.std.specs.Prelude.{if◌then◌else◌, not, option_map, true};
 ghost use Rattle.std.specs.List.{list_all};
-ghost use Rattle.pf_eval.specs.Cursors.{cut_words, begins_plain};
+ghost use Rattle.pf_eval.specs.inner.Cursors.{cut_words, begins_plain};
 ghost use Rattle.pf_eval.specs.PacketTexts.{begins, is_blank, ended, has_outer_blank, words};
 
 use pf_words::is_same_word;

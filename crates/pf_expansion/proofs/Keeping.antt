@@ -11,7 +11,8 @@ use Rattle.std.proofs.lemmas.Cmp.{eq_by_cmp_equiv, nat_cmp_total, then_total, on
 use Rattle.std.proofs.lemmas.List.Folds.{list_any-append}
 use Rattle.pf_addr.specs.Order.{prefix_cmp}
 use Rattle.pf_ruleset.specs.declared.ruleset.TableEntry.{TableEntry}
-use Rattle.pf_expansion.specs.Tables.{same_prefix, with_first, first_of_each, kept, key_of, key_cmp, AreKeys}
+use Rattle.pf_expansion.specs.Tables.{same_prefix, with_first, first_of_each}
+use Rattle.pf_expansion.specs.inner.Tables.{kept, key_of, key_cmp, AreKeys}
 
 one_more : (entries : List TableEntry) (e : TableEntry) → length entries ≤ length (with_first entries e)
 one_more entries e = cases (list_any (same_prefix e) entries)

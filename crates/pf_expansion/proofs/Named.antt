@@ -12,7 +12,8 @@ use Rattle.std.proofs.lemmas.List.Folds.{list_any-append}
 use Rattle.std.proofs.lemmas.Map.Text.{is_eq-slice_cmp}
 use Rattle.std.proofs.lemmas.Slice.Eq.{bytes_eq-Decides}
 use Rattle.pf_ruleset.specs.Rulesets.{TableValue}
-use Rattle.pf_expansion.specs.Tables.{AreNames, is_defined}
+use Rattle.pf_expansion.specs.Tables.{is_defined}
+use Rattle.pf_expansion.specs.inner.Tables.{AreNames}
 
 abbrev by_bytes : Vec ℕ → Vec ℕ → Ordering
 by_bytes x y = slice_cmp nat_cmp x.items y.items

@@ -2,7 +2,7 @@
 
 ghost use Rattle.std.specs.Prelude.{map};
 ghost use Rattle.pf_ruleset.specs.Rulesets.{table_of};
-ghost use Rattle.pf_expansion.specs.Tables.{AreNames};
+ghost use Rattle.pf_expansion.specs.inner.Tables.{AreNames};
 
 use pf_ruleset::{TableDef, TableName};
 use std::alloc::{AllocError, Global};

@@ -5,7 +5,8 @@ ghost use Rattle.pf_ruleset.specs.Rulesets.{table_of};
 ghost use Rattle.pf_statements.specs.Seen.{table_text_of};
 ghost use Rattle.pf_expansion.specs.Causes.{lowest};
 ghost use Rattle.pf_expansion.specs.Defined.{tables_of};
-ghost use Rattle.pf_expansion.specs.Tables.{AreKeys, kept, key_of, table_causes, table_value, with_first};
+ghost use Rattle.pf_expansion.specs.Tables.{table_causes, table_value, with_first};
+ghost use Rattle.pf_expansion.specs.inner.Tables.{AreKeys, kept, key_of};
 
 use crate::cause::Cause;
 use crate::defined_tables::DefinedTables;

@@ -23,7 +23,8 @@ use Rattle.pf_grammar.specs.declared.fault.Refusal.{Refusal}
 use Rattle.pf_ruleset.specs.declared.parts.Policy.{Policy}
 use Rattle.pf_ruleset.specs.declared.rule.Rule.{Rule}
 use Rattle.pf_ruleset.specs.declared.item.Item.{Item}
-use Rattle.pf_ruleset.specs.Items.{ItemValue, Heading, is_overfull}
+use Rattle.pf_ruleset.specs.Items.{ItemValue, Heading}
+use Rattle.pf_ruleset.specs.inner.Items.{is_overfull}
 use Rattle.pf_ruleset.specs.Items as item
 use Rattle.pf_ruleset.specs.Seen.{item_of, items_of}
 use Rattle.std.specs.List.{list_any}

@@ -18,7 +18,8 @@ use Rattle.px_replica.specs.Made.{same, answer}
 use Rattle.px_replica.specs.Spelled.{AreSpelled}
 use Rattle.px_replica.specs.declared.datagram.Datagram.{Datagram}
 use Rattle.px_replica.specs.Spelled.{for_members}
-use Rattle.pf_lab.specs.Labs.{IsAnswered, IsSeat, AreWorld}
+use Rattle.pf_lab.specs.Labs.{IsSeat, AreWorld}
+use Rattle.pf_lab.specs.inner.Labs.{IsAnswered}
 use Rattle.px_replica.proofs.Telling.{are_append, are_members}
 
 -- ---- one action in the world

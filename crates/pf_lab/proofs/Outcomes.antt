@@ -10,7 +10,8 @@ use Rattle.px_wire.specs.Message.{Group, group}
 use Rattle.px_replica.specs.Made.{same, answer}
 use Rattle.px_replica.specs.declared.datagram.Datagram.{Datagram}
 use Rattle.pf_node.specs.Nodes.{state_in}
-use Rattle.pf_lab.specs.Coming.{Came, IsInput, IsOf, event_of, is_long, is_too_long}
+use Rattle.pf_lab.specs.Coming.{event_of, is_long, is_too_long}
+use Rattle.pf_lab.specs.inner.Coming.{Came, IsInput, IsOf}
 use Rattle.pf_lab.specs.Labs.{SeatsAre, state_of, group_of}
 use Rattle.pf_lab.specs.declared.coming.What.{What}
 use Rattle.pf_lab.specs.declared.event.LabAction.{LabAction}

@@ -30,7 +30,8 @@ use Rattle.px_replica.specs.Spelled.{AreSpelled}
 use Rattle.px_replica.specs.declared.datagram.Datagram.{Datagram}
 use Rattle.px_replica.specs.declared.receiving.Received.{Received}
 use Rattle.pf_node.specs.Nodes.{state_in}
-use Rattle.pf_lab.specs.Coming.{IsInput, Came, happenings}
+use Rattle.pf_lab.specs.Coming.{happenings}
+use Rattle.pf_lab.specs.inner.Coming.{IsInput, Came}
 use Rattle.pf_lab.specs.Outcomes.{are_known, is_bad, Tells}
 use Rattle.pf_lab.specs.declared.event.LabFault.{LabFault}
 use Rattle.pf_lab.specs.declared.event.LabFault.TheVariants as fault
@@ -38,7 +39,8 @@ use Rattle.pf_lab.specs.declared.event.Outcome.{Outcome}
 use Rattle.pf_lab.specs.declared.event.LabEvent.{LabEvent}
 use Rattle.pf_lab.specs.declared.coming.What.{What}
 use Rattle.px_replica.specs.Spelled.{for_members}
-use Rattle.pf_lab.specs.Labs.{IsAnswered, IsSeat, SeatsAre, state_of, group_of, cluster_of}
+use Rattle.pf_lab.specs.Labs.{IsSeat, SeatsAre, state_of, group_of, cluster_of}
+use Rattle.pf_lab.specs.inner.Labs.{IsAnswered}
 use Rattle.pf_lab.specs.declared.seat.Seat.{Seat}
 use Rattle.px_replica.proofs.Telling.{one_message}
 use Rattle.pf_lab.proofs.Following.{lab_runs, lab_same, lab_stops_after, emptied_state}

@@ -1,15 +1,11 @@
 -- When a lab is a world.
-use Rattle.std.specs.Prelude.{◌≡◌, ℕ, true, false, List, [], length, slice_get, Some}
-use Rattle.px_model.specs.Node.{Answer}
-use Rattle.px_model.specs.Node.Answer.{Refused, Planned}
-use Rattle.px_model.specs.World.{World, NodeState, follows}
+use Rattle.std.specs.Prelude.{◌≡◌, ℕ, true, false, List, length, slice_get, Some}
+use Rattle.px_model.specs.World.{World, NodeState}
 use Rattle.px_model.specs.Spelling.{Bytes}
 use Rattle.px_wire.specs.declared.membership.Membership.{Membership}
 use Rattle.px_wire.specs.Message.{Group, group}
 use Rattle.px_replica.specs.Spelled.{AreSpelled, for_members}
 use Rattle.px_replica.specs.declared.datagram.Datagram.{Datagram}
-use Rattle.px_replica.specs.declared.fault.NodeFault.{NodeFault}
-use Rattle.px_replica.specs.declared.fault.NodeFault.TheVariants as fault
 use Rattle.px_replica.specs.Seen.{IsSound}
 use Rattle.px_records.specs.declared.records.Records.{Ghosts}
 use Rattle.pf_node.specs.declared.state.Node.{Node}
@@ -23,11 +19,6 @@ state_of s = record { is_up = s.is_up; stored = (state_in s.node).stored; volati
 
 abbrev pub group_of : Seat → Membership
 group_of s = membership_of s.node
-
--- a member did what the model answers: nothing where it refuses, else the plan
-abbrev pub IsAnswered : Group → Answer Bytes → (s t : NodeState Bytes) → List Datagram → Type 0
-IsAnswered g (Refused code) s t out = (t ≡ s) × (out ≡ [])
-IsAnswered g (Planned plan) s t out = (t ≡ follows s plan) × AreSpelled g plan.sends out
 
 -- a member of the lab is the m-th of the world
 pub record IsSeat (w : World Bytes) (g : Group) (m : ℕ) (s : NodeState Bytes) (p : Membership) : Type 0 where
@@ -58,17 +49,6 @@ pub record IsShown {R : Type 0} {G : Ghosts R} (s : NodeState Bytes) (n : Node R
   pub works : has_failed n ≡ false
   pub honest : G.is_honest (records_of n)
   pub sound : IsSound (membership_of n).members s.stored
-
--- what a node over a record in memory is refused with
-abbrev pub IsLabs : NodeFault → Type 0
-IsLabs fault.Memory = Unit {0}
-IsLabs fault.Full = Unit {0}
-IsLabs fault.BallotsSpent = Unit {0}
-IsLabs fault.PositionsSpent = Unit {0}
-IsLabs fault.TooLong = ⊥
-IsLabs fault.Store = ⊥
-IsLabs fault.BadStore = ⊥
-IsLabs fault.Failed = ⊥
 
 -- a lab's cluster of so many members
 abbrev pub cluster_of : ℕ → Group

@@ -1,2 +1,4 @@
 -- What only code and proofs use: no contract of a public function needs it.
 pub mod Props
+pub mod Coming
+pub mod Labs

@@ -5,7 +5,8 @@ ghost use Rattle.px_model.specs.Spelling.{Bytes};
 ghost use Rattle.px_model.specs.World.{World, comes_to};
 ghost use Rattle.px_wire.specs.Message.{Group};
 ghost use Rattle.px_replica.specs.Spelled.{AreSpelled};
-ghost use Rattle.pf_lab.specs.Coming.{IsAskable, IsNamed, Came, action_of, is_too_long, names_no_message};
+ghost use Rattle.pf_lab.specs.Coming.{action_of, is_too_long};
+ghost use Rattle.pf_lab.specs.inner.Coming.{IsAskable, IsNamed, Came, names_no_message};
 
 use crate::event::LabAction;
 use pf_node::{NodeFault, asked_bytes, asked_entry};

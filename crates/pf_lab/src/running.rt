@@ -14,9 +14,10 @@ ghost use Rattle.px_replica.specs.Faults.{IsRefusedBy};
 ghost use Rattle.px_replica.specs.Made.{answer};
 ghost use Rattle.px_replica.specs.Seen.{IsSound};
 ghost use Rattle.pf_node.specs.Nodes.{state_in, membership_of, has_failed};
-ghost use Rattle.pf_lab.specs.Coming.{IsInput, IsAskable};
+ghost use Rattle.pf_lab.specs.inner.Coming.{IsInput, IsAskable};
 ghost use Rattle.pf_lab.specs.Outcomes.{outcome_of};
-ghost use Rattle.pf_lab.specs.Labs.{IsAnswered, IsLabs, state_of, group_of};
+ghost use Rattle.pf_lab.specs.Labs.{state_of, group_of};
+ghost use Rattle.pf_lab.specs.inner.Labs.{IsAnswered, IsLabs};
 ghost use Rattle.px_core.specs.declared.limits.TheConstants.{MEMBERS};
 
 use crate::coming::What;

@@ -10,7 +10,7 @@ ghost use Rattle.px_model.specs.World.Event.{Runs, StopBefore, StopAfter};
 ghost use Rattle.px_wire.specs.Message.{Group};
 ghost use Rattle.px_replica.specs.Made.{same};
 ghost use Rattle.px_replica.specs.declared.datagram.Datagram as datagrams;
-ghost use Rattle.pf_lab.specs.Coming.{Came, IsAskable};
+ghost use Rattle.pf_lab.specs.inner.Coming.{Came, IsAskable};
 ghost use Rattle.px_replica.specs.Spelled.{for_members};
 ghost use Rattle.pf_lab.specs.Labs.{SeatsAre};
 ghost use Rattle.pf_lab.specs.Outcomes.{Tells, is_unknown, outcome_in};

@@ -1,5 +1,1 @@
-pub mod Numbers
-pub mod Asking
-pub mod LabLines
-pub mod Shown
-pub mod Seen
+pub mod inner

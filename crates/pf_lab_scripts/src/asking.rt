@@ -4,8 +4,8 @@ ghost use Rattle.std.specs.Prelude.{◌≡◌, map};
 ghost use Rattle.std.specs.Option.{option_copied};
 ghost use Rattle.clap.specs.Words.{found_of, rows_of};
 ghost use Rattle.pf_command.specs.Asked.{given_in, asked};
-ghost use Rattle.pf_lab_scripts.specs.Asking.{change_in, is_allowed, change_of};
-ghost use Rattle.pf_lab_scripts.specs.Seen.{Reads};
+ghost use Rattle.pf_lab_scripts.specs.inner.Asking.{change_in, is_allowed, change_of};
+ghost use Rattle.pf_lab_scripts.specs.inner.Seen.{Reads};
 ghost use Rattle.pf_entry.specs.Owned.{command_value};
 
 use crate::fault::{LineFault, UNKNOWN};

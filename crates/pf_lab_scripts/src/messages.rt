@@ -3,8 +3,8 @@
 ghost use Rattle.std.specs.Prelude.{◌≡◌, ◌++◌, OnOk, string_bytes};
 ghost use Rattle.px_model.specs.Entries.{view_of};
 ghost use Rattle.px_wire.specs.Views.{message_of, accepted_of};
-ghost use Rattle.pf_lab_scripts.specs.Shown.{kind_word, ballot_part, position_part, entry_part, accepted_part};
-ghost use Rattle.pf_lab_scripts.specs.Shown.{message_parts, message_line};
+ghost use Rattle.pf_lab_scripts.specs.inner.Shown.{kind_word, ballot_part, position_part, entry_part, accepted_part};
+ghost use Rattle.pf_lab_scripts.specs.inner.Shown.{message_parts, message_line};
 
 use crate::printing::push_named;
 use pf_scripts::push_number;

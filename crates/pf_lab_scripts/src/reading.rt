@@ -2,8 +2,8 @@
 
 ghost use Rattle.std.specs.Prelude.{◌≡◌, map, option_map};
 ghost use Rattle.std.specs.Option.{option_copied};
-ghost use Rattle.pf_lab_scripts.specs.LabLines.{only, ask_of, action_of, event_of, test_of, bare, line_asked};
-ghost use Rattle.pf_lab_scripts.specs.Seen.{Reads, action_value, event_value, line_value};
+ghost use Rattle.pf_lab_scripts.specs.inner.LabLines.{only, ask_of, action_of, event_of, test_of, bare, line_asked};
+ghost use Rattle.pf_lab_scripts.specs.inner.Seen.{Reads, action_value, event_value, line_value};
 
 use crate::asking::command_in;
 use crate::fault::{LineFault, UNKNOWN};

@@ -4,7 +4,7 @@ ghost use Rattle.std.specs.Prelude.{◌≡◌, ◌++◌, ◌+◌, OnOk, string_b
 ghost use Rattle.px_model.specs.Entries.{view_of};
 ghost use Rattle.px_model.specs.Step.{front};
 ghost use Rattle.pf_node.specs.Nodes.{learned_by};
-ghost use Rattle.pf_lab_scripts.specs.Shown.{entry_line, log_lines};
+ghost use Rattle.pf_lab_scripts.specs.inner.Shown.{entry_line, log_lines};
 
 use crate::bench::Bench;
 use crate::fault::{LineFault, NOT_THERE};

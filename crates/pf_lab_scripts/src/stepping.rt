@@ -1,7 +1,7 @@
 //! A line of a script.
 
 ghost use Rattle.std.specs.Prelude.{◌≡◌, IfOk, map};
-ghost use Rattle.pf_lab_scripts.specs.LabLines.{is_followed};
+ghost use Rattle.pf_lab_scripts.specs.inner.LabLines.{is_followed};
 
 use crate::bench::Bench;
 use crate::fault::LineFault;

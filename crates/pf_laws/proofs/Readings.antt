@@ -20,7 +20,9 @@ use Rattle.pf_ruleset.specs.declared.parts.Policy.{Policy}
 use Rattle.pf_ruleset.specs.declared.rule.Rule.{Rule}
 use Rattle.pf_ruleset.specs.declared.rule.Conditions.{Conditions}
 use Rattle.pf_ruleset.specs.Names.{Name}
-use Rattle.pf_ruleset.specs.Items.{AnyRule, Target, Heading, ItemValue, ItemValues, no_items, one_more, list_of, values_of, rule_in, is_overfull, any_overfull}
+use Rattle.pf_ruleset.specs.Items.{AnyRule, Target, Heading, ItemValue, ItemValues, no_items, one_more, list_of}
+use Rattle.pf_ruleset.specs.Items.{values_of, rule_in}
+use Rattle.pf_ruleset.specs.inner.Items.{is_overfull, any_overfull}
 use Rattle.pf_ruleset.specs.Items as item
 use Rattle.pf_ruleset.specs.Rulesets.{RulesetValue}
 use Rattle.pf_statements.specs.Anchors.{AnchorText, HeadingText, anchor_with}

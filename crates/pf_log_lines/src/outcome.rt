@@ -6,7 +6,8 @@ ghost use Rattle.pf_entry.specs.Reading.{reading};
 ghost use Rattle.pf_entry.specs.Views.{command_of};
 ghost use Rattle.pf_scripts.specs.Ctl.{is_counted};
 ghost use Rattle.pf_node.specs.Nodes.{learned_by, applied_of, kept_of};
-ghost use Rattle.pf_log_lines.specs.Outcomes.{outcome_line, counts_read, counts_in, kept_line};
+ghost use Rattle.pf_log_lines.specs.Outcomes.{kept_line};
+ghost use Rattle.pf_log_lines.specs.inner.Outcomes.{outcome_line, counts_read, counts_in};
 
 use pf_effect::Applied;
 use pf_entry::{CommandView, decode};

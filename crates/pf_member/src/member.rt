@@ -55,8 +55,8 @@ fn served_by<R: Records, W: Wire + Drop, C: Clock>(
 }
 
 /// The run of a member over its record: the record is opened, so many turns are made over the wire, up to the first
-/// fault, and the record is given back. Without a wire it is opened alone. When the clock ticks is the clock's to say, and
-/// what a turn does isn't.
+/// fault, and the record is given back. Without a wire it is opened alone. When the clock ticks is the clock's to say,
+/// and what a turn does isn't.
 pub fn run_member<R: Records, W: Wire + Drop, C: Clock>(
     alloc: Global,
     m: Membership,

@@ -1,7 +1,7 @@
 //! Where a datagram has what the wire looks at.
 
-/// The most bytes of a datagram that goes in one packet everywhere: the least packet that IPv6 must carry (RFC 8200, 5),
-/// without the headers of IPv6 and UDP. A longer one may be cut into several.
+/// The most bytes of a datagram that goes in one packet everywhere: the least packet that IPv6 must carry (RFC 8200,
+/// 5), without the headers of IPv6 and UDP. A longer one may be cut into several.
 pub(crate) const PACKET: usize = 1_232;
 
 /// Where a datagram has its kind, and the kinds of those that are kept: accept requests and votes.

@@ -12,8 +12,8 @@ const MOST_KEPT: usize = 30;
 const MEMBERS: usize = 15;
 
 /// How many bytes a millisecond go to a member again from all others together in datagrams longer than a packet. The
-/// system cuts these, and of one of which a piece is lost the other pieces take the receiver's room for pieces, 4 MiB on
-/// Linux, for 30 s: at 139 bytes a millisecond that would be full.
+/// system cuts these, and of one of which a piece is lost the other pieces take the receiver's room for pieces, 4 MiB
+/// on Linux, for 30 s: at 139 bytes a millisecond that would be full.
 const LARGE_RATE: u64 = 131;
 
 /// The accept requests and votes of one ballot at one position that were sent last, with for whom; and the accept

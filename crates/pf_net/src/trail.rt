@@ -5,9 +5,9 @@ use std::alloc::{AllocError, Global};
 use std::collections::VecDeque;
 
 /// How many votes are kept at most, and how many bytes of them.
-const MOST_VOTES: usize = 32_768;
+const MOST_VOTES: usize = 131_072;
 
-const MOST_BYTES: usize = 8 * 1_024 * 1_024;
+const MOST_BYTES: usize = 16 * 1_024 * 1_024;
 
 /// How many members there are at most.
 const MEMBERS: usize = 15;

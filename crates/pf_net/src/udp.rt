@@ -77,7 +77,7 @@ impl<T: Drop> From<AllocFailed<T>> for BindFault {
 /// pieces fill its room for pieces where some are lost. The accept request that was given last, where it comes again
 /// and is polled while the vote for it is kept, is answered by that and isn't given.
 ///
-/// Of the votes that fit into a packet the last 32,768 are kept, and 8 MiB at most. [`Wire::repeat_to`] sends a
+/// Of the votes that fit into a packet the last 131,072 are kept, and 16 MiB at most. [`Wire::repeat_to`] sends a
 /// member those that it lacks, at 63 positions at most and in 10 ms no more than this member's part of what its socket
 /// takes in: those that it wasn't sent again yet where it comes on, and all where it doesn't, or comes on by just one
 /// three times in a row, each 20 ms at most.

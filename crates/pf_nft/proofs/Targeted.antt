@@ -17,7 +17,9 @@ use Rattle.pf_ruleset.specs.declared.rule.Rule.{Rule}
 use Rattle.pf_ruleset.specs.declared.parts.Direction.{Direction}
 use Rattle.pf_ruleset.specs.declared.item.AnchorRule as anchored
 use Rattle.pf_ruleset.specs.declared.item.Item as item
-use Rattle.pf_nft.specs.Rendering.{backward_chains, is_chained, is_member, Machine, alternatives, filter_rules, forward_rule, backward_rule}
+use Rattle.pf_nft.specs.Rendering.{backward_chains, is_chained, Machine, alternatives, filter_rules, forward_rule}
+use Rattle.pf_nft.specs.Rendering.{backward_rule}
+use Rattle.pf_nft.specs.inner.Rendering.{is_member}
 
 -- rules are there exactly if items are
 pub any_rules : (items : List Item) (rules : List AnyRule) → map rule_of items ≡ rules → is_empty items ≡ is_empty rules

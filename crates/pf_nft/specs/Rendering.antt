@@ -29,7 +29,6 @@ use Rattle.pf_ruleset.specs.Names.{Name, begins_below}
 use Rattle.pf_ruleset.specs.Items.{AnyRule, FilterRule, AnchorRule, Heading, Target}
 use Rattle.pf_table.specs.Tables.{TableValue}
 use Rattle.pf_config.specs.Changes.{is_empty}
-use Rattle.pf_config.specs.Trees.{last_name}
 use Rattle.pf_config.specs.Map.{Configuration, Path, rules_at, table_at, table_names, paths_in, kids, followed_by}
 use Rattle.pf_ruleset.specs.declared.ruleset.TableEntry.{TableEntry}
 use Rattle.pf_eval.specs.Packets.{without_digits}
@@ -42,7 +41,6 @@ use Rattle.pf_nft.specs.Subset.{Outcome, Accept, Drop, Reject, Decision, Stateme
 use Rattle.pf_nft.specs.Subset.{NftRule, Chain, NftRuleset, family_eq}
 use Rattle.pf_nft.specs.Evaluation.{turned}
 use Rattle.pf_nft.specs.Cuts.{first_of, last_of, elements}
--- from one port to another, or, negated, every other
 pub use Rattle.pf_nft.specs.declared.asked.PortSpan.{PortSpan}
 use Rattle.pf_nft.specs.Alternatives.{Alternative, AnyProtocol, Only, NotTcp, matches_of, both}
 
@@ -237,10 +235,6 @@ jump_rules xs chains = flat_map (jump_each chains) xs
 -- paths that a jump may lead to: some rule is there, and they are at most 8 names deep
 abbrev pub is_chained : Configuration → Path → Bool
 is_chained c q = nat_le (length q) 8 && not (is_empty (rules_at c q))
-
--- an anchor that is no unnamed block
-abbrev pub is_member : Path → Bool
-is_member q = not (begins_below (last_name q))
 
 -- the paths that an anchor rule evaluates, in their order
 abbrev pub targets_of : Configuration → Path → Target → List Path

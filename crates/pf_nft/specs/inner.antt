@@ -2,3 +2,4 @@
 pub mod Asked
 pub mod Left
 pub mod Spans
+pub mod Rendering

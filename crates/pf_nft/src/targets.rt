@@ -3,7 +3,8 @@
 ghost use Rattle.std.specs.Prelude.{◌≡◌, ◌++◌, ◌∷◌, [], IfOk, OnOk, map, filter};
 ghost use Rattle.pf_ruleset.specs.Seen.{target_of};
 ghost use Rattle.pf_config.specs.Trees.{paths_of, shared};
-ghost use Rattle.pf_nft.specs.Rendering.{is_chained, is_member, chained_targets, forward_chains, backward_chains};
+ghost use Rattle.pf_nft.specs.Rendering.{is_chained, chained_targets, forward_chains, backward_chains};
+ghost use Rattle.pf_nft.specs.inner.Rendering.{is_member};
 ghost use Rattle.pf_nft.specs.Seen.{chain_name_of};
 
 use crate::subset::{ChainName, Pass};

@@ -11,7 +11,8 @@ use Rattle.pf_effect.specs.Effect.{Effect, RefusedCommand}
 use Rattle.pf_node.specs.declared.outcomes.Outcome.{Outcome}
 use Rattle.pf_node.specs.declared.outcomes.Outcome.TheVariants.{Done, Refused}
 use Rattle.pf_node.specs.Applied.{after}
-use Rattle.pf_node.specs.Outcomes.{outcome_of, outcome_read, outcome_in, outcome_at, outcomes_below}
+use Rattle.pf_node.specs.Outcomes.{outcome_of, outcome_read, outcome_in, outcome_at}
+use Rattle.pf_node.specs.inner.Outcomes.{outcomes_below}
 use Rattle.pf_node.proofs.Following.{after_same}
 
 -- ---- a command's outcome

@@ -1,5 +1,5 @@
 -- What came of the commands of a log.
-use Rattle.std.specs.Prelude.{ℕ, zero, suc, List, [], ◌∷◌, Option, Some, None, Result, Ok, Err}
+use Rattle.std.specs.Prelude.{ℕ, Option, Some, None, Result, Ok, Err}
 use Rattle.px_model.specs.Node as node
 use Rattle.px_model.specs.Node.{Log}
 use Rattle.px_model.specs.Spelling.{Bytes, spelled}
@@ -29,9 +29,3 @@ outcome_in (Some c) (Some e) = outcome_read c (reading (spelled e))
 -- at position p: of its entry's command, at the configuration after the p positions before it
 abbrev pub outcome_at : Log Bytes → ℕ → Outcome
 outcome_at log p = outcome_in (after log p) (log p)
-
--- of the n positions below k, the last one first
-abbrev pub outcomes_below : Log Bytes → (k n : ℕ) → List Outcome
-outcomes_below log k zero = []
-outcomes_below log zero (suc n) = []
-outcomes_below log (suc k) (suc n) = outcome_at log k ∷ outcomes_below log k n

@@ -10,7 +10,8 @@ ghost use Rattle.px_model.specs.Spelling.{spelled};
 ghost use Rattle.px_model.specs.Step.{front};
 ghost use Rattle.px_replica.specs.Replicas.{learned_by};
 ghost use Rattle.pf_node.specs.Applied.{after, entry_applied};
-ghost use Rattle.pf_node.specs.Outcomes.{outcome_of, outcome_read, outcomes_below};
+ghost use Rattle.pf_node.specs.Outcomes.{outcome_of, outcome_read};
+ghost use Rattle.pf_node.specs.inner.Outcomes.{outcomes_below};
 
 use crate::outcomes::{Outcome, Outcomes};
 use pf_config::Config;

@@ -5,7 +5,7 @@ ghost use Rattle.std.specs.Coded.{Coded-set, coded_option};
 ghost use Rattle.px_model.specs.Step.{front};
 ghost use Rattle.px_replica.specs.Replicas.{learned_by};
 ghost use Rattle.pf_node.specs.Applied.{after};
-ghost use Rattle.pf_node.specs.Outcomes.{outcomes_below};
+ghost use Rattle.pf_node.specs.inner.Outcomes.{outcomes_below};
 
 use crate::outcomes::Outcomes;
 use pf_config::Config;

@@ -1,7 +1,7 @@
 -- What a node's file of settings may say, of a TOML table as the data of its keys.
-use Rattle.std.specs.Prelude.{◌≡◌, ◌+◌, ◌==◌, ℕ, ℤ, pos, negsuc, List, [], ◌∷◌, length, Bool, true, false}
-use Rattle.std.specs.Prelude.{if◌then◌else◌, Option, Some, None, is_some, option_and_then, IsUtf8, bytes_eq, codes, nat_le}
-use Rattle.std.specs.List.{filter}
+use Rattle.std.specs.Prelude.{◌≡◌, ℕ, ℤ, pos, negsuc, List, [], ◌∷◌, Bool, true, false}
+use Rattle.std.specs.Prelude.{if◌then◌else◌, Option, Some, None, is_some, option_and_then, IsUtf8, bytes_eq, codes}
+use Rattle.std.specs.Prelude.{nat_le}
 use Rattle.toml.specs.Data.{Data, string, Items, no_items, item, Members, no_members, member}
 use Rattle.toml.specs.Data.{as_str, as_bool, as_integer, as_array}
 use Rattle.toml.specs.Parse.{parse_document}
@@ -101,10 +101,6 @@ abbrev pub texts_at : Option Data → List (List ℕ)
 texts_at value = texts_if (option_and_then as_array value)
 
 -- ---- refusals
-
--- the number of the line, from 1, behind a front of a text
-abbrev pub line_behind : List ℕ → ℕ
-line_behind front = 1 + length (filter (λ b. b == 10) front)
 
 -- the line of a refusal, if it has one
 abbrev pub line_of_fault : FileFault → Option ℕ

@@ -1,7 +1,7 @@
 //! Lines of a text.
 
 ghost use Rattle.std.specs.Prelude.{◌≡◌};
-ghost use Rattle.pf_node_file.specs.Settings.{line_behind};
+ghost use Rattle.pf_node_file.specs.inner.Settings.{line_behind};
 
 /// The number of the line, from 1, that begins behind the last newline of a front of the text.
 pub(crate) fn line_behind(front: &[u8]) -> u64

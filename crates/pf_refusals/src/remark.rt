@@ -5,8 +5,8 @@ ghost use Rattle.pf_refusals.specs.Explained.{remark, place_of};
 
 use std::fmt;
 
-/// A refusal that came, for people: where, and which. It is shown in pfctl's manner, `stdin:3: bad port (13)`, without a
-/// newline.
+/// A refusal that came, for people: where, and which. It is shown in pfctl's manner, `stdin:3: bad port (13)`, without
+/// a newline.
 #[derive(Clone, Copy, Debug)]
 pub struct Remark<'a> {
     /// The text that is refused: a file's name, or `stdin`.

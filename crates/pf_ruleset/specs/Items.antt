@@ -1,5 +1,5 @@
 -- Rules of each kind, as values.
-use Rattle.std.specs.Prelude.{Bool, false, ◌||◌, List, [], ◌∷◌, length, nat_lt}
+use Rattle.std.specs.Prelude.{Bool, List, [], ◌∷◌}
 use Rattle.pf_ruleset.specs.Names.{Name}
 use Rattle.pf_ruleset.specs.declared.rule.Rule.{Rule}
 use Rattle.pf_ruleset.specs.declared.rule.Conditions.{Conditions}
@@ -51,14 +51,3 @@ abbrev pub rule_in : ItemValue → AnyRule
 rule_in (Filters rule) = FilterRule rule
 rule_in (Anchors heading) = AnchorRule heading
 rule_in (Blocks heading block) = AnchorRule heading
-
--- a block in it has more than 1,024 items
-abbrev mutual
-  pub is_overfull : ItemValue → Bool
-  is_overfull (Filters rule) = false
-  is_overfull (Anchors heading) = false
-  is_overfull (Blocks heading block) = nat_lt 1024 (length (list_of block)) || any_overfull block
-
-  pub any_overfull : ItemValues → Bool
-  any_overfull no_items = false
-  any_overfull (one_more item items) = is_overfull item || any_overfull items

@@ -2,7 +2,7 @@
 
 ghost use Rattle.std.specs.Prelude.{◌≡◌, ◌≤◌, false, length};
 ghost use Rattle.std.specs.List.{list_any};
-ghost use Rattle.pf_ruleset.specs.Items.{is_overfull};
+ghost use Rattle.pf_ruleset.specs.inner.Items.{is_overfull};
 ghost use Rattle.pf_ruleset.specs.Seen.{items_of};
 
 use crate::interface_name::InterfaceName;

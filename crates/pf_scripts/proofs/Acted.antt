@@ -8,7 +8,7 @@ use Rattle.pf_command.specs.Asked.{Asked}
 use Rattle.pf_command.specs.Answers.{FailsAs, command_fault_code}
 use Rattle.pf_scripts.specs.Lines.{refused_line}
 use Rattle.pf_scripts.specs.Ctl.{acted, prints, counts_line, change_line}
-use Rattle.pf_scripts.specs.Seen.{Does}
+use Rattle.pf_scripts.specs.inner.Seen.{Does}
 
 pub applied_does : (c new : Configuration) (counts : Bool) (r : Result Effect RefusedCommand) (added removed : ℕ) (before after : List ℕ) → r ≡ Ok (record { configuration = new; added = added; removed = removed }) → after ≡ before ++ counts_line counts added removed → Does (prints (changed c r) (change_line counts r)) new before after
 applied_does c new counts r added removed before after h k = rw h (refl, k)

@@ -4,3 +4,4 @@ pub mod Listings
 pub mod Ctl
 pub mod Seen
 pub mod WordsRead
+pub mod inner

@@ -1,25 +1,6 @@
 -- What the code's values stand for.
-use Rattle.std.specs.Prelude.{◌≡◌, ℕ, List, ◌++◌, map, Option, String, string_bytes}
-use Rattle.pf_config.specs.Map.{Configuration}
 use Rattle.pf_scripts.specs.declared.lines.Line.{Line}
-use Rattle.pf_scripts.specs.declared.waiting.Waiting.{Waiting}
 use Rattle.pf_scripts.specs.Lines.{ScriptLine}
-use Rattle.pf_scripts.specs.Ctl.{WaitingWords, StepValue, Outcome}
 
 abbrev pub line_of : Line → ScriptLine
 line_of l = record { content = l.content.now; has_newline = l.has_newline }
-
-abbrev pub waiting_of : Waiting → WaitingWords
-waiting_of w = record { words = map (λ x. x.now) w.words.items; text = w.text.items }
-
--- a line was done so: this is the configuration now, and the output has grown
-abbrev pub Does : Outcome → Configuration → List ℕ → List ℕ → Type 0
-Does outcome new before after = (new ≡ outcome.configuration) × (after ≡ before ++ outcome.output)
-
--- a step was made so
-abbrev pub Steps : StepValue → Configuration → Option WaitingWords → List ℕ → List ℕ → Type 0
-Steps s new waiting before after = (new ≡ s.configuration) × (waiting ≡ s.waiting) ×
-    (after ≡ before ++ s.output)
-
-abbrev pub texts_of : {Z : Type 0} → List (String Z) → List (List ℕ)
-texts_of texts = map string_bytes texts

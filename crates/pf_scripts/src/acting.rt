@@ -10,7 +10,7 @@ ghost use Rattle.pf_effect.specs.Effect.{effect, after_command, place_at};
 ghost use Rattle.pf_command.specs.Asked.{is_too_long};
 ghost use Rattle.pf_command.specs.Answers.{action_value, IsShort};
 ghost use Rattle.pf_scripts.specs.Ctl.{acted, is_counted, counts_line, change_line, check_line, prints};
-ghost use Rattle.pf_scripts.specs.Seen.{Does};
+ghost use Rattle.pf_scripts.specs.inner.Seen.{Does};
 
 use crate::listing::{list_anchors, list_entries, list_matches, list_rules, list_tables};
 use crate::printing::{push_line, push_number, push_refusal};

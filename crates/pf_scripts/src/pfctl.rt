@@ -6,7 +6,7 @@ ghost use Rattle.clap.specs.Words.{app_of, found_of, rows_of, first_of};
 ghost use Rattle.clap.specs.declared.builder.command.Command.TheViews.{out-Command};
 ghost use Rattle.pf_command.specs.Options.{pfctl_app};
 ghost use Rattle.pf_scripts.specs.Ctl.{pfctl, pfctl_rows, rows_in, takes_text, is_standard, is_input};
-ghost use Rattle.pf_scripts.specs.Seen.{Does};
+ghost use Rattle.pf_scripts.specs.inner.Seen.{Does};
 
 use crate::acting::run_action;
 use crate::lines::stand_together;

@@ -143,8 +143,8 @@ fn read_matches(
     }
 }
 
-/// What a line of pfctl's words comes to at a configuration, `pfctl` itself first, with the text of its file; nothing is
-/// changed.
+/// What a line of pfctl's words comes to at a configuration, `pfctl` itself first, with the text of its file; nothing
+/// is changed.
 ///
 /// Words of a change answer the command, and nothing is made of it. All others answer what they print: what is listed
 /// (pfctl(8), `-s` and `-T`), or their refusal.

@@ -2,7 +2,7 @@
 
 ghost use Rattle.std.specs.Prelude.{◌≡◌, ◌++◌, IfOk, OnOk, option_map, string_bytes};
 ghost use Rattle.pf_scripts.specs.Ctl.{at_end, printed};
-ghost use Rattle.pf_scripts.specs.Seen.{waiting_of};
+ghost use Rattle.pf_scripts.specs.inner.Seen.{waiting_of};
 
 use crate::lines::cut_line;
 use crate::pfctl::run_words;

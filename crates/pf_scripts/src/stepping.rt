@@ -2,7 +2,8 @@
 
 ghost use Rattle.std.specs.Prelude.{◌≡◌, ◌++◌, IfOk, OnOk, map, option_map, string_bytes};
 ghost use Rattle.pf_scripts.specs.Ctl.{tested, packet_line, pfctl_line, at_words, stepped};
-ghost use Rattle.pf_scripts.specs.Seen.{line_of, waiting_of, Steps};
+ghost use Rattle.pf_scripts.specs.Seen.{line_of};
+ghost use Rattle.pf_scripts.specs.inner.Seen.{waiting_of, Steps};
 
 use crate::lines::{Line, push_bytes, spaced, words_in};
 use crate::pfctl::{run_words, takes_text};

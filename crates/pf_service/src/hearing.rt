@@ -27,8 +27,8 @@ const NUMBERS: usize = 16;
 const ADVICE: &str = "Do they run, and have all the same key, cluster and list of members?";
 
 /// A wire that says on standard error, once, when for ten seconds of less than a majority of members, its own counted,
-/// datagrams came that its node understands, and that a majority is heard again. So a node whose key, cluster, number or
-/// members' list isn't that of the others is told from one that works. It says too when the node has caught up that
+/// datagrams came that its node understands, and that a majority is heard again. So a node whose key, cluster, number
+/// or members' list isn't that of the others is told from one that works. It says too when the node has caught up that
 /// lacked what others know, and once that others are at positions near the end of the log.
 #[derive(Drop)]
 pub(crate) struct HearingWire<W> {

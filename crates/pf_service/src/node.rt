@@ -6,7 +6,7 @@ ghost use Rattle.toml.specs.Data.{as_str, get_member};
 ghost use Rattle.pf_node_file.specs.Files.{settings_of};
 ghost use Rattle.pf_node_file.specs.Settings.{number_of};
 ghost use Rattle.pf_service.specs.declared.outcome.Outcome.TheVariants.{Memory, Refused};
-ghost use Rattle.pf_service.specs.Outcomes.{adopt_outcome, ComesTo};
+ghost use Rattle.pf_service.specs.inner.Outcomes.{adopt_outcome, ComesTo};
 ghost use Rattle.pf_service.specs.inner.Places.{is_count, has_place, turns_or_all, chosen};
 
 use crate::door::{DoorWords, run_with_door};

@@ -2,7 +2,8 @@
 
 ghost use Rattle.std.specs.Prelude.{◌≡◌, IfOk, string_bytes};
 ghost use Rattle.pf_service.specs.declared.outcome.Outcome.TheVariants.{Front, Asked, RefusedLine};
-ghost use Rattle.pf_service.specs.Outcomes.{line_of, status_of, Wrote, outcome_of, answer_outcome, ended_outcome};
+ghost use Rattle.pf_service.specs.Outcomes.{line_of, status_of, Wrote};
+ghost use Rattle.pf_service.specs.inner.Outcomes.{outcome_of, answer_outcome, ended_outcome};
 
 use pf_io::{Status, out_of_memory};
 use pf_member::Ended;

@@ -3,13 +3,12 @@ use Rattle.std.specs.Prelude.{◌≡◌, List, map, Option, Some, None, option_m
 use Rattle.pf_tokens.specs.declared.stop.Stop.{Stop}
 use Rattle.pf_tokens.specs.declared.stop.Stop.TheVariants as stops
 use Rattle.pf_tokens.specs.Lists.{elements_of}
-use Rattle.pf_statements.specs.declared.written.RuleOptions as options
 use Rattle.pf_statements.specs.declared.written.WrittenRule.{WrittenRule}
 use Rattle.pf_statements.specs.declared.written.Setting as setting
 use Rattle.pf_statements.specs.declared.written.Setting.TheVariants as settings
 use Rattle.pf_statements.specs.declared.written.Statement as statement
 use Rattle.pf_statements.specs.declared.written.Statement.TheVariants as statements
-use Rattle.pf_statements.specs.Statements.{Options, RuleText, Setting, SetPolicy, SetSkip, Statement, Sets, Rules}
+use Rattle.pf_statements.specs.Statements.{RuleText, Setting, SetPolicy, SetSkip, Statement, Sets, Rules}
 use Rattle.pf_statements.specs.Statements.{Tables, Anchors, AnchorBlocks, ItemText, RuleItem, AnchorItem, BlockItem}
 use Rattle.pf_statements.specs.Statements.{ItemTexts, texts_of}
 use Rattle.pf_statements.specs.declared.written.WrittenHeading.{WrittenHeading}
@@ -21,9 +20,6 @@ use Rattle.pf_statements.specs.declared.written.WrittenTable.{WrittenTable}
 use Rattle.pf_statements.specs.declared.written.WrittenAnchor.{WrittenAnchor}
 use Rattle.pf_statements.specs.Anchors.{AnchorText, HeadingText}
 use Rattle.pf_ruleset.specs.Seen.{target_of}
-
-abbrev pub options_of : options.RuleOptions → Options
-options_of o = record { flags = o.flags; state = o.state; types = list_of o.types }
 
 abbrev pub text_of : WrittenRule → RuleText
 text_of r = record { action = r.action; quick = r.quick; conditions = conditions_of r.conditions; state = r.state }

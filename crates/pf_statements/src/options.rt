@@ -5,7 +5,7 @@ ghost use Rattle.pf_tokens.specs.Parsing.{left, later, Parses};
 ghost use Rattle.pf_statements.specs.Statements.{has_types, no_options, flags_option, state_option, types_option};
 ghost use Rattle.pf_statements.specs.Statements.{option_with, options_at};
 ghost use Rattle.pf_statements.specs.Options.{is_over};
-ghost use Rattle.pf_statements.specs.Seen.{options_of};
+ghost use Rattle.pf_statements.specs.inner.Seen.{options_of};
 
 use crate::written::RuleOptions;
 use pf_conditions::{read_flags, read_types};

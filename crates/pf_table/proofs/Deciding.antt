@@ -14,10 +14,12 @@ use Rattle.pf_addr.specs.declared.addr.Addr.TheVariants.{V4, V6}
 use Rattle.pf_addr.specs.Blocks.{Block, IsBlock, agree, front, cleared, cleared_addr, width}
 use Rattle.pf_ruleset.specs.declared.ruleset.TableEntry.{TableEntry}
 use Rattle.pf_table.specs.declared.part.Part.{Part}
-use Rattle.pf_table.specs.Tables.{contains, in_table, is_v6, is_of, bool_eq, or_else, last_with, sign_of}
-use Rattle.pf_table.specs.Contents.{entry_at}
+use Rattle.pf_table.specs.Tables.{contains, in_table, is_v6, is_of, bool_eq}
+use Rattle.pf_table.specs.inner.Tables.{or_else, last_with, sign_of}
+use Rattle.pf_table.specs.inner.Contents.{entry_at}
 use Rattle.pf_addr.specs.Order.{version, prefix_cmp}
-use Rattle.pf_table.specs.Parts.{joined, IsOrdered, AreBlocks, IsPart, ArePartsBefore, AreParts}
+use Rattle.pf_table.specs.Parts.{joined, IsOrdered, AreBlocks, ArePartsBefore, AreParts}
+use Rattle.pf_table.specs.inner.Parts.{IsPart}
 use Rattle.pf_addr.proofs.Order.{is_less, is_equal, itself, same, never}
 use Rattle.pf_table.proofs.Lookups.{above, both_true, none_above, cons_is, or_none, or_else_chain, ordered_front, ordered_back}
 use Rattle.pf_table.proofs.Longest.{after, found}

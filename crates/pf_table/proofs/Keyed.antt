@@ -16,9 +16,9 @@ use Rattle.pf_addr.specs.Order.{version, bits_of, prefix_cmp}
 use Rattle.pf_addr.proofs.Order.{same, is_equal}
 use Rattle.pf_ruleset.specs.declared.ruleset.TableEntry.{TableEntry}
 use Rattle.pf_table.specs.Tables.{is_of, is_v6, bool_eq}
-use Rattle.pf_table.specs.Contents.{entry_at}
+use Rattle.pf_table.specs.inner.Contents.{entry_at}
 use Rattle.pf_table.specs.Parts.{IsOrdered}
-use Rattle.pf_table.specs.Keys.{key_of}
+use Rattle.pf_table.specs.inner.Keys.{key_of}
 use Rattle.pf_table.proofs.Lookups.{above, both_true}
 use Rattle.pf_table.proofs.Parting.{version_of, of_means}
 

@@ -6,8 +6,11 @@ use Rattle.std.specs.List.{list_all, list_any}
 use Rattle.std.specs.Ordering.{is_lt, is_eq}
 use Rattle.pf_addr.specs.Blocks.{Block}
 use Rattle.pf_ruleset.specs.declared.ruleset.TableEntry.{TableEntry}
-use Rattle.pf_table.specs.Tables.{bool_eq, or_else}
-use Rattle.pf_table.specs.Contents.{is_prefix, entry_at, entries_before, entries_behind, put_entry, with_entries, same_entry, has_sign, unlisted}
+use Rattle.pf_table.specs.Tables.{bool_eq}
+use Rattle.pf_table.specs.inner.Tables.{or_else}
+use Rattle.pf_table.specs.Contents.{is_prefix, entries_before, entries_behind, put_entry, with_entries, same_entry}
+use Rattle.pf_table.specs.Contents.{unlisted}
+use Rattle.pf_table.specs.inner.Contents.{entry_at, has_sign}
 use Rattle.pf_addr.specs.Order.{prefix_cmp}
 use Rattle.pf_table.specs.Parts.{IsOrdered}
 use Rattle.pf_addr.proofs.Order.{total, is_less, is_equal, never, itself, chain, turned, turned_less, same}

@@ -1,6 +1,6 @@
 -- How the contents of a table change.
-use Rattle.std.specs.Prelude.{ℕ, Bool, false, ◌&&◌, List, [], ◌∷◌, ◌++◌, length, filter, fold, not}
-use Rattle.std.specs.Prelude.{find, Option, Some, None, if◌then◌else◌}
+use Rattle.std.specs.Prelude.{ℕ, Bool, ◌&&◌, List, [], ◌∷◌, ◌++◌, length, filter, fold, not}
+use Rattle.std.specs.Prelude.{if◌then◌else◌}
 use Rattle.std.specs.List.{list_any}
 use Rattle.std.specs.Ordering.{is_lt, is_eq}
 use Rattle.pf_addr.specs.Blocks.{Block}
@@ -10,10 +10,6 @@ use Rattle.pf_table.specs.Tables.{bool_eq}
 
 abbrev pub is_prefix : Block → TableEntry → Bool
 is_prefix p e = is_eq (prefix_cmp e.prefix p)
-
--- the entry of that prefix, if there is one
-abbrev pub entry_at : Block → List TableEntry → Option TableEntry
-entry_at p entries = find (is_prefix p) entries
 
 -- ---- entries put in
 
@@ -39,11 +35,6 @@ contents_of entries = with_entries [] entries
 
 abbrev pub same_entry : TableEntry → TableEntry → Bool
 same_entry e f = is_prefix e.prefix f && bool_eq e.negated f.negated
-
--- the entry is there and has the sign
-abbrev pub has_sign : Bool → Option TableEntry → Bool
-has_sign negated None = false
-has_sign negated (Some f) = bool_eq negated f.negated
 
 abbrev pub unlisted : List TableEntry → List TableEntry → List TableEntry
 unlisted entries listed = filter (λ (e : TableEntry). not (list_any (same_entry e) listed)) entries

@@ -1,4 +1,4 @@
 pub mod Tables
 pub mod Contents
 pub mod Parts
-pub mod Keys
+pub mod inner

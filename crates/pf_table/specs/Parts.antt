@@ -38,8 +38,3 @@ pub record AreParts (parts : List Part) : Type 0 where
   pub apart : ArePartsBefore parts []
   pub ordered : IsOrdered (joined parts)
   pub blocks : AreBlocks (joined parts)
-
--- a part has entries of its family and length, in order
-abbrev pub IsPart : Part → Type 0
-IsPart p = (list_all (is_of p.v6 p.len) p.entries.items ≡ true) × (p.len ≤ (if p.v6 then 128 else 32)) ×
-    IsOrdered p.entries.items × AreBlocks p.entries.items

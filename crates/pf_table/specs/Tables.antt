@@ -1,6 +1,6 @@
 -- Tables and what they match (pf.conf(5), TABLES).
-use Rattle.std.specs.Prelude.{ℕ, Bool, true, false, ◌&&◌, ◌||◌, ◌==◌, List, [], ◌∷◌, Option, Some}
-use Rattle.std.specs.Prelude.{None, not, nat_le, if◌then◌else◌}
+use Rattle.std.specs.Prelude.{ℕ, Bool, true, false, ◌&&◌, ◌||◌, ◌==◌, List}
+use Rattle.std.specs.Prelude.{not, nat_le}
 use Rattle.std.specs.List.{list_any, list_all}
 use Rattle.pf_addr.specs.declared.addr.Addr.{Addr}
 use Rattle.pf_addr.specs.declared.addr.Addr.TheVariants.{V4, V6}
@@ -38,17 +38,3 @@ bool_eq false b = not b
 -- the entry is of that family and that length
 abbrev pub is_of : Bool → ℕ → TableEntry → Bool
 is_of v6 len e = bool_eq v6 (is_v6 e.prefix.base) && (e.prefix.len == len)
-
-abbrev pub or_else : {X : Type 0} → Option X → Option X → Option X
-or_else None other = other
-or_else (Some x) other = Some x
-
--- the last entry that contains the address
-abbrev pub last_with : Addr → List TableEntry → Option TableEntry
-last_with a [] = None
-last_with a (e ∷ es) = or_else (last_with a es) (if contains a e then Some e else None)
-
--- the entry that decides isn't negated
-abbrev pub sign_of : Option TableEntry → Bool
-sign_of None = false
-sign_of (Some e) = not e.negated

@@ -2,8 +2,10 @@
 
 ghost use Rattle.std.specs.Prelude.{◌≡◌, not, slice_get};
 ghost use Rattle.std.specs.Option.{option_copied};
-ghost use Rattle.pf_table.specs.Tables.{last_with, bool_eq, is_v6};
-ghost use Rattle.pf_table.specs.Parts.{joined, IsPart, AreParts};
+ghost use Rattle.pf_table.specs.Tables.{bool_eq, is_v6};
+ghost use Rattle.pf_table.specs.inner.Tables.{last_with};
+ghost use Rattle.pf_table.specs.Parts.{joined, AreParts};
+ghost use Rattle.pf_table.specs.inner.Parts.{IsPart};
 
 use crate::keys::bits_of;
 use crate::part::Part;

@@ -2,7 +2,7 @@
 
 ghost use Rattle.std.specs.Prelude.{◌≡◌, IfOk, map};
 ghost use Rattle.pf_addr.specs.Order.{bits_of};
-ghost use Rattle.pf_table.specs.Keys.{key_of};
+ghost use Rattle.pf_table.specs.inner.Keys.{key_of};
 
 use pf_addr::Addr;
 use pf_ruleset::TableEntry;

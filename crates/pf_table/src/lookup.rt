@@ -2,7 +2,7 @@
 
 ghost use Rattle.std.specs.Prelude.{◌≡◌};
 ghost use Rattle.std.specs.Option.{option_copied};
-ghost use Rattle.pf_table.specs.Contents.{entry_at};
+ghost use Rattle.pf_table.specs.inner.Contents.{entry_at};
 ghost use Rattle.pf_table.specs.Parts.{IsOrdered};
 
 use pf_addr::Prefix;

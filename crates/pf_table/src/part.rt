@@ -1,7 +1,7 @@
 //! The entries of one family and length.
 
 ghost use Rattle.std.specs.Prelude.{◌≡◌, map};
-ghost use Rattle.pf_table.specs.Keys.{key_of};
+ghost use Rattle.pf_table.specs.inner.Keys.{key_of};
 
 use pf_ruleset::TableEntry;
 

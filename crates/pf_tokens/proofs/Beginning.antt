@@ -4,7 +4,8 @@ use Rattle.pf_tokens.specs.declared.lexeme.Lexed.{Lexed}
 use Rattle.pf_tokens.specs.Tokens.{Token, Word, Quoted, Macro, Mark, Newline, Bad, Placed, first}
 use Rattle.pf_tokens.specs.Lexed.{token_of, placed_of}
 use Rattle.pf_tokens.specs.Macros.{Definition, is_some_word, is_equals, is_definition, replaced_token}
-use Rattle.pf_tokens.specs.Flow.{statement_raw, ending_raw, statement_left, ending_left, pulled_raw}
+use Rattle.pf_tokens.specs.Flow.{statement_raw, ending_raw, statement_left, ending_left}
+use Rattle.pf_tokens.specs.inner.Flow.{pulled_raw}
 use Rattle.pf_tokens.proofs.Flowing.{pulled_raw_keeps}
 use Rattle.pf_tokens.proofs.Pulling.{pulled_itself}
 use Rattle.pf_tokens.specs.inner.Begun.{IsWordOn, begins_with_equals}

@@ -6,9 +6,11 @@ use Rattle.std.proofs.lemmas.Bool.Decides.{nat_tests}
 use Rattle.pf_tokens.specs.declared.symbol.Symbol.TheVariants.{Open, Close, OpenParenthesis, CloseParenthesis, Comma, Slash, Not, NotEqual, Less, LessEqual, Greater, GreaterEqual, Between, Outside, Equals}
 use Rattle.pf_tokens.specs.Tokens.{Token, Word, Quoted, Macro, Mark, Newline, Bad, Placed, is_newline}
 use Rattle.pf_tokens.specs.Macros.{Definition, depth_after, ends}
-use Rattle.pf_tokens.specs.Blanks.{blanked, open_after}
-use Rattle.pf_tokens.specs.Flow.{statement_left, ending_left, pulled}
-use Rattle.pf_tokens.specs.Pending.{Blanks}
+use Rattle.pf_tokens.specs.Blanks.{blanked}
+use Rattle.pf_tokens.specs.inner.Blanks.{open_after}
+use Rattle.pf_tokens.specs.Flow.{statement_left, ending_left}
+use Rattle.pf_tokens.specs.inner.Flow.{pulled}
+use Rattle.pf_tokens.specs.inner.Pending.{Blanks}
 use Rattle.pf_tokens.proofs.Flowing.{pulled_keeps}
 
 some_open : (n : ℕ) → 0 < n → (n == 0) ≡ false

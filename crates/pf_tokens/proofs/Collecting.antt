@@ -4,7 +4,8 @@ use Rattle.std.specs.Prelude.{nat_lt}
 use Rattle.std.proofs.lemmas.Bool.Decides.{nat_tests}
 use Rattle.pf_tokens.specs.Tokens.{Token, first}
 use Rattle.pf_tokens.specs.Macros.{Definition}
-use Rattle.pf_tokens.specs.Defining.{item_of, with_item, joined_items, text_len, is_too_long, begun_text, len_with}
+use Rattle.pf_tokens.specs.Defining.{item_of, with_item, joined_items, text_len, is_too_long}
+use Rattle.pf_tokens.specs.inner.Defining.{begun_text, len_with}
 
 -- an item makes the text no shorter
 longer : (begun item : Option (List ℕ)) → text_len begun ≤ text_len (with_item begun item)

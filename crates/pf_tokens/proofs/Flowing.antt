@@ -2,7 +2,8 @@
 use Rattle.std.proofs.Common.{◌≡◌, ℕ, ◌&&◌, Bool, true, false, List, [], ◌∷◌, ◌++◌, map, Option, Some, None, refl, ap, ◌==◌}
 use Rattle.pf_tokens.specs.Tokens.{Token, Word, Quoted, Macro, Mark, Newline, Bad, Placed, plain_tokens}
 use Rattle.pf_tokens.specs.Macros.{Definition, text_of, unwritten, text_tokens, replaced_token, replaced, depth_after, depth_behind, ends}
-use Rattle.pf_tokens.specs.Flow.{statement_raw, ending_raw, statement_left, ending_left, pulled_raw, pulled_first, pulled}
+use Rattle.pf_tokens.specs.Flow.{statement_raw, ending_raw, statement_left, ending_left}
+use Rattle.pf_tokens.specs.inner.Flow.{pulled_raw, pulled_first, pulled}
 
 -- tokens of a macro's text don't end the statement
 others_stay : (line depth : ℕ) (t : Placed) → ends depth (unwritten line t) ≡ false

@@ -3,8 +3,10 @@ use Rattle.std.proofs.Common.{◌≡◌, ℕ, ◌+◌, ◌<◌, ◌≤◌, ◌==
 use Rattle.std.specs.Prelude.{nat_le}
 use Rattle.std.proofs.lemmas.Bool.{false≢true}
 use Rattle.std.proofs.lemmas.Bool.Decides.{nat_tests}
-use Rattle.pf_tokens.specs.Tokens.{Letter, line_after, continues, letters, plain_letters}
-use Rattle.pf_tokens.specs.Joined.{joined, joints, is_continued, passed, letters_at}
+use Rattle.pf_tokens.specs.Tokens.{Letter, line_after, letters, plain_letters}
+use Rattle.pf_tokens.specs.inner.Tokens.{continues}
+use Rattle.pf_tokens.specs.Joined.{passed, letters_at}
+use Rattle.pf_tokens.specs.inner.Joined.{joined, joints, is_continued}
 
 abbrev at_line : ℕ → ℕ → Letter
 at_line b line = record { byte = b; line = line }

@@ -8,7 +8,8 @@ use Rattle.pf_tokens.specs.declared.lexeme.Lexeme.{Lexeme}
 use Rattle.pf_tokens.specs.declared.symbol.Symbol.{Symbol}
 use Rattle.pf_tokens.specs.Tokens.{Letter, Word, line_after, is_word_byte, is_name_byte, is_quoted_byte, is_blank, symbol_of, symbol_of_two, Front, quoted_closed, macro_front, longer_symbol, longest, front, placed, tokens_behind}
 use Rattle.pf_tokens.specs.Joined.{passed, letters_at}
-use Rattle.pf_tokens.specs.Lexed.{placed_of, front_of}
+use Rattle.pf_tokens.specs.Lexed.{placed_of}
+use Rattle.pf_tokens.specs.inner.Lexed.{front_of}
 use Rattle.pf_tokens.specs.inner.Begun.{IsWordOn}
 
 pub prefix_len_le : (p : ℕ → Bool) (xs : List ℕ) → prefix_len p xs ≤ length xs

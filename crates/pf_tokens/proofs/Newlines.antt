@@ -7,8 +7,10 @@ use Rattle.pf_tokens.specs.Tokens.{Placed, Newline}
 use Rattle.pf_tokens.specs.Lexed.{placed_of}
 use Rattle.pf_tokens.specs.Left.{tokens_left}
 use Rattle.pf_tokens.specs.Macros.{Definition, unwritten}
-use Rattle.pf_tokens.specs.Flow.{statement_left, pulled}
-use Rattle.pf_tokens.specs.Pending.{behind, unless_none, pending, known, at_newline, statement_tokens, Stays, Blanks}
+use Rattle.pf_tokens.specs.Flow.{statement_left}
+use Rattle.pf_tokens.specs.inner.Flow.{pulled}
+use Rattle.pf_tokens.specs.Pending.{behind, unless_none, pending, known}
+use Rattle.pf_tokens.specs.inner.Pending.{at_newline, statement_tokens, Stays, Blanks}
 use Rattle.pf_tokens.proofs.Blanking.{newline_blank, newline_tokens, newline_shorter}
 
 abbrev pair : Option Lexed → List Placed → List Placed → List Placed × List Placed

@@ -9,7 +9,8 @@ use Rattle.pf_tokens.specs.declared.symbol.Symbol.TheVariants.{Open, Close, Open
 use Rattle.pf_tokens.specs.Tokens.{Token, Word, Quoted, Macro, Mark, Newline, Bad}
 use Rattle.pf_tokens.specs.Lexed.{token_of, placed_of}
 use Rattle.pf_tokens.specs.Macros.{depth_after, ends}
-use Rattle.pf_tokens.specs.Blanks.{blanked, open_after}
+use Rattle.pf_tokens.specs.Blanks.{blanked}
+use Rattle.pf_tokens.specs.inner.Blanks.{open_after}
 use Rattle.pf_tokens.specs.Productions.{is_symbol, begins_symbol, is_end, list_opened}
 use Rattle.pf_tokens.specs.Parsing.{tokens_of, placed_left, left}
 use Rattle.pf_tokens.proofs.Blanking.{blanked_twice}

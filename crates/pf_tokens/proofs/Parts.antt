@@ -6,8 +6,9 @@ use Rattle.std.proofs.lemmas.List.{take_at, drop_at, map-append}
 use Rattle.pf_tokens.specs.declared.symbol.Symbol.{Symbol}
 use Rattle.pf_tokens.specs.declared.symbol.Symbol.TheVariants.{Open, Close, OpenParenthesis, CloseParenthesis, Comma, Slash, Not, NotEqual, Less, LessEqual, Greater, GreaterEqual, Between, Outside, Equals}
 use Rattle.pf_tokens.specs.Tokens.{Letter, Token, Word, Quoted, Mark, Newline, Placed, plain_letters, line_after, is_word_byte, is_quoted_byte, is_newline, symbol_of_two, longer_symbol, one_letter, Front, quoted_closed, front, placed, tokens_behind, tokens}
-use Rattle.pf_tokens.specs.Joined.{letters_at, is_continued}
-use Rattle.pf_tokens.specs.Lines.{shown_more, shown_parts, symbol_bytes, at_line}
+use Rattle.pf_tokens.specs.Joined.{letters_at}
+use Rattle.pf_tokens.specs.inner.Joined.{is_continued}
+use Rattle.pf_tokens.specs.inner.Lines.{shown_more, shown_parts, symbol_bytes, at_line}
 use Rattle.pf_tokens.proofs.Lexing.{tokens-front, same_line, pick}
 use Rattle.pf_tokens.proofs.Joining.{letters_plain, letters_given}
 

@@ -6,7 +6,7 @@ use Rattle.pf_tokens.specs.Tokens.{Placed, first, plain_tokens}
 use Rattle.pf_tokens.specs.Lexed.{placed_of}
 use Rattle.pf_tokens.specs.Macros.{Definition, text_of, or_else, unwritten, text_tokens, replaced}
 use Rattle.pf_tokens.specs.inner.Indexed.{HasTokensOf}
-use Rattle.pf_tokens.specs.Flow.{pulled_raw, pulled}
+use Rattle.pf_tokens.specs.inner.Flow.{pulled_raw, pulled}
 use Rattle.std.specs.Prelude.{is_some}
 use Rattle.pf_tokens.specs.declared.stream.Stream.{Stream}
 use Rattle.pf_tokens.specs.Left.{tokens_left}

@@ -11,9 +11,12 @@ use Rattle.pf_tokens.specs.Productions.{begins, begins_symbol, is_word, is_symbo
 use Rattle.pf_tokens.specs.Lexed.{token_of, placed_of}
 use Rattle.pf_tokens.specs.Left.{tokens_left}
 use Rattle.pf_tokens.specs.Macros.{Definition, unwritten, depth_after, ends}
-use Rattle.pf_tokens.specs.Blanks.{blanked, open_after}
-use Rattle.pf_tokens.specs.Flow.{statement_left, ending_left, pulled}
-use Rattle.pf_tokens.specs.Pending.{behind, unless_none, pending, known, at_newline, statement_tokens, Stays, Blanks}
+use Rattle.pf_tokens.specs.Blanks.{blanked}
+use Rattle.pf_tokens.specs.inner.Blanks.{open_after}
+use Rattle.pf_tokens.specs.Flow.{statement_left, ending_left}
+use Rattle.pf_tokens.specs.inner.Flow.{pulled}
+use Rattle.pf_tokens.specs.Pending.{behind, unless_none, pending, known}
+use Rattle.pf_tokens.specs.inner.Pending.{at_newline, statement_tokens, Stays, Blanks}
 use Rattle.pf_tokens.specs.declared.fault.ReadingFault.{ReadingFault}
 use Rattle.pf_tokens.specs.declared.passed.Passed.{Passed}
 use Rattle.pf_tokens.specs.Faults.{reading_fault}

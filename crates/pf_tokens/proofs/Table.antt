@@ -4,7 +4,7 @@ use Rattle.std.specs.List.{list_any, range_with_len}
 use Rattle.std.proofs.lemmas.List.FromFn.{get_or-map-range_with_len}
 use Rattle.std.proofs.lemmas.Bool.{false≢true}
 use Rattle.pf_tokens.specs.Tokens.{is_word_byte}
-use Rattle.pf_tokens.specs.Joined.{is_continued}
+use Rattle.pf_tokens.specs.inner.Joined.{is_continued}
 
 -- what stands in a table of 256 tests at a byte
 pub looked_up : (table : List Bool) (i b : ℕ) → b < 256 → i ≡ b → table ≡ map is_word_byte (range_with_len 0 256) → get_or table i false ≡ is_word_byte b

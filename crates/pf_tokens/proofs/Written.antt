@@ -6,7 +6,7 @@ use Rattle.pf_tokens.specs.Tokens.{Token, Word, Quoted, Macro, Mark, Newline, Ba
 use Rattle.pf_tokens.specs.Macros.{Definition, replaced, replaced_token, is_definition, depth_after, depth_behind, ends}
 use Rattle.pf_tokens.specs.Flow.{statement_raw, ending_raw}
 use Rattle.pf_tokens.specs.Reading.{◌>>=◌, Judge, statement_judged, reading_from}
-use Rattle.pf_tokens.specs.Lines.{at_line}
+use Rattle.pf_tokens.specs.inner.Lines.{at_line}
 use Rattle.pf_tokens.proofs.Walking.{reading_next}
 
 -- neither a newline nor a macro

@@ -8,8 +8,3 @@ abbrev pub blanked : ℕ → List Token → List Token
 blanked zero ts = ts
 blanked (suc n) [] = []
 blanked (suc n) (t ∷ ts) = if is_newline t then blanked (suc n) ts else t ∷ blanked (depth_after (suc n) t) ts
-
--- how many braces of the list are open behind the token; where none is, the list has ended
-abbrev pub open_after : ℕ → Token → ℕ
-open_after zero t = 0
-open_after (suc n) t = depth_after (suc n) t

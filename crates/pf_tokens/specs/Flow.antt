@@ -27,16 +27,3 @@ abbrev pub ending_left : List Definition → Bool → ℕ → List Placed → Li
 ending_left ds defining depth [] raw = ending_raw ds defining depth raw
 ending_left ds defining depth (t ∷ ts) raw = if ends depth t then t ∷ raw
     else ending_left ds defining (depth_after depth t.token) ts raw
-
-abbrev pub pulled_first : List Placed → List Placed → List Placed × List Placed → List Placed × List Placed
-pulled_first [] ps others = others
-pulled_first (t ∷ ts) ps others = (t ∷ ts, ps)
-
--- the next tokens that are there, and those of the text behind them
-abbrev pub pulled_raw : List Definition → Bool → List Placed → List Placed × List Placed
-pulled_raw ds defining [] = ([], [])
-pulled_raw ds defining (p ∷ ps) = pulled_first (replaced ds defining p) ps (pulled_raw ds defining ps)
-
-abbrev pub pulled : List Definition → Bool → List Placed → List Placed → List Placed × List Placed
-pulled ds defining [] raw = pulled_raw ds defining raw
-pulled ds defining (t ∷ ts) raw = (t ∷ ts, raw)

@@ -1,9 +1,8 @@
 -- What the lexer's values stand for.
-use Rattle.std.specs.Prelude.{ℕ, Option, option_map}
 use Rattle.pf_tokens.specs.declared.lexeme.Lexeme.{Lexeme}
 use Rattle.pf_tokens.specs.declared.lexeme.Lexeme.TheVariants as lexed
 use Rattle.pf_tokens.specs.declared.lexeme.Lexed.{Lexed}
-use Rattle.pf_tokens.specs.Tokens.{Token, Word, Quoted, Macro, Mark, Newline, Bad, Placed, Front}
+use Rattle.pf_tokens.specs.Tokens.{Token, Word, Quoted, Macro, Mark, Newline, Bad, Placed}
 
 abbrev pub token_of : Lexeme → Token
 token_of (lexed.Word text) = Word text.now
@@ -15,6 +14,3 @@ token_of lexed.Bad = Bad
 
 abbrev pub placed_of : Lexed → Placed
 placed_of t = record { token = token_of t.lexeme; line = t.line; written = t.written }
-
-abbrev pub front_of : (Option Lexeme × ℕ) → Front
-front_of r = record { token = option_map token_of r.0; len = r.1 }

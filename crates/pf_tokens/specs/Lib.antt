@@ -15,7 +15,6 @@ pub mod Faults
 pub mod Carried
 pub mod Lists
 pub mod Reading
-pub mod Lines
 pub mod ListGrammar
 pub mod MacroGrammar
 pub mod inner

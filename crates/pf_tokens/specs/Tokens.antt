@@ -20,11 +20,6 @@ pub record Letter : Type 0 where
 abbrev pub line_after : ℕ → ℕ → ℕ
 line_after line b = if b == 10 then line + 1 else line
 
--- whether the byte is a backslash directly before a newline, with these bytes behind it
-abbrev pub continues : ℕ → List ℕ → Bool
-continues b [] = false
-continues b (c ∷ bytes) = b == 92 && c == 10
-
 -- Each byte with its line, the first being on this one; a backslash directly before a newline is taken out
 -- together with it, and the lines are those of the text as given. (pf.conf(5): lines are joined by a backslash.)
 abbrev pub letters : ℕ → List ℕ → List Letter

@@ -2,3 +2,11 @@
 pub mod Indexed
 pub mod Shorter
 pub mod Begun
+pub mod Blanks
+pub mod Defining
+pub mod Flow
+pub mod Joined
+pub mod Lexed
+pub mod Lines
+pub mod Pending
+pub mod Tokens

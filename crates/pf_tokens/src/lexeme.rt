@@ -5,7 +5,8 @@ ghost use Rattle.std.specs.List.{prefix_len};
 ghost use Rattle.pf_tokens.specs.Tokens.{is_word_byte, is_name_byte, is_quoted_byte, is_newline, quoted_closed};
 ghost use Rattle.pf_tokens.specs.Tokens.{macro_front, longer_symbol, longest, symbol_of, front};
 ghost use Rattle.pf_tokens.specs.Macros.{ends};
-ghost use Rattle.pf_tokens.specs.Lexed.{token_of, placed_of, front_of};
+ghost use Rattle.pf_tokens.specs.Lexed.{token_of, placed_of};
+ghost use Rattle.pf_tokens.specs.inner.Lexed.{front_of};
 
 use crate::symbol::{Symbol, symbol_of, symbol_of_two};
 

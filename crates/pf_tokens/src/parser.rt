@@ -1,10 +1,10 @@
 //! The core of a descent: the tokens of one statement, from one to the next.
 
 ghost use Rattle.std.specs.Prelude.{◌≡◌, ◌<◌, ◌≤◌, false};
-ghost use Rattle.pf_tokens.specs.Pending.{at_newline};
+ghost use Rattle.pf_tokens.specs.inner.Pending.{at_newline};
 ghost use Rattle.pf_tokens.specs.Lexed.{token_of, placed_of};
 ghost use Rattle.pf_tokens.specs.Macros.{depth_after, ends};
-ghost use Rattle.pf_tokens.specs.Blanks.{open_after};
+ghost use Rattle.pf_tokens.specs.inner.Blanks.{open_after};
 ghost use Rattle.pf_tokens.specs.Productions.{is_symbol, is_word, name_of, word_of};
 ghost use Rattle.std.specs.Option.{option_copied};
 
@@ -40,12 +40,13 @@ where
 {
     ghost use Rattle.std.specs.Prelude.{◌≡◌, ◌∷◌, ◌++◌, ◌<◌, ◌≤◌, drop, map, option_map, Some, false, true};
     ghost use Rattle.std.specs.Option.{option_copied};
-    ghost use Rattle.pf_tokens.specs.Pending.{at_hand, at_text};
+    ghost use Rattle.pf_tokens.specs.inner.Pending.{at_hand, at_text};
     ghost use Rattle.pf_tokens.specs.Tokens.{first, is_newline};
     ghost use Rattle.pf_tokens.specs.Lexed.{token_of, placed_of};
     ghost use Rattle.pf_tokens.specs.Left.{tokens_left};
     ghost use Rattle.pf_tokens.specs.Macros.{is_definition, depth_after, ends};
-    ghost use Rattle.pf_tokens.specs.Blanks.{blanked, open_after};
+    ghost use Rattle.pf_tokens.specs.Blanks.{blanked};
+    ghost use Rattle.pf_tokens.specs.inner.Blanks.{open_after};
     ghost use Rattle.pf_tokens.specs.Flow.{statement_raw, ending_raw};
     ghost use Rattle.pf_tokens.specs.Known.{definitions_of};
     ghost use Rattle.pf_tokens.specs.Faults.{reading_fault};

@@ -6,9 +6,10 @@ ghost use Rattle.std.specs.Option.{option_copied};
 ghost use Rattle.pf_tokens.specs.Lexed.{placed_of};
 ghost use Rattle.pf_tokens.specs.Left.{tokens_left};
 ghost use Rattle.pf_tokens.specs.Macros.{unwritten, text_tokens, replaced, is_definition};
-ghost use Rattle.pf_tokens.specs.Flow.{pulled, pulled_raw};
+ghost use Rattle.pf_tokens.specs.inner.Flow.{pulled, pulled_raw};
 ghost use Rattle.pf_tokens.specs.Known.{definitions_of};
-ghost use Rattle.pf_tokens.specs.Pending.{pending, known, at_newline, statement_tokens, Stays, Blanks};
+ghost use Rattle.pf_tokens.specs.Pending.{pending, known};
+ghost use Rattle.pf_tokens.specs.inner.Pending.{at_newline, statement_tokens, Stays, Blanks};
 ghost use Rattle.pf_tokens.specs.Carried.{carried};
 ghost use Rattle.pf_tokens.specs.inner.Begun.{begins_with_equals};
 

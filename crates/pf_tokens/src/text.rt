@@ -2,8 +2,10 @@
 
 ghost use Rattle.std.specs.Prelude.{◌≡◌, IfOk};
 ghost use Rattle.std.specs.Cow.{cow_slice_items};
-ghost use Rattle.pf_tokens.specs.Tokens.{continues, tokens};
-ghost use Rattle.pf_tokens.specs.Joined.{joined, joints, is_continued, text_tokens};
+ghost use Rattle.pf_tokens.specs.Tokens.{tokens};
+ghost use Rattle.pf_tokens.specs.inner.Tokens.{continues};
+ghost use Rattle.pf_tokens.specs.Joined.{text_tokens};
+ghost use Rattle.pf_tokens.specs.inner.Joined.{joined, joints, is_continued};
 ghost use Rattle.pf_tokens.specs.Left.{tokens_left};
 
 use crate::lexer::Lexer;

@@ -6,7 +6,9 @@ use Rattle.px_records.specs.declared.records.Records.{Ghosts}
 use Rattle.px_replica.specs.declared.fault.NodeFault.{NodeFault}
 use Rattle.px_replica.specs.declared.state.Replica.{Replica}
 use Rattle.px_transport.specs.Wires.{GrowsBy, Gives}
-use Rattle.pf_turn.specs.Turns.{Acts, Stand, Turned, Ticked, Took, TookOne, TookAll, TookThenTicked, Same, Turns, Ends, Served, handed_over}
+use Rattle.pf_turn.specs.Turns.{Acts, Stand, Turned, Ticked, Took, TookAll, TookThenTicked, Same, Turns, Ends, Served}
+use Rattle.pf_turn.specs.Turns.{handed_over}
+use Rattle.pf_turn.specs.inner.Turns.{TookOne}
 
 pub same_then : {R : Type 0} {G : Ghosts R} (x y z : Stand G) → Same x y → Same y z → Same x z
 same_then x y z s t = record {

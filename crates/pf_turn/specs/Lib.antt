@@ -1,3 +1,4 @@
 pub mod Turns
 pub mod Living
 pub mod Releases
+pub mod inner

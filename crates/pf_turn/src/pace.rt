@@ -102,8 +102,8 @@ pub struct Pace {
     /// When what isn't answered was sent last, and how many times again; 64 where nothing is to be sent again.
     repeated: u64,
     repeats: u32,
-    /// When the accept requests of the attempt went out, and whether what is learned next answers them: nothing was sent
-    /// again since, and nobody else's came.
+    /// When the accept requests of the attempt went out, and whether what is learned next answers them: nothing was
+    /// sent again since, and nobody else's came.
     accepting: u64,
     is_timed: bool,
     front: u32,
@@ -242,8 +242,8 @@ impl Pace {
         self.is_leading = view.is_leading;
     }
 
-    /// A majority has promised, and accept requests went out. Promises are of the round that was begun last, whatever was
-    /// lost before.
+    /// A majority has promised, and accept requests went out. Promises are of the round that was begun last, whatever
+    /// was lost before.
     fn promised(&mut self, now: u64) {
         self.time_answer(now.saturating_sub(self.ticked));
         self.accept(now);
@@ -278,9 +278,9 @@ impl Pace {
         self.answer = self.answer / 2 + sample / 2;
     }
 
-    /// An attempt led to something. If it was begun anew meanwhile nobody knows which of them did, and so not how long a
-    /// round trip is: then the patience stays as long as it has become. In the same way nobody knows how long an answer
-    /// took to what was sent again.
+    /// An attempt led to something. If it was begun anew meanwhile nobody knows which of them did, and so not how long
+    /// a round trip is: then the patience stays as long as it has become. In the same way nobody knows how long an
+    /// answer took to what was sent again.
     fn succeed(&mut self, now: u64) {
         if self.is_timed {
             self.time_answer(now.saturating_sub(self.accepting));

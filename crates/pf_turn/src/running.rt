@@ -139,9 +139,9 @@ fn remind<W: Wire>(wire: &mut W, sight: &Sight, front: u32)
 /// What has come is taken, 64 datagrams at most; then the clock ticks where the pace says so. These are turns of the
 /// node and nothing else. Answers how long may be waited before the next round.
 ///
-/// At its start, while the node lacks entries that others have, and when it ends, the wire is asked to keep back what is
-/// asked from outside; it is told which of the member's own requests were learned, and asked to send again what was sent
-/// and may be lost, or is lacked by a member that told so.
+/// At its start, while the node lacks entries that others have, and when it ends, the wire is asked to keep back what
+/// is asked from outside; it is told which of the member's own requests were learned, and asked to send again what was
+/// sent and may be lost, or is lacked by a member that told so.
 ///
 /// `now` is the time in microseconds since the node started, which never goes back. The faults are those of
 /// [`Node::receive`] and [`Node::tick`]; after one nothing is to be sent.

@@ -4,7 +4,8 @@ ghost use Rattle.std.specs.Prelude.{◌≡◌, ◌≤◌, IfOk, IfSome, length, 
 ghost use Rattle.px_replica.specs.Faults.{fault_of};
 ghost use Rattle.pf_node.specs.Nodes.{applied_of};
 ghost use Rattle.px_transport.specs.Wires.{Gives};
-ghost use Rattle.pf_turn.specs.Turns.{Ticked, TookOne, TookAll, TookThenTicked, Served, standing};
+ghost use Rattle.pf_turn.specs.Turns.{Ticked, TookAll, TookThenTicked, Served, standing};
+ghost use Rattle.pf_turn.specs.inner.Turns.{TookOne};
 
 use crate::room::Room;
 use crate::turning::{act, came, send_all};

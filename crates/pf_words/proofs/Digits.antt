@@ -4,7 +4,8 @@ use Rattle.std.specs.Prelude.{not, bytes_eq}
 use Rattle.std.specs.List.{list_all}
 use Rattle.std.proofs.lemmas.Bool.{and_parts, false≢true}
 use Rattle.std.proofs.lemmas.Slice.Eq.{bytes_eq-Decides}
-use Rattle.pf_words.specs.Words.{Named, named, begins_with_digit, protocols, services}
+use Rattle.pf_words.specs.Words.{Named, named, protocols, services}
+use Rattle.pf_words.specs.inner.Words.{begins_with_digit}
 use Rattle.pf_words.proofs.Reserved.{not_true}
 
 clash : (b : Bool) → b ≡ true → not b ≡ true → ⊥

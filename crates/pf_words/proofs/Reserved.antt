@@ -6,7 +6,8 @@ use Rattle.std.proofs.lemmas.Slice.Eq.{bytes_eq-Decides}
 use Rattle.std.proofs.lemmas.Bool.{and_parts, false≢true}
 use Rattle.pf_words.specs.declared.profile.Profile.{Profile}
 use Rattle.pf_words.specs.declared.profile.Profile.TheVariants.{One, Two}
-use Rattle.pf_words.specs.Words.{is_among, common_reserved, is_reserved, is_table_text, is_table_name, ends_like_reserved}
+use Rattle.pf_words.specs.Words.{is_among, common_reserved, is_reserved, is_table_text, is_table_name}
+use Rattle.pf_words.specs.inner.Words.{ends_like_reserved}
 
 either_kept : (a b : Bool) → not (a || b) ≡ true → not a ≡ true
 either_kept true b e = absurd (false≢true e)

@@ -1,7 +1,7 @@
 -- Words that stand for numbers, for flags and for names.
 use Rattle.std.specs.Prelude.{ℕ, ◌+◌, ◌*◌, ◌-◌, ◌&&◌, ◌||◌, ◌==◌, Bool, true, false, List, []}
 use Rattle.std.specs.Prelude.{◌∷◌, length, Option, Some, None, nat_le, nat_lt, not, bytes_eq, codes, fold}
-use Rattle.std.specs.Prelude.{if◌then◌else◌, get_or}
+use Rattle.std.specs.Prelude.{if◌then◌else◌}
 use Rattle.std.specs.List.{list_all, list_any}
 use Rattle.std.specs.Char.{is_ascii_digit, is_ascii_alphabetic, is_ascii_alphanumeric}
 use Rattle.pf_words.specs.declared.flags.TcpFlags.{TcpFlags}
@@ -45,10 +45,6 @@ protocols =
     (codes "esp", 50)
     ∷ (codes "ah", 51) ∷ (codes "icmp6", 58) ∷ (codes "ospf", 89) ∷ (codes "carp", 112) ∷
     (codes "pfsync", 240) ∷ []
-
-abbrev pub begins_with_digit : List ℕ → Bool
-begins_with_digit [] = false
-begins_with_digit (b ∷ bytes) = is_ascii_digit b
 
 -- a protocol: 0 to 255 in one to three digits, or a name
 abbrev pub protocol_of : List ℕ → Option ℕ
@@ -119,14 +115,6 @@ common_reserved =
 
 abbrev pub is_among : List (List ℕ) → List ℕ → Bool
 is_among words text = list_any (λ word. bytes_eq text word) words
-
--- a byte that ends a reserved word of a profile
-abbrev pub is_reserved_ending : ℕ → Bool
-is_reserved_ending b = b == 54 || b == 101 || b == 103 || (nat_le 107 b && nat_le b 112)
-    || (nat_le 114 b && nat_le b 116) || b == 121
-
-abbrev pub ends_like_reserved : List ℕ → Bool
-ends_like_reserved text = is_reserved_ending (get_or text (length text - 1) 0)
 
 -- profile Two has one word more
 unfoldable pub is_reserved : Profile → List ℕ → Bool

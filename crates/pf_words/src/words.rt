@@ -4,8 +4,9 @@ ghost use Rattle.std.specs.Prelude.{◌≡◌, ◌≤◌, bytes_eq, codes, lengt
 ghost use Rattle.std.specs.List.{list_all};
 ghost use Rattle.std.specs.Char.{is_ascii_digit};
 ghost use Rattle.pf_words.specs.Words.{number_of, decimal_value, named, protocol_of, port_of, icmp_type_of, is_letter};
-ghost use Rattle.pf_words.specs.Words.{are_letters, flags_of, is_among, is_reserved, begins_with_digit};
-ghost use Rattle.pf_words.specs.Words.{ends_like_reserved};
+ghost use Rattle.pf_words.specs.Words.{are_letters, flags_of, is_among, is_reserved};
+ghost use Rattle.pf_words.specs.inner.Words.{begins_with_digit};
+ghost use Rattle.pf_words.specs.inner.Words.{ends_like_reserved};
 
 use crate::flags::TcpFlags;
 use crate::profile::Profile;

@@ -15,7 +15,3 @@ counts front p m cell = (nat_le front p && nat_lt m 15) && nat_eq cell.position 
 
 unfoldable pub kept_in : (front : ℕ) → List Cell → (position member : ℕ) → ℕ
 kept_in front cells p m = if counts front p m (cell_at cells p m) then (cell_at cells p m).ballot else 0
-
--- the same below a new front forgotten
-abbrev pub forgotten_below : (front : ℕ) → ((position member : ℕ) → ℕ) → (position member : ℕ) → ℕ
-forgotten_below front kept p m = if nat_lt p front then 0 else kept p m

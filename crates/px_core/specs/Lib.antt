@@ -4,3 +4,4 @@ pub mod Views
 pub mod Planning
 pub mod Fitting
 pub mod OneStep
+pub mod inner

@@ -1,5 +1,5 @@
 -- What a core stands for, and what its plans and their settling are: the words of the public contracts.
-use Rattle.std.specs.Prelude.{◌≡◌, ℕ, ◌<◌, Option, Some, None, option_map, nat_eq, Result, MatchResult}
+use Rattle.std.specs.Prelude.{◌≡◌, ℕ, ◌<◌, Option, Some, None, option_map, nat_eq}
 use Rattle.std.specs.Cmp.Lexicographic.{pointwise}
 use Rattle.px_model.specs.Node as node
 use Rattle.px_model.specs.Node.{Volatile, Log, Answer}
@@ -17,7 +17,7 @@ use Rattle.px_core.specs.declared.plan.Plan.{Plan}
 use Rattle.px_core.specs.declared.plan.CoreFault.{CoreFault}
 use Rattle.px_core.specs.declared.plan.CoreFault.TheVariants as fault
 use Rattle.px_core.specs.declared.state.Core.{Core}
-use Rattle.px_core.specs.Views.{volatile_in, log_in, settled, learning, plan_in, sends_of, HasRoom}
+use Rattle.px_core.specs.Views.{volatile_in, log_in, settled, learning, sends_of, HasRoom}
 
 -- What a core stands for: how many members there are, which one it is, what it learned, its volatile part.
 pub record State : Type 0 where
@@ -67,11 +67,6 @@ IsRefusal fault.Memory answer = IsPlanned answer
 IsRefusal fault.Full answer = answer ≡ Answer.Refused 60
 IsRefusal fault.BallotsSpent answer = answer ≡ Answer.Refused 61
 IsRefusal fault.PositionsSpent answer = answer ≡ Answer.Refused 62
-
--- what the core's code gives is this answer
-abbrev pub IsAnswer : Core → Result Plan CoreFault → Answer Bytes → Type 0
-IsAnswer core result answer =
-    MatchResult result (λ plan. answer ≡ Answer.Planned (plan_in core plan)) (λ fault. IsRefusal fault answer)
 
 -- What a caller sees to: a promise or a vote comes from a member, and a promise is for a position that there is.
 abbrev pub MayComeFrom : (members from : ℕ) → Message EntryView → Type 0

@@ -1,19 +1,16 @@
 -- What the code's parts stand for, and what one function of the code promises another. Only code and proofs use these.
-use Rattle.std.specs.Prelude.{◌≡◌, ℕ, List, [], ◌∷◌, ◌++◌, Some, None, option_map, Bool, true, false}
+use Rattle.std.specs.Prelude.{ℕ, List, [], ◌∷◌, ◌++◌, Some, None, option_map, Bool, false}
 use Rattle.std.specs.Prelude.{map, slice_index_or, ◌<◌, ◌≤◌, ◌+◌, length, if◌then◌else◌, nat_eq}
 use Rattle.std.specs.Cmp.Lexicographic.{pointwise}
 use Rattle.px_model.specs.Node as node
 use Rattle.px_model.specs.Node.{Volatile, Envelope, Log}
-use Rattle.px_model.specs.Step.{to_all, put, front, keep, on_learning, in_window, positions}
+use Rattle.px_model.specs.Step.{to_all, put, front, keep, on_learning, positions}
 use Rattle.px_model.specs.Spelling.{Bytes}
 use Rattle.px_model.specs.Entries.{entry_of}
-use Rattle.px_model.specs.Views.{proposal_of, change_of, message_of}
-use Rattle.px_model.specs.declared.entry.EntryView.{EntryView}
-use Rattle.px_model.specs.declared.message.Message.{Message}
+use Rattle.px_model.specs.Views.{proposal_of, message_of}
 use Rattle.px_model.specs.declared.message.Message.TheVariants as message
 use Rattle.px_core.specs.declared.plan.Sends.{Sends}
 use Rattle.px_core.specs.declared.plan.Sends.TheVariants as sends
-use Rattle.px_core.specs.declared.plan.Plan.{Plan}
 use Rattle.px_core.specs.declared.plan.Next.{Next}
 use Rattle.px_core.specs.declared.plan.Next.TheVariants as next
 use Rattle.px_core.specs.declared.plan.Phase.{Phase}
@@ -95,18 +92,6 @@ learning (next.Leads a l) log = log
 learning (next.Drops a l seen) log = log
 learning (next.Keeps p m b) log = log
 
--- the plan, by a member with this log and this volatile part
-abbrev pub plan_of : (n me : ℕ) → Log Bytes → Volatile Bytes → Plan → node.Plan Bytes
-plan_of n me log v plan = record {
-  change = option_map change_of plan.change;
-  volatile = settled log plan.next v;
-  sends = sends_of n me plan.sends;
-}
-
--- the plan, by the core as it stands
-abbrev pub plan_in : Core → Plan → node.Plan Bytes
-plan_in core plan = plan_of core.members core.me (log_in core) (volatile_in core) plan
-
 -- ---- room
 
 -- the votes at p are kept, and the member has a column
@@ -131,21 +116,3 @@ HasRoom next.Same core = Unit {0}
 HasRoom (next.Counts a) core = Unit {0}
 HasRoom (next.Leads a l) core = Unit {0}
 HasRoom (next.Drops a l seen) core = Unit {0}
-
--- where an entry may be learned there is room for it
-abbrev pub RoomAt : ℕ → Core → Type 0
-RoomAt p core = in_window (front_in core) p ≡ true → p < length core.learner.learned.items
-
-abbrev pub RoomToLearn : Message EntryView → Core → Type 0
-RoomToLearn (message.Prepare b p) core = Unit {0}
-RoomToLearn (message.Promise b p a) core = Unit {0}
-RoomToLearn (message.PrepareAll b p) core = Unit {0}
-RoomToLearn (message.PromiseAll b p t a) core = Unit {0}
-RoomToLearn (message.Accept b p e) core = Unit {0}
-RoomToLearn (message.Vote b p e) core = RoomAt p core
-RoomToLearn (message.Nack b p q) core = Unit {0}
-RoomToLearn (message.Need p) core = Unit {0}
-RoomToLearn (message.Learned p e) core = RoomAt p core
-RoomToLearn (message.Ask e) core = Unit {0}
-RoomToLearn (message.Asked t k) core = Unit {0}
-RoomToLearn (message.AskRefused t c) core = Unit {0}

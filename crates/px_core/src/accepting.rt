@@ -7,7 +7,7 @@ ghost use Rattle.px_model.specs.Entries.{entry_of, view_of};
 ghost use Rattle.px_core.specs.declared.state.Core.{Core};
 ghost use Rattle.px_model.specs.Views.{proposal_of, slot_of, meta_of};
 ghost use Rattle.px_core.specs.Planning.{IsFor};
-ghost use Rattle.px_core.specs.Views.{plan_of};
+ghost use Rattle.px_core.specs.inner.Views.{plan_of};
 
 use crate::plan::{Next, Plan, Sends};
 use px_model::{Change, Entry, EntryView, Message, Meta, Proposal, Slot};

@@ -8,7 +8,8 @@ ghost use Rattle.px_model.specs.Views.{meta_of, slot_of, come_of};
 ghost use Rattle.px_core.specs.Planning.{state_in, state_of, planned, step_with, IsFor, IsRefusal, MayCome};
 ghost use Rattle.px_core.specs.Planning.{MayComeFrom};
 ghost use Rattle.px_core.specs.Fitting.{CoreFits, HandedFits, PlanFits};
-ghost use Rattle.px_core.specs.Views.{plan_in, volatile_in, log_in, RoomToLearn};
+ghost use Rattle.px_core.specs.Views.{volatile_in, log_in};
+ghost use Rattle.px_core.specs.inner.Views.{plan_in, RoomToLearn};
 
 use crate::accepting::Acceptor;
 use crate::plan::{CoreFault, Plan};

@@ -11,7 +11,8 @@ ghost use Rattle.px_core.specs.Logs.{learned_in};
 ghost use Rattle.px_core.specs.declared.state.Core.{Core};
 ghost use Rattle.px_model.specs.Views.{proposal_of, report_of};
 ghost use Rattle.px_core.specs.Planning.{IsFor};
-ghost use Rattle.px_core.specs.Views.{counted_of, plan_of, plan_in, volatile_in, log_in, attempt_of, lead_of};
+ghost use Rattle.px_core.specs.Views.{counted_of, volatile_in, log_in, attempt_of, lead_of};
+ghost use Rattle.px_core.specs.inner.Views.{plan_of, plan_in};
 ghost use Rattle.px_core.specs.declared.limits.TheConstants.{MEMBERS};
 
 use crate::accepting::share_proposal;

@@ -1,7 +1,8 @@
 //! Keeping and counting votes.
 ghost use Rattle.std.specs.Prelude.{◌≡◌, ℕ, ◌+◌, ◌*◌, ◌<◌, ◌≤◌, if◌then◌else◌, nat_lt};
 ghost use Rattle.std.specs.Prelude.{nat_eq, IfOk};
-ghost use Rattle.px_core.specs.Cells.{kept_in, forgotten_below};
+ghost use Rattle.px_core.specs.Cells.{kept_in};
+ghost use Rattle.px_core.specs.inner.Cells.{forgotten_below};
 ghost use Rattle.px_model.specs.Step.{keep, is_majority};
 ghost use Rattle.px_core.specs.declared.limits.TheConstants.{MEMBERS, WINDOW};
 

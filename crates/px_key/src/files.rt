@@ -19,8 +19,8 @@ fn is_private(mode: u32) -> bool
     mode & OTHERS == 0
 }
 
-/// The key in a file: `Unread` where it isn't there or can't be read, `Open` where others than its owner may do anything
-/// with it, as ssh has it of a private key, and `NoKey` where its text is none.
+/// The key in a file: `Unread` where it isn't there or can't be read, `Open` where others than its owner may do
+/// anything with it, as ssh has it of a private key, and `NoKey` where its text is none.
 pub fn read_key<F: Files>(files: &F, alloc: Global, path: &str) -> Result<[u8; 32], KeyFault> {
     let Ok(mut file) = fs::open(files, path) else {
         return Err(KeyFault::Unread);

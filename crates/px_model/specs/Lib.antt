@@ -13,3 +13,4 @@ pub mod Entries
 pub mod Views
 pub mod Bounds
 pub mod Rising
+pub mod inner

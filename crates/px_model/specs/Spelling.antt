@@ -21,10 +21,6 @@ entry_in bytes = if nat_le 10 (length bytes) then Some (record {
   command = command_in bytes;
 }) else None
 
--- the spelling of the same command, asked by o as its request k
-unfoldable pub renamed : Bytes → (o k : ℕ) → Bytes
-renamed bytes o k = ((take 1 bytes ++ o ∷ []) ++ to_be_bytes w64 k) ++ drop 10 bytes
-
 -- the spelling of an entry
 unfoldable pub spelled : node.Entry Bytes → Bytes
 spelled e = ((take 1 e.command ++ e.origin ∷ []) ++ to_be_bytes w64 e.number) ++ drop 1 e.command

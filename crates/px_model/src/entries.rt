@@ -4,7 +4,8 @@ ghost use Rattle.std.specs.Prelude.{◌++◌, nat_eq, ◌&&◌, option_map};
 ghost use Rattle.std.specs.Cmp.Lexicographic.{pointwise};
 ghost use Rattle.std.specs.Int.{from_be_bytes, w64};
 ghost use Rattle.px_model.specs.Node.{same_entry};
-ghost use Rattle.px_model.specs.Spelling.{command_in, entry_in, renamed, spelled};
+ghost use Rattle.px_model.specs.Spelling.{command_in, entry_in, spelled};
+ghost use Rattle.px_model.specs.inner.Spelling.{renamed};
 ghost use Rattle.px_model.specs.Entries.{entry_of, view_of};
 
 use crate::entry::{Entry, EntryView};
@@ -32,7 +33,7 @@ fn is_same_command(bytes: &[u8], other: &[u8]) -> bool
 }
 
 /// The spelling with another origin and number.
-#[tactic(auto, unfolding(crate::specs::Spelling::renamed))]
+#[tactic(auto, unfolding(crate::specs::inner::Spelling::renamed))]
 fn renamed_bytes(
     alloc: Global,
     bytes: &[u8],

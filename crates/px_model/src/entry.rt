@@ -1,7 +1,7 @@
 //! Entries as they are spelled: a format byte, a byte for the member that took the command in, eight for its number
 //! there, then the command's bytes.
 ghost use Rattle.std.specs.Prelude.{◌≡◌, ◌≤◌, length};
-ghost use Rattle.px_model.specs.Spelling.{renamed};
+ghost use Rattle.px_model.specs.inner.Spelling.{renamed};
 
 use std::rc::Rc;
 

@@ -9,8 +9,9 @@ ghost use Rattle.px_model.specs.Entries.{entry_of};
 ghost use Rattle.px_model.specs.Views.{slot_of};
 ghost use Rattle.px_model.specs.Fits.{RecordFits};
 ghost use Rattle.px_records.specs.Records.{IsEnd};
-ghost use Rattle.px_records.specs.Memory.{AllFits, Promises, PutsSlot, PutsEntry, slots_in, learned_in, record_of};
-ghost use Rattle.px_records.specs.Memory.{accepted_with};
+ghost use Rattle.px_records.specs.Memory.{slots_in, learned_in, record_of};
+ghost use Rattle.px_records.specs.inner.Memory.{AllFits, Promises, PutsSlot, PutsEntry};
+ghost use Rattle.px_records.specs.inner.Memory.{accepted_with};
 ghost use Rattle.px_records.specs.inner.Props.{AllFits-prop, IsTop-prop, IsEnd-prop};
 
 use crate::records::{Records, StoreFault};

@@ -14,7 +14,8 @@ use Rattle.px_records.specs.declared.records.StoreFault.TheVariants as store
 use Rattle.px_wire.specs.Message.{group}
 use Rattle.px_wire.specs.Sent.{is_command}
 use Rattle.px_replica.specs.Calls.{Call, Receives, IsBadEntry, HasBadEntry, OpenRefused}
-use Rattle.px_replica.specs.Faults.{fault_of, fault_of_store, IsOfStore, IsOpenFault, SomeFails}
+use Rattle.px_replica.specs.Faults.{fault_of, IsOfStore, IsOpenFault, SomeFails}
+use Rattle.px_replica.specs.inner.Faults.{fault_of_store}
 use Rattle.px_replica.specs.Replicas.{learned_by, membership_of, state_in}
 use Rattle.px_replica.specs.Seen.{IsSound}
 use Rattle.px_replica.specs.declared.datagram.Datagram.{Datagram}

@@ -22,7 +22,8 @@ use Rattle.px_wire.specs.Members as members
 use Rattle.px_wire.specs.Members.{as_sent, Passing}
 use Rattle.px_wire.specs.Views.{message_of}
 use Rattle.px_wire.proofs.Members.{lent_is_sent}
-use Rattle.px_replica.specs.Faults.{IsRefusedBy, IsFromBelow, IsReceiveFault}
+use Rattle.px_replica.specs.Faults.{IsRefusedBy, IsReceiveFault}
+use Rattle.px_replica.specs.inner.Faults.{IsFromBelow}
 use Rattle.px_replica.specs.Made.{same, answer, Makes}
 use Rattle.px_replica.specs.Spelled.{AreSpelled}
 use Rattle.px_replica.specs.declared.datagram.Datagram.{Datagram}

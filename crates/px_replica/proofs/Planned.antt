@@ -18,7 +18,7 @@ use Rattle.px_core.proofs.Following.{answers_as_a_member}
 use Rattle.px_core.proofs.Spelled.{spelled_may_come}
 use Rattle.px_wire.specs.Sent.{is_command}
 use Rattle.px_replica.specs.Made.{answer, running}
-use Rattle.px_replica.specs.Seen.{IsSeen, SeenFits}
+use Rattle.px_replica.specs.inner.Seen.{IsSeen, SeenFits}
 use Rattle.px_replica.specs.declared.look.Seen.{Seen}
 
 -- what can be told may come to the core

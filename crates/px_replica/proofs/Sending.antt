@@ -19,7 +19,8 @@ use Rattle.px_wire.specs.Message as datagrams
 use Rattle.px_wire.specs.Members.{as_sent, Passing}
 use Rattle.px_wire.specs.Sent.{is_command}
 use Rattle.px_wire.proofs.Members.{sent_has}
-use Rattle.px_replica.specs.Spelled.{IsSpelled, AreSpelled, envelope}
+use Rattle.px_replica.specs.Spelled.{IsSpelled, AreSpelled}
+use Rattle.px_replica.specs.inner.Spelled.{envelope}
 use Rattle.px_replica.specs.declared.datagram.Datagram.{Datagram}
 
 pub are_more : (g : Group) (xs : List (Envelope Bytes)) (ds : List Datagram) (x : Envelope Bytes) (d : Datagram) →

@@ -16,7 +16,8 @@ use Rattle.px_records.specs.Records.{Rises, IsEnd, IsStoresFault}
 use Rattle.px_records.specs.declared.records.StoreFault.{StoreFault}
 use Rattle.px_records.specs.declared.records.StoreFault.TheVariants as store
 use Rattle.px_wire.specs.Sent.{is_command}
-use Rattle.px_replica.specs.Faults.{fault_of_store, IsOfStore}
+use Rattle.px_replica.specs.Faults.{IsOfStore}
+use Rattle.px_replica.specs.inner.Faults.{fault_of_store}
 use Rattle.px_replica.specs.Made.{same, answer}
 use Rattle.px_replica.specs.Seen.{IsSound}
 use Rattle.px_replica.specs.declared.fault.NodeFault.{NodeFault}

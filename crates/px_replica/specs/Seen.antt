@@ -1,24 +1,9 @@
 -- What was read of a record for a step.
-use Rattle.std.specs.Prelude.{◌≡◌, ◌≤◌, ℕ}
+use Rattle.std.specs.Prelude.{ℕ}
 use Rattle.px_model.specs.Node.{Record}
-use Rattle.px_model.specs.Step.{positions}
-use Rattle.px_model.specs.Fits.{Passes, MetaFits, SlotFits, RecordFits}
+use Rattle.px_model.specs.Fits.{Passes, RecordFits}
 use Rattle.px_model.specs.Spelling.{Bytes}
-use Rattle.px_model.specs.Views.{meta_of, slot_of, IsRead}
-use Rattle.px_model.specs.declared.message.Reads.{Reads}
 use Rattle.px_wire.specs.Sent.{is_command}
-use Rattle.px_replica.specs.declared.look.Seen.{Seen}
-
--- what was read is the record's, as far as a step reads it
-pub record IsSeen (d : Record Bytes) (reads : Reads) (s : Seen) : Type 0 where
-  pub meta : meta_of s.meta ≡ d.meta
-  pub read : IsRead reads d (slot_of s.slot) s.top
-
--- what was read can be told, whoever kept it
-pub record SeenFits (members : ℕ) (s : Seen) : Type 0 where
-  pub meta : MetaFits members (meta_of s.meta)
-  pub here : SlotFits (Passes is_command) members (slot_of s.slot)
-  pub top_within : s.top ≤ positions
 
 -- every row of the record can be told
 abbrev pub IsSound : (members : ℕ) → Record Bytes → Type 0

@@ -1,6 +1,5 @@
 -- Messages on their way as bytes.
-use Rattle.std.specs.Prelude.{◌≡◌, ℕ, not, nat_eq, filter, List, [], ◌∷◌}
-use Rattle.px_model.specs.Node as node
+use Rattle.std.specs.Prelude.{◌≡◌, not, nat_eq, filter, List, [], ◌∷◌}
 use Rattle.px_model.specs.Node.{Envelope, asker}
 use Rattle.px_model.specs.Fits.{Passes, EnvelopeFits}
 use Rattle.px_model.specs.Spelling.{Bytes}
@@ -8,10 +7,6 @@ use Rattle.px_wire.specs.Message.{Group, DatagramBytes}
 use Rattle.px_wire.specs.Members.{as_sent}
 use Rattle.px_wire.specs.Sent.{is_command}
 use Rattle.px_replica.specs.declared.datagram.Datagram.{Datagram}
-
--- a message on its way
-abbrev pub envelope : (me to : ℕ) → node.Message Bytes → Envelope Bytes
-envelope me to x = record { sender = me; addressee = to; message = x }
 
 -- the message may pass between them, the datagram is for its addressee, and its bytes spell the message
 pub record IsSpelled (g : Group) (x : Envelope Bytes) (d : Datagram) : Type 0 where

@@ -15,7 +15,8 @@ ghost use Rattle.px_records.specs.Records.Place.{LastSlot};
 ghost use Rattle.px_wire.specs.Sent.{is_command};
 ghost use Rattle.px_replica.specs.Calls.{IsBadSlot, AreBad};
 ghost use Rattle.px_replica.specs.Faults.{SomeFails};
-ghost use Rattle.px_replica.specs.Seen.{IsSeen, SeenFits, IsSound};
+ghost use Rattle.px_replica.specs.Seen.{IsSound};
+ghost use Rattle.px_replica.specs.inner.Seen.{IsSeen, SeenFits};
 ghost use Rattle.px_core.specs.declared.limits.TheConstants.{MEMBERS};
 
 use pf_entry::decode;

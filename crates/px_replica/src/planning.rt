@@ -13,8 +13,9 @@ ghost use Rattle.px_core.specs.Planning.{state_of, volatile_after, learned_after
 ghost use Rattle.px_core.specs.Views.{sends_of};
 ghost use Rattle.px_wire.specs.Sent.{is_command};
 ghost use Rattle.px_replica.specs.Made.{answer, running};
-ghost use Rattle.px_replica.specs.Members.{volatile_of, log_of, group_of, planned_by, IsReady};
-ghost use Rattle.px_replica.specs.Seen.{IsSeen, SeenFits};
+ghost use Rattle.px_replica.specs.Members.{volatile_of, log_of, group_of};
+ghost use Rattle.px_replica.specs.inner.Members.{planned_by, IsReady};
+ghost use Rattle.px_replica.specs.inner.Seen.{IsSeen, SeenFits};
 ghost use Rattle.px_core.specs.declared.limits.TheConstants.{MEMBERS};
 
 use crate::look::Seen;

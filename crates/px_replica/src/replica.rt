@@ -8,7 +8,8 @@ ghost use Rattle.px_model.specs.Fits.{Passes, InputFits};
 ghost use Rattle.px_model.specs.Views.{input_of};
 ghost use Rattle.px_wire.specs.Sent.{is_command};
 ghost use Rattle.px_replica.specs.Calls.{Call, Receives};
-ghost use Rattle.px_replica.specs.Faults.{fault_of, IsFromBelow};
+ghost use Rattle.px_replica.specs.Faults.{fault_of};
+ghost use Rattle.px_replica.specs.inner.Faults.{IsFromBelow};
 ghost use Rattle.px_replica.specs.Replicas.{records_of, learned_by, membership_of, has_failed, state_in};
 
 use crate::act::act;

@@ -8,7 +8,8 @@ ghost use Rattle.px_model.specs.Views.{message_of};
 ghost use Rattle.px_core.specs.Views.{sends_of};
 ghost use Rattle.px_wire.specs.Message.{group};
 ghost use Rattle.px_wire.specs.Sent.{is_command};
-ghost use Rattle.px_replica.specs.Spelled.{IsSpelled, AreSpelled, envelope};
+ghost use Rattle.px_replica.specs.Spelled.{IsSpelled, AreSpelled};
+ghost use Rattle.px_replica.specs.inner.Spelled.{envelope};
 
 use crate::datagram::Datagram;
 use px_core::Sends;

@@ -1,5 +1,4 @@
 pub mod Hmac
-pub mod Held
 pub mod Seals
 pub mod Keyed
 pub mod Groups
@@ -7,3 +6,4 @@ pub mod Wiring
 pub mod Laws
 pub mod Texts
 pub mod Outside
+pub mod inner

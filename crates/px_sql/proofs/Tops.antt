@@ -16,8 +16,10 @@ use Rattle.sqlite.specs.Tree.{Trees}
 use Rattle.sqlite_rules.specs.Lists.{Has}
 use Rattle.sqlite.specs.State.{State, Shown}
 use Rattle.sqlite.proofs.Callers.{reads_as}
-use Rattle.px_sql.specs.Tables.{schema_3, get_top, get_end}
-use Rattle.px_sql.specs.Seen.{has_ballot, any_row, IsLast}
+use Rattle.px_sql.specs.Tables.{schema_3}
+use Rattle.px_sql.specs.inner.Tables.{get_top, get_end}
+use Rattle.px_sql.specs.Seen.{has_ballot, any_row}
+use Rattle.px_sql.specs.inner.Seen.{IsLast}
 use Rattle.sqlite.specs.Schema.{Schema}
 use Rattle.px_sql.specs.Judging.{has_rows}
 use Rattle.px_sql.proofs.Texts.{last_row, with_ballot, select, top_get, end_get, top_names, Asks}

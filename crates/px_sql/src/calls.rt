@@ -8,11 +8,14 @@ ghost use Rattle.sqlite.specs.State.{HasCleanDisk, Survives, Executes, CommitsBy
 ghost use Rattle.sqlite.specs.Values.{bound};
 ghost use Rattle.sqlite.specs.Given.{IsPlain};
 ghost use Rattle.sqlite.specs.Listing.{understood};
-ghost use Rattle.px_sql.specs.Tables.{put_meta, put_slot, put_floor, put_learned, meta_params, slot_params, schema_3};
-ghost use Rattle.px_sql.specs.Tables.{floor_params, learned_params};
-ghost use Rattle.px_sql.specs.Seen.{slot_columns, slot_row, learned_columns, learned_row};
-ghost use Rattle.px_sql.specs.Seen.{meta_columns, meta_row, floor_columns, floor_row};
-ghost use Rattle.px_sql.specs.Effect.{IsIdle, Puts, IsSettled, LeavesOne, LeavesOld, Serves};
+ghost use Rattle.px_sql.specs.Tables.{schema_3};
+ghost use Rattle.px_sql.specs.inner.Tables.{put_meta, put_slot, put_floor, put_learned, meta_params, slot_params};
+ghost use Rattle.px_sql.specs.inner.Tables.{floor_params, learned_params};
+ghost use Rattle.px_sql.specs.Seen.{slot_columns, learned_columns};
+ghost use Rattle.px_sql.specs.inner.Seen.{slot_row, learned_row};
+ghost use Rattle.px_sql.specs.Seen.{meta_columns, meta_row, floor_columns};
+ghost use Rattle.px_sql.specs.inner.Seen.{floor_row};
+ghost use Rattle.px_sql.specs.inner.Effect.{IsIdle, Puts, IsSettled, LeavesOne, LeavesOld, Serves};
 ghost use Rattle.px_sql.specs.declared.reading.TheConstants.{INTEGERS};
 
 use sqlite::{Alter, Connection, Error, ErrorCode, Row, params};

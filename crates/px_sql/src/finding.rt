@@ -7,12 +7,13 @@ ghost use Rattle.sqlite.specs.Values.{bound};
 ghost use Rattle.sqlite.specs.Given.{IsPlain};
 ghost use Rattle.sqlite.specs.Listing.{understood};
 ghost use Rattle.sqlite_value.specs.Order.{column};
-ghost use Rattle.px_sql.specs.Tables.{get_meta, get_floor, get_last, get_end, key_params};
+ghost use Rattle.px_sql.specs.inner.Tables.{get_meta, get_floor, get_last, get_end, key_params};
 ghost use Rattle.px_sql.specs.Seen.{seen, meta_columns, floor_columns, number_at, number_in};
-ghost use Rattle.px_sql.specs.Effect.{LeavesOld, IsAlike};
+ghost use Rattle.px_sql.specs.inner.Effect.{LeavesOld, IsAlike};
 ghost use Rattle.px_sql.specs.Formats.{schema_at, trees_at};
 ghost use Rattle.px_sql.specs.Adopting.{Began, IsSame, IsVerdict};
-ghost use Rattle.px_sql.specs.Judging.{has_rows, rows_in, says_format, says_member, says_numbers, is_member_of};
+ghost use Rattle.px_sql.specs.Judging.{has_rows, says_format, says_member, says_numbers, is_member_of};
+ghost use Rattle.px_sql.specs.inner.Judging.{rows_in};
 ghost use Rattle.px_sql.specs.Judging.{is_owner, row_refusal, refusal_of};
 ghost use Rattle.px_sql.specs.declared.reading.TheConstants.{NUMBERS};
 

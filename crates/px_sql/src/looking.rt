@@ -4,10 +4,11 @@ ghost use Rattle.sqlite.specs.Held.{state};
 ghost use Rattle.px_model.specs.Step.{positions};
 ghost use Rattle.px_records.specs.Records.Place.{SlotAt, EntryAt, LastSlot, LastEntry};
 ghost use Rattle.px_sql.specs.inner.Bytes.{read_in, is_entry_in};
-ghost use Rattle.px_sql.specs.Seen.{seen, slot_columns, learned_columns, slot_with, is_slot, IsLast, EndsAt};
+ghost use Rattle.px_sql.specs.Seen.{seen, slot_columns, learned_columns, is_slot};
+ghost use Rattle.px_sql.specs.inner.Seen.{slot_with, IsLast, EndsAt};
 ghost use Rattle.px_sql.specs.Seen.{has_ballot, any_row};
-ghost use Rattle.px_sql.specs.Effect.{IsAlike};
-ghost use Rattle.px_sql.specs.Store.{OnlyReads};
+ghost use Rattle.px_sql.specs.inner.Effect.{IsAlike};
+ghost use Rattle.px_sql.specs.inner.Store.{OnlyReads};
 ghost use Rattle.px_sql.specs.View.{view_of};
 
 use crate::calls::{Trouble, get};

@@ -2,9 +2,10 @@
 ghost use Rattle.std.specs.Prelude.{◌≡◌, ◌<◌, ◌≤◌, ◌^◌, ◌↔◌, true, Some, Err, OnOk, IfOk};
 ghost use Rattle.px_model.specs.Fits.{IsBallot};
 ghost use Rattle.px_records.specs.Records.Place.{SlotAt, EntryAt};
-ghost use Rattle.px_sql.specs.Store.{told_of, with_meta, with_floor, with_slot, with_promise, with_entry, Keeps};
-ghost use Rattle.px_sql.specs.Store.{OnlyReads, LeavesOneOf};
-ghost use Rattle.px_sql.specs.Seen.{slot_with, is_slot};
+ghost use Rattle.px_sql.specs.inner.Store.{told_of, with_meta, with_floor, with_slot, with_promise, with_entry, Keeps};
+ghost use Rattle.px_sql.specs.inner.Store.{OnlyReads, LeavesOneOf};
+ghost use Rattle.px_sql.specs.Seen.{is_slot};
+ghost use Rattle.px_sql.specs.inner.Seen.{slot_with};
 ghost use Rattle.px_sql.specs.View.{view_of};
 ghost use Rattle.px_sql.specs.declared.reading.TheConstants.{NUMBERS, INTEGERS};
 

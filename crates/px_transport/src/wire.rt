@@ -42,32 +42,32 @@ pub trait Wire {
         ensures quiet { given self.new ≡ given self.old }
         ensures counts { Counts result (failed self.old) (failed self.new) };
 
-    /// Whether what is asked from outside is kept back from now on, where the wire can do that: then it is given later, as
-    /// a datagram may be late.
+    /// Whether what is asked from outside is kept back from now on, where the wire can do that: then it is given later,
+    /// as a datagram may be late.
     fn defer_asks(&mut self, _is_deferred: bool)
         ensures given { given self.new ≡ given self.old }
         ensures quiet { handed self.new ≡ handed self.old }
         ensures counts { failed self.old ≤ failed self.new }
     {}
 
-    /// What was taken in as this request of the member is learned: an answer that the wire held back for it goes out, as a
-    /// datagram may be late.
+    /// What was taken in as this request of the member is learned: an answer that the wire held back for it goes out,
+    /// as a datagram may be late.
     fn release(&mut self, _number: u64)
         ensures given { given self.new ≡ given self.old }
         ensures quiet { handed self.new ≡ handed self.old }
         ensures counts { failed self.old ≤ failed self.new }
     {}
 
-    /// What was sent of the positions from this one on, and may be lost, is sent again, where the wire keeps it: a datagram
-    /// may come twice.
+    /// What was sent of the positions from this one on, and may be lost, is sent again, where the wire keeps it: a
+    /// datagram may come twice.
     fn repeat(&mut self, _front: u32)
         ensures given { given self.new ≡ given self.old }
         ensures quiet { handed self.new ≡ handed self.old }
         ensures counts { failed self.old ≤ failed self.new }
     {}
 
-    /// What was sent to this member of the positions from this one on is sent to it again, since it may lack them, where
-    /// the wire keeps it: a datagram may come twice.
+    /// What was sent to this member of the positions from this one on is sent to it again, since it may lack them,
+    /// where the wire keeps it: a datagram may come twice.
     fn repeat_to(&mut self, _to: u8, _front: u32)
         ensures given { given self.new ≡ given self.old }
         ensures quiet { handed self.new ≡ handed self.old }

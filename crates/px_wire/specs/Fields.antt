@@ -1,6 +1,6 @@
 -- The fields of a datagram, each with its offset, its length, what is allowed there, and the code where it isn't.
 use Rattle.std.specs.Prelude.{◌≡◌, ℕ, ◌+◌, ◌==◌, ◌&&◌, Bool, false, nat_le, nat_lt, List, []}
-use Rattle.std.specs.Prelude.{◌∷◌, length, take, drop, Option, Some, None, option_map, is_some}
+use Rattle.std.specs.Prelude.{◌∷◌, length, take, drop, Option, Some, None, option_map}
 use Rattle.std.specs.Prelude.{if◌then◌else◌}
 use Rattle.std.specs.Int.{Width, w8, w32, w64, byte_len, from_be_bytes}
 use Rattle.pf_entry.specs.Entry as entries
@@ -79,10 +79,6 @@ lent bytes e = record { origin = e.origin; number = e.number; bytes = bytes }
 -- the entry that all of the bytes spell
 unfoldable pub lent_in : List ℕ → Option Lent
 lent_in bytes = option_map (lent bytes) (entry_reading.reading bytes)
-
--- an entry of so many bytes, of whatever origin
-abbrev pub any_entry : (at len : ℕ) → List ℕ → Field
-any_entry at len bytes = field at len 57 (is_some (lent_in (take len (drop at bytes))))
 
 -- there is an entry, with such an origin
 abbrev pub is_entry : (ℕ → Bool) → Option Lent → Bool

@@ -3,3 +3,4 @@ pub mod Fields
 pub mod Views
 pub mod Sent
 pub mod Members
+pub mod inner

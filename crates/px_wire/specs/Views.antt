@@ -9,7 +9,7 @@ use Rattle.px_model.specs.declared.message.Message.TheVariants as views
 use Rattle.px_wire.specs.declared.fault.WireFault.{WireFault}
 use Rattle.px_wire.specs.Message.{Lent, Message, prepare, promise, accept, vote, nack, need, learned, ask, asked}
 use Rattle.px_wire.specs.Message.{ask_refused, prepare_all, promise_all}
-use Rattle.px_wire.specs.Fields.{Field, fault_of, first_fault}
+use Rattle.px_wire.specs.Fields.{Field, first_fault}
 
 -- an entry with the bytes that spell it
 abbrev pub lent_of : EntryView → Lent
@@ -37,19 +37,6 @@ message_of (views.AskRefused t c) = ask_refused t c
 abbrev pub Answers : {X Y : Type 0} → (X → Y) → Result X WireFault → Option WireFault → Y → Type 0
 Answers view (Ok x) fault value = (fault ≡ None) × (view x ≡ value)
 Answers view (Err e) fault value = fault ≡ Some e
-
--- the value of one field of the bytes, or its fault
-abbrev pub ReadsField : {X : Type 0} → List ℕ → Result X WireFault → Field → X → Type 0
-ReadsField bytes result f value = Answers (λ x. x) result (fault_of f bytes) value
-
--- the entry that ends the bytes, after these fields from an offset on
-abbrev pub ReadsEntry : List ℕ → Result EntryView WireFault → List Field → ℕ → Option Lent → Type 0
-ReadsEntry bytes result fs at value = Answers (λ e. Some (lent_of e)) result (first_fault fs at bytes) value
-
--- the message of the fields after byte 12
-abbrev pub ReadsBody :
-    List ℕ → Result (declared.Message EntryView) WireFault → List Field → Option Message → Type 0
-ReadsBody bytes result fs value = Answers (λ v. Some (message_of v)) result (first_fault fs 13 bytes) value
 
 -- the sender and the message of a whole datagram
 abbrev pub ReadsDatagram :

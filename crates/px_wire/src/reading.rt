@@ -5,14 +5,16 @@ ghost use Rattle.std.specs.Prelude.{◌≤◌, option_map, is_some, Some, None, 
 ghost use Rattle.px_wire.specs.Message.{group, is_member, is_asker, is_party, is_kind, is_ballot, is_ballot_of};
 ghost use Rattle.px_wire.specs.Message.{is_position, is_top, is_number, is_refusal, is_accepted};
 ghost use Rattle.px_wire.specs.Fields.{field, fault_of, first_fault, u8, u32, u64, ballot, any_ballot, position, token};
-ghost use Rattle.px_wire.specs.Fields.{len, entry, lent_in, any_entry, entry_value, accepted, accepted_value, promised};
+ghost use Rattle.px_wire.specs.Fields.{len, entry, lent_in, entry_value, accepted, accepted_value, promised};
+ghost use Rattle.px_wire.specs.inner.Fields.{any_entry};
 ghost use Rattle.px_wire.specs.Fields.{body, value, fields, datagram};
 ghost use Rattle.px_wire.specs.Fields.{prepare_fields, prepare_value, promise_fields, promise_value, accept_fields};
 ghost use Rattle.px_wire.specs.Fields.{accept_value, vote_fields, vote_value, nack_fields, nack_value, need_fields};
 ghost use Rattle.px_wire.specs.Fields.{need_value, learned_fields, learned_value, ask_fields, ask_value, asked_fields};
 ghost use Rattle.px_wire.specs.Fields.{asked_value, ask_refused_fields, ask_refused_value, prepare_all_fields};
 ghost use Rattle.px_wire.specs.Fields.{prepare_all_value, promise_all_fields, promise_all_value};
-ghost use Rattle.px_wire.specs.Views.{Answers, ReadsField, ReadsEntry, ReadsBody, ReadsDatagram, lent_of, accepted_of};
+ghost use Rattle.px_wire.specs.Views.{Answers, ReadsDatagram, lent_of, accepted_of};
+ghost use Rattle.px_wire.specs.inner.Views.{ReadsField, ReadsEntry, ReadsBody};
 ghost use Rattle.px_wire.specs.declared.limits.TheConstants.{ENTRY_BYTES};
 
 use crate::MessageView;

@@ -2,8 +2,9 @@
 //! what is to be written.
 //!
 //! A row of the input is a line `== METHOD PATH?QUERY`, behind which `json` may stand for a client that wants JSON, and
-//! the text up to the newline before the next such line is its body. What stands before the first one is passed over. Of each row the output has the same line, a line `-- CODE`,
-//! and the answer's body. Between two rows the node's clock ticks, and what it sends to itself comes.
+//! the text up to the newline before the next such line is its body. What stands before the first one is passed over.
+//! Of each row the output has the same line, a line `-- CODE`, and the answer's body. Between two rows the node's clock
+//! ticks, and what it sends to itself comes.
 #![tactic(auto)]
 
 use pf_desk::{Answer, Desk, PeerTally, Routed, Tally, request_in, status_of};

@@ -1,7 +1,7 @@
 //! The worked runs on members in code, with the messages' numbers, and runs of single members beside plain records.
 //!
-//! A run is text: a line `= MEMBERS NAME`, and behind it its steps. So a step costs no proof, and one function holds the
-//! members.
+//! A run is text: a line `= MEMBERS NAME`, and behind it its steps. So a step costs no proof, and one function holds
+//! the members.
 use crate::bus::Bus;
 use crate::step::step;
 use std::alloc::Global;

@@ -285,16 +285,16 @@ fn a_long_vote_is_not_kept_nor_one_below_the_last(rt: HostRuntime) -> Result<(),
     Ok(())
 }
 
-/// Whether of 32,778 votes the last 32,768 are kept.
+/// Whether of 131,082 votes the last 131,072 are kept.
 fn keeps_the_last<A: Wire, B: Wire>(zero: &mut A, one: &mut B) -> bool {
-    let is_sent = votes_at(zero, one, 1, 32_779, 27);
+    let is_sent = votes_at(zero, one, 1, 131_083, 27);
     zero.repeat_to(1, 1);
     is_sent && has(one, 11, 64)
 }
 
-/// Whether of 6,818 votes of 1,232 bytes the last 6,808 are kept, which are just less than 8 MiB.
-fn keeps_8_mib<A: Wire, B: Wire>(zero: &mut A, one: &mut B) -> bool {
-    let is_sent = votes_at(zero, one, 1, 6_819, 1232);
+/// Whether of 13,627 votes of 1,232 bytes the last 13,617 are kept, which are just less than 16 MiB.
+fn keeps_16_mib<A: Wire, B: Wire>(zero: &mut A, one: &mut B) -> bool {
+    let is_sent = votes_at(zero, one, 1, 13_628, 1232);
     zero.repeat_to(1, 1);
     is_sent && has(one, 11, 64)
 }
@@ -308,6 +308,6 @@ fn of_more_votes_the_oldest_go(rt: HostRuntime) -> Result<(), Fail> {
         assert!(rt; keeps_the_last(&mut zero, &mut one));
     }
     let mut zero = UdpWire::bind(&rt, rt.alloc(), &members, 0, 100)?;
-    assert!(rt; keeps_8_mib(&mut zero, &mut one));
+    assert!(rt; keeps_16_mib(&mut zero, &mut one));
     Ok(())
 }

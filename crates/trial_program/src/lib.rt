@@ -1,5 +1,5 @@
-//! Tests of the words `check` and `test` that are no rows of rows_program: texts at limits, reads and writes that fail, and
-//! what the place and the profile decide, of texts and of loads as entries.
+//! Tests of the words `check` and `test` that are no rows of rows_program: texts at limits, reads and writes that fail,
+//! and what the place and the profile decide, of texts and of loads as entries.
 #![tactic(auto)]
 
 #[cfg(test)]

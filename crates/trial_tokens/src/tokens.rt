@@ -1,6 +1,6 @@
 //! Tokens, statements, macros and lists.
 
-ghost use Rattle.trial_tokens.specs.Answers.{negated_at, negated_shorter};
+ghost use Rattle.trial_tokens.specs.inner.Answers.{negated_at, negated_shorter};
 
 use crate::told::expect;
 use pf_tokens::{
@@ -19,7 +19,7 @@ impl Element for Answer {
 
     ghost read = { λ profile. negated_at };
 
-    #[tactic(auto, unfolding(pf_tokens::specs::Productions::option_at, crate::specs::Answers::answer_at, crate::specs::Answers::negated_at))]
+    #[tactic(auto, unfolding(pf_tokens::specs::Productions::option_at, crate::specs::inner::Answers::answer_at, crate::specs::inner::Answers::negated_at))]
     fn read<'t: 's, 's>(
         _alloc: Global,
         _profile: Profile,

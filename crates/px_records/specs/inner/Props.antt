@@ -17,7 +17,8 @@ use Rattle.px_model.specs.declared.record.Slot as code
 use Rattle.px_model.specs.declared.record.Meta as numbers
 use Rattle.px_model.specs.declared.entry.Entry as entry
 use Rattle.px_records.specs.Records.{IsEnd}
-use Rattle.px_records.specs.Memory.{slots_in, record_of, AllFits}
+use Rattle.px_records.specs.Memory.{slots_in, record_of}
+use Rattle.px_records.specs.inner.Memory.{AllFits}
 
 -- ---- values that are told apart
 

@@ -1,6 +1,6 @@
 use Rattle.std.proofs.Common.{length, ◌≡◌, ◌≤◌, ℕ, ◌*◌, ◌<◌, true, Some, drop}
 use Rattle.std.specs.Prelude.{slice_get}
-use Rattle.pf_classes.specs.Intervals.{meets}
+use Rattle.pf_classes.specs.inner.Intervals.{meets}
 use Rattle.pf_classes.specs.Rows.{HasBit}
 use Rattle.pf_classes.specs.declared.interval.Interval.{Interval}
 use Rattle.pf_classes.proofs.column.row_of.Given as goal

@@ -1,5 +1,5 @@
 use Rattle.std.proofs.Common.{◌≡◌, arith, ◌∙◌, sym, ap, inl, inr, get_or}
-use Rattle.pf_classes.specs.Intervals.{meets}
+use Rattle.pf_classes.specs.inner.Intervals.{meets}
 use Rattle.pf_classes.specs.declared.interval.Interval.{Interval}
 use Rattle.std.specs.Int.{bit_at}
 use Rattle.std.proofs.lemmas.Option.{slice_get_within, get_or_from_slice_get}

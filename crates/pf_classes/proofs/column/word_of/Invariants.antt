@@ -1,7 +1,7 @@
 use Rattle.std.proofs.Common.{◌≡◌, ℕ, ◌<◌, true, Some}
 use Rattle.std.specs.Int.{bit_at}
 use Rattle.std.specs.Prelude.{slice_get}
-use Rattle.pf_classes.specs.Intervals.{meets}
+use Rattle.pf_classes.specs.inner.Intervals.{meets}
 use Rattle.pf_classes.specs.declared.interval.Interval.{Interval}
 use Rattle.pf_classes.proofs.column.word_of.Given as goal
 

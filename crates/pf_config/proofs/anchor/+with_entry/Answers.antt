@@ -1,6 +1,7 @@
 use Rattle.std.proofs.Common.{◌≡◌, ◌-◌, ◌++◌, length, take, drop, map, sym, subst, rules}
 use Rattle.pf_ruleset.specs.Seen.{rule_of}
-use Rattle.pf_config.specs.Trees.{AnchorTree, shared, kids_before, own_entry, below, placed_in}
+use Rattle.pf_config.specs.Trees.{AnchorTree, shared, own_entry, below}
+use Rattle.pf_config.specs.inner.Trees.{kids_before, placed_in}
 use Rattle.pf_config.specs.inner.KidOrder.{AreInOrder}
 use Rattle.pf_config.proofs.Entries.{cons_is}
 use Rattle.pf_config.proofs.KidHalves.{kids_in_order}

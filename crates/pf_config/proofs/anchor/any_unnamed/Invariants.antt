@@ -1,7 +1,8 @@
 use Rattle.std.proofs.Common.{◌≡◌, drop}
 use Rattle.std.specs.List.{list_any}
 use Rattle.pf_ruleset.specs.Names.{begins_below}
-use Rattle.pf_config.specs.Trees.{passes, shared}
+use Rattle.pf_config.specs.Trees.{shared}
+use Rattle.pf_config.specs.inner.Trees.{passes}
 use Rattle.pf_config.proofs.anchor.any_unnamed.Given as goal
 
 abbrev pub invariant-loop-kid : goal.invariant-loop-kid

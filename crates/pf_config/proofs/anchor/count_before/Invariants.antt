@@ -1,5 +1,6 @@
 use Rattle.std.proofs.Common.{◌≡◌, ◌+◌, ◌≤◌, length}
-use Rattle.pf_config.specs.Trees.{kids_before, shared}
+use Rattle.pf_config.specs.Trees.{shared}
+use Rattle.pf_config.specs.inner.Trees.{kids_before}
 use Rattle.pf_config.specs.inner.KidOrder.{AreInOrder}
 use Rattle.pf_config.proofs.anchor.count_before.Given as goal
 

@@ -1,6 +1,7 @@
 use Rattle.std.proofs.Common.{◌≡◌, ◌∙◌, ◌+◌, drop, ap, rules, true, false}
 use Rattle.std.specs.Prelude.{find, is_some}
-use Rattle.pf_config.specs.Trees.{shared, is_named}
+use Rattle.pf_config.specs.Trees.{shared}
+use Rattle.pf_config.specs.inner.Trees.{is_named}
 use Rattle.pf_config.proofs.Cut.{next_kid}
 use Rattle.pf_config.proofs.KidPlaces.{left_whole, has_place, taken_out}
 use Rattle.pf_config.proofs.anchor.take_named.Goals as goal

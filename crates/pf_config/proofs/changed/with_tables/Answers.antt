@@ -1,7 +1,8 @@
 use Rattle.std.proofs.Common.{◌∙◌, ap, map, refl}
 use Rattle.pf_ruleset.specs.Seen.{rule_of}
 use Rattle.pf_config.specs.Map.{anchor_at, rules_in}
-use Rattle.pf_config.specs.Trees.{AnchorTree, placed_in}
+use Rattle.pf_config.specs.Trees.{AnchorTree}
+use Rattle.pf_config.specs.inner.Trees.{placed_in}
 use Rattle.pf_config.proofs.Entries.{main_placed}
 use Rattle.pf_config.proofs.changed.with_tables.Goals as goal
 

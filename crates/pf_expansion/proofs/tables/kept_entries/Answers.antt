@@ -1,6 +1,7 @@
 use Rattle.std.proofs.Common.{◌+◌, List, length, drop, fold, subst, sym, ap, arith}
 use Rattle.pf_ruleset.specs.declared.ruleset.TableEntry.{TableEntry}
-use Rattle.pf_expansion.specs.Tables.{AreKeys, with_first}
+use Rattle.pf_expansion.specs.Tables.{with_first}
+use Rattle.pf_expansion.specs.inner.Tables.{AreKeys}
 use Rattle.pf_expansion.proofs.Keeping.{next_entry, no_keys, too_many}
 use Rattle.pf_expansion.proofs.tables.kept_entries.Goals as goal
 

@@ -1,5 +1,6 @@
 use Rattle.std.proofs.Common.{◌≡◌, ◌≤◌, drop, fold, length}
-use Rattle.pf_expansion.specs.Tables.{AreKeys, with_first, first_of_each}
+use Rattle.pf_expansion.specs.Tables.{with_first, first_of_each}
+use Rattle.pf_expansion.specs.inner.Tables.{AreKeys}
 use Rattle.pf_expansion.proofs.tables.kept_entries.Given as goal
 
 -- what is kept so far, and what is left of the list

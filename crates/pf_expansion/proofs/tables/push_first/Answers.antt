@@ -1,6 +1,6 @@
 use Rattle.std.proofs.Common.{ℕ, true, not, subst, sym, ap, ◌∙◌}
 use Rattle.std.specs.BTreeSet.{contains, Updates}
-use Rattle.pf_expansion.specs.Tables.{key_cmp}
+use Rattle.pf_expansion.specs.inner.Tables.{key_cmp}
 use Rattle.pf_expansion.proofs.Keeping.{found_already, found_first, one_key_more}
 use Rattle.pf_expansion.proofs.tables.push_first.Goals as goal
 

@@ -1,6 +1,7 @@
 use Rattle.std.proofs.Common.{◌≡◌, ◌++◌, map, drop, filter}
 use Rattle.pf_config.specs.Trees.{paths_of, shared}
-use Rattle.pf_nft.specs.Rendering.{is_chained, is_member}
+use Rattle.pf_nft.specs.Rendering.{is_chained}
+use Rattle.pf_nft.specs.inner.Rendering.{is_member}
 use Rattle.pf_nft.proofs.targets.push_members.Given as goal
 
 abbrev pub invariant-loop-kid : goal.invariant-loop-kid

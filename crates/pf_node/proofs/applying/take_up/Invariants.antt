@@ -2,7 +2,7 @@
 use Rattle.std.proofs.Common.{◌≡◌, ◌≤◌, Some, length}
 use Rattle.px_replica.specs.Replicas.{learned_by}
 use Rattle.pf_node.specs.Applied.{after}
-use Rattle.pf_node.specs.Outcomes.{outcomes_below}
+use Rattle.pf_node.specs.inner.Outcomes.{outcomes_below}
 use Rattle.pf_node.proofs.applying.take_up.Given as goal
 
 abbrev pub invariant-loop-position : goal.invariant-loop-position

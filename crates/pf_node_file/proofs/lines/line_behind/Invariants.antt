@@ -1,6 +1,6 @@
 use Rattle.std.proofs.Common.{◌≡◌, ◌≤◌, ◌+◌, ◌==◌, drop, length}
 use Rattle.std.specs.List.{filter}
-use Rattle.pf_node_file.specs.Settings.{line_behind}
+use Rattle.pf_node_file.specs.inner.Settings.{line_behind}
 use Rattle.pf_node_file.proofs.lines.line_behind.Given as goal
 
 -- the lines so far, and the newlines that are left

@@ -3,7 +3,7 @@ use Rattle.pf_entry.specs.Entry.{Entry, EntryBytes, Command}
 use Rattle.pf_entry.specs.Views.{entry_of, command_of}
 use Rattle.pf_effect.specs.Effect.{effect, after_command}
 use Rattle.pf_scripts.specs.Ctl.{is_counted, change_line, prints}
-use Rattle.pf_scripts.specs.Seen.{Does}
+use Rattle.pf_scripts.specs.inner.Seen.{Does}
 use Rattle.pf_entry.specs.Owned.{command_value}
 use Rattle.pf_scripts.proofs.acting.run_change.Goals as goal
 

@@ -2,7 +2,7 @@ use Rattle.std.proofs.Common.{◌≡◌, ◌++◌, None, length, option_map, str
 use Rattle.pf_effect.specs.Effect.{empty}
 use Rattle.pf_scripts.specs.Lines.{lines}
 use Rattle.pf_scripts.specs.Ctl.{printed_from}
-use Rattle.pf_scripts.specs.Seen.{waiting_of}
+use Rattle.pf_scripts.specs.inner.Seen.{waiting_of}
 use Rattle.pf_scripts.proofs.running.ctl.Given as goal
 
 -- what is printed so far, and then what the lines that are left print

@@ -1,7 +1,7 @@
 use Rattle.std.proofs.Common.{sym, ◌∙◌}
 use Rattle.std.proofs.lemmas.Result.{err_from_is_err_and}
 use Rattle.pf_tokens.specs.Parsing.{left}
-use Rattle.pf_statements.specs.Seen.{options_of}
+use Rattle.pf_statements.specs.inner.Seen.{options_of}
 use Rattle.pf_statements.proofs.OptionSteps.{option_shorter}
 use Rattle.pf_statements.proofs.OverSteps.{ended, next, refused, stops_too}
 use Rattle.pf_statements.specs.Statements.{option_with}

@@ -1,7 +1,7 @@
 use Rattle.std.proofs.Common.{◌≡◌, suc, length}
 use Rattle.pf_tokens.specs.Parsing.{left, later}
 use Rattle.pf_statements.specs.Statements.{no_options, option_with, options_at}
-use Rattle.pf_statements.specs.Seen.{options_of}
+use Rattle.pf_statements.specs.inner.Seen.{options_of}
 use Rattle.pf_statements.proofs.OverSteps.{Going}
 use Rattle.pf_statements.proofs.options.read_options.Given as goal
 

@@ -1,5 +1,5 @@
 use Rattle.std.proofs.Common.{◌≡◌, ◌≤◌, ◌∙◌, length, get_or, sym, refl, rules, subst}
-use Rattle.pf_table.specs.Tables.{last_with}
+use Rattle.pf_table.specs.inner.Tables.{last_with}
 use Rattle.pf_table.proofs.Deciding.{each_part, one_step, nothing_left, some_last, none_last}
 use Rattle.pf_table.proofs.decided.decides.Goals as goal
 

@@ -1,5 +1,5 @@
 use Rattle.std.proofs.Common.{◌≡◌, map, take}
-use Rattle.pf_table.specs.Keys.{key_of}
+use Rattle.pf_table.specs.inner.Keys.{key_of}
 use Rattle.pf_table.proofs.keys.keys_of.Given as goal
 
 -- the numbers of the entries gone past

@@ -1,7 +1,8 @@
 use Rattle.std.proofs.Common.{◌≡◌, ◌∙◌, ◌<◌, ap, List, length, arith}
 use Rattle.pf_tokens.specs.Lexed.{token_of}
 use Rattle.pf_tokens.specs.Macros.{Definition}
-use Rattle.pf_tokens.specs.Defining.{item_of, len_with}
+use Rattle.pf_tokens.specs.Defining.{item_of}
+use Rattle.pf_tokens.specs.inner.Defining.{len_with}
 use Rattle.pf_tokens.specs.Parsing.{definitions, left}
 use Rattle.pf_tokens.proofs.Collecting.{too_long_there}
 use Rattle.pf_tokens.proofs.defining.collect_items.Goals as goal

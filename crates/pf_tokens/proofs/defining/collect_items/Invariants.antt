@@ -1,6 +1,7 @@
 use Rattle.std.proofs.Common.{◌≡◌, ◌≤◌, ◌&&◌, false, None, [], length}
 use Rattle.std.specs.List.{list_any}
-use Rattle.pf_tokens.specs.Defining.{joined_items, begun_text, are_items, is_refused_string}
+use Rattle.pf_tokens.specs.Defining.{joined_items, are_items, is_refused_string}
+use Rattle.pf_tokens.specs.inner.Defining.{begun_text}
 use Rattle.pf_tokens.specs.Parsing.{definitions, left, later}
 use Rattle.pf_tokens.proofs.defining.collect_items.Given as goal
 

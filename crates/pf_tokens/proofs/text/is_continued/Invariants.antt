@@ -1,5 +1,5 @@
 use Rattle.std.proofs.Common.{◌≡◌, length}
-use Rattle.pf_tokens.specs.Joined.{is_continued}
+use Rattle.pf_tokens.specs.inner.Joined.{is_continued}
 use Rattle.pf_tokens.proofs.text.is_continued.Given as goal
 
 abbrev pub invariant-loop-first : goal.invariant-loop-first

@@ -1,5 +1,5 @@
 use Rattle.std.proofs.Common.{◌≡◌, ◌∙◌, ◌+◌, ◌∷◌, ◌++◌, [], List, ℕ, ap, sym, drop, length, append_assoc, arith, length-append}
-use Rattle.pf_tokens.specs.Joined.{joined, joints}
+use Rattle.pf_tokens.specs.inner.Joined.{joined, joints}
 use Rattle.pf_tokens.proofs.Joining.{joined_pair, joined_stays, joints_pair, joints_stays}
 use Rattle.pf_tokens.proofs.text.joined.Goals as goal
 

@@ -1,5 +1,5 @@
 use Rattle.std.proofs.Common.{◌≡◌, ◌++◌, length}
-use Rattle.pf_tokens.specs.Joined.{joined, joints}
+use Rattle.pf_tokens.specs.inner.Joined.{joined, joints}
 use Rattle.pf_tokens.proofs.text.joined.Given as goal
 
 -- with what is left it comes to all

@@ -11,8 +11,10 @@ use Rattle.px_records.specs.Records as records
 use Rattle.px_wire.specs.Message.{group}
 use Rattle.px_wire.specs.declared.membership.Membership.{Membership}
 use Rattle.px_replica.specs.Made.{running}
-use Rattle.px_replica.specs.Members.{volatile_of, group_of, planned_by}
-use Rattle.px_replica.specs.Seen.{IsSeen, IsSound}
+use Rattle.px_replica.specs.Members.{volatile_of, group_of}
+use Rattle.px_replica.specs.inner.Members.{planned_by}
+use Rattle.px_replica.specs.Seen.{IsSound}
+use Rattle.px_replica.specs.inner.Seen.{IsSeen}
 use Rattle.px_replica.specs.Spelled.{AreSpelled}
 use Rattle.px_replica.proofs.Sending.{few_told}
 use Rattle.px_replica.proofs.Steps.{none_failed, plan_rises, commit_sound, why_failed}

@@ -3,7 +3,8 @@ use Rattle.std.proofs.Common.{ℕ, suc, add-one, List, refl, sym, subst}
 use Rattle.px_model.specs.Step.{to_all}
 use Rattle.px_model.specs.Views.{message_of}
 use Rattle.px_wire.specs.Message.{group}
-use Rattle.px_replica.specs.Spelled.{AreSpelled, envelope}
+use Rattle.px_replica.specs.Spelled.{AreSpelled}
+use Rattle.px_replica.specs.inner.Spelled.{envelope}
 use Rattle.px_replica.specs.declared.datagram.Datagram.{Datagram}
 use Rattle.px_replica.proofs.Groups.{some_members}
 use Rattle.px_replica.proofs.Sending.{all_pass, are_more}

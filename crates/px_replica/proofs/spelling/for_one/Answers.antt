@@ -1,7 +1,8 @@
 -- what is sent to one can be told
 use Rattle.std.proofs.Common.{rules, ◌≡◌, List, [], ◌∷◌, refl, sym, subst}
 use Rattle.px_wire.specs.Message.{group}
-use Rattle.px_replica.specs.Spelled.{IsSpelled, AreSpelled, envelope}
+use Rattle.px_replica.specs.Spelled.{IsSpelled, AreSpelled}
+use Rattle.px_replica.specs.inner.Spelled.{envelope}
 use Rattle.px_replica.specs.declared.datagram.Datagram.{Datagram}
 use Rattle.px_model.specs.Views.{message_of}
 use Rattle.px_replica.proofs.Sending.{one_passes}

@@ -1,7 +1,8 @@
 use Rattle.std.proofs.Common.{◌≡◌, inl, inr, not, ap, true, ◌∙◌, refl}
 use Rattle.sqlite.specs.Held.{state}
-use Rattle.px_sql.specs.Tables.{put_floor, floor_params}
-use Rattle.px_sql.specs.Seen.{floor_columns, floor_row}
+use Rattle.px_sql.specs.inner.Tables.{put_floor, floor_params}
+use Rattle.px_sql.specs.Seen.{floor_columns}
+use Rattle.px_sql.specs.inner.Seen.{floor_row}
 use Rattle.px_sql.proofs.Texts.{floor_terms, floor_put}
 use Rattle.px_sql.proofs.Puts.{keeps, leaves, refused, served}
 use Rattle.px_sql.proofs.Kept.{goes_floor}

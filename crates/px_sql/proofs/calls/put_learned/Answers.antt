@@ -1,7 +1,8 @@
 use Rattle.std.proofs.Common.{◌≡◌, inl, inr, not, ap, true, ◌∙◌, refl}
 use Rattle.sqlite.specs.Held.{state}
-use Rattle.px_sql.specs.Tables.{put_learned, learned_params}
-use Rattle.px_sql.specs.Seen.{learned_columns, learned_row}
+use Rattle.px_sql.specs.inner.Tables.{put_learned, learned_params}
+use Rattle.px_sql.specs.Seen.{learned_columns}
+use Rattle.px_sql.specs.inner.Seen.{learned_row}
 use Rattle.px_sql.proofs.Texts.{learned_terms, learned_put}
 use Rattle.px_sql.proofs.Puts.{keeps, leaves, refused, served}
 use Rattle.px_sql.proofs.Kept.{goes_learned}

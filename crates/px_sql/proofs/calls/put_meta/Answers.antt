@@ -1,6 +1,6 @@
 use Rattle.std.proofs.Common.{◌≡◌, inl, inr, not, ap, true, ◌∙◌, refl}
 use Rattle.sqlite.specs.Held.{state}
-use Rattle.px_sql.specs.Tables.{put_meta, meta_params}
+use Rattle.px_sql.specs.inner.Tables.{put_meta, meta_params}
 use Rattle.px_sql.specs.Seen.{meta_columns, meta_row}
 use Rattle.px_sql.proofs.Texts.{meta_terms, meta_put}
 use Rattle.px_sql.proofs.Puts.{keeps, leaves, refused, served}

@@ -1,7 +1,8 @@
 use Rattle.std.proofs.Common.{◌≡◌, inl, inr, not, ap, true, ◌∙◌, refl}
 use Rattle.sqlite.specs.Held.{state}
-use Rattle.px_sql.specs.Tables.{put_slot, slot_params}
-use Rattle.px_sql.specs.Seen.{slot_columns, slot_row}
+use Rattle.px_sql.specs.inner.Tables.{put_slot, slot_params}
+use Rattle.px_sql.specs.Seen.{slot_columns}
+use Rattle.px_sql.specs.inner.Seen.{slot_row}
 use Rattle.px_sql.proofs.Texts.{slot_terms, slot_put}
 use Rattle.px_sql.proofs.Puts.{keeps, leaves, refused, served}
 use Rattle.px_sql.proofs.Kept.{goes_slot}

@@ -5,8 +5,8 @@ use Rattle.sqlite.specs.Listing.{understood}
 use Rattle.sqlite.proofs.Callers.{IsPlain}
 use Rattle.sqlite.specs.Term.{col}
 use Rattle.std.specs.Prelude.{[], ◌∷◌, codes}
-use Rattle.px_sql.specs.Tables.{get_floor}
-use Rattle.px_sql.specs.Effect.{IsAlike}
+use Rattle.px_sql.specs.inner.Tables.{get_floor}
+use Rattle.px_sql.specs.inner.Effect.{IsAlike}
 use Rattle.px_sql.specs.Seen.{seen, floor_columns}
 use Rattle.px_sql.specs.Formats.{schema_at, has_table}
 use Rattle.px_sql.proofs.Texts.{floor_asks}

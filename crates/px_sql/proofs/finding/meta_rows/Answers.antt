@@ -3,8 +3,8 @@ use Rattle.sqlite.specs.Held.{state}
 use Rattle.sqlite.specs.Listing.{understood}
 use Rattle.sqlite.proofs.Callers.{IsPlain}
 use Rattle.sqlite.specs.State.{Shown}
-use Rattle.px_sql.specs.Tables.{get_meta, key_params}
-use Rattle.px_sql.specs.Effect.{IsAlike}
+use Rattle.px_sql.specs.inner.Tables.{get_meta, key_params}
+use Rattle.px_sql.specs.inner.Effect.{IsAlike}
 use Rattle.px_sql.specs.Seen.{seen, meta_columns}
 use Rattle.px_sql.specs.Formats.{schema_at}
 use Rattle.px_sql.proofs.Texts.{meta_asks, meta_project, meta_names}

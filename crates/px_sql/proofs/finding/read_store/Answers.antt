@@ -1,8 +1,9 @@
 use Rattle.std.proofs.Common.{◌∙◌, ap, subst}
 use Rattle.sqlite.specs.Effect.{Database}
 use Rattle.px_sql.specs.Seen.{seen, floor_columns}
-use Rattle.px_sql.specs.Effect.{IsAlike}
-use Rattle.px_sql.specs.Judging.{has_rows, rows_in}
+use Rattle.px_sql.specs.inner.Effect.{IsAlike}
+use Rattle.px_sql.specs.Judging.{has_rows}
+use Rattle.px_sql.specs.inner.Judging.{rows_in}
 use Rattle.px_sql.specs.Formats.{trees_at}
 use Rattle.px_sql.proofs.Adopts.{same_then, still}
 use Rattle.px_sql.proofs.finding.read_store.Goals as goal

@@ -2,7 +2,7 @@ use Rattle.std.proofs.Common.{rules, true, ◌≡◌, ap, sym, subst, refl, ◌�
 use Rattle.sqlite.specs.Held.{state}
 use Rattle.sqlite.specs.Listing.{understood}
 use Rattle.sqlite.proofs.Callers.{IsPlain}
-use Rattle.px_sql.specs.Tables.{get_end}
+use Rattle.px_sql.specs.inner.Tables.{get_end}
 use Rattle.px_sql.specs.Formats.{schema_at, has_table}
 use Rattle.px_sql.proofs.Texts.{entry_asks}
 use Rattle.px_sql.specs.Judging.{has_rows}

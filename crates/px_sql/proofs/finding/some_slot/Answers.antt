@@ -2,7 +2,7 @@ use Rattle.std.proofs.Common.{rules, ◌≡◌, ap, sym, subst, refl, ◌∙◌}
 use Rattle.sqlite.specs.Held.{state}
 use Rattle.sqlite.specs.Listing.{understood}
 use Rattle.sqlite.proofs.Callers.{IsPlain}
-use Rattle.px_sql.specs.Tables.{get_last}
+use Rattle.px_sql.specs.inner.Tables.{get_last}
 use Rattle.px_sql.specs.Formats.{schema_at}
 use Rattle.px_sql.proofs.Texts.{slot_asks}
 use Rattle.px_sql.specs.Judging.{has_rows}

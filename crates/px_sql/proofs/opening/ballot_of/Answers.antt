@@ -6,7 +6,7 @@ use Rattle.sqlite.specs.State.{Shown}
 use Rattle.sqlite.specs.Values.{bound_value}
 use Rattle.sqlite_value.specs.declared.value.Value.{Value}
 use Rattle.px_sql.proofs.Adopts.{floor_shown}
-use Rattle.px_sql.specs.Tables.{get_floor}
+use Rattle.px_sql.specs.inner.Tables.{get_floor}
 use Rattle.px_sql.specs.Seen.{floor_columns}
 use Rattle.px_sql.specs.declared.formats.Format.TheVariants.{Three}
 use Rattle.px_sql.proofs.Texts.{floor_asks}

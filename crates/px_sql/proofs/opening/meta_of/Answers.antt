@@ -4,7 +4,7 @@ use Rattle.sqlite.specs.State.{Shown}
 use Rattle.sqlite.specs.Values.{bound_value}
 use Rattle.sqlite_value.specs.declared.value.Value.{Value}
 use Rattle.px_sql.proofs.Adopts.{meta_shown}
-use Rattle.px_sql.specs.Tables.{get_meta}
+use Rattle.px_sql.specs.inner.Tables.{get_meta}
 use Rattle.px_sql.specs.Seen.{meta_columns}
 use Rattle.px_sql.specs.declared.formats.Format.TheVariants.{Three}
 use Rattle.px_sql.proofs.Texts.{meta_asks, meta_project, meta_names}

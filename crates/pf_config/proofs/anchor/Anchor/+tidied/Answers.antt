@@ -3,7 +3,8 @@ use Rattle.std.proofs.lemmas.Grind.{common_steps}
 use Rattle.std.proofs.lemmas.List.{length-map}
 use Rattle.pf_ruleset.specs.Seen.{rule_of}
 use Rattle.pf_config.specs.Changes.{tidied_of, used_tables}
-use Rattle.pf_config.specs.Trees.{AnchorTree, shared, any_sheds, own_entry, below}
+use Rattle.pf_config.specs.Trees.{AnchorTree, shared, own_entry, below}
+use Rattle.pf_config.specs.inner.Trees.{any_sheds}
 use Rattle.pf_config.proofs.Cut.{Walked, walked_some, tidied_cuts, tidied_done, next_kid, stays_tidy}
 use Rattle.pf_config.proofs.anchor.Anchor.+tidied.Goals as goal
 

@@ -4,7 +4,8 @@ use Rattle.std.proofs.lemmas.List.{length-map}
 use Rattle.pf_ruleset.specs.Seen.{rule_of}
 use Rattle.pf_config.specs.Map.{name_after}
 use Rattle.pf_config.specs.Changes.{without_unnamed, is_some_unnamed}
-use Rattle.pf_config.specs.Trees.{AnchorTree, shared, any_unnamed, own_entry, below}
+use Rattle.pf_config.specs.Trees.{AnchorTree, shared, own_entry, below}
+use Rattle.pf_config.specs.inner.Trees.{any_unnamed}
 use Rattle.pf_config.proofs.Cut.{Walked, walked_some, unnamed_cuts, unnamed_done, unnamed_gone, next_kid, stays_named}
 use Rattle.pf_config.proofs.anchor.Anchor.+without_unnamed.Goals as goal
 

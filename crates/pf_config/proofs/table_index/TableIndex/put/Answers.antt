@@ -3,7 +3,7 @@ use Rattle.std.specs.Map.{values_of}
 use Rattle.pf_ruleset.specs.Names.{Name}
 use Rattle.pf_table.specs.Tables.{TableValue}
 use Rattle.pf_config.specs.Changes.{with_table}
-use Rattle.pf_config.specs.Ordered.{AreKeyed}
+use Rattle.pf_config.specs.inner.Ordered.{AreKeyed}
 use Rattle.pf_config.proofs.Ordered.{keyed_put, values_put, with_is_put, ordered_values}
 use Rattle.pf_config.proofs.table_index.TableIndex.put.Goals as goal
 

@@ -1,5 +1,5 @@
 -- requests were asked one after another
-use Rattle.pf_door.specs.Runs.{AreAsked}
+use Rattle.pf_door.specs.inner.Runs.{AreAsked}
 use Rattle.pf_door.proofs.door.Entrance.serve.Given as goal
 
 abbrev pub invariant-loop-seat : goal.invariant-loop-seat

@@ -1,6 +1,6 @@
 use Rattle.std.proofs.Common.{◌≡◌, length}
 use Rattle.pf_eval.specs.PacketTexts.{groups_at}
-use Rattle.pf_eval.specs.Cursors.{left}
+use Rattle.pf_eval.specs.inner.Cursors.{left}
 use Rattle.pf_eval.proofs.Groups.{prepend}
 use Rattle.pf_eval.proofs.cursor.Cursor.groups.Given as goal
 

@@ -1,7 +1,7 @@
 use Rattle.std.proofs.Common.{◌≡◌, ◌∙◌, ap, sym, List, Bool}
 use Rattle.pf_tokens.specs.declared.lexer.Lexer.{Lexer}
 use Rattle.pf_tokens.specs.Macros.{Definition}
-use Rattle.pf_tokens.specs.Flow.{pulled_raw}
+use Rattle.pf_tokens.specs.inner.Flow.{pulled_raw}
 use Rattle.pf_tokens.specs.Left.{tokens_left}
 use Rattle.pf_tokens.specs.Pending.{known}
 use Rattle.pf_tokens.proofs.Pulling.{pending_none, pending_some, pulled_there}

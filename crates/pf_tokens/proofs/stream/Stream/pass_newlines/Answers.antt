@@ -2,7 +2,8 @@ use Rattle.std.proofs.Common.{◌∙◌, ◌∷◌, List, ap, sym, arith}
 use Rattle.pf_tokens.specs.Tokens.{Token, Newline}
 use Rattle.pf_tokens.specs.Macros.{Definition}
 use Rattle.pf_tokens.specs.Carried.{carried}
-use Rattle.pf_tokens.specs.Pending.{pending, known, statement_tokens}
+use Rattle.pf_tokens.specs.Pending.{pending, known}
+use Rattle.pf_tokens.specs.inner.Pending.{statement_tokens}
 use Rattle.pf_tokens.proofs.Blanking.{blanks_more}
 use Rattle.pf_tokens.proofs.Newlines.{newline_step, newline_counts, newline_less}
 use Rattle.pf_tokens.proofs.stream.Stream.pass_newlines.Goals as goal

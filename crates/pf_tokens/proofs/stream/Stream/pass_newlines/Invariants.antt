@@ -1,6 +1,7 @@
 use Rattle.std.proofs.Common.{◌≡◌, length}
 use Rattle.pf_tokens.specs.Flow.{statement_left}
-use Rattle.pf_tokens.specs.Pending.{Stays, Blanks, pending, known, statement_tokens}
+use Rattle.pf_tokens.specs.Pending.{pending, known}
+use Rattle.pf_tokens.specs.inner.Pending.{Stays, Blanks, statement_tokens}
 use Rattle.pf_tokens.specs.Carried.{carried}
 use Rattle.pf_tokens.proofs.stream.Stream.pass_newlines.Given as goal
 

@@ -4,7 +4,8 @@ use Rattle.pf_tokens.specs.Lexed.{placed_of}
 use Rattle.pf_tokens.specs.Left.{tokens_left}
 use Rattle.pf_tokens.specs.Macros.{Definition, unwritten, replaced}
 use Rattle.pf_tokens.specs.declared.stream.Stream.{Stream}
-use Rattle.pf_tokens.specs.Pending.{Stays, pending, known}
+use Rattle.pf_tokens.specs.Pending.{pending, known}
+use Rattle.pf_tokens.specs.inner.Pending.{Stays}
 use Rattle.pf_tokens.proofs.Pulling.{pulled_itself, pulled_text, pulled_there, pulled_end}
 use Rattle.pf_tokens.proofs.stream.Stream.pull.Goals as goal
 

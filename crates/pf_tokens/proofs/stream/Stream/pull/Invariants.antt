@@ -1,7 +1,8 @@
 use Rattle.std.proofs.Common.{◌≡◌, [], length}
 use Rattle.pf_tokens.specs.Left.{tokens_left}
-use Rattle.pf_tokens.specs.Flow.{pulled_raw}
-use Rattle.pf_tokens.specs.Pending.{Stays, known}
+use Rattle.pf_tokens.specs.inner.Flow.{pulled_raw}
+use Rattle.pf_tokens.specs.Pending.{known}
+use Rattle.pf_tokens.specs.inner.Pending.{Stays}
 use Rattle.pf_tokens.proofs.stream.Stream.pull.Given as goal
 
 -- what is pulled of the rest is what is pulled of all

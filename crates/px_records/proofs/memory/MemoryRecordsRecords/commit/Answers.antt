@@ -7,7 +7,8 @@ use Rattle.px_model.specs.Fits.{RecordFits}
 use Rattle.px_model.proofs.Ranges.{new_promise_fits, new_accepted_fits, new_learned_fits}
 use Rattle.px_records.proofs.Peaks.{same_top, raised_to}
 use Rattle.px_records.proofs.Maps.{slots_same, slots_put, log_same, log_put, end_put, end_same, either}
-use Rattle.px_records.specs.Memory.{slots_in, learned_in, accepted_with, record_of}
+use Rattle.px_records.specs.Memory.{slots_in, learned_in, record_of}
+use Rattle.px_records.specs.inner.Memory.{accepted_with}
 use Rattle.px_records.proofs.memory.MemoryRecordsRecords.commit.Goals as goal
 
 pub returns-in_err-accept-in-Accepted-clause-stop : goal.returns-in_err-accept-in-Accepted-clause-stop

@@ -1,8 +1,9 @@
 use Rattle.std.proofs.Common.{◌≡◌, ◌∙◌, rules, sym, subst}
 use Rattle.sqlite.specs.Held.{state}
 use Rattle.sqlite.specs.Effect.{Database}
-use Rattle.px_sql.specs.Effect.{IsIdle}
-use Rattle.px_sql.specs.Seen.{IsLast, any_row}
+use Rattle.px_sql.specs.inner.Effect.{IsIdle}
+use Rattle.px_sql.specs.Seen.{any_row}
+use Rattle.px_sql.specs.inner.Seen.{IsLast}
 use Rattle.px_sql.proofs.Texts.{end_get}
 use Rattle.px_sql.proofs.Tops.{answers_end}
 use Rattle.px_sql.proofs.keeper.SqlRecords.end_rows.Goals as goal

@@ -1,7 +1,8 @@
 use Rattle.std.proofs.Common.{inr}
 use Rattle.sqlite.specs.Held.{state}
-use Rattle.px_sql.specs.Effect.{IsIdle}
-use Rattle.px_sql.specs.Seen.{floor_columns, floor_row}
+use Rattle.px_sql.specs.inner.Effect.{IsIdle}
+use Rattle.px_sql.specs.Seen.{floor_columns}
+use Rattle.px_sql.specs.inner.Seen.{floor_row}
 use Rattle.px_sql.proofs.Kept.{floor_kept}
 use Rattle.px_sql.proofs.Stored.{not_zero, committed_put, one_of, floor_put}
 use Rattle.px_sql.proofs.keeper.SqlRecords.keep_floor.Goals as goal

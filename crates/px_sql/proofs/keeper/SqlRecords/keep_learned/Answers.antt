@@ -1,6 +1,7 @@
 use Rattle.sqlite.specs.Held.{state}
-use Rattle.px_sql.specs.Effect.{IsIdle}
-use Rattle.px_sql.specs.Seen.{learned_columns, learned_row}
+use Rattle.px_sql.specs.inner.Effect.{IsIdle}
+use Rattle.px_sql.specs.Seen.{learned_columns}
+use Rattle.px_sql.specs.inner.Seen.{learned_row}
 use Rattle.px_sql.proofs.Kept.{learned_kept}
 use Rattle.px_sql.proofs.Stored.{committed_put, one_of, other_put, learned_keyed}
 use Rattle.px_sql.proofs.keeper.SqlRecords.keep_learned.Goals as goal

@@ -1,5 +1,5 @@
 use Rattle.sqlite.specs.Held.{state}
-use Rattle.px_sql.specs.Effect.{IsIdle}
+use Rattle.px_sql.specs.inner.Effect.{IsIdle}
 use Rattle.px_sql.specs.Seen.{meta_columns, meta_row}
 use Rattle.px_sql.proofs.Kept.{meta_kept}
 use Rattle.px_sql.proofs.Stored.{committed_put, one_of, meta_put}

@@ -1,6 +1,7 @@
 use Rattle.sqlite.specs.Held.{state}
-use Rattle.px_sql.specs.Effect.{IsIdle}
-use Rattle.px_sql.specs.Seen.{slot_columns, slot_row}
+use Rattle.px_sql.specs.inner.Effect.{IsIdle}
+use Rattle.px_sql.specs.Seen.{slot_columns}
+use Rattle.px_sql.specs.inner.Seen.{slot_row}
 use Rattle.px_sql.proofs.Kept.{slot_kept}
 use Rattle.px_sql.proofs.Stored.{committed_put, one_of, other_put, slot_keyed}
 use Rattle.px_sql.proofs.keeper.SqlRecords.keep_slot.Goals as goal

@@ -4,9 +4,9 @@ use Rattle.sqlite.specs.Effect.{Database}
 use Rattle.sqlite.specs.State.{Shown}
 use Rattle.sqlite.specs.Values.{bound_value}
 use Rattle.sqlite_value.specs.declared.value.Value.{Value}
-use Rattle.px_sql.specs.Effect.{IsIdle, IsAlike}
+use Rattle.px_sql.specs.inner.Effect.{IsIdle, IsAlike}
 use Rattle.sqlite.specs.Term.{col}
-use Rattle.px_sql.specs.Tables.{get_learned}
+use Rattle.px_sql.specs.inner.Tables.{get_learned}
 use Rattle.px_sql.specs.Seen.{seen, learned_columns}
 use Rattle.px_sql.proofs.Texts.{learned_get, learned_names}
 use Rattle.px_sql.proofs.Gets.{finds}

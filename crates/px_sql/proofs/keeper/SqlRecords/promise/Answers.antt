@@ -1,8 +1,8 @@
 use Rattle.std.proofs.Common.{◌≡◌, ◌∙◌, rules, sym, subst, ap}
 use Rattle.px_model.specs.Node.{Record}
 use Rattle.px_model.specs.Spelling.{Bytes}
-use Rattle.px_sql.specs.Seen.{slot_with}
-use Rattle.px_sql.specs.Store.{with_promise, LeavesOneOf}
+use Rattle.px_sql.specs.inner.Seen.{slot_with}
+use Rattle.px_sql.specs.inner.Store.{with_promise, LeavesOneOf}
 use Rattle.px_sql.specs.View.{view_of}
 use Rattle.px_sql.proofs.Promises.{told_ok, told_memory, keeps_then, stop_then, promise_is, slot_range}
 use Rattle.px_sql.proofs.keeper.SqlRecords.promise.Goals as goal

@@ -4,9 +4,9 @@ use Rattle.sqlite.specs.Effect.{Database}
 use Rattle.sqlite.specs.State.{Shown}
 use Rattle.sqlite.specs.Values.{bound_value}
 use Rattle.sqlite_value.specs.declared.value.Value.{Value}
-use Rattle.px_sql.specs.Effect.{IsIdle, IsAlike}
+use Rattle.px_sql.specs.inner.Effect.{IsIdle, IsAlike}
 use Rattle.sqlite.specs.Term.{col}
-use Rattle.px_sql.specs.Tables.{get_slot}
+use Rattle.px_sql.specs.inner.Tables.{get_slot}
 use Rattle.px_sql.specs.Seen.{seen, slot_columns}
 use Rattle.px_sql.proofs.Texts.{slot_get, slot_names}
 use Rattle.px_sql.proofs.Gets.{finds}

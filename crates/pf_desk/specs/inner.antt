@@ -1,0 +1,4 @@
+-- What only code and proofs use: no contract of a public function needs it.
+pub mod Metrics
+pub mod Outcomes
+pub mod Targets
