@@ -1,3 +1,2 @@
-pub mod Lines
 pub mod Logged
 pub mod Places

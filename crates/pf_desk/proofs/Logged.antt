@@ -4,7 +4,8 @@ use Rattle.std.specs.Prelude.{nat_lt}
 use Rattle.std.proofs.lemmas.Bool.{lt-ltb}
 use Rattle.px_model.specs.Node.{Log}
 use Rattle.px_model.specs.Spelling.{Bytes}
-use Rattle.pf_desk.specs.LogLines.{lines_before, log_line}
+use Rattle.pf_log_lines.specs.LogLines.{log_line}
+use Rattle.pf_desk.specs.LogLines.{lines_before}
 use Rattle.pf_desk.specs.EntryLines.{entries_before, entry_line}
 
 -- one line more, while there is room

@@ -1,18 +1,13 @@
 -- What became of a request.
-use Rattle.std.specs.Prelude.{ℕ, zero, suc, Bool, false, List, [], ◌++◌, ◌==◌, ◌&&◌, ◌+◌, nat_lt, nat_le}
+use Rattle.std.specs.Prelude.{ℕ, zero, suc, Bool, false, List, ◌++◌, ◌==◌, ◌&&◌, nat_lt, nat_le}
 use Rattle.std.specs.Prelude.{Option, Some, None, codes, decimal, if◌then◌else◌}
 use Rattle.px_model.specs.Node as node
 use Rattle.px_model.specs.Node.{Log}
 use Rattle.px_model.specs.Step.{front}
-use Rattle.px_model.specs.Spelling.{Bytes, spelled}
+use Rattle.px_model.specs.Spelling.{Bytes}
 use Rattle.px_records.specs.declared.records.Records.{Ghosts}
-use Rattle.pf_config.specs.Map.{Configuration}
-use Rattle.pf_entry.specs.Entry as entries
-use Rattle.pf_entry.specs.Reading.{reading}
-use Rattle.pf_effect.specs.Effect.{effect}
 use Rattle.pf_scripts.specs.Lines.{line}
-use Rattle.pf_scripts.specs.Ctl.{is_counted, change_line}
-use Rattle.pf_node.specs.Applied.{after}
+use Rattle.pf_log_lines.specs.Outcomes.{kept_line}
 use Rattle.pf_node.specs.Nodes.{learned_by, applied_of, kept_of, membership_of}
 use Rattle.pf_node.specs.declared.state.Node.{Node}
 use Rattle.pf_desk.specs.Answers.{AnswerValue, shown}
@@ -29,27 +24,6 @@ abbrev pub place_below : Log Bytes → ℕ → ℕ → (k : ℕ) → Option ℕ
 place_below log origin number zero = None
 place_below log origin number (suc k) =
     if is_request origin number (log k) then Some k else place_below log origin number k
-
--- ---- what came of it
-
--- the line of a command that was read, as a script prints it at a configuration
-abbrev pub line_read : Configuration → Option entries.Entry → List ℕ
-line_read c None = []
-line_read c (Some e) = change_line (is_counted e.command) (effect c e.command)
-
-abbrev pub line_in : Option Configuration → Option (node.Entry Bytes) → List ℕ
-line_in None e = []
-line_in (Some c) None = []
-line_in (Some c) (Some e) = line_read c (reading (spelled e))
-
--- the line of the command at position p, at the configuration after the p positions before it
-abbrev pub line_at : Log Bytes → ℕ → List ℕ
-line_at log p = line_in (after log p) (log p)
-
--- the same, as long as it is kept
-abbrev pub kept_line : Log Bytes → (applied kept p : ℕ) → List ℕ
-kept_line log applied kept p =
-    if nat_lt p applied && nat_le applied (p + kept) then line_at log p else []
 
 -- ---- what is answered
 

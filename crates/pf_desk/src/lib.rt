@@ -22,7 +22,6 @@ mod json;
 mod listing;
 mod log;
 mod metrics;
-mod outcome;
 mod packets;
 mod query;
 mod request;
@@ -31,7 +30,6 @@ mod standing;
 mod status;
 mod tally;
 mod target;
-mod words;
 
 pub use answer::{Answer, status_of};
 pub use changing::Changed;

@@ -6,7 +6,7 @@ ghost use Rattle.pf_desk.specs.Answers.{answer_value};
 ghost use Rattle.pf_desk.specs.Standing.{is_request, place_below, is_taken, applied_line, waiting, unknown, standing};
 
 use crate::answer::Answer;
-use crate::outcome::push_outcome;
+use pf_log_lines::push_outcome;
 use pf_node::Node;
 use pf_scripts::push_number;
 use px_records::Records;

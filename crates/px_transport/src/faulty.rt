@@ -8,7 +8,8 @@ ghost use Rattle.px_transport.specs.Faulty.{inner_of, recvs_left, sends_left, pe
 use crate::wire::Wire;
 
 /// A wire of which each `k`-th receive and each `k`-th send fails, is counted, and doesn't come to the wire below; the
-/// others are that wire's. A poll is a receive; a wait never fails. For tests of what lost datagrams do.
+/// others are that wire's. A poll is a receive; what isn't one of the two never fails. For tests of what lost datagrams
+/// do.
 #[derive(Drop)]
 pub struct FaultyWire<W> {
     inner: W,
@@ -148,6 +149,50 @@ impl<W: Wire> Wire for FaultyWire<W> {
         }
         self.sends_left -= 1;
         self.inner.send(to, bytes)
+    }
+
+    fn defer_asks(&mut self, is_deferred: bool)
+        ensures rest { (sends_left self.new ≡ sends_left self.old) × (recvs_left self.new ≡ recvs_left self.old) ×
+            (period_of self.new ≡ period_of self.old) × (missed_of self.new ≡ missed_of self.old) }
+        ensures given { W.given (inner_of self.new) ≡ W.given (inner_of self.old) }
+        ensures quiet { W.handed (inner_of self.new) ≡ W.handed (inner_of self.old) }
+        ensures counts { failures_of (W.failed (inner_of self.old)) self.old ≤
+            failures_of (W.failed (inner_of self.new)) self.new }
+    {
+        self.inner.defer_asks(is_deferred);
+    }
+
+    fn release(&mut self, number: u64)
+        ensures rest { (sends_left self.new ≡ sends_left self.old) × (recvs_left self.new ≡ recvs_left self.old) ×
+            (period_of self.new ≡ period_of self.old) × (missed_of self.new ≡ missed_of self.old) }
+        ensures given { W.given (inner_of self.new) ≡ W.given (inner_of self.old) }
+        ensures quiet { W.handed (inner_of self.new) ≡ W.handed (inner_of self.old) }
+        ensures counts { failures_of (W.failed (inner_of self.old)) self.old ≤
+            failures_of (W.failed (inner_of self.new)) self.new }
+    {
+        self.inner.release(number);
+    }
+
+    fn repeat(&mut self, front: u32)
+        ensures rest { (sends_left self.new ≡ sends_left self.old) × (recvs_left self.new ≡ recvs_left self.old) ×
+            (period_of self.new ≡ period_of self.old) × (missed_of self.new ≡ missed_of self.old) }
+        ensures given { W.given (inner_of self.new) ≡ W.given (inner_of self.old) }
+        ensures quiet { W.handed (inner_of self.new) ≡ W.handed (inner_of self.old) }
+        ensures counts { failures_of (W.failed (inner_of self.old)) self.old ≤
+            failures_of (W.failed (inner_of self.new)) self.new }
+    {
+        self.inner.repeat(front);
+    }
+
+    fn repeat_to(&mut self, to: u8, front: u32)
+        ensures rest { (sends_left self.new ≡ sends_left self.old) × (recvs_left self.new ≡ recvs_left self.old) ×
+            (period_of self.new ≡ period_of self.old) × (missed_of self.new ≡ missed_of self.old) }
+        ensures given { W.given (inner_of self.new) ≡ W.given (inner_of self.old) }
+        ensures quiet { W.handed (inner_of self.new) ≡ W.handed (inner_of self.old) }
+        ensures counts { failures_of (W.failed (inner_of self.old)) self.old ≤
+            failures_of (W.failed (inner_of self.new)) self.new }
+    {
+        self.inner.repeat_to(to, front);
     }
 
     fn failures(&self) -> u64 {

@@ -42,6 +42,26 @@ const LEADING: View = View {
     reached: 0,
 };
 
+/// One whose accept requests have gone out.
+const ACCEPTING: View = View {
+    waiting: 1,
+    is_attempting: true,
+    is_leading: true,
+    front: 0,
+    is_told: false,
+    reached: 0,
+};
+
+/// The same once a command is learned, with another that waits.
+const LEARNED: View = View {
+    waiting: 1,
+    is_attempting: false,
+    is_leading: true,
+    front: 1,
+    is_told: false,
+    reached: 0,
+};
+
 /// One that lacks two entries, of which it has just been told one.
 const TOLD: View = View {
     waiting: 0,
@@ -202,13 +222,9 @@ fn what_may_be_lost_is_sent_again(rt: HostRuntime) {
 #[test]
 fn how_long_an_answer_takes_is_learned_from_promises(rt: HostRuntime) {
     let mut pace = Pace::new(0);
-    let accepting = View {
-        is_leading: true,
-        ..ATTEMPTING
-    };
     assert!(rt; pace.beat(0, WAITING) == Beat::Tick);
     // promised after 4 ms: 12 ms is half of 20 and of 4, so it is sent again 18 and 5 ms later
-    assert!(rt; pace.beat(4_000, accepting) == Beat::Wait(24));
+    assert!(rt; pace.beat(4_000, ACCEPTING) == Beat::Wait(24));
     assert!(rt; !pace.repeats(26_999));
     assert!(rt; pace.repeats(27_000));
 }
@@ -216,19 +232,10 @@ fn how_long_an_answer_takes_is_learned_from_promises(rt: HostRuntime) {
 #[test]
 fn how_long_an_answer_takes_is_learned_from_votes(rt: HostRuntime) {
     let mut pace = Pace::new(0);
-    let accepting = View {
-        is_leading: true,
-        ..ATTEMPTING
-    };
-    let learned = View {
-        front: 1,
-        is_leading: true,
-        ..WAITING
-    };
     assert!(rt; pace.beat(0, WAITING) == Beat::Tick);
-    assert!(rt; pace.beat(4_000, accepting) == Beat::Wait(24));
+    assert!(rt; pace.beat(4_000, ACCEPTING) == Beat::Wait(24));
     // learned 2 ms after the accept requests went out: 7 ms is half of 12 and of 2
-    assert!(rt; pace.beat(6_000, learned) == Beat::Tick);
+    assert!(rt; pace.beat(6_000, LEARNED) == Beat::Tick);
     assert!(rt; !pace.repeats(21_499));
     assert!(rt; pace.repeats(21_500));
 }
@@ -236,20 +243,11 @@ fn how_long_an_answer_takes_is_learned_from_votes(rt: HostRuntime) {
 #[test]
 fn what_was_sent_again_tells_no_answers_time(rt: HostRuntime) {
     let mut pace = Pace::new(0);
-    let accepting = View {
-        is_leading: true,
-        ..ATTEMPTING
-    };
-    let learned = View {
-        front: 1,
-        is_leading: true,
-        ..WAITING
-    };
     assert!(rt; pace.beat(0, WAITING) == Beat::Tick);
-    assert!(rt; pace.beat(4_000, accepting) == Beat::Wait(24));
+    assert!(rt; pace.beat(4_000, ACCEPTING) == Beat::Wait(24));
     assert!(rt; pace.repeats(27_000));
     // 12 ms and a 32nd, 12.375, as before; so 18.562 and 5 ms later
-    assert!(rt; pace.beat(28_000, learned) == Beat::Tick);
+    assert!(rt; pace.beat(28_000, LEARNED) == Beat::Tick);
     assert!(rt; !pace.repeats(51_561));
     assert!(rt; pace.repeats(51_562));
 }
@@ -257,19 +255,11 @@ fn what_was_sent_again_tells_no_answers_time(rt: HostRuntime) {
 #[test]
 fn what_another_proposed_meanwhile_tells_no_answers_time(rt: HostRuntime) {
     let mut pace = Pace::new(0);
-    let accepting = View {
-        is_attempting: true,
-        ..LEADING
-    };
-    let learned = View {
-        front: 1,
-        ..LEADING
-    };
     assert!(rt; pace.beat(0, WAITING) == Beat::Tick);
-    assert!(rt; pace.beat(4_000, accepting) == Beat::Wait(24));
+    assert!(rt; pace.beat(4_000, ACCEPTING) == Beat::Wait(24));
     pace.sent(5_000);
     // 12 ms as before
-    assert!(rt; pace.beat(6_000, learned) == Beat::Tick);
+    assert!(rt; pace.beat(6_000, LEARNED) == Beat::Tick);
     assert!(rt; !pace.repeats(28_999));
     assert!(rt; pace.repeats(29_000));
 }
@@ -277,14 +267,10 @@ fn what_another_proposed_meanwhile_tells_no_answers_time(rt: HostRuntime) {
 #[test]
 fn promises_of_a_round_begun_anew_tell_an_answers_time(rt: HostRuntime) {
     let mut pace = Pace::new(0);
-    let accepting = View {
-        is_attempting: true,
-        ..LEADING
-    };
     assert!(rt; pace.beat(0, WAITING) == Beat::Tick);
     assert!(rt; pace.beat(100_000, ATTEMPTING) == Beat::Tick);
     // 35 ms is half of 20 and of 50
-    assert!(rt; pace.beat(150_000, accepting) == Beat::Wait(58));
+    assert!(rt; pace.beat(150_000, ACCEPTING) == Beat::Wait(58));
     assert!(rt; !pace.repeats(207_499));
     assert!(rt; pace.repeats(207_500));
 }
@@ -322,23 +308,14 @@ fn an_answers_time_that_was_taken_too_short_grows(rt: HostRuntime) {
 #[test]
 fn promises_that_are_lost_are_asked_for_soon(rt: HostRuntime) {
     let mut pace = Pace::new(0);
-    let accepting = View {
-        is_leading: true,
-        ..ATTEMPTING
-    };
-    let learned = View {
-        front: 1,
-        is_leading: true,
-        ..WAITING
-    };
     let preparing = View {
         front: 1,
         ..ATTEMPTING
     };
     assert!(rt; pace.beat(0, WAITING) == Beat::Tick);
-    assert!(rt; pace.beat(4_000, accepting) == Beat::Wait(24));
+    assert!(rt; pace.beat(4_000, ACCEPTING) == Beat::Wait(24));
     // the attempt took 44 ms, an answer 40 of them: 32 and 26
-    assert!(rt; pace.beat(44_000, learned) == Beat::Tick);
+    assert!(rt; pace.beat(44_000, LEARNED) == Beat::Tick);
     // the lead is lost: four answers and 20 ms
     assert!(rt; pace.beat(44_100, preparing) == Beat::Wait(44));
     assert!(rt; pace.beat(167_999, preparing) == Beat::Wait(1));
