@@ -14,16 +14,13 @@ use Rattle.px_sql.specs.Formats.{record_at, trees_at, number_of, schema_at, tabl
 use Rattle.px_sql.specs.declared.formats.Format.{Format}
 use Rattle.px_sql.specs.declared.formats.Format.TheVariants.{One, Two, Three}
 use Rattle.px_sql.specs.inner.Making.{Brought}
-use Rattle.px_sql.specs.Adopting.{IsSame, Began, AreBrought, IsBrought, IsMade}
-use Rattle.px_sql.specs.inner.Adopting.{Shows}
+use Rattle.px_sql.specs.Adopting.{IsSame, Shows, Began, AreBrought, IsBrought, IsMade}
 use Rattle.px_sql.specs.Judging.{refusal, refusal_of, are_floor_rows, says_format, says_member, says_numbers, says_owner, is_member_of, has_rows}
 use Rattle.px_sql.specs.declared.fault.AdoptFault.TheVariants.{StoreVersion, BadStore, WrongNode}
 use Rattle.std.specs.Prelude.{nat_lt, nat_le}
-use Rattle.px_sql.specs.Seen.{number_at, number_in, slot_in, learned_in, slot_columns, learned_columns, record_in}
-use Rattle.px_sql.specs.Seen.{rows_at, seen, shown, meta_columns, meta_row, floor_columns}
-use Rattle.px_sql.specs.inner.Seen.{floor_rows, Tells, IsMetaIn, IsFloorIn}
-use Rattle.px_sql.specs.inner.Effect.{IsSettled, IsAlike}
-use Rattle.px_sql.specs.inner.Ready.{IsMeta}
+use Rattle.px_sql.specs.Seen.{number_at, number_in, slot_in, learned_in, slot_columns, learned_columns, record_in, rows_at, seen, shown, meta_columns, meta_row, floor_columns, floor_rows, Tells, IsMetaIn, IsFloorIn}
+use Rattle.px_sql.specs.Effect.{IsStill, IsAlike}
+use Rattle.px_sql.specs.Ready.{IsMeta}
 use Rattle.px_sql.specs.declared.calls.Identity.{Identity}
 use Rattle.px_model.specs.declared.record.Meta.{Meta}
 use Rattle.px_sql.proofs.Above.{number_is}
@@ -78,15 +75,15 @@ floor_shown b rows (r ∷ []) (inr two) h = absurd (omega (arith, two.1))
 floor_shown b rows (r ∷ x ∷ more) (inr two) h = absurd h
 
 -- two reads, of the row for the whole node and of the floor
-pub is_read : (id : Identity) (m : Meta) (s t u : State) → IsSettled u → t.now ≡ s.now → u.now ≡ t.now
+pub is_read : (id : Identity) (m : Meta) (s t u : State) → s.now.schema ≡ schema_3 → IsStill s t → IsStill t u
     → seen meta_columns (s.now.trees 0) 1 ≡ meta_row 3 id.cluster id.members id.node m.round m.number ∷ [] → seen floor_columns (t.now.trees 2) 1 ≡ floor_rows m.floor
     → (u.now.schema ≡ schema_3) × ((u.in_transaction ≡ false) × ((u.is_open ≡ true) × IsMeta id m u.committed.trees))
-is_read id m s t u second stays still one two =
-    let at_t : u.committed ≡ t.now = second.committed ∙ still in
-    let at_s : u.committed ≡ s.now = at_t ∙ stays in
+is_read id m s t u has first second one two =
+    let at_t : u.committed ≡ t.now = second.committed ∙ sym second.begun in
+    let at_s : u.committed ≡ s.now = at_t ∙ first.now in
     let meta = ap (λ (d : Database). seen meta_columns (d.trees 0) 1) at_s ∙ one in
     let floor = ap (λ (d : Database). seen floor_columns (d.trees 2) 1) at_t ∙ two in
-    (second.schema, (second.auto, (second.is_open, (meta, floor))))
+    (ap (λ (d : Database). d.schema) (second.now ∙ first.now) ∙ has, (second.auto, (second.is_open, (meta, floor))))
 
 -- fewer than two rows are those that were asked for
 pub alike_few : (rows answer : List Row) → IsAlike rows answer → length answer < 2 → rows ≡ answer

@@ -17,9 +17,7 @@ use Rattle.sqlite.specs.State.{State, Shown, FailsToQuery, IsNotRun, IsUnchanged
 use Rattle.sqlite.specs.Listing.{understood}
 use Rattle.sqlite.proofs.Callers.{IsPlain, reads_as, one_permutation}
 use Rattle.px_sql.specs.Seen.{rows_at, shown, seen}
-use Rattle.px_sql.specs.inner.Effect.{Stays, IsAlike, IsSettled}
-use Rattle.px_sql.specs.Tables.{schema_3}
-use Rattle.sqlite.specs.Effect.{Database}
+use Rattle.px_sql.specs.Effect.{Stays, IsAlike}
 use Rattle.px_sql.proofs.Texts.{by_key, select, Asks}
 use Rattle.px_sql.proofs.Puts.{equal_rowid, unchanged, undone, fails}
 
@@ -72,17 +70,6 @@ module _ (tree : ℕ) (project : List Term) (columns : List ℕ) (bare : (db : T
         alike _ _ (answered p old.now.trees rows ((reads_as text (Int (pos p) ∷ []) old new schema has (select (by_key tree project) names) asks.means.is asks.means.plain asks.unlisted rows h).answer Null))
 
 -- ---- a query changes nothing
-
-pub stays_put : (old new : State) → old.now.schema ≡ schema_3 → old.in_transaction ≡ false → (IsTrue old.is_open → old.now ≡ old.committed) → IsUnchanged old new → IsSettled new × (new.now ≡ old.now)
-stays_put old new has auto settled h = (
-  record {
-    committed = h.0.committed_is ∙ sym (settled h.0.was_open) ∙ sym h.0.now_is;
-    schema = ap (λ (d : Database). d.schema) h.0.now_is ∙ has;
-    auto = h.0.mode ∙ auto;
-    is_open = h.0.is_open;
-  },
-  h.0.now_is,
-)
 
 pub reads_only : (text : List ℕ) (params : Row) (old new : State) (rows : List Row) → IsPlain (understood old.now.schema text) → Shown text params old new rows → IsUnchanged old new
 unfolding Shown

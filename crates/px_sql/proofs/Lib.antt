@@ -5,7 +5,9 @@ mod Above
 mod Gets
 mod Kept
 mod Tops
+mod Questions
 mod Stored
+mod NewRows
 mod Promises
 mod Spelled
 mod Ends

@@ -12,39 +12,39 @@ use Rattle.px_sql.specs.Entries.{entry_of}
 use Rattle.px_sql.proofs.Spelled.{reads_back}
 use Rattle.px_sql.proofs.Stored.{not_zero}
 use Rattle.px_records.specs.declared.records.StoreFault.TheVariants as fault
-use Rattle.px_sql.specs.Seen.{is_slot, is_ballot, is_proposal, is_none_or_ballot}
-use Rattle.px_sql.specs.inner.Seen.{slot_with}
-use Rattle.px_sql.specs.Store.{Stored}
-use Rattle.px_sql.specs.inner.Store.{Keeps, OnlyReads, LeavesOneOf, told_of, with_meta, with_slot, with_promise}
-use Rattle.px_sql.specs.inner.Store.{with_entry}
-use Rattle.px_sql.specs.declared.calls.Trouble.{Trouble}
-use Rattle.px_sql.specs.declared.calls.Trouble.TheVariants.{Memory, Failed}
-
--- ---- what is told of a call
-
-pub told_ok : (r : Result (Unit {0}) Trouble) (A B : Type 0) → (A → B) → OnOk r A → OnOk (told_of r) B
-told_ok (Ok x) A B f h = f h
-told_ok (Err Memory) A B f h = h
-told_ok (Err Failed) A B f h = h
-
-pub told_memory : (r : Result (Unit {0}) Trouble) → told_of r ≡ Err fault.Memory → r ≡ Err Memory
-told_memory (Ok x) e = absurd cc
-told_memory (Err Memory) e = refl
-told_memory (Err Failed) e = absurd cc
+use Rattle.px_sql.specs.Seen.{slot_with, is_slot, is_ballot, is_proposal, is_none_or_ballot}
+use Rattle.px_sql.specs.Store.{Stored, Keeps, OnlyReads, LeavesOneOf, Changed, with_meta, with_slot, with_promise, with_entry}
+use Rattle.px_records.specs.declared.records.StoreFault.{StoreFault}
 
 -- ---- a read, and then a change
 
 pub keeps_then : {a b c : Stored} → Keeps a b → Keeps b c → Keeps a c
 keeps_then h k = record { same = k.same ∙ h.same; rows = λ x good. k.rows x (h.rows x good); back = λ x good. h.back x (k.back x good) }
 
-pub ok_then : (f : Record Bytes → Record Bytes) (s m t : Stored) → Keeps s m → (r : Result (Unit {0}) Trouble) → OnOk r (t.kept ≡ f m.kept) → OnOk (told_of r) (t.kept ≡ f s.kept)
-ok_then f s m t was r h = told_ok r (t.kept ≡ f m.kept) (t.kept ≡ f s.kept) (λ e. e ∙ ap f was.same) h
+ok_as : {X E : Type 0} (r : Result X E) (now a b : Record Bytes) → a ≡ b → OnOk r (now ≡ a) → OnOk r (now ≡ b)
+ok_as (Ok x) now a b is h = h ∙ is
+ok_as (Err e) now a b is h = h
 
-pub stop_then : (f : Record Bytes → Record Bytes) (s m t : Stored) → Keeps s m → ((r : Record Bytes) → m.may_leave r → s.may_leave r) → LeavesOneOf (f m.kept) m t → LeavesOneOf (f s.kept) s t
+stop_then : (f : Record Bytes → Record Bytes) (s m t : Stored) → Keeps s m → ((r : Record Bytes) → m.may_leave r → s.may_leave r) → LeavesOneOf (f m.kept) m t → LeavesOneOf (f s.kept) s t
 stop_then f s m t was leaves h r left = elim (h r left) [
   | inl old ↦ inl (leaves r old)
   | inr made ↦ inr (made ∙ ap f was.same)
 ]
+
+pub read_then : (f : Record Bytes → Record Bytes) (s m t : Stored) (answer : Result (Unit {0}) StoreFault) → Keeps s m → ((r : Record Bytes) → m.may_leave r → s.may_leave r) → Changed (f m.kept) answer m t → Changed (f s.kept) answer s t
+read_then f s m t answer was leaves h = record {
+  ok = ok_as answer t.kept (f m.kept) (f s.kept) (ap f was.same) h.ok;
+  memory = λ is. keeps_then was (h.memory is);
+  stop = stop_then f s m t was leaves h.stop;
+}
+
+-- and where the read fails there is no change
+pub not_read : (target : Record Bytes) (s m : Stored) (why : StoreFault) → OnlyReads s m → m.is_honest → (why ≡ fault.Memory → m.failed ≡ 0) → Changed target (Err why) s m
+not_read target s m why reads honest none = record {
+  ok = tt;
+  memory = λ is. reads.keeps honest (none (let same = is in cc));
+  stop = λ r left. inl (reads.leaves honest r left);
+}
 
 -- the slot that is put is the one that was read, with this promise
 pub promise_is : (d : Record Bytes) (p ballot promised b : ℕ) (bytes : List ℕ) → slot_with promised b bytes ≡ d.slots p → with_slot d p ballot b bytes ≡ with_promise d p ballot
@@ -107,7 +107,3 @@ accepted_is n d p b e bytes spells is fits long =
 pub learned_is : (n : ℕ) (d : Record Bytes) (p : ℕ) (e : Entry Bytes) (bytes : List ℕ) → bytes ≡ spelled e → EntryFits AnyCommand n e → 1 ≤ length e.command
     → with_entry d p bytes ≡ record d { learned = put d.learned p (Some e) }
 learned_is n d p e bytes spells fits long = ap (λ (x : Entry Bytes). record d { learned = put d.learned p (Some x) }) (ap entry_of spells ∙ reads_back n e fits long)
-
-pub ok_as : {X E : Type 0} (r : Result X E) (now a b : Record Bytes) → a ≡ b → OnOk r (now ≡ a) → OnOk r (now ≡ b)
-ok_as (Ok x) now a b is h = h ∙ is
-ok_as (Err e) now a b is h = h

@@ -37,9 +37,8 @@ use Rattle.sqlite.specs.Does.{Does}
 use Rattle.sqlite.specs.Listing.{understood}
 use Rattle.sqlite.proofs.Callers.{IsPlain, command_of, statement_of, runs_as, one_step}
 use Rattle.px_sql.specs.Tables.{schema_3}
-use Rattle.px_sql.specs.Seen.{rows_at, shown}
-use Rattle.px_sql.specs.inner.Seen.{IsKeyed}
-use Rattle.px_sql.specs.inner.Effect.{Puts, IsSettled, Stays, Serves}
+use Rattle.px_sql.specs.Seen.{rows_at, shown, IsKeyed}
+use Rattle.px_sql.specs.Effect.{Puts, IsSettled, IsStill, Stays, Serves}
 use Rattle.px_sql.proofs.Texts.{replace, Means}
 use Rattle.px_sql.proofs.Rows.{put_other, put_same, without_other, apart, or_false}
 
@@ -288,15 +287,12 @@ refused old new sql params e auto settled (inr h) = elim (cases_Bool (shows_rows
 ]
 
 -- where memory was wanting and the connection still serves, nothing changed
-pub served : (old mid new : State) → old.now.schema ≡ schema_3 → (IsTrue old.is_open → old.now ≡ old.committed) → Stays old mid → Serves mid new → IsSettled new × (new.now ≡ old.now)
-served old mid new has settled stays s =
-    let begun = settled (stays.was_open s.was_open) in
-    let now : new.now ≡ old.now = s.now ∙ stays.now s.was_open ∙ sym begun in (
-      record {
-        committed = s.committed ∙ stays.committed s.was_open ∙ sym (s.now ∙ stays.now s.was_open);
-        schema = ap (λ (d : Database). d.schema) now ∙ has;
-        auto = s.auto ∙ stays.auto;
-        is_open = s.is_open;
-      },
-      now,
-    )
+pub served : (old mid new : State) → (IsTrue old.is_open → old.now ≡ old.committed) → Stays old mid → Serves mid new → IsStill old new
+served s m t settled stays serves =
+    let begun = settled (stays.was_open serves.was_open) in record {
+      begun = begun;
+      now = serves.now ∙ stays.now serves.was_open ∙ sym begun;
+      committed = serves.committed ∙ stays.committed serves.was_open;
+      auto = serves.auto ∙ stays.auto;
+      is_open = serves.is_open;
+    }

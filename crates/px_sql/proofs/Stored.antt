@@ -12,15 +12,10 @@ use Rattle.sqlite.specs.Tree.{Trees}
 use Rattle.sqlite.specs.Schema.{Schema}
 use Rattle.px_sql.specs.Tables.{schema_3}
 use Rattle.sqlite.specs.State.{State, HasCleanDisk}
-use Rattle.px_model.specs.Node.{Record}
-use Rattle.px_sql.specs.Seen.{seen, is_key, are_slot_rows, are_learned_rows, meta_columns, meta_row, floor_columns}
-use Rattle.px_sql.specs.Seen.{number_at, record_in}
-use Rattle.px_sql.specs.inner.Seen.{IsKeyed, floor_row, floor_rows}
-use Rattle.px_sql.specs.inner.Effect.{Puts, IsSettled, LeavesOld, LeavesOne, IsAlike}
-use Rattle.px_model.specs.Spelling.{Bytes}
-use Rattle.px_sql.specs.inner.Store.{Keeps, OnlyReads, LeavesOneOf}
-use Rattle.px_sql.specs.Ready.{is_good, stored_of}
-use Rattle.px_sql.specs.inner.Ready.{IsMeta}
+use Rattle.px_sql.specs.Seen.{seen, IsKeyed, is_key, are_slot_rows, are_learned_rows, meta_columns, meta_row, floor_columns, floor_row, floor_rows, number_at, record_in}
+use Rattle.px_sql.specs.Effect.{Puts, IsSettled, LeavesOld, IsAlike}
+use Rattle.px_sql.specs.Store.{Keeps, OnlyReads}
+use Rattle.px_sql.specs.Ready.{IsMeta, is_good, stored_of}
 use Rattle.px_sql.specs.declared.calls.Identity.{Identity}
 use Rattle.px_model.specs.declared.record.Meta.{Meta}
 
@@ -75,23 +70,9 @@ reads o members f g old new was same leaves = record {
   leaves = λ honest r left. (left.0, leaves honest left.0 left.1, left.2);
 }
 
--- what stands committed after a call that left the rows
-pub committed_same : (old new : State) → IsSettled new → new.now ≡ old.now → old.now ≡ old.committed → new.committed ≡ old.committed
-committed_same old new s now begun = s.committed ∙ now ∙ begun
-
--- and after one that put a row
+-- what stands committed after a call that put a row
 pub committed_put : (tree p : ℕ) (columns : List ℕ) (row : Row) (old new : State) → IsSettled new → old.now ≡ old.committed → Puts tree p columns row old.now.trees new.now.trees → Puts tree p columns row old.committed.trees new.committed.trees
 committed_put tree p columns row old new s begun h = subst₂ (λ (a b : Database). Puts tree p columns row a.trees b.trees) begun (sym s.committed) h
-
--- ---- a call that puts a row
-
--- what a stop leaves is one of the two
-pub one_of : (o : Schema) (members f g : ℕ) (old new : State) (tree p : ℕ) (columns : List ℕ) (row : Row) (target : Record Bytes) → old.now ≡ old.committed → LeavesOne tree p columns row old new
-    → ((db : Trees) → Puts tree p columns row old.committed.trees db → record_in db ≡ target) → LeavesOneOf target (stored_of o members f old) (stored_of o members g new)
-one_of o members f g old new tree p columns row target begun leaves makes r left = elim (leaves left.0 left.1) [
-  | inl was ↦ inl (left.0, was, left.2)
-  | inr made ↦ inr (left.2 ∙ makes left.0 (subst (λ (d : Database). Puts tree p columns row d.trees left.0) begun made))
-]
 
 -- ---- what the rows for the whole node show
 

@@ -14,9 +14,7 @@ use Rattle.sqlite.specs.Source.TheVariants.{Values}
 use Rattle.sqlite_tied.specs.Compute.{everything}
 use Rattle.sqlite.specs.Listing.{understood, reads_listing}
 use Rattle.sqlite.proofs.Callers.{IsPlain, command_of}
-use Rattle.px_sql.specs.Tables.{schema_3}
-use Rattle.px_sql.specs.inner.Tables.{put_meta, put_slot, put_floor, put_learned, get_meta, get_slot, get_floor}
-use Rattle.px_sql.specs.inner.Tables.{get_learned, get_top, get_end, get_last}
+use Rattle.px_sql.specs.Tables.{schema_3, put_meta, put_slot, put_floor, put_learned, get_meta, get_slot, get_floor, get_learned, get_top, get_end, get_last}
 use Rattle.px_sql.specs.Formats.{schema_at, has_table}
 use Rattle.px_sql.specs.declared.formats.Format.{Format}
 use Rattle.px_sql.specs.declared.formats.Format.TheVariants.{One, Two, Three}
@@ -92,21 +90,14 @@ slot_names = codes "position" ∷ codes "promised" ∷ codes "ballot" ∷ codes 
 abbrev pub learned_names : List (List ℕ)
 learned_names = codes "position" ∷ codes "entry" ∷ []
 
-pub slot_get : Asks schema_3 get_slot (by_key 1 (col 1 0 ∷ col 1 2 ∷ col 1 3 ∷ col 1 4 ∷ [])) slot_names
-unfolding understood everything
-slot_get = record { means = record { is = refl; plain = (refl, refl) }; unlisted = refl }
+abbrev pub slot_project : List Term
+slot_project = col 1 0 ∷ col 1 2 ∷ col 1 3 ∷ col 1 4 ∷ []
 
-pub floor_get : Asks schema_3 get_floor (by_key 2 (col 1 0 ∷ col 1 2 ∷ [])) (codes "id" ∷ codes "ballot" ∷ [])
-unfolding understood everything
-floor_get = record { means = record { is = refl; plain = (refl, refl) }; unlisted = refl }
+abbrev pub pair_project : List Term
+pair_project = col 1 0 ∷ col 1 2 ∷ []
 
-pub learned_get : Asks schema_3 get_learned (by_key 3 (col 1 0 ∷ col 1 2 ∷ [])) learned_names
-unfolding understood everything
-learned_get = record { means = record { is = refl; plain = (refl, refl) }; unlisted = refl }
-
-pub meta_get : Asks schema_3 get_meta (by_key 0 meta_project) meta_names
-unfolding understood everything
-meta_get = record { means = record { is = refl; plain = (refl, refl) }; unlisted = refl }
+abbrev pub floor_names : List (List ℕ)
+floor_names = codes "id" ∷ codes "ballot" ∷ []
 
 -- the last position, of the rows that pass
 abbrev pub last_row : (tree : ℕ) → List Term → Query
@@ -128,15 +119,7 @@ with_ballot = op2 (Compare Gt Binary) (col 1 3) (lit (Int (pos 0))) ∷ []
 abbrev pub top_names : List (List ℕ)
 top_names = codes "position" ∷ []
 
-pub top_get : Asks schema_3 get_top (last_row 1 with_ballot) top_names
-unfolding understood everything
-top_get = record { means = record { is = refl; plain = (refl, refl) }; unlisted = refl }
-
-pub end_get : Asks schema_3 get_end (last_row 3 []) top_names
-unfolding understood everything
-end_get = record { means = record { is = refl; plain = (refl, refl) }; unlisted = refl }
-
--- ---- reads of a store as it is found
+-- in each format
 
 pub meta_asks : (f : Format) → Asks (schema_at f) get_meta (by_key 0 meta_project) meta_names
 unfolding understood everything
@@ -144,20 +127,38 @@ meta_asks One = record { means = record { is = refl; plain = (refl, refl) }; unl
 meta_asks Two = record { means = record { is = refl; plain = (refl, refl) }; unlisted = refl }
 meta_asks Three = record { means = record { is = refl; plain = (refl, refl) }; unlisted = refl }
 
-pub floor_asks : (f : Format) → has_table 2 f ≡ true → Asks (schema_at f) get_floor (by_key 2 (col 1 0 ∷ col 1 2 ∷ [])) (codes "id" ∷ codes "ballot" ∷ [])
+pub floor_asks : (f : Format) → has_table 2 f ≡ true → Asks (schema_at f) get_floor (by_key 2 pair_project) floor_names
 unfolding understood everything
 floor_asks One has = absurd cc
 floor_asks Two has = record { means = record { is = refl; plain = (refl, refl) }; unlisted = refl }
 floor_asks Three has = record { means = record { is = refl; plain = (refl, refl) }; unlisted = refl }
 
-pub slot_asks : (f : Format) → Asks (schema_at f) get_last (last_row 1 []) top_names
+pub slot_asks : (f : Format) → Asks (schema_at f) get_slot (by_key 1 slot_project) slot_names
 unfolding understood everything
 slot_asks One = record { means = record { is = refl; plain = (refl, refl) }; unlisted = refl }
 slot_asks Two = record { means = record { is = refl; plain = (refl, refl) }; unlisted = refl }
 slot_asks Three = record { means = record { is = refl; plain = (refl, refl) }; unlisted = refl }
 
-pub entry_asks : (f : Format) → has_table 3 f ≡ true → Asks (schema_at f) get_end (last_row 3 []) top_names
+pub learned_asks : (f : Format) → has_table 3 f ≡ true → Asks (schema_at f) get_learned (by_key 3 pair_project) learned_names
 unfolding understood everything
-entry_asks One has = absurd cc
-entry_asks Two has = absurd cc
-entry_asks Three has = end_get
+learned_asks One has = absurd cc
+learned_asks Two has = absurd cc
+learned_asks Three has = record { means = record { is = refl; plain = (refl, refl) }; unlisted = refl }
+
+pub top_asks : (f : Format) → Asks (schema_at f) get_top (last_row 1 with_ballot) top_names
+unfolding understood everything
+top_asks One = record { means = record { is = refl; plain = (refl, refl) }; unlisted = refl }
+top_asks Two = record { means = record { is = refl; plain = (refl, refl) }; unlisted = refl }
+top_asks Three = record { means = record { is = refl; plain = (refl, refl) }; unlisted = refl }
+
+pub end_asks : (f : Format) → has_table 3 f ≡ true → Asks (schema_at f) get_end (last_row 3 []) top_names
+unfolding understood everything
+end_asks One has = absurd cc
+end_asks Two has = absurd cc
+end_asks Three has = record { means = record { is = refl; plain = (refl, refl) }; unlisted = refl }
+
+pub last_asks : (f : Format) → Asks (schema_at f) get_last (last_row 1 []) top_names
+unfolding understood everything
+last_asks One = record { means = record { is = refl; plain = (refl, refl) }; unlisted = refl }
+last_asks Two = record { means = record { is = refl; plain = (refl, refl) }; unlisted = refl }
+last_asks Three = record { means = record { is = refl; plain = (refl, refl) }; unlisted = refl }

@@ -16,15 +16,12 @@ use Rattle.sqlite.specs.Tree.{Trees}
 use Rattle.sqlite_rules.specs.Lists.{Has}
 use Rattle.sqlite.specs.State.{State, Shown}
 use Rattle.sqlite.proofs.Callers.{reads_as}
-use Rattle.px_sql.specs.Tables.{schema_3}
-use Rattle.px_sql.specs.inner.Tables.{get_top, get_end}
-use Rattle.px_sql.specs.Seen.{has_ballot, any_row}
-use Rattle.px_sql.specs.inner.Seen.{IsLast}
+use Rattle.px_sql.specs.Seen.{any_row, IsLast}
 use Rattle.sqlite.specs.Schema.{Schema}
 use Rattle.px_sql.specs.Judging.{has_rows}
-use Rattle.px_sql.proofs.Texts.{last_row, with_ballot, select, top_get, end_get, top_names, Asks}
+use Rattle.px_sql.proofs.Texts.{last_row, select, top_names, Asks}
 use Rattle.px_sql.proofs.Puts.{has_filter}
-use Rattle.px_sql.proofs.Gets.{and_true, map_map}
+use Rattle.px_sql.proofs.Gets.{map_map}
 
 pub filter_has : (t : Row → Bool) (rows : List Row) (r : Row) → Has (filter t rows) r → Has rows r × (t r ≡ true)
 filter_has t [] r h = absurd h
@@ -104,27 +101,15 @@ module _ (tree : ℕ) (filters : List Term) (test : Row → Bool) (tests : (r : 
   last_is rows a =
       last_of a.kept a.ordered (a.distinct ∙ ap (map (output query)) (a.grouped ∙ staged_is) ∙ map_map (output query) (λ r. [] ∷ r ∷ []) out (λ r. refl) passing) a.same a.sorted rows a.shown
 
-pub answers_last : (old new : State) (rows : List Row) → old.now.schema ≡ schema_3 → Shown get_top [] old new rows → IsLast has_ballot (old.now.trees 1) rows
-answers_last old new rows has h =
-    last_is 1 with_ballot has_ballot (λ r. and_true (has_ballot r)) (λ db. refl) old.now.trees rows
-    ((reads_as get_top [] old new schema_3 has (select (last_row 1 with_ballot) top_names) top_get.means.is top_get.means.plain top_get.unlisted rows h).answer Null)
-
-pub answers_end : (old new : State) (rows : List Row) → old.now.schema ≡ schema_3 → Shown get_end [] old new rows → IsLast any_row (old.now.trees 3) rows
-answers_end old new rows has h =
-    last_is 3 [] any_row (λ r. refl) (λ db. refl) old.now.trees rows
-    ((reads_as get_end [] old new schema_3 has (select (last_row 3 []) top_names) end_get.means.is end_get.means.plain end_get.unlisted rows h).answer Null)
+  module _ (schema : Schema) (text : List ℕ) (asks : Asks schema text query top_names) where
+    pub ends : (old new : State) (rows : List Row) → old.now.schema ≡ schema → old.now.trees ≡ db → Shown text [] old new rows → IsLast test (db tree) rows
+    ends old new rows has same h =
+        last_is rows (subst (λ (t : Trees). IsAnswer query (overlay t []) [] rows) same ((reads_as text [] old new schema has (select query top_names) asks.means.is asks.means.plain asks.unlisted rows h).answer Null))
 
 -- an answer with no row comes of no rows alone
-last_some : (tree rows : List Row) → IsLast any_row tree rows → has_rows rows ≡ has_rows tree
+pub last_some : (tree rows : List Row) → IsLast any_row tree rows → has_rows rows ≡ has_rows tree
 last_some [] [] h = refl
 last_some (r ∷ more) [] h = let never = h r (inl refl) in absurd cc
 last_some [] (a ∷ []) (r, has, good, is, above) = absurd has
 last_some (r ∷ more) (a ∷ []) h = refl
 last_some tree (a ∷ b ∷ more) h = absurd h
-
--- a statement that asks for the last row of a tree answers one where there is one
-pub answers_some : (tree : ℕ) (bare : (db : Trees) → overlay db [] tree ≡ db tree) (schema : Schema) (text : List ℕ)
-    → Asks schema text (last_row tree []) top_names → (old new : State) (rows : List Row) → old.now.schema ≡ schema → Shown text [] old new rows → has_rows rows ≡ has_rows (old.now.trees tree)
-answers_some tree bare schema text asks old new rows has h =
-    last_some (old.now.trees tree) rows (last_is tree [] any_row (λ r. refl) bare old.now.trees rows
-    ((reads_as text [] old new schema has (select (last_row tree []) top_names) asks.means.is asks.means.plain asks.unlisted rows h).answer Null))

@@ -1,6 +1,7 @@
 pub mod Entries
 pub mod Tables
 pub mod Seen
+pub mod Effect
 pub mod Store
 pub mod Ready
 pub mod View

@@ -1,25 +1,20 @@
-//! The statements, one function each.
+//! The statements: a row is put by one call, and rows are asked for by another.
 
 ghost use Rattle.std.specs.Prelude.{◌≡◌, ◌<◌, ◌≤◌, ◌^◌, ℕ, pos, true, false, [], Err, OnOk};
-ghost use Rattle.std.specs.Prelude.{IfOk, IsTrue};
+ghost use Rattle.std.specs.Prelude.{IfOk, IfErr, IsTrue};
 ghost use Rattle.sqlite.specs.Held.{state};
 ghost use Rattle.sqlite.specs.Tree.{Trees};
-ghost use Rattle.sqlite.specs.State.{HasCleanDisk, Survives, Executes, CommitsBy, Shown};
-ghost use Rattle.sqlite.specs.Values.{bound};
-ghost use Rattle.sqlite.specs.Given.{IsPlain};
-ghost use Rattle.sqlite.specs.Listing.{understood};
-ghost use Rattle.px_sql.specs.Tables.{schema_3};
-ghost use Rattle.px_sql.specs.inner.Tables.{put_meta, put_slot, put_floor, put_learned, meta_params, slot_params};
-ghost use Rattle.px_sql.specs.inner.Tables.{floor_params, learned_params};
-ghost use Rattle.px_sql.specs.Seen.{slot_columns, learned_columns};
-ghost use Rattle.px_sql.specs.inner.Seen.{slot_row, learned_row};
-ghost use Rattle.px_sql.specs.Seen.{meta_columns, meta_row, floor_columns};
-ghost use Rattle.px_sql.specs.inner.Seen.{floor_row};
-ghost use Rattle.px_sql.specs.inner.Effect.{IsIdle, Puts, IsSettled, LeavesOne, LeavesOld, Serves};
+ghost use Rattle.sqlite.specs.State.{HasCleanDisk, Survives, Executes, CommitsBy};
+ghost use Rattle.sqlite.specs.State.{Shown, FailsToQuery, CommitsShowing};
+ghost use Rattle.px_sql.specs.Effect.{IsIdle, LeavesOld, Serves};
+ghost use Rattle.px_sql.specs.Formats.{has_table};
+ghost use Rattle.px_sql.specs.Adopting.{Began};
+ghost use Rattle.px_sql.specs.inner.Questions.{asked_by, given_with, table_of, Looked};
+ghost use Rattle.px_sql.specs.inner.NewRows.{text_of, params_of, AreIntegers, Wrote};
 ghost use Rattle.px_sql.specs.declared.reading.TheConstants.{INTEGERS};
 
+use crate::formats::Format;
 use sqlite::{Alter, Connection, Error, ErrorCode, Row, params};
-use sqlite_value::value::ValueRef;
 
 /// Whom a store belongs to.
 #[derive(Clone, Copy, Debug, PartialEq, Eq)]
@@ -64,228 +59,188 @@ pub(crate) fn cause_of<S: Alter>(conn: &mut Connection<S>, error: Error) -> Trou
     }
 }
 
-fn run_meta<S: Alter>(
-    conn: &mut Connection<S>,
-    identity: Identity,
-    round: u64,
-    number: u64,
-) -> Result<usize, Error>
-    requires round { round < INTEGERS }
-    requires number { number < INTEGERS }
-    ensures runs { HasCleanDisk (state S.Store conn.new) →
-        Executes put_meta (meta_params identity.cluster identity.members identity.node round number)
-        (state S.Store conn.old) (state S.Store conn.new) result }
-    ensures survives { Survives (state S.Store conn.old) (state S.Store conn.new) (CommitsBy put_meta
-        (meta_params identity.cluster identity.members identity.node round number) (state S.Store conn.old)) }
-{
-    let round = signed(round);
-    let number = signed(number);
-    conn.execute(
-        "INSERT OR REPLACE INTO meta VALUES (1, 3, ?1, ?2, ?3, ?4, ?5)",
-        params![
-            identity.cluster,
-            u32::from(identity.members),
-            u32::from(identity.node),
-            round,
-            number
-        ],
-    )
+/// A row that is put in the place of the one with its key. The entry of a slot, or of what is learned, stands beside
+/// it, as bytes.
+#[derive(Clone, Copy)]
+pub(crate) enum NewRow {
+    /// The row for the whole node, with what identifies the node beside it.
+    Meta {
+        round: u64,
+        number: u64,
+    },
+    Slot {
+        position: u32,
+        promised: u64,
+        ballot: u64,
+    },
+    Floor {
+        ballot: u64,
+    },
+    Learned {
+        position: u32,
+    },
 }
 
-pub(crate) fn put_meta<S: Alter>(
+/// Runs the statement that puts a row.
+fn run<S: Alter>(
     conn: &mut Connection<S>,
     identity: Identity,
-    round: u64,
-    number: u64,
-) -> Result<(), Trouble>
-    requires round { round < INTEGERS }
-    requires number { number < INTEGERS }
-    ensures ok { HasCleanDisk (state S.Store conn.new) → IsIdle (state S.Store conn.old) →
-        OnOk result (Puts 0 1 meta_columns (meta_row 3 identity.cluster identity.members identity.node round number)
-        (state S.Store conn.old).now.trees (state S.Store conn.new).now.trees) }
-    ensures settled { HasCleanDisk (state S.Store conn.new) → IsIdle (state S.Store conn.old) →
-        OnOk result (IsSettled (state S.Store conn.new)) }
-    ensures memory { HasCleanDisk (state S.Store conn.new) → IsIdle (state S.Store conn.old) →
-        result ≡ Err Trouble.Memory → IsSettled (state S.Store conn.new) }
-    ensures same { HasCleanDisk (state S.Store conn.new) → IsIdle (state S.Store conn.old) →
-        result ≡ Err Trouble.Memory → (state S.Store conn.new).now ≡ (state S.Store conn.old).now }
-    ensures start { IsIdle (state S.Store conn.old) → IsTrue (state S.Store conn.old).is_open →
-        (state S.Store conn.old).now ≡ (state S.Store conn.old).committed }
-    ensures clean { HasCleanDisk (state S.Store conn.new) → HasCleanDisk (state S.Store conn.old) }
-    ensures crash { HasCleanDisk (state S.Store conn.new) → IsIdle (state S.Store conn.old) →
-        LeavesOne 0 1 meta_columns (meta_row 3 identity.cluster identity.members identity.node round number)
-        (state S.Store conn.old) (state S.Store conn.new) }
+    row: NewRow,
+    bytes: &[u8],
+) -> Result<usize, Error>
+    requires fits { AreIntegers row }
+    ensures runs { HasCleanDisk (state S.Store conn.new) → Executes (text_of row) (params_of identity row bytes.now)
+        (state S.Store conn.old) (state S.Store conn.new) result }
+    ensures survives { Survives (state S.Store conn.old) (state S.Store conn.new)
+        (CommitsBy (text_of row) (params_of identity row bytes.now) (state S.Store conn.old)) }
 {
-    let _settled = conn.is_autocommit();
-    match run_meta(conn, identity, round, number) {
-        Ok(_) => Ok(()),
-        Err(error) => Err(cause_of(conn, error)),
+    match row {
+        NewRow::Meta { round, number } => {
+            let round = signed(round);
+            let number = signed(number);
+            conn.execute(
+                "INSERT OR REPLACE INTO meta VALUES (1, 3, ?1, ?2, ?3, ?4, ?5)",
+                params![
+                    identity.cluster,
+                    u32::from(identity.members),
+                    u32::from(identity.node),
+                    round,
+                    number
+                ],
+            )
+        }
+        NewRow::Slot {
+            position,
+            promised,
+            ballot,
+        } => {
+            let promised = signed(promised);
+            let ballot = signed(ballot);
+            conn.execute(
+                "INSERT OR REPLACE INTO slots VALUES (?1, ?2, ?3, ?4)",
+                params![position, promised, ballot, bytes],
+            )
+        }
+        NewRow::Floor { ballot } => {
+            let ballot = signed(ballot);
+            conn.execute(
+                "INSERT OR REPLACE INTO floor VALUES (1, ?1)",
+                params![ballot],
+            )
+        }
+        NewRow::Learned { position } => conn.execute(
+            "INSERT OR REPLACE INTO learned VALUES (?1, ?2)",
+            params![position, bytes],
+        ),
     }
 }
 
-fn run_slot<S: Alter>(
+/// Puts a row, in a transaction of its own.
+pub(crate) fn put<S: Alter>(
     conn: &mut Connection<S>,
-    position: u32,
-    promised: u64,
-    ballot: u64,
-    entry: &[u8],
-) -> Result<usize, Error>
-    requires promised { promised < INTEGERS }
-    requires ballot { ballot < INTEGERS }
-    ensures runs { HasCleanDisk (state S.Store conn.new) →
-        Executes put_slot (slot_params position promised ballot entry.now) (state S.Store conn.old)
-        (state S.Store conn.new) result }
-    ensures survives { Survives (state S.Store conn.old) (state S.Store conn.new) (CommitsBy put_slot
-        (slot_params position promised ballot entry.now) (state S.Store conn.old)) }
-{
-    let promised = signed(promised);
-    let ballot = signed(ballot);
-    conn.execute(
-        "INSERT OR REPLACE INTO slots VALUES (?1, ?2, ?3, ?4)",
-        params![position, promised, ballot, entry],
-    )
-}
-
-pub(crate) fn put_slot<S: Alter>(
-    conn: &mut Connection<S>,
-    position: u32,
-    promised: u64,
-    ballot: u64,
-    entry: &[u8],
+    identity: Identity,
+    row: NewRow,
+    bytes: &[u8],
 ) -> Result<(), Trouble>
-    requires promised { promised < INTEGERS }
-    requires ballot { ballot < INTEGERS }
-    ensures ok { HasCleanDisk (state S.Store conn.new) → IsIdle (state S.Store conn.old) →
-        OnOk result (Puts 1 position slot_columns (slot_row position promised ballot entry.now)
-        (state S.Store conn.old).now.trees (state S.Store conn.new).now.trees) }
-    ensures settled { HasCleanDisk (state S.Store conn.new) → IsIdle (state S.Store conn.old) →
-        OnOk result (IsSettled (state S.Store conn.new)) }
-    ensures memory { HasCleanDisk (state S.Store conn.new) → IsIdle (state S.Store conn.old) →
-        result ≡ Err Trouble.Memory → IsSettled (state S.Store conn.new) }
-    ensures same { HasCleanDisk (state S.Store conn.new) → IsIdle (state S.Store conn.old) →
-        result ≡ Err Trouble.Memory → (state S.Store conn.new).now ≡ (state S.Store conn.old).now }
-    ensures start { IsIdle (state S.Store conn.old) → IsTrue (state S.Store conn.old).is_open →
-        (state S.Store conn.old).now ≡ (state S.Store conn.old).committed }
+    requires fits { AreIntegers row }
     ensures clean { HasCleanDisk (state S.Store conn.new) → HasCleanDisk (state S.Store conn.old) }
-    ensures crash { HasCleanDisk (state S.Store conn.new) → IsIdle (state S.Store conn.old) →
-        LeavesOne 1 position slot_columns (slot_row position promised ballot entry.now) (state S.Store conn.old)
+    ensures wrote { HasCleanDisk (state S.Store conn.new) → IsIdle (state S.Store conn.old) →
+        IsTrue (state S.Store conn.old).is_open → Wrote identity row bytes.now result (state S.Store conn.old)
         (state S.Store conn.new) }
 {
     let _settled = conn.is_autocommit();
-    match run_slot(conn, position, promised, ballot, entry) {
+    match run(conn, identity, row, bytes) {
         Ok(_) => Ok(()),
         Err(error) => Err(cause_of(conn, error)),
     }
 }
 
-fn run_floor<S: Alter>(conn: &mut Connection<S>, ballot: u64) -> Result<usize, Error>
-    requires ballot { ballot < INTEGERS }
-    ensures runs { HasCleanDisk (state S.Store conn.new) → Executes put_floor (floor_params ballot)
-        (state S.Store conn.old) (state S.Store conn.new) result }
-    ensures survives { Survives (state S.Store conn.old) (state S.Store conn.new) (CommitsBy put_floor
-        (floor_params ballot) (state S.Store conn.old)) }
-{
-    let ballot = signed(ballot);
-    conn.execute(
-        "INSERT OR REPLACE INTO floor VALUES (1, ?1)",
-        params![ballot],
-    )
+/// A statement that only reads.
+#[derive(Clone, Copy)]
+pub(crate) enum Question {
+    /// The row for the whole node.
+    Meta,
+    Floor,
+    Slot { position: u32 },
+    Learned { position: u32 },
+    /// The key of the last slot with a proposal.
+    Top,
+    /// The key of the last learned entry.
+    End,
+    /// The key of the last slot.
+    LastSlot,
 }
 
-pub(crate) fn put_floor<S: Alter>(conn: &mut Connection<S>, ballot: u64) -> Result<(), Trouble>
-    requires ballot { ballot < INTEGERS }
-    ensures ok { HasCleanDisk (state S.Store conn.new) → IsIdle (state S.Store conn.old) →
-        OnOk result (Puts 2 1 floor_columns (floor_row ballot) (state S.Store conn.old).now.trees
-        (state S.Store conn.new).now.trees) }
-    ensures settled { HasCleanDisk (state S.Store conn.new) → IsIdle (state S.Store conn.old) →
-        OnOk result (IsSettled (state S.Store conn.new)) }
-    ensures memory { HasCleanDisk (state S.Store conn.new) → IsIdle (state S.Store conn.old) →
-        result ≡ Err Trouble.Memory → IsSettled (state S.Store conn.new) }
-    ensures same { HasCleanDisk (state S.Store conn.new) → IsIdle (state S.Store conn.old) →
-        result ≡ Err Trouble.Memory → (state S.Store conn.new).now ≡ (state S.Store conn.old).now }
-    ensures start { IsIdle (state S.Store conn.old) → IsTrue (state S.Store conn.old).is_open →
-        (state S.Store conn.old).now ≡ (state S.Store conn.old).committed }
-    ensures clean { HasCleanDisk (state S.Store conn.new) → HasCleanDisk (state S.Store conn.old) }
-    ensures crash { HasCleanDisk (state S.Store conn.new) → IsIdle (state S.Store conn.old) →
-        LeavesOne 2 1 floor_columns (floor_row ballot) (state S.Store conn.old) (state S.Store conn.new) }
-{
-    let _settled = conn.is_autocommit();
-    match run_floor(conn, ballot) {
-        Ok(_) => Ok(()),
-        Err(error) => Err(cause_of(conn, error)),
+impl Question {
+    /// The table that it asks, the first being 0.
+    pub(crate) fn table(self) -> u64
+        ensures { result ≡ table_of self }
+    {
+        match self {
+            Question::Meta => 0,
+            Question::Floor => 2,
+            Question::Slot { position: _ } => 1,
+            Question::Learned { position: _ } => 3,
+            Question::Top => 1,
+            Question::End => 3,
+            Question::LastSlot => 1,
+        }
     }
 }
 
-fn run_learned<S: Alter>(
-    conn: &mut Connection<S>,
-    position: u32,
-    entry: &[u8],
-) -> Result<usize, Error>
-    ensures runs { HasCleanDisk (state S.Store conn.new) → Executes put_learned (learned_params position entry.now)
-        (state S.Store conn.old) (state S.Store conn.new) result }
-    ensures survives { Survives (state S.Store conn.old) (state S.Store conn.new) (CommitsBy put_learned
-        (learned_params position entry.now) (state S.Store conn.old)) }
+/// Runs the statement.
+fn ask<S: Alter>(conn: &mut Connection<S>, question: Question) -> Result<Vec<Row>, Error>
+    ensures ok { HasCleanDisk (state S.Store conn.new) → IfOk result (λ rows. Shown (asked_by question)
+        (given_with question) (state S.Store conn.old) (state S.Store conn.new) rows.items) }
+    ensures err { HasCleanDisk (state S.Store conn.new) → IfErr result (FailsToQuery (asked_by question)
+        (given_with question) (state S.Store conn.old) (state S.Store conn.new)) }
+    ensures survives { Survives (state S.Store conn.old) (state S.Store conn.new)
+        (CommitsShowing (asked_by question) (given_with question) (state S.Store conn.old)) }
 {
-    conn.execute(
-        "INSERT OR REPLACE INTO learned VALUES (?1, ?2)",
-        params![position, entry],
-    )
-}
-
-pub(crate) fn put_learned<S: Alter>(
-    conn: &mut Connection<S>,
-    position: u32,
-    entry: &[u8],
-) -> Result<(), Trouble>
-    ensures ok { HasCleanDisk (state S.Store conn.new) → IsIdle (state S.Store conn.old) →
-        OnOk result (Puts 3 position learned_columns (learned_row position entry.now)
-        (state S.Store conn.old).now.trees (state S.Store conn.new).now.trees) }
-    ensures settled { HasCleanDisk (state S.Store conn.new) → IsIdle (state S.Store conn.old) →
-        OnOk result (IsSettled (state S.Store conn.new)) }
-    ensures memory { HasCleanDisk (state S.Store conn.new) → IsIdle (state S.Store conn.old) →
-        result ≡ Err Trouble.Memory → IsSettled (state S.Store conn.new) }
-    ensures same { HasCleanDisk (state S.Store conn.new) → IsIdle (state S.Store conn.old) →
-        result ≡ Err Trouble.Memory → (state S.Store conn.new).now ≡ (state S.Store conn.old).now }
-    ensures start { IsIdle (state S.Store conn.old) → IsTrue (state S.Store conn.old).is_open →
-        (state S.Store conn.old).now ≡ (state S.Store conn.old).committed }
-    ensures clean { HasCleanDisk (state S.Store conn.new) → HasCleanDisk (state S.Store conn.old) }
-    ensures crash { HasCleanDisk (state S.Store conn.new) → IsIdle (state S.Store conn.old) →
-        LeavesOne 3 position learned_columns (learned_row position entry.now) (state S.Store conn.old)
-        (state S.Store conn.new) }
-{
-    let _settled = conn.is_autocommit();
-    match run_learned(conn, position, entry) {
-        Ok(_) => Ok(()),
-        Err(error) => Err(cause_of(conn, error)),
+    match question {
+        Question::Meta => conn.query_all(
+            "SELECT id, format, cluster, members, node, round, number FROM meta WHERE id = ?1",
+            params![1u32],
+        ),
+        Question::Floor => conn.query_all(
+            "SELECT id, ballot FROM floor WHERE id = ?1",
+            params![1u32],
+        ),
+        Question::Slot { position } => conn.query_all(
+            "SELECT position, promised, ballot, entry FROM slots WHERE position = ?1",
+            params![position],
+        ),
+        Question::Learned { position } => conn.query_all(
+            "SELECT position, entry FROM learned WHERE position = ?1",
+            params![position],
+        ),
+        Question::Top => conn.query_all(
+            "SELECT position FROM slots WHERE ballot > 0 ORDER BY position DESC LIMIT 1",
+            &[],
+        ),
+        Question::End => conn.query_all(
+            "SELECT position FROM learned ORDER BY position DESC LIMIT 1",
+            &[],
+        ),
+        Question::LastSlot => conn.query_all(
+            "SELECT position FROM slots ORDER BY position DESC LIMIT 1",
+            &[],
+        ),
     }
 }
 
-/// The answer of a statement that only reads.
+/// Reads rows of a store that has their table.
 pub(crate) fn get<S: Alter>(
     conn: &mut Connection<S>,
-    sql: &str,
-    params: &[ValueRef<'_>],
+    question: Question,
 ) -> Result<Vec<Row>, Trouble>
-    requires plain { IsPlain (understood schema_3 sql.now) }
-    ensures shown { HasCleanDisk (state S.Store conn.new) →
-        IfOk result (λ rows. Shown sql.now (bound params.now) (state S.Store conn.old)
-        (state S.Store conn.new) rows.items) }
-    ensures settled { HasCleanDisk (state S.Store conn.new) → IsIdle (state S.Store conn.old) →
-        OnOk result (IsSettled (state S.Store conn.new)) }
-    ensures stays { HasCleanDisk (state S.Store conn.new) → IsIdle (state S.Store conn.old) →
-        OnOk result ((state S.Store conn.new).now ≡ (state S.Store conn.old).now) }
-    ensures memory { HasCleanDisk (state S.Store conn.new) → IsIdle (state S.Store conn.old) →
-        result ≡ Err Trouble.Memory → IsSettled (state S.Store conn.new) }
-    ensures same { HasCleanDisk (state S.Store conn.new) → IsIdle (state S.Store conn.old) →
-        result ≡ Err Trouble.Memory → (state S.Store conn.new).now ≡ (state S.Store conn.old).now }
-    ensures start { IsIdle (state S.Store conn.old) → IsTrue (state S.Store conn.old).is_open →
-        (state S.Store conn.old).now ≡ (state S.Store conn.old).committed }
     ensures clean { HasCleanDisk (state S.Store conn.new) → HasCleanDisk (state S.Store conn.old) }
-    ensures crash { HasCleanDisk (state S.Store conn.new) → IsIdle (state S.Store conn.old) →
-        LeavesOld (state S.Store conn.old) (state S.Store conn.new) }
+    ensures looked { HasCleanDisk (state S.Store conn.new) → (f : Format) → Began f (state S.Store conn.old) →
+        has_table (table_of question) f ≡ true → Looked question result (state S.Store conn.old)
+        (state S.Store conn.new) }
 {
     let _settled = conn.is_autocommit();
-    match conn.query_all(sql, params) {
+    match ask(conn, question) {
         Ok(rows) => Ok(rows),
         Err(error) => Err(cause_of(conn, error)),
     }

@@ -2,27 +2,22 @@
 ghost use Rattle.std.specs.Prelude.{◌≡◌, ◌<◌, ◌≤◌, ◌^◌, ℕ, false, [], ◌∷◌, length};
 ghost use Rattle.std.specs.Prelude.{◌⊎◌, IfOk, OnOk, OnErr, IfErr, Ok, Err, Some, None, true, ◌&&◌, ◌||◌};
 ghost use Rattle.sqlite.specs.Held.{state};
-ghost use Rattle.sqlite.specs.State.{HasCleanDisk, Shown};
-ghost use Rattle.sqlite.specs.Values.{bound};
-ghost use Rattle.sqlite.specs.Given.{IsPlain};
-ghost use Rattle.sqlite.specs.Listing.{understood};
+ghost use Rattle.sqlite.specs.State.{HasCleanDisk};
 ghost use Rattle.sqlite_value.specs.Order.{column};
-ghost use Rattle.px_sql.specs.inner.Tables.{get_meta, get_floor, get_last, get_end, key_params};
 ghost use Rattle.px_sql.specs.Seen.{seen, meta_columns, floor_columns, number_at, number_in};
-ghost use Rattle.px_sql.specs.inner.Effect.{LeavesOld, IsAlike};
-ghost use Rattle.px_sql.specs.Formats.{schema_at, trees_at};
+ghost use Rattle.px_sql.specs.Effect.{LeavesOld, IsAlike, IsStill};
+ghost use Rattle.px_sql.specs.Formats.{trees_at, has_table};
 ghost use Rattle.px_sql.specs.Adopting.{Began, IsSame, IsVerdict};
-ghost use Rattle.px_sql.specs.Judging.{has_rows, says_format, says_member, says_numbers, is_member_of};
-ghost use Rattle.px_sql.specs.inner.Judging.{rows_in};
+ghost use Rattle.px_sql.specs.Judging.{has_rows, rows_in, says_format, says_member, says_numbers, is_member_of};
 ghost use Rattle.px_sql.specs.Judging.{is_owner, row_refusal, refusal_of};
+ghost use Rattle.px_sql.specs.inner.Questions.{Answers, table_of};
 ghost use Rattle.px_sql.specs.declared.reading.TheConstants.{NUMBERS};
 
-use crate::calls::{Identity, Trouble, cause_of};
+use crate::calls::{Identity, Question, Trouble, get};
 use crate::fault::AdoptFault;
 use crate::formats::Format;
 use crate::reading::{NUMBERS, ReadFault, floor_in_rows, number};
-use sqlite::{Alter, Connection, Row, params};
-use sqlite_value::value::ValueRef;
+use sqlite::{Alter, Connection, Row};
 
 /// What the row for the whole node says, or nothing.
 #[derive(Clone, Copy, Debug, PartialEq, Eq)]
@@ -35,31 +30,31 @@ pub(crate) struct Found {
     pub(crate) number: u64,
 }
 
-/// The answer of a statement that only reads.
-fn look<S: Alter>(
+/// The rows that answer a question, where the format has its table.
+pub(crate) fn look<S: Alter>(
     conn: &mut Connection<S>,
-    sql: &str,
-    params: &[ValueRef<'_>],
-) -> Result<Vec<Row>, AdoptFault>
+    format: Format,
+    question: Question,
+) -> Result<Option<Vec<Row>>, AdoptFault>
     ensures why { OnErr result ((result ≡ Err AdoptFault.Memory) ⊎ (result ≡ Err AdoptFault.Failed)) }
-    ensures shown { HasCleanDisk (state S.Store conn.new) →
-        IfOk result (λ rows. Shown sql.now (bound params.now) (state S.Store conn.old)
-        (state S.Store conn.new) rows.items) }
+    ensures rows { HasCleanDisk (state S.Store conn.new) → Began format (state S.Store conn.old) →
+        IfOk result (λ rows. Answers question (trees_at format (state S.Store conn.old).now.trees) (rows_in rows)) }
     ensures clean { HasCleanDisk (state S.Store conn.new) → HasCleanDisk (state S.Store conn.old) }
-    ensures stays { HasCleanDisk (state S.Store conn.new) →
-        IsPlain (understood (state S.Store conn.old).now.schema sql.now) →
-        (state S.Store conn.old).in_transaction ≡ false → OnOk result (IsSame (state S.Store conn.old)
-        (state S.Store conn.new)) }
-    ensures crash { HasCleanDisk (state S.Store conn.new) →
-        IsPlain (understood (state S.Store conn.old).now.schema sql.now) →
+    ensures stays { HasCleanDisk (state S.Store conn.new) → Began format (state S.Store conn.old) →
+        OnOk result (IsSame (state S.Store conn.old) (state S.Store conn.new)) }
+    ensures still { HasCleanDisk (state S.Store conn.new) → Began format (state S.Store conn.old) →
+        has_table (table_of question) format ≡ true →
+        OnOk result (IsStill (state S.Store conn.old) (state S.Store conn.new)) }
+    ensures crash { HasCleanDisk (state S.Store conn.new) → Began format (state S.Store conn.old) →
         LeavesOld (state S.Store conn.old) (state S.Store conn.new) }
 {
-    match conn.query_all(sql, params) {
-        Ok(rows) => Ok(rows),
-        Err(error) => match cause_of(conn, error) {
-            Trouble::Memory => Err(AdoptFault::Memory),
-            Trouble::Failed => Err(AdoptFault::Failed),
-        },
+    if !format.has_table(question.table()) {
+        return Ok(None);
+    }
+    match get(conn, question) {
+        Ok(rows) => Ok(Some(rows)),
+        Err(Trouble::Memory) => Err(AdoptFault::Memory),
+        Err(Trouble::Failed) => Err(AdoptFault::Failed),
     }
 }
 
@@ -115,103 +110,6 @@ fn found_in_row(row: &Row) -> Result<Found, ReadFault>
     })
 }
 
-fn meta_asked<S: Alter>(conn: &mut Connection<S>) -> Result<Vec<Row>, AdoptFault>
-    ensures why { OnErr result ((result ≡ Err AdoptFault.Memory) ⊎ (result ≡ Err AdoptFault.Failed)) }
-    ensures shown { HasCleanDisk (state S.Store conn.new) →
-        IfOk result (λ rows. Shown get_meta (key_params 1) (state S.Store conn.old)
-        (state S.Store conn.new) rows.items) }
-    ensures clean { HasCleanDisk (state S.Store conn.new) → HasCleanDisk (state S.Store conn.old) }
-    ensures stays { HasCleanDisk (state S.Store conn.new) →
-        IsPlain (understood (state S.Store conn.old).now.schema get_meta) →
-        (state S.Store conn.old).in_transaction ≡ false → OnOk result (IsSame (state S.Store conn.old)
-        (state S.Store conn.new)) }
-    ensures crash { HasCleanDisk (state S.Store conn.new) →
-        IsPlain (understood (state S.Store conn.old).now.schema get_meta) →
-        LeavesOld (state S.Store conn.old) (state S.Store conn.new) }
-{
-    look(
-        conn,
-        "SELECT id, format, cluster, members, node, round, number FROM meta WHERE id = ?1",
-        params![1u32],
-    )
-}
-
-fn meta_rows<S: Alter>(conn: &mut Connection<S>, format: Format) -> Result<Vec<Row>, AdoptFault>
-    ensures why { OnErr result ((result ≡ Err AdoptFault.Memory) ⊎ (result ≡ Err AdoptFault.Failed)) }
-    ensures rows { HasCleanDisk (state S.Store conn.new) → Began format (state S.Store conn.old) →
-        IfOk result (λ rows. IsAlike (seen meta_columns ((state S.Store conn.old).now.trees 0) 1) rows.items) }
-    ensures clean { HasCleanDisk (state S.Store conn.new) → HasCleanDisk (state S.Store conn.old) }
-    ensures stays { HasCleanDisk (state S.Store conn.new) → Began format (state S.Store conn.old) →
-        OnOk result (IsSame (state S.Store conn.old) (state S.Store conn.new)) }
-    ensures crash { HasCleanDisk (state S.Store conn.new) → Began format (state S.Store conn.old) →
-        LeavesOld (state S.Store conn.old) (state S.Store conn.new) }
-{
-    meta_asked(conn)
-}
-
-fn floor_asked<S: Alter>(conn: &mut Connection<S>) -> Result<Vec<Row>, AdoptFault>
-    ensures why { OnErr result ((result ≡ Err AdoptFault.Memory) ⊎ (result ≡ Err AdoptFault.Failed)) }
-    ensures shown { HasCleanDisk (state S.Store conn.new) →
-        IfOk result (λ rows. Shown get_floor (key_params 1) (state S.Store conn.old)
-        (state S.Store conn.new) rows.items) }
-    ensures clean { HasCleanDisk (state S.Store conn.new) → HasCleanDisk (state S.Store conn.old) }
-    ensures stays { HasCleanDisk (state S.Store conn.new) →
-        IsPlain (understood (state S.Store conn.old).now.schema get_floor) →
-        (state S.Store conn.old).in_transaction ≡ false → OnOk result (IsSame (state S.Store conn.old)
-        (state S.Store conn.new)) }
-    ensures crash { HasCleanDisk (state S.Store conn.new) →
-        IsPlain (understood (state S.Store conn.old).now.schema get_floor) →
-        LeavesOld (state S.Store conn.old) (state S.Store conn.new) }
-{
-    look(
-        conn,
-        "SELECT id, ballot FROM floor WHERE id = ?1",
-        params![1u32],
-    )
-}
-
-/// The rows of the floor, where the format has that table.
-fn floor_rows<S: Alter>(
-    conn: &mut Connection<S>,
-    format: Format,
-) -> Result<Option<Vec<Row>>, AdoptFault>
-    ensures why { OnErr result ((result ≡ Err AdoptFault.Memory) ⊎ (result ≡ Err AdoptFault.Failed)) }
-    ensures rows { HasCleanDisk (state S.Store conn.new) → Began format (state S.Store conn.old) →
-        IfOk result (λ rows. IsAlike (seen floor_columns
-        (trees_at format (state S.Store conn.old).now.trees 2) 1) (rows_in rows)) }
-    ensures clean { HasCleanDisk (state S.Store conn.new) → HasCleanDisk (state S.Store conn.old) }
-    ensures stays { HasCleanDisk (state S.Store conn.new) → Began format (state S.Store conn.old) →
-        OnOk result (IsSame (state S.Store conn.old) (state S.Store conn.new)) }
-    ensures crash { HasCleanDisk (state S.Store conn.new) → Began format (state S.Store conn.old) →
-        LeavesOld (state S.Store conn.old) (state S.Store conn.new) }
-{
-    if !format.has_table(2) {
-        return Ok(None);
-    }
-    let rows = floor_asked(conn)?;
-    Ok(Some(rows))
-}
-
-fn last_slot<S: Alter>(conn: &mut Connection<S>) -> Result<Vec<Row>, AdoptFault>
-    ensures why { OnErr result ((result ≡ Err AdoptFault.Memory) ⊎ (result ≡ Err AdoptFault.Failed)) }
-    ensures shown { HasCleanDisk (state S.Store conn.new) →
-        IfOk result (λ rows. Shown get_last [] (state S.Store conn.old) (state S.Store conn.new) rows.items) }
-    ensures clean { HasCleanDisk (state S.Store conn.new) → HasCleanDisk (state S.Store conn.old) }
-    ensures stays { HasCleanDisk (state S.Store conn.new) →
-        IsPlain (understood (state S.Store conn.old).now.schema get_last) →
-        (state S.Store conn.old).in_transaction ≡ false → OnOk result (IsSame (state S.Store conn.old)
-        (state S.Store conn.new)) }
-    ensures crash { HasCleanDisk (state S.Store conn.new) →
-        IsPlain (understood (state S.Store conn.old).now.schema get_last) →
-        LeavesOld (state S.Store conn.old) (state S.Store conn.new) }
-{
-    look(
-        conn,
-        "SELECT position FROM slots ORDER BY position DESC LIMIT 1",
-        &[],
-    )
-}
-
 /// Whether the store has a slot.
 fn some_slot<S: Alter>(conn: &mut Connection<S>, format: Format) -> Result<bool, AdoptFault>
     ensures why { OnErr result ((result ≡ Err AdoptFault.Memory) ⊎ (result ≡ Err AdoptFault.Failed)) }
@@ -223,28 +121,8 @@ fn some_slot<S: Alter>(conn: &mut Connection<S>, format: Format) -> Result<bool,
     ensures crash { HasCleanDisk (state S.Store conn.new) → Began format (state S.Store conn.old) →
         LeavesOld (state S.Store conn.old) (state S.Store conn.new) }
 {
-    let rows = last_slot(conn)?;
-    Ok(has_rows(rows.as_slice()))
-}
-
-fn last_entry<S: Alter>(conn: &mut Connection<S>) -> Result<Vec<Row>, AdoptFault>
-    ensures why { OnErr result ((result ≡ Err AdoptFault.Memory) ⊎ (result ≡ Err AdoptFault.Failed)) }
-    ensures shown { HasCleanDisk (state S.Store conn.new) →
-        IfOk result (λ rows. Shown get_end [] (state S.Store conn.old) (state S.Store conn.new) rows.items) }
-    ensures clean { HasCleanDisk (state S.Store conn.new) → HasCleanDisk (state S.Store conn.old) }
-    ensures stays { HasCleanDisk (state S.Store conn.new) →
-        IsPlain (understood (state S.Store conn.old).now.schema get_end) →
-        (state S.Store conn.old).in_transaction ≡ false → OnOk result (IsSame (state S.Store conn.old)
-        (state S.Store conn.new)) }
-    ensures crash { HasCleanDisk (state S.Store conn.new) →
-        IsPlain (understood (state S.Store conn.old).now.schema get_end) →
-        LeavesOld (state S.Store conn.old) (state S.Store conn.new) }
-{
-    look(
-        conn,
-        "SELECT position FROM learned ORDER BY position DESC LIMIT 1",
-        &[],
-    )
+    let rows = look(conn, format, Question::LastSlot)?;
+    Ok(has_rows(rows_in(&rows)))
 }
 
 /// Whether the store has a learned entry.
@@ -258,11 +136,8 @@ fn some_entry<S: Alter>(conn: &mut Connection<S>, format: Format) -> Result<bool
     ensures crash { HasCleanDisk (state S.Store conn.new) → Began format (state S.Store conn.old) →
         LeavesOld (state S.Store conn.old) (state S.Store conn.new) }
 {
-    if !format.has_table(3) {
-        return Ok(false);
-    }
-    let rows = last_entry(conn)?;
-    Ok(has_rows(rows.as_slice()))
+    let rows = look(conn, format, Question::End)?;
+    Ok(has_rows(rows_in(&rows)))
 }
 
 /// Whether there is a row.
@@ -278,7 +153,7 @@ fn has_rows(rows: &[Row]) -> bool
 /// What a store holds, as far as taking it looks at that.
 #[derive(Drop)]
 pub(crate) struct Read {
-    meta: Vec<Row>,
+    meta: Option<Vec<Row>>,
     floor: Option<Vec<Row>>,
     has_slot: bool,
     has_entry: bool,
@@ -290,7 +165,7 @@ pub(crate) fn read_store<S: Alter>(
     format: Format,
 ) -> Result<Read, AdoptFault>
     ensures rows { HasCleanDisk (state S.Store conn.new) → Began format (state S.Store conn.old) →
-        IfOk result (λ r. IsAlike (seen meta_columns ((state S.Store conn.old).now.trees 0) 1) r.meta.items) }
+        IfOk result (λ r. IsAlike (seen meta_columns ((state S.Store conn.old).now.trees 0) 1) (rows_in r.meta)) }
     ensures floors { HasCleanDisk (state S.Store conn.new) → Began format (state S.Store conn.old) →
         IfOk result (λ r. IsAlike (seen floor_columns (trees_at format (state S.Store conn.old).now.trees 2) 1)
         (rows_in r.floor)) }
@@ -305,8 +180,8 @@ pub(crate) fn read_store<S: Alter>(
     ensures crash { HasCleanDisk (state S.Store conn.new) → Began format (state S.Store conn.old) →
         LeavesOld (state S.Store conn.old) (state S.Store conn.new) }
 {
-    let meta = meta_rows(conn, format)?;
-    let floor = floor_rows(conn, format)?;
+    let meta = look(conn, format, Question::Meta)?;
+    let floor = look(conn, format, Question::Floor)?;
     let has_slot = some_slot(conn, format)?;
     let has_entry = some_entry(conn, format)?;
     Ok(Read {
@@ -391,7 +266,7 @@ fn judge_rows(
 }
 
 /// The rows that were read, if that table was asked.
-fn rows_in(rows: &Option<Vec<Row>>) -> &[Row]
+pub(crate) fn rows_in(rows: &Option<Vec<Row>>) -> &[Row]
     ensures { result.now ≡ rows_in rows.now }
 {
     match rows {
@@ -402,18 +277,23 @@ fn rows_in(rows: &Option<Vec<Row>>) -> &[Row]
 
 /// Judges a store: 73, 72, 71, in this order.
 pub(crate) fn judge(read: &Read, format: u64, identity: Identity) -> Result<Found, AdoptFault>
-    ensures taken { OnOk result (refusal_of format identity read.now.meta.items (rows_in read.now.floor)
+    ensures taken { OnOk result (refusal_of format identity (rows_in read.now.meta) (rows_in read.now.floor)
         (read.now.has_slot || read.now.has_entry) ≡ None) }
     ensures refused { IfErr result (λ e. IsVerdict e →
-        refusal_of format identity read.now.meta.items (rows_in read.now.floor)
+        refusal_of format identity (rows_in read.now.meta) (rows_in read.now.floor)
         (read.now.has_slot || read.now.has_entry) ≡ Some e) }
-    ensures few { IfOk result (λ f. length read.now.meta.items < 2) }
-    ensures round { IfOk result (λ f. number_at 5 read.now.meta.items ≡ f.round) }
-    ensures number { IfOk result (λ f. number_at 6 read.now.meta.items ≡ f.number) }
+    ensures few { IfOk result (λ f. length (rows_in read.now.meta) < 2) }
+    ensures round { IfOk result (λ f. number_at 5 (rows_in read.now.meta) ≡ f.round) }
+    ensures number { IfOk result (λ f. number_at 6 (rows_in read.now.meta) ≡ f.number) }
     ensures low { IfOk result (λ f. f.round < NUMBERS) }
     ensures most { IfOk result (λ f. f.number ≤ NUMBERS) }
 {
-    let floor = rows_in(&read.floor);
     let has_more = read.has_slot || read.has_entry;
-    judge_rows(read.meta.as_slice(), floor, has_more, format, identity)
+    judge_rows(
+        rows_in(&read.meta),
+        rows_in(&read.floor),
+        has_more,
+        format,
+        identity,
+    )
 }

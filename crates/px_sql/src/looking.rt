@@ -4,118 +4,37 @@ ghost use Rattle.sqlite.specs.Held.{state};
 ghost use Rattle.px_model.specs.Step.{positions};
 ghost use Rattle.px_records.specs.Records.Place.{SlotAt, EntryAt, LastSlot, LastEntry};
 ghost use Rattle.px_sql.specs.inner.Bytes.{read_in, is_entry_in};
-ghost use Rattle.px_sql.specs.Seen.{seen, slot_columns, learned_columns, is_slot};
-ghost use Rattle.px_sql.specs.inner.Seen.{slot_with, IsLast, EndsAt};
-ghost use Rattle.px_sql.specs.Seen.{has_ballot, any_row};
-ghost use Rattle.px_sql.specs.inner.Effect.{IsAlike};
-ghost use Rattle.px_sql.specs.inner.Store.{OnlyReads};
+ghost use Rattle.px_sql.specs.inner.Questions.{Answers};
+ghost use Rattle.px_sql.specs.Seen.{slot_with, is_slot, EndsAt, has_ballot, any_row};
+ghost use Rattle.px_sql.specs.Store.{OnlyReads};
 ghost use Rattle.px_sql.specs.View.{view_of};
 
-use crate::calls::{Trouble, get};
+use crate::calls::{Question, Trouble, get};
 use crate::keeper::SqlRecords;
 use crate::reading::{ReadFault, SlotRow, end_in_rows, entry_in_rows, slot_in_rows};
 use px_records::StoreFault;
-use sqlite::{Alter, Row, params};
+use sqlite::{Alter, Row};
 
 impl<S: Alter> SqlRecords<S> {
-    pub(crate) fn slot_rows(&mut self, position: u32) -> Result<Vec<Row>, Trouble>
-        ensures rows { (view_of S.Store self.new).is_honest →
-            IfOk result (λ rows. IsAlike (seen slot_columns
-            ((state S.Store self.new.conn).committed.trees 1) position) rows.items) }
+    /// The rows that answer a question.
+    fn look(&mut self, question: Question) -> Result<Vec<Row>, StoreFault>
+        ensures rows { (view_of S.Store self.new).is_honest → IfOk result (λ rows.
+            Answers question (state S.Store self.new.conn).committed.trees rows.items) }
         ensures reads { OnlyReads (view_of S.Store self.old) (view_of S.Store self.new) }
-        ensures counts { (result ≡ Err Trouble.Failed) ↔ (0 < self.new.failures) }
+        ensures bad { result ≡ Err StoreFault.BadStore → ⊥ }
+        ensures counts { (result ≡ Err StoreFault.Failed) ↔ (0 < self.new.failures) }
         ensures later { 0 < self.old.failures → self.new ≡ self.old }
         ensures same_identity { self.new.identity ≡ self.old.identity }
     {
         if self.failures > 0 {
-            return Err(Trouble::Failed);
+            return Err(StoreFault::Failed);
         }
-        match get(
-            &mut self.conn,
-            "SELECT position, promised, ballot, entry FROM slots WHERE position = ?1",
-            params![position],
-        ) {
+        match get(&mut self.conn, question) {
             Ok(rows) => Ok(rows),
-            Err(Trouble::Memory) => Err(Trouble::Memory),
+            Err(Trouble::Memory) => Err(StoreFault::Memory),
             Err(Trouble::Failed) => {
                 self.failures = 1;
-                Err(Trouble::Failed)
-            }
-        }
-    }
-
-    pub(crate) fn learned_rows(&mut self, position: u32) -> Result<Vec<Row>, Trouble>
-        ensures rows { (view_of S.Store self.new).is_honest →
-            IfOk result (λ rows. IsAlike (seen learned_columns
-            ((state S.Store self.new.conn).committed.trees 3) position) rows.items) }
-        ensures reads { OnlyReads (view_of S.Store self.old) (view_of S.Store self.new) }
-        ensures counts { (result ≡ Err Trouble.Failed) ↔ (0 < self.new.failures) }
-        ensures later { 0 < self.old.failures → self.new ≡ self.old }
-        ensures same_identity { self.new.identity ≡ self.old.identity }
-    {
-        if self.failures > 0 {
-            return Err(Trouble::Failed);
-        }
-        match get(
-            &mut self.conn,
-            "SELECT position, entry FROM learned WHERE position = ?1",
-            params![position],
-        ) {
-            Ok(rows) => Ok(rows),
-            Err(Trouble::Memory) => Err(Trouble::Memory),
-            Err(Trouble::Failed) => {
-                self.failures = 1;
-                Err(Trouble::Failed)
-            }
-        }
-    }
-
-    pub(crate) fn top_rows(&mut self) -> Result<Vec<Row>, Trouble>
-        ensures rows { (view_of S.Store self.new).is_honest →
-            IfOk result (λ rows. IsLast has_ballot ((state S.Store self.new.conn).committed.trees 1) rows.items) }
-        ensures reads { OnlyReads (view_of S.Store self.old) (view_of S.Store self.new) }
-        ensures counts { (result ≡ Err Trouble.Failed) ↔ (0 < self.new.failures) }
-        ensures later { 0 < self.old.failures → self.new ≡ self.old }
-        ensures same_identity { self.new.identity ≡ self.old.identity }
-    {
-        if self.failures > 0 {
-            return Err(Trouble::Failed);
-        }
-        match get(
-            &mut self.conn,
-            "SELECT position FROM slots WHERE ballot > 0 ORDER BY position DESC LIMIT 1",
-            &[],
-        ) {
-            Ok(rows) => Ok(rows),
-            Err(Trouble::Memory) => Err(Trouble::Memory),
-            Err(Trouble::Failed) => {
-                self.failures = 1;
-                Err(Trouble::Failed)
-            }
-        }
-    }
-
-    pub(crate) fn end_rows(&mut self) -> Result<Vec<Row>, Trouble>
-        ensures rows { (view_of S.Store self.new).is_honest →
-            IfOk result (λ rows. IsLast any_row ((state S.Store self.new.conn).committed.trees 3) rows.items) }
-        ensures reads { OnlyReads (view_of S.Store self.old) (view_of S.Store self.new) }
-        ensures counts { (result ≡ Err Trouble.Failed) ↔ (0 < self.new.failures) }
-        ensures later { 0 < self.old.failures → self.new ≡ self.old }
-        ensures same_identity { self.new.identity ≡ self.old.identity }
-    {
-        if self.failures > 0 {
-            return Err(Trouble::Failed);
-        }
-        match get(
-            &mut self.conn,
-            "SELECT position FROM learned ORDER BY position DESC LIMIT 1",
-            &[],
-        ) {
-            Ok(rows) => Ok(rows),
-            Err(Trouble::Memory) => Err(Trouble::Memory),
-            Err(Trouble::Failed) => {
-                self.failures = 1;
-                Err(Trouble::Failed)
+                Err(StoreFault::Failed)
             }
         }
     }
@@ -136,7 +55,7 @@ impl<S: Alter> SqlRecords<S> {
         ensures later { 0 < self.old.failures → self.new ≡ self.old }
         ensures same_identity { self.new.identity ≡ self.old.identity }
     {
-        match self.slot_rows(position) {
+        match self.look(Question::Slot { position }) {
             Ok(rows) => {
                 match slot_in_rows(rows.as_slice(), self.identity.members, position, self.alloc) {
                     Ok(slot) => Ok(slot),
@@ -144,8 +63,7 @@ impl<S: Alter> SqlRecords<S> {
                     Err(ReadFault::Bad) => Err(StoreFault::BadStore),
                 }
             }
-            Err(Trouble::Memory) => Err(StoreFault::Memory),
-            Err(Trouble::Failed) => Err(StoreFault::Failed),
+            Err(fault) => Err(fault),
         }
     }
 
@@ -163,14 +81,13 @@ impl<S: Alter> SqlRecords<S> {
         ensures later { 0 < self.old.failures → self.new ≡ self.old }
         ensures same_identity { self.new.identity ≡ self.old.identity }
     {
-        match self.learned_rows(position) {
+        match self.look(Question::Learned { position }) {
             Ok(rows) => match entry_in_rows(rows.as_slice(), self.identity.members, position) {
                 Ok(entry) => Ok(entry),
                 Err(ReadFault::Memory) => Err(StoreFault::Memory),
                 Err(ReadFault::Bad) => Err(StoreFault::BadStore),
             },
-            Err(Trouble::Memory) => Err(StoreFault::Memory),
-            Err(Trouble::Failed) => Err(StoreFault::Failed),
+            Err(fault) => Err(fault),
         }
     }
 
@@ -186,14 +103,13 @@ impl<S: Alter> SqlRecords<S> {
         ensures later { 0 < self.old.failures → self.new ≡ self.old }
         ensures same_identity { self.new.identity ≡ self.old.identity }
     {
-        match self.top_rows() {
+        match self.look(Question::Top) {
             Ok(rows) => match end_in_rows(rows.as_slice()) {
                 Ok(end) => Ok(end),
                 Err(ReadFault::Memory) => Err(StoreFault::Memory),
                 Err(ReadFault::Bad) => Err(StoreFault::BadStore),
             },
-            Err(Trouble::Memory) => Err(StoreFault::Memory),
-            Err(Trouble::Failed) => Err(StoreFault::Failed),
+            Err(fault) => Err(fault),
         }
     }
 
@@ -209,14 +125,13 @@ impl<S: Alter> SqlRecords<S> {
         ensures later { 0 < self.old.failures → self.new ≡ self.old }
         ensures same_identity { self.new.identity ≡ self.old.identity }
     {
-        match self.end_rows() {
+        match self.look(Question::End) {
             Ok(rows) => match end_in_rows(rows.as_slice()) {
                 Ok(end) => Ok(end),
                 Err(ReadFault::Memory) => Err(StoreFault::Memory),
                 Err(ReadFault::Bad) => Err(StoreFault::BadStore),
             },
-            Err(Trouble::Memory) => Err(StoreFault::Memory),
-            Err(Trouble::Failed) => Err(StoreFault::Failed),
+            Err(fault) => Err(fault),
         }
     }
 }

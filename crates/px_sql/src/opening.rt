@@ -4,17 +4,19 @@ ghost use Rattle.std.specs.Prelude.{[], ◌∷◌};
 ghost use Rattle.sqlite.specs.Held.{state};
 ghost use Rattle.sqlite.specs.State.{HasCleanDisk};
 ghost use Rattle.px_sql.specs.Tables.{schema_3};
-ghost use Rattle.px_sql.specs.Seen.{seen, meta_columns, meta_row, floor_columns, is_none_or_ballot};
-ghost use Rattle.px_sql.specs.inner.Seen.{floor_rows};
-ghost use Rattle.px_sql.specs.inner.Effect.{IsIdle, IsSettled, LeavesOld};
-ghost use Rattle.px_sql.specs.inner.Ready.{IsReady, AreBounded};
+ghost use Rattle.px_sql.specs.Seen.{seen, meta_columns, meta_row, floor_columns, floor_rows, is_none_or_ballot};
+ghost use Rattle.px_sql.specs.Effect.{IsStill, LeavesOld};
+ghost use Rattle.px_sql.specs.Adopting.{Began};
+ghost use Rattle.px_sql.specs.Ready.{IsReady, AreBounded};
 ghost use Rattle.px_sql.specs.declared.reading.TheConstants.{NUMBERS};
 
-use crate::calls::{Identity, Trouble, get};
+use crate::calls::{Identity, Question};
 use crate::fault::AdoptFault;
+use crate::finding::{look, rows_in};
+use crate::formats::Format;
 use crate::reading::{Numbers, ReadFault, floor_in_rows, meta_in_rows};
 use px_model::Meta;
-use sqlite::{Alter, Connection, params};
+use sqlite::{Alter, Connection};
 use sqlite_schema::schema::Schema;
 use std::alloc::Global;
 
@@ -27,60 +29,42 @@ pub(crate) struct Opened {
 
 fn meta_of<S: Alter>(conn: &mut Connection<S>, identity: Identity) -> Result<Numbers, AdoptFault>
     ensures why { OnErr result ((result ≡ Err AdoptFault.Memory) ⊎ (result ≡ Err AdoptFault.Failed)) }
-    ensures rows { HasCleanDisk (state S.Store conn.new) → IsIdle (state S.Store conn.old) →
+    ensures rows { HasCleanDisk (state S.Store conn.new) → Began Format.Three (state S.Store conn.old) →
         IfOk result (λ m. seen meta_columns
         ((state S.Store conn.old).now.trees 0) 1 ≡ meta_row 3 identity.cluster identity.members identity.node m.round
         m.number ∷ []) }
-    ensures settled { HasCleanDisk (state S.Store conn.new) → IsIdle (state S.Store conn.old) →
-        OnOk result (IsSettled (state S.Store conn.new)) }
-    ensures stays { HasCleanDisk (state S.Store conn.new) → IsIdle (state S.Store conn.old) →
-        OnOk result ((state S.Store conn.new).now ≡ (state S.Store conn.old).now) }
+    ensures still { HasCleanDisk (state S.Store conn.new) → Began Format.Three (state S.Store conn.old) →
+        OnOk result (IsStill (state S.Store conn.old) (state S.Store conn.new)) }
     ensures round { IfOk result (λ m. m.round < NUMBERS) }
     ensures number { IfOk result (λ m. m.number ≤ NUMBERS) }
     ensures clean { HasCleanDisk (state S.Store conn.new) → HasCleanDisk (state S.Store conn.old) }
-    ensures crash { HasCleanDisk (state S.Store conn.new) → IsIdle (state S.Store conn.old) →
+    ensures crash { HasCleanDisk (state S.Store conn.new) → Began Format.Three (state S.Store conn.old) →
         LeavesOld (state S.Store conn.old) (state S.Store conn.new) }
 {
-    match get(
-        conn,
-        "SELECT id, format, cluster, members, node, round, number FROM meta WHERE id = ?1",
-        params![1u32],
-    ) {
-        Ok(rows) => match meta_in_rows(rows.as_slice(), identity) {
-            Ok(numbers) => Ok(numbers),
-            Err(ReadFault::Memory) => Err(AdoptFault::Memory),
-            Err(ReadFault::Bad) => Err(AdoptFault::Failed),
-        },
-        Err(Trouble::Memory) => Err(AdoptFault::Memory),
-        Err(Trouble::Failed) => Err(AdoptFault::Failed),
+    let rows = look(conn, Format::Three, Question::Meta)?;
+    match meta_in_rows(rows_in(&rows), identity) {
+        Ok(numbers) => Ok(numbers),
+        Err(ReadFault::Memory) => Err(AdoptFault::Memory),
+        Err(ReadFault::Bad) => Err(AdoptFault::Failed),
     }
 }
 
 fn ballot_of<S: Alter>(conn: &mut Connection<S>, members: u8) -> Result<u64, AdoptFault>
     ensures why { OnErr result ((result ≡ Err AdoptFault.Memory) ⊎ (result ≡ Err AdoptFault.Failed)) }
     ensures fits { IfOk result (λ b. is_none_or_ballot members b ≡ true) }
-    ensures rows { HasCleanDisk (state S.Store conn.new) → IsIdle (state S.Store conn.old) →
+    ensures rows { HasCleanDisk (state S.Store conn.new) → Began Format.Three (state S.Store conn.old) →
         IfOk result (λ b. seen floor_columns ((state S.Store conn.old).now.trees 2) 1 ≡ floor_rows b) }
-    ensures settled { HasCleanDisk (state S.Store conn.new) → IsIdle (state S.Store conn.old) →
-        OnOk result (IsSettled (state S.Store conn.new)) }
-    ensures stays { HasCleanDisk (state S.Store conn.new) → IsIdle (state S.Store conn.old) →
-        OnOk result ((state S.Store conn.new).now ≡ (state S.Store conn.old).now) }
+    ensures still { HasCleanDisk (state S.Store conn.new) → Began Format.Three (state S.Store conn.old) →
+        OnOk result (IsStill (state S.Store conn.old) (state S.Store conn.new)) }
     ensures clean { HasCleanDisk (state S.Store conn.new) → HasCleanDisk (state S.Store conn.old) }
-    ensures crash { HasCleanDisk (state S.Store conn.new) → IsIdle (state S.Store conn.old) →
+    ensures crash { HasCleanDisk (state S.Store conn.new) → Began Format.Three (state S.Store conn.old) →
         LeavesOld (state S.Store conn.old) (state S.Store conn.new) }
 {
-    match get(
-        conn,
-        "SELECT id, ballot FROM floor WHERE id = ?1",
-        params![1u32],
-    ) {
-        Ok(rows) => match floor_in_rows(rows.as_slice(), members) {
-            Ok(ballot) => Ok(ballot),
-            Err(ReadFault::Memory) => Err(AdoptFault::Memory),
-            Err(ReadFault::Bad) => Err(AdoptFault::Failed),
-        },
-        Err(Trouble::Memory) => Err(AdoptFault::Memory),
-        Err(Trouble::Failed) => Err(AdoptFault::Failed),
+    let rows = look(conn, Format::Three, Question::Floor)?;
+    match floor_in_rows(rows_in(&rows), members) {
+        Ok(ballot) => Ok(ballot),
+        Err(ReadFault::Memory) => Err(AdoptFault::Memory),
+        Err(ReadFault::Bad) => Err(AdoptFault::Failed),
     }
 }
 

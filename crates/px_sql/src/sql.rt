@@ -8,7 +8,6 @@ ghost use Rattle.px_sql.specs.Ready.{IsHonest, MayLeave, is_good};
 
 use crate::keeper::SqlRecords;
 use crate::reading::{entry_from, slot_from};
-use crate::writing::told;
 use px_model::{Change, Entry, Meta, Slot};
 use px_records::{Records, StoreFault};
 use sqlite::Alter;
@@ -80,17 +79,6 @@ impl<S: Alter> Records for SqlRecords<S> {
         if self.failures > 0 {
             return Err(StoreFault::Failed);
         }
-        match change {
-            Change::Round { round } => told(self.keep_meta(*round, self.meta.number)),
-            Change::Number { number } => told(self.keep_meta(self.meta.round, *number)),
-            Change::Floor { ballot } => told(self.keep_floor(*ballot)),
-            Change::Promised { position, ballot } => self.promise(*position, *ballot),
-            Change::Accepted {
-                position,
-                ballot,
-                entry,
-            } => self.accept(*position, *ballot, entry.bytes()),
-            Change::Learned { position, entry } => self.learn(*position, entry.bytes()),
-        }
+        self.make(change)
     }
 }

@@ -1,151 +1,92 @@
 //! Writes of one row each.
 ghost use Rattle.std.specs.Prelude.{◌≡◌, ◌<◌, ◌≤◌, ◌^◌, ◌↔◌, true, Some, Err, OnOk, IfOk};
-ghost use Rattle.px_model.specs.Fits.{IsBallot};
+ghost use Rattle.px_model.specs.Bounds.{AnyCommand};
+ghost use Rattle.px_model.specs.Fits.{IsBallot, ChangeFits};
+ghost use Rattle.px_model.specs.Step.{commit as committed};
+ghost use Rattle.px_model.specs.Views.{change_of};
 ghost use Rattle.px_records.specs.Records.Place.{SlotAt, EntryAt};
-ghost use Rattle.px_sql.specs.inner.Store.{told_of, with_meta, with_floor, with_slot, with_promise, with_entry, Keeps};
-ghost use Rattle.px_sql.specs.inner.Store.{OnlyReads, LeavesOneOf};
-ghost use Rattle.px_sql.specs.Seen.{is_slot};
-ghost use Rattle.px_sql.specs.inner.Seen.{slot_with};
+ghost use Rattle.px_sql.specs.Store.{with_meta, with_floor, with_slot, with_promise, with_entry};
+ghost use Rattle.px_sql.specs.Store.{Changed, OnlyReads};
+ghost use Rattle.px_sql.specs.Seen.{slot_with, is_slot};
+ghost use Rattle.px_sql.specs.Ready.{AreBounded};
 ghost use Rattle.px_sql.specs.View.{view_of};
+ghost use Rattle.px_sql.specs.inner.NewRows.{AreIntegers, HasFloor, Replaces, with_row, meta_with};
 ghost use Rattle.px_sql.specs.declared.reading.TheConstants.{NUMBERS, INTEGERS};
 
-use crate::calls::{Trouble, put_floor, put_learned, put_meta, put_slot};
+use crate::calls::{NewRow, Trouble, put};
 use crate::keeper::SqlRecords;
 use crate::reading::SlotRow;
-use px_model::Meta;
+use px_model::{Change, Meta};
 use px_records::StoreFault;
 use sqlite::Alter;
 
-pub(crate) fn told(kept: Result<(), Trouble>) -> Result<(), StoreFault>
-    ensures value { result ≡ told_of kept }
-{
-    match kept {
-        Ok(()) => Ok(()),
-        Err(Trouble::Memory) => Err(StoreFault::Memory),
-        Err(Trouble::Failed) => Err(StoreFault::Failed),
-    }
-}
-
 impl<S: Alter> SqlRecords<S> {
-    pub(crate) fn keep_meta(&mut self, round: u64, number: u64) -> Result<(), Trouble>
+    /// Puts a row, with what the rows for the whole node then say.
+    fn keep(&mut self, row: NewRow, bytes: &[u8], meta: Meta) -> Result<(), StoreFault>
+        requires none { self.old.failures ≡ 0 }
+        requires fits { AreIntegers row }
+        requires says { meta ≡ meta_with row self.old.meta }
+        requires bounds { AreBounded self.old.identity meta }
+        requires floor { HasFloor row }
+        ensures was { (view_of S.Store self.new).is_honest → (view_of S.Store self.old).is_honest }
+        ensures changed { (view_of S.Store self.new).is_honest → Replaces row (view_of S.Store self.old) →
+            Changed (with_row row bytes.now (view_of S.Store self.old).kept) result (view_of S.Store self.old)
+            (view_of S.Store self.new) }
+        ensures bad { result ≡ Err StoreFault.BadStore → ⊥ }
+        ensures counts { (result ≡ Err StoreFault.Failed) ↔ (0 < self.new.failures) }
+        ensures same_identity { self.new.identity ≡ self.old.identity }
+    {
+        match put(&mut self.conn, self.identity, row, bytes) {
+            Ok(()) => {
+                self.meta = meta;
+                Ok(())
+            }
+            Err(Trouble::Memory) => Err(StoreFault::Memory),
+            Err(Trouble::Failed) => {
+                self.failures = 1;
+                Err(StoreFault::Failed)
+            }
+        }
+    }
+
+    pub(crate) fn keep_meta(&mut self, round: u64, number: u64) -> Result<(), StoreFault>
         requires none { self.old.failures ≡ 0 }
         requires r0 { round < NUMBERS }
         requires r1 { number ≤ NUMBERS }
-        ensures ok { (view_of S.Store self.new).is_honest →
-            OnOk result ((view_of S.Store self.new).kept ≡ (with_meta (view_of S.Store self.old).kept round number)) }
-        ensures memory { (view_of S.Store self.new).is_honest → result ≡ Err Trouble.Memory →
-            Keeps (view_of S.Store self.old) (view_of S.Store self.new) }
-        ensures stop { (view_of S.Store self.new).is_honest →
-            LeavesOneOf (with_meta (view_of S.Store self.old).kept round number) (view_of S.Store self.old)
-            (view_of S.Store self.new) }
-        ensures counts { (result ≡ Err Trouble.Failed) ↔ (0 < self.new.failures) }
         ensures was { (view_of S.Store self.new).is_honest → (view_of S.Store self.old).is_honest }
+        ensures changed { (view_of S.Store self.new).is_honest →
+            Changed (with_meta (view_of S.Store self.old).kept round number) result (view_of S.Store self.old)
+            (view_of S.Store self.new) }
+        ensures bad { result ≡ Err StoreFault.BadStore → ⊥ }
+        ensures counts { (result ≡ Err StoreFault.Failed) ↔ (0 < self.new.failures) }
         ensures same_identity { self.new.identity ≡ self.old.identity }
     {
-        match put_meta(&mut self.conn, self.identity, round, number) {
-            Ok(()) => {
-                self.meta = Meta {
-                    round,
-                    number,
-                    floor: self.meta.floor,
-                };
-                Ok(())
-            }
-            Err(Trouble::Memory) => Err(Trouble::Memory),
-            Err(Trouble::Failed) => {
-                self.failures = 1;
-                Err(Trouble::Failed)
-            }
-        }
+        let meta = Meta {
+            round,
+            number,
+            floor: self.meta.floor,
+        };
+        self.keep(NewRow::Meta { round, number }, &[], meta)
     }
 
-    pub(crate) fn keep_floor(&mut self, ballot: u64) -> Result<(), Trouble>
+    pub(crate) fn keep_floor(&mut self, ballot: u64) -> Result<(), StoreFault>
         requires none { self.old.failures ≡ 0 }
         requires r0 { IsBallot self.old.identity.members ballot }
         requires r1 { ballot < INTEGERS }
-        ensures ok { (view_of S.Store self.new).is_honest →
-            OnOk result ((view_of S.Store self.new).kept ≡ (with_floor (view_of S.Store self.old).kept ballot)) }
-        ensures memory { (view_of S.Store self.new).is_honest → result ≡ Err Trouble.Memory →
-            Keeps (view_of S.Store self.old) (view_of S.Store self.new) }
-        ensures stop { (view_of S.Store self.new).is_honest →
-            LeavesOneOf (with_floor (view_of S.Store self.old).kept ballot) (view_of S.Store self.old)
+        ensures was { (view_of S.Store self.new).is_honest → (view_of S.Store self.old).is_honest }
+        ensures changed { (view_of S.Store self.new).is_honest →
+            Changed (with_floor (view_of S.Store self.old).kept ballot) result (view_of S.Store self.old)
             (view_of S.Store self.new) }
-        ensures counts { (result ≡ Err Trouble.Failed) ↔ (0 < self.new.failures) }
-        ensures was { (view_of S.Store self.new).is_honest → (view_of S.Store self.old).is_honest }
+        ensures bad { result ≡ Err StoreFault.BadStore → ⊥ }
+        ensures counts { (result ≡ Err StoreFault.Failed) ↔ (0 < self.new.failures) }
         ensures same_identity { self.new.identity ≡ self.old.identity }
     {
-        match put_floor(&mut self.conn, ballot) {
-            Ok(()) => {
-                self.meta = Meta {
-                    round: self.meta.round,
-                    number: self.meta.number,
-                    floor: ballot,
-                };
-                Ok(())
-            }
-            Err(Trouble::Memory) => Err(Trouble::Memory),
-            Err(Trouble::Failed) => {
-                self.failures = 1;
-                Err(Trouble::Failed)
-            }
-        }
-    }
-
-    pub(crate) fn keep_slot(
-        &mut self,
-        position: u32,
-        promised: u64,
-        ballot: u64,
-        entry: &[u8],
-    ) -> Result<(), Trouble>
-        requires none { self.old.failures ≡ 0 }
-        requires r0 { promised < INTEGERS }
-        requires r1 { ballot < INTEGERS }
-        ensures ok { (view_of S.Store self.new).is_honest → (view_of S.Store self.old).is_good (SlotAt position) →
-            OnOk result ((view_of S.Store self.new).kept ≡ (with_slot
-            (view_of S.Store self.old).kept position promised ballot entry.now)) }
-        ensures memory { (view_of S.Store self.new).is_honest → result ≡ Err Trouble.Memory →
-            Keeps (view_of S.Store self.old) (view_of S.Store self.new) }
-        ensures stop { (view_of S.Store self.new).is_honest → (view_of S.Store self.old).is_good (SlotAt position) →
-            LeavesOneOf (with_slot (view_of S.Store self.old).kept position promised ballot entry.now)
-            (view_of S.Store self.old) (view_of S.Store self.new) }
-        ensures counts { (result ≡ Err Trouble.Failed) ↔ (0 < self.new.failures) }
-        ensures was { (view_of S.Store self.new).is_honest → (view_of S.Store self.old).is_honest }
-        ensures same_identity { self.new.identity ≡ self.old.identity }
-    {
-        match put_slot(&mut self.conn, position, promised, ballot, entry) {
-            Ok(()) => Ok(()),
-            Err(Trouble::Memory) => Err(Trouble::Memory),
-            Err(Trouble::Failed) => {
-                self.failures = 1;
-                Err(Trouble::Failed)
-            }
-        }
-    }
-
-    pub(crate) fn keep_learned(&mut self, position: u32, entry: &[u8]) -> Result<(), Trouble>
-        requires none { self.old.failures ≡ 0 }
-        ensures ok { (view_of S.Store self.new).is_honest → (view_of S.Store self.old).is_good (EntryAt position) →
-            OnOk result ((view_of S.Store self.new).kept ≡ (with_entry
-            (view_of S.Store self.old).kept position entry.now)) }
-        ensures memory { (view_of S.Store self.new).is_honest → result ≡ Err Trouble.Memory →
-            Keeps (view_of S.Store self.old) (view_of S.Store self.new) }
-        ensures stop { (view_of S.Store self.new).is_honest →
-            (view_of S.Store self.old).is_good (EntryAt position) →
-            LeavesOneOf (with_entry (view_of S.Store self.old).kept position entry.now) (view_of S.Store self.old)
-            (view_of S.Store self.new) }
-        ensures counts { (result ≡ Err Trouble.Failed) ↔ (0 < self.new.failures) }
-        ensures was { (view_of S.Store self.new).is_honest → (view_of S.Store self.old).is_honest }
-        ensures same_identity { self.new.identity ≡ self.old.identity }
-    {
-        match put_learned(&mut self.conn, position, entry) {
-            Ok(()) => Ok(()),
-            Err(Trouble::Memory) => Err(Trouble::Memory),
-            Err(Trouble::Failed) => {
-                self.failures = 1;
-                Err(Trouble::Failed)
-            }
-        }
+        let meta = Meta {
+            round: self.meta.round,
+            number: self.meta.number,
+            floor: ballot,
+        };
+        self.keep(NewRow::Floor { ballot }, &[], meta)
     }
 
     /// The slot of a position whose row may be replaced. A bad row is a failure.
@@ -197,21 +138,29 @@ impl<S: Alter> SqlRecords<S> {
     pub(crate) fn promise(&mut self, position: u32, ballot: u64) -> Result<(), StoreFault>
         requires none { self.old.failures ≡ 0 }
         requires range { ballot < INTEGERS }
-        ensures ok { (view_of S.Store self.new).is_honest →
-            OnOk result ((view_of S.Store self.new).kept ≡ with_promise
-            (view_of S.Store self.old).kept position ballot) }
-        ensures memory { (view_of S.Store self.new).is_honest → result ≡ Err StoreFault.Memory →
-            Keeps (view_of S.Store self.old) (view_of S.Store self.new) }
-        ensures bad { result ≡ Err StoreFault.BadStore → ⊥ }
-        ensures stop { (view_of S.Store self.new).is_honest →
-            LeavesOneOf (with_promise (view_of S.Store self.old).kept position ballot) (view_of S.Store self.old)
-            (view_of S.Store self.new) }
-        ensures counts { (result ≡ Err StoreFault.Failed) ↔ (0 < self.new.failures) }
         ensures was { (view_of S.Store self.new).is_honest → (view_of S.Store self.old).is_honest }
+        ensures changed { (view_of S.Store self.new).is_honest →
+            Changed (with_promise (view_of S.Store self.old).kept position ballot) result
+            (view_of S.Store self.old) (view_of S.Store self.new) }
+        ensures bad { result ≡ Err StoreFault.BadStore → ⊥ }
+        ensures counts { (result ≡ Err StoreFault.Failed) ↔ (0 < self.new.failures) }
         ensures same_identity { self.new.identity ≡ self.old.identity }
     {
-        let slot = self.good_slot(position)?;
-        told(self.keep_slot(position, ballot, slot.ballot, slot.entry.as_slice()))
+        match self.good_slot(position) {
+            Ok(slot) => {
+                let entry = slot.entry.as_slice();
+                self.keep(
+                    NewRow::Slot {
+                        position,
+                        promised: ballot,
+                        ballot: slot.ballot,
+                    },
+                    entry,
+                    self.meta,
+                )
+            }
+            Err(fault) => Err(fault),
+        }
     }
 
     /// A proposal takes the place of a slot that is good.
@@ -223,40 +172,68 @@ impl<S: Alter> SqlRecords<S> {
     ) -> Result<(), StoreFault>
         requires none { self.old.failures ≡ 0 }
         requires range { ballot < INTEGERS }
-        ensures ok { (view_of S.Store self.new).is_honest →
-            OnOk result ((view_of S.Store self.new).kept ≡ with_slot
-            (view_of S.Store self.old).kept position ballot ballot entry.now) }
-        ensures memory { (view_of S.Store self.new).is_honest → result ≡ Err StoreFault.Memory →
-            Keeps (view_of S.Store self.old) (view_of S.Store self.new) }
-        ensures bad { result ≡ Err StoreFault.BadStore → ⊥ }
-        ensures stop { (view_of S.Store self.new).is_honest →
-            LeavesOneOf (with_slot (view_of S.Store self.old).kept position ballot ballot entry.now)
-            (view_of S.Store self.old) (view_of S.Store self.new) }
-        ensures counts { (result ≡ Err StoreFault.Failed) ↔ (0 < self.new.failures) }
         ensures was { (view_of S.Store self.new).is_honest → (view_of S.Store self.old).is_honest }
+        ensures changed { (view_of S.Store self.new).is_honest →
+            Changed (with_slot (view_of S.Store self.old).kept position ballot ballot entry.now) result
+            (view_of S.Store self.old) (view_of S.Store self.new) }
+        ensures bad { result ≡ Err StoreFault.BadStore → ⊥ }
+        ensures counts { (result ≡ Err StoreFault.Failed) ↔ (0 < self.new.failures) }
         ensures same_identity { self.new.identity ≡ self.old.identity }
     {
-        let _slot = self.good_slot(position)?;
-        told(self.keep_slot(position, ballot, ballot, entry))
+        match self.good_slot(position) {
+            Ok(_slot) => self.keep(
+                NewRow::Slot {
+                    position,
+                    promised: ballot,
+                    ballot,
+                },
+                entry,
+                self.meta,
+            ),
+            Err(fault) => Err(fault),
+        }
     }
 
     /// An entry takes the place of a row that is good, or of none.
     pub(crate) fn learn(&mut self, position: u32, entry: &[u8]) -> Result<(), StoreFault>
         requires none { self.old.failures ≡ 0 }
-        ensures ok { (view_of S.Store self.new).is_honest →
-            OnOk result ((view_of S.Store self.new).kept ≡ with_entry
-            (view_of S.Store self.old).kept position entry.now) }
-        ensures memory { (view_of S.Store self.new).is_honest → result ≡ Err StoreFault.Memory →
-            Keeps (view_of S.Store self.old) (view_of S.Store self.new) }
-        ensures bad { result ≡ Err StoreFault.BadStore → ⊥ }
-        ensures stop { (view_of S.Store self.new).is_honest →
-            LeavesOneOf (with_entry (view_of S.Store self.old).kept position entry.now) (view_of S.Store self.old)
-            (view_of S.Store self.new) }
-        ensures counts { (result ≡ Err StoreFault.Failed) ↔ (0 < self.new.failures) }
         ensures was { (view_of S.Store self.new).is_honest → (view_of S.Store self.old).is_honest }
+        ensures changed { (view_of S.Store self.new).is_honest →
+            Changed (with_entry (view_of S.Store self.old).kept position entry.now) result
+            (view_of S.Store self.old) (view_of S.Store self.new) }
+        ensures bad { result ≡ Err StoreFault.BadStore → ⊥ }
+        ensures counts { (result ≡ Err StoreFault.Failed) ↔ (0 < self.new.failures) }
         ensures same_identity { self.new.identity ≡ self.old.identity }
     {
-        self.good_entry(position)?;
-        told(self.keep_learned(position, entry))
+        match self.good_entry(position) {
+            Ok(()) => self.keep(NewRow::Learned { position }, entry, self.meta),
+            Err(fault) => Err(fault),
+        }
+    }
+
+    /// Makes a change of the record.
+    pub(crate) fn make(&mut self, change: &Change) -> Result<(), StoreFault>
+        requires none { self.old.failures ≡ 0 }
+        requires fits { ChangeFits AnyCommand self.old.identity.members (change_of change.now) }
+        ensures was { (view_of S.Store self.new).is_honest → (view_of S.Store self.old).is_honest }
+        ensures changed { (view_of S.Store self.new).is_honest →
+            Changed (committed (Some (change_of change.now)) (view_of S.Store self.old).kept) result
+            (view_of S.Store self.old) (view_of S.Store self.new) }
+        ensures bad { result ≡ Err StoreFault.BadStore → ⊥ }
+        ensures counts { (result ≡ Err StoreFault.Failed) ↔ (0 < self.new.failures) }
+        ensures same_identity { self.new.identity ≡ self.old.identity }
+    {
+        match change {
+            Change::Round { round } => self.keep_meta(*round, self.meta.number),
+            Change::Number { number } => self.keep_meta(self.meta.round, *number),
+            Change::Floor { ballot } => self.keep_floor(*ballot),
+            Change::Promised { position, ballot } => self.promise(*position, *ballot),
+            Change::Accepted {
+                position,
+                ballot,
+                entry,
+            } => self.accept(*position, *ballot, entry.bytes()),
+            Change::Learned { position, entry } => self.learn(*position, entry.bytes()),
+        }
     }
 }

@@ -4,8 +4,7 @@ use Rattle.sqlite.specs.Held.{state}
 use Rattle.sqlite.specs.Effect.{Database}
 use Rattle.px_sql.specs.Adopting.{IsVerdict, AreBrought}
 use Rattle.px_sql.specs.Formats.{trees_at, number_of}
-use Rattle.px_sql.specs.Judging.{has_rows, refusal, refusal_of}
-use Rattle.px_sql.specs.inner.Judging.{rows_in}
+use Rattle.px_sql.specs.Judging.{has_rows, rows_in, refusal, refusal_of}
 use Rattle.px_sql.specs.Seen.{seen, meta_columns, floor_columns, number_at}
 use Rattle.px_sql.specs.inner.Making.{Brought}
 use Rattle.px_sql.proofs.Adopts.{shows_from, whole_from, alike_few, still}
@@ -18,9 +17,9 @@ returns-in_err-found-clause-judged g c = λ clean began.
     let db = (state g.S.Store c.args.conn.now).now.trees in
     let read = c.in_ok-read.read in
     let told = c.in_ok-read.ensures in
-    let judged = judged_alike (number_of f) c.args.identity (seen meta_columns (db 0) 1) read.meta.items (seen floor_columns (trees_at f db 2) 1) (rows_in read.floor) (has_rows (db 1)) (has_rows (trees_at f db 3)) read.has_slot read.has_entry
+    let judged = judged_alike (number_of f) c.args.identity (seen meta_columns (db 0) 1) (rows_in read.meta) (seen floor_columns (trees_at f db 2) 1) (rows_in read.floor) (has_rows (db 1)) (has_rows (trees_at f db 3)) read.has_slot read.has_entry
     (told.rows clean began) (told.floors clean began) (told.slots clean began) (told.entries clean began)
-    ∙ ap (λ n. refusal_of n c.args.identity read.meta.items (rows_in read.floor) (read.has_slot || read.has_entry)) (sym c.number.ensures) in
+    ∙ ap (λ n. refusal_of n c.args.identity (rows_in read.meta) (rows_in read.floor) (read.has_slot || read.has_entry)) (sym c.number.ensures) in
     let same : c.from_residual-in_err-found.result ≡ Err c.in_err-found.field-0.0 = search rules in
     subst (λ r. IfErr r (λ e. IsVerdict e → refusal f c.args.identity db ≡ Some e)) (sym same) (λ verdict. judged ∙ c.in_err-found.ensures.refused verdict)
 
@@ -30,9 +29,9 @@ returns-then-has_table-clause-taken g c = λ clean began.
     let db = (state g.S.Store c.args.conn.now).now.trees in
     let read = c.in_ok-read.read in
     let told = c.in_ok-read.ensures in
-    judged_alike (number_of f) c.args.identity (seen meta_columns (db 0) 1) read.meta.items (seen floor_columns (trees_at f db 2) 1) (rows_in read.floor) (has_rows (db 1)) (has_rows (trees_at f db 3)) read.has_slot read.has_entry
+    judged_alike (number_of f) c.args.identity (seen meta_columns (db 0) 1) (rows_in read.meta) (seen floor_columns (trees_at f db 2) 1) (rows_in read.floor) (has_rows (db 1)) (has_rows (trees_at f db 3)) read.has_slot read.has_entry
     (told.rows clean began) (told.floors clean began) (told.slots clean began) (told.entries clean began)
-    ∙ ap (λ n. refusal_of n c.args.identity read.meta.items (rows_in read.floor) (read.has_slot || read.has_entry)) (sym c.number.ensures) ∙ c.in_ok-found.ensures.taken
+    ∙ ap (λ n. refusal_of n c.args.identity (rows_in read.meta) (rows_in read.floor) (read.has_slot || read.has_entry)) (sym c.number.ensures) ∙ c.in_ok-found.ensures.taken
 
 pub returns-in-Ok-clause-taken : goal.returns-in-Ok-clause-taken
 returns-in-Ok-clause-taken g c = λ clean began.
@@ -41,9 +40,9 @@ returns-in-Ok-clause-taken g c = λ clean began.
     let db = (state g.S.Store c.args.conn.now).now.trees in
     let read = c.in_ok-read.read in
     let told = c.in_ok-read.ensures in
-    judged_alike (number_of f) c.args.identity (seen meta_columns (db 0) 1) read.meta.items (seen floor_columns (trees_at f db 2) 1) (rows_in read.floor) (has_rows (db 1)) (has_rows (trees_at f db 3)) read.has_slot read.has_entry
+    judged_alike (number_of f) c.args.identity (seen meta_columns (db 0) 1) (rows_in read.meta) (seen floor_columns (trees_at f db 2) 1) (rows_in read.floor) (has_rows (db 1)) (has_rows (trees_at f db 3)) read.has_slot read.has_entry
     (told.rows mid began) (told.floors mid began) (told.slots mid began) (told.entries mid began)
-    ∙ ap (λ n. refusal_of n c.args.identity read.meta.items (rows_in read.floor) (read.has_slot || read.has_entry)) (sym c.number.ensures) ∙ c.in_ok-found.ensures.taken
+    ∙ ap (λ n. refusal_of n c.args.identity (rows_in read.meta) (rows_in read.floor) (read.has_slot || read.has_entry)) (sym c.number.ensures) ∙ c.in_ok-found.ensures.taken
 
 pub returns-in-Ok-clause-made : goal.returns-in-Ok-clause-made
 returns-in-Ok-clause-made g c = λ clean began.
@@ -75,9 +74,9 @@ returns-in-Ok-clause-stop g c = λ clean began db' left.
     let rows = alike_few _ _ (told.rows mid began) c.in_ok-found.ensures.few in
     let round = ap (number_at 5) rows ∙ c.in_ok-found.ensures.round in
     let number = ap (number_at 6) rows ∙ c.in_ok-found.ensures.number in
-    let taken = judged_alike (number_of f) c.args.identity (seen meta_columns (db 0) 1) read.meta.items (seen floor_columns (trees_at f db 2) 1) (rows_in read.floor) (has_rows (db 1)) (has_rows (trees_at f db 3)) read.has_slot read.has_entry
+    let taken = judged_alike (number_of f) c.args.identity (seen meta_columns (db 0) 1) (rows_in read.meta) (seen floor_columns (trees_at f db 2) 1) (rows_in read.floor) (has_rows (db 1)) (has_rows (trees_at f db 3)) read.has_slot read.has_entry
     (told.rows mid began) (told.floors mid began) (told.slots mid began) (told.entries mid began)
-    ∙ ap (λ n. refusal_of n c.args.identity read.meta.items (rows_in read.floor) (read.has_slot || read.has_entry)) (sym c.number.ensures) ∙ c.in_ok-found.ensures.taken in
+    ∙ ap (λ n. refusal_of n c.args.identity (rows_in read.meta) (rows_in read.floor) (read.has_slot || read.has_entry)) (sym c.number.ensures) ∙ c.in_ok-found.ensures.taken in
     elim (c.in-Ok.ensures.stop clean next.schema db' left) [
       | inl was ↦ inl (told.crash mid began db' was)
       | inr is ↦ inr (whole_from f c.args.identity db found.round found.number taken round number c.in_ok-found.ensures.low c.in_ok-found.ensures.most db'
@@ -98,9 +97,9 @@ returns-clause-stop g c = λ clean began db' left.
     let rows = alike_few _ _ (told.rows mid began) c.in_ok-found.ensures.few in
     let round = ap (number_at 5) rows ∙ c.in_ok-found.ensures.round in
     let number = ap (number_at 6) rows ∙ c.in_ok-found.ensures.number in
-    let taken = judged_alike (number_of f) c.args.identity (seen meta_columns (db 0) 1) read.meta.items (seen floor_columns (trees_at f db 2) 1) (rows_in read.floor) (has_rows (db 1)) (has_rows (trees_at f db 3)) read.has_slot read.has_entry
+    let taken = judged_alike (number_of f) c.args.identity (seen meta_columns (db 0) 1) (rows_in read.meta) (seen floor_columns (trees_at f db 2) 1) (rows_in read.floor) (has_rows (db 1)) (has_rows (trees_at f db 3)) read.has_slot read.has_entry
     (told.rows mid began) (told.floors mid began) (told.slots mid began) (told.entries mid began)
-    ∙ ap (λ n. refusal_of n c.args.identity read.meta.items (rows_in read.floor) (read.has_slot || read.has_entry)) (sym c.number.ensures) ∙ c.in_ok-found.ensures.taken in
+    ∙ ap (λ n. refusal_of n c.args.identity (rows_in read.meta) (rows_in read.floor) (read.has_slot || read.has_entry)) (sym c.number.ensures) ∙ c.in_ok-found.ensures.taken in
     elim (c.in-Err.ensures.stop after next.schema db' (c.fault_of.ensures.crash clean db' left)) [
       | inl was ↦ inl (told.crash mid began db' was)
       | inr is ↦ inr (whole_from f c.args.identity db found.round found.number taken round number c.in_ok-found.ensures.low c.in_ok-found.ensures.most db'

@@ -1,11 +1,13 @@
-use Rattle.std.proofs.Common.{◌∙◌, ap, subst}
+use Rattle.std.proofs.Common.{◌∙◌, ap, subst, List}
+use Rattle.sqlite_value.specs.Order.{Row}
+use Rattle.sqlite.specs.Held.{state}
 use Rattle.sqlite.specs.Effect.{Database}
-use Rattle.px_sql.specs.Seen.{seen, floor_columns}
-use Rattle.px_sql.specs.inner.Effect.{IsAlike}
-use Rattle.px_sql.specs.Judging.{has_rows}
-use Rattle.px_sql.specs.inner.Judging.{rows_in}
+use Rattle.px_sql.specs.Seen.{seen, meta_columns, floor_columns}
+use Rattle.px_sql.specs.Effect.{IsAlike}
+use Rattle.px_sql.specs.Judging.{has_rows, rows_in}
 use Rattle.px_sql.specs.Formats.{trees_at}
-use Rattle.px_sql.proofs.Adopts.{same_then, still}
+use Rattle.px_sql.proofs.Adopts.{same_then, still, with_table}
+use Rattle.px_sql.proofs.Questions.{first_has}
 use Rattle.px_sql.proofs.finding.read_store.Goals as goal
 
 pub returns-clause-stays : goal.returns-clause-stays
@@ -30,7 +32,7 @@ returns-clause-rows g c = λ clean began.
     let before1 = c.in_ok-has_slot.ensures.clean clean1 in
     let clean0 = before1 in
     let before0 = c.in_ok-floor.ensures.clean clean0 in
-    c.in_ok-meta.ensures.rows before0 began
+    subst (λ (t : List Row). IsAlike (seen meta_columns t 1) (rows_in c.in_ok-meta.meta)) (with_table 0 c.args.format (state g.S.Store c.args.conn.now).now.trees (first_has c.args.format)) (c.in_ok-meta.ensures.rows before0 began)
 
 pub returns-clause-floors : goal.returns-clause-floors
 returns-clause-floors g c = λ clean began.

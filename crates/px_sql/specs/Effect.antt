@@ -5,8 +5,7 @@ use Rattle.sqlite_value.specs.Order.{Row}
 use Rattle.sqlite.specs.Tree.{Trees}
 use Rattle.sqlite.specs.State.{State}
 use Rattle.px_sql.specs.Tables.{schema_3}
-use Rattle.px_sql.specs.Seen.{rows_at, seen}
-use Rattle.px_sql.specs.inner.Seen.{IsKeyed}
+use Rattle.px_sql.specs.Seen.{rows_at, seen, IsKeyed}
 
 -- outside a transaction, over the four tables
 pub record IsIdle (s : State) : Type 0 where
@@ -27,17 +26,20 @@ pub record IsSettled (new : State) : Type 0 where
   pub auto : new.in_transaction ≡ false
   pub is_open : IsTrue new.is_open
 
+-- open, with what it showed, all of it committed and outside a transaction
+pub record IsStill (old new : State) : Type 0 where
+  pub begun : old.now ≡ old.committed
+  pub now : new.now ≡ old.now
+  pub committed : new.committed ≡ old.committed
+  pub auto : new.in_transaction ≡ false
+  pub is_open : IsTrue new.is_open
+
 -- the rows are as they were, or the connection is shut
 pub record Stays (old new : State) : Type 0 where
   pub now : IsTrue new.is_open → new.now ≡ old.committed
   pub committed : IsTrue new.is_open → new.committed ≡ old.committed
   pub auto : new.in_transaction ≡ false
   pub was_open : IsTrue new.is_open → IsTrue old.is_open
-
--- what an open after a crash may find is what it could find before, or has the row
-abbrev pub LeavesOne : (tree p : ℕ) (columns : List ℕ) → Row → State → State → Type 0
-LeavesOne tree p columns row old new =
-    (db : Trees) → new.may_leave db → old.may_leave db ⊎ Puts tree p columns row old.now.trees db
 
 -- what a stop leaves is what it left before
 abbrev pub LeavesOld : State → State → Type 0
