@@ -11,7 +11,8 @@ use Rattle.std.proofs.lemmas.Bool.{le-ltb, lt-ltb}
 use Rattle.sqlite.specs.declared.types.Value.TheVariants.{Null, Int, Real, Text, Blob}
 use Rattle.sqlite_value.proofs.OrderLemmas.{value_cmp-Int}
 use Rattle.sqlite.specs.Ops.{binary}
-use Rattle.px_sql.specs.Seen.{is_above, is_number, number_in, bytes_in, slot_in, slot_with}
+use Rattle.px_sql.specs.Seen.{is_above, is_number, number_in, bytes_in, slot_in}
+use Rattle.px_sql.specs.inner.Seen.{slot_with}
 use Rattle.px_sql.proofs.Puts.{truth_back}
 
 pub greater : (m n : ℕ) → n < m → is_gt (int_cmp (pos m) (pos n)) ≡ true

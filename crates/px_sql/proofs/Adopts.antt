@@ -14,13 +14,16 @@ use Rattle.px_sql.specs.Formats.{record_at, trees_at, number_of, schema_at, tabl
 use Rattle.px_sql.specs.declared.formats.Format.{Format}
 use Rattle.px_sql.specs.declared.formats.Format.TheVariants.{One, Two, Three}
 use Rattle.px_sql.specs.inner.Making.{Brought}
-use Rattle.px_sql.specs.Adopting.{IsSame, Shows, Began, AreBrought, IsBrought, IsMade}
+use Rattle.px_sql.specs.Adopting.{IsSame, Began, AreBrought, IsBrought, IsMade}
+use Rattle.px_sql.specs.inner.Adopting.{Shows}
 use Rattle.px_sql.specs.Judging.{refusal, refusal_of, are_floor_rows, says_format, says_member, says_numbers, says_owner, is_member_of, has_rows}
 use Rattle.px_sql.specs.declared.fault.AdoptFault.TheVariants.{StoreVersion, BadStore, WrongNode}
 use Rattle.std.specs.Prelude.{nat_lt, nat_le}
-use Rattle.px_sql.specs.Seen.{number_at, number_in, slot_in, learned_in, slot_columns, learned_columns, record_in, rows_at, seen, shown, meta_columns, meta_row, floor_columns, floor_rows, Tells, IsMetaIn, IsFloorIn}
-use Rattle.px_sql.specs.Effect.{IsStill, IsAlike}
-use Rattle.px_sql.specs.Ready.{IsMeta}
+use Rattle.px_sql.specs.Seen.{number_at, number_in, slot_in, learned_in, slot_columns, learned_columns, record_in}
+use Rattle.px_sql.specs.Seen.{rows_at, seen, shown, meta_columns, meta_row, floor_columns}
+use Rattle.px_sql.specs.inner.Seen.{floor_rows, Tells, IsMetaIn, IsFloorIn}
+use Rattle.px_sql.specs.inner.Effect.{IsStill, IsAlike}
+use Rattle.px_sql.specs.inner.Ready.{IsMeta}
 use Rattle.px_sql.specs.declared.calls.Identity.{Identity}
 use Rattle.px_model.specs.declared.record.Meta.{Meta}
 use Rattle.px_sql.proofs.Above.{number_is}

@@ -6,7 +6,8 @@ use Rattle.sqlite.specs.declared.types.Value.TheVariants.{Int}
 use Rattle.sqlite_value.specs.Order.{Row, column, value_cmp}
 use Rattle.sqlite_rules.specs.Lists.{Has}
 use Rattle.px_model.specs.Step.{positions}
-use Rattle.px_sql.specs.Seen.{number_in, is_number, IsLast, IsEndOf, EndsAt, IsLastGood}
+use Rattle.px_sql.specs.Seen.{number_in, is_number, IsLastGood}
+use Rattle.px_sql.specs.inner.Seen.{IsLast, IsEndOf, EndsAt}
 use Rattle.px_sql.proofs.Above.{number_is}
 
 pub ends_at : (test : Row → Bool) (rows answer : List Row) → IsLast test rows answer → (t : ℕ) → IsEndOf answer t → EndsAt test rows t

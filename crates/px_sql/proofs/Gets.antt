@@ -17,7 +17,7 @@ use Rattle.sqlite.specs.State.{State, Shown, FailsToQuery, IsNotRun, IsUnchanged
 use Rattle.sqlite.specs.Listing.{understood}
 use Rattle.sqlite.proofs.Callers.{IsPlain, reads_as, one_permutation}
 use Rattle.px_sql.specs.Seen.{rows_at, shown, seen}
-use Rattle.px_sql.specs.Effect.{Stays, IsAlike}
+use Rattle.px_sql.specs.inner.Effect.{Stays, IsAlike}
 use Rattle.px_sql.proofs.Texts.{by_key, select, Asks}
 use Rattle.px_sql.proofs.Puts.{equal_rowid, unchanged, undone, fails}
 

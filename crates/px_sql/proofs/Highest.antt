@@ -18,7 +18,9 @@ use Rattle.px_model.specs.Spelling.{Bytes}
 use Rattle.px_records.specs.Records.{IsEnd}
 use Rattle.px_records.proofs.Peaks.{below_is, nothing_top}
 use Rattle.px_sql.specs.Entries.{entry_of}
-use Rattle.px_sql.specs.Seen.{rows_at, seen, shown, slot_columns, learned_columns, slot_in, learned_in, accepted_in, number_in, bytes_in, has_ballot, any_row, EndsAt, IsKeyed, IsLastGood}
+use Rattle.px_sql.specs.Seen.{rows_at, seen, shown, slot_columns, learned_columns, slot_in, learned_in, accepted_in}
+use Rattle.px_sql.specs.Seen.{number_in, bytes_in, has_ballot, any_row, IsLastGood}
+use Rattle.px_sql.specs.inner.Seen.{EndsAt, IsKeyed}
 use Rattle.px_sql.proofs.Puts.{has_filter}
 use Rattle.px_sql.proofs.Tops.{filter_has}
 use Rattle.px_sql.proofs.Above.{greater}

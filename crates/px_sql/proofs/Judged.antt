@@ -1,7 +1,7 @@
 -- A store is judged by the rows that were read as by those that it holds.
 use Rattle.std.proofs.Common.{◌≡◌, inl, inr, ℕ, List, [], ◌∷◌, Bool, ◌||◌, refl, ap, ◌∙◌, arith}
 use Rattle.sqlite_value.specs.Order.{Row}
-use Rattle.px_sql.specs.Effect.{IsAlike}
+use Rattle.px_sql.specs.inner.Effect.{IsAlike}
 use Rattle.px_sql.specs.Judging.{has_rows, are_floor_rows, refusal_of}
 use Rattle.px_sql.specs.declared.calls.Identity.{Identity}
 

@@ -13,9 +13,12 @@ use Rattle.px_model.specs.Node.{Record, Meta, Slot, Log}
 use Rattle.px_model.specs.Spelling.{Bytes}
 use Rattle.px_model.specs.Step.{put}
 use Rattle.px_sql.specs.Entries.{entry_of}
-use Rattle.px_sql.specs.Tables.{meta, slots, floor, learned, put_meta, put_slot, put_floor, put_learned, meta_params, slot_params}
-use Rattle.px_sql.specs.Seen.{rows_at, shown, seen, IsKeyed, slot_in, learned_in, number_at, slot_columns, slot_row, slot_with, learned_columns, learned_row, meta_columns, meta_row, floor_columns, floor_row, record_in}
-use Rattle.px_sql.specs.Effect.{Puts}
+use Rattle.px_sql.specs.Tables.{meta, slots, floor, learned}
+use Rattle.px_sql.specs.inner.Tables.{put_meta, put_slot, put_floor, put_learned, meta_params, slot_params}
+use Rattle.px_sql.specs.Seen.{rows_at, shown, seen, slot_in, learned_in, number_at, slot_columns, learned_columns}
+use Rattle.px_sql.specs.Seen.{meta_columns, meta_row, floor_columns, record_in}
+use Rattle.px_sql.specs.inner.Seen.{IsKeyed, slot_row, slot_with, learned_row, floor_row}
+use Rattle.px_sql.specs.inner.Effect.{Puts}
 use Rattle.px_sql.proofs.Texts.{replace, meta_terms, slot_terms, floor_terms, learned_terms}
 use Rattle.px_sql.proofs.Above.{slot_one}
 use Rattle.px_sql.proofs.Puts.{Goes, replaced, keyed}

@@ -12,7 +12,8 @@ use Rattle.sqlite_tied.specs.Compute.{everything}
 use Rattle.sqlite.specs.Listing.{understood}
 use Rattle.sqlite.specs.State.{State, Writes, Executes}
 use Rattle.sqlite.proofs.Callers.{IsPlain, command_of, statement_of, runs_as}
-use Rattle.px_sql.specs.Tables.{no_schema, meta_schema, schema_1, schema_2, meta, slots, floor, learned, make_meta, make_slots, make_floor, make_learned}
+use Rattle.px_sql.specs.Tables.{no_schema, schema_1, schema_2, meta, slots, floor, learned}
+use Rattle.px_sql.specs.inner.Tables.{meta_schema, make_meta, make_slots, make_floor, make_learned}
 use Rattle.px_sql.proofs.Puts.{went, same_value}
 
 pub record IsCreate (schema : Schema) (text : List ℕ) (table : Table) : Type 0 where

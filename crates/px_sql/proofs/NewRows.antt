@@ -12,9 +12,10 @@ use Rattle.px_records.specs.declared.records.StoreFault.{StoreFault}
 use Rattle.px_records.specs.declared.records.StoreFault.TheVariants as fault
 use Rattle.px_sql.specs.Tables.{schema_3}
 use Rattle.px_sql.specs.Seen.{record_in}
-use Rattle.px_sql.specs.Effect.{IsIdle, IsSettled, LeavesOld, Serves}
-use Rattle.px_sql.specs.Store.{Changed}
-use Rattle.px_sql.specs.Ready.{IsMeta, stored_of}
+use Rattle.px_sql.specs.inner.Effect.{IsIdle, IsSettled, LeavesOld, Serves}
+use Rattle.px_sql.specs.inner.Store.{Changed}
+use Rattle.px_sql.specs.Ready.{stored_of}
+use Rattle.px_sql.specs.inner.Ready.{IsMeta}
 use Rattle.px_sql.specs.inner.NewRows.{text_of, params_of, tree_of, key_of, columns_of, row_of, IsPut, Wrote, with_row, meta_with, HasFloor, Replaces}
 use Rattle.px_sql.specs.declared.calls.Identity.{Identity}
 use Rattle.px_sql.specs.declared.calls.NewRow.{NewRow}

@@ -12,8 +12,11 @@ use Rattle.px_sql.specs.Entries.{entry_of}
 use Rattle.px_sql.proofs.Spelled.{reads_back}
 use Rattle.px_sql.proofs.Stored.{not_zero}
 use Rattle.px_records.specs.declared.records.StoreFault.TheVariants as fault
-use Rattle.px_sql.specs.Seen.{slot_with, is_slot, is_ballot, is_proposal, is_none_or_ballot}
-use Rattle.px_sql.specs.Store.{Stored, Keeps, OnlyReads, LeavesOneOf, Changed, with_meta, with_slot, with_promise, with_entry}
+use Rattle.px_sql.specs.Seen.{is_slot, is_ballot, is_proposal, is_none_or_ballot}
+use Rattle.px_sql.specs.inner.Seen.{slot_with}
+use Rattle.px_sql.specs.Store.{Stored}
+use Rattle.px_sql.specs.inner.Store.{Keeps, OnlyReads, LeavesOneOf, Changed, with_meta, with_slot, with_promise}
+use Rattle.px_sql.specs.inner.Store.{with_entry}
 use Rattle.px_records.specs.declared.records.StoreFault.{StoreFault}
 
 -- ---- a read, and then a change

@@ -37,8 +37,9 @@ use Rattle.sqlite.specs.Does.{Does}
 use Rattle.sqlite.specs.Listing.{understood}
 use Rattle.sqlite.proofs.Callers.{IsPlain, command_of, statement_of, runs_as, one_step}
 use Rattle.px_sql.specs.Tables.{schema_3}
-use Rattle.px_sql.specs.Seen.{rows_at, shown, IsKeyed}
-use Rattle.px_sql.specs.Effect.{Puts, IsSettled, IsStill, Stays, Serves}
+use Rattle.px_sql.specs.Seen.{rows_at, shown}
+use Rattle.px_sql.specs.inner.Seen.{IsKeyed}
+use Rattle.px_sql.specs.inner.Effect.{Puts, IsSettled, IsStill, Stays, Serves}
 use Rattle.px_sql.proofs.Texts.{replace, Means}
 use Rattle.px_sql.proofs.Rows.{put_other, put_same, without_other, apart, or_false}
 

@@ -12,11 +12,13 @@ use Rattle.sqlite.specs.Schema.{Schema}
 use Rattle.sqlite.specs.Tree.{Trees}
 use Rattle.px_model.specs.declared.record.Meta as kept
 use Rattle.px_sql.specs.Tables.{schema_3}
-use Rattle.px_sql.specs.Seen.{seen, meta_columns, slot_columns, floor_columns, learned_columns, has_ballot, any_row, IsLast}
-use Rattle.px_sql.specs.Effect.{IsAlike, IsStill, LeavesOld, Serves}
+use Rattle.px_sql.specs.Seen.{seen, meta_columns, slot_columns, floor_columns, learned_columns, has_ballot, any_row}
+use Rattle.px_sql.specs.inner.Seen.{IsLast}
+use Rattle.px_sql.specs.inner.Effect.{IsAlike, IsStill, LeavesOld, Serves}
 use Rattle.px_sql.specs.Formats.{schema_at, has_table, trees_at}
-use Rattle.px_sql.specs.Store.{OnlyReads}
-use Rattle.px_sql.specs.Ready.{IsMeta, stored_of}
+use Rattle.px_sql.specs.inner.Store.{OnlyReads}
+use Rattle.px_sql.specs.Ready.{stored_of}
+use Rattle.px_sql.specs.inner.Ready.{IsMeta}
 use Rattle.px_sql.specs.declared.calls.Identity.{Identity}
 use Rattle.px_sql.specs.Adopting.{Began}
 use Rattle.px_sql.specs.inner.Questions.{asked_by, given_with, table_of, Answers, Looked}

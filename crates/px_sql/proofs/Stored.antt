@@ -12,10 +12,13 @@ use Rattle.sqlite.specs.Tree.{Trees}
 use Rattle.sqlite.specs.Schema.{Schema}
 use Rattle.px_sql.specs.Tables.{schema_3}
 use Rattle.sqlite.specs.State.{State, HasCleanDisk}
-use Rattle.px_sql.specs.Seen.{seen, IsKeyed, is_key, are_slot_rows, are_learned_rows, meta_columns, meta_row, floor_columns, floor_row, floor_rows, number_at, record_in}
-use Rattle.px_sql.specs.Effect.{Puts, IsSettled, LeavesOld, IsAlike}
-use Rattle.px_sql.specs.Store.{Keeps, OnlyReads}
-use Rattle.px_sql.specs.Ready.{IsMeta, is_good, stored_of}
+use Rattle.px_sql.specs.Seen.{seen, is_key, are_slot_rows, are_learned_rows, meta_columns, meta_row, floor_columns}
+use Rattle.px_sql.specs.Seen.{number_at, record_in}
+use Rattle.px_sql.specs.inner.Seen.{IsKeyed, floor_row, floor_rows}
+use Rattle.px_sql.specs.inner.Effect.{Puts, IsSettled, LeavesOld, IsAlike}
+use Rattle.px_sql.specs.inner.Store.{Keeps, OnlyReads}
+use Rattle.px_sql.specs.Ready.{is_good, stored_of}
+use Rattle.px_sql.specs.inner.Ready.{IsMeta}
 use Rattle.px_sql.specs.declared.calls.Identity.{Identity}
 use Rattle.px_model.specs.declared.record.Meta.{Meta}
 

@@ -14,7 +14,9 @@ use Rattle.sqlite.specs.Source.TheVariants.{Values}
 use Rattle.sqlite_tied.specs.Compute.{everything}
 use Rattle.sqlite.specs.Listing.{understood, reads_listing}
 use Rattle.sqlite.proofs.Callers.{IsPlain, command_of}
-use Rattle.px_sql.specs.Tables.{schema_3, put_meta, put_slot, put_floor, put_learned, get_meta, get_slot, get_floor, get_learned, get_top, get_end, get_last}
+use Rattle.px_sql.specs.Tables.{schema_3}
+use Rattle.px_sql.specs.inner.Tables.{put_meta, put_slot, put_floor, put_learned, get_meta, get_slot, get_floor}
+use Rattle.px_sql.specs.inner.Tables.{get_learned, get_top, get_end, get_last}
 use Rattle.px_sql.specs.Formats.{schema_at, has_table}
 use Rattle.px_sql.specs.declared.formats.Format.{Format}
 use Rattle.px_sql.specs.declared.formats.Format.TheVariants.{One, Two, Three}

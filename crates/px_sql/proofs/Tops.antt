@@ -16,7 +16,8 @@ use Rattle.sqlite.specs.Tree.{Trees}
 use Rattle.sqlite_rules.specs.Lists.{Has}
 use Rattle.sqlite.specs.State.{State, Shown}
 use Rattle.sqlite.proofs.Callers.{reads_as}
-use Rattle.px_sql.specs.Seen.{any_row, IsLast}
+use Rattle.px_sql.specs.Seen.{any_row}
+use Rattle.px_sql.specs.inner.Seen.{IsLast}
 use Rattle.sqlite.specs.Schema.{Schema}
 use Rattle.px_sql.specs.Judging.{has_rows}
 use Rattle.px_sql.proofs.Texts.{last_row, select, top_names, Asks}

@@ -1,14 +1,14 @@
 -- What opening a store does to it.
-use Rattle.std.specs.Prelude.{◌≡◌, ◌⊎◌, ⊤, ℕ, true, false, List, [], ◌∷◌, Option, Some, None, Result, Ok, Err}
+use Rattle.std.specs.Prelude.{◌≡◌, ◌⊎◌, ⊤, ℕ, true, false, List, [], ◌∷◌, Option, Some, None}
 use Rattle.sqlite_value.specs.Order.{Row}
 use Rattle.sqlite.specs.State.{State}
 use Rattle.sqlite.specs.Tree.{Trees}
 use Rattle.px_model.specs.Node.{Record}
 use Rattle.px_model.specs.Spelling.{Bytes}
 use Rattle.sqlite.specs.Schema.{Schema}
-use Rattle.px_sql.specs.Tables.{no_schema, schema_3}
+use Rattle.px_sql.specs.Tables.{no_schema}
 use Rattle.px_model.specs.World.{nothing_stored}
-use Rattle.px_sql.specs.Seen.{record_in, seen, meta_columns, meta_row, number_at}
+use Rattle.px_sql.specs.Seen.{seen, meta_columns, meta_row, number_at}
 use Rattle.px_sql.specs.Formats.{schema_at, record_at, trees_at}
 use Rattle.px_sql.specs.Judging.{refusal, is_member_of}
 use Rattle.px_sql.specs.declared.calls.Identity.{Identity}
@@ -33,11 +33,6 @@ IsVerdict StoreVersion = ⊤
 IsVerdict BadStore = ⊤
 IsVerdict WrongNode = ⊤
 
--- the same of an answer
-abbrev pub IsRefused : {X : Type 0} → Result X AdoptFault → Type 0
-IsRefused (Ok x) = ⊥
-IsRefused (Err e) = IsVerdict e
-
 -- there are no tables, or those of a format
 abbrev pub IsKnown : Schema → Type 0
 IsKnown s = (s ≡ no_schema) ⊎ ((f : Format) × (s ≡ schema_at f))
@@ -51,11 +46,6 @@ pub record Began (f : Format) (s : State) : Type 0 where
 pub record IsSame (old new : State) : Type 0 where
   pub now : new.now ≡ old.now
   pub auto : new.in_transaction ≡ false
-
--- a store of format 3 that shows this record
-pub record Shows (d : Record Bytes) (new : State) : Type 0 where
-  pub schema : new.now.schema ≡ schema_3
-  pub is : record_in new.now.trees ≡ d
 
 -- ---- what a stop leaves
 

@@ -1,9 +1,8 @@
 -- Which stores are refused, and with what: first the format is asked for, then rows that no node writes, then the
 -- owner.
 use Rattle.std.specs.Prelude.{ℕ, ◌^◌, Bool, true, false, ◌&&◌, ◌||◌, List, [], ◌∷◌, Option, Some}
-use Rattle.std.specs.Prelude.{None, Vec}
+use Rattle.std.specs.Prelude.{None}
 use Rattle.std.specs.Prelude.{nat_eq, nat_le, nat_lt, not, if◌then◌else◌}
-use Rattle.std.specs.declared.alloc.Global.{Global}
 use Rattle.sqlite_value.specs.Order.{Row, column}
 use Rattle.sqlite.specs.Tree.{Trees}
 use Rattle.px_sql.specs.Seen.{is_number, number_in, is_key, is_ballot, seen, meta_columns, floor_columns}
@@ -71,8 +70,3 @@ refusal_of format i (r ∷ x ∷ more) floor has_more = Some BadStore
 abbrev pub refusal : Format → Identity → Trees → Option AdoptFault
 refusal f i db = refusal_of (number_of f) i (seen meta_columns (db 0) 1) (seen floor_columns (trees_at f db 2) 1)
     (has_rows (db 1) || has_rows (trees_at f db 3))
-
--- the rows that were read, if that table was asked
-abbrev pub rows_in : Option (Vec Row Global) → List Row
-rows_in None = []
-rows_in (Some rows) = rows.items

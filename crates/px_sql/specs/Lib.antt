@@ -1,7 +1,6 @@
 pub mod Entries
 pub mod Tables
 pub mod Seen
-pub mod Effect
 pub mod Store
 pub mod Ready
 pub mod View

@@ -1,5 +1,5 @@
 -- What the rows of the four tables say of a record.
-use Rattle.std.specs.Prelude.{◌≡◌, ⊤, ℕ, zero, suc, ◌<◌, ◌/◌, ◌%◌, ◌^◌, pos, negsuc, Bool}
+use Rattle.std.specs.Prelude.{◌≡◌, ℕ, ◌<◌, ◌/◌, ◌%◌, ◌^◌, pos, negsuc, Bool}
 use Rattle.std.specs.Prelude.{true, false, ◌&&◌}
 use Rattle.std.specs.Prelude.{if◌then◌else◌, List, [], ◌∷◌, map, filter, length, Option, Some, None, nat_eq}
 use Rattle.std.specs.Prelude.{nat_le}
@@ -32,12 +32,6 @@ shown columns r = map (column r) columns
 abbrev pub seen : List ℕ → List Row → ℕ → List Row
 seen columns rows p = map (shown columns) (rows_at rows p)
 
--- none, or one whose first column is the key
-abbrev pub IsKeyed : ℕ → List Row → Type 0
-IsKeyed p [] = ⊤
-IsKeyed p (r ∷ []) = column r 0 ≡ Int (pos p)
-IsKeyed p (r ∷ x ∷ more) = ⊥
-
 -- ---- values
 
 abbrev pub number_in : Value → ℕ
@@ -64,14 +58,6 @@ slot_columns = 0 ∷ 2 ∷ 3 ∷ 4 ∷ []
 abbrev pub is_above : Value → Bool
 is_above v = is_true (binary (Compare Gt Binary) v (Int (pos 0)))
 
--- ballot 0 is no proposal
-abbrev pub accepted_with : ℕ → List ℕ → Option (Proposal Bytes)
-accepted_with ballot bytes =
-    if nat_eq ballot 0 then None else Some (record { ballot = ballot; entry = entry_of bytes })
-
-abbrev pub slot_with : (promised ballot : ℕ) → List ℕ → Slot Bytes
-slot_with promised ballot bytes = record { promised = promised; accepted = accepted_with ballot bytes }
-
 -- of rows with one key the first that has a ballot is read
 abbrev pub accepted_in : List Row → Option (Proposal Bytes)
 accepted_in [] = None
@@ -87,9 +73,6 @@ promised_in (r ∷ more) = number_in (column r 1)
 
 abbrev pub slot_in : List Row → Slot Bytes
 slot_in rows = record { promised = promised_in rows; accepted = accepted_in rows }
-
-abbrev pub slot_row : (position promised ballot : ℕ) → List ℕ → Row
-slot_row p promised ballot bytes = Int (pos p) ∷ Int (pos promised) ∷ Int (pos ballot) ∷ Blob bytes ∷ []
 
 -- a round from 1 on and a member
 abbrev pub is_ballot : (members : ℕ) → ℕ → Bool
@@ -147,9 +130,6 @@ abbrev pub learned_in : List Row → Option (Entry Bytes)
 learned_in [] = None
 learned_in (r ∷ more) = Some (entry_of (bytes_in (column r 1)))
 
-abbrev pub learned_row : (position : ℕ) → List ℕ → Row
-learned_row p bytes = Int (pos p) ∷ Blob bytes ∷ []
-
 abbrev pub is_learned_row : (members position : ℕ) → Row → Bool
 is_learned_row members p r = is_key p (column r 0) && (is_blob (column r 1) && is_entry members (bytes_in (column r 1)))
 
@@ -172,34 +152,9 @@ meta_row format cluster members node round number =
     Int (pos round) ∷ Int
     (pos number) ∷ []
 
-abbrev pub floor_row : ℕ → Row
-floor_row ballot = Int (pos 1) ∷ Int (pos ballot) ∷ []
-
--- no row is ballot 0
-abbrev pub floor_rows : ℕ → List Row
-floor_rows ballot = if nat_eq ballot 0 then [] else floor_row ballot ∷ []
-
 abbrev pub number_at : ℕ → List Row → ℕ
 number_at at [] = 0
 number_at at (r ∷ more) = number_in (column r at)
-
--- the column says this number
-abbrev pub Tells : Row → (at number : ℕ) → Type 0
-Tells r at n = (is_number (column r at) ≡ true) × (number_in (column r at) ≡ n)
-
--- one row, which says these numbers
-abbrev pub IsMetaIn : (cluster members node round number : ℕ) → List Row → Type 0
-IsMetaIn c m n round number [] = ⊥
-IsMetaIn c m n round number (r ∷ []) =
-    Tells r 0 1 × (Tells r 1 3 ×
-    (Tells r 2 c × (Tells r 3 m × (Tells r 4 n × (Tells r 5 round × Tells r 6 number)))))
-IsMetaIn c m n round number (r ∷ x ∷ more) = ⊥
-
--- no row, or one, which says a ballot above 0
-abbrev pub IsFloorIn : ℕ → List Row → Type 0
-IsFloorIn b [] = b ≡ 0
-IsFloorIn b (r ∷ []) = Tells r 0 1 × (Tells r 1 b × (0 < b))
-IsFloorIn b (r ∷ x ∷ more) = ⊥
 
 -- ---- the record of the rows
 
@@ -223,28 +178,6 @@ has_ballot r = is_above (column r 3)
 -- each row
 abbrev pub any_row : Row → Bool
 any_row r = true
-
--- the answer is the key of the last row that passes, or nothing where none does
-abbrev pub IsLast : (Row → Bool) → List Row → List Row → Type 0
-IsLast test rows [] = (r : Row) → Has rows r → test r ≡ false
-IsLast test rows (a ∷ []) =
-    (r : Row) × Has rows r × (test r ≡ true) × (a ≡ column r 0 ∷ [])
-    × ((x : Row) → Has rows x → test x ≡ true → is_gt (value_cmp (column x 0) (column r 0)) ≡ false)
-IsLast test rows (a ∷ b ∷ more) = ⊥
-
--- one more than the position that such an answer tells, or 0
-abbrev pub IsEndOf : List Row → ℕ → Type 0
-IsEndOf [] t = t ≡ 0
-IsEndOf (a ∷ []) t =
-    (is_number (column a 0) ≡ true) × ((t ≡ suc (number_in (column a 0))) × (number_in (column a 0) < positions))
-IsEndOf (a ∷ b ∷ more) t = ⊥
-
--- one more than the position of the last row that passes, or 0 where none does
-abbrev pub EndsAt : (Row → Bool) → List Row → ℕ → Type 0
-EndsAt test rows zero = (r : Row) → Has rows r → test r ≡ false
-EndsAt test rows (suc n) =
-    (n < positions) × ((r : Row) × Has rows r × (test r ≡ true) × (column r 0 ≡ Int (pos n)))
-    × ((x : Row) → Has rows x → test x ≡ true → is_gt (value_cmp (column x 0) (Int (pos n))) ≡ false)
 
 -- the row passes, and none that passes has a greater position
 abbrev pub IsGreatest : (Row → Bool) → List Row → Row → Type 0

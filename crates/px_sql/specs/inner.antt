@@ -3,3 +3,10 @@ pub mod Bytes
 pub mod Making
 pub mod NewRows
 pub mod Questions
+pub mod Adopting
+pub mod Effect
+pub mod Judging
+pub mod Ready
+pub mod Seen
+pub mod Store
+pub mod Tables

@@ -6,9 +6,10 @@ ghost use Rattle.sqlite.specs.Held.{state};
 ghost use Rattle.sqlite.specs.State.{HasCleanDisk};
 ghost use Rattle.px_model.specs.World.{nothing_stored};
 ghost use Rattle.px_sql.specs.Tables.{no_schema};
-ghost use Rattle.px_sql.specs.Effect.{LeavesOld};
+ghost use Rattle.px_sql.specs.inner.Effect.{LeavesOld};
 ghost use Rattle.px_sql.specs.Formats.{record_at};
-ghost use Rattle.px_sql.specs.Adopting.{Began, IsRefused, IsKnown, IsVerdict, IsSame, Shows};
+ghost use Rattle.px_sql.specs.Adopting.{Began, IsKnown, IsVerdict, IsSame};
+ghost use Rattle.px_sql.specs.inner.Adopting.{IsRefused, Shows};
 ghost use Rattle.px_sql.specs.Adopting.{IsMade, IsBrought, LeavesOr};
 ghost use Rattle.px_sql.specs.Judging.{refusal};
 

@@ -6,7 +6,7 @@ ghost use Rattle.sqlite.specs.Held.{state};
 ghost use Rattle.sqlite.specs.Tree.{Trees};
 ghost use Rattle.sqlite.specs.State.{HasCleanDisk, Survives, Executes, CommitsBy};
 ghost use Rattle.sqlite.specs.State.{Shown, FailsToQuery, CommitsShowing};
-ghost use Rattle.px_sql.specs.Effect.{IsIdle, LeavesOld, Serves};
+ghost use Rattle.px_sql.specs.inner.Effect.{IsIdle, LeavesOld, Serves};
 ghost use Rattle.px_sql.specs.Formats.{has_table};
 ghost use Rattle.px_sql.specs.Adopting.{Began};
 ghost use Rattle.px_sql.specs.inner.Questions.{asked_by, given_with, table_of, Looked};

@@ -1,6 +1,6 @@
 //! The keeper and what stays true of it.
 ghost use Rattle.sqlite.specs.Held.{state};
-ghost use Rattle.px_sql.specs.Ready.{IsReady, IsReady-prop, AreBounded, AreBounded-prop};
+ghost use Rattle.px_sql.specs.inner.Ready.{IsReady, IsReady-prop, AreBounded, AreBounded-prop};
 
 use crate::calls::Identity;
 use px_model::Meta;

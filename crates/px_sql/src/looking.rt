@@ -5,8 +5,9 @@ ghost use Rattle.px_model.specs.Step.{positions};
 ghost use Rattle.px_records.specs.Records.Place.{SlotAt, EntryAt, LastSlot, LastEntry};
 ghost use Rattle.px_sql.specs.inner.Bytes.{read_in, is_entry_in};
 ghost use Rattle.px_sql.specs.inner.Questions.{Answers};
-ghost use Rattle.px_sql.specs.Seen.{slot_with, is_slot, EndsAt, has_ballot, any_row};
-ghost use Rattle.px_sql.specs.Store.{OnlyReads};
+ghost use Rattle.px_sql.specs.Seen.{is_slot, has_ballot, any_row};
+ghost use Rattle.px_sql.specs.inner.Seen.{slot_with, EndsAt};
+ghost use Rattle.px_sql.specs.inner.Store.{OnlyReads};
 ghost use Rattle.px_sql.specs.View.{view_of};
 
 use crate::calls::{Question, Trouble, get};

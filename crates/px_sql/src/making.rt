@@ -2,8 +2,9 @@
 ghost use Rattle.std.specs.Prelude.{◌≡◌, ◌<◌, ◌^◌, false, [], IsTrue, OnOk};
 ghost use Rattle.sqlite.specs.Held.{state};
 ghost use Rattle.sqlite.specs.State.{HasCleanDisk, ExecutesInside, Survives};
-ghost use Rattle.px_sql.specs.Tables.{no_schema, meta_schema, schema_1, schema_2, schema_3, put_meta, meta_params};
-ghost use Rattle.px_sql.specs.Effect.{LeavesOld};
+ghost use Rattle.px_sql.specs.Tables.{no_schema, schema_1, schema_2, schema_3};
+ghost use Rattle.px_sql.specs.inner.Tables.{meta_schema, put_meta, meta_params};
+ghost use Rattle.px_sql.specs.inner.Effect.{LeavesOld};
 ghost use Rattle.px_sql.specs.Formats.{schema_at, trees_at};
 ghost use Rattle.px_sql.specs.Adopting.{AreBrought, LeavesOr};
 ghost use Rattle.px_sql.specs.inner.Making.{Grows, PutsMeta, Brought, Raised, with_floor};

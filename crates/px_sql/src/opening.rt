@@ -4,10 +4,11 @@ ghost use Rattle.std.specs.Prelude.{[], ◌∷◌};
 ghost use Rattle.sqlite.specs.Held.{state};
 ghost use Rattle.sqlite.specs.State.{HasCleanDisk};
 ghost use Rattle.px_sql.specs.Tables.{schema_3};
-ghost use Rattle.px_sql.specs.Seen.{seen, meta_columns, meta_row, floor_columns, floor_rows, is_none_or_ballot};
-ghost use Rattle.px_sql.specs.Effect.{IsStill, LeavesOld};
+ghost use Rattle.px_sql.specs.Seen.{seen, meta_columns, meta_row, floor_columns, is_none_or_ballot};
+ghost use Rattle.px_sql.specs.inner.Seen.{floor_rows};
+ghost use Rattle.px_sql.specs.inner.Effect.{IsStill, LeavesOld};
 ghost use Rattle.px_sql.specs.Adopting.{Began};
-ghost use Rattle.px_sql.specs.Ready.{IsReady, AreBounded};
+ghost use Rattle.px_sql.specs.inner.Ready.{IsReady, AreBounded};
 ghost use Rattle.px_sql.specs.declared.reading.TheConstants.{NUMBERS};
 
 use crate::calls::{Identity, Question};

@@ -6,7 +6,7 @@ use Rattle.sqlite.specs.Change.{KeepsRows}
 use Rattle.sqlite.specs.State.{State}
 use Rattle.px_sql.specs.Tables.{schema_3}
 use Rattle.px_sql.specs.Seen.{seen, meta_columns, meta_row}
-use Rattle.px_sql.specs.Effect.{Puts}
+use Rattle.px_sql.specs.inner.Effect.{Puts}
 use Rattle.px_sql.specs.Formats.{schema_at, trees_at}
 use Rattle.px_sql.specs.declared.formats.Format.{Format}
 use Rattle.px_sql.specs.declared.formats.Format.TheVariants.{One, Two, Three}

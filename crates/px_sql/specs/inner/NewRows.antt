@@ -7,12 +7,14 @@ use Rattle.px_model.specs.Node.{Record}
 use Rattle.px_model.specs.Spelling.{Bytes}
 use Rattle.px_model.specs.declared.record.Meta as kept
 use Rattle.px_records.specs.Records.Place.{SlotAt, EntryAt}
-use Rattle.px_sql.specs.Tables.{put_meta, put_slot, put_floor, put_learned}
-use Rattle.px_sql.specs.Tables.{meta_params, slot_params, floor_params, learned_params}
+use Rattle.px_sql.specs.inner.Tables.{put_meta, put_slot, put_floor, put_learned}
+use Rattle.px_sql.specs.inner.Tables.{meta_params, slot_params, floor_params, learned_params}
 use Rattle.px_sql.specs.Seen.{meta_columns, slot_columns, floor_columns, learned_columns}
-use Rattle.px_sql.specs.Seen.{meta_row, slot_row, floor_row, learned_row}
-use Rattle.px_sql.specs.Effect.{Puts, IsSettled, IsStill}
-use Rattle.px_sql.specs.Store.{Stored, with_meta, with_slot, with_floor, with_entry}
+use Rattle.px_sql.specs.Seen.{meta_row}
+use Rattle.px_sql.specs.inner.Seen.{slot_row, floor_row, learned_row}
+use Rattle.px_sql.specs.inner.Effect.{Puts, IsSettled, IsStill}
+use Rattle.px_sql.specs.Store.{Stored}
+use Rattle.px_sql.specs.inner.Store.{with_meta, with_slot, with_floor, with_entry}
 use Rattle.px_sql.specs.declared.calls.Identity.{Identity}
 use Rattle.px_sql.specs.declared.calls.NewRow.{NewRow}
 use Rattle.px_sql.specs.declared.calls.NewRow.TheVariants.{Meta, Slot, Floor, Learned}

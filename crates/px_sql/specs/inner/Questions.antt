@@ -4,10 +4,12 @@ use Rattle.std.specs.declared.alloc.Global.{Global}
 use Rattle.sqlite_value.specs.Order.{Row}
 use Rattle.sqlite.specs.Tree.{Trees}
 use Rattle.sqlite.specs.State.{State}
-use Rattle.px_sql.specs.Tables.{get_meta, get_slot, get_floor, get_learned, get_top, get_end, get_last, key_params}
+use Rattle.px_sql.specs.inner.Tables.{get_meta, get_slot, get_floor, get_learned, get_top, get_end, get_last}
+use Rattle.px_sql.specs.inner.Tables.{key_params}
 use Rattle.px_sql.specs.Seen.{seen, meta_columns, slot_columns, floor_columns, learned_columns}
-use Rattle.px_sql.specs.Seen.{IsLast, has_ballot, any_row}
-use Rattle.px_sql.specs.Effect.{IsAlike, IsStill, LeavesOld}
+use Rattle.px_sql.specs.Seen.{has_ballot, any_row}
+use Rattle.px_sql.specs.inner.Seen.{IsLast}
+use Rattle.px_sql.specs.inner.Effect.{IsAlike, IsStill, LeavesOld}
 use Rattle.px_sql.specs.declared.calls.Question.{Question}
 use Rattle.px_sql.specs.declared.calls.Question.TheVariants.{Meta, Floor, Slot, Learned, Top, End, LastSlot}
 use Rattle.px_sql.specs.declared.calls.Trouble.{Trouble}

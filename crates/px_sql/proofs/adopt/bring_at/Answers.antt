@@ -4,7 +4,8 @@ use Rattle.sqlite.specs.Held.{state}
 use Rattle.sqlite.specs.Effect.{Database}
 use Rattle.px_sql.specs.Adopting.{IsVerdict, AreBrought}
 use Rattle.px_sql.specs.Formats.{trees_at, number_of}
-use Rattle.px_sql.specs.Judging.{has_rows, rows_in, refusal, refusal_of}
+use Rattle.px_sql.specs.Judging.{has_rows, refusal, refusal_of}
+use Rattle.px_sql.specs.inner.Judging.{rows_in}
 use Rattle.px_sql.specs.Seen.{seen, meta_columns, floor_columns, number_at}
 use Rattle.px_sql.specs.inner.Making.{Brought}
 use Rattle.px_sql.proofs.Adopts.{shows_from, whole_from, alike_few, still}

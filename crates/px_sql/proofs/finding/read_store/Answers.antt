@@ -3,8 +3,9 @@ use Rattle.sqlite_value.specs.Order.{Row}
 use Rattle.sqlite.specs.Held.{state}
 use Rattle.sqlite.specs.Effect.{Database}
 use Rattle.px_sql.specs.Seen.{seen, meta_columns, floor_columns}
-use Rattle.px_sql.specs.Effect.{IsAlike}
-use Rattle.px_sql.specs.Judging.{has_rows, rows_in}
+use Rattle.px_sql.specs.inner.Effect.{IsAlike}
+use Rattle.px_sql.specs.Judging.{has_rows}
+use Rattle.px_sql.specs.inner.Judging.{rows_in}
 use Rattle.px_sql.specs.Formats.{trees_at}
 use Rattle.px_sql.proofs.Adopts.{same_then, still, with_table}
 use Rattle.px_sql.proofs.Questions.{first_has}

@@ -1,7 +1,8 @@
 use Rattle.std.proofs.Common.{ap, ◌∙◌}
 use Rattle.sqlite.specs.Held.{state}
 use Rattle.px_sql.specs.Formats.{trees_at}
-use Rattle.px_sql.specs.Judging.{has_rows, rows_in}
+use Rattle.px_sql.specs.Judging.{has_rows}
+use Rattle.px_sql.specs.inner.Judging.{rows_in}
 use Rattle.px_sql.proofs.Tops.{last_some}
 use Rattle.px_sql.proofs.finding.some_entry.Goals as goal
 

@@ -1,8 +1,10 @@
 use Rattle.std.proofs.Common.{List, ap, subst, ◌∙◌}
 use Rattle.sqlite_value.specs.Order.{Row}
 use Rattle.sqlite.specs.Held.{state}
-use Rattle.px_sql.specs.Seen.{IsLast, any_row}
-use Rattle.px_sql.specs.Judging.{has_rows, rows_in}
+use Rattle.px_sql.specs.Seen.{any_row}
+use Rattle.px_sql.specs.inner.Seen.{IsLast}
+use Rattle.px_sql.specs.Judging.{has_rows}
+use Rattle.px_sql.specs.inner.Judging.{rows_in}
 use Rattle.px_sql.proofs.Tops.{last_some}
 use Rattle.px_sql.proofs.Adopts.{with_table}
 use Rattle.px_sql.proofs.Questions.{second_has}

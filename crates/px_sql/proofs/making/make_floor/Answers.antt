@@ -1,5 +1,6 @@
 use Rattle.sqlite.specs.Held.{state}
-use Rattle.px_sql.specs.Tables.{schema_1, floor, make_floor}
+use Rattle.px_sql.specs.Tables.{schema_1, floor}
+use Rattle.px_sql.specs.inner.Tables.{make_floor}
 use Rattle.px_sql.proofs.Makes.{creates, makes_floor}
 use Rattle.px_sql.proofs.making.make_floor.Goals as goal
 

@@ -1,5 +1,6 @@
 use Rattle.sqlite.specs.Held.{state}
-use Rattle.px_sql.specs.Tables.{schema_2, learned, make_learned}
+use Rattle.px_sql.specs.Tables.{schema_2, learned}
+use Rattle.px_sql.specs.inner.Tables.{make_learned}
 use Rattle.px_sql.proofs.Makes.{creates, makes_learned}
 use Rattle.px_sql.proofs.making.make_learned.Goals as goal
 

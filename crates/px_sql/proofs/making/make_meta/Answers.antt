@@ -1,5 +1,6 @@
 use Rattle.sqlite.specs.Held.{state}
-use Rattle.px_sql.specs.Tables.{no_schema, meta, make_meta}
+use Rattle.px_sql.specs.Tables.{no_schema, meta}
+use Rattle.px_sql.specs.inner.Tables.{make_meta}
 use Rattle.px_sql.proofs.Makes.{creates, makes_meta}
 use Rattle.px_sql.proofs.making.make_meta.Goals as goal
 

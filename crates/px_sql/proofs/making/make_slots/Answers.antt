@@ -1,5 +1,6 @@
 use Rattle.sqlite.specs.Held.{state}
-use Rattle.px_sql.specs.Tables.{meta_schema, slots, make_slots}
+use Rattle.px_sql.specs.Tables.{slots}
+use Rattle.px_sql.specs.inner.Tables.{meta_schema, make_slots}
 use Rattle.px_sql.proofs.Makes.{creates, makes_slots}
 use Rattle.px_sql.proofs.making.make_slots.Goals as goal
 

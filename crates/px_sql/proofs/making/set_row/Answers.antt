@@ -1,5 +1,5 @@
 use Rattle.sqlite.specs.Held.{state}
-use Rattle.px_sql.specs.Tables.{put_meta, meta_params}
+use Rattle.px_sql.specs.inner.Tables.{put_meta, meta_params}
 use Rattle.px_sql.specs.Seen.{meta_columns, meta_row}
 use Rattle.px_sql.proofs.Texts.{meta_terms, meta_put}
 use Rattle.px_sql.proofs.Puts.{inside}

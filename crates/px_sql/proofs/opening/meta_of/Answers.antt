@@ -1,6 +1,6 @@
 use Rattle.std.proofs.Common.{refl}
 use Rattle.sqlite.specs.Held.{state}
-use Rattle.px_sql.specs.Judging.{rows_in}
+use Rattle.px_sql.specs.inner.Judging.{rows_in}
 use Rattle.px_sql.proofs.Adopts.{meta_shown}
 use Rattle.px_sql.proofs.opening.meta_of.Goals as goal
 

@@ -1,7 +1,7 @@
 use Rattle.std.proofs.Common.{◌≡◌, rules}
 use Rattle.px_model.specs.Node.{Record}
 use Rattle.px_model.specs.Spelling.{Bytes}
-use Rattle.px_sql.specs.Store.{with_entry}
+use Rattle.px_sql.specs.inner.Store.{with_entry}
 use Rattle.px_sql.proofs.Promises.{read_then, not_read}
 use Rattle.px_sql.specs.View.{view_of}
 use Rattle.px_sql.proofs.keeper.SqlRecords.learn.Goals as goal

@@ -3,7 +3,7 @@ use Rattle.sqlite.specs.Held.{state}
 use Rattle.px_model.specs.Node.{Meta, Record}
 use Rattle.px_model.specs.Spelling.{Bytes}
 use Rattle.px_model.specs.Entries.{entry_of}
-use Rattle.px_sql.specs.Store.{Changed}
+use Rattle.px_sql.specs.inner.Store.{Changed}
 use Rattle.px_sql.specs.View.{view_of}
 use Rattle.px_sql.proofs.Stored.{numbers_are}
 use Rattle.px_sql.proofs.Spelled.{command_long}

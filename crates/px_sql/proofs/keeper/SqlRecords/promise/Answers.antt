@@ -1,8 +1,8 @@
 use Rattle.std.proofs.Common.{◌≡◌, rules, sym, subst}
 use Rattle.px_model.specs.Node.{Record}
 use Rattle.px_model.specs.Spelling.{Bytes}
-use Rattle.px_sql.specs.Seen.{slot_with}
-use Rattle.px_sql.specs.Store.{with_promise, Changed}
+use Rattle.px_sql.specs.inner.Seen.{slot_with}
+use Rattle.px_sql.specs.inner.Store.{with_promise, Changed}
 use Rattle.px_sql.proofs.Promises.{read_then, not_read, promise_is, slot_range}
 use Rattle.px_sql.specs.View.{view_of}
 use Rattle.px_sql.proofs.keeper.SqlRecords.promise.Goals as goal

@@ -3,7 +3,8 @@ use Rattle.sqlite.specs.Held.{state}
 use Rattle.px_model.specs.Node.{Record}
 use Rattle.px_model.specs.Spelling.{Bytes}
 use Rattle.px_records.specs.Records.{IsEnd}
-use Rattle.px_sql.specs.Seen.{EndsAt, any_row}
+use Rattle.px_sql.specs.Seen.{any_row}
+use Rattle.px_sql.specs.inner.Seen.{EndsAt}
 use Rattle.px_records.specs.Records.Place.{EntryAt, LastEntry}
 use Rattle.px_sql.specs.Ready.{is_good, IsEntryGood}
 use Rattle.px_sql.proofs.Ends.{last_named}

@@ -3,7 +3,8 @@ use Rattle.sqlite.specs.Held.{state}
 use Rattle.px_model.specs.Node.{Record}
 use Rattle.px_model.specs.Step.{top}
 use Rattle.px_model.specs.Spelling.{Bytes}
-use Rattle.px_sql.specs.Seen.{EndsAt, has_ballot}
+use Rattle.px_sql.specs.Seen.{has_ballot}
+use Rattle.px_sql.specs.inner.Seen.{EndsAt}
 use Rattle.px_records.specs.Records.Place.{SlotAt, LastSlot}
 use Rattle.px_sql.specs.Ready.{is_good, IsSlotGood}
 use Rattle.px_sql.proofs.Ends.{last_named}

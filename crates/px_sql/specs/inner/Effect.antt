@@ -5,7 +5,8 @@ use Rattle.sqlite_value.specs.Order.{Row}
 use Rattle.sqlite.specs.Tree.{Trees}
 use Rattle.sqlite.specs.State.{State}
 use Rattle.px_sql.specs.Tables.{schema_3}
-use Rattle.px_sql.specs.Seen.{rows_at, seen, IsKeyed}
+use Rattle.px_sql.specs.Seen.{rows_at, seen}
+use Rattle.px_sql.specs.inner.Seen.{IsKeyed}
 
 -- outside a transaction, over the four tables
 pub record IsIdle (s : State) : Type 0 where
