@@ -12,7 +12,7 @@ use Rattle.pf_ruleset.specs.declared.parts.PortTest.TheVariants.{Equal, NotEqual
 use Rattle.pf_ruleset.specs.declared.parts.PortTest.TheVariants.{GreaterEqual, FromTo, Between, Outside}
 use Rattle.pf_ruleset.specs.declared.rule.Conditions.{Conditions}
 use Rattle.pf_ruleset.specs.Items.{AnyRule, FilterRule, AnchorRule, conditions_of}
-use Rattle.pf_classes.specs.declared.interval.Interval.{Interval}
+use Rattle.pf_intervals.specs.declared.interval.Interval.{Interval}
 use Rattle.pf_config.specs.declared.candidate.Sieve.{Sieve}
 use Rattle.pf_config.specs.declared.candidate.Candidate.{Candidate}
 

@@ -1,7 +1,7 @@
 //! A rule as a verdict comes to it: its index, and what few compares tell of its conditions.
 
 use pf_addr::Family;
-use pf_classes::Interval;
+use pf_intervals::Interval;
 use pf_ruleset::Direction;
 
 /// What few compares tell of a rule's conditions: the rule matches no packet that is outside of one of these.

@@ -41,6 +41,6 @@ pub use candidate_list::{CandidateList, Search};
 pub use config::{Config, RULES_MAX};
 pub use fault::ConfigFault;
 pub use path_text::parse_path;
-pub use pf_classes::{Interval, is_within};
+pub use pf_intervals::{Interval, is_within};
 pub use pf_table::Table;
 pub use sieve::front_bits;

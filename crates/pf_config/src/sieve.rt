@@ -6,7 +6,7 @@ ghost use Rattle.pf_config.specs.Orders.{host_interval, test_interval, port_inte
 
 use crate::candidate::Sieve;
 use pf_addr::Addr;
-use pf_classes::Interval;
+use pf_intervals::Interval;
 use pf_ruleset::{Addresses, Conditions, Host, PortTest};
 
 /// All numbers.

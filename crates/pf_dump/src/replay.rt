@@ -3,7 +3,7 @@
 ghost use Rattle.std.specs.Prelude.{◌≡◌, true, Some, IfOk, IfSome, OnOk, map, option_map};
 ghost use Rattle.pf_entry.specs.Entry.{are_names, path_of, rest_fits};
 ghost use Rattle.pf_entry.specs.Owned.{command_value};
-ghost use Rattle.pf_entry.specs.Views.{command_of};
+ghost use Rattle.pf_entry.specs.Seen.{command_of};
 ghost use Rattle.pf_effect.specs.Effect.{after_command};
 ghost use Rattle.pf_scripts.specs.Ctl.{pfctl, pfctl_line, at_words, stepped};
 ghost use Rattle.pf_scripts.specs.Seen.{line_of};

@@ -4,7 +4,7 @@ ghost use Rattle.std.specs.Prelude.{◌≡◌, IfOk, true};
 ghost use Rattle.pf_config.specs.Changes as change;
 ghost use Rattle.pf_grammar.specs.Reading.{reading};
 ghost use Rattle.pf_entry.specs.Entry.{are_names, path_of, rest_fits};
-ghost use Rattle.pf_entry.specs.Views.{addresses_of, command_of};
+ghost use Rattle.pf_entry.specs.Seen.{addresses_of, command_of};
 ghost use Rattle.pf_effect.specs.Effect.{effect, entries_of, place_at, loaded, counted, after_command};
 ghost use Rattle.pf_effect.specs.Answers.{Applies, Leaves};
 ghost use Rattle.pf_effect.specs.inner.Answers.{answer_of};

@@ -4,7 +4,7 @@ use Rattle.pf_ruleset.specs.declared.ruleset.TableEntry as rust_address
 use Rattle.pf_entry.specs.declared.command.Command as rust_command
 use Rattle.pf_entry.specs.declared.command.Command.TheVariants as owned
 use Rattle.pf_entry.specs.declared.command.Entry as rust_entry
-use Rattle.pf_entry.specs.Views.{address_of}
+use Rattle.pf_entry.specs.Seen.{address_of}
 use Rattle.pf_entry.specs.Entry.{Address, Command, load, flush_rules, flush_tables, flush_all, add, delete, replace}
 use Rattle.pf_entry.specs.Entry.{flush_table, Entry, spelling}
 

@@ -4,7 +4,7 @@ ghost use Rattle.std.specs.Prelude.{◌≡◌, ◌++◌, ℕ, List, [], IfOk, Is
 ghost use Rattle.std.specs.Result.{result_ok};
 ghost use Rattle.pf_entry.specs.Entry.{Entry, Fits, EntryBytes, spelling};
 ghost use Rattle.pf_entry.specs.Reading.{reading};
-ghost use Rattle.pf_entry.specs.Views.{entry_of};
+ghost use Rattle.pf_entry.specs.Seen.{entry_of};
 
 use crate::fault::BadEntry;
 use crate::reading::entry_in;

@@ -8,7 +8,7 @@ impl<'a> Iterator for Names<'a> {
     type Item = &'a [u8];
 
     ghost use Rattle.std.specs.Iterator.{YieldsFirstBy, item_count};
-    ghost use Rattle.pf_entry.specs.Views.{names_of};
+    ghost use Rattle.pf_entry.specs.Seen.{names_of};
 
     ghost next_gives = { YieldsFirstBy (λ x. x.now) names_of };
 
@@ -31,7 +31,7 @@ impl Iterator for Addresses<'_> {
     type Item = TableEntry;
 
     ghost use Rattle.std.specs.Iterator.{YieldsFirstBy, item_count};
-    ghost use Rattle.pf_entry.specs.Views.{address_of, addresses_of};
+    ghost use Rattle.pf_entry.specs.Seen.{address_of, addresses_of};
 
     ghost next_gives = { YieldsFirstBy address_of addresses_of };
 

@@ -7,7 +7,7 @@
 //! - [`EntryView`], with a [`CommandView`]: what bytes spell. [`decode`] gives it and takes no memory; `to_entry` owns
 //!   it.
 //! - `specs/Entry` is what is to be believed: `spelling`, `Fits`, `EntryBytes`. `specs/Reading` reads from left to
-//!   right and is shown equal; `specs/Views` and `specs/Owned` say what the types stand for.
+//!   right and is shown equal; `specs/Seen` and `specs/Owned` say what the types stand for.
 //!
 //! # The bytes of an entry
 //!

@@ -2,7 +2,7 @@
 
 ghost use Rattle.std.specs.Prelude.{◌≡◌, ◌≤◌, length, true, IfOk};
 ghost use Rattle.pf_entry.specs.Entry.{is_name, is_table, are_names, path_of, rest_fits, Fits};
-ghost use Rattle.pf_entry.specs.Views.{names_of, addresses_of, command_of, entry_of};
+ghost use Rattle.pf_entry.specs.Seen.{names_of, addresses_of, command_of, entry_of};
 ghost use Rattle.pf_entry.specs.Owned.{addresses_value, command_value, entry_value};
 
 use crate::command::{Command, Entry, SomeAddresses};

@@ -8,7 +8,7 @@ ghost use Rattle.pf_entry.specs.Reading.{byte_at, number_at, text_at, counted_at
 ghost use Rattle.pf_entry.specs.Reading.{sign_at, base_at, address_at, addresses_at, list_at, load_at, change_at};
 ghost use Rattle.pf_entry.specs.Reading.{add_at, delete_at, replace_at, flush_table_at, rest_at, command_at, asked_at};
 ghost use Rattle.pf_entry.specs.Reading.{entry_at, reading};
-ghost use Rattle.pf_entry.specs.Views.{address_of, names_of, addresses_of, command_of, entry_of};
+ghost use Rattle.pf_entry.specs.Seen.{address_of, names_of, addresses_of, command_of, entry_of};
 
 use crate::limits::{ADDRESSES, ASKER, ENTRY_BYTES, HALF, LAST_MEMBER, NAMES, NUMBERS};
 use crate::view::{Addresses, CommandView, EntryView, Names};

@@ -6,7 +6,7 @@ ghost use Rattle.std.specs.List.{flat_map, list_all};
 ghost use Rattle.std.specs.Int.{w32, to_be_bytes};
 ghost use Rattle.pf_entry.specs.Entry.{is_table, are_names, in_family, is_address, rest_fits, counted, path, sign};
 ghost use Rattle.pf_entry.specs.Entry.{family, halves, bits, address, addresses, format, kind, path_of, rest, spelling};
-ghost use Rattle.pf_entry.specs.Views.{address_of};
+ghost use Rattle.pf_entry.specs.Seen.{address_of};
 ghost use Rattle.pf_entry.specs.Owned.{addresses_value, command_value, entry_value, is_long};
 ghost use Rattle.pf_entry.specs.declared.limits.TheConstants.{ADDRESSES, ENTRY_BYTES};
 

@@ -17,7 +17,7 @@ use Rattle.pf_ruleset.specs.declared.rule.Conditions.{Conditions}
 use Rattle.pf_config.specs.Orders.{everything, around, between, front_bits, set_interval, host_interval, test_interval, port_interval, sieve_of}
 use Rattle.pf_eval.specs.Packets.{PacketValue}
 use Rattle.pf_eval.specs.Matching.{Tables, at_host, in_addresses, port_passes, if_set, if_there, direction_eq, of_family, is_such, is_between, matches}
-use Rattle.pf_classes.specs.Intervals.{is_within}
+use Rattle.pf_intervals.specs.Intervals.{is_within}
 use Rattle.pf_eval.specs.inner.Sieves.{port_or_0, key_of, passes}
 
 -- ---- numbers within intervals

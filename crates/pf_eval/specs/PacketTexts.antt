@@ -46,7 +46,6 @@ abbrev pub Read : Type 0 → Type 0
 Read X = Option (X × List Word)
 
 infixl 10 ◌>>=◌
-
 abbrev pub ◌>>=◌ : {A B : Type 0} → Option A → (A → Option B) → Option B
 (Some x) >>= f = f x
 None >>= f = None

@@ -2,7 +2,7 @@
 
 ghost use Rattle.std.specs.Prelude.{◌≡◌, ◌++◌, OnOk, string_bytes};
 ghost use Rattle.px_model.specs.Entries.{view_of};
-ghost use Rattle.px_wire.specs.Views.{message_of, accepted_of};
+ghost use Rattle.px_wire.specs.Seen.{message_of, accepted_of};
 ghost use Rattle.pf_lab_scripts.specs.inner.Shown.{kind_word, ballot_part, position_part, entry_part, accepted_part};
 ghost use Rattle.pf_lab_scripts.specs.inner.Shown.{message_parts, message_line};
 

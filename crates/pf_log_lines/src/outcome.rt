@@ -3,7 +3,7 @@
 ghost use Rattle.std.specs.Prelude.{◌≡◌, ◌++◌, OnOk, string_bytes, option_map};
 ghost use Rattle.px_model.specs.Spelling.{spelled};
 ghost use Rattle.pf_entry.specs.Reading.{reading};
-ghost use Rattle.pf_entry.specs.Views.{command_of};
+ghost use Rattle.pf_entry.specs.Seen.{command_of};
 ghost use Rattle.pf_scripts.specs.Ctl.{is_counted};
 ghost use Rattle.pf_node.specs.Nodes.{learned_by, applied_of, kept_of};
 ghost use Rattle.pf_log_lines.specs.Outcomes.{kept_line};

@@ -10,7 +10,7 @@ use Rattle.px_model.specs.Entries.{view_of}
 use Rattle.px_model.specs.declared.entry.EntryView.{EntryView}
 use Rattle.px_wire.proofs.Lending.{ten_bytes}
 use Rattle.px_wire.specs.Message.{Group, Lent, Message, DatagramBytes}
-use Rattle.px_wire.specs.Views.{lent_of}
+use Rattle.px_wire.specs.Seen.{lent_of}
 use Rattle.pf_net.specs.declared.answer.AskAnswer.{AskAnswer}
 use Rattle.pf_net.specs.declared.answer.AskAnswer.TheVariants.{NoAnswer}
 use Rattle.pf_net.specs.Asking.{ask_answer, Answers, Hears, Listens}

@@ -5,7 +5,7 @@ ghost use Rattle.std.specs.Prelude.{ℕ, List};
 ghost use Rattle.pf_entry.specs.Entry.{EntryBytes};
 ghost use Rattle.pf_entry.specs.Owned.{is_over};
 ghost use Rattle.px_wire.specs.Message.{group};
-ghost use Rattle.px_wire.specs.Views.{lent_of, message_of};
+ghost use Rattle.px_wire.specs.Seen.{lent_of, message_of};
 ghost use Rattle.px_transport.specs.Wires.{Grows};
 ghost use Rattle.pf_net.specs.Asking.{asked_entry, lent_ask, IsAsk, ask_answer, Answers, Hears, Listens};
 ghost use Rattle.pf_net.specs.declared.asking.TheConstants.{ASKER};

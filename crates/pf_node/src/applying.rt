@@ -4,7 +4,7 @@ ghost use Rattle.std.specs.Prelude.{◌≡◌, ◌≤◌, Some, IfOk, OnOk, OnEr
 ghost use Rattle.pf_effect.specs.Effect.{after_command, effect};
 ghost use Rattle.pf_entry.specs.Entry.{are_names, path_of, rest_fits};
 ghost use Rattle.pf_entry.specs.Reading.{reading};
-ghost use Rattle.pf_entry.specs.Views.{command_of};
+ghost use Rattle.pf_entry.specs.Seen.{command_of};
 ghost use Rattle.px_model.specs.Entries.{entry_of};
 ghost use Rattle.px_model.specs.Spelling.{spelled};
 ghost use Rattle.px_model.specs.Step.{front};

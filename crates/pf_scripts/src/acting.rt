@@ -5,7 +5,7 @@ ghost use Rattle.pf_grammar.specs.Reading.{reading};
 ghost use Rattle.pf_words.specs.declared.profile.Profile.TheVariants.{Two};
 ghost use Rattle.pf_entry.specs.Entry.{are_names, path_of, rest_fits};
 ghost use Rattle.pf_entry.specs.Owned.{command_value};
-ghost use Rattle.pf_entry.specs.Views.{command_of};
+ghost use Rattle.pf_entry.specs.Seen.{command_of};
 ghost use Rattle.pf_effect.specs.Effect.{effect, after_command, place_at};
 ghost use Rattle.pf_command.specs.Asked.{is_too_long};
 ghost use Rattle.pf_command.specs.Answers.{action_value, IsShort};

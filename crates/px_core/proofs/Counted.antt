@@ -3,7 +3,7 @@ use Rattle.std.proofs.Common.{[], ◌∷◌, refl, zero, suc, ◌≡◌, ℕ, �
 use Rattle.std.proofs.lemmas.Bool.{cond_both, eqb-false}
 use Rattle.std.proofs.Math.Path.{fun_ext}
 use Rattle.px_model.specs.Step.{put}
-use Rattle.px_core.specs.Views.{counted_of}
+use Rattle.px_core.specs.Seen.{counted_of}
 
 pub counted_set : (counted : List Bool) (m : ℕ) → m < length counted → counted_of (slice_set counted m true) ≡ put (counted_of counted) m true
 unfolding counted_of

@@ -6,7 +6,7 @@ use Rattle.px_model.specs.Node.Answer.{Planned}
 use Rattle.px_model.specs.Node.Change.{NewRound, NewNumber, NewFloor, NewPromise, NewAccepted, NewLearned}
 use Rattle.px_model.specs.Step.{commit, step}
 use Rattle.px_model.specs.Spelling.{Bytes}
-use Rattle.px_model.specs.Views.{slot_of, input_of}
+use Rattle.px_model.specs.Seen.{slot_of, input_of}
 use Rattle.px_model.proofs.Enough.{reads_suffice}
 use Rattle.px_model.proofs.Rising.{steps_rise}
 use Rattle.px_core.specs.Planning.{State, learned_after}

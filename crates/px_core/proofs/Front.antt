@@ -8,7 +8,7 @@ use Rattle.px_model.specs.Step.{front, positions, put}
 use Rattle.px_model.proofs.Plans.{front_within, below_front, at_front}
 use Rattle.px_model.proofs.Reading.{front_is}
 use Rattle.px_model.proofs.Reach.{front_grows}
-use Rattle.px_core.specs.Views.{HasRoom, learning, log_in, front_in}
+use Rattle.px_core.specs.Seen.{HasRoom, learning, log_in, front_in}
 use Rattle.px_core.specs.declared.plan.Next.{Next}
 use Rattle.px_core.specs.declared.plan.Next.TheVariants as next
 use Rattle.px_core.specs.declared.state.Core.{Core}

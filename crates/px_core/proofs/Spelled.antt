@@ -6,7 +6,7 @@ use Rattle.px_model.specs.Node.Answer.{Planned}
 use Rattle.px_model.specs.Step.{front, put, positions, nothing_volatile}
 use Rattle.px_model.specs.Fits.{Passes, PartsFit, PartsAnswerFits, LogFits, VolatileFits, EntryFits, IsPosition, parts_with}
 use Rattle.px_model.specs.Spelling.{Bytes}
-use Rattle.px_model.specs.Views.{slot_of, meta_of, input_of}
+use Rattle.px_model.specs.Seen.{slot_of, meta_of, input_of}
 use Rattle.px_model.specs.declared.record.Meta.{Meta}
 use Rattle.px_model.specs.declared.record.Slot.{Slot}
 use Rattle.px_model.specs.declared.message.Event.{Event}

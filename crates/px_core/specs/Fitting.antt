@@ -5,7 +5,7 @@ use Rattle.px_model.specs.Node as node
 use Rattle.px_model.specs.Step.{front, positions}
 use Rattle.px_model.specs.Fits.{Passes, MetaFits, SlotFits, LogFits, VolatileFits, InputFits, ChangeFits, SendsFit}
 use Rattle.px_model.specs.Spelling.{Bytes}
-use Rattle.px_model.specs.Views.{slot_of, meta_of, input_of}
+use Rattle.px_model.specs.Seen.{slot_of, meta_of, input_of}
 use Rattle.px_model.specs.declared.record.Slot.{Slot}
 use Rattle.px_model.specs.declared.record.Meta.{Meta}
 use Rattle.px_model.specs.declared.message.Event.{Event}

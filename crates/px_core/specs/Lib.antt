@@ -1,6 +1,6 @@
 pub mod Logs
 pub mod Cells
-pub mod Views
+pub mod Seen
 pub mod Planning
 pub mod Fitting
 pub mod OneStep

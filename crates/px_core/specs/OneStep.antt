@@ -7,7 +7,7 @@ use Rattle.px_model.specs.Step.{commit}
 use Rattle.px_model.specs.Rising.{Rises}
 use Rattle.px_model.specs.World.{NodeState, follows, step_of}
 use Rattle.px_model.specs.Spelling.{Bytes}
-use Rattle.px_model.specs.Views.{slot_of, meta_of, input_of, reads_of, IsRead}
+use Rattle.px_model.specs.Seen.{slot_of, meta_of, input_of, reads_of, IsRead}
 use Rattle.px_model.specs.declared.record.Slot.{Slot}
 use Rattle.px_model.specs.declared.record.Meta.{Meta}
 use Rattle.px_model.specs.declared.message.Event.{Event}

@@ -5,7 +5,7 @@ use Rattle.px_model.specs.Node as node
 use Rattle.px_model.specs.Node.{Volatile, Log, Answer}
 use Rattle.px_model.specs.Step.{put, positions, nothing_volatile, step}
 use Rattle.px_model.specs.Spelling.{Bytes}
-use Rattle.px_model.specs.Views.{slot_of, meta_of, change_of, input_of}
+use Rattle.px_model.specs.Seen.{slot_of, meta_of, change_of, input_of}
 use Rattle.px_model.specs.declared.entry.EntryView.{EntryView}
 use Rattle.px_model.specs.declared.record.Slot.{Slot}
 use Rattle.px_model.specs.declared.record.Meta.{Meta}
@@ -17,7 +17,7 @@ use Rattle.px_core.specs.declared.plan.Plan.{Plan}
 use Rattle.px_core.specs.declared.plan.CoreFault.{CoreFault}
 use Rattle.px_core.specs.declared.plan.CoreFault.TheVariants as fault
 use Rattle.px_core.specs.declared.state.Core.{Core}
-use Rattle.px_core.specs.Views.{volatile_in, log_in, settled, learning, sends_of, HasRoom}
+use Rattle.px_core.specs.Seen.{volatile_in, log_in, settled, learning, sends_of, HasRoom}
 
 -- What a core stands for: how many members there are, which one it is, what it learned, its volatile part.
 pub record State : Type 0 where

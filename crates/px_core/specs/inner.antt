@@ -1,4 +1,4 @@
 -- What only code and proofs use: no contract of a public function needs it.
 pub mod Cells
 pub mod Planning
-pub mod Views
+pub mod Seen

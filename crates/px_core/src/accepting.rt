@@ -5,9 +5,9 @@ ghost use Rattle.px_model.specs.Step.{on_accept, on_prepare, on_prepare_all, pro
 ghost use Rattle.px_model.specs.Spelling.{Bytes};
 ghost use Rattle.px_model.specs.Entries.{entry_of, view_of};
 ghost use Rattle.px_core.specs.declared.state.Core.{Core};
-ghost use Rattle.px_model.specs.Views.{proposal_of, slot_of, meta_of};
+ghost use Rattle.px_model.specs.Seen.{proposal_of, slot_of, meta_of};
 ghost use Rattle.px_core.specs.Planning.{IsFor};
-ghost use Rattle.px_core.specs.inner.Views.{plan_of};
+ghost use Rattle.px_core.specs.inner.Seen.{plan_of};
 
 use crate::plan::{Next, Plan, Sends};
 use px_model::{Change, Entry, EntryView, Message, Meta, Proposal, Slot};

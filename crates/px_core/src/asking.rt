@@ -8,11 +8,11 @@ ghost use Rattle.px_model.specs.Spelling.{Bytes};
 ghost use Rattle.px_model.specs.Entries.{entry_of, view_of};
 ghost use Rattle.px_core.specs.Logs.{learned_in};
 ghost use Rattle.px_core.specs.declared.state.Core.{Core};
-ghost use Rattle.px_model.specs.Views.{meta_of};
+ghost use Rattle.px_model.specs.Seen.{meta_of};
 ghost use Rattle.px_core.specs.Planning.{IsFor};
 ghost use Rattle.px_core.specs.inner.Planning.{IsAnswer};
-ghost use Rattle.px_core.specs.Views.{front_in, volatile_in, log_in, attempt_of, lead_of};
-ghost use Rattle.px_core.specs.inner.Views.{plan_of, plan_in};
+ghost use Rattle.px_core.specs.Seen.{front_in, volatile_in, log_in, attempt_of, lead_of};
+ghost use Rattle.px_core.specs.inner.Seen.{plan_of, plan_in};
 
 use crate::limits::{NUMBERS, POSITIONS, WAITING};
 use crate::plan::{Attempt, CoreFault, Lead, Next, Phase, Plan, Sends};

@@ -10,8 +10,8 @@ ghost use Rattle.px_core.specs.Cells.{kept_in};
 ghost use Rattle.px_model.specs.Entries.{entry_of, view_of};
 ghost use Rattle.px_core.specs.Logs.{learned_in};
 ghost use Rattle.px_core.specs.Planning.{IsFor};
-ghost use Rattle.px_core.specs.Views.{volatile_in, log_in};
-ghost use Rattle.px_core.specs.inner.Views.{plan_of, plan_in, RoomAt};
+ghost use Rattle.px_core.specs.Seen.{volatile_in, log_in};
+ghost use Rattle.px_core.specs.inner.Seen.{plan_of, plan_in, RoomAt};
 
 use crate::limits::{POSITIONS, WINDOW};
 use crate::plan::{Next, Plan, Sends};

@@ -4,12 +4,12 @@ ghost use Rattle.std.specs.Cmp.Lexicographic.{pointwise};
 ghost use Rattle.px_model.specs.Node.Answer.{Planned};
 ghost use Rattle.px_model.specs.Step.{on_message};
 ghost use Rattle.px_model.specs.Spelling.{Bytes};
-ghost use Rattle.px_model.specs.Views.{meta_of, slot_of, come_of};
+ghost use Rattle.px_model.specs.Seen.{meta_of, slot_of, come_of};
 ghost use Rattle.px_core.specs.Planning.{state_in, state_of, planned, step_with, IsFor, IsRefusal, MayCome};
 ghost use Rattle.px_core.specs.Planning.{MayComeFrom};
 ghost use Rattle.px_core.specs.Fitting.{CoreFits, HandedFits, PlanFits};
-ghost use Rattle.px_core.specs.Views.{volatile_in, log_in};
-ghost use Rattle.px_core.specs.inner.Views.{plan_in, RoomToLearn};
+ghost use Rattle.px_core.specs.Seen.{volatile_in, log_in};
+ghost use Rattle.px_core.specs.inner.Seen.{plan_in, RoomToLearn};
 
 use crate::accepting::Acceptor;
 use crate::plan::{CoreFault, Plan};

@@ -9,10 +9,10 @@ ghost use Rattle.px_model.specs.Spelling.{Bytes};
 ghost use Rattle.px_model.specs.Entries.{entry_of, view_of};
 ghost use Rattle.px_core.specs.Logs.{learned_in};
 ghost use Rattle.px_core.specs.declared.state.Core.{Core};
-ghost use Rattle.px_model.specs.Views.{proposal_of, report_of};
+ghost use Rattle.px_model.specs.Seen.{proposal_of, report_of};
 ghost use Rattle.px_core.specs.Planning.{IsFor};
-ghost use Rattle.px_core.specs.Views.{counted_of, volatile_in, log_in, attempt_of, lead_of};
-ghost use Rattle.px_core.specs.inner.Views.{plan_of, plan_in};
+ghost use Rattle.px_core.specs.Seen.{counted_of, volatile_in, log_in, attempt_of, lead_of};
+ghost use Rattle.px_core.specs.inner.Seen.{plan_of, plan_in};
 ghost use Rattle.px_core.specs.declared.limits.TheConstants.{MEMBERS};
 
 use crate::accepting::share_proposal;
@@ -34,7 +34,7 @@ pub(crate) fn idle_plan() -> Plan
 }
 
 /// Whether more than half of the members are marked.
-#[tactic(auto, unfolding(crate::specs::Views::counted_of))]
+#[tactic(auto, unfolding(crate::specs::Seen::counted_of))]
 fn majority(members: u8, counted: &[bool; 15]) -> bool
     requires { members ≤ MEMBERS }
     ensures { result ≡ is_majority members (counted_of counted.now) }
@@ -60,7 +60,7 @@ fn marked(counted: &[bool; 15], member: u8) -> [bool; 15]
 }
 
 /// The greatest top told, with this one; a member's counts once.
-#[tactic(auto, unfolding(crate::specs::Views::counted_of))]
+#[tactic(auto, unfolding(crate::specs::Seen::counted_of))]
 fn greatest_top(counted: &[bool; 15], member: u8, highest: u32, top: u32) -> u32
     requires { member < MEMBERS }
     ensures { result ≡ (if counted_of counted.now member then highest else max highest top) }

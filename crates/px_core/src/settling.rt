@@ -13,7 +13,7 @@ ghost use Rattle.px_core.specs.Logs.{learned_in};
 ghost use Rattle.px_model.specs.Spelling.{Bytes};
 ghost use Rattle.px_core.specs.Fitting.{CoreFits, PlanFits};
 ghost use Rattle.px_core.specs.Planning.{state_of, planned, settles, IsFor};
-ghost use Rattle.px_core.specs.Views.{attempt_of, volatile_in, log_in, settled, learning, with_learned, HasRoom};
+ghost use Rattle.px_core.specs.Seen.{attempt_of, volatile_in, log_in, settled, learning, with_learned, HasRoom};
 ghost use Rattle.px_core.specs.declared.limits.TheConstants.{WAITING};
 
 use crate::learning::learned_at;

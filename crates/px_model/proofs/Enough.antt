@@ -6,7 +6,7 @@ use Rattle.px_model.specs.Node.Input.{Asks, Ticks, Comes}
 use Rattle.px_model.specs.Step.{top, position_of, step}
 use Rattle.px_model.specs.World.{NodeState, step_of}
 use Rattle.px_model.specs.Spelling.{Bytes}
-use Rattle.px_model.specs.Views.{ReadsSuffice, IsRead, reads_of}
+use Rattle.px_model.specs.Seen.{ReadsSuffice, IsRead, reads_of}
 use Rattle.px_model.proofs.Unread.{reads_slot, reads_top, slot_unread, top_unread}
 
 module _ (same : Bytes → Bytes → Bool) (n me : ℕ) (s : NodeState Bytes) where

@@ -10,7 +10,7 @@ pub mod FitsCases
 pub mod MoreCases
 pub mod Spelling
 pub mod Entries
-pub mod Views
+pub mod Seen
 pub mod Bounds
 pub mod Rising
 pub mod inner

@@ -5,7 +5,7 @@ ghost use Rattle.px_model.specs.Bounds.{AnyCommand};
 ghost use Rattle.px_model.specs.Fits.{Passes, IsBallot, IsPromise, EntryFits, ProposalFits, MetaFits, SlotFits};
 ghost use Rattle.px_model.specs.Spelling.{Bytes};
 ghost use Rattle.px_model.specs.Entries.{view_of};
-ghost use Rattle.px_model.specs.Views.{meta_of, slot_of, proposal_of};
+ghost use Rattle.px_model.specs.Seen.{meta_of, slot_of, proposal_of};
 
 use crate::entry::{Entry, EntryView};
 use crate::record::{Meta, Proposal, Slot};

@@ -1,6 +1,6 @@
 //! Messages lent as they come, and what an event reads of the record.
 ghost use Rattle.std.specs.Prelude.{◌≡◌, option_map};
-ghost use Rattle.px_model.specs.Views.{message_of, come_of, input_of, proposal_of, report_of, message_reads, reads_of};
+ghost use Rattle.px_model.specs.Seen.{message_of, come_of, input_of, proposal_of, report_of, message_reads, reads_of};
 
 use crate::entry::{Entry, EntryView};
 use crate::message::{Event, Message, Reads};

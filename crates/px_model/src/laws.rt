@@ -1,5 +1,5 @@
 //! What holds of every run of the replicated log, whatever its messages and members meet.
-ghost use Rattle.px_model.specs.Views.{ReadsSuffice};
+ghost use Rattle.px_model.specs.Seen.{ReadsSuffice};
 ghost use Rattle.px_model.specs.Reach.{AlwaysInReach, FrontsStay, TicksLearnNothing};
 ghost use Rattle.px_model.specs.Rising.{StepsRise};
 ghost use Rattle.px_model.specs.Fits.{AlwaysFits, PartsStepsFit, StartsFit, StepsFit};

@@ -9,7 +9,7 @@
 //! - [`laws`]: what holds of every run, proved of these definitions.
 //! - [`worked`]: the runs, steps and messages, each the contract of a function.
 //! - The plain types that a member's code, its record and its datagrams share: [`Entry`] as it is spelled, [`Meta`],
-//!   [`Slot`] and [`Change`] of the record, [`Message`] and [`Event`]. `Spelling`, `Entries` and `Views` in `specs/`
+//!   [`Slot`] and [`Change`] of the record, [`Message`] and [`Event`]. `Spelling`, `Entries` and `Seen` in `specs/`
 //!   say what each stands for.
 //!
 //! Source: Lamport, "Paxos Made Simple" (2001).

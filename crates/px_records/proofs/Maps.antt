@@ -6,7 +6,7 @@ use Rattle.std.specs.BTreeMap.{BTreeMap}
 use Rattle.px_model.specs.Node.{Slot, Entry, Log}
 use Rattle.px_model.specs.Step.{put}
 use Rattle.px_model.specs.Spelling.{Bytes}
-use Rattle.px_model.specs.Views.{meta_of}
+use Rattle.px_model.specs.Seen.{meta_of}
 use Rattle.px_model.specs.declared.entry.Entry as entry
 use Rattle.px_model.specs.declared.record.Slot as code
 use Rattle.px_model.specs.declared.record.Meta.{Meta}

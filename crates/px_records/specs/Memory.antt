@@ -6,7 +6,7 @@ use Rattle.px_model.specs.Node as node
 use Rattle.px_model.specs.Node.{Record}
 use Rattle.px_model.specs.Spelling.{Bytes}
 use Rattle.px_model.specs.Entries.{entry_of}
-use Rattle.px_model.specs.Views.{slot_of, meta_of}
+use Rattle.px_model.specs.Seen.{slot_of, meta_of}
 use Rattle.px_model.specs.declared.entry.Entry.{Entry}
 use Rattle.px_model.specs.declared.record.Slot.{Slot}
 use Rattle.px_model.specs.declared.record.Meta.{Meta}

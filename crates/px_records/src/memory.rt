@@ -6,7 +6,7 @@ ghost use Rattle.px_model.specs.Bounds.{AnyCommand};
 ghost use Rattle.px_model.specs.Step as step;
 ghost use Rattle.px_model.specs.World.{nothing_stored};
 ghost use Rattle.px_model.specs.Entries.{entry_of};
-ghost use Rattle.px_model.specs.Views.{slot_of};
+ghost use Rattle.px_model.specs.Seen.{slot_of};
 ghost use Rattle.px_model.specs.Fits.{RecordFits};
 ghost use Rattle.px_records.specs.Records.{IsEnd};
 ghost use Rattle.px_records.specs.Memory.{slots_in, learned_in, record_of};

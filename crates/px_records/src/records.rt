@@ -5,7 +5,7 @@ ghost use Rattle.px_model.specs.Step.{commit as committed, top, positions};
 ghost use Rattle.px_model.specs.Spelling.{Bytes};
 ghost use Rattle.px_model.specs.Fits.{MetaFits, SlotFits, EntryFits, ChangeFits};
 ghost use Rattle.px_model.specs.Entries.{entry_of};
-ghost use Rattle.px_model.specs.Views.{meta_of, slot_of, change_of};
+ghost use Rattle.px_model.specs.Seen.{meta_of, slot_of, change_of};
 ghost use Rattle.px_records.specs.Records.{learned_of, Place, NamesGood, IsEnd, Rises};
 ghost use Rattle.px_records.specs.Records.{IsStoresFault, IsRead, LeavesOne};
 ghost use Rattle.px_records.specs.Records.Place.{SlotAt, EntryAt, LastSlot, LastEntry};

@@ -11,7 +11,7 @@ use Rattle.px_model.specs.World.{NodeState}
 use Rattle.px_model.specs.Fits.{sends_of}
 use Rattle.px_model.specs.Spelling.{Bytes, spelled}
 use Rattle.px_model.specs.Entries.{view_of}
-use Rattle.px_model.specs.Views.{come_of}
+use Rattle.px_model.specs.Seen.{come_of}
 use Rattle.px_model.specs.declared.entry.EntryView.{EntryView}
 use Rattle.px_model.specs.declared.message.Message as declared
 use Rattle.px_model.specs.declared.message.Message.TheVariants as views
@@ -20,7 +20,7 @@ use Rattle.px_wire.specs.declared.membership.Membership.{Membership}
 use Rattle.px_wire.specs.Message.{Group, group, Message, ask, IsBody, DatagramBytes}
 use Rattle.px_wire.specs.Members as members
 use Rattle.px_wire.specs.Members.{as_sent, Passing}
-use Rattle.px_wire.specs.Views.{message_of}
+use Rattle.px_wire.specs.Seen.{message_of}
 use Rattle.px_wire.proofs.Members.{lent_is_sent}
 use Rattle.px_replica.specs.Faults.{IsRefusedBy, IsReceiveFault}
 use Rattle.px_replica.specs.inner.Faults.{IsFromBelow}

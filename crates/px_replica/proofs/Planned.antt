@@ -6,12 +6,12 @@ use Rattle.px_model.specs.Node.{Envelope}
 use Rattle.px_model.specs.Node.Answer.{Planned}
 use Rattle.px_model.specs.Fits.{Passes, InputFits, ChangeFits, SendsFit}
 use Rattle.px_model.specs.Spelling.{Bytes}
-use Rattle.px_model.specs.Views.{change_of, input_of, reads_of}
+use Rattle.px_model.specs.Seen.{change_of, input_of, reads_of}
 use Rattle.px_model.specs.declared.message.Event.{Event}
 use Rattle.px_core.specs.declared.plan.Plan.{Plan}
 use Rattle.px_core.specs.declared.plan.CoreFault.{CoreFault}
 use Rattle.px_core.specs.declared.state.Core.{Core}
-use Rattle.px_core.specs.Views.{sends_of}
+use Rattle.px_core.specs.Seen.{sends_of}
 use Rattle.px_core.specs.Planning.{State, state_of, volatile_after, planned, step_with, IsRefusal, MayCome}
 use Rattle.px_core.specs.Fitting.{HandedFits, PlanFits}
 use Rattle.px_core.proofs.Following.{answers_as_a_member}

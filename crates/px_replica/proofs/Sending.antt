@@ -9,10 +9,10 @@ use Rattle.px_model.specs.Step.{to_all}
 use Rattle.px_model.specs.Law.{Among}
 use Rattle.px_model.specs.Fits.{Passes, SendsFit}
 use Rattle.px_model.specs.Spelling.{Bytes}
-use Rattle.px_model.specs.Views.{message_of}
+use Rattle.px_model.specs.Seen.{message_of}
 use Rattle.px_core.specs.declared.plan.Sends.{Sends}
 use Rattle.px_core.specs.declared.plan.Sends.TheVariants as sends
-use Rattle.px_core.specs.Views.{sends_of}
+use Rattle.px_core.specs.Seen.{sends_of}
 use Rattle.px_wire.specs.declared.membership.Membership.{Membership}
 use Rattle.px_wire.specs.Message.{Group, group, HasSpelling, DatagramBytes}
 use Rattle.px_wire.specs.Message as datagrams

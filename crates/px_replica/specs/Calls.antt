@@ -7,7 +7,7 @@ use Rattle.px_model.specs.Node.Input.{Comes}
 use Rattle.px_model.specs.Step.{front}
 use Rattle.px_model.specs.Fits.{Passes, SlotFits, EntryFits}
 use Rattle.px_model.specs.Spelling.{Bytes}
-use Rattle.px_model.specs.Views.{reads_of}
+use Rattle.px_model.specs.Seen.{reads_of}
 use Rattle.px_model.specs.declared.message.Reads.{Reads}
 use Rattle.px_model.specs.declared.message.Reads.TheVariants as reads
 use Rattle.px_records.specs.declared.records.Records.{Ghosts}

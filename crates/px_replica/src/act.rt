@@ -8,7 +8,7 @@ ghost use Rattle.px_model.specs.Node.{Record};
 ghost use Rattle.px_model.specs.Step.{commit, front};
 ghost use Rattle.px_model.specs.Fits.{Passes, ChangeFits, InputFits};
 ghost use Rattle.px_model.specs.Spelling.{Bytes};
-ghost use Rattle.px_model.specs.Views.{change_of, input_of, reads_of};
+ghost use Rattle.px_model.specs.Seen.{change_of, input_of, reads_of};
 ghost use Rattle.px_records.specs.Records.{Rises};
 ghost use Rattle.px_wire.specs.Message.{group};
 ghost use Rattle.px_wire.specs.Sent.{is_command};

@@ -5,7 +5,7 @@ ghost use Rattle.px_model.specs.Node.Input.{Asks, Ticks};
 ghost use Rattle.px_model.specs.Step.{front, nothing_volatile, positions};
 ghost use Rattle.px_model.specs.Entries.{entry_of, view_of};
 ghost use Rattle.px_model.specs.Fits.{Passes, InputFits};
-ghost use Rattle.px_model.specs.Views.{input_of};
+ghost use Rattle.px_model.specs.Seen.{input_of};
 ghost use Rattle.px_wire.specs.Sent.{is_command};
 ghost use Rattle.px_replica.specs.Calls.{Call, Receives};
 ghost use Rattle.px_replica.specs.Faults.{fault_of};

@@ -4,8 +4,8 @@ ghost use Rattle.std.specs.Prelude.{◌≡◌, ◌≤◌, ◌<◌, ◌+◌, ◌+
 ghost use Rattle.std.specs.Vec.{vec_len, vec_capacity};
 ghost use Rattle.px_model.specs.Fits.{Passes, SendsFit};
 ghost use Rattle.px_model.specs.Step.{to_all};
-ghost use Rattle.px_model.specs.Views.{message_of};
-ghost use Rattle.px_core.specs.Views.{sends_of};
+ghost use Rattle.px_model.specs.Seen.{message_of};
+ghost use Rattle.px_core.specs.Seen.{sends_of};
 ghost use Rattle.px_wire.specs.Message.{group};
 ghost use Rattle.px_wire.specs.Sent.{is_command};
 ghost use Rattle.px_replica.specs.Spelled.{IsSpelled, AreSpelled};

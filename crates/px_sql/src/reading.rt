@@ -6,7 +6,7 @@ ghost use Rattle.sqlite_value.specs.Order.{column};
 ghost use Rattle.px_model.specs.Bounds.{AnyCommand};
 ghost use Rattle.px_model.specs.Step.{positions};
 ghost use Rattle.px_model.specs.Entries.{entry_of as stands_for};
-ghost use Rattle.px_model.specs.Views.{slot_of};
+ghost use Rattle.px_model.specs.Seen.{slot_of};
 ghost use Rattle.px_model.specs.Fits.{EntryFits, SlotFits};
 ghost use Rattle.px_sql.specs.Entries.{is_entry, entry_of};
 ghost use Rattle.px_sql.specs.Seen.{is_number, is_blob, number_in, bytes_in, is_ballot, is_none_or_ballot};

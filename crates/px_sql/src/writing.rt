@@ -3,7 +3,7 @@ ghost use Rattle.std.specs.Prelude.{◌≡◌, ◌<◌, ◌≤◌, ◌^◌, ◌�
 ghost use Rattle.px_model.specs.Bounds.{AnyCommand};
 ghost use Rattle.px_model.specs.Fits.{IsBallot, ChangeFits};
 ghost use Rattle.px_model.specs.Step.{commit as committed};
-ghost use Rattle.px_model.specs.Views.{change_of};
+ghost use Rattle.px_model.specs.Seen.{change_of};
 ghost use Rattle.px_records.specs.Records.Place.{SlotAt, EntryAt};
 ghost use Rattle.px_sql.specs.inner.Store.{with_meta, with_floor, with_slot, with_promise, with_entry};
 ghost use Rattle.px_sql.specs.inner.Store.{Changed, OnlyReads};

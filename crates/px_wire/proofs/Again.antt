@@ -13,7 +13,7 @@ use Rattle.px_wire.specs.declared.membership.Membership.{Membership}
 use Rattle.px_wire.specs.Message as messages
 use Rattle.px_wire.specs.Message.{Group, group, Lent, IsSpelling, Message, prepare, promise, accept, vote, nack, need, learned, ask, asked, ask_refused, prepare_all, promise_all, sized, reported, is_member, is_party, is_kind, is_ballot, is_ballot_of, is_accepted, is_refusal, is_top, is_position, is_number, IsReported, IsBody, HasSpelling, DatagramBytes}
 use Rattle.px_wire.specs.Fields.{Field, field, fault_of, first_fault, number, u8, u32, u64, len, lent, lent_in, ballot, any_ballot, position, token, promised, entry, entry_bytes, entry_value, is_entry, accepted, accepted_value, body, value, fields, datagram}
-use Rattle.px_wire.specs.Views.{Answers}
+use Rattle.px_wire.specs.Seen.{Answers}
 use Rattle.px_wire.proofs.Lengths.{long_enough}
 
 -- ---- a field that is allowed

@@ -9,7 +9,7 @@ use Rattle.px_wire.specs.declared.fault.WireFault.{WireFault}
 use Rattle.px_wire.specs.Message as messages
 use Rattle.px_wire.specs.Message.{group, Message, is_party, is_kind, HasSpelling, DatagramBytes, spelling}
 use Rattle.px_wire.specs.Fields.{Field, field, first_fault, fields, body, value, datagram, u8, u32}
-use Rattle.px_wire.specs.Views.{Answers}
+use Rattle.px_wire.specs.Seen.{Answers}
 use Rattle.px_wire.proofs.Slices.{clear_field, cut, cut8, option_map_ok}
 use Rattle.px_wire.proofs.Bodies.{body_law}
 

@@ -12,7 +12,7 @@ use Rattle.px_model.specs.Entries.{view_of}
 use Rattle.px_model.specs.declared.entry.EntryView.{EntryView}
 use Rattle.px_wire.specs.Message.{Lent}
 use Rattle.px_wire.specs.Fields.{lent, lent_in}
-use Rattle.px_wire.specs.Views.{lent_of}
+use Rattle.px_wire.specs.Seen.{lent_of}
 
 abbrev seen : (o k : ℕ) → Bytes → node.Entry Bytes
 seen o k c = record { origin = o; number = k; command = c }

@@ -10,7 +10,7 @@ use Rattle.px_model.specs.Fits as fits
 use Rattle.px_model.specs.Fits.{Passes, EnvelopeFits, EventFits}
 use Rattle.px_model.specs.Spelling.{Bytes, command_in, spelled}
 use Rattle.px_model.specs.Entries.{view_of}
-use Rattle.px_model.specs.Views.{come_of, report_of}
+use Rattle.px_model.specs.Seen.{come_of, report_of}
 use Rattle.px_model.specs.declared.entry.EntryView.{EntryView}
 use Rattle.px_model.specs.declared.record.Proposal as kept
 use Rattle.px_model.specs.declared.message.Message as declared
@@ -24,7 +24,7 @@ use Rattle.px_wire.specs.declared.fault.WireFault.{WireFault}
 use Rattle.px_wire.specs.Message.{Group, group, Lent, IsSpelling, Message, prepare, promise, accept, vote, nack, need, learned, ask, asked, ask_refused, prepare_all, promise_all, IsReported, IsBody, HasSpelling, DatagramBytes}
 use Rattle.px_wire.specs.Sent as sent
 use Rattle.px_wire.specs.Sent.{asked_by, is_command, AreBytes, lent_bytes}
-use Rattle.px_wire.specs.Views.{lent_of, accepted_of, message_of}
+use Rattle.px_wire.specs.Seen.{lent_of, accepted_of, message_of}
 use Rattle.px_wire.specs.Members.{lent_entry, lent_proposal, as_sent, entry_heard, proposal_heard, as_heard, Passing, Comes}
 use Rattle.px_wire.proofs.Commands.{command_back}
 use Rattle.px_wire.proofs.Sent.{fits_has, has_fits}

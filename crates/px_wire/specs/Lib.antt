@@ -1,6 +1,6 @@
 pub mod Message
 pub mod Fields
-pub mod Views
+pub mod Seen
 pub mod Sent
 pub mod Members
 pub mod inner

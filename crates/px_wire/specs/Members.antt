@@ -6,7 +6,7 @@ use Rattle.px_model.specs.Node.Message.{Prepare, Promise, PrepareAll, PromiseAll
 use Rattle.px_model.specs.Node.Message.{Asked, AskRefused}
 use Rattle.px_model.specs.Fits.{Passes, EnvelopeFits}
 use Rattle.px_model.specs.Spelling.{Bytes, command_in, spelled}
-use Rattle.px_model.specs.Views.{come_of}
+use Rattle.px_model.specs.Seen.{come_of}
 use Rattle.px_model.specs.declared.entry.EntryView.{EntryView}
 use Rattle.px_model.specs.declared.message.Message as declared
 use Rattle.px_wire.specs.declared.membership.Membership.{Membership}

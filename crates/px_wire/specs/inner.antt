@@ -1,3 +1,3 @@
 -- What only code and proofs use: no contract of a public function needs it.
 pub mod Fields
-pub mod Views
+pub mod Seen

@@ -5,7 +5,7 @@ ghost use Rattle.px_wire.specs.Fields.{WireFaultAt, fields, first_fault, datagra
 ghost use Rattle.px_wire.specs.Message as datagrams;
 ghost use Rattle.px_wire.specs.Message.{group, DatagramBytes};
 ghost use Rattle.px_wire.specs.Members.{Comes};
-ghost use Rattle.px_wire.specs.Views.{ReadsDatagram, message_of};
+ghost use Rattle.px_wire.specs.Seen.{ReadsDatagram, message_of};
 
 use crate::MessageView;
 use crate::fault::WireFault;

@@ -6,8 +6,8 @@ ghost use Rattle.std.specs.Int.{w32, w64, to_be_bytes};
 ghost use Rattle.px_wire.specs.Message.{group, sized, reported, kind, body, spelling, IsSpelling, IsBody, HasSpelling};
 ghost use Rattle.px_wire.specs.Message.{DatagramBytes};
 ghost use Rattle.px_wire.specs.Members.{as_sent, Passing};
-ghost use Rattle.px_model.specs.Views.{message_of as sent_of};
-ghost use Rattle.px_wire.specs.Views.{lent_of, accepted_of, message_of};
+ghost use Rattle.px_model.specs.Seen.{message_of as sent_of};
+ghost use Rattle.px_wire.specs.Seen.{lent_of, accepted_of, message_of};
 
 use crate::limits::{MAGIC, VERSION};
 use crate::membership::Membership;

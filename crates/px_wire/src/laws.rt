@@ -14,7 +14,7 @@ ghost use Rattle.px_model.specs.Law.{Among, world_after};
 ghost use Rattle.px_model.specs.Fits.{Passes, EnvelopeFits, EventFits};
 ghost use Rattle.px_model.specs.Spelling.{Bytes};
 ghost use Rattle.px_wire.specs.Sent as sent;
-ghost use Rattle.px_wire.specs.Views.{message_of};
+ghost use Rattle.px_wire.specs.Seen.{message_of};
 ghost use Rattle.px_wire.specs.declared.limits.TheConstants.{MEMBERS};
 
 use crate::decoding::decode;

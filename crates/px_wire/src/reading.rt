@@ -13,8 +13,8 @@ ghost use Rattle.px_wire.specs.Fields.{accept_value, vote_fields, vote_value, na
 ghost use Rattle.px_wire.specs.Fields.{need_value, learned_fields, learned_value, ask_fields, ask_value, asked_fields};
 ghost use Rattle.px_wire.specs.Fields.{asked_value, ask_refused_fields, ask_refused_value, prepare_all_fields};
 ghost use Rattle.px_wire.specs.Fields.{prepare_all_value, promise_all_fields, promise_all_value};
-ghost use Rattle.px_wire.specs.Views.{Answers, ReadsDatagram, lent_of, accepted_of};
-ghost use Rattle.px_wire.specs.inner.Views.{ReadsField, ReadsEntry, ReadsBody};
+ghost use Rattle.px_wire.specs.Seen.{Answers, ReadsDatagram, lent_of, accepted_of};
+ghost use Rattle.px_wire.specs.inner.Seen.{ReadsField, ReadsEntry, ReadsBody};
 ghost use Rattle.px_wire.specs.declared.limits.TheConstants.{ENTRY_BYTES};
 
 use crate::MessageView;

@@ -12,8 +12,8 @@
 use pf_follow_words::run_follow;
 use pf_io::Status;
 use pf_kernel_words::{asks_nft, run_nft};
+use pf_node_words::run_net;
 use pf_refusals::REFUSALS;
-use pf_service::run_net;
 use pf_show_words::run_show;
 use pf_tool::run;
 use pf_visit::run_visit;

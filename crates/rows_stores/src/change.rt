@@ -5,7 +5,7 @@ ghost use Rattle.px_model.specs.Entries.{entry_of};
 ghost use Rattle.px_model.specs.Fits.{IsBallot, EntryFits, ChangeFits};
 ghost use Rattle.px_model.specs.Node.{Record};
 ghost use Rattle.px_model.specs.Spelling.{Bytes};
-ghost use Rattle.px_model.specs.Views.{change_of};
+ghost use Rattle.px_model.specs.Seen.{change_of};
 ghost use Rattle.px_records.specs.Records.{Rises};
 
 use crate::said::Refused;

@@ -6,7 +6,7 @@ use Rattle.pf_addr.specs.declared.fault.AddrFault.{AddrFault}
 use Rattle.pf_ruleset.specs.declared.ruleset.TableEntry as rust
 use Rattle.pf_ruleset.specs.Names.{Name}
 use Rattle.pf_entry.specs.Entry.{Address}
-use Rattle.pf_entry.specs.Views.{address_of}
+use Rattle.pf_entry.specs.Seen.{address_of}
 use Rattle.pf_entry.specs.Owned.{addresses_value}
 use Rattle.pf_command.specs.declared.given.Given.{Given}
 use Rattle.pf_command.specs.declared.fault.CommandFault.{CommandFault}

@@ -6,7 +6,7 @@ use Rattle.px_core.specs.declared.plan.Plan.{Plan}
 use Rattle.px_core.specs.declared.plan.CoreFault.{CoreFault}
 use Rattle.px_core.specs.declared.plan.CoreFault.TheVariants as fault
 use Rattle.px_core.specs.declared.state.Core.{Core}
-use Rattle.px_core.specs.inner.Views.{plan_in}
+use Rattle.px_core.specs.inner.Seen.{plan_in}
 use Rattle.px_core.specs.Planning.{IsRefusal}
 
 -- ---- plans

@@ -2,10 +2,10 @@
 use Rattle.std.specs.Prelude.{option_map}
 use Rattle.px_model.specs.Node as node
 use Rattle.px_model.specs.Spelling.{Bytes}
-use Rattle.px_model.specs.Views.{change_of}
+use Rattle.px_model.specs.Seen.{change_of}
 use Rattle.px_wire.specs.Sent.{is_command}
 use Rattle.px_core.specs.declared.plan.Plan.{Plan}
-use Rattle.px_core.specs.Views.{sends_of}
+use Rattle.px_core.specs.Seen.{sends_of}
 use Rattle.px_core.specs.Planning.{state_of, volatile_after, planned, IsFor}
 use Rattle.px_core.specs.Fitting.{PlanFits}
 use Rattle.px_replica.specs.declared.member.Member.{Member}

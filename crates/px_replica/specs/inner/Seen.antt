@@ -4,7 +4,7 @@ use Rattle.px_model.specs.Node.{Record}
 use Rattle.px_model.specs.Step.{positions}
 use Rattle.px_model.specs.Fits.{Passes, MetaFits, SlotFits}
 use Rattle.px_model.specs.Spelling.{Bytes}
-use Rattle.px_model.specs.Views.{meta_of, slot_of, IsRead}
+use Rattle.px_model.specs.Seen.{meta_of, slot_of, IsRead}
 use Rattle.px_model.specs.declared.message.Reads.{Reads}
 use Rattle.px_wire.specs.Sent.{is_command}
 use Rattle.px_replica.specs.declared.look.Seen.{Seen}

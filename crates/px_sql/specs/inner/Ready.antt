@@ -10,7 +10,7 @@ use Rattle.sqlite_schema.specs.contracts.schema.Schema.{the_row}
 use Rattle.sqlite.specs.Schema.{Schema}
 use Rattle.sqlite.specs.State.{State, HasCleanDisk}
 use Rattle.px_model.specs.Fits.{MetaFits}
-use Rattle.px_model.specs.Views.{meta_of}
+use Rattle.px_model.specs.Seen.{meta_of}
 use Rattle.px_model.specs.declared.record.Meta.{Meta}
 use Rattle.px_records.specs.inner.Props.{MetaFits-prop}
 use Rattle.px_sql.specs.Tables.{schema_3}

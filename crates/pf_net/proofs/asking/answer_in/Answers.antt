@@ -1,7 +1,7 @@
 -- the node's message is the answer that it tells
 use Rattle.std.proofs.Common.{rules}
 use Rattle.px_wire.specs.Message.{group}
-use Rattle.px_wire.specs.Views.{message_of}
+use Rattle.px_wire.specs.Seen.{message_of}
 use Rattle.pf_net.proofs.Asked.{answers_told}
 use Rattle.pf_net.proofs.asking.answer_in.Goals as goal
 

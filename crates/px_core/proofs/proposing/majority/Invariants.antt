@@ -1,6 +1,6 @@
 use Rattle.std.proofs.Common.{◌≡◌, ◌≤◌}
 use Rattle.px_model.specs.Step.{count}
-use Rattle.px_core.specs.Views.{counted_of}
+use Rattle.px_core.specs.Seen.{counted_of}
 use Rattle.px_core.proofs.proposing.majority.Given as goal
 
 abbrev pub invariant-loop-member : goal.invariant-loop-member

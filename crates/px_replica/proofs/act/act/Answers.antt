@@ -4,9 +4,9 @@ use Rattle.std.specs.Prelude.{IfSome}
 use Rattle.px_model.specs.Node.{Record}
 use Rattle.px_model.specs.Step.{commit}
 use Rattle.px_model.specs.Spelling.{Bytes}
-use Rattle.px_model.specs.Views.{input_of}
+use Rattle.px_model.specs.Seen.{input_of}
 use Rattle.px_model.specs.declared.message.Reads.{Reads}
-use Rattle.px_core.specs.Views.{sends_of}
+use Rattle.px_core.specs.Seen.{sends_of}
 use Rattle.px_records.specs.Records as records
 use Rattle.px_wire.specs.Message.{group}
 use Rattle.px_wire.specs.declared.membership.Membership.{Membership}

@@ -1,6 +1,6 @@
 -- it is decoded exactly where its command has a spelling
 use Rattle.std.proofs.Common.{◌∙◌, arith}
-use Rattle.pf_entry.specs.Views.{entry_of}
+use Rattle.pf_entry.specs.Seen.{entry_of}
 use Rattle.px_replica.proofs.Spellings.{decoded}
 use Rattle.px_replica.proofs.look.is_decoded.Goals as goal
 

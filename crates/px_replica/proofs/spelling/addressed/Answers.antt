@@ -1,7 +1,7 @@
 -- one byte is another's
 use Rattle.std.proofs.Common.{List, ℕ, length, refl, subst, sym, ap, ◌∙◌, ◌≡◌}
 use Rattle.std.proofs.lemmas.List.{length-set}
-use Rattle.px_model.specs.Views.{message_of}
+use Rattle.px_model.specs.Seen.{message_of}
 use Rattle.px_wire.specs.Message.{group, DatagramBytes}
 use Rattle.px_wire.specs.Members.{as_sent}
 use Rattle.px_replica.proofs.Groups.{few_members}

@@ -1,7 +1,7 @@
 -- one more is spelled
 use Rattle.std.proofs.Common.{ℕ, suc, add-one, List, refl, sym, subst}
 use Rattle.px_model.specs.Step.{to_all}
-use Rattle.px_model.specs.Views.{message_of}
+use Rattle.px_model.specs.Seen.{message_of}
 use Rattle.px_wire.specs.Message.{group}
 use Rattle.px_replica.specs.Spelled.{AreSpelled}
 use Rattle.px_replica.specs.inner.Spelled.{envelope}

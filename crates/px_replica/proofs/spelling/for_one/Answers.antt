@@ -4,7 +4,7 @@ use Rattle.px_wire.specs.Message.{group}
 use Rattle.px_replica.specs.Spelled.{IsSpelled, AreSpelled}
 use Rattle.px_replica.specs.inner.Spelled.{envelope}
 use Rattle.px_replica.specs.declared.datagram.Datagram.{Datagram}
-use Rattle.px_model.specs.Views.{message_of}
+use Rattle.px_model.specs.Seen.{message_of}
 use Rattle.px_replica.proofs.Sending.{one_passes}
 use Rattle.px_replica.proofs.spelling.for_one.Goals as goal
 

@@ -2,7 +2,7 @@
 use Rattle.std.proofs.Common.{subst}
 use Rattle.px_model.specs.Fits.{Passes, SendsFit}
 use Rattle.px_core.specs.declared.plan.Sends.{Sends}
-use Rattle.px_core.specs.Views.{sends_of}
+use Rattle.px_core.specs.Seen.{sends_of}
 use Rattle.px_wire.specs.Sent.{is_command}
 use Rattle.px_replica.proofs.spelling.spelled.Goals as goal
 

@@ -1,5 +1,5 @@
 use Rattle.std.proofs.Common.{arith}
-use Rattle.px_wire.specs.Views.{message_of}
+use Rattle.px_wire.specs.Seen.{message_of}
 use Rattle.px_wire.proofs.Datagrams.{found_is}
 use Rattle.px_wire.proofs.Again.{only_is}
 use Rattle.px_wire.proofs.Members.{comes_is}

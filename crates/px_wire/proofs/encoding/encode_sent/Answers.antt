@@ -1,6 +1,6 @@
 use Rattle.std.proofs.Common.{subst}
 use Rattle.std.specs.Prelude.{IfOk}
-use Rattle.px_model.specs.Views.{message_of as sent_of}
+use Rattle.px_model.specs.Seen.{message_of as sent_of}
 use Rattle.px_wire.specs.Message.{group, Message, DatagramBytes}
 use Rattle.px_wire.proofs.Members.{member_has, member_is_sent}
 use Rattle.px_wire.proofs.encoding.encode_sent.Goals as goal

@@ -1,5 +1,5 @@
 use Rattle.std.specs.Int.{w64, to_be_bytes}
-use Rattle.px_wire.specs.Views.{lent_of}
+use Rattle.px_wire.specs.Seen.{lent_of}
 use Rattle.px_wire.specs.Message.{sized}
 use Rattle.px_wire.proofs.Joined.{joined}
 use Rattle.px_wire.proofs.encoding.put_accepted.Goals as goal

@@ -1,6 +1,6 @@
 use Rattle.std.proofs.Common.{subst}
 use Rattle.px_wire.specs.Message.{Group, DatagramBytes}
-use Rattle.px_wire.specs.Views.{message_of}
+use Rattle.px_wire.specs.Seen.{message_of}
 use Rattle.px_wire.proofs.laws.what_one_encodes_the_other_decodes.Goals as goal
 
 pub returns : goal.returns

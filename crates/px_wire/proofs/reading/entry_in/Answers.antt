@@ -1,7 +1,7 @@
 use Rattle.std.proofs.Common.{arith, ap, Option}
 use Rattle.std.specs.Prelude.{option_map}
 use Rattle.pf_entry.specs.Entry as entries
-use Rattle.pf_entry.specs.Views.{entry_of}
+use Rattle.pf_entry.specs.Seen.{entry_of}
 use Rattle.px_wire.specs.Fields.{lent, lent_in}
 use Rattle.px_wire.proofs.Lending.{read_lends}
 use Rattle.px_wire.proofs.reading.entry_in.Goals as goal

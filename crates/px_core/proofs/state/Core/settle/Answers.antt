@@ -3,7 +3,7 @@ use Rattle.px_model.specs.Node as node
 use Rattle.px_model.specs.Step.{front}
 use Rattle.px_model.specs.Spelling.{Bytes}
 use Rattle.px_core.specs.Planning.{state_of}
-use Rattle.px_core.specs.Views.{log_in}
+use Rattle.px_core.specs.Seen.{log_in}
 use Rattle.px_core.proofs.Front.{learning_below, learning_rises}
 use Rattle.px_core.proofs.state.Core.settle.Goals as goal
 

@@ -1,6 +1,6 @@
 -- the message that was decoded was sent
 use Rattle.std.proofs.Common.{inl, inr, refl, sym, subst}
-use Rattle.px_model.specs.Views.{come_of}
+use Rattle.px_model.specs.Seen.{come_of}
 use Rattle.px_wire.specs.Message.{group, DatagramBytes}
 use Rattle.px_wire.specs.declared.membership.Membership.{Membership}
 use Rattle.px_replica.specs.Replicas.{membership_of, state_in}

@@ -1,0 +1,380 @@
+//! The word `node`: a node over UDP.
+
+ghost use Rattle.std.specs.Prelude.{◌≡◌, ◌<◌, ◌≤◌, ◌⊎◌, ◌↔◌, Err, false, length, IfSome, OnErr, IsSome, IsTrue};
+ghost use Rattle.std.specs.Prelude.{ℕ, Some, None, option_map, option_and_then};
+ghost use Rattle.toml.specs.Data.{as_str, get_member};
+ghost use Rattle.pf_node_file.specs.Files.{settings_of};
+ghost use Rattle.pf_node_file.specs.Settings.{number_of};
+ghost use Rattle.pf_node_words.specs.declared.outcome.Outcome.TheVariants.{Memory, Refused};
+ghost use Rattle.pf_node_words.specs.inner.Outcomes.{adopt_outcome, ComesTo};
+ghost use Rattle.pf_node_words.specs.inner.Places.{is_count, has_place, turns_or_all, chosen};
+
+use crate::door::{DoorWords, run_with_door};
+use crate::events::{say_end, say_start};
+use crate::hearing::HearingWire;
+use crate::key::{Keys, keys_for, warn_unsealed};
+use crate::outcome::{Outcome, ended_outcome};
+use clap::ArgMatches;
+use pf_member::{Membership, run_member};
+use pf_net::{BindFault, UdpWire};
+use pf_node_file::NodeFile;
+use px_records::Records;
+use px_seal::{MembersWire, SealedWire};
+use px_sql::{AdoptFault, Identity, SqlRecords};
+use px_transport::{LoopbackWire, Wire};
+use sqlite::{Connection, Error, ErrorCode, File, FileStore};
+use std::alloc::Global;
+use std::net::SocketAddr;
+
+/// How long a turn waits for a datagram, in milliseconds.
+const WAIT_MS: u32 = 100;
+
+/// What the words of `node` say.
+#[derive(Clone, Copy)]
+pub(crate) struct NodeWords<'m, 'w, 'a> {
+    /// This node's number.
+    pub(crate) me: u8,
+    pub(crate) cluster: u32,
+    /// The file of its store.
+    pub(crate) store: &'a str,
+    pub(crate) turns: u64,
+    /// The file of the cluster's key, if datagrams carry its tag, and that of another that is heard too.
+    pub(crate) key: Option<&'a str>,
+    pub(crate) other_key: Option<&'a str>,
+    /// Whether something below seals datagrams.
+    pub(crate) is_unsealed: bool,
+    /// Whether an ask is answered once its command is learned, and not before.
+    pub(crate) answers_learned: bool,
+    /// Where operators ask, if there is a door.
+    pub(crate) door: Option<&'a str>,
+    /// Where figures are told over TCP, if they are.
+    pub(crate) metrics: Option<&'a str>,
+    /// Whether only warnings and errors are said.
+    pub(crate) is_quiet: bool,
+    /// Where the members listen, in order.
+    pub(crate) members: &'m [&'w str],
+}
+
+/// The text of an option, that of the file where it isn't given.
+fn text_or<'g: 's, 's>(given: Option<&'g str>, file: &'s NodeFile, name: &str) -> Option<&'s str>
+    ensures { option_map (λ t. t.now) result ≡ chosen (option_map (λ t. t.now) given.entry)
+        (option_and_then as_str (get_member name.now (settings_of file.now))) }
+{
+    match given {
+        Some(text) => Some(text),
+        None => file.text(name),
+    }
+}
+
+/// The number of an option, that of the file where it isn't given.
+fn number_or(given: Option<u32>, file: &NodeFile, name: &str) -> Option<u32>
+    ensures given { (n : ℕ) → given ≡ Some n → result ≡ Some n }
+    ensures file { given ≡ None → IfSome result (λ n.
+        option_and_then number_of (get_member name.now (settings_of file.now)) ≡ Some n) }
+    ensures kept { given ≡ None → (n : ℕ) →
+        option_and_then number_of (get_member name.now (settings_of file.now)) ≡ Some n → n ≤ 4294967295 →
+        result ≡ Some n }
+{
+    if given.is_some() {
+        return given;
+    }
+    match file.number(name) {
+        Some(number) => u32::try_from(number).ok(),
+        None => None,
+    }
+}
+
+/// So many turns, or as many as there can be.
+fn turns_or_all(turns: Option<u32>) -> u64
+    ensures { result ≡ turns_or_all turns }
+{
+    match turns {
+        Some(turns) => u64::from(turns),
+        None => u64::MAX,
+    }
+}
+
+impl<'m, 'w, 'a> NodeWords<'m, 'w, 'a> {
+    /// What the matches of the words and a file of settings say, with these members; none where one of them is wanting.
+    /// `clap` has refused numbers out of range.
+    pub(crate) fn of<'g: 'a>(
+        matches: &ArgMatches<'g>,
+        file: &'a NodeFile,
+        members: &'m [&'w str],
+    ) -> Option<NodeWords<'m, 'w, 'a>> {
+        let Some(me) = number_or(matches.get_one::<u32>("me"), file, "me") else {
+            return None;
+        };
+        let Ok(me) = u8::try_from(me) else {
+            return None;
+        };
+        let Some(cluster) = number_or(matches.get_one::<u32>("cluster"), file, "cluster") else {
+            return None;
+        };
+        let Some(store) = text_or(matches.get_str("store"), file, "store") else {
+            return None;
+        };
+        Some(NodeWords {
+            me,
+            cluster,
+            store,
+            turns: turns_or_all(matches.get_one::<u32>("turns")),
+            key: text_or(matches.get_str("key"), file, "key"),
+            other_key: text_or(matches.get_str("other-key"), file, "other-key"),
+            is_unsealed: matches.get_flag("unsealed") || file.flag("unsealed"),
+            door: text_or(matches.get_str("door"), file, "door"),
+            metrics: text_or(matches.get_str("metrics"), file, "metrics"),
+            answers_learned: text_or(matches.get_str("answer"), file, "answer").is_some(),
+            is_quiet: matches.get_flag("quiet") || file.flag("quiet"),
+            members,
+        })
+    }
+
+    /// Whether each setting has the one that it wants: a second key a key, figures a door.
+    pub(crate) fn is_whole(self) -> bool {
+        (self.other_key.is_none() || self.key.is_some())
+            && (self.metrics.is_none() || self.door.is_some())
+    }
+}
+
+/// How many members there are, if 1 to 15.
+fn count(members: &[&str]) -> Option<u8>
+    ensures some { IfSome result (λ n. n ≡ length members.now) }
+    ensures none { IsSome result ↔ IsTrue (is_count (length members.now)) }
+{
+    let n = members.len();
+    if n >= 1 && n <= 15 {
+        Some(n as u8)
+    } else {
+        None
+    }
+}
+
+/// The cluster, how many members it has, and which one this is; none where the number is none of theirs.
+fn membership(words: NodeWords<'_, '_, '_>) -> Option<Membership>
+    ensures some { IfSome result (λ m. (m.cluster ≡ words.entry.cluster) × (m.me ≡ words.entry.me) ×
+        (m.members ≡ length words.entry.members.now)) }
+    ensures here { IfSome result (λ m. m.me < m.members) }
+    ensures none { IsSome result ↔
+        IsTrue (has_place words.entry.me (length words.entry.members.now)) }
+{
+    let Some(members) = count(words.members) else {
+        return None;
+    };
+    if words.me >= members {
+        return None;
+    }
+    Membership::new(words.cluster, members, words.me)
+}
+
+/// The outcome of a store that isn't taken.
+fn adopt_outcome(fault: AdoptFault) -> Outcome
+    ensures { result ≡ adopt_outcome fault }
+{
+    match fault.code() {
+        Some(code) => Outcome::Refused(code),
+        None => Outcome::Memory,
+    }
+}
+
+/// The database in a file, which is made where there is none.
+fn open_file(rt: &HostRuntime, path: &str) -> Result<Connection<FileStore<File>>, Outcome>
+    ensures { OnErr result ((result ≡ Err Memory) ⊎ (result ≡ Err (Refused 70))) }
+{
+    match Connection::open(rt, path) {
+        Ok(conn) => Ok(conn),
+        Err(Error::SqliteFailure(ErrorCode::OutOfMemory)) => Err(Outcome::Memory),
+        Err(_) => Err(Outcome::Refused(70)),
+    }
+}
+
+/// Whom the store of a member belongs to.
+fn identity_of(m: Membership) -> Identity
+    ensures { result.members ≡ m.members }
+{
+    Identity {
+        cluster: m.cluster(),
+        members: m.members(),
+        node: m.me(),
+    }
+}
+
+/// The member's wire.
+fn bind(
+    rt: &HostRuntime,
+    alloc: Global,
+    words: NodeWords<'_, '_, '_>,
+) -> Result<UdpWire<HostRuntime>, Outcome>
+    ensures { OnErr result ((result ≡ Err Memory) ⊎ (result ≡ Err (Refused 82))) }
+{
+    match UdpWire::bind(rt, alloc, words.members, words.me, WAIT_MS) {
+        Ok(wire) => {
+            let mut wire = wire;
+            if words.answers_learned {
+                wire.answer_learned();
+            }
+            Ok(wire)
+        }
+        Err(BindFault::Memory) => Err(Outcome::Memory),
+        Err(BindFault::NoSocket) => Err(Outcome::Refused(82)),
+    }
+}
+
+/// The wire whose datagrams carry the tag of a key, over which members alone are heard.
+fn sealed(
+    alloc: Global,
+    wire: Result<UdpWire<HostRuntime>, Outcome>,
+    keys: Keys,
+) -> Result<MembersWire<SealedWire<UdpWire<HostRuntime>>>, Outcome>
+    requires { OnErr wire ((wire ≡ Err Memory) ⊎ (wire ≡ Err (Refused 82))) }
+    ensures { OnErr result ((result ≡ Err Memory) ⊎ (result ≡ Err (Refused 82))) }
+{
+    let wire = match wire {
+        Ok(wire) => wire,
+        Err(outcome) => return Err(outcome),
+    };
+    match SealedWire::new(alloc, wire, &keys.key, keys.other.as_ref()) {
+        Ok(wire) => Ok(MembersWire::new(wire)),
+        Err(_) => Err(Outcome::Memory),
+    }
+}
+
+/// The run of a member over a wire, or without one; what it sends to itself doesn't go over it.
+fn run_over<R: Records, W: Wire + Drop>(
+    rt: &HostRuntime,
+    alloc: Global,
+    words: NodeWords<'_, '_, '_>,
+    m: Membership,
+    records: R,
+    wire: Result<W, Outcome>,
+) -> (Outcome, R)
+    requires members { R.members records ≡ m.members }
+    requires here { m.me < m.members }
+    requires refused { OnErr wire ((wire ≡ Err Memory) ⊎ (wire ≡ Err (Refused 82))) }
+    ensures { ComesTo R.Records m records result.0 result.1 }
+{
+    match wire {
+        Ok(wire) => {
+            let wire = LoopbackWire::new(
+                alloc,
+                HearingWire::new(rt, wire, m, words.is_quiet),
+                words.me,
+            );
+            let (ended, records) = run_member(alloc, m, records, Some(wire), rt, words.turns);
+            (ended_outcome(ended, Outcome::Memory), records)
+        }
+        Err(outcome) => {
+            let without = None::<LoopbackWire<HearingWire<W>>>;
+            let (ended, records) = run_member(alloc, m, records, without, rt, 0);
+            (ended_outcome(ended, outcome), records)
+        }
+    }
+}
+
+/// The run of a member over its record and a socket.
+fn run_node<R: Records>(
+    rt: &HostRuntime,
+    alloc: Global,
+    words: NodeWords<'_, '_, '_>,
+    m: Membership,
+    records: R,
+    keys: Option<Keys>,
+) -> (Outcome, R)
+    requires members { R.members records ≡ m.members }
+    requires here { m.me < m.members }
+    ensures { ComesTo R.Records m records result.0 result.1 }
+{
+    let wire = bind(rt, alloc, words);
+    match keys {
+        Some(keys) => run_over(rt, alloc, words, m, records, sealed(alloc, wire, keys)),
+        None => run_over(rt, alloc, words, m, records, wire),
+    }
+}
+
+/// Where figures are told over TCP, if they are: 82 for what is no address at which this machine alone is heard, with a
+/// port.
+fn figures_at(words: NodeWords<'_, '_, '_>) -> Result<Option<SocketAddr>, Outcome>
+    ensures { OnErr result (result ≡ Err (Refused 82)) }
+{
+    let Some(text) = words.metrics else {
+        return Ok(None);
+    };
+    match text.parse::<SocketAddr>() {
+        Ok(address) => {
+            if address.ip().is_loopback() && address.port() != 0 {
+                Ok(Some(address))
+            } else {
+                Err(Outcome::Refused(82))
+            }
+        }
+        Err(_) => Err(Outcome::Refused(82)),
+    }
+}
+
+/// The run of a member with its door open, over a socket. What is asked by datagrams isn't heard.
+fn run_at_door<R: Records>(
+    rt: &HostRuntime,
+    alloc: Global,
+    words: NodeWords<'_, '_, '_>,
+    path: &str,
+    m: Membership,
+    records: R,
+    keys: Option<Keys>,
+) -> (Outcome, R)
+    requires members { R.members records ≡ m.members }
+    requires here { m.me < m.members }
+{
+    let wire = match bind(rt, alloc, words) {
+        Ok(wire) => wire,
+        Err(outcome) => return (outcome, records),
+    };
+    let figures = match figures_at(words) {
+        Ok(figures) => figures,
+        Err(outcome) => return (outcome, records),
+    };
+    let words = DoorWords {
+        path,
+        figures,
+        fd: wire.raw_fd(),
+        turns: words.turns,
+        is_quiet: words.is_quiet,
+    };
+    match keys {
+        Some(keys) => match sealed(alloc, Ok(wire), keys) {
+            Ok(wire) => run_with_door(rt, alloc, words, m, records, wire),
+            Err(outcome) => (outcome, records),
+        },
+        None => run_with_door(rt, alloc, words, m, records, MembersWire::new(wire)),
+    }
+}
+
+/// What `node` comes to: 40 of its numbers, 83, the store's refusals, 82, 84, and the first refusal of a turn, in this
+/// order. The store is closed, whatever came of it; what a node has committed stands also where closing fails.
+pub(crate) fn node_outcome(rt: &HostRuntime, alloc: Global, words: NodeWords<'_, '_, '_>) -> Outcome
+    ensures { has_place words.entry.me (length words.entry.members.now) ≡ false → result ≡ Refused 40 }
+{
+    let Some(m) = membership(words) else {
+        return Outcome::Refused(40);
+    };
+    let keys = match keys_for(rt, alloc, words) {
+        Ok(keys) => keys,
+        Err(outcome) => return outcome,
+    };
+    warn_unsealed(rt, words);
+    let conn = match open_file(rt, words.store) {
+        Ok(conn) => conn,
+        Err(outcome) => return outcome,
+    };
+    let records = match SqlRecords::adopt(alloc, conn, identity_of(m)) {
+        Ok(records) => records,
+        Err((fault, _)) => return adopt_outcome(fault),
+    };
+    say_start(rt, words);
+    let (outcome, records) = match words.door {
+        Some(path) => run_at_door(rt, alloc, words, path, m, records, keys),
+        None => run_node(rt, alloc, words, m, records, keys),
+    };
+    say_end(rt, words, outcome);
+    let _closed = records.release().close();
+    outcome
+}
