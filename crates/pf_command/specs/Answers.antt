@@ -17,6 +17,7 @@ command_fault_code BadPath = Some 24
 command_fault_code (BadAddress fault) = Some (fault_code fault)
 command_fault_code TooLong = Some 41
 
+-- what an action of the code stands for
 abbrev pub action_value : Action → ActionValue
 action_value (action.Change command) = Change (command_value command)
 action_value (action.CheckOnly path) = CheckOnly path

@@ -87,6 +87,7 @@ show_word text =
 abbrev pub load_word : Bool → Word
 load_word check = if check then Whole whole.Check else Whole whole.Load
 
+-- a word, and none where -n was given
 abbrev pub unless : Bool → Option Word → Option Word
 unless true word = None
 unless false word = word
@@ -99,6 +100,7 @@ chosen check None None (Some text) None = unless check (table_word text)
 chosen check None None None (Some text) = unless check (show_word text)
 chosen _ _ _ _ _ = None
 
+-- the word among what was given, none where the options don't go together
 abbrev pub word_of : GivenWords → Option Word
 word_of given = chosen given.check given.file given.flush given.change given.show
 
@@ -137,6 +139,7 @@ abbrev pub each : {X : Type 0} → (Text → Result X AddrFault) → List Text �
 each value [] = Ok []
 each value (w ∷ ws) = before (value w) (each value ws)
 
+-- a prefix as an address of a command, negated or not; a fault stays
 abbrev pub signed : Bool → Result Block AddrFault → Result entry.Address AddrFault
 signed negated (Ok prefix) = Ok (record { negated = negated; prefix = prefix })
 signed negated (Err fault) = Err fault
@@ -158,6 +161,7 @@ pub data ActionValue : Type 0 where
   TableShow : (path : List Name) → (table : Name) → ActionValue
   TableTest : (path : List Name) → (table : Name) → (addresses : List Addr) → ActionValue
 
+-- an action, or the first fault
 abbrev pub Asked : Type 0
 Asked = Result ActionValue CommandFault
 
@@ -165,13 +169,16 @@ Asked = Result ActionValue CommandFault
 abbrev pub is_too_long : entry.Command → Bool
 is_too_long command = is_over (record { origin = 0; number = 0; command = command })
 
+-- a change by a command, or that no entry of it has a spelling
 abbrev pub change : entry.Command → Asked
 change command = if is_too_long command then Err TooLong else Ok (Change command)
 
+-- what is done with a list of addresses, or the fault of the list
 abbrev pub on_list : {X : Type 0} → (List X → Asked) → Result (List X) AddrFault → Asked
 on_list action (Ok list) = action list
 on_list action (Err fault) = Err (BadAddress fault)
 
+-- what a word for a whole ruleset asks for at a path, with the text behind -f
 abbrev pub whole_action : WholeWord → List Name → List ℕ → Asked
 whole_action whole.Load p text = change (entry.load p profile.Two text)
 whole_action whole.Check p text = Ok (CheckOnly p)
@@ -182,6 +189,7 @@ whole_action whole.ShowRules p text = Ok (ShowRules p)
 whole_action whole.ShowTables p text = Ok (ShowTables p)
 whole_action whole.ShowAnchors p text = Ok ShowAnchors
 
+-- what a word for a table asks for, with the addresses as words
 abbrev pub table_action : TableWord → List Name → Name → List Text → Asked
 table_action table.Add p t words = on_list (λ list. change (entry.add p t list)) (each entry_of words)
 table_action table.Delete p t words = on_list (λ list. change (entry.delete p t list)) (each entry_of words)
@@ -201,6 +209,7 @@ whole_asked word given text =
     if is_some given.table || nat_lt 0 (length given.addresses) then Err Usage
     else at_path (path_given given) (λ p. whole_action word p text)
 
+-- a word for a table wants -t, and as many addresses as it may have
 abbrev pub table_asked : TableWord → Option Name → GivenWords → Asked
 table_asked word None given = Err Usage
 table_asked word (Some t) given =
@@ -208,6 +217,7 @@ table_asked word (Some t) given =
     then at_path (path_given given) (λ p. table_action word p t given.addresses)
     else Err Usage
 
+-- what a word asks for with all that was given; without a word the use is wrong
 abbrev pub asked_by : Option Word → GivenWords → List ℕ → Asked
 asked_by None given text = Err Usage
 asked_by (Some (Whole word)) given text = whole_asked word given text

@@ -11,6 +11,7 @@ use Rattle.pf_scripts.specs.Lines.{line, refused_line}
 use Rattle.pf_scripts.specs.WordsRead.{WordsValue, Asks, Refuses, Shows, words_read}
 use Rattle.pf_desk.specs.declared.answer.Answer.{Answer}
 
+-- HTTP's status, and the body's bytes
 pub record AnswerValue : Type 0 where
   pub code : ℕ
   pub body : List ℕ
@@ -28,9 +29,11 @@ status_of code =
     else if is_unavailable code then 503
     else 400
 
+-- 200 and a body
 abbrev pub shown : List ℕ → AnswerValue
 shown body = record { code = 200; body = body }
 
+-- the status for a refusal, and its line: the number, and a line of a text where it isn't 0
 abbrev pub refused : ℕ → ℕ → AnswerValue
 refused code at = record { code = status_of code; body = refused_line code at }
 
@@ -46,6 +49,7 @@ listed c words = answered (words_read c words [])
 
 -- ---- packets
 
+-- an answer with a text before its body
 abbrev pub behind : List ℕ → AnswerValue → AnswerValue
 behind text later = record { code = later.code; body = text ++ later.body }
 
@@ -65,5 +69,6 @@ verdicts c (packet ∷ packets) = put_verdict (verdict_for c packet) (verdicts c
 
 -- ---- the code's values
 
+-- what an answer of the code stands for
 abbrev pub answer_value : Answer → AnswerValue
 answer_value a = record { code = a.code; body = string_bytes a.body }

@@ -78,6 +78,7 @@ with_number (Some t) (Asked origin number) = Some (t.0, number)
 abbrev pub asked_line : ℕ → ℕ → List ℕ
 asked_line origin number = line (codes "asked " ++ decimal origin ++ codes "." ++ decimal number)
 
+-- 202 and the line of what was asked; the refusal; 503 without a body where memory was wanting
 abbrev pub change_answer : Changed → AnswerValue
 change_answer (Asked origin number) = record { code = 202; body = asked_line origin number }
 change_answer (Refused code) = refused code 0

@@ -15,6 +15,7 @@ abbrev pub digits_line : Option (List ℕ) → List ℕ
 digits_line None = []
 digits_line (Some bytes) = encode_lower bytes ++ codes "\n"
 
+-- the line of the entry learned at a position, nothing where none is
 abbrev pub entry_line : Log Bytes → (p : ℕ) → List ℕ
 entry_line log p = digits_line (option_map spelled (log p))
 
@@ -29,6 +30,7 @@ abbrev pub entries_from : Log Bytes → (applied first count : ℕ) → List ℕ
 entries_from log applied first count =
     let end = min applied (first + min count 1000) in entries_before log end (end - first) []
 
+-- the lines from a position on, 0 where it isn't said, and so many, 1,000 where it isn't said
 abbrev pub entries_answer : {R : Type 0} {G : Ghosts R} → Node R G → (from count : Option ℕ) → AnswerValue
 entries_answer n from count =
     shown (entries_from (learned_by n) (applied_of n) (unwrap_or from 0) (unwrap_or count 1000))

@@ -28,6 +28,7 @@ is_needed applied peers = list_any (λ p. nat_lt applied p.need) peers
 abbrev pub health_by : (failed few behind : Bool) → Health
 health_by failed few behind = if failed then Failed else if few then Alone else if behind then Behind else Works
 
+-- a node's health; it is alone where fewer of the others are heard than half of the members, rounded down
 abbrev pub health : {R : Type 0} {G : Ghosts R} → Node R G → List PeerTally → Health
 health n peers = health_by (has_failed n)
     (nat_lt (counted peers) ((membership_of n).members / 2))
@@ -35,6 +36,7 @@ health n peers = health_by (has_failed n)
 
 -- ---- what is answered
 
+-- the word for it, a line
 abbrev pub health_line : Health → List ℕ
 health_line Works = codes "ok\n"
 health_line Behind = codes "behind\n"
@@ -55,8 +57,10 @@ ready_code Behind = 503
 ready_code Alone = 503
 ready_code Failed = 503
 
+-- what a watcher is answered that asks whether the node lives
 abbrev pub health_answer : Health → AnswerValue
 health_answer h = record { code = health_code h; body = health_line h }
 
+-- what a watcher is answered that asks whether the node keeps up
 abbrev pub ready_answer : Health → AnswerValue
 ready_answer h = record { code = ready_code h; body = health_line h }

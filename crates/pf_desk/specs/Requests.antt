@@ -59,6 +59,7 @@ IsRead n taken t read.Metrics a = a.code ≡ 200
 abbrev pub not_yet : AnswerValue
 not_yet = record { code = 503; body = codes "waiting\n" }
 
+-- the answer of a read, and `not_yet` where it is to wait
 abbrev pub IsReadIf : {R : Type 0} {G : Ghosts R} → Bool → Node R G → Option (ℕ × ℕ) → Tally → Read →
     AnswerValue → Type 0
 IsReadIf true n taken t r a = a ≡ not_yet

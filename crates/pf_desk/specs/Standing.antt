@@ -32,12 +32,15 @@ abbrev pub is_taken : Option (ℕ × ℕ) → ℕ → Bool
 is_taken None number = false
 is_taken (Some (first, last)) number = nat_le first number && nat_le number last
 
+-- applied POSITION
 abbrev pub applied_line : ℕ → List ℕ
 applied_line p = line (codes "applied " ++ decimal p)
 
+-- it is taken in, or learned and not applied yet
 abbrev pub waiting : AnswerValue
 waiting = shown (codes "waiting\n")
 
+-- nothing is known of it here
 abbrev pub unknown : AnswerValue
 unknown = record { code = 404; body = codes "unknown\n" }
 

@@ -11,9 +11,11 @@ use Rattle.pf_desk.specs.declared.tally.Tally.{Tally}
 abbrev pub field : Text × ℕ → List ℕ
 field f = f.0 ++ decimal f.1
 
+-- the same of several, one behind the other
 abbrev pub fields : List (Text × ℕ) → List ℕ
 fields list = flat_map field list
 
+-- how many seconds ago a datagram came, or that none ever did
 abbrev pub heard : Option ℕ → List ℕ
 heard None = codes " heard never"
 heard (Some seconds) = field (codes " heard ", seconds)
@@ -23,30 +25,36 @@ abbrev pub peer_line : PeerTally → List ℕ
 peer_line p = ((field (codes "peer ", p.node) ++ heard p.heard)
     ++ fields ((codes " in ", p.datagrams_in) ∷ (codes " out ", p.datagrams_out) ∷ [])) ++ codes "\n"
 
+-- store ok, or store failed
 abbrev pub store_line : Bool → List ℕ
 store_line true = codes "store failed\n"
 store_line false = codes "store ok\n"
 
+-- node N of MEMBERS cluster CLUSTER up SECONDS
 abbrev pub node_line : Figures → ℕ → List ℕ
 node_line f up =
     line (fields ((codes "node ", f.node) ∷ (codes " of ", f.members) ∷ (codes " cluster ", f.cluster)
     ∷ (codes " up ", up) ∷ []))
 
+-- front POSITION applied POSITIONS round ROUND waiting COMMANDS left POSITIONS
 abbrev pub front_line : Figures → List ℕ
 front_line f =
     line (fields ((codes "front ", f.front) ∷ (codes " applied ", f.applied) ∷ (codes " round ", f.round)
     ∷ (codes " waiting ", f.waiting) ∷ (codes " left ", f.left) ∷ []))
 
+-- config anchors N rules N tables N addresses N
 abbrev pub config_line : Figures → List ℕ
 config_line f =
     line (fields ((codes "config anchors ", f.anchors) ∷ (codes " rules ", f.rules) ∷ (codes " tables ", f.tables)
     ∷ (codes " addresses ", f.addresses) ∷ []))
 
+-- wire unsent DATAGRAMS dropped DATAGRAMS ignored DATAGRAMS
 abbrev pub wire_line : Tally → List ℕ
 wire_line t =
     line (fields ((codes "wire unsent ", t.unsent) ∷ (codes " dropped ", t.dropped)
     ∷ (codes " ignored ", t.ignored) ∷ []))
 
+-- door seats N served REQUESTS refused REQUESTS
 abbrev pub door_line : Tally → List ℕ
 door_line t =
     line (fields ((codes "door seats ", t.seats) ∷ (codes " served ", t.served) ∷ (codes " refused ", t.refused) ∷ []))

@@ -10,6 +10,7 @@ abbrev pub heard_json : Option ℕ → List ℕ
 heard_json None = codes ",\"heard\":null"
 heard_json (Some seconds) = field (codes ",\"heard\":", seconds)
 
+-- an object for a peer, with the names of its line
 abbrev pub peer_json : PeerTally → List ℕ
 peer_json p = ((field (codes "{\"node\":", p.node) ++ heard_json p.heard)
     ++ fields ((codes ",\"in\":", p.datagrams_in) ∷ (codes ",\"out\":", p.datagrams_out) ∷ [])) ++ codes "}"
@@ -20,31 +21,37 @@ peers_json [] = []
 peers_json (p ∷ []) = peer_json p
 peers_json (p ∷ q ∷ ps) = (peer_json p ++ codes ",") ++ peers_json (q ∷ ps)
 
+-- the beginning of the object: the node, its members and cluster, the seconds, the front, what is applied
 abbrev pub figures_json : Figures → ℕ → List ℕ
 figures_json f up =
     fields ((codes "{\"node\":", f.node) ∷ (codes ",\"members\":", f.members) ∷ (codes ",\"cluster\":", f.cluster)
     ∷ (codes ",\"up\":", up) ∷ (codes ",\"front\":", f.front) ∷ (codes ",\"applied\":", f.applied) ∷ [])
 
+-- what follows: the round, what waits and is left, and the sizes of the configuration
 abbrev pub config_json : Figures → List ℕ
 config_json f =
     fields ((codes ",\"round\":", f.round) ∷ (codes ",\"waiting\":", f.waiting) ∷ (codes ",\"left\":", f.left)
     ∷ (codes ",\"anchors\":", f.anchors) ∷ (codes ",\"rules\":", f.rules) ∷ (codes ",\"tables\":", f.tables)
     ∷ (codes ",\"addresses\":", f.addresses) ∷ [])
 
+-- the end of the peers, and what was counted at the wire and the door
 abbrev pub wire_json : Tally → List ℕ
 wire_json t =
     fields ((codes "],\"unsent\":", t.unsent) ∷ (codes ",\"dropped\":", t.dropped) ∷ (codes ",\"ignored\":", t.ignored)
     ∷ (codes ",\"seats\":", t.seats) ∷ (codes ",\"served\":", t.served) ∷ (codes ",\"refused\":", t.refused) ∷ [])
 
+-- the last field, and the end of the object and of the line
 abbrev pub store_json : Bool → List ℕ
 store_json true = codes ",\"store\":\"failed\"}\n"
 store_json false = codes ",\"store\":\"ok\"}\n"
 
+-- the whole object, a line
 abbrev pub status_json : Figures → Tally → List ℕ
 status_json f t =
     ((((figures_json f t.up ++ config_json f) ++ codes ",\"peers\":[") ++ peers_json t.peers.items) ++ wire_json t)
     ++ store_json f.has_failed
 
+-- the status as JSON, or in lines
 abbrev pub status_as : Bool → Figures → Tally → List ℕ
 status_as true f t = status_json f t
 status_as false f t = status_lines f t

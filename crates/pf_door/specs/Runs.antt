@@ -19,6 +19,7 @@ pub record Place {R : Type 0} (G : Ghosts R) : Type 0 where
   pub given : Option (List Bytes)
   pub handed : Option (List (ℕ × Bytes))
 
+-- a desk, with what its wire has given and was handed
 abbrev pub place : {R W : Type 0} {G : Ghosts R} → wires.Ghosts W → Desk R G → W → Place G
 place H d w = record { desk = d; given = H.given w; handed = H.handed w }
 

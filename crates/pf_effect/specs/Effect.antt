@@ -29,9 +29,11 @@ pub record RefusedCommand : Type 0 where
 
 -- ---- refusals
 
+-- a change that the configuration refuses; there is no line then
 abbrev pub refused_change : ConfigFault → RefusedCommand
 refused_change fault = record { code = unwrap_or (fault_code fault) 0; line = 0 }
 
+-- a load whose text is refused, with the line
 abbrev pub refused_text : Refusal → RefusedCommand
 refused_text refusal = record { code = cause_code refusal.cause; line = refusal.line }
 
@@ -58,9 +60,11 @@ counted old p name (Err fault) = Err (refused_change fault)
 
 -- ---- the commands
 
+-- an address of a command as an entry of a table
 abbrev pub entry_of : Address → TableEntry
 entry_of a = record { negated = a.negated; prefix = a.prefix }
 
+-- the same of a list
 abbrev pub entries_of : List Address → List TableEntry
 entries_of list = map entry_of list
 

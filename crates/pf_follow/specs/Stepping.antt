@@ -17,6 +17,7 @@ line_end text =
 abbrev pub two_ends : List ℕ → ℕ
 two_ends text = line_end text + line_end (drop (line_end text) text)
 
+-- the text's first two lines
 abbrev pub two_lines : List ℕ → List ℕ
 two_lines text = take (two_ends text) text
 
@@ -29,6 +30,7 @@ abbrev pub end_of : Option Loaded → List ℕ
 end_of None = []
 end_of (Some l) = end_line (string_bytes l.text)
 
+-- a text that is no refusal
 abbrev pub shown : List ℕ → Written
 shown text = record { text = text; refused = false }
 

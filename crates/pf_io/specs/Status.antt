@@ -3,6 +3,7 @@ use Rattle.std.specs.Prelude.{ℕ}
 use Rattle.pf_io.specs.declared.status.Status.{Status}
 use Rattle.pf_io.specs.declared.status.Status.TheVariants.{Done, Refused, Usage, Memory, Failed}
 
+-- the exit code of each end of a run
 abbrev pub code_of : Status → ℕ
 code_of Done = 0
 code_of Refused = 1

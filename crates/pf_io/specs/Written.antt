@@ -4,6 +4,7 @@ use Rattle.std.specs.Io.KnownBytes.{Appends}
 use Rattle.pf_io.specs.declared.status.Status.{Status}
 use Rattle.pf_io.specs.declared.status.Status.TheVariants.{Done, Refused, Usage, Memory, Failed}
 
+-- a text and a newline
 abbrev pub line : List ℕ → List ℕ
 line text = text ++ 10 ∷ []
 

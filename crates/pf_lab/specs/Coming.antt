@@ -29,6 +29,7 @@ event_of (event.StopBefore a) = world.Event.StopBefore (action_of a)
 event_of (event.StopAfter a) = world.Event.StopAfter (action_of a)
 event_of (event.Restart m) = world.Event.Restart m
 
+-- the event asks for a command that is too long for an entry
 abbrev pub is_long : LabEvent → Bool
 is_long (event.Runs a) = is_too_long a
 is_long (event.StopBefore a) = is_too_long a

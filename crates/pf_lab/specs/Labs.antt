@@ -17,6 +17,7 @@ use Rattle.pf_lab.specs.declared.state.Lab.{Lab}
 abbrev pub state_of : Seat → NodeState Bytes
 state_of s = record { is_up = s.is_up; stored = (state_in s.node).stored; volatile = (state_in s.node).volatile }
 
+-- the group of the node in a seat
 abbrev pub group_of : Seat → Membership
 group_of s = membership_of s.node
 
@@ -34,6 +35,7 @@ pub record AreWorld {M : Type 0} (members : List M) (state_of : M → NodeState 
   pub seats : (m : ℕ) (x : M) → slice_get members m ≡ Some x → IsSeat w g m (state_of x) (group_of x)
   pub told : AreSpelled g w.sent sent
 
+-- the nodes in the seats, with the datagrams sent, are the world's
 abbrev pub SeatsAre : List Seat → Group → List Datagram → World Bytes → Type 0
 SeatsAre seats g sent w = AreWorld seats state_of group_of g sent w
 

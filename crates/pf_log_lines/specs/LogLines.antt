@@ -24,10 +24,12 @@ entry_line p e outcome =
     decimal p ++ codes " " ++ decimal e.origin ++ codes "." ++ decimal e.number ++ words_read (reading (spelled e))
     ++ behind_words outcome
 
+-- the line of what a position has, nothing where it has no entry
 abbrev pub line_of : ℕ → Option (node.Entry Bytes) → List ℕ → List ℕ
 line_of p None outcome = []
 line_of p (Some e) outcome = entry_line p e outcome
 
+-- the line of a log's position, with what came of its command as far as that is kept
 abbrev pub log_line : Log Bytes → (applied kept p : ℕ) → List ℕ
 log_line log applied kept p = line_of p (log p) (kept_line log applied kept p)
 

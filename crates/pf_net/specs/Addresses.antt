@@ -10,9 +10,11 @@ use Rattle.pf_addr.specs.Spelling.{addr_of}
 use Rattle.pf_words.specs.Words.{number_of}
 use Rattle.pf_net.specs.declared.address.Address.{Address}
 
+-- any byte but `:`
 abbrev pub is_no_colon : ℕ → Bool
 is_no_colon b = not (b == 58)
 
+-- any byte but `]`
 abbrev pub is_no_bracket : ℕ → Bool
 is_no_bracket b = not (b == 93)
 
@@ -22,6 +24,7 @@ four_in (Ok (V4 bits)) = Some (V4 bits)
 four_in (Ok (V6 bits)) = None
 four_in (Err fault) = None
 
+-- an IPv6 address, none where it is IPv4 or a fault
 abbrev pub six_in : Result Addr AddrFault → Option Addr
 six_in (Ok (V4 bits)) = None
 six_in (Ok (V6 bits)) = Some (V6 bits)

@@ -31,6 +31,7 @@ abbrev pub natural : ℤ → Option ℕ
 natural (pos n) = Some n
 natural (negsuc n) = None
 
+-- a value as a whole number from 0 on, none where it isn't one
 abbrev pub number_of : Data → Option ℕ
 number_of value = option_and_then natural (as_integer value)
 
@@ -39,6 +40,7 @@ abbrev pub at_most : ℕ → Option ℕ → Bool
 at_most most None = false
 at_most most (Some n) = nat_le n most
 
+-- the value is a whole number from 0 to the most
 abbrev pub is_number : Data → ℕ → Bool
 is_number value most = at_most most (number_of value)
 
@@ -48,6 +50,7 @@ are_texts no_items = true
 are_texts (item (string text) values) = are_texts values
 are_texts (item _ values) = false
 
+-- there is a list, and each of its items is a text
 abbrev pub are_texts_of : Option Items → Bool
 are_texts_of None = false
 are_texts_of (Some values) = are_texts values
@@ -65,6 +68,7 @@ fits Flag value = is_some (as_bool value)
 fits Texts value = are_texts_of (as_array value)
 fits Answer value = is_learned (as_str value)
 
+-- the value is one for this kind of setting; for none none is
 abbrev pub fits_if : Option Kind → Data → Bool
 fits_if None value = false
 fits_if (Some kind) value = fits kind value
@@ -83,6 +87,7 @@ abbrev pub is_true : Option Bool → Bool
 is_true None = false
 is_true (Some flag) = flag
 
+-- the value is there, and is true
 abbrev pub flag_at : Option Data → Bool
 flag_at None = false
 flag_at (Some value) = is_true (as_bool value)
@@ -93,10 +98,12 @@ texts_of no_items = []
 texts_of (item (string text) values) = text ∷ texts_of values
 texts_of (item _ values) = texts_of values
 
+-- the texts of a list, none where there is no list
 abbrev pub texts_if : Option Items → List (List ℕ)
 texts_if None = []
 texts_if (Some values) = texts_of values
 
+-- the texts of a value that is a list, none where it isn't one or isn't there
 abbrev pub texts_at : Option Data → List (List ℕ)
 texts_at value = texts_if (option_and_then as_array value)
 
@@ -114,6 +121,7 @@ abbrev pub HasWrong : (Option Kind → Bool) → List ℕ → Type 0
 HasWrong such text = (ms : Members) × (key : List ℕ) × (parse_document text ≡ Some ms)
     × (first_wrong ms ≡ Some key) × (such (kind_of key) ≡ true)
 
+-- the key names no setting
 abbrev pub is_unknown : Option Kind → Bool
 is_unknown None = true
 is_unknown (Some kind) = false

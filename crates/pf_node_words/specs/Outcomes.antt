@@ -9,6 +9,7 @@ use Rattle.pf_node_words.specs.declared.outcome.Outcome.{Outcome}
 use Rattle.pf_node_words.specs.declared.outcome.Outcome.TheVariants.{Front, Asked, Key, Refused, RefusedLine, NoAnswer}
 use Rattle.pf_node_words.specs.declared.outcome.Outcome.TheVariants.{Memory, Unread}
 
+-- what a run writes of its outcome, a line
 abbrev pub line_of : Outcome → List ℕ
 line_of (Front front applied) = line (codes "front " ++ decimal front ++ codes " applied " ++ decimal applied)
 line_of (Asked node number) = line (codes "asked " ++ decimal node ++ codes "." ++ decimal number)
@@ -19,6 +20,7 @@ line_of NoAnswer = line (codes "no answer")
 line_of Memory = line (codes "memory")
 line_of Unread = []
 
+-- how a run with this outcome ends
 abbrev pub status_of : Outcome → Status
 status_of (Front front applied) = status.Done
 status_of (Asked node number) = status.Done

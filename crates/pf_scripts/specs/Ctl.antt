@@ -35,13 +35,16 @@ is_counted (delete p table list) = true
 is_counted (replace p table list) = true
 is_counted (flush_table p table) = true
 
+-- the line of a command's refusal
 abbrev pub refusal_line : RefusedCommand → List ℕ
 refusal_line r = refused_line r.code r.line
 
+-- ok, with how many addresses were added and removed where these count
 abbrev pub counts_line : Bool → ℕ → ℕ → List ℕ
 counts_line counts added removed =
     if counts then line (codes "ok " ++ decimal added ++ codes " " ++ decimal removed) else line (codes "ok")
 
+-- the line of a command's effect, or of its refusal
 abbrev pub change_line : Bool → Result Effect RefusedCommand → List ℕ
 change_line counts (Ok e) = counts_line counts e.added e.removed
 change_line counts (Err r) = refusal_line r
@@ -56,9 +59,11 @@ pub record Outcome : Type 0 where
   pub configuration : Configuration
   pub output : List ℕ
 
+-- a configuration and what is printed
 abbrev pub prints : Configuration → List ℕ → Outcome
 prints c output = record { configuration = c; output = output }
 
+-- what an action comes to: the configuration after it, and what it prints; a fault prints its refusal
 abbrev pub acted : Configuration → List ℕ → Asked → Outcome
 acted c text (Err fault) = prints c (refused_line (unwrap_or (command_fault_code fault) 0) 0)
 acted c text (Ok (Change command)) =
@@ -88,9 +93,11 @@ abbrev pub rows_unless : Kinds → List Row → Option (List Row)
 rows_unless [] rows = Some rows
 rows_unless (k ∷ ks) rows = None
 
+-- what is given for each option, none where the words aren't pfctl's
 unfoldable pub rows_in : List Text → Option (List Row)
 rows_in words = rows_unless (fault_of pfctl_app words) (matches_of pfctl_app words)
 
+-- what pfctl's words come to once they are read; words that aren't pfctl's are 40
 abbrev pub at_rows : Configuration → List ℕ → Option (List Row) → Outcome
 at_rows c text None = prints c (refused_line 40 0)
 at_rows c text (Some rows) = pfctl_rows c text rows
@@ -101,10 +108,12 @@ pfctl c words text = at_rows c text (rows_in words)
 
 -- ---- a text behind a line
 
+-- the file is standard input
 abbrev pub is_input : Option Text → Bool
 is_input None = false
 is_input (Some file) = bytes_eq file (codes "-")
 
+-- a text follows: -f - is given, or stands so among words that can't be read
 abbrev pub takes_text_by : List Text → Option (List Row) → Bool
 takes_text_by words None = stand_together (codes "-f") (codes "-") words
 takes_text_by words (Some rows) = is_input (first_of (codes "file") rows)
@@ -126,9 +135,11 @@ pub record StepValue : Type 0 where
   pub waiting : Option WaitingWords
   pub output : List ℕ
 
+-- a line is done with, and no text is waited for
 abbrev pub done : Outcome → StepValue
 done outcome = record { configuration = outcome.configuration; waiting = None; output = outcome.output }
 
+-- a line of pfctl's words: it is run at once, or waits for its text
 abbrev pub pfctl_line : Configuration → List Text → StepValue
 pfctl_line c words =
     if takes_text words then record {
@@ -138,6 +149,7 @@ pfctl_line c words =
     }
     else done (pfctl c words [])
 
+-- the line of a packet's verdict, 30 where the text is no packet
 abbrev pub packet_line : Configuration → Option PacketValue → List ℕ
 packet_line c None = refused_line 30 0
 packet_line c (Some k) = line (verdict_text (judgement c k))
@@ -171,6 +183,7 @@ abbrev pub at_end : Configuration → Option WaitingWords → List ℕ
 at_end c None = []
 at_end c (Some w) = (pfctl c w.words w.text).output
 
+-- what the lines of a script print from here on, up to its end
 abbrev pub printed_from : Configuration → Option WaitingWords → List ScriptLine → List ℕ
 printed_from c waiting [] = at_end c waiting
 printed_from c waiting (l ∷ ls) =

@@ -35,6 +35,7 @@ words_in line = words_if (words line)
 
 -- ---- what is printed
 
+-- a text and a newline
 abbrev pub line : List ℕ → List ℕ
 line text = text ++ 10 ∷ []
 

@@ -9,6 +9,7 @@ use Rattle.pf_config.specs.Map.{Configuration, AnchorValue, Path, rules_at, tabl
 use Rattle.pf_scripts.specs.Lines.{line, refused_line}
 use Rattle.pf_scripts.specs.Orders.{entries_in_order, lines_in_order}
 
+-- the texts, a line each
 abbrev pub all_lines : List (List ℕ) → List ℕ
 all_lines texts = flat_map line texts
 
@@ -25,6 +26,7 @@ abbrev pub leading_from : List ℕ → Path → List (List ℕ)
 leading_from begun [] = []
 leading_from begun (n ∷ ns) = (begun ++ n) ∷ leading_from ((begun ++ n) ++ 47 ∷ []) ns
 
+-- an anchor's path and the paths that lead to it
 abbrev pub leading : AnchorValue → List (List ℕ)
 leading a = leading_from [] a.path
 

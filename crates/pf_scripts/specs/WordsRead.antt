@@ -40,6 +40,7 @@ abbrev pub of_table : Option TableValue → List ℕ → WordsValue
 of_table None listed = Refuses 20 0
 of_table (Some t) listed = Shows listed
 
+-- what an action comes to where nothing is changed: a change is handed back, a look is printed
 abbrev pub looked : Configuration → List ℕ → Asked → WordsValue
 looked c text (Err fault) = Refuses (unwrap_or (command_fault_code fault) 0) 0
 looked c text (Ok (Change command)) = Asks command
@@ -52,11 +53,13 @@ looked c text (Ok (TableTest p t list)) = of_table (table_at c p t) (matches_lis
 
 -- ---- what words come to
 
+-- what is given comes to this; another file than standard input is 40
 abbrev pub rows_read : Configuration → List ℕ → List Row → WordsValue
 rows_read c text rows =
     if is_standard (first_of (codes "file") rows) then looked c text (asked (given_in rows) text)
     else Refuses 40 0
 
+-- the same of words; those that aren't pfctl's are 40
 abbrev pub read_at : Configuration → List ℕ → Option (List Row) → WordsValue
 read_at c text None = Refuses 40 0
 read_at c text (Some rows) = rows_read c text rows
@@ -87,10 +90,12 @@ change_asked (Ok ShowAnchors) = Err 40
 change_asked (Ok (TableShow p t)) = Err 40
 change_asked (Ok (TableTest p t list)) = Err 40
 
+-- the change that is asked for, or the number of its refusal
 abbrev pub change_of_rows : List ℕ → List Row → Result Command ℕ
 change_of_rows text rows =
     if is_standard (first_of (codes "file") rows) then change_asked (asked (given_in rows) text) else Err 40
 
+-- the same of words; those that aren't pfctl's are 40
 abbrev pub change_at : List ℕ → Option (List Row) → Result Command ℕ
 change_at text None = Err 40
 change_at text (Some rows) = change_of_rows text rows
@@ -101,6 +106,7 @@ change_in words text = change_at text (rows_in words)
 
 -- ---- the code's values
 
+-- what read words in code stand for
 abbrev pub words_value : WordsRead → WordsValue
 words_value (rust.Change command) = Asks (command_value command)
 words_value (rust.Refused code at) = Refuses code at

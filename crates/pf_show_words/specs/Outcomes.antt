@@ -13,6 +13,7 @@ text_of (Shown s) = s.bytes.items
 text_of (Refused code) = line (codes "refused " ++ decimal code)
 text_of Memory = line (codes "memory")
 
+-- how a run ends that shows a refusal, and one that shows no refusal
 abbrev pub status_of : Bool → Status
 status_of true = status.Refused
 status_of false = status.Done

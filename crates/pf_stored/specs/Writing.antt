@@ -21,9 +21,11 @@ pub record ShownValue : Type 0 where
   pub bytes : List ℕ
   pub refused : Bool
 
+-- bytes that are no refusal
 abbrev pub written : List ℕ → ShownValue
 written bytes = record { bytes = bytes; refused = false }
 
+-- the line of a refusal: the number, and a line of a text where it isn't 0
 abbrev pub refused : ℕ → ℕ → ShownValue
 refused code at = record { bytes = refused_line code at; refused = true }
 
@@ -41,6 +43,7 @@ listed c words = answered (words_read c words [])
 
 -- ---- packets
 
+-- a text before what is shown
 abbrev pub behind : List ℕ → ShownValue → ShownValue
 behind text later = record { bytes = text ++ later.bytes; refused = later.refused }
 
@@ -74,6 +77,7 @@ end_of applied first (Some count) = min applied (first + count)
 abbrev pub lines_from : Log Bytes → (applied kept first end : ℕ) → List ℕ
 lines_from log applied kept first end = lines_before log applied kept end (end - first)
 
+-- the lines of the log that are asked for
 abbrev pub log_shown : Log Bytes → (applied kept : ℕ) → Option ℕ → Option ℕ → ShownValue
 log_shown log applied kept from count =
     let first = first_of applied from count in written (lines_from log applied kept first (end_of applied first count))
@@ -86,10 +90,12 @@ figures k = written (codes "applied " ++ decimal k ++ codes " left " ++ decimal 
 
 -- ---- rules for nft(8)
 
+-- what is written for a kernel, as what is shown
 abbrev pub of_kernel : kernel.Written → ShownValue
 of_kernel w = record { bytes = w.text; refused = w.refused }
 
 -- ---- the code's values
 
+-- what is shown, of the code's value
 abbrev pub shown_value : Shown → ShownValue
 shown_value s = record { bytes = s.bytes.items; refused = s.refused }

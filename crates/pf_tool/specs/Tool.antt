@@ -39,9 +39,11 @@ pub record Written : Type 0 where
   pub text : List ℕ
   pub ending : Ending
 
+-- a text before what is written
 abbrev pub behind : List ℕ → Written → Written
 behind text written = record { text = text ++ written.text; ending = written.ending }
 
+-- a text that is no packet
 abbrev pub refused_packet : Written
 refused_packet = record { text = line (codes "refused 30"); ending = Refused }
 
@@ -59,6 +61,7 @@ abbrev pub verdict_lines : Configuration → List Text → Written
 verdict_lines c [] = record { text = []; ending = Done }
 verdict_lines c (packet ∷ packets) = put_verdict (verdict_for c packet) (verdict_lines c packets)
 
+-- refused CODE line LINE
 abbrev pub refusal_line : Refusal → List ℕ
 refusal_line r = line (codes "refused " ++ decimal (cause_code r.cause) ++ codes " line " ++ decimal r.line)
 
@@ -67,6 +70,7 @@ abbrev pub refused_load : Option ℕ → Written
 refused_load None = record { text = []; ending = Refused }
 refused_load (Some code) = record { text = line (codes "refused " ++ decimal code); ending = Refused }
 
+-- the verdicts at a configuration, or the refusal of the load that made none
 abbrev pub tested_over : List Text → Result Configuration ConfigFault → Written
 tested_over packets (Err fault) = refused_load (fault_code fault)
 tested_over packets (Ok c) = verdict_lines c packets
@@ -84,6 +88,7 @@ tested packets (Ok rules) = tested_over packets (load_ruleset nothing_loaded [] 
 unfoldable pub test_output : List Text → List ℕ → Written
 test_output packets input = tested packets (reading Main Two input)
 
+-- the rules as they are understood, or the refusal of their text
 abbrev pub checked : Result RulesetValue Refusal → Written
 checked (Err refusal) = record { text = refusal_line refusal; ending = Refused }
 checked (Ok rules) = record { text = shown rules; ending = Done }
@@ -103,6 +108,7 @@ abbrev pub checked_text : Place → Option (List ℕ) → Written
 checked_text place None = unread
 checked_text place (Some text) = check_output place text
 
+-- what is written ends in a refusal
 abbrev pub is_refused : Ending → Bool
 is_refused Done = false
 is_refused Refused = true
@@ -174,6 +180,7 @@ explained table (Some r) = record { text = paragraph r; ending = Done }
 
 -- ---- a run
 
+-- how a run ends that wrote this
 abbrev pub status_of : Ending → Status
 status_of Done = status.Done
 status_of Refused = status.Refused
@@ -189,6 +196,7 @@ IsAnswer table (Explain refusal) input w = w ≡ explained table refusal
 IsAnswer table (CheckFiles place quiet files) input w = AreChecked place quiet files input w
 IsAnswer table (TestFiles file more quiet packets) input w = AreTested file more quiet packets input w
 
+-- the text is put behind what was written before, and the run ends as the text does
 abbrev pub Writes : Option (List ℕ) → Option (List ℕ) → Status → Written → Type 0
 Writes old new ending written = Appends old new written.text × (ending ≡ status_of written.ending)
 

@@ -127,6 +127,7 @@ abbrev pub check_as : Place → Bool → List Text → CallValue
 check_as place quiet [] = if quiet then CheckFiles place quiet [] else Check place
 check_as place quiet (file ∷ files) = CheckFiles place quiet (file ∷ files)
 
+-- what the word `check` asks for, of what is given
 abbrev pub check_call : List Row → CallValue
 check_call rows = check_as (place_for (first_of (codes "anchor") rows)) (is_given (first_of (codes "quiet") rows))
     (words_of (codes "file") rows)
@@ -137,11 +138,13 @@ words_call quiet [] = None
 words_call quiet (packet ∷ packets) =
     if quiet then Some (TestFiles None None quiet (packet ∷ packets)) else Some (Test (packet ∷ packets))
 
+-- `test` with a file of rules, or one of packets, or else with packets in words alone, one at least
 abbrev pub test_as : Option Text → Option Text → Bool → List Text → Option CallValue
 test_as (Some file) more quiet packets = Some (TestFiles (Some file) more quiet packets)
 test_as None (Some more) quiet packets = Some (TestFiles None (Some more) quiet packets)
 test_as None None quiet packets = words_call quiet packets
 
+-- what the word `test` asks for, of what is given
 abbrev pub test_call : List Row → Option CallValue
 test_call rows = test_as (first_of (codes "file") rows) (first_of (codes "packets") rows)
     (is_given (first_of (codes "quiet") rows)) (words_of (codes "packet") rows)
@@ -160,10 +163,12 @@ called_by table word rows =
     else (if bytes_eq word (codes "lab") then Some Lab
     else (if bytes_eq word (codes "explain") then explain_as table (first_of (codes "code") rows) else None))))
 
+-- what the words ask for, by their first one; nothing where that is none of the program's
 abbrev pub called : List Explanation → Option (Text × List Row) → Option CallValue
 called table None = None
 called table (Some (word, rows)) = called_by table word rows
 
+-- a call, and none where the words have a fault
 abbrev pub unless_faulty : Kinds → Option CallValue → Option CallValue
 unless_faulty [] call = call
 unless_faulty (k ∷ ks) call = None
