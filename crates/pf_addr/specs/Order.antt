@@ -11,10 +11,12 @@ abbrev pub version : Addr → ℕ
 version (V4 bits) = 4
 version (V6 bits) = 6
 
+-- an address as a number, without its family
 abbrev pub bits_of : Addr → ℕ
 bits_of (V4 bits) = bits
 bits_of (V6 bits) = bits
 
+-- how two prefixes stand to one another: by family, IPv4 first, then by length, then by first address
 unfoldable pub prefix_cmp : Block → Block → Ordering
 prefix_cmp p q =
     ordering_then (nat_cmp (version p.base) (version q.base))

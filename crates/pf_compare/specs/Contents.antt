@@ -15,9 +15,11 @@ pub record Content : Type 0 where
 abbrev pub tables_named : Configuration → Path → List Name → List (Name × Option TableValue)
 tables_named c p names = map (λ (n : Name). (n, table_at c p n)) names
 
+-- all tables at a path
 abbrev pub tables_of : Configuration → Path → List (Name × Option TableValue)
 tables_of c p = tables_named c p (table_names c p)
 
+-- what stands at a path: its rules in their order, and its tables
 abbrev pub content_at : Configuration → Path → Content
 content_at c p = record { path = p; rules = rules_at c p; tables = tables_of c p }
 

@@ -103,6 +103,7 @@ range_behind addr ts = do
   span ← span_of a b
   Some (Range span, last.1)
 
+-- a prefix that was read, as addresses
 abbrev pub as_prefix : Read Block → Read Addresses
 as_prefix read = read >>= λ block. Some (Prefix block.0, block.1)
 
@@ -125,6 +126,7 @@ unfoldable pub set_at : Profile → List Token → Read Addresses
 set_at profile ts = if begins_symbol mark.Less ts then (table_at profile ts >>= λ name. Some (Table name.0, name.1))
     else addresses_at ts
 
+-- a host in these addresses, or one that isn't, where they are negated
 abbrev pub in_or_not : Bool → Addresses → Host
 in_or_not true set = host.NotIn set
 in_or_not false set = host.In set
@@ -148,11 +150,13 @@ colon_parts (b ∷ bytes, Some []) = None
 colon_parts (b ∷ bytes, Some (c ∷ more)) = if list_any (λ d. d == 58) (c ∷ more) then None
     else Some (b ∷ bytes, c ∷ more)
 
+-- the test of these two ports, if both are ports
 abbrev pub two_ports : (ℕ → ℕ → PortTest) → Option ℕ → Option ℕ → Option PortTest
 two_ports test None b = None
 two_ports test (Some a) None = None
 two_ports test (Some a) (Some b) = Some (test a b)
 
+-- the test of this port, if it is one
 abbrev pub one_port : (ℕ → PortTest) → Option ℕ → Option PortTest
 one_port test None = None
 one_port test (Some a) = Some (test a)
@@ -162,6 +166,7 @@ abbrev pub lone_word : List ℕ → Option (List ℕ × List ℕ) → Option Por
 lone_word word None = one_port Equal (port_of word)
 lone_word word (Some (a, b)) = two_ports FromTo (port_of a) (port_of b)
 
+-- the test that a word alone spells, none where a port in it is neither number nor name
 unfoldable pub lone_test : List ℕ → Option PortTest
 lone_test word = lone_word word (colon_parts (cut_at 58 word))
 
@@ -169,6 +174,7 @@ lone_test word = lone_word word (colon_parts (cut_at 58 word))
 unfoldable pub port_word_at : Profile → List Token → Read (List ℕ)
 port_word_at profile ts = word_at ts >>= λ word. if_so (not (is_reserved profile word.0)) word
 
+-- a port as it is written, with its test, if it has one, and the tokens behind it
 abbrev pub tested : Option PortTest → List Token → Read WrittenPort
 tested test ts = Some (record { test = test }, ts)
 
@@ -199,6 +205,7 @@ operator_at ts =
     else (if begins_symbol mark.GreaterEqual ts then Some GreaterEqual
     else None)))))
 
+-- a port that begins with the operator of this test, or with its first PORT where there is none
 abbrev pub port_with : Profile → Option (ℕ → PortTest) → List Token → Read WrittenPort
 port_with profile (Some test) ts = compared_at profile test (drop 1 ts)
 port_with profile None ts = port_word_at profile ts >>= λ word. port_behind profile word.0 word.1
@@ -213,13 +220,16 @@ ports_at profile ts = behind_word (codes "port") (some_at (port_at profile)) ts
 
 -- ---- the two ends
 
+-- one end, source or destination, as it is written: its hosts, and its ports where they are said
 pub record Ends : Type 0 where
   pub hosts : Elements Host
   pub ports : Option (Elements WrittenPort)
 
+-- any host, said in no list
 abbrev pub any_host : Elements Host
 any_host = record { items = host.Any ∷ []; deepest = 0 }
 
+-- any host, without ports
 abbrev pub any_end : Ends
 any_end = record { hosts = any_host; ports = None }
 

@@ -7,13 +7,16 @@ use Rattle.pf_conditions.specs.declared.written.Common as common
 use Rattle.pf_conditions.specs.declared.written.WrittenConditions.{WrittenConditions}
 use Rattle.pf_conditions.specs.Conditions.{Ends, CommonText, ConditionsText}
 
+-- the elements that a list in code stands for, if there is one
 abbrev pub list_of : {X : Type 0} → Option (Listed X) → Option (Elements X)
 list_of None = None
 list_of (Some list) = Some (elements_of list)
 
+-- the hosts and ports, as they are written, that an end in code stands for
 abbrev pub ends_of : written.End → Ends
 ends_of e = record { hosts = elements_of e.hosts; ports = list_of e.ports }
 
+-- the same of what rules and anchor rules have in common
 abbrev pub common_of : common.Common → CommonText
 common_of c = record {
   interfaces = list_of c.interfaces;
@@ -23,6 +26,7 @@ common_of c = record {
   destination = ends_of c.destination;
 }
 
+-- the same of all that a rule or an anchor rule says of packets
 abbrev pub conditions_of : WrittenConditions → ConditionsText
 conditions_of c = record {
   direction = c.direction;

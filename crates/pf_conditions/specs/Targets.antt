@@ -16,6 +16,7 @@ is_star [] = false
 is_star (piece ∷ []) = bytes_eq piece (codes "*")
 is_star (piece ∷ other ∷ more) = false
 
+-- the name in front of the others, if there are both
 abbrev pub in_front : Option Name → Option (List Name × Bool) → Option (List Name × Bool)
 in_front None more = None
 in_front (Some name) None = None
@@ -27,6 +28,7 @@ names_of [] = Some ([], false)
 names_of (piece ∷ more) =
     if is_star (piece ∷ more) then Some ([], true) else in_front (name_if is_anchor_text piece) (names_of more)
 
+-- the target of these names, if they are 1 to 8; the children of that anchor where `*` stands behind them
 abbrev pub target_with : (List Name × Bool) → Option Target
 target_with (names, children) =
     if_so (nat_le 1 (length names) && nat_le (length names) 8) (record { names = names; children = children })
@@ -48,6 +50,7 @@ target_text profile Bad = None
 abbrev pub may_name : Profile → Token → Bool
 may_name profile t = is_some (target_text profile t)
 
+-- the target that a text spells, if it spells one, with the tokens behind it
 abbrev pub target_behind : Option Target → List Token → Read Target
 target_behind None ts = None
 target_behind (Some target) ts = Some (target, ts)

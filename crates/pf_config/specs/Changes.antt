@@ -25,10 +25,12 @@ use Rattle.pf_config.specs.Map.{table_at, tables_at, name_after}
 
 -- ---- one entry of the map
 
+-- the list has nothing in it
 abbrev pub is_empty : {X : Type 0} → List X → Bool
 is_empty [] = true
 is_empty (x ∷ xs) = false
 
+-- the entry has neither rules nor tables
 abbrev pub is_nothing : AnchorValue → Bool
 is_nothing a = is_empty a.rules && is_empty a.tables
 
@@ -36,12 +38,15 @@ is_nothing a = is_empty a.rules && is_empty a.tables
 abbrev pub unless_nothing : AnchorValue → List AnchorValue
 unless_nothing a = if is_nothing a then [] else a ∷ []
 
+-- the first path is before the second, name by name, and each name byte by byte
 abbrev pub is_path_before : Path → Path → Bool
 is_path_before p q = is_lt (slice_cmp (slice_cmp nat_cmp) p q)
 
+-- the entries whose paths are before this one
 abbrev pub anchors_before : Path → List AnchorValue → List AnchorValue
 anchors_before p anchors = filter (λ (a : AnchorValue). is_path_before a.path p) anchors
 
+-- the entries whose paths are behind this one
 abbrev pub anchors_behind : Path → List AnchorValue → List AnchorValue
 anchors_behind p anchors = filter (λ (a : AnchorValue). is_path_before p a.path) anchors
 
@@ -49,10 +54,12 @@ anchors_behind p anchors = filter (λ (a : AnchorValue). is_path_before p a.path
 unfoldable pub with_anchor : AnchorValue → List AnchorValue → List AnchorValue
 with_anchor a anchors = anchors_before a.path anchors ++ unless_nothing a ++ anchors_behind a.path anchors
 
+-- the map with these rules at a path, whose tables stay
 abbrev pub with_rules : Path → List AnyRule → List AnchorValue → List AnchorValue
 with_rules p rules anchors = with_anchor (record { path = p; rules = rules; tables = tables_in (anchor_at p anchors) })
     anchors
 
+-- the map with these tables at a path, whose rules stay
 abbrev pub with_tables : Path → List (Name × TableValue) → List AnchorValue → List AnchorValue
 with_tables p tables anchors = with_anchor (record {
   path = p;
@@ -62,6 +69,7 @@ with_tables p tables anchors = with_anchor (record {
 
 -- ---- unnamed blocks
 
+-- there is a name, and it is an unnamed block's
 abbrev pub is_some_unnamed : Option Name → Bool
 is_some_unnamed None = false
 is_some_unnamed (Some n) = begins_below n
@@ -72,6 +80,7 @@ without_unnamed p anchors = filter (λ (a : AnchorValue). not (is_some_unnamed (
 
 -- ---- tables that no rule refers to
 
+-- what a rule asks of a host is the table of this name, negated or not
 abbrev pub is_at_table : Name → Host → Bool
 is_at_table name Any = false
 is_at_table name (In (Prefix block)) = false
@@ -81,12 +90,15 @@ is_at_table name (NotIn (Prefix block)) = false
 is_at_table name (NotIn (Range range)) = false
 is_at_table name (NotIn (Table own)) = bytes_eq own name
 
+-- the source or the destination is asked to be in the table of this name, or not to be in it
 abbrev pub conditions_refer : Name → Conditions → Bool
 conditions_refer name r = is_at_table name r.source || is_at_table name r.destination
 
+-- the rule, a filter rule or an anchor rule, refers to a table of this name
 abbrev pub refers : Name → AnyRule → Bool
 refers name r = conditions_refer name (conditions_of r)
 
+-- some rule of the entry refers to a table of this name
 abbrev pub refer : Name → AnchorValue → Bool
 refer name a = list_any (refers name) a.rules
 
@@ -94,12 +106,15 @@ refer name a = list_any (refers name) a.rules
 abbrev pub is_used : List AnchorValue → AnchorValue → Name → Bool
 is_used anchors a name = if is_empty a.path then list_any (refer name) anchors else refer name a
 
+-- of an anchor's tables those that stay: with persist, or referred to by some rule
 abbrev pub used_tables : List AnchorValue → AnchorValue → List (Name × TableValue) → List (Name × TableValue)
 used_tables anchors a tables = filter (λ (t : Name × TableValue). t.1.persist || is_used anchors a t.0) tables
 
+-- the anchor with its rules, and of its tables those alone that stay
 abbrev pub used_alone : List AnchorValue → AnchorValue → AnchorValue
 used_alone anchors a = record { path = a.path; rules = a.rules; tables = used_tables anchors a a.tables }
 
+-- of a map's entries these, each with those of its tables alone that stay; what is empty then goes
 abbrev pub tidied_of : List AnchorValue → List AnchorValue → List AnchorValue
 tidied_of all anchors = filter (λ (a : AnchorValue). not (is_nothing a)) (map (used_alone all) anchors)
 
@@ -113,23 +128,29 @@ tidied anchors = tidied_of anchors anchors
 abbrev pub Definition : Type 0
 Definition = rulesets.TableValue
 
+-- the tables whose names are before this one
 abbrev pub tables_before : Name → List (Name × TableValue) → List (Name × TableValue)
 tables_before name tables = filter (λ (t : Name × TableValue). is_before t.0 name) tables
 
+-- the tables whose names are behind this one
 abbrev pub tables_behind : Name → List (Name × TableValue) → List (Name × TableValue)
 tables_behind name tables = filter (λ (t : Name × TableValue). is_before name t.0) tables
 
+-- the tables with this one under that name, at its place in byte order
 abbrev pub with_table : List (Name × TableValue) → Name → TableValue → List (Name × TableValue)
 with_table tables name t = tables_before name tables ++ (name, t) ∷ tables_behind name tables
 
+-- the entries of a table, none if there is no table
 abbrev pub entries_in : Option TableValue → List TableEntry
 entries_in None = []
 entries_in (Some t) = t.entries
 
+-- the entries that a definition gives: of its list the first of each prefix, or the old ones where it has no list
 abbrev pub listed : Option (List TableEntry) → List TableEntry → List TableEntry
 listed None old = old
 listed (Some list) old = contents_of list
 
+-- the table that a definition makes: with its flags and its list, or without one with what was there under that name
 abbrev pub defined_table : List (Name × TableValue) → Definition → TableValue
 defined_table tables d = record {
   persist = d.persist;
@@ -137,6 +158,7 @@ defined_table tables d = record {
   entries = listed d.entries (entries_in (named d.name tables));
 }
 
+-- the tables of a path, of which one is defined anew
 abbrev pub defined : List (Name × TableValue) → Definition → List (Name × TableValue)
 defined tables d = with_table tables d.name (defined_table tables d)
 
@@ -158,9 +180,11 @@ abbrev mutual
   blocks_in p no_items = []
   blocks_in p (one_more item items) = blocks_of p item ++ blocks_in p items
 
+-- the map with a block's rules at its path; the unnamed blocks that were there before go
 abbrev pub placed : List AnchorValue → Block → List AnchorValue
 placed anchors b = with_rules b.path b.rules (without_unnamed b.path anchors)
 
+-- the map that a load leaves: the text's own rules, its definitions at the same path, its blocks; tidied at the end
 abbrev pub loaded : Block → List Definition → List Block → List AnchorValue → List AnchorValue
 loaded own definitions blocks anchors =
     let first = placed anchors own in
@@ -172,6 +196,7 @@ abbrev pub unless_full : List Name → List AnchorValue → Result Configuration
 unless_full skip anchors = if nat_lt 1024 (length anchors) then Err AnchorsFull
     else Ok (record { skip = skip; anchors = anchors })
 
+-- the block's path has more than 8 names
 abbrev pub is_too_deep : Block → Bool
 is_too_deep b = nat_lt 8 (length b.path)
 
@@ -187,9 +212,11 @@ abbrev pub load_ruleset : Configuration → Path → rulesets.RulesetValue → R
 load_ruleset c p r = load c r.skip (record { path = p; rules = map rule_in r.items }) r.tables
     (blocks_in p (values_of r.items))
 
+-- the rules at a path and its unnamed blocks go, and the map is tidied
 unfoldable pub flush_rules : Configuration → Path → Configuration
 flush_rules c p = record { skip = c.skip; anchors = tidied (placed c.anchors (record { path = p; rules = [] })) }
 
+-- the tables at a path go, whatever their flags
 unfoldable pub flush_tables : Configuration → Path → Configuration
 flush_tables c p = record { skip = c.skip; anchors = with_tables p [] c.anchors }
 
@@ -199,6 +226,7 @@ flush_all c p = flush_tables (flush_rules c p) p
 
 -- ---- what a call does: it changes the configuration as defined, or is refused so; a refused one changes nothing
 
+-- a call with this fault changes nothing, and, unless memory ran out, the same fault is the defined answer
 abbrev pub Refuses : ConfigFault → Configuration → Configuration → Result Configuration ConfigFault → Type 0
 Refuses Memory old new r = new ≡ old
 Refuses NoTable old new r = (r ≡ Err NoTable) × (new ≡ old)
@@ -207,6 +235,7 @@ Refuses TableFull old new r = (r ≡ Err TableFull) × (new ≡ old)
 Refuses AnchorsFull old new r = (r ≡ Err AnchorsFull) × (new ≡ old)
 Refuses BadPath old new r = (r ≡ Err BadPath) × (new ≡ old)
 
+-- a call with this answer takes the one configuration to the other as defined, or refuses and changes nothing
 abbrev pub Changes : {A : Type 0} → Result A ConfigFault → Configuration → Configuration →
     Result Configuration ConfigFault → Type 0
 Changes (Ok x) old new r = r ≡ Ok new
@@ -214,9 +243,11 @@ Changes (Err fault) old new r = Refuses fault old new r
 
 -- ---- the commands on one table
 
+-- what adding and replacing begin with where there is no table: with persist, not const, empty
 abbrev pub new_table : TableValue
 new_table = record { persist = true; is_const = false; entries = [] }
 
+-- the table with these entries, and its own flags
 abbrev pub with_contents : TableValue → List TableEntry → TableValue
 with_contents t entries = record { persist = t.persist; is_const = t.is_const; entries = entries }
 
@@ -236,13 +267,16 @@ abbrev pub set_filled : Configuration → Path → Name → Result TableValue Co
 set_filled c p name (Ok t) = set_table c p name t
 set_filled c p name (Err fault) = Err fault
 
+-- the table at a path gets these entries in place of its own, or a refusal: 21, 22 or 23
 abbrev pub fill : Configuration → Path → Name → TableValue → List TableEntry →
     Result Configuration ConfigFault
 fill c p name t entries = set_filled c p name (filled t entries)
 
+-- entries are put into a table, unless their prefix is there; where there is no table a new one is made
 unfoldable pub add : Configuration → Path → Name → List TableEntry → Result Configuration ConfigFault
 add c p name list = let t = unwrap_or (table_at c p name) new_table in fill c p name t (with_entries t.entries list)
 
+-- a table gets these entries in place of its own, the first of each prefix; where there is no table a new one is made
 unfoldable pub replace : Configuration → Path → Name → List TableEntry → Result Configuration ConfigFault
 replace c p name list = fill c p name (unwrap_or (table_at c p name) new_table) (contents_of list)
 
@@ -253,8 +287,10 @@ drain c p name None change = Err NoTable
 drain c p name (Some t) change = if t.is_const then Err ConstTable
     else set_table c p name (with_contents t (change t.entries))
 
+-- each entry that is listed with its own sign goes from a table; 20 where there is no table
 unfoldable pub delete : Configuration → Path → Name → List TableEntry → Result Configuration ConfigFault
 delete c p name list = drain c p name (table_at c p name) (λ entries. without_entries entries list)
 
+-- all entries of a table go, and the table stays; 20 where there is none
 unfoldable pub flush_table : Configuration → Path → Name → Result Configuration ConfigFault
 flush_table c p name = drain c p name (table_at c p name) (λ entries. [])

@@ -24,18 +24,22 @@ pub record Configuration : Type 0 where
   pub skip : List Name
   pub anchors : List AnchorValue
 
+-- two paths are the same, name by name
 abbrev pub path_eq : Path → Path → Bool
 path_eq p q = pointwise bytes_eq p q
 
 -- ---- what is at a path
 
+-- the map's entry at a path, if there is one
 abbrev pub anchor_at : Path → List AnchorValue → Option AnchorValue
 anchor_at p anchors = find (λ (a : AnchorValue). path_eq a.path p) anchors
 
+-- the rules of an entry, none where there is no entry
 abbrev pub rules_in : Option AnchorValue → List AnyRule
 rules_in None = []
 rules_in (Some a) = a.rules
 
+-- the tables of an entry, none where there is no entry
 abbrev pub tables_in : Option AnchorValue → List (Name × TableValue)
 tables_in None = []
 tables_in (Some a) = a.tables
@@ -44,16 +48,20 @@ tables_in (Some a) = a.tables
 unfoldable pub rules_at : Configuration → Path → List AnyRule
 rules_at c p = rules_in (anchor_at p c.anchors)
 
+-- the tables at a path: none where the map has no such path
 unfoldable pub tables_at : Configuration → Path → List (Name × TableValue)
 tables_at c p = tables_in (anchor_at p c.anchors)
 
+-- the table of that name, if it is among these
 abbrev pub named : Name → List (Name × TableValue) → Option TableValue
 named name tables = lookup (λ n. bytes_eq n name) tables
 
+-- the first value, or the other where there is none
 abbrev pub or_else : {X : Type 0} → Option X → Option X → Option X
 or_else None other = other
 or_else (Some x) other = Some x
 
+-- the table of that name at this path, if there is one; main's is not looked for
 abbrev pub table_at : Configuration → Path → Name → Option TableValue
 table_at c p name = named name (tables_at c p)
 
@@ -81,6 +89,7 @@ put_name [] n = n ∷ []
 put_name (m ∷ ms) n = if is_before n m then n ∷ m ∷ ms else (if is_before m n then m ∷ put_name ms n
     else m ∷ ms)
 
+-- of each entry whose path begins with p and goes on, the name that follows there
 abbrev pub names_after : Path → List AnchorValue → List Name
 names_after p anchors = filter_map (λ (a : AnchorValue). name_after p a.path) anchors
 

@@ -64,6 +64,7 @@ abbrev pub port_interval : Option PortTest → Interval
 port_interval None = everything
 port_interval (Some t) = test_interval t
 
+-- what few compares of numbers tell of a rule's conditions: it matches no packet outside of these
 unfoldable pub sieve_of : Conditions → Sieve
 sieve_of c = record {
   direction = c.direction;
@@ -86,6 +87,7 @@ abbrev pub is_other : AnyRule → Bool
 is_other (FilterRule r) = not r.quick
 is_other (AnchorRule a) = not a.quick
 
+-- the rule with this index among those of its path, as a candidate: the index and the sieve
 abbrev pub candidate_at : ℕ → AnyRule → Candidate
 candidate_at i rule = record { index = i; sieve = sieve_of (conditions_of rule) }
 

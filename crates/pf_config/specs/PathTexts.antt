@@ -12,9 +12,11 @@ pieces_from begun [] = begun ∷ []
 pieces_from begun (b ∷ bytes) = if b == 47 then begun ∷ pieces_from [] bytes
     else pieces_from (begun ++ b ∷ []) bytes
 
+-- what stands between the slashes of a text, before the first and behind the last: all of it where there is no slash
 abbrev pub pieces : List ℕ → List (List ℕ)
 pieces text = pieces_from [] text
 
+-- no name where the text is empty, else its pieces, if they are 8 at most and each a name that commands may write
 abbrev pub some_path : List ℕ → Option (List Name)
 some_path [] = Some []
 some_path (b ∷ bytes) = path_if (pieces (b ∷ bytes))
@@ -32,6 +34,7 @@ IsNoPath ConstTable path = ⊥
 IsNoPath TableFull path = ⊥
 IsNoPath AnchorsFull path = ⊥
 
+-- a call answers the path that a text is, or 24 where it is none, unless memory ran out
 abbrev pub PathAnswers : Result (List Name) ConfigFault → Option (List Name) → Type 0
 PathAnswers (Ok p) path = path ≡ Some p
 PathAnswers (Err fault) path = IsNoPath fault path

@@ -8,12 +8,15 @@ use Rattle.pf_intervals.specs.Rows.{Marks}
 use Rattle.pf_intervals.specs.Classes.{IsClassesOf}
 use Rattle.pf_config.specs.declared.candidate.Candidate.{Candidate}
 
+-- the candidate's interval for the first 32 bits of the source address
 abbrev pub source_of : Candidate → Interval
 source_of c = c.sieve.source
 
+-- the candidate's interval for the first 32 bits of the destination address
 abbrev pub destination_of : Candidate → Interval
 destination_of c = c.sieve.destination
 
+-- the candidate's interval for the destination port
 abbrev pub port_of : Candidate → Interval
 port_of c = c.sieve.destination_port
 

@@ -20,11 +20,12 @@ pub record AnchorTree : Type 0 where
 abbrev pub part_below : Path → List AnchorValue → List AnchorValue
 part_below p anchors = filter (λ (a : AnchorValue). starts_with bytes_eq a.path p) anchors
 
--- the anchor of that name directly below, if a path of the map begins with its names
+-- the anchor of these names with this part of the map, none where the part is empty
 abbrev pub some_part : Path → List AnchorValue → Option AnchorTree
 some_part p [] = None
 some_part p (a ∷ anchors) = Some (record { names = p; anchors = a ∷ anchors })
 
+-- the anchor of that name directly below, if a path of the anchor's part of the map begins with its names
 abbrev pub child_at : AnchorTree → Name → Option AnchorTree
 child_at t n = let p = t.names ++ n ∷ [] in some_part p (part_below p t.anchors)
 
@@ -43,6 +44,7 @@ shared ks = map (λ k. k.value) ks
 abbrev pub own_entry : Path → List AnyRule → List (Name × TableValue) → List AnchorValue
 own_entry p rules tables = unless_nothing (record { path = p; rules = rules; tables = tables })
 
+-- the last name of a path, the empty name where the path is empty
 abbrev pub last_name : Path → Name
 last_name [] = []
 last_name (n ∷ []) = n
@@ -70,6 +72,7 @@ AreBelow t ks = (i : ℕ) (k : AnchorTree) → slice_get ks i ≡ Some k → Som
 
 -- ---- walks down
 
+-- what is made of a value, none where there is no value
 abbrev pub and_then : {X Y : Type 0} → Option X → (X → Option Y) → Option Y
 and_then None f = None
 and_then (Some x) f = f x

@@ -44,10 +44,12 @@ counted bytes = length bytes ∷ bytes
 abbrev pub path : List (List ℕ) → List ℕ
 path names = length names ∷ flat_map counted names
 
+-- 1 for an address that is negated, else 0
 abbrev pub sign : Bool → ℕ
 sign false = 0
 sign true = 1
 
+-- 4 for IPv4, 6 for IPv6
 abbrev pub family : Addr → ℕ
 family (V4 bits) = 4
 family (V6 bits) = 6
@@ -65,6 +67,7 @@ bits (V6 n) = halves n
 abbrev pub address : Address → List ℕ
 address a = sign a.negated ∷ family a.prefix.base ∷ a.prefix.len ∷ bits a.prefix.base
 
+-- how many addresses, in two bytes, and each of them
 abbrev pub addresses : List Address → List ℕ
 addresses list = to_be_bytes w16 (length list) ++ flat_map address list
 
@@ -80,6 +83,7 @@ format (delete p table list) = 1
 format (replace p table list) = 1
 format (flush_table p table) = 1
 
+-- the number of a command's kind, 1 to 8
 abbrev pub kind : Command → ℕ
 kind (load p profile text) = 1
 kind (flush_rules p) = 2
@@ -90,6 +94,7 @@ kind (delete p table list) = 6
 kind (replace p table list) = 7
 kind (flush_table p table) = 8
 
+-- the path of a command
 abbrev pub path_of : Command → List (List ℕ)
 path_of (load p profile text) = p
 path_of (flush_rules p) = p
@@ -132,6 +137,7 @@ is_table name = is_table_name One name
 abbrev pub is_origin : ℕ → Bool
 is_origin origin = nat_le origin 14 || origin == 255
 
+-- 8 names at most, each one that a path may have
 abbrev pub are_names : List (List ℕ) → Bool
 are_names names = nat_le (length names) 8 && list_all is_name names
 
@@ -148,6 +154,7 @@ is_address a = in_family a.prefix.base && is_block a.prefix.base a.prefix.len
 abbrev pub are_addresses : ℕ → List Address → Bool
 are_addresses least list = nat_le least (length list) && nat_le (length list) 4096 && list_all is_address list
 
+-- beside the path a table and addresses have to fit: 1 to 4096 of these, for replace 0 to 4096
 abbrev pub rest_fits : Command → Bool
 rest_fits (load p profile text) = true
 rest_fits (flush_rules p) = true

@@ -8,9 +8,11 @@ use Rattle.pf_entry.specs.Seen.{address_of}
 use Rattle.pf_entry.specs.Entry.{Address, Command, load, flush_rules, flush_tables, flush_all, add, delete, replace}
 use Rattle.pf_entry.specs.Entry.{flush_table, Entry, spelling}
 
+-- the addresses that owned ones stand for
 abbrev pub addresses_value : List rust_address.TableEntry → List Address
 addresses_value list = map address_of list
 
+-- the command that an owned one stands for
 abbrev pub command_value : rust_command.Command → Command
 command_value (owned.Load p profile text) = load p profile text.items
 command_value (owned.FlushRules p) = flush_rules p
@@ -21,6 +23,7 @@ command_value (owned.Delete p table list) = delete p table (addresses_value list
 command_value (owned.Replace p table list) = replace p table (addresses_value list.items)
 command_value (owned.FlushTable p table) = flush_table p table
 
+-- the entry that an owned one stands for
 abbrev pub entry_value : rust_entry.Entry → Entry
 entry_value e = record { origin = e.origin; number = e.number; command = command_value e.command }
 

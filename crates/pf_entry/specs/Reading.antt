@@ -12,6 +12,8 @@ use Rattle.pf_entry.specs.Entry.{Address, Command, load, flush_rules, flush_tabl
 use Rattle.pf_entry.specs.Entry.{flush_table, Entry, is_name, is_table, is_origin}
 
 infixl 10 ◌>>=◌
+
+-- goes on with what was read, if it was read; else none
 abbrev pub ◌>>=◌ : {A B : Type 0} → Option A → (A → Option B) → Option B
 (Some x) >>= f = f x
 None >>= f = None
@@ -21,10 +23,12 @@ abbrev pub only : {A : Type 0} → Bool → A → Option A
 only true x = Some x
 only false x = None
 
+-- one byte; none where no byte is left
 abbrev pub byte_at : List ℕ → Option (ℕ × List ℕ)
 byte_at [] = None
 byte_at (b ∷ rest) = Some (b, rest)
 
+-- a number of this width, the highest byte first; none where its bytes aren't all there
 abbrev pub number_at : Width → List ℕ → Option (ℕ × List ℕ)
 number_at w bytes =
     if nat_lt (length bytes) (byte_len w) then None
@@ -40,6 +44,7 @@ counted_at bytes = do
   n ← byte_at bytes
   text_at n.0 n.1
 
+-- a length of one byte, and a name that a path may have
 unfoldable pub name_at : List ℕ → Option (List ℕ × List ℕ)
 name_at bytes = do
   name ← counted_at bytes
@@ -54,25 +59,30 @@ many_at item (suc n) bytes = do
   others ← many_at item n first.1
   Some (first.0 ∷ others.0, others.1)
 
+-- so many names, each behind its length
 abbrev pub names_at : ℕ → List ℕ → Option (List (List ℕ) × List ℕ)
 names_at n bytes = many_at name_at n bytes
 
+-- how many names, 8 at most, and each of them
 unfoldable pub path_at : List ℕ → Option (List (List ℕ) × List ℕ)
 path_at bytes = do
   n ← byte_at bytes
   if nat_lt 8 n.0 then None else names_at n.0 n.1
 
+-- a length of one byte, and a table's name
 unfoldable pub table_at : List ℕ → Option (List ℕ × List ℕ)
 table_at bytes = do
   name ← counted_at bytes
   only (is_table name.0) name
 
+-- whether an address is negated: 0 for no, 1 for yes; none for another byte
 unfoldable pub sign_at : List ℕ → Option (Bool × List ℕ)
 sign_at [] = None
 sign_at (zero ∷ rest) = Some (false, rest)
 sign_at (suc zero ∷ rest) = Some (true, rest)
 sign_at (suc (suc n) ∷ rest) = None
 
+-- an address of this family: 4 bytes of IPv4, 16 of IPv6; none for another family
 unfoldable pub base_at : ℕ → List ℕ → Option (Addr × List ℕ)
 base_at family bytes =
     if family == 4 then (number_at w32 bytes >>= λ n. Some (V4 n.0, n.1))
@@ -81,6 +91,7 @@ base_at family bytes =
     Some (V6 (high.0 * 2 ^ 64 + low.0), low.1))
     else None
 
+-- an address, negated or not: sign, family, length, and bits of which the host bits are cleared
 unfoldable pub address_at : List ℕ → Option (Address × List ℕ)
 address_at bytes = do
   sign ← sign_at bytes
@@ -90,14 +101,17 @@ address_at bytes = do
   block ← block_at base.0 len.0
   Some (record { negated = sign.0; prefix = block }, base.1)
 
+-- so many addresses, one after another
 abbrev pub addresses_at : ℕ → List ℕ → Option (List Address × List ℕ)
 addresses_at n bytes = many_at address_at n bytes
 
+-- how many addresses, so many at least and 4096 at most, and each of them
 unfoldable pub list_at : ℕ → List ℕ → Option (List Address × List ℕ)
 list_at least bytes = do
   n ← number_at w16 bytes
   if nat_lt n.0 least || nat_lt 4096 n.0 then None else addresses_at n.0 n.1
 
+-- a load at this path: its text, behind a length of four bytes
 unfoldable pub load_at : Profile → List (List ℕ) → List ℕ → Option (Command × List ℕ)
 load_at profile path bytes = do
   n ← number_at w32 bytes
@@ -111,21 +125,25 @@ change_at least bytes = do
   list ← list_at least table.1
   Some (table.0, list.0, list.1)
 
+-- an add at this path: a table, and one address at least
 unfoldable pub add_at : List (List ℕ) → List ℕ → Option (Command × List ℕ)
 add_at path bytes = do
   x ← change_at 1 bytes
   Some (add path x.0 x.1, x.2)
 
+-- a delete at this path: a table, and one address at least
 unfoldable pub delete_at : List (List ℕ) → List ℕ → Option (Command × List ℕ)
 delete_at path bytes = do
   x ← change_at 1 bytes
   Some (delete path x.0 x.1, x.2)
 
+-- a replace at this path: a table and its addresses, which may be none
 unfoldable pub replace_at : List (List ℕ) → List ℕ → Option (Command × List ℕ)
 replace_at path bytes = do
   x ← change_at 0 bytes
   Some (replace path x.0 x.1, x.2)
 
+-- the flush of a table at this path
 unfoldable pub flush_table_at : List (List ℕ) → List ℕ → Option (Command × List ℕ)
 flush_table_at path bytes = do
   table ← table_at bytes
@@ -146,6 +164,7 @@ rest_at format kind path bytes =
     else if kind == 8 then flush_table_at path bytes
     else None
 
+-- kind, path, rest, of an entry of this format
 unfoldable pub command_at : ℕ → List ℕ → Option (Command × List ℕ)
 command_at format bytes = do
   kind ← byte_at bytes
@@ -159,6 +178,7 @@ asked_at bytes = do
   number ← number_at w64 origin.1
   only (is_origin origin.0 && nat_lt number.0 (2 ^ 48)) ((origin.0, number.0), number.1)
 
+-- format, origin, number, command
 unfoldable pub entry_at : List ℕ → Option (Entry × List ℕ)
 entry_at bytes = do
   format ← byte_at bytes
@@ -173,13 +193,15 @@ reading bytes = do
   entry ← entry_at whole
   only (length entry.1 == 0) entry.0
 
--- the names, and the addresses, that begin the bytes
+-- what was read first, nothing where it was not
 abbrev pub first_or_none : {A : Type 0} → Option (List A × List ℕ) → List A
 first_or_none None = []
 first_or_none (Some x) = x.0
 
+-- so many names that begin the bytes, or no name where they don't spell so many
 abbrev pub names_in : ℕ → List ℕ → List (List ℕ)
 names_in count bytes = first_or_none (names_at count bytes)
 
+-- so many addresses that begin the bytes, or none where they don't spell so many
 abbrev pub addresses_in : ℕ → List ℕ → List Address
 addresses_in count bytes = first_or_none (addresses_at count bytes)

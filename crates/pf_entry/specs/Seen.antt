@@ -10,15 +10,19 @@ use Rattle.pf_entry.specs.Entry.{Address, Command, load, flush_rules, flush_tabl
 use Rattle.pf_entry.specs.Entry.{flush_table, Entry}
 use Rattle.pf_entry.specs.Reading.{names_in, addresses_in}
 
+-- the address that an entry of a table in code stands for
 abbrev pub address_of : rust.TableEntry → Address
 address_of a = record { negated = a.negated; prefix = a.prefix }
 
+-- the names that a view of a path shows
 abbrev pub names_of : Names → List (List ℕ)
 names_of v = names_in v.count v.bytes.now
 
+-- the addresses that a view of a list shows
 abbrev pub addresses_of : Addresses → List Address
 addresses_of v = addresses_in v.count v.bytes.now
 
+-- the command that a view of it shows
 abbrev pub command_of : CommandView → Command
 command_of (views.Load p profile text) = load (names_of p) profile text.now
 command_of (views.FlushRules p) = flush_rules (names_of p)
@@ -29,5 +33,6 @@ command_of (views.Delete p table list) = delete (names_of p) table.now (addresse
 command_of (views.Replace p table list) = replace (names_of p) table.now (addresses_of list)
 command_of (views.FlushTable p table) = flush_table (names_of p) table.now
 
+-- the entry that a view of bytes shows
 abbrev pub entry_of : EntryView → Entry
 entry_of e = record { origin = e.origin; number = e.number; command = command_of e.command }

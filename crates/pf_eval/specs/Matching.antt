@@ -26,6 +26,7 @@ use Rattle.pf_ruleset.specs.Names.{Name}
 use Rattle.pf_table.specs.Tables.{TableValue, in_table}
 use Rattle.pf_eval.specs.Packets.{PacketValue, interfaces}
 
+-- two directions are the same
 abbrev pub direction_eq : Direction → Direction → Bool
 direction_eq In In = true
 direction_eq In Out = false
@@ -47,6 +48,7 @@ unfoldable pub on_interface : PacketValue → Interface → Bool
 on_interface k i = if i.negated then not (list_any (λ n. bytes_eq n i.name) (interfaces k))
     else list_any (λ n. bytes_eq n i.name) (interfaces k)
 
+-- the address is of that family
 abbrev pub of_family : Addr → Family → Bool
 of_family (V4 bits) Inet = true
 of_family (V4 bits) Inet6 = false
@@ -62,6 +64,7 @@ abbrev pub in_some : Addr → Option TableValue → Bool
 in_some a None = false
 in_some a (Some t) = in_table a t.entries
 
+-- the address is in the prefix, in the range with both its ends, or in the table of that name
 unfoldable pub in_addresses : Tables → Addr → Addresses → Bool
 in_addresses tables a (Prefix block) = in_prefix a block
 in_addresses tables a (Range span) = in_range a span.first span.last
@@ -73,6 +76,7 @@ at_host tables a host.Any = true
 at_host tables a (host.In set) = in_addresses tables a set
 at_host tables a (host.NotIn set) = not (in_addresses tables a set)
 
+-- the port passes a rule's test: both bounds belong to FromTo, neither to Between nor to Outside
 unfoldable pub port_passes : PortTest → ℕ → Bool
 port_passes (Equal n) port = port == n
 port_passes (NotEqual n) port = not (port == n)

@@ -15,6 +15,7 @@ use Rattle.pf_eval.specs.Packets.{PacketValue}
 
 -- ---- words
 
+-- the bytes of a word
 abbrev pub Word : Type 0
 Word = List ℕ
 
@@ -33,6 +34,7 @@ words_from begun [] = ended begun
 words_from begun (b ∷ bytes) = if is_blank b then ended begun ++ words_from [] bytes
     else words_from (begun ++ b ∷ []) bytes
 
+-- the words of a text: its longest runs of bytes that are no blanks, in their order
 abbrev pub words : List ℕ → List Word
 words text = words_from [] text
 
@@ -42,10 +44,13 @@ has_outer_blank text = is_blank (get_or text 0 0) || is_blank (get_or text (leng
 
 -- ---- reading from the front: a value and the words behind it, or none
 
+-- a value read from the front of words, and the words behind it; or none
 abbrev pub Read : Type 0 → Type 0
 Read X = Option (X × List Word)
 
 infixl 10 ◌>>=◌
+
+-- what a second reading makes of the first one's value; none where either is none
 abbrev pub ◌>>=◌ : {A B : Type 0} → Option A → (A → Option B) → Option B
 (Some x) >>= f = f x
 None >>= f = None
@@ -104,6 +109,7 @@ port_number_of w = number_of 5 65535 w
 abbrev pub type_number_of : Word → Option ℕ
 type_number_of w = number_of 3 255 w
 
+-- a name before those read behind it; none where these can't be read
 abbrev pub put_name : Word → Read (List Word) → Read (List Word)
 put_name name None = None
 put_name name (Some r) = Some (name ∷ r.0, r.1)
@@ -130,6 +136,7 @@ end_at key ws = do
 
 -- ---- what has to hold between them
 
+-- both addresses are of one family
 abbrev pub same_family : Addr → Addr → Bool
 same_family (V4 a) (V4 b) = true
 same_family (V6 a) (V6 b) = true
@@ -140,10 +147,12 @@ same_family (V6 a) (V4 b) = false
 abbrev pub has_ports : ℕ → Bool
 has_ports protocol = protocol == 6 || protocol == 17
 
+-- a value is there exactly if it has to be
 abbrev pub is_there_if : {X : Type 0} → Bool → Option X → Bool
 is_there_if true o = is_some o
 is_there_if false o = not (is_some o)
 
+-- a value is there only if it may be
 abbrev pub only_if : {X : Type 0} → Bool → Option X → Bool
 only_if true o = true
 only_if false o = not (is_some o)
@@ -165,6 +174,7 @@ said_flags (Some flags) = flags
 
 -- ---- the whole
 
+-- the value, if its parts agree and no word is left behind it
 abbrev pub at_end : {X : Type 0} → Bool → X → List Word → Option X
 at_end true x [] = Some x
 at_end true x (w ∷ ws) = None

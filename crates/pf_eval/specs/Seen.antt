@@ -9,6 +9,7 @@ use Rattle.pf_eval.specs.declared.answer.Verdict.{Verdict}
 use Rattle.pf_eval.specs.declared.answer.Verdict.TheVariants as verdict
 use Rattle.pf_eval.specs.Verdicts.{Judgement, Skipped, Decided, Spot}
 
+-- where a rule of this action stands, as the code names it: the path of its anchor and its place there
 abbrev pub spot_of : Action → code.Spot → Spot
 spot_of action s = record { path = s.names.now; index = s.index; action = action }
 
@@ -29,11 +30,13 @@ path_text (name ∷ names) = name ++ flat_map (λ n. 47 ∷ n) names
 abbrev pub shown_spot : Spot → List ℕ
 shown_spot s = 32 ∷ (path_text s.path ++ 64 ∷ decimal s.index)
 
+-- how a rule's action is shown
 abbrev pub action_text : Action → List ℕ
 action_text act.Pass = codes "pass"
 action_text act.Drop = codes "block drop"
 action_text act.Return = codes "block return"
 
+-- how a verdict is shown: the interface is skipped, no rule matches, or the action and spot of the one that decides
 abbrev pub verdict_text : Judgement → List ℕ
 verdict_text Skipped = codes "pass skip"
 verdict_text (Decided None) = codes "pass default"

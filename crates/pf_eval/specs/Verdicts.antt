@@ -57,6 +57,7 @@ members p names = map (followed_by p) (filter (λ n. not (begins_below n)) names
 abbrev pub not_too_deep : (Path → List Hit) → Path → List Hit
 not_too_deep at q = if nat_le (length q) 8 then at q else []
 
+-- the hits of the anchors of these names attached to a path, one after the other, without unnamed blocks
 abbrev pub member_hits : (Path → List Hit) → Path → List Name → List Hit
 member_hits at p names = flat_map (not_too_deep at) (members p names)
 
@@ -79,10 +80,12 @@ abbrev pub cut : List Hit → List Hit
 cut [] = []
 cut (h ∷ hs) = if h.stops then h ∷ [] else h ∷ cut hs
 
+-- the last of a list, none if it is empty
 abbrev pub last : {X : Type 0} → List X → Option X
 last [] = None
 last (x ∷ xs) = or_else (last xs) (Some x)
 
+-- the rule that decides: that of the last hit up to the first stop mark, none without a hit
 abbrev pub last_spot : List Hit → Option Spot
 last_spot hs = last (map (λ (h : Hit). h.spot) (cut hs))
 
@@ -100,9 +103,11 @@ is_skipped skip k = list_any (λ n. list_any (λ m. bytes_eq m n) (interfaces k)
 abbrev pub judgement : Configuration → PacketValue → Judgement
 judgement c k = if is_skipped c.skip k then Skipped else Decided (last_spot (hits 9 c k []))
 
+-- there is no table, whatever its name
 abbrev pub no_tables : Tables
 no_tables name = None
 
+-- no anchor rule comes to a hit
 abbrev pub no_hits : Target → List Hit
 no_hits t = []
 

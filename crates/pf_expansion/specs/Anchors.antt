@@ -36,6 +36,7 @@ headings text = map (heading_with text) (combined (anchor_flags text) text.condi
 abbrev pub is_reserved : Target → Bool
 is_reserved target = list_any begins_below target.names
 
+-- the number of one of so many unnamed blocks was read in the name, and the name is exactly that block's
 abbrev pub is_number_of : ℕ → Name → Option ℕ → Bool
 is_number_of unnamed name None = false
 is_number_of unnamed name (Some k) = nat_le 1 k && nat_le k unnamed && bytes_eq name (given_name k)

@@ -21,6 +21,7 @@ use Rattle.pf_expansion.specs.Anchors.{anchor_flags, given_name, headings, is_mi
 
 -- ---- the names of unnamed blocks
 
+-- the target of the k-th unnamed block: its name alone
 abbrev pub given_target : ℕ → Target
 given_target k = record { names = given_name k ∷ []; children = false }
 
@@ -65,6 +66,7 @@ abbrev mutual
 
 -- ---- what is wrong with its rules (13, 14, 18, 19)
 
+-- nothing is wrong, and there is no rule
 abbrev pub nothing_wrong : Judged
 nothing_wrong = record { ports = false; combination = false; many = false; types = false; rules = 0 }
 
@@ -82,6 +84,7 @@ both a b = record {
 unfoldable pub rule_count : FlagTest → ConditionsText → ℕ
 rule_count test text = if is_too_wide text then 0 else length (combined test text)
 
+-- what is wrong with conditions, and how many rules they come to
 unfoldable pub conditions_judged : FlagTest → ConditionsText → Judged
 conditions_judged test text = record {
   ports = bad_ports text;
@@ -115,10 +118,12 @@ abbrev mutual
 
 -- ---- names that unnamed blocks have (15)
 
+-- a target is written, and a name in it begins with _
 abbrev pub is_reserved_name : Option Target → Bool
 is_reserved_name None = false
 is_reserved_name (Some target) = is_reserved target
 
+-- a rule or one in its block is misnamed, behind so many unnamed blocks of its ruleset; of rules one after another
 abbrev mutual
   pub item_misnamed : ℕ → ItemText → Bool
   item_misnamed unnamed (RuleItem rule) = false
@@ -132,6 +137,7 @@ abbrev mutual
 
 -- ---- paths of blocks (16)
 
+-- the names of blocks, each within the one before, from the text's root on
 abbrev pub Path : Type 0
 Path = List Name
 
@@ -160,6 +166,7 @@ abbrev mutual
   paths_within path no_items = []
   paths_within path (one_more item items) = paths_in path item ++ paths_within path items
 
+-- both paths have the same names, in order
 abbrev pub same_path : Path → Path → Bool
 same_path [] [] = true
 same_path [] (n ∷ ns) = false
@@ -179,6 +186,7 @@ is_unnamed [] = false
 is_unnamed (name ∷ []) = begins_below name
 is_unnamed (name ∷ other ∷ names) = false
 
+-- how many unnamed blocks there are with this rule; whether its block is one is told by its name
 abbrev pub unnamed_with : ℕ → ItemValue → ℕ
 unnamed_with unnamed (Filters rule) = unnamed
 unnamed_with unnamed (Anchors h) = unnamed

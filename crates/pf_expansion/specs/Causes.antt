@@ -14,6 +14,7 @@ use Rattle.pf_conditions.specs.Conditions.{ConditionsText}
 use Rattle.pf_ruleset.specs.declared.parts.FlagTest.{FlagTest}
 use Rattle.pf_expansion.specs.Expansion.{combined, combinations, rule_flags}
 
+-- the numbers by which the causes are shown
 abbrev pub cause_code : Cause → ℕ
 cause_code Lexical = 10
 cause_code Macro = 11
@@ -28,6 +29,7 @@ cause_code IcmpType = 19
 
 -- ---- lists
 
+-- there is a list, and some element passes
 abbrev pub any_listed : {X : Type 0} → (X → Bool) → Option (Elements X) → Bool
 any_listed test None = false
 any_listed test (Some list) = list_any test list.items
@@ -41,6 +43,7 @@ all_listed test (Some list) = list_all test list.items
 abbrev pub is_deep : {X : Type 0} → Elements X → Bool
 is_deep list = nat_lt 8 list.deepest
 
+-- there is a list, and more than 8 stand in one another
 abbrev pub is_deep_list : {X : Type 0} → Option (Elements X) → Bool
 is_deep_list None = false
 is_deep_list (Some list) = is_deep list
@@ -55,9 +58,11 @@ is_bad_port port = is_none port.test
 abbrev pub has_ports : Protocol → Bool
 has_ports p = p.number == 6 || p.number == 17
 
+-- ports are written for the source, the destination or both
 abbrev pub says_ports : ConditionsText → Bool
 says_ports text = is_some text.common.source.ports || is_some text.common.destination.ports
 
+-- a port is neither number nor name, or ports are written where no protocols are, or not all have ports
 unfoldable pub bad_ports : ConditionsText → Bool
 bad_ports text =
     any_listed is_bad_port text.common.source.ports || any_listed is_bad_port text.common.destination.ports
@@ -69,6 +74,7 @@ bad_ports text =
 unfoldable pub is_too_wide : ConditionsText → Bool
 is_too_wide text = nat_lt 65536 (combinations text)
 
+-- the list has no elements
 abbrev pub is_empty : {X : Type 0} → List X → Bool
 is_empty [] = true
 is_empty (x ∷ xs) = false
@@ -77,6 +83,7 @@ is_empty (x ∷ xs) = false
 unfoldable pub has_no_combination : FlagTest → ConditionsText → Bool
 has_no_combination test text = not (is_too_wide text) && is_empty (combined test text)
 
+-- in one of the conditions more than 8 lists stand in one another
 unfoldable pub has_deep_list : ConditionsText → Bool
 has_deep_list text =
     is_deep_list text.common.interfaces || is_deep_list text.common.protocols || is_deep text.common.source.hosts ||
@@ -90,12 +97,15 @@ has_too_many test before text = is_too_wide text || has_deep_list text ||
 
 -- ---- types of ICMP (19)
 
+-- a type that is neither number nor name
 abbrev pub is_bad_type : WrittenType → Bool
 is_bad_type t = is_none t.number
 
+-- the protocol is icmp
 abbrev pub is_icmp : Protocol → Bool
 is_icmp p = p.number == 1
 
+-- a type is neither number nor name, or types are written where no protocols are, or not all are icmp
 unfoldable pub bad_types : ConditionsText → Bool
 bad_types text = any_listed is_bad_type text.types ||
     (is_some text.types && not (all_listed is_icmp text.common.protocols))

@@ -55,6 +55,7 @@ abbrev pub type_family : {X : Type 0} → Option X → Option Family
 type_family None = None
 type_family (Some x) = Some Inet
 
+-- the family that occurs among the others and this one, if one does; none where two do
 abbrev pub with_family : Option Family → Option (Option Family) → Option (Option Family)
 with_family f None = None
 with_family None (Some found) = Some found
@@ -85,6 +86,7 @@ keeps_state (Blocks said) state = false
 keeps_state Pass None = true
 keeps_state Pass (Some keep) = keep
 
+-- flags S/SA: of SYN and ACK just SYN is set
 abbrev pub syn_of_syn_ack : FlagTest
 syn_of_syn_ack = flags.Just (record no_flags { syn = true }) (record no_flags { syn = true; ack = true })
 
@@ -106,14 +108,17 @@ pub record Combination : Type 0 where
   pub destination_port : Option WrittenPort
   pub icmp_type : Option WrittenType
 
+-- the number of the protocol, if there is one
 abbrev pub number_in : Option Protocol → Option ℕ
 number_in None = None
 number_in (Some p) = Some p.number
 
+-- the test of the port, if there is one
 abbrev pub test_in : Option WrittenPort → Option PortTest
 test_in None = None
 test_in (Some port) = port.test
 
+-- the number of the type of ICMP, if there is one
 abbrev pub type_in : Option WrittenType → Option ℕ
 type_in None = None
 type_in (Some t) = t.number
@@ -133,10 +138,12 @@ conditions_with test text c family = record {
   icmp_type = type_in c.icmp_type;
 }
 
+-- the families that are said: the one written, those of both hosts, and that of the type of ICMP
 abbrev pub families : ConditionsText → Combination → List (Option Family)
 families text c = text.common.family ∷ host_family c.source ∷ host_family c.destination ∷
     type_family c.icmp_type ∷ []
 
+-- the conditions with the family that occurs, if one does; no conditions where two do
 abbrev pub conditions_if : FlagTest → ConditionsText → Combination → Option (Option Family) → List Conditions
 conditions_if test text c None = []
 conditions_if test text c (Some family) = conditions_with test text c family ∷ []
@@ -149,26 +156,32 @@ conditions_at test text c = conditions_if test text c (occurring (families text 
 unfoldable pub by_type : FlagTest → ConditionsText → Combination → List Conditions
 by_type test text c = flat_map (λ t. conditions_at test text (record c { icmp_type = t })) (choices text.types)
 
+-- the same from the destination's port on
 unfoldable pub by_destination_port : FlagTest → ConditionsText → Combination → List Conditions
 by_destination_port test text c = flat_map (λ port. by_type test text (record c { destination_port = port }))
     (choices text.common.destination.ports)
 
+-- the same from the destination on
 unfoldable pub by_destination : FlagTest → ConditionsText → Combination → List Conditions
 by_destination test text c = flat_map (λ h. by_destination_port test text (record c { destination = h }))
     text.common.destination.hosts.items
 
+-- the same from the source's port on
 unfoldable pub by_source_port : FlagTest → ConditionsText → Combination → List Conditions
 by_source_port test text c = flat_map (λ port. by_destination test text (record c { source_port = port }))
     (choices text.common.source.ports)
 
+-- the same from the source on
 unfoldable pub by_source : FlagTest → ConditionsText → Combination → List Conditions
 by_source test text c = flat_map (λ h. by_source_port test text (record c { source = h }))
     text.common.source.hosts.items
 
+-- the same from the protocol on
 unfoldable pub by_protocol : FlagTest → ConditionsText → Combination → List Conditions
 by_protocol test text c = flat_map (λ n. by_source test text (record c { protocol = n }))
     (choices text.common.protocols)
 
+-- the same from the interface on, which is every place
 unfoldable pub by_interface : FlagTest → ConditionsText → Combination → List Conditions
 by_interface test text c = flat_map (λ i. by_protocol test text (record c { interface = i }))
     (choices text.common.interfaces)
@@ -210,10 +223,12 @@ expanded p text = map (rule_with p text) (combined (rule_flags text) text.condit
 
 -- ---- how many combinations there are, before families are compared
 
+-- how many elements are listed, 1 where there is no list
 abbrev pub count_of : {X : Type 0} → Option (Elements X) → ℕ
 count_of None = 1
 count_of (Some list) = length list.items
 
+-- how many combinations there are, before those of two families are dropped
 unfoldable pub combinations : ConditionsText → ℕ
 combinations text =
     count_of text.common.interfaces * count_of text.common.protocols

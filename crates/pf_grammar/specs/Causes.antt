@@ -21,10 +21,12 @@ cause_of reading.Lexical = Lexical
 cause_of reading.UnknownMacro = Macro
 cause_of reading.TooMany = TooMany
 
+-- the text is for an anchor, not for the main ruleset
 abbrev pub is_anchor : Place → Bool
 is_anchor Main = false
 is_anchor Anchor = true
 
+-- in the interfaces to skip more than 8 lists stand in one another
 abbrev pub is_deep_setting : Setting → Bool
 is_deep_setting (SetPolicy policy) = false
 is_deep_setting (SetSkip names) = is_deep names

@@ -23,6 +23,7 @@ with_names m None = None
 with_names m (Some []) = Some m
 with_names m (Some (name ∷ groups)) = if may_have m name then Some (m ++ (name, groups) ∷ []) else None
 
+-- what is made of a machine, none where there is none
 abbrev pub and_then : Option Machine → (Machine → Option Machine) → Option Machine
 and_then None f = None
 and_then (Some m) f = f m

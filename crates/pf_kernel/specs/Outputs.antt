@@ -21,6 +21,7 @@ pub record Written : Type 0 where
   pub text : List ℕ
   pub refused : Bool
 
+-- a refusal by its number, in a line; without a number no bytes
 abbrev pub refused : Option ℕ → Written
 refused None = record { text = []; refused = true }
 refused (Some code) = record { text = codes "refused " ++ (decimal code ++ codes "\n"); refused = true }
@@ -32,10 +33,12 @@ refused_at code line = record {
   refused = true;
 }
 
+-- the lines for nft(8), or the refusal of the rendering
 abbrev pub written_lines : Result (List ℕ) RenderFault → Written
 written_lines (Ok text) = record { text = text; refused = false }
 written_lines (Err fault) = refused (fault_code fault)
 
+-- the lines for the configuration that a load gives, or the refusal of the load or of the rendering
 abbrev pub rendered_of : Machine → ℕ → Result Configuration ConfigFault → Written
 rendered_of m position (Ok c) = written_lines (rendered_lines c m position)
 rendered_of m position (Err fault) = refused (config.fault_code fault)
@@ -54,6 +57,7 @@ abbrev pub output_for : Option Machine → ℕ → List ℕ → Written
 output_for None position input = refused (Some 89)
 output_for (Some m) position input = loaded_of m position (reading Main Two input)
 
+-- the machine that a file of interfaces lists, none where it can't be read or some line isn't as it should be
 abbrev pub machine_of_file : Option (List ℕ) → Option Machine
 machine_of_file None = None
 machine_of_file (Some text) = machine_in text

@@ -7,5 +7,6 @@ use Rattle.pf_entry.specs.Entry.{Entry, path_of, are_names}
 abbrev pub has_path : Entry → Bool
 has_path e = are_names (path_of e.command)
 
+-- the commands of all these entries are at paths that commands may have
 abbrev pub have_paths : List Entry → Bool
 have_paths entries = list_all has_path entries

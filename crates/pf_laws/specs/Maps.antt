@@ -37,6 +37,7 @@ AreRising [] = Unit {0}
 AreRising (a ∷ anchors) = (list_all (λ (b : AnchorValue). is_path_before a.path b.path) anchors ≡ true) ×
     AreRising anchors
 
+-- the entries of a configuration are anchors, in byte order of their paths, each path once, and 1,024 at most
 pub record IsMap (c : Configuration) : Type 0 where
   pub anchors : AllByRecursion IsAnchor c.anchors
   pub rising : AreRising c.anchors

@@ -13,10 +13,12 @@ pub record Alternative : Type 0 where
   pub protocol : Protocol
   pub tests : List Match
 
+-- what is asked of the family, as matches: one, or none where any family will do
 abbrev pub family_matches : Option Family → List Match
 family_matches None = []
 family_matches (Some f) = OfFamily f ∷ []
 
+-- what is asked of the protocol, as matches: one, or none where any protocol will do
 abbrev pub protocol_matches : Protocol → List Match
 protocol_matches AnyProtocol = []
 protocol_matches (Only n) = OfProtocol n false ∷ []
@@ -34,6 +36,7 @@ both_families None f = Some f
 both_families (Some f) None = Some (Some f)
 both_families (Some f) (Some g) = if family_eq f g then Some (Some f) else None
 
+-- what both ask of the protocol, none if it can't hold
 abbrev pub both_protocols : Protocol → Protocol → Option Protocol
 both_protocols AnyProtocol q = Some q
 both_protocols (Only n) AnyProtocol = Some (Only n)
@@ -43,11 +46,13 @@ both_protocols NotTcp AnyProtocol = Some NotTcp
 both_protocols NotTcp (Only n) = if n == 6 then None else Some (Only n)
 both_protocols NotTcp NotTcp = Some NotTcp
 
+-- one alternative of a family, a protocol and tests; none where the family or the protocol can't hold
 abbrev pub made : Option (Option Family) → Option Protocol → List Match → List Alternative
 made None q tests = []
 made (Some f) None tests = []
 made (Some f) (Some q) tests = record { family = f; protocol = q; tests = tests } ∷ []
 
+-- what two alternatives ask at once, as one; none where their families or their protocols exclude each other
 abbrev pub joined : Alternative → Alternative → List Alternative
 joined a b = made (both_families a.family b.family) (both_protocols a.protocol b.protocol) (a.tests ++ b.tests)
 

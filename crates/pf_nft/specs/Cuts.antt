@@ -25,9 +25,11 @@ top Inet6 = 340282366920938463463374607431768211455
 
 -- ---- prefixes
 
+-- the first address of a prefix, as a number
 abbrev pub first_of : Block → ℕ
 first_of p = cleared (width p.base) p.len (bits_of p.base)
 
+-- the last address of a prefix, as a number
 abbrev pub last_of : Block → ℕ
 last_of p = first_of p + (2 ^ (width p.base - p.len) - 1)
 
@@ -51,9 +53,11 @@ cuts f entries = fold put_number (0 ∷ []) (flat_map (ends f) entries)
 
 -- ---- intervals
 
+-- the number is in the interval, to which both ends belong
 abbrev pub is_within : ℕ → Interval → Bool
 is_within n i = nat_le i.low n && nat_le n i.high
 
+-- the interval from low to high where the test held, none where it didn't
 abbrev pub span : Bool → (low high : ℕ) → List Interval
 span true low high = record { low = low; high = high } ∷ []
 span false low high = []
@@ -64,5 +68,6 @@ spans test end [] = []
 spans test end (n ∷ []) = span (test n) n end
 spans test end (n ∷ m ∷ ms) = span (test n) n (m - 1) ++ spans test end (m ∷ ms)
 
+-- the addresses of a family that a table of these entries holds, as intervals in rising order
 unfoldable pub elements : Family → List TableEntry → List Interval
 elements f entries = spans (λ n. in_table (address f n) entries) (top f) (cuts f entries)

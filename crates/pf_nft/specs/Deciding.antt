@@ -34,6 +34,7 @@ abbrev pub leads_back : AnyRule → Bool
 leads_back (FilterRule r) = false
 leads_back (AnchorRule a) = not a.target.children && is_empty a.target.names
 
+-- some anchor rule, at whatever path, leads back to the anchor that holds it
 abbrev pub some_leads_back : Configuration → Bool
 some_leads_back c = list_any (λ p. list_any leads_back (rules_at c p)) (paths_in c.anchors)
 

@@ -18,24 +18,29 @@ use Rattle.pf_nft.specs.Subset.{NftRule, Chain, NftRuleset, family_eq}
 
 -- ---- names
 
+-- two passes are the same
 abbrev pub pass_eq : Pass → Pass → Bool
 pass_eq Forward Forward = true
 pass_eq Forward Backward = false
 pass_eq Backward Forward = false
 pass_eq Backward Backward = true
 
+-- two names of sets are the same: the owner, the table and the family
 abbrev pub same_set : SetName → SetName → Bool
 same_set n m = path_eq n.owner m.owner && bytes_eq n.table m.table && family_eq n.family m.family
 
+-- the set has that name
 abbrev pub is_set : SetName → NamedSet → Bool
 is_set n s = same_set s.name n
 
+-- two names of chains are the same: both the hook's, or the same pass and path
 abbrev pub same_chain : ChainName → ChainName → Bool
 same_chain Base Base = true
 same_chain Base (At pass path) = false
 same_chain (At pass path) Base = false
 same_chain (At pass path) (At wanted place) = pass_eq pass wanted && path_eq path place
 
+-- the chain has that name
 abbrev pub is_chain : ChainName → Chain → Bool
 is_chain n c = same_chain c.name n
 
@@ -45,26 +50,31 @@ is_chain n c = same_chain c.name n
 abbrev pub turned : Bool → Bool → Bool
 turned negated b = if negated then not b else b
 
+-- the intervals of a set, none where there is no such set
 abbrev pub elements_in : Option NamedSet → List Interval
 elements_in None = []
 elements_in (Some s) = s.elements
 
+-- an address, as a number, is within the bounds or in the set of that name; a set that isn't there has no address
 abbrev pub in_place : List NamedSet → ℕ → Where → Bool
 in_place sets n (From low high) = nat_le low n && nat_le n high
 in_place sets n (InSet name) = list_any (is_within n) (elements_in (find (is_set name) sets))
 
+-- the packet's address at that end
 abbrev pub address_at : Side → PacketValue → Addr
 address_at Source k = k.source
 address_at Destination k = k.destination
 
+-- the packet's port at that end, if it has ports
 abbrev pub port_at : Side → PacketValue → Option ℕ
 port_at Source k = k.source_port
 port_at Destination k = k.destination_port
 
--- the flag, where the mask has it, is as in the value
+-- the flag under the mask is just that of the value
 abbrev pub masked : (here mask value : Bool) → Bool
 masked here mask value = bool_eq (here && mask) value
 
+-- the packet's flags under the mask are just those of the value
 abbrev pub flags_masked : (here mask value : TcpFlags) → Bool
 flags_masked here mask value =
     masked here.fin mask.fin value.fin && masked here.syn mask.syn value.syn
@@ -98,6 +108,7 @@ run_rules sets k jumped (rule ∷ rules) =
     or_else (if list_all (holds sets k) rule.matches then result_of jumped rule.statement else None)
     (run_rules sets k jumped rules)
 
+-- the rules of a chain, none where there is no such chain
 abbrev pub rules_in : Option Chain → List NftRule
 rules_in None = []
 rules_in (Some c) = c.rules

@@ -19,6 +19,7 @@ abbrev pub asked_by : (ChainName → ℕ) → Statement → ℕ
 asked_by jumped (Ends decision) = 1
 asked_by jumped (Jump chain) = 1 + jumped chain
 
+-- of how many rules a packet is asked at most from these on: each counts one, and a jump also all that its chain asks
 abbrev pub asked_in : (ChainName → ℕ) → List NftRule → ℕ
 asked_in jumped [] = 0
 asked_in jumped (rule ∷ rules) = asked_by jumped rule.statement + asked_in jumped rules
@@ -34,6 +35,7 @@ is_costly r = nat_lt ASKED_MAX (most_asked 10 r Base)
 
 -- ---- what is rendered
 
+-- the ruleset, or a refusal where a packet may be asked of more than ASKED_MAX rules
 abbrev pub unless_costly : NftRuleset → Result NftRuleset RenderFault
 unless_costly r = if is_costly r then Err Costly else Ok r
 

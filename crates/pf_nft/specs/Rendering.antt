@@ -62,6 +62,7 @@ names_of name groups = name ∷ without_digits name ∷ groups
 abbrev pub names_in : Machine → Name → List Name
 names_in m name = names_of name (unwrap_or (groups_in m name) [])
 
+-- the names of the machine's interfaces
 abbrev pub known : Machine → List Name
 known m = map (λ (i : Name × List Name). i.0) m
 
@@ -75,20 +76,25 @@ interfaces_with test m = filter (λ n. test (names_in m n)) (known m)
 abbrev pub always : Alternative
 always = record { family = None; protocol = AnyProtocol; tests = [] }
 
+-- these matches are asked, and nothing of family and protocol
 abbrev pub only_tests : List Match → Alternative
 only_tests tests = record { family = None; protocol = AnyProtocol; tests = tests }
 
+-- nothing is asked where the rule is for this direction or for both; a rule for the other one has no alternative
 abbrev pub direction_alternatives : Direction → Option Direction → List Alternative
 direction_alternatives d None = always ∷ []
 direction_alternatives d (Some wanted) = if direction_eq d wanted then always ∷ [] else []
 
+-- the packet is of the rule's family, or of any where the rule names none
 abbrev pub family_alternatives : Option Family → List Alternative
 family_alternatives f = record { family = f; protocol = AnyProtocol; tests = [] } ∷ []
 
+-- the packet is of the rule's protocol, or of any where the rule names none
 abbrev pub protocol_alternatives : Option ℕ → List Alternative
 protocol_alternatives None = always ∷ []
 protocol_alternatives (Some n) = record { family = None; protocol = Only n; tests = [] } ∷ []
 
+-- the packet is an ICMP packet of the rule's type, or any packet where the rule names no type
 abbrev pub type_alternatives : Option ℕ → List Alternative
 type_alternatives None = always ∷ []
 type_alternatives (Some n) = record { family = None; protocol = Only 1; tests = OfType n ∷ [] } ∷ []
@@ -122,15 +128,18 @@ on_some (n ∷ ns) = only_tests (OnInterface (n ∷ ns) false ∷ []) ∷ []
 abbrev pub is_meant : Interface → List Name → Bool
 is_meant i names = turned i.negated (list_any (λ n. bytes_eq n i.name) names)
 
+-- the packet is on one of the machine's interfaces that the rule means; no alternative where there is none of these
 abbrev pub interface_alternatives : Machine → Option Interface → List Alternative
 interface_alternatives m None = always ∷ []
 interface_alternatives m (Some i) = on_some (interfaces_with (is_meant i) m)
 
 -- ---- ports
 
+-- the ports from low to high, with both ends
 abbrev pub ports_from : (low high : ℕ) → Option PortSpan
 ports_from low high = Some (record { low = low; high = high; negated = false })
 
+-- all ports but those from low to high, whose ends are left out too
 abbrev pub ports_but : (low high : ℕ) → Option PortSpan
 ports_but low high = Some (record { low = low; high = high; negated = true })
 
@@ -146,6 +155,7 @@ port_span (FromTo a b) = if nat_le a b then ports_from a b else None
 port_span (Between a b) = if nat_lt (a + 1) b then ports_from (a + 1) (b - 1) else None
 port_span (Outside a b) = if nat_le a b then ports_but a b else ports_from 0 65535
 
+-- a packet of this protocol of which this match holds
 abbrev pub of_protocol : ℕ → Match → Alternative
 of_protocol n m = record { family = None; protocol = Only n; tests = m ∷ [] }
 
@@ -155,6 +165,7 @@ on_ports side None = []
 on_ports side (Some s) = of_protocol 6 (AtPort side s.low s.high s.negated)
     ∷ of_protocol 17 (AtPort side s.low s.high s.negated) ∷ []
 
+-- the port of that end passes the rule's test, one alternative for TCP and one for UDP; without a test nothing is asked
 abbrev pub port_alternatives : Side → Option PortTest → List Alternative
 port_alternatives side None = always ∷ []
 port_alternatives side (Some test) = on_ports side (port_span test)
@@ -176,16 +187,19 @@ place_of c p f (Range range) =
 place_of c p f (Table name) =
     option_map (λ owner. InSet (record { owner = owner; table = name; family = f })) (owner_of c p name)
 
+-- the address of that end is of the family and in that place; no alternative where there is no place
 abbrev pub of_place : Side → Family → Option Where → List Alternative
 of_place side f None = []
 of_place side f (Some place) =
     record { family = Some f; protocol = AnyProtocol; tests = AtAddress side f place false ∷ [] } ∷ []
 
+-- the address of that end is of the family and not in that place; any of the family where there is no place
 abbrev pub off_place : Side → Family → Option Where → List Alternative
 off_place side f None = record { family = Some f; protocol = AnyProtocol; tests = [] } ∷ []
 off_place side f (Some place) =
     record { family = Some f; protocol = AnyProtocol; tests = AtAddress side f place true ∷ [] } ∷ []
 
+-- the address of that end is one that a rule at a path asks for, an alternative a family; Any asks nothing
 abbrev pub host_alternatives : Configuration → Path → Side → Host → List Alternative
 host_alternatives c p side host.Any = always ∷ []
 host_alternatives c p side (host.In set) =
@@ -208,6 +222,7 @@ end_alternatives c p r =
     both (both (both (port_alternatives Source r.source_port) (port_alternatives Destination r.destination_port))
     (host_alternatives c p Source r.source)) (host_alternatives c p Destination r.destination)
 
+-- the conditions of a rule at a path as alternatives, of which one has to hold of packets of the direction
 unfoldable pub alternatives : Configuration → Machine → Direction → Path → Conditions → List Alternative
 alternatives c m d p r = both (such_alternatives m d r) (end_alternatives c p r)
 
@@ -217,18 +232,22 @@ alternatives c m d p r = both (such_alternatives m d r) (end_alternatives c p r)
 unfoldable pub with_statement : Statement → Alternative → NftRule
 with_statement s a = record { matches = matches_of a; statement = s }
 
+-- a rule's action in the words of nftables: block return is reject
 abbrev pub outcome_of : Action → Outcome
 outcome_of act.Pass = Accept
 outcome_of act.Drop = Drop
 outcome_of act.Return = Reject
 
+-- a filter rule with that index at a path: for each alternative a rule that decides so, with its place as the note
 abbrev pub filter_rules : List Alternative → Path → ℕ → Rule → List NftRule
 filter_rules xs p i r =
     map (with_statement (Ends (record { outcome = outcome_of r.action; note = Spot p i }))) xs
 
+-- for each of these chains a rule that jumps there where the alternative holds
 unfoldable pub jump_each : List ChainName → Alternative → List NftRule
 jump_each chains a = map (λ n. with_statement (Jump n) a) chains
 
+-- for each alternative the jumps to all these chains, in their order
 abbrev pub jump_rules : List Alternative → List ChainName → List NftRule
 jump_rules xs chains = flat_map (jump_each chains) xs
 
@@ -243,12 +262,15 @@ targets_of c p t =
     then map (followed_by (p ++ t.names)) (filter (λ n. not (begins_below n)) (kids c (p ++ t.names)))
     else (p ++ t.names) ∷ []
 
+-- of the paths that an anchor rule evaluates those that a jump may lead to
 abbrev pub chained_targets : Configuration → Path → Target → List Path
 chained_targets c p t = filter (is_chained c) (targets_of c p t)
 
+-- the forward chains of these paths, in their order
 abbrev pub forward_chains : List Path → List ChainName
 forward_chains paths = map (At Forward) paths
 
+-- the backward chains of these paths, the last path first
 abbrev pub backward_chains : List Path → List ChainName
 backward_chains paths = map (At Backward) (reverse paths)
 
@@ -282,18 +304,21 @@ backward_rules f i (rule ∷ rules) = backward_rules f (i + 1) rules ++ f i rule
 
 -- ---- the ruleset
 
+-- the chain of a path with what may end the evaluation, the first rule first
 abbrev pub forward_chain : Configuration → Machine → Direction → Path → Chain
 forward_chain c m d p = record { name = At Forward p; rules = forward_rules (forward_rule c m d p) 0 (rules_at c p) }
 
+-- the chain of a path with the rest, the last rule first
 abbrev pub backward_chain : Configuration → Machine → Direction → Path → Chain
 backward_chain c m d p =
     record { name = At Backward p; rules = backward_rules (backward_rule c m d p) 0 (rules_at c p) }
 
--- what stands on no interface of the list is dropped
+-- a packet stands on no interface of the list; of an empty list nothing is asked
 abbrev pub unknown_matches : List Name → List Match
 unknown_matches [] = []
 unknown_matches (n ∷ ns) = OnInterface (n ∷ ns) true ∷ []
 
+-- a rule that decides so, for this reason, of packets of which all matches hold
 abbrev pub ending : Outcome → Note → List Match → NftRule
 ending outcome note matches = record { matches = matches; statement = Ends (record { outcome = outcome; note = note }) }
 
@@ -301,13 +326,16 @@ ending outcome note matches = record { matches = matches; statement = Ends (reco
 unfoldable pub is_skipped : List Name → List Name → Bool
 is_skipped skip names = list_any (λ n. list_any (λ m. bytes_eq m n) names) skip
 
+-- packets on the machine's skipped interfaces are accepted; no rule where none of its interfaces is skipped
 abbrev pub skip_rules : Configuration → Machine → List NftRule
 skip_rules c m = map (with_statement (Ends (record { outcome = Accept; note = Skip })))
     (on_some (interfaces_with (is_skipped c.skip) m))
 
+-- main's two chains, the forward one first; none where main has no rules
 abbrev pub main_chains : Configuration → List ChainName
 main_chains c = if is_empty (rules_at c []) then [] else At Forward [] ∷ At Backward [] ∷ []
 
+-- the chain at the hook: unknown interfaces are dropped, skipped ones accepted, then main's two chains, then accept
 abbrev pub base_chain : Configuration → Machine → Chain
 base_chain c m = record {
   name = Base;
@@ -320,6 +348,7 @@ abbrev pub entries_in : Option TableValue → List TableEntry
 entries_in None = []
 entries_in (Some t) = t.entries
 
+-- the addresses of one family in a table at a path, as a set
 abbrev pub table_set : Configuration → Path → Name → Family → NamedSet
 table_set c p n f = record {
   name = record { owner = p; table = n; family = f };
@@ -330,12 +359,15 @@ table_set c p n f = record {
 abbrev pub table_sets : Configuration → Path → Name → List NamedSet
 table_sets c p n = table_set c p n Inet ∷ table_set c p n Inet6 ∷ []
 
+-- the sets of all tables at a path
 abbrev pub path_sets : Configuration → Path → List NamedSet
 path_sets c p = flat_map (table_sets c p) (table_names c p)
 
+-- the sets of all tables at all paths of the configuration
 unfoldable pub sets_of : Configuration → List NamedSet
 sets_of c = flat_map (path_sets c) (paths_in c.anchors)
 
+-- the hook's chain, then the forward chains of all paths of the configuration, then their backward chains
 unfoldable pub chains_of : Configuration → Machine → Direction → List Chain
 chains_of c m d =
     base_chain c m ∷ (map (forward_chain c m d) (paths_in c.anchors) ++ map (backward_chain c m d) (paths_in c.anchors))

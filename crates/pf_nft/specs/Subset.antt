@@ -20,6 +20,7 @@ pub use Rattle.pf_nft.specs.declared.subset.Outcome.TheVariants.{Accept, Drop, R
 
 -- ---- sets (nft(8), SETS)
 
+-- two families are the same
 abbrev pub family_eq : Family → Family → Bool
 family_eq Inet Inet = true
 family_eq Inet Inet6 = false
@@ -32,6 +33,7 @@ pub record SetName : Type 0 where
   pub table : Name
   pub family : Family
 
+-- a set of addresses, as intervals of their numbers
 pub record NamedSet : Type 0 where
   pub name : SetName
   pub elements : List Interval
@@ -43,6 +45,7 @@ pub data Where : Type 0 where
   From : (low high : ℕ) → Where
   InSet : (name : SetName) → Where
 
+-- an expression that a rule may ask of a packet; a negated one is written with !=
 pub data Match : Type 0 where
   -- iifname { .. } of packets in, oifname { .. } of packets out
   OnInterface : (names : List Name) (negated : Bool) → Match
@@ -61,6 +64,7 @@ pub data Match : Type 0 where
 
 -- ---- rules and chains (nft(8), CHAINS, RULES)
 
+-- the chain at the hook, or one of the two of a path
 pub data ChainName : Type 0 where
   -- the chain at the hook
   Base : ChainName
@@ -77,6 +81,7 @@ pub data Note : Type 0 where
   -- path@index
   Spot : (path : Path) (index : ℕ) → Note
 
+-- what becomes of a packet, and why
 pub record Decision : Type 0 where
   pub outcome : Outcome
   pub note : Note
@@ -86,14 +91,17 @@ pub data Statement : Type 0 where
   Ends : (decision : Decision) → Statement
   Jump : (chain : ChainName) → Statement
 
+-- a rule: of packets of which all matches hold it decides, or it jumps
 pub record NftRule : Type 0 where
   pub matches : List Match
   pub statement : Statement
 
+-- a chain: its name, and its rules in the order in which they are asked
 pub record Chain : Type 0 where
   pub name : ChainName
   pub rules : List NftRule
 
+-- the sets and the chains for packets of one direction
 pub record NftRuleset : Type 0 where
   pub sets : List NamedSet
   pub chains : List Chain

@@ -6,6 +6,7 @@ use Rattle.pf_ruleset.specs.declared.rule.Action.TheVariants.{Pass, Drop, Return
 use Rattle.pf_ruleset.specs.Items.{AnyRule, FilterRule, AnchorRule}
 use Rattle.pf_config.specs.Map.{Configuration, rules_at, paths_in}
 
+-- the action is pass
 abbrev pub passes : Action → Bool
 passes Pass = true
 passes Drop = false

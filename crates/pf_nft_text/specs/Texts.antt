@@ -30,6 +30,7 @@ abbrev pub chain_index : ChainName → List Chain → ℕ
 chain_index name [] = 0
 chain_index name (c ∷ cs) = if is_chain name c then 0 else chain_index name cs + 1
 
+-- how many sets stand before the first of that name
 abbrev pub set_index : SetName → List NamedSet → ℕ
 set_index name [] = 0
 set_index name (s ∷ ss) = if is_set name s then 0 else set_index name ss + 1
@@ -49,6 +50,7 @@ set_label position r name = generation position ++ (codes "s" ++ decimal (set_in
 
 -- ---- matches
 
+-- "!= " before what is negated, else nothing
 abbrev pub not_text : Bool → List ℕ
 not_text true = codes "!= "
 not_text false = []
@@ -57,9 +59,11 @@ not_text false = []
 abbrev pub number_text : Family → ℕ → List ℕ
 number_text f n = if nat_le n (top f) then shown_addr (address f n) else []
 
+-- two addresses of a family, by their numbers, with - between
 abbrev pub interval_text : Family → ℕ → ℕ → List ℕ
 interval_text f low high = number_text f low ++ (codes "-" ++ number_text f high)
 
+-- where an address has to be: an interval, or @ and the name of a set
 abbrev pub place_text : ℕ → NftRuleset → Family → Where → List ℕ
 place_text position r f (From low high) = interval_text f low high
 place_text position r f (InSet name) = codes "@" ++ set_label position r name
@@ -68,22 +72,27 @@ place_text position r f (InSet name) = codes "@" ++ set_label position r name
 abbrev pub quoted : Name → List ℕ
 quoted name = codes "\"" ++ (name ++ codes "\", ")
 
+-- the word for a packet's interface: iifname of packets in, oifname of packets out
 abbrev pub interface_text : Direction → List ℕ
 interface_text In = codes "iifname "
 interface_text Out = codes "oifname "
 
+-- the word for the header in which a family's addresses stand
 abbrev pub family_text : Family → List ℕ
 family_text Inet = codes "ip "
 family_text Inet6 = codes "ip6 "
 
+-- the word for the address of an end
 abbrev pub address_text : Side → List ℕ
 address_text Source = codes "saddr "
 address_text Destination = codes "daddr "
 
+-- the words for the port of an end, of TCP or UDP
 abbrev pub port_text : Side → List ℕ
 port_text Source = codes "th sport "
 port_text Destination = codes "th dport "
 
+-- what a flag adds to the byte: its number where it is set, else 0
 abbrev pub weight : Bool → ℕ → ℕ
 weight true n = n
 weight false n = 0
@@ -94,6 +103,7 @@ flags_byte f =
     weight f.fin 1 + weight f.syn 2 + weight f.rst 4 + weight f.psh 8 + weight f.ack 16 + weight f.urg 32
     + weight f.ece 64 + weight f.cwr 128
 
+-- how a match is written (nft(8), META EXPRESSIONS, PAYLOAD EXPRESSIONS)
 unfoldable pub match_text : ℕ → Direction → NftRuleset → Match → List ℕ
 match_text position d r (OnInterface names negated) =
     interface_text d ++ (not_text negated ++ (codes "{ " ++ (flat_map quoted names ++ codes "} ")))
@@ -132,30 +142,34 @@ note_text Skip = codes "skip"
 note_text Default = codes "default"
 note_text (Spot path index) = path_text path ++ (codes "@" ++ decimal index)
 
+-- how an outcome is written; reject goes to the position's chain that answers
 abbrev pub outcome_text : ℕ → Outcome → List ℕ
 outcome_text position Accept = codes "accept"
 outcome_text position Drop = codes "drop"
 outcome_text position Reject = codes "goto " ++ (generation position ++ codes "refuse")
 
+-- a counter, the outcome, and the note as a comment; or a jump (nft(8), VERDICT STATEMENT)
 abbrev pub statement_text : ℕ → Direction → NftRuleset → Statement → List ℕ
 statement_text position d r (Ends decision) =
     codes "counter " ++ (outcome_text position decision.outcome ++ (codes " comment \"" ++ (note_text decision.note
     ++ codes "\"; ")))
 statement_text position d r (Jump chain) = codes "jump " ++ (chain_label position d r chain ++ codes "; ")
 
+-- a rule: its matches, and then its statement
 unfoldable pub rule_text : ℕ → Direction → NftRuleset → NftRule → List ℕ
 rule_text position d r rule =
     flat_map (match_text position d r) rule.matches ++ statement_text position d r rule.statement
 
 -- ---- chains
 
--- of the hook's chain the rules that ask for the interface alone
+-- the note is one of a rule that asks for the interface alone
 abbrev pub note_first : Note → Bool
 note_first Unknown = true
 note_first Skip = true
 note_first Default = false
 note_first (Spot path index) = false
 
+-- the statement decides, and for the interface alone: it is unknown or skipped
 abbrev pub asks_interface : Statement → Bool
 asks_interface (Jump chain) = false
 asks_interface (Ends decision) = note_first decision.note
@@ -164,21 +178,23 @@ asks_interface (Ends decision) = note_first decision.note
 abbrev pub first_rules : List NftRule → ℕ
 first_rules rules = prefix_len (λ rule. asks_interface rule.statement) rules
 
--- behind them, at the hook: what can't be judged for want of a header, and, where some rule keeps state, what belongs
--- to a connection that was let through
+-- where some rule keeps state, the rule for what belongs to a connection that was let through
 abbrev pub states_text : Bool → List ℕ
 states_text true = codes "ct state established,related counter accept comment \"state\"; "
 states_text false = []
 
+-- at the hook a jump to the guard and, where state is kept, the rule for known connections; in other chains nothing
 abbrev pub front_text : ℕ → Bool → ChainName → List ℕ
 front_text position keeps Base = codes "jump " ++ (generation position ++ (codes "guard; " ++ states_text keeps))
 front_text position keeps (At pass path) = []
 
+-- the rules of a chain; behind those for the interface alone stands what the hook's chain has there
 abbrev pub rules_text : ℕ → Bool → Direction → NftRuleset → Chain → List ℕ
 rules_text position keeps d r c =
     flat_map (rule_text position d r) (take (first_rules c.rules) c.rules)
     ++ (front_text position keeps c.name ++ flat_map (rule_text position d r) (drop (first_rules c.rules) c.rules))
 
+-- a chain with its name and its rules (nft(8), CHAINS)
 unfoldable pub chain_text : ℕ → Bool → Direction → NftRuleset → Chain → List ℕ
 chain_text position keeps d r c =
     codes "chain " ++ (chain_label position d r c.name ++ (codes " { " ++ (rules_text position keeps d r c
@@ -186,17 +202,21 @@ chain_text position keeps d r c =
 
 -- ---- sets
 
+-- an interval of a set, and a comma
 abbrev pub element_text : Family → Interval → List ℕ
 element_text f i = interval_text f i.low i.high ++ codes ", "
 
+-- the list of a set's intervals; it isn't written where there are none
 abbrev pub elements_text : Family → List Interval → List ℕ
 elements_text f [] = []
 elements_text f (i ∷ is) = codes "elements = { " ++ (flat_map (element_text f) (i ∷ is) ++ codes "}; ")
 
+-- the type of a set with intervals of a family's addresses
 abbrev pub type_text : Family → List ℕ
 type_text Inet = codes "type ipv4_addr; flags interval; "
 type_text Inet6 = codes "type ipv6_addr; flags interval; "
 
+-- a set with its name, its type and its intervals (nft(8), SETS)
 unfoldable pub set_text : ℕ → NftRuleset → NamedSet → List ℕ
 set_text position r s =
     codes "set " ++ (set_label position r s.name ++ (codes " { " ++ (type_text s.name.family
@@ -228,6 +248,7 @@ headers_text =
     ++ (codes "meta nfproto ipv4 meta l4proto 1 icmp checksum 0-65535 return; "
     ++ codes "meta nfproto ipv4 meta l4proto 1 counter drop; "))
 
+-- the guard: a chain that drops later fragments, and headers of TCP, UDP or ICMP that are cut short
 abbrev pub guard_text : ℕ → List ℕ
 guard_text position =
     codes "chain " ++ (generation position ++ (codes "guard { " ++ (fragments_text ++ (headers_text ++ codes "}; "))))
@@ -259,12 +280,15 @@ rules_line position keeps inward outward =
     ++ (flat_map (chain_text position keeps Out outward) outward.chains
     ++ (hooks_filled position inward outward ++ codes "}\n")))))
 
+-- a chain of this position is deleted
 unfoldable pub chain_gone : ℕ → Direction → NftRuleset → Chain → List ℕ
 chain_gone position d r c = codes "delete chain inet reltzuma " ++ (chain_label position d r c.name ++ codes "; ")
 
+-- a set of this position is deleted
 unfoldable pub set_gone : ℕ → NftRuleset → NamedSet → List ℕ
 set_gone position r s = codes "delete set inet reltzuma " ++ (set_label position r s.name ++ codes "; ")
 
+-- the guard and the chain that answers, of this position, are deleted
 abbrev pub fixed_gone : ℕ → List ℕ
 fixed_gone position =
     codes "delete chain inet reltzuma " ++ (generation position ++ (codes "guard; delete chain inet reltzuma "

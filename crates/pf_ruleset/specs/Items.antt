@@ -38,10 +38,12 @@ mutual
     no_items : ItemValues
     one_more : (item : ItemValue) → (items : ItemValues) → ItemValues
 
+-- the items of a block as a list, in order
 abbrev pub list_of : ItemValues → List ItemValue
 list_of no_items = []
 list_of (one_more item items) = item ∷ list_of items
 
+-- a list of items as those of a block, in order
 abbrev pub values_of : List ItemValue → ItemValues
 values_of [] = no_items
 values_of (item ∷ items) = one_more item (values_of items)

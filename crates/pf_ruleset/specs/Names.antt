@@ -6,6 +6,7 @@ use Rattle.pf_words.specs.Words.{is_anchor_text}
 use Rattle.std.specs.Ordering.{is_lt, nat_cmp}
 use Rattle.std.specs.Cmp.Lexicographic.{slice_cmp}
 
+-- a name is its bytes
 abbrev pub Name : Type 0
 Name = List ℕ
 

@@ -20,6 +20,7 @@ pub record RulesetValue : Type 0 where
   pub tables : List TableValue
   pub items : List ItemValue
 
+-- what the code's table says: its name, its flags, and its entries where they are listed
 abbrev pub table_of : TableDef → TableValue
 table_of t = record {
   name = t.name;
@@ -28,5 +29,6 @@ table_of t = record {
   entries = option_map (λ v. v.items) t.entries;
 }
 
+-- the ruleset that the code's stands for: the skipped names, the tables and the rules of any kind
 abbrev pub ruleset_of : Ruleset → RulesetValue
 ruleset_of r = record { skip = r.skip.items; tables = map table_of r.tables.items; items = items_of r.items.items }

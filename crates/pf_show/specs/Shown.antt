@@ -28,21 +28,25 @@ use Rattle.pf_ruleset.specs.Names.{Name, begins_below}
 use Rattle.pf_ruleset.specs.Rulesets.{RulesetValue, TableValue}
 use Rattle.pf_ruleset.specs.declared.ruleset.TableEntry.{TableEntry}
 
+-- the bytes of a line that stand together, without a blank between them
 abbrev pub Part : Type 0
 Part = List ℕ
 
 -- ---- the parts of a rule
 
+-- pass, block drop or block return
 abbrev pub action_parts : Action → List Part
 action_parts Pass = codes "pass" ∷ []
 action_parts Drop = codes "block" ∷ codes "drop" ∷ []
 action_parts Return = codes "block" ∷ codes "return" ∷ []
 
+-- in or out; nothing where a rule is for both
 abbrev pub direction_parts : Option Direction → List Part
 direction_parts None = []
 direction_parts (Some In) = codes "in" ∷ []
 direction_parts (Some Out) = codes "out" ∷ []
 
+-- quick, if the rule is
 abbrev pub quick_parts : Bool → List Part
 quick_parts true = codes "quick" ∷ []
 quick_parts false = []
@@ -57,15 +61,18 @@ abbrev pub negated_parts : List Part → List Part
 negated_parts [] = []
 negated_parts (part ∷ parts) = (33 ∷ part) ∷ parts
 
+-- on and the interface's name, if there is one, `!` directly before it where it is negated
 abbrev pub interface_parts : Option Interface → List Part
 interface_parts None = []
 interface_parts (Some i) = codes "on" ∷ negated_part i.negated i.name ∷ []
 
+-- inet or inet6; nothing where a rule is for both
 abbrev pub family_parts : Option Family → List Part
 family_parts None = []
 family_parts (Some Inet) = codes "inet" ∷ []
 family_parts (Some Inet6) = codes "inet6" ∷ []
 
+-- proto and the protocol's number, if there is one
 abbrev pub protocol_parts : Option ℕ → List Part
 protocol_parts None = []
 protocol_parts (Some n) = codes "proto" ∷ decimal n ∷ []
@@ -80,11 +87,13 @@ addresses_parts (Prefix block) = shown_prefix block ∷ []
 addresses_parts (Table name) = table_sign name ∷ []
 addresses_parts (Range span) = shown_addr span.first ∷ codes "-" ∷ shown_addr span.last ∷ []
 
+-- any, or addresses, `!` directly before them where they are negated
 abbrev pub host_parts : Host → List Part
 host_parts host.Any = codes "any" ∷ []
 host_parts (host.In set) = addresses_parts set
 host_parts (host.NotIn set) = negated_parts (addresses_parts set)
 
+-- an operator and a port, a:b, or two ports with >< or <> between them
 abbrev pub test_parts : PortTest → List Part
 test_parts (Equal n) = codes "=" ∷ decimal n ∷ []
 test_parts (NotEqual n) = codes "!=" ∷ decimal n ∷ []
@@ -96,10 +105,12 @@ test_parts (FromTo a b) = (decimal a ++ 58 ∷ decimal b) ∷ []
 test_parts (Between a b) = decimal a ∷ codes "><" ∷ decimal b ∷ []
 test_parts (Outside a b) = decimal a ∷ codes "<>" ∷ decimal b ∷ []
 
+-- port and its test, if there is one
 abbrev pub port_parts : Option PortTest → List Part
 port_parts None = []
 port_parts (Some test) = codes "port" ∷ test_parts test
 
+-- the word from or to, the host, and the port, if there is a test of it
 abbrev pub end_parts : List ℕ → Host → Option PortTest → List Part
 end_parts word h port = word ∷ (host_parts h ++ port_parts port)
 
@@ -109,10 +120,12 @@ ends_parts host.Any None host.Any None = codes "all" ∷ []
 ends_parts source source_port destination destination_port =
     end_parts (codes "from") source source_port ++ end_parts (codes "to") destination destination_port
 
+-- icmp-type and the type's number, if there is one
 abbrev pub type_parts : Option ℕ → List Part
 type_parts None = []
 type_parts (Some n) = codes "icmp-type" ∷ decimal n ∷ []
 
+-- the letter of a flag, if it is set
 abbrev pub letter : Bool → ℕ → List ℕ
 letter true b = b ∷ []
 letter false b = []
@@ -123,6 +136,7 @@ letters f =
     letter f.fin 70 ++ (letter f.syn 83 ++ (letter f.rst 82 ++ (letter f.psh 80
     ++ (letter f.ack 65 ++ (letter f.urg 85 ++ (letter f.ece 69 ++ letter f.cwr 87))))))
 
+-- any, or the letters of the flags that must be set, a slash, and those of all that are checked
 abbrev pub flags_text : FlagTest → List ℕ
 flags_text flags.Any = codes "any"
 flags_text (flags.Just set of) = letters set ++ 47 ∷ letters of
@@ -135,17 +149,20 @@ flags_parts Drop (flags.Just set of) = codes "flags" ∷ flags_text (flags.Just 
 flags_parts Return flags.Any = []
 flags_parts Return (flags.Just set of) = codes "flags" ∷ flags_text (flags.Just set of) ∷ []
 
+-- keep state or no state in a pass rule; nothing in another one
 abbrev pub state_parts : Action → Bool → List Part
 state_parts Pass true = codes "keep" ∷ codes "state" ∷ []
 state_parts Pass false = codes "no" ∷ codes "state" ∷ []
 state_parts Drop keep = []
 state_parts Return keep = []
 
+-- interface, family, protocol, both ends, and type of ICMP
 unfoldable pub condition_parts : Conditions → List Part
 condition_parts c =
     interface_parts c.interface ++ (family_parts c.family ++ (protocol_parts c.protocol
     ++ (ends_parts c.source c.source_port c.destination c.destination_port ++ type_parts c.icmp_type)))
 
+-- a filter rule: its action, direction, quick, conditions, flags and state
 unfoldable pub rule_parts : Rule → List Part
 rule_parts r =
     action_parts r.action ++ (direction_parts r.conditions.direction ++ (quick_parts r.quick
@@ -177,6 +194,7 @@ abbrev pub children_text : Bool → List ℕ
 children_text true = codes "/*"
 children_text false = []
 
+-- the names between slashes, and /* where it means the anchors directly attached
 abbrev pub target_text : Target → List ℕ
 target_text t = slashed t.names ++ children_text t.children
 
@@ -190,6 +208,7 @@ heading_parts h =
     direction_parts h.conditions.direction ++ (quick_parts h.quick
     ++ (condition_parts h.conditions ++ flags_parts Drop h.conditions.flags))
 
+-- an anchor rule without a block, with its target
 unfoldable pub anchor_parts : Heading → List Part
 anchor_parts h = codes "anchor" ∷ target_part h.target ∷ heading_parts h
 
@@ -203,6 +222,7 @@ is_unnamed (name ∷ other ∷ names) = false
 abbrev pub block_target : Target → List Part
 block_target t = if is_unnamed t.names then [] else target_part t ∷ []
 
+-- an anchor rule up to the brace that opens its block
 unfoldable pub block_parts : Heading → List Part
 block_parts h = codes "anchor" ∷ (block_target h.target ++ (heading_parts h ++ codes "{" ∷ []))
 
@@ -213,6 +233,7 @@ abbrev pub any_rule_line : AnyRule → List ℕ
 any_rule_line (FilterRule r) = line (rule_parts r)
 any_rule_line (AnchorRule h) = line (anchor_parts h)
 
+-- a line for each rule, without blocks and with every name
 abbrev pub shown_items : List AnyRule → List ℕ
 shown_items [] = []
 shown_items (rule ∷ rules) = any_rule_line rule ++ shown_items rules
@@ -228,6 +249,7 @@ abbrev mutual
   shown_block no_items = []
   shown_block (one_more item items) = shown_item item ++ shown_block items
 
+-- rules one after another, each with the block that it may carry
 abbrev pub shown_rules : List ItemValue → List ℕ
 shown_rules [] = []
 shown_rules (item ∷ items) = shown_item item ++ shown_rules items
@@ -254,10 +276,12 @@ abbrev pub word_parts : Bool → List ℕ → List Part
 word_parts true word = word ∷ []
 word_parts false word = []
 
+-- a table: its name, persist and const where they are said, and its entries where they are listed
 unfoldable pub table_parts : TableValue → List Part
 table_parts t = codes "table" ∷ table_sign t.name ∷ (word_parts t.persist (codes "persist") ++
     (word_parts t.is_const (codes "const") ++ entries_parts t.entries))
 
+-- a line for each table
 abbrev pub table_lines : List TableValue → List ℕ
 table_lines [] = []
 table_lines (t ∷ tables) = line (table_parts t) ++ table_lines tables

@@ -29,6 +29,7 @@ anchor_with h target = record { target = target; quick = h.quick; conditions = h
 unfoldable pub said_flags : List Token → Read (Option FlagTest)
 said_flags ts = behind_word (codes "flags") flags_at ts
 
+-- a target that was read, as one that might have been left out
 abbrev pub said_target : Target × List Token → Read (Option Target)
 said_target target = Some (Some target.0, target.1)
 

@@ -23,11 +23,13 @@ use Rattle.pf_statements.specs.Tables.{TableText, table_of}
 
 -- ---- options
 
+-- the options of a rule that are read: flags, state and types of ICMP, each where it was said
 pub record Options : Type 0 where
   pub flags : Option FlagTest
   pub state : Option Bool
   pub types : Option (Elements WrittenType)
 
+-- no option was said
 abbrev pub no_options : Options
 no_options = record { flags = None; state = None; types = None }
 
@@ -132,6 +134,7 @@ mutual
     no_texts : ItemTexts
     one_text : (item : ItemText) → (items : ItemTexts) → ItemTexts
 
+-- a list of rules as those of a block, in order
 abbrev pub texts_of : List ItemText → ItemTexts
 texts_of [] = no_texts
 texts_of (item ∷ items) = one_text item (texts_of items)
@@ -155,6 +158,7 @@ anchor_behind block h ts =
     if begins_symbol mark.Open ts then (if is_wild h.target then None else (block (drop 1 ts) >>= block_item h))
     else anchor_item h ts
 
+-- a filter rule that was read, as a rule of any kind
 abbrev pub as_rule : RuleText × List Token → Read ItemText
 as_rule rule = Some (RuleItem rule.0, rule.1)
 
@@ -168,6 +172,7 @@ item_with block profile ts =
     if begins (codes "anchor") ts then (heading_at profile (drop 1 ts) >>= λ h. anchor_behind block h.0 h.1)
     else rule_item_at profile ts
 
+-- a rule in front of those that were read behind it in its block
 abbrev pub put_text : ItemText → ItemTexts × List Token → Read ItemTexts
 put_text item more = Some (one_text item more.0, more.1)
 
@@ -186,10 +191,12 @@ item_at n profile ts = item_with (items_at n profile) profile ts
 
 -- ---- set
 
+-- what is set: what a plain block does, or the interfaces that are skipped
 pub data Setting : Type 0 where
   SetPolicy : (policy : Policy) → Setting
   SetSkip : (names : Elements Name) → Setting
 
+-- what was read, if no token is left behind it
 abbrev pub all_read : {X : Type 0} → Read X → Option X
 all_read None = None
 all_read (Some (x, ts)) = if_so (is_end ts) x
@@ -213,6 +220,7 @@ setting_of profile ts =
 
 -- ---- statements
 
+-- a statement that defines no macro: set, a table, a filter rule, an anchor rule without a block or with one
 pub data Statement : Type 0 where
   Sets : (setting : Setting) → Statement
   Tables : (table : TableText) → Statement
@@ -220,10 +228,12 @@ pub data Statement : Type 0 where
   Anchors : (anchor : AnchorText) → Statement
   AnchorBlocks : (heading : HeadingText) → (block : ItemTexts) → Statement
 
+-- what is set as a statement, if it was read
 abbrev pub as_setting : Option Setting → Option Statement
 as_setting None = None
 as_setting (Some setting) = Some (Sets setting)
 
+-- a table as a statement, if it was read
 abbrev pub as_table : Option TableText → Option Statement
 as_table None = None
 as_table (Some table) = Some (Tables table)

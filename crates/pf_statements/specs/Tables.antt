@@ -18,6 +18,7 @@ pub record TableText : Type 0 where
   pub is_const : Bool
   pub entries : Option (Elements TableEntry)
 
+-- a table of this name, of which nothing more was said
 abbrev pub new_table : Name → TableText
 new_table name = record { name = name; persist = false; is_const = false; entries = None }
 
@@ -38,6 +39,7 @@ empty_at ts =
     let opened = list_opened ts in
     if opened.0 && begins_symbol mark.Close opened.1 then (true, drop 1 opened.1) else (false, ts)
 
+-- the list without entries, which is one list deep
 abbrev pub no_entries : Elements TableEntry
 no_entries = record { items = []; deepest = 1 }
 

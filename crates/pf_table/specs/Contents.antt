@@ -8,14 +8,17 @@ use Rattle.pf_ruleset.specs.declared.ruleset.TableEntry.{TableEntry}
 use Rattle.pf_addr.specs.Order.{prefix_cmp}
 use Rattle.pf_table.specs.Tables.{bool_eq}
 
+-- the entry has this prefix, negated or not
 abbrev pub is_prefix : Block → TableEntry → Bool
 is_prefix p e = is_eq (prefix_cmp e.prefix p)
 
 -- ---- entries put in
 
+-- the entries whose prefix is before this one
 abbrev pub entries_before : Block → List TableEntry → List TableEntry
 entries_before p entries = filter (λ (e : TableEntry). is_lt (prefix_cmp e.prefix p)) entries
 
+-- the entries whose prefix is behind this one
 abbrev pub entries_behind : Block → List TableEntry → List TableEntry
 entries_behind p entries = filter (λ (e : TableEntry). is_lt (prefix_cmp p e.prefix)) entries
 
@@ -28,14 +31,17 @@ put_entry entries e = if list_any (is_prefix e.prefix) entries then entries else
 abbrev pub with_entries : List TableEntry → List TableEntry → List TableEntry
 with_entries entries more = fold put_entry entries more
 
+-- what a table has in which these entries are listed: ordered, and of each prefix the first
 abbrev pub contents_of : List TableEntry → List TableEntry
 contents_of entries = with_entries [] entries
 
 -- ---- entries taken out
 
+-- both have the same prefix and the same sign
 abbrev pub same_entry : TableEntry → TableEntry → Bool
 same_entry e f = is_prefix e.prefix f && bool_eq e.negated f.negated
 
+-- the entries that aren't listed with their sign
 abbrev pub unlisted : List TableEntry → List TableEntry → List TableEntry
 unlisted entries listed = filter (λ (e : TableEntry). not (list_any (same_entry e) listed)) entries
 

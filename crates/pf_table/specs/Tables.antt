@@ -14,6 +14,7 @@ pub record TableValue : Type 0 where
   pub is_const : Bool
   pub entries : List TableEntry
 
+-- the entry's prefix contains the address, whether the entry is negated or not
 abbrev pub contains : Addr → TableEntry → Bool
 contains a e = in_prefix a e.prefix
 
@@ -31,6 +32,7 @@ abbrev pub is_v6 : Addr → Bool
 is_v6 (V4 bits) = false
 is_v6 (V6 bits) = true
 
+-- both hold, or neither does
 abbrev pub bool_eq : Bool → Bool → Bool
 bool_eq true b = b
 bool_eq false b = not b

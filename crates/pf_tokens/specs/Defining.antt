@@ -47,10 +47,12 @@ abbrev pub joined_items : List Definition → Option (List ℕ) → List Token �
 joined_items ds begun [] = begun
 joined_items ds begun (t ∷ ts) = joined_items ds (with_item begun (item_of ds t)) ts
 
+-- how many bytes the text has, 0 where there is none
 abbrev pub text_len : Option (List ℕ) → ℕ
 text_len None = 0
 text_len (Some text) = length text
 
+-- each of the tokens is an item: a WORD, a STRING, or a macro that is known
 abbrev pub are_items : List Definition → List Token → Bool
 are_items ds ts = list_all (λ t. is_some (item_of ds t)) ts
 
@@ -62,6 +64,7 @@ is_too_long text = nat_lt 4096 (text_len text)
 abbrev pub is_macro_name : Profile → List ℕ → Bool
 is_macro_name profile name = not (is_reserved profile name) && list_all is_name_byte name
 
+-- the macro of this name with this text; without a text, since there is no item, it isn't spelled as one
 abbrev pub spelled : List ℕ → Option (List ℕ) → Result Definition DefinitionFault
 spelled name None = Err faults.Syntax
 spelled name (Some text) = Ok (record { name = name; text = text })
@@ -73,6 +76,7 @@ defined_as profile ds name items =
     then Err faults.Macro
     else (if are_items ds items then spelled name (joined_items ds None items) else Err faults.Syntax)
 
+-- what a statement defines whose WORD was read: `=` has to come next, then the items
 abbrev pub behind_name : Profile → List Definition → Read (List ℕ) → Result Definition DefinitionFault
 behind_name profile ds None = Err faults.Syntax
 behind_name profile ds (Some (name, ts)) =

@@ -16,6 +16,7 @@ abbrev pub is_unknown : List Definition → Token → Bool
 is_unknown ds (Macro name) = is_none (text_of ds name)
 is_unknown ds other = false
 
+-- this fault if the test holds, else what the others come to
 abbrev pub or_fault : Bool → ReadingFault → Option ReadingFault → Option ReadingFault
 or_fault true fault others = Some fault
 or_fault false fault others = others

@@ -23,6 +23,7 @@ statement_left ds defining depth [] raw = statement_raw ds defining depth raw
 statement_left ds defining depth (t ∷ ts) raw = if ends depth t then []
     else t ∷ statement_left ds defining (depth_after depth t.token) ts raw
 
+-- from the end of the statement on, where these tokens have been replaced already
 abbrev pub ending_left : List Definition → Bool → ℕ → List Placed → List Placed → List Placed
 ending_left ds defining depth [] raw = ending_raw ds defining depth raw
 ending_left ds defining depth (t ∷ ts) raw = if ends depth t then t ∷ raw

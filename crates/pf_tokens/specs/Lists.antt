@@ -11,9 +11,11 @@ pub record Elements (X : Type 0) : Type 0 where
   pub items : List X
   pub deepest : ℕ
 
+-- the elements and the deepest nesting that a list in code stands for
 abbrev pub elements_of : {X : Type 0} → Listed X → Elements X
 elements_of l = record { items = l.items.items; deepest = l.deepest }
 
+-- an element in front of those that were read behind it
 abbrev pub put : {X : Type 0} → X → Elements X × List Token → Read (Elements X)
 put x more = Some (record { items = x ∷ more.0.items; deepest = more.0.deepest }, more.1)
 

@@ -11,6 +11,7 @@ use Rattle.pf_tokens.specs.Flow.{statement_left, ending_left}
 use Rattle.pf_tokens.specs.Pending.{pending, known}
 use Rattle.pf_tokens.specs.Carried.{carried}
 
+-- the tokens without their lines
 abbrev pub tokens_of : List Placed → List Token
 tokens_of ps = map (λ (p : Placed). p.token) ps
 
@@ -37,6 +38,7 @@ pub record Later : Type 0 where
   pub behind : List Placed
   pub fault : Option ReadingFault
 
+-- the tokens from the end of the parser's statement on, and the first fault of the whole statement
 unfoldable pub later : Parser → Later
 later parser = record {
   behind = ending_left (definitions parser) parser.stream.defining parser.depth (pending parser.stream).0

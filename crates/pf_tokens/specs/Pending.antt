@@ -8,10 +8,12 @@ use Rattle.pf_tokens.specs.Left.{tokens_left}
 use Rattle.pf_tokens.specs.Macros.{Definition, unwritten}
 use Rattle.pf_tokens.specs.Known.{definitions_of}
 
+-- the token at hand and those behind it; nothing where there is none at hand
 abbrev pub behind : Option Lexed → List Placed → List Placed
 behind None ts = []
 behind (Some t) ts = placed_of t ∷ ts
 
+-- these tokens; nothing where there is no token at hand
 abbrev pub unless_none : Option Lexed → List Placed → List Placed
 unless_none None ts = []
 unless_none (Some t) ts = ts

@@ -13,6 +13,8 @@ abbrev pub Read : Type 0 → Type 0
 Read X = Option (X × List Token)
 
 infixl 10 ◌>>=◌
+
+-- goes on with the value that there is; none where there is none
 abbrev pub ◌>>=◌ : {A B : Type 0} → Option A → (A → Option B) → Option B
 (Some x) >>= f = f x
 None >>= f = None
@@ -33,6 +35,7 @@ taken_if test ts = if starts test ts then (true, drop 1 ts) else (false, ts)
 
 -- ---- words
 
+-- the token is a WORD with this text
 abbrev pub is_word : List ℕ → Token → Bool
 is_word word (Word text) = bytes_eq text word
 is_word word (Quoted text) = false
@@ -50,6 +53,7 @@ begins word (t ∷ ts) = is_word word t
 unfoldable pub option_at : List ℕ → List Token → Bool × List Token
 option_at word ts = if begins word ts then (true, drop 1 ts) else (false, ts)
 
+-- the text of a WORD
 abbrev pub word_of : Token → Option (List ℕ)
 word_of (Word text) = Some text
 word_of (Quoted text) = None
@@ -97,6 +101,7 @@ number Between = 12
 number Outside = 13
 number Equals = 14
 
+-- the token is this symbol
 abbrev pub is_symbol : Symbol → Token → Bool
 is_symbol symbol (Word text) = false
 is_symbol symbol (Quoted text) = false

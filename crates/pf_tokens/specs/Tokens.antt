@@ -35,6 +35,7 @@ plain_letters line (b ∷ bytes) = record { byte = b; line = line } ∷ plain_le
 
 -- ---- tokens
 
+-- a WORD, a STRING, a macro's name, a symbol, a newline, or a byte that begins none of these
 pub data Token : Type 0 where
   Word : (text : List ℕ) → Token
   Quoted : (text : List ℕ) → Token
@@ -43,6 +44,7 @@ pub data Token : Type 0 where
   Newline : Token
   Bad : Token
 
+-- the token is a newline
 abbrev pub is_newline : Token → Bool
 is_newline (Word text) = false
 is_newline (Quoted text) = false
@@ -104,6 +106,7 @@ pub record Front : Type 0 where
   pub token : Option Token
   pub len : ℕ
 
+-- this token, which takes one letter
 abbrev pub one_letter : Token → Front
 one_letter token = record { token = Some token; len = 1 }
 
@@ -129,6 +132,7 @@ longest (Some symbol) shorter = record { token = Some (Mark symbol); len = 2 }
 longest None (Some symbol) = one_letter (Mark symbol)
 longest None None = one_letter Bad
 
+-- the token, blank or comment at the front of these bytes, which takes no letter where there are none
 abbrev pub front : List ℕ → Front
 front [] = record { token = None; len = 0 }
 front (b ∷ bytes) =
@@ -144,6 +148,7 @@ front (b ∷ bytes) =
     else (if b == 36 then macro_front bytes (prefix_len is_name_byte bytes)
     else longest (longer_symbol b bytes) (symbol_of b))))))
 
+-- the token, if there is one, as written on this line, and more tokens behind it
 abbrev pub placed : Option Token → ℕ → List Placed → List Placed
 placed None line more = more
 placed (Some token) line more = record { token = token; line = line; written = true } ∷ more
@@ -164,6 +169,7 @@ tokens text = tokens_behind 0 (letters 1 text)
 abbrev pub plain_tokens : List ℕ → List Placed
 plain_tokens text = tokens_behind 0 (plain_letters 1 text)
 
+-- the first element, if there is one
 abbrev pub first : {X : Type 0} → List X → Option X
 first [] = None
 first (x ∷ xs) = Some x

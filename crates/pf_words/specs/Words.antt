@@ -34,6 +34,7 @@ abbrev pub named : List Named → List ℕ → Option ℕ
 named [] text = None
 named (row ∷ rows) text = if bytes_eq text row.0 then Some row.1 else named rows text
 
+-- the first number if there is one, else the other, if there is one
 abbrev pub or_else : Option ℕ → Option ℕ → Option ℕ
 or_else (Some n) other = Some n
 or_else None other = other
@@ -76,6 +77,7 @@ icmp_type_of text = or_else (named icmp_types text) (number_of 3 255 text)
 abbrev pub has : ℕ → List ℕ → Bool
 has letter text = list_any (λ c. c == letter) text
 
+-- the byte is the letter of a flag, one of FSRPAUEW
 unfoldable pub is_letter : ℕ → Bool
 is_letter b = has b (codes "FSRPAUEW")
 
@@ -83,6 +85,7 @@ is_letter b = has b (codes "FSRPAUEW")
 abbrev pub are_letters : List ℕ → Bool
 are_letters text = nat_lt 0 (length text) && list_all is_letter text
 
+-- the flags whose letters occur in the text; other bytes count for nothing
 abbrev pub flags_with : List ℕ → TcpFlags
 flags_with text = record {
   fin = has 70 text;
@@ -113,6 +116,7 @@ common_reserved =
     ∷ codes "block-policy" ∷ codes "table" ∷ codes "persist" ∷ codes "const" ∷ codes "counters" ∷
     codes "anchor" ∷ []
 
+-- the text is one of the words
 abbrev pub is_among : List (List ℕ) → List ℕ → Bool
 is_among words text = list_any (λ word. bytes_eq text word) words
 
@@ -129,6 +133,7 @@ is_table_byte b = is_ascii_alphanumeric b || (b == 95 || b == 45)
 abbrev pub is_anchor_byte : ℕ → Bool
 is_anchor_byte b = is_table_byte b || b == 46
 
+-- the first byte is a letter of ASCII; an empty text has none
 abbrev pub begins_with_letter : List ℕ → Bool
 begins_with_letter [] = false
 begins_with_letter (b ∷ bytes) = is_ascii_alphabetic b

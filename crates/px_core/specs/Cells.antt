@@ -3,9 +3,11 @@ use Rattle.std.specs.Prelude.{ℕ, ◌+◌, ◌*◌, ◌%◌, Bool, ◌&&◌, Li
 use Rattle.std.specs.Prelude.{nat_eq, slice_index_or}
 use Rattle.px_core.specs.declared.votes.Cell.{Cell}
 
+-- a cell that tells of no vote
 abbrev pub empty_cell : Cell
 empty_cell = record { position = 0; ballot = 0 }
 
+-- the cell of a position and a member: 15 in a row, in the row of the position's remainder by 64
 abbrev pub cell_at : List Cell → ℕ → ℕ → Cell
 cell_at cells p m = slice_index_or cells (p % 64 * 15 + m) empty_cell
 
@@ -13,5 +15,6 @@ cell_at cells p m = slice_index_or cells (p % 64 * 15 + m) empty_cell
 abbrev pub counts : ℕ → ℕ → ℕ → Cell → Bool
 counts front p m cell = (nat_le front p && nat_lt m 15) && nat_eq cell.position p
 
+-- the ballot kept for a position and a member, 0 where the cell doesn't count
 unfoldable pub kept_in : (front : ℕ) → List Cell → (position member : ℕ) → ℕ
 kept_in front cells p m = if counts front p m (cell_at cells p m) then (cell_at cells p m).ballot else 0

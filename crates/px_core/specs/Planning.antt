@@ -30,6 +30,7 @@ pub record State : Type 0 where
 abbrev pub state_in : Core → State
 state_in core = record { members = core.members; me = core.me; learned = log_in core; volatile = volatile_in core }
 
+-- what the core stands for
 unfoldable pub state_of : Core → State
 state_of core = state_in core
 
@@ -83,6 +84,7 @@ MayComeFrom n from (message.Ask e) = Unit {0}
 MayComeFrom n from (message.Asked t k) = Unit {0}
 MayComeFrom n from (message.AskRefused t c) = Unit {0}
 
+-- an event that may come: a command, the clock, or a message that may come from its sender
 abbrev pub MayCome : (members : ℕ) → Event → Type 0
 MayCome n (event.Asks e) = Unit {0}
 MayCome n event.Ticks = Unit {0}

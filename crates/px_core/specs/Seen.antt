@@ -27,17 +27,21 @@ use Rattle.px_core.specs.Logs.{learned_in}
 unfoldable pub counted_of : List Bool → ℕ → Bool
 counted_of counted m = slice_index_or counted m false
 
+-- the phase that one in code stands for
 abbrev pub phase_of : Phase → node.Phase Bytes
 phase_of (phase.Preparing counted top best) =
     node.Phase.Preparing (counted_of counted) top (option_map proposal_of best)
 phase_of (phase.Accepting e) = node.Phase.Accepting (entry_of e)
 
+-- the attempt that one in code stands for
 abbrev pub attempt_of : Attempt → node.Attempt Bytes
 attempt_of a = record { position = a.position; ballot = a.ballot; phase = phase_of a.phase }
 
+-- the lead that one in code stands for
 abbrev pub lead_of : Lead → node.Lead
 lead_of l = record { ballot = l.ballot; from = l.from }
 
+-- the volatile part that the core keeps
 abbrev pub volatile_in : Core → Volatile Bytes
 volatile_in core = record {
   waiting = map entry_of core.proposer.waiting.items;
@@ -47,6 +51,7 @@ volatile_in core = record {
   kept = kept_in core.learner.votes.front core.learner.votes.cells.items;
 }
 
+-- the log that the core keeps
 abbrev pub log_in : Core → Log Bytes
 log_in core = learned_in core.learner.learned.items
 

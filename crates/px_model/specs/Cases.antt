@@ -12,9 +12,11 @@ use Rattle.px_model.specs.Node.Answer.{Refused, Planned}
 use Rattle.px_model.specs.Step.{nothing_volatile, idle, answered, put, keep, step}
 use Rattle.px_model.specs.Worked.{entry, proposal, three, one}
 
+-- a record's numbers: the highest round used, the next request number, the floor
 abbrev pub numbers : (round number floor : ℕ) → Meta
 numbers r k b = record { round = r; number = k; floor = b }
 
+-- a slot with this ballot promised, and this proposal accepted, if any
 abbrev pub slot : (promised : ℕ) → Option (Proposal ℕ) → Slot ℕ
 slot b a = record { promised = b; accepted = a }
 
@@ -30,15 +32,18 @@ does meta v input = stepped meta (slot 0 None) 0 v input
 abbrev pub greatest : ℕ
 greatest = 281474976710655
 
+-- the entry so many times
 abbrev pub repeated : (many : ℕ) → Entry ℕ → List (Entry ℕ)
 repeated zero e = []
 repeated (suc k) e = e ∷ repeated k e
 
+-- a volatile part in which these entries wait, and nothing else is
 abbrev pub waits : List (Entry ℕ) → Volatile ℕ
 waits es = record nothing_volatile { waiting = es }
 
 -- ---- requests and the clock
 
+-- a request is refused with 60 where 64 wait, else with 62 where numbers are spent; a tick with 61 where rounds are
 pub record RefusalsComeInOrder : Type 0 where
   pub full : does (numbers 0 0 0) (waits (repeated 64 (entry 0 0 7))) (Asks 7) ≡ Refused 60
   pub one_less :
@@ -64,6 +69,7 @@ pub record RefusalsComeInOrder : Type 0 where
 abbrev pub does_at_the_end : Volatile ℕ → Input ℕ → Answer ℕ
 does_at_the_end v input = step nat_eq 3 0 (numbers 1 1 0) (slot 0 None) 0 (λ p. Some (entry 0 0 7)) v input
 
+-- with every position learned a request is refused with 60 or 62, and the clock does nothing
 pub record NothingAfterTheLastPosition : Type 0 where
   pub full : does_at_the_end (waits (repeated 64 (entry 0 1 8))) (Asks 7) ≡ Refused 60
   pub spent : does_at_the_end (waits []) (Asks 7) ≡ Refused 62
@@ -83,13 +89,15 @@ pub record AnAskerIsTold : Type 0 where
       does (numbers 0 (2 ^ 48) 0) (waits []) (Comes asker (Ask 9 7)) ≡
       Planned (answered None (waits []) 0 asker (AskRefused 9 62))
 
--- a lead that has come to the front is used and moves on; one above it makes room for a new round
+-- an entry waits, and round 1 is led from this position on
 abbrev pub leads : (from : ℕ) → Volatile ℕ
 leads from = record (waits (entry 0 0 7 ∷ [])) { lead = Some (record { ballot = ballot_of 1 0; from = from }) }
 
+-- member 0 prepares this round's ballot at position 0, and nobody has promised yet
 abbrev pub preparing : (round : ℕ) → Option (Attempt ℕ)
 preparing r = Some (record { position = 0; ballot = ballot_of r 0; phase = Preparing (λ m. false) 0 None })
 
+-- a tick asks for what is missing where nothing waits; else it uses a lead at the front, or begins a round
 pub record TheClockMakesProposals : Type 0 where
   pub nothing_waits : does (numbers 1 0 0) (waits []) Ticks ≡ Planned (record {
     change = None;
@@ -117,6 +125,7 @@ pub record TheClockMakesProposals : Type 0 where
 
 -- ---- the acceptor
 
+-- a higher ballot alone is promised; a proposal is accepted in the promised ballot, not in a lower one
 pub record APromiseBinds : Type 0 where
   pub promised : stepped (numbers 0 0 0) (slot 256 None) 3 (waits []) (Comes 1 (PrepareAll 257 0)) ≡
       Planned (answered (Some (NewFloor 257)) (waits []) 0 1 (PromiseAll 257 0 3 None))
@@ -137,10 +146,11 @@ pub record APromiseBinds : Type 0 where
 
 -- ---- the proposer
 
--- member 0 has counted the promise of member 1, which told this top
+-- the promise of member 1 alone is counted
 abbrev pub counted : ℕ → Bool
 counted m = nat_eq m 1
 
+-- ballot 512 is being prepared at position 0, with this top, this best report and these members counted
 abbrev pub prepared : (top : ℕ) → (best : Option (Proposal ℕ)) → (test : ℕ → Bool) → Volatile ℕ
 prepared t best test = record (waits (entry 0 0 7 ∷ [])) {
   attempt = Some (record { position = 0; ballot = 512; phase = Preparing test t best });
@@ -157,6 +167,7 @@ proposes from e = record {
   sends = three 0 (Accept 512 0 e);
 }
 
+-- a promise counts once a member, for its ballot and position alone; at a majority phase 2 begins
 pub record APromiseCountsOnce : Type 0 where
   pub again : does (numbers 2 1 0) (prepared 4 None counted) (Comes 1 (PromiseAll 512 0 9 None)) ≡
       Planned (idle (prepared 4 None (put counted 1 true)))
@@ -214,14 +225,17 @@ pub record ANackDropsItsOwn : Type 0 where
 abbrev pub known : (b : ℕ) → Volatile ℕ
 known b = record nothing_volatile { kept = keep (keep (λ p m. 0) 0 0 b) 0 1 b }
 
+-- the answer's change; a refusal has none
 abbrev pub change_of : Answer ℕ → Option (Change ℕ)
 change_of (Refused code) = None
 change_of (Planned plan) = plan.change
 
+-- the entries that wait after the answer, none of a refusal
 abbrev pub waiting_of : Answer ℕ → List (Entry ℕ)
 waiting_of (Refused code) = []
 waiting_of (Planned plan) = plan.volatile.waiting
 
+-- votes count at the 64 positions from the front on, and a majority of them in one ballot learns the entry
 pub record VotesCountInTheWindow : Type 0 where
   pub last : does (numbers 0 0 0) (waits []) (Comes 1 (Vote 256 63 (entry 0 0 7))) ≡
       Planned (idle (record nothing_volatile { kept = keep (λ p m. 0) 63 1 256 }))

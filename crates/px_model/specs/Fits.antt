@@ -99,6 +99,7 @@ InputFits S n me (Comes from x) = EnvelopeFits S n (record { sender = from; addr
 
 -- ---- what a member keeps, and one change of it
 
+-- a record's numbers: the round used, the next request number, the floor
 pub record MetaFits (n : ℕ) (meta : Meta) : Type 0 where
   -- no ballot has a later round
   pub round : IsNumber meta.round
@@ -107,6 +108,7 @@ pub record MetaFits (n : ℕ) (meta : Meta) : Type 0 where
   -- a refusal tells it
   pub floor : IsPromise n meta.floor
 
+-- a slot: what is promised there, and a proposal accepted in a ballot not above that
 pub record SlotFits {C : Type 0} (IsSpelled : C → Type 0) (n : ℕ) (slot : Slot C) : Type 0 where
   -- a refusal tells it
   pub promised : IsPromise n slot.promised
@@ -117,6 +119,7 @@ pub record SlotFits {C : Type 0} (IsSpelled : C → Type 0) (n : ℕ) (slot : Sl
 abbrev pub LogFits : {C : Type 0} → (C → Type 0) → (n : ℕ) → Log C → Type 0
 LogFits {C} IsSpelled n log = (p : ℕ) (e : Entry C) → log p ≡ Some e → IsPosition p × EntryFits IsSpelled n e
 
+-- a record: its numbers, each of its slots, and all that was learned
 pub record RecordFits {C : Type 0} (IsSpelled : C → Type 0) (n : ℕ) (d : Record C) : Type 0 where
   pub meta : MetaFits n d.meta
   pub slots : (p : ℕ) → SlotFits IsSpelled n (d.slots p)
@@ -140,6 +143,7 @@ abbrev pub PhaseFits : {C : Type 0} → (C → Type 0) → (n : ℕ) → Phase C
 PhaseFits S n (Preparing counted top best) = (top ≤ positions) × IfSome best (λ x. ProposalFits S n x)
 PhaseFits S n (Accepting e) = EntryFits S n e
 
+-- an attempt: at the front, in a ballot of the member's own
 pub record AttemptFits {C : Type 0} (IsSpelled : C → Type 0) (n me front : ℕ) (x : Attempt C) : Type 0 where
   -- where something is learned there, the attempt ends
   pub at_front : x.position ≡ front
@@ -148,6 +152,7 @@ pub record AttemptFits {C : Type 0} (IsSpelled : C → Type 0) (n me front : ℕ
   pub ballot : IsBallotOf n me x.ballot
   pub phase : PhaseFits IsSpelled n x.phase
 
+-- a lead: a ballot of the member's own, and where it may be used from, 1,000,000 at most
 pub record LeadFits (n me : ℕ) (x : Lead) : Type 0 where
   -- proposals tell it
   pub ballot : IsBallotOf n me x.ballot
@@ -164,6 +169,7 @@ pub record VolatileFits {C : Type 0} (IsSpelled : C → Type 0) (n me front : �
   -- the round of a ballot that a refusal told
   pub seen : IsNumber v.seen
 
+-- a member: its record, and its volatile part at the record's front
 pub record NodeFits {C : Type 0} (IsSpelled : C → Type 0) (n me : ℕ) (s : NodeState C) : Type 0 where
   pub stored : RecordFits IsSpelled n s.stored
   pub volatile : VolatileFits IsSpelled n me (front s.stored.learned) s.volatile
@@ -212,6 +218,7 @@ pub record PartsFit {C : Type 0} (IsSpelled : C → Type 0) (n me : ℕ) (number
 abbrev pub parts_with : {C : Type 0} → Meta → Slot C → Log C → Answer C → Record C
 parts_with numbers slot log a = commit (change_of a) (record { meta = numbers; slots = λ p. slot; learned = log })
 
+-- the volatile part after the answer; what is refused leaves it as it was
 abbrev pub volatile_with : {C : Type 0} → Volatile C → Answer C → Volatile C
 volatile_with v (Refused code) = v
 volatile_with v (Planned plan) = plan.volatile
@@ -234,6 +241,7 @@ ActionFits S (AskFrom m token c) = IsNumber token × S c
 ActionFits S (Tick m) = Unit {0}
 ActionFits S (Deliver k) = Unit {0}
 
+-- what the event asks, if it asks anything, has a spelling
 abbrev pub EventFits : {C : Type 0} → (C → Type 0) → Event C → Type 0
 EventFits S (Runs a) = ActionFits S a
 EventFits S (StopBefore a) = ActionFits S a
@@ -247,6 +255,7 @@ pub record WorldFits {C : Type 0} (IsSpelled : C → Type 0) (n : ℕ) (w : Worl
 
 -- ---- the laws: for 1 to 15 members, and any test that tells which commands have a spelling
 
+-- the command passes the test
 abbrev pub Passes : {C : Type 0} → (C → Bool) → C → Type 0
 Passes test c = test c ≡ true
 

@@ -6,6 +6,7 @@ use Rattle.px_model.specs.Fits.{EnvelopeFits, MetaFits, SlotFits}
 use Rattle.px_model.specs.Worked.{entry, proposal}
 use Rattle.px_model.specs.Cases.{numbers, slot}
 
+-- a command below 100
 abbrev pub IsSmall : ℕ → Type 0
 IsSmall c = nat_lt c 100 ≡ true
 
@@ -13,6 +14,7 @@ IsSmall c = nat_lt c 100 ≡ true
 abbrev pub Goes : (from to : ℕ) → Message ℕ → Type 0
 Goes from to x = EnvelopeFits IsSmall 3 (record { sender = from; addressee = to; message = x })
 
+-- rounds are 1 to 2^48-1; a proposal has the sender's ballot, an answer the addressee's, a vote any member's
 pub record BallotsThatFit : Type 0 where
   pub first : Goes 0 1 (PrepareAll (ballot_of 1 0) 0)
   pub last : Goes 2 1 (PrepareAll (ballot_of (2 ^ 48 - 1) 2) 0)
@@ -27,6 +29,7 @@ pub record BallotsThatFit : Type 0 where
   pub lower_report : Goes 1 0 (PromiseAll (ballot_of 2 0) 0 1 (proposal (ballot_of 1 2) (entry 1 0 7)))
   pub equal_report : Goes 1 0 (PromiseAll (ballot_of 2 0) 0 1 (proposal (ballot_of 2 0) (entry 1 0 7))) → ⊥
 
+-- positions, tops, entries and commands at their borders, and what goes to and from an asker
 pub record OthersThatFit : Type 0 where
   pub last_position : Goes 0 1 (Learned 999_999 (entry 1 0 7))
   pub past_the_last : Goes 0 1 (Learned 1_000_000 (entry 1 0 7)) → ⊥
@@ -43,6 +46,7 @@ pub record OthersThatFit : Type 0 where
   pub refused : Goes 0 asker (AskRefused 5 62)
   pub refused_otherwise : Goes 0 asker (AskRefused 5 61) → ⊥
 
+-- a record's numbers and slots at the borders of what fits
 pub record RowsThatFit : Type 0 where
   pub numbers_spent : MetaFits 3 (numbers (2 ^ 48 - 1) (2 ^ 48) (ballot_of 1 2))
   pub rounds_past : MetaFits 3 (numbers (2 ^ 48) 0 0) → ⊥

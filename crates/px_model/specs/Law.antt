@@ -80,6 +80,7 @@ state_after f s learned (suc k) = next_state f (state_after f s learned k) (lear
 
 -- ---- the laws: for 1 to 15 members, and whatever happens to them
 
+-- the world of n members after these events, from the start on
 abbrev pub world_after : {C : Type 0} → (C → C → Bool) → (n : ℕ) → List (Event C) → World C
 world_after same n events = run same n events start
 

@@ -50,9 +50,11 @@ pub record AProposalFromNothing : Type 0 where
 abbrev pub learned_at : (position : ℕ) → Log ℕ
 learned_at p = put (λ q. None) p (Some (entry 1 0 8))
 
+-- what member 0 answers with this log and an empty slot, after one round and one request
 abbrev pub does_with : Log ℕ → Volatile ℕ → Input ℕ → Answer ℕ
 does_with log v input = step nat_eq 3 0 (numbers 1 1 0) (slot 0 None) 0 log v input
 
+-- a member that is asked for a position tells what it learned there, or else nothing
 pub record NeedIsAnswered : Type 0 where
   pub learned : does_with (learned_at 5) (waits []) (Comes 2 (Need 5)) ≡
       Planned (answered None (waits []) 0 2 (Learned 5 (entry 1 0 8)))
@@ -67,17 +69,20 @@ busy = record nothing_volatile {
   kept = keep (keep (λ p m. 0) 0 1 512) 1 2 512;
 }
 
+-- the volatile part after the answer; of a refusal an empty one
 abbrev pub volatile_of : Answer ℕ → Volatile ℕ
 volatile_of (Refused code) = nothing_volatile
 volatile_of (Planned plan) = plan.volatile
 
--- entry 1.0 is learned where the attempt stands, and elsewhere
+-- the volatile part where entry 1.0 is learned at the position of the attempt
 abbrev pub learned_here : Volatile ℕ
 learned_here = volatile_of (does (numbers 2 1 0) busy (Comes 1 (Learned 0 (entry 1 0 8))))
 
+-- the volatile part where the same entry is learned at position 1 instead
 abbrev pub learned_above : Volatile ℕ
 learned_above = volatile_of (does (numbers 2 1 0) busy (Comes 1 (Learned 1 (entry 1 0 8))))
 
+-- what is below the new front is let go: the attempt there, and the votes; the lead and the round heard of stay
 pub record LearningLetsGo : Type 0 where
   pub attempt : learned_here.attempt ≡ None
   pub lead : learned_here.lead ≡ busy.lead
@@ -91,10 +96,12 @@ pub record LearningLetsGo : Type 0 where
 abbrev pub voted : Volatile ℕ
 voted = record nothing_volatile { kept = keep (keep (λ p m. 0) 5 0 256) 5 1 256 }
 
+-- where an entry is learned, neither a vote nor being told changes anything
 pub record NothingIsLearnedTwice : Type 0 where
   pub vote : does_with (learned_at 5) voted (Comes 2 (Vote 256 5 (entry 1 0 8))) ≡ Planned (idle voted)
   pub told : does_with (learned_at 5) (waits []) (Comes 2 (Learned 5 (entry 1 0 8))) ≡ Planned (idle (waits []))
 
+-- a promise at one position alone binds there, and leaves the proposal accepted there as it was
 pub record APromiseHereBindsToo : Type 0 where
   pub accept : stepped (numbers 0 0 0) (slot 257 None) 0 (waits []) (Comes 1 (Accept 256 0 (entry 0 0 7))) ≡
       Planned (answered None (waits []) 0 1 (Nack 256 0 257))
@@ -111,24 +118,29 @@ pub record APromiseHereBindsToo : Type 0 where
 abbrev pub leads_below : (from : ℕ) → Volatile ℕ
 leads_below k = record (waits (entry 0 0 7 ∷ [])) { lead = Some (record { ballot = ballot_of 1 0; from = k }) }
 
+-- a lead from below the front is used at the front, and a refusal of another ballot leaves it
 pub record ALeadComesToTheFront : Type 0 where
   pub moved : (volatile_of (does_with (learned_at 0) (leads_below 0) Ticks)).lead ≡
       Some (record { ballot = ballot_of 1 0; from = 2 })
   pub higher_nack : (volatile_of (does (numbers 2 1 0) busy (Comes 1 (Nack 768 0 1025)))).lead ≡ busy.lead
 
+-- the window ends with the last position, and a top counts a proposal accepted, not a promise
 pub record TheBordersAreExact : Type 0 where
   pub last : in_window 999_990 999_999 ≡ true
   pub past : in_window 999_990 1_000_000 ≡ false
   pub promised_alone : top_below (put (λ p. slot 0 None) 3 (slot 256 None)) 5 ≡ 0
   pub accepted : top_below (put (λ p. slot 0 None) 3 (slot 256 (proposal 256 (entry 0 0 7)))) 5 ≡ 4
 
+-- the member is asked a command from outside the cluster, with this token
 abbrev pub from_outside : (member token command : ℕ) → List (Event ℕ)
 from_outside m t c = Runs (AskFrom m t c) ∷ []
 
+-- the same events so many times
 abbrev pub many : (times : ℕ) → List (Event ℕ) → List (List (Event ℕ))
 many zero es = []
 many (suc k) es = es ∷ many k es
 
+-- a stop keeps what was recorded and loses the rest; a stopped member takes nothing
 pub record AStopKeepsWhatWasRecorded : Type 0 where
   pub asked : (world 1 ((StopAfter (Ask 0 7) ∷ []) ∷ [])).asked ≡ entry 0 0 7 ∷ []
   pub lost : ((world 1 ((StopAfter (Ask 0 7) ∷ []) ∷ [])).nodes 0).volatile.waiting ≡ []

@@ -21,18 +21,23 @@ use Rattle.px_model.specs.declared.message.Reads.TheVariants as reads
 
 -- ---- the record
 
+-- the proposal that one in code stands for, as a record or a message to be sent has it
 abbrev pub proposal_of : Proposal Entry → node.Proposal Bytes
 proposal_of x = record { ballot = x.ballot; entry = entry_of x.entry }
 
+-- the same of a proposal as it comes in a message
 abbrev pub report_of : Proposal EntryView → node.Proposal Bytes
 report_of x = record { ballot = x.ballot; entry = view_of x.entry }
 
+-- the slot that one in code stands for
 abbrev pub slot_of : Slot → node.Slot Bytes
 slot_of s = record { promised = s.promised; accepted = option_map proposal_of s.accepted }
 
+-- a record's numbers, as those in code stand for them
 abbrev pub meta_of : Meta → node.Meta
 meta_of m = record { round = m.round; number = m.number; floor = m.floor }
 
+-- the change of a record that one in code stands for
 abbrev pub change_of : Change → node.Change Bytes
 change_of (change.Round r) = node.Change.NewRound r
 change_of (change.Number k) = node.Change.NewNumber k
@@ -43,6 +48,7 @@ change_of (change.Learned p e) = node.Change.NewLearned p (entry_of e)
 
 -- ---- messages, as they are sent and as they come
 
+-- the message that one to be sent stands for; of Ask the entry's number is the token
 abbrev pub message_of : Message Entry → node.Message Bytes
 message_of (message.Prepare b p) = node.Message.Prepare b p
 message_of (message.Promise b p a) = node.Message.Promise b p (option_map proposal_of a)
@@ -57,6 +63,7 @@ message_of (message.Ask e) = node.Message.Ask (entry_of e).number (entry_of e).c
 message_of (message.Asked t k) = node.Message.Asked t k
 message_of (message.AskRefused t c) = node.Message.AskRefused t c
 
+-- the same of a message as it comes
 abbrev pub come_of : Message EntryView → node.Message Bytes
 come_of (message.Prepare b p) = node.Message.Prepare b p
 come_of (message.Promise b p a) = node.Message.Promise b p (option_map report_of a)
@@ -71,6 +78,7 @@ come_of (message.Ask e) = node.Message.Ask (view_of e).number (view_of e).comman
 come_of (message.Asked t k) = node.Message.Asked t k
 come_of (message.AskRefused t c) = node.Message.AskRefused t c
 
+-- the input that an event in code stands for
 abbrev pub input_of : Event → node.Input Bytes
 input_of (event.Asks e) = node.Input.Asks (view_of e).command
 input_of event.Ticks = node.Input.Ticks
@@ -93,6 +101,7 @@ message_reads (node.Message.Ask t c) = reads.Nothing
 message_reads (node.Message.Asked t k) = reads.Nothing
 message_reads (node.Message.AskRefused t c) = reads.Nothing
 
+-- what an input reads of slots and top: a message by its kind, a command and the clock nothing
 abbrev pub reads_of : node.Input Bytes → Reads
 reads_of (node.Input.Asks c) = reads.Nothing
 reads_of node.Input.Ticks = reads.Nothing

@@ -114,6 +114,7 @@ taken_in me meta v c = record {
   sends = [];
 }
 
+-- a command is asked: refused with 60 where 64 wait, with 62 where positions or numbers are spent, else taken in
 unfoldable pub on_ask : {C : Type 0} → (me : ℕ) → Meta → Log C → Volatile C → C → Answer C
 on_ask me meta learned v c =
     if nat_le 64 (length v.waiting) then Refused 60
@@ -176,6 +177,7 @@ tick_for n me meta front v [] =
     Planned (record { change = None; volatile = v; sends = to_all n me (Need front) })
 tick_for n me meta front v (e ∷ rest) = propose n me meta front v e v.lead
 
+-- the clock ticks: with positions left, the first that waits is proposed, or what is missing asked for
 unfoldable pub on_tick : {C : Type 0} → (n me : ℕ) → Meta → Log C → Volatile C → Answer C
 on_tick n me meta learned v =
     if nat_eq (front learned) positions
@@ -184,7 +186,7 @@ on_tick n me meta learned v =
 
 -- ---- the acceptor (2.2, phases 1b and 2b)
 
--- for one position
+-- a prepare request for one position: promised, with what was accepted, where the ballot is above what was promised
 unfoldable pub on_prepare : {C : Type 0} → (me : ℕ) → Meta → Slot C → Volatile C →
     (from b p : ℕ) → Plan C
 on_prepare me meta slot v from b p =
@@ -253,12 +255,14 @@ promise_in n me v from b p t a (Accepting e) = idle v
 promise_in n me v from b p t a (Preparing counted top best) =
     gathered n me v b p (put counted from true) (if counted from then top else max top t) (better best a)
 
+-- the promise counts for an attempt with this ballot at this position, and for no other
 abbrev pub promise_to : {C : Type 0} → (n me : ℕ) → Volatile C → (from b p t : ℕ) → Option (Proposal C) →
     Option (Attempt C) → Plan C
 promise_to n me v from b p t a None = idle v
 promise_to n me v from b p t a (Some x) =
     if nat_eq x.ballot b && nat_eq x.position p then promise_in n me v from b p t a x.phase else idle v
 
+-- a promise for all positions comes: it counts for the attempt under way, if it is for that one
 unfoldable pub on_promise_all : {C : Type 0} → (n me : ℕ) → Volatile C → (from b p t : ℕ) →
     Option (Proposal C) → Plan C
 on_promise_all n me v from b p t a = promise_to n me v from b p t a v.attempt
@@ -285,6 +289,7 @@ on_learning same front e v = record {
   kept = λ p m. if nat_lt p front then 0 else v.kept p m;
 }
 
+-- e is learned at p: that is recorded, e waits no more, and what is below the new front is let go
 unfoldable pub learn : {C : Type 0} → (C → C → Bool) → Log C → Volatile C → ℕ → Entry C → Plan C
 learn same learned v p e = record {
   change = Some (NewLearned p e);
@@ -303,6 +308,7 @@ unfoldable pub with_vote : {C : Type 0} → (C → C → Bool) → (n : ℕ) →
 with_vote same n learned v b p e =
     if is_majority n (λ m. nat_eq (v.kept p m) b) then learn same learned v p e else idle v
 
+-- a vote comes: in the window, where nothing is learned, it is kept, and e learned if that makes a majority
 unfoldable pub on_vote : {C : Type 0} → (C → C → Bool) → (n : ℕ) → Log C → Volatile C →
     (from b p : ℕ) →
     Entry C → Plan C
@@ -316,6 +322,7 @@ unfoldable pub on_learned : {C : Type 0} → (C → C → Bool) → Log C → Vo
 on_learned same learned v p e =
     if is_none (learned p) && in_window (front learned) p then learn same learned v p e else idle v
 
+-- whoever asked is told the entry, if there is one
 abbrev pub need_of : {C : Type 0} → (me : ℕ) → Volatile C → (from p : ℕ) → Option (Entry C) → Plan C
 need_of me v from p None = idle v
 need_of me v from p (Some e) = answered None v me from (Learned p e)
@@ -326,14 +333,17 @@ on_need me learned v from p = need_of me v from p (learned p)
 
 -- ---- a refusal tells of a higher ballot (2.2, last paragraph)
 
+-- the attempt, unless it is that with this ballot at this position
 abbrev pub drop_attempt : {C : Type 0} → (b p : ℕ) → Option (Attempt C) → Option (Attempt C)
 drop_attempt b p None = None
 drop_attempt b p (Some x) = if nat_eq x.ballot b && nat_eq x.position p then None else Some x
 
+-- the lead, unless it has this ballot
 abbrev pub drop_lead : (b : ℕ) → Option Lead → Option Lead
 drop_lead b None = None
 drop_lead b (Some x) = if nat_eq x.ballot b then None else Some x
 
+-- a refusal: the attempt with b at p and the lead with b are dropped, and the round of the promised q remembered
 unfoldable pub on_nack : {C : Type 0} → Volatile C → (b p q : ℕ) → Plan C
 on_nack v b p q = idle (record v {
   attempt = drop_attempt b p v.attempt;
@@ -350,6 +360,7 @@ position_of (Comes from (PrepareAll b p)) = p
 position_of (Comes from (Accept b p e)) = p
 position_of _ = 0
 
+-- the plan for a message, by its kind; Promise, Asked and AskRefused do nothing
 abbrev pub on_message : {C : Type 0} → (C → C → Bool) → (n me : ℕ) → Meta → Slot C → (top : ℕ) →
     Log C →
     Volatile C → (from : ℕ) → Message C → Plan C

@@ -10,6 +10,7 @@ use Rattle.px_model.specs.World.Action.{Ask, Tick, Deliver}
 use Rattle.px_model.specs.World.Event.{Runs, StopBefore, StopAfter, Restart}
 use Rattle.px_model.specs.Law.{learned_of, world_after}
 
+-- the lists one after another
 abbrev pub joined : {X : Type 0} → List (List X) → List X
 joined [] = []
 joined (xs ∷ rest) = xs ++ joined rest
@@ -20,15 +21,19 @@ world n events = world_after nat_eq n (joined events)
 
 -- ---- events
 
+-- the member is asked a command
 abbrev pub ask : (member command : ℕ) → List (Event ℕ)
 ask m c = Runs (Ask m c) ∷ []
 
+-- the member's clock ticks
 abbrev pub tick : (member : ℕ) → List (Event ℕ)
 tick m = Runs (Tick m) ∷ []
 
+-- the member restarts
 abbrev pub restart : (member : ℕ) → List (Event ℕ)
 restart m = Restart m ∷ []
 
+-- the messages with these numbers are delivered, in this order
 abbrev pub deliver : (numbers : List ℕ) → List (Event ℕ)
 deliver [] = []
 deliver (k ∷ ks) = Runs (Deliver k) ∷ deliver ks
@@ -40,40 +45,49 @@ from k (suc many) = k ∷ from (suc k) many
 
 -- ---- messages
 
+-- a message on its way from one to the other
 abbrev pub between : (sender addressee : ℕ) → Message ℕ → Envelope ℕ
 between m to x = record { sender = m; addressee = to; message = x }
 
--- to one member, to each of three, to each of four
+-- to one member
 abbrev pub one : (sender addressee : ℕ) → Message ℕ → List (Envelope ℕ)
 one m to x = between m to x ∷ []
 
+-- to each of three members
 abbrev pub three : (sender : ℕ) → Message ℕ → List (Envelope ℕ)
 three m x = between m 0 x ∷ between m 1 x ∷ between m 2 x ∷ []
 
+-- to each of four members
 abbrev pub four : (sender : ℕ) → Message ℕ → List (Envelope ℕ)
 four m x = between m 0 x ∷ between m 1 x ∷ between m 2 x ∷ between m 3 x ∷ []
 
+-- the entry with this origin, number and command
 abbrev pub entry : (origin number command : ℕ) → Entry ℕ
 entry m k c = record { origin = m; number = k; command = c }
 
+-- an accepted proposal: this entry in this ballot
 abbrev pub proposal : (ballot : ℕ) → Entry ℕ → Option (Proposal ℕ)
 proposal b e = Some (record { ballot = b; entry = e })
 
 -- ---- outcomes
 
+-- the member learned the entry at the position
 abbrev pub learning : (member position : ℕ) → Entry ℕ → Learning ℕ
 learning m p e = record { member = m; position = p; entry = e }
 
+-- the member's front
 abbrev pub front_of : World ℕ → (member : ℕ) → ℕ
 front_of w m = front (learned_of w m)
 
--- of three members
+-- the fronts of members 0 to 2
 abbrev pub fronts_of : World ℕ → List ℕ
 fronts_of w = front_of w 0 ∷ front_of w 1 ∷ front_of w 2 ∷ []
 
+-- the highest round that the member used
 abbrev pub round_of_member : World ℕ → (member : ℕ) → ℕ
 round_of_member w m = (w.nodes m).stored.meta.round
 
+-- the same of each of three members
 abbrev pub rounds_of : World ℕ → List ℕ
 rounds_of w = round_of_member w 0 ∷ round_of_member w 1 ∷ round_of_member w 2 ∷ []
 
@@ -99,6 +113,7 @@ contested_rest =
 abbrev pub contested_end : List (List (Event ℕ))
 contested_end = contested_rest ++ tick 1 ∷ deliver (from 34 12) ∷ []
 
+-- 1 proposes the entry that 0 had accepted at position 0, and its own entry at position 1
 pub record ALaterBallotTakesTheAcceptedEntry : Type 0 where
   pub sent : (world 3 contested).sent ≡ joined (
       three 0 (PrepareAll (ballot_of 1 0) 0) ∷
@@ -121,6 +136,7 @@ pub record ALaterBallotTakesTheAcceptedEntry : Type 0 where
 abbrev pub two_promises : List (List (Event ℕ))
 two_promises = ask 0 7 ∷ tick 0 ∷ deliver (0 ∷ 1 ∷ 2 ∷ 4 ∷ 5 ∷ []) ∷ []
 
+-- the third promise comes, and 0 proposes
 abbrev pub three_promises : List (List (Event ℕ))
 three_promises = two_promises ++ deliver (6 ∷ []) ∷ []
 
@@ -140,7 +156,7 @@ promises_sent =
     one 1 0 (PromiseAll (ballot_of 1 0) 0 0 None) ∷
     one 2 0 (PromiseAll (ballot_of 1 0) 0 0 None) ∷ []
 
--- and then
+-- what is sent behind the promises: the accept requests and the votes
 abbrev pub votes_sent : List (List (Envelope ℕ))
 votes_sent =
     four 0 (Accept (ballot_of 1 0) 0 (entry 0 0 7)) ∷
@@ -148,6 +164,7 @@ votes_sent =
     four 1 (Vote (ballot_of 1 0) 0 (entry 0 0 7)) ∷
     four 2 (Vote (ballot_of 1 0) 0 (entry 0 0 7)) ∷ []
 
+-- a vote that comes again doesn't count; with the third member's vote 0 learns the entry
 pub record AVoteCountsOnceAMember : Type 0 where
   pub no_accept_yet : (world 4 two_promises).sent ≡ joined promises_sent
   pub sent : (world 4 two_votes).sent ≡ joined (promises_sent ++ votes_sent)
@@ -159,13 +176,15 @@ pub record AVoteCountsOnceAMember : Type 0 where
 
 -- ---- what was learned as a member stopped is kept
 
--- the third vote comes, and 0 stops after it, or before it, and restarts
+-- the third vote comes, 0 stops after it, and restarts
 abbrev pub stop_after_vote : List (List (Event ℕ))
 stop_after_vote = vote_again ++ (StopAfter (Deliver 19) ∷ []) ∷ restart 0 ∷ []
 
+-- 0 stops before the third vote, and restarts
 abbrev pub stop_before_vote : List (List (Event ℕ))
 stop_before_vote = vote_again ++ (StopBefore (Deliver 19) ∷ []) ∷ restart 0 ∷ []
 
+-- what was recorded as learned is there after the stop; where it wasn't, the votes must come again
 pub record WhatWasLearnedIsKept : Type 0 where
   pub stopped_after : front_of (world 4 stop_after_vote) 0 ≡ 1
   pub learned : (world 4 stop_after_vote).learned ≡ learning 0 0 (entry 0 0 7) ∷ []
@@ -179,6 +198,7 @@ pub record WhatWasLearnedIsKept : Type 0 where
 abbrev pub stopped : List (List (Event ℕ))
 stopped = ask 0 7 ∷ (StopAfter (Tick 0) ∷ []) ∷ restart 0 ∷ ask 0 7 ∷ tick 0 ∷ deliver (from 0 18) ∷ []
 
+-- the round from before the stop isn't used again, the entry that waited is lost, and the new one is learned
 pub record AStopAfterTheRound : Type 0 where
   pub sent : (world 3 stopped).sent ≡ joined (
       three 0 (PrepareAll (ballot_of 2 0) 0) ∷
@@ -210,6 +230,7 @@ by_the_lead =
 abbrev pub second_first : List (List (Event ℕ))
 second_first = by_the_lead ++ deliver (19 ∷ 22 ∷ []) ∷ []
 
+-- those for position 0 come to 2 as well
 abbrev pub both_learned : List (List (Event ℕ))
 both_learned = second_first ++ deliver (10 ∷ 13 ∷ []) ∷ []
 
@@ -225,6 +246,7 @@ first_sent =
     three 0 (Accept (ballot_of 1 0) 1 (entry 0 1 8)) ∷
     three 0 (Vote (ballot_of 1 0) 1 (entry 0 1 8)) ∷ []
 
+-- 2 learns position 1 before position 0, and its front moves past both when it has learned both
 pub record LearnedOutOfOrder : Type 0 where
   pub sent : (world 3 second_first).sent ≡ joined (
       first_sent ++ three 1 (Vote (ballot_of 1 0) 1 (entry 0 1 8)) ∷ [])
@@ -249,6 +271,7 @@ told_of_a_top =
 abbrev pub above_the_top : List (List (Event ℕ))
 above_the_top = told_of_a_top ++ tick 1 ∷ deliver (34 ∷ 35 ∷ 37 ∷ 38 ∷ []) ∷ []
 
+-- 1 was told that position 1 has something accepted: it prepares there anew, and proposes that
 pub record NoLeadBelowACountedTop : Type 0 where
   pub front_before : front_of (world 3 told_of_a_top) 1 ≡ 1
   pub sent : (world 3 above_the_top).sent ≡ joined (first_sent ++

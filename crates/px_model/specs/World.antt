@@ -36,6 +36,7 @@ nothing_stored = record {
   learned = λ p. None;
 }
 
+-- every member runs with an empty record; nothing was sent, learned or asked
 abbrev pub start : {C : Type 0} → World C
 start = record {
   nodes = λ m. record { is_up = true; stored = nothing_stored; volatile = nothing_volatile };
@@ -63,6 +64,7 @@ abbrev pub delivered : {C : Type 0} → Option (Envelope C) → Option (ℕ × I
 delivered None = None
 delivered (Some x) = Some (x.addressee, Comes x.sender x.message)
 
+-- to which member an action comes, and as what; none where no such message was sent
 abbrev pub comes_to : {C : Type 0} → World C → Action C → Option (ℕ × Input C)
 comes_to w (Ask m c) = Some (m, Asks c)
 comes_to w (AskFrom m token c) = Some (m, Comes asker (node.Message.Ask token c))
@@ -119,6 +121,7 @@ moved w m input change up v sends = record {
   asked = asked_by m (w.nodes m).stored.meta (command_of input) change ++ w.asked;
 }
 
+-- the member m follows its answer's plan; a refusal leaves the world as it is
 abbrev pub goes_on : {C : Type 0} → World C → (m : ℕ) → Input C → Answer C → World C
 goes_on w m input (Refused code) = w
 goes_on w m input (Planned plan) = moved w m input plan.change true plan.volatile plan.sends
@@ -138,6 +141,7 @@ abbrev pub at_member : {C : Type 0} → (n : ℕ) → World C → Option (ℕ ×
 at_member n w None does = w
 at_member n w (Some t) does = if nat_lt t.0 n && (w.nodes t.0).is_up then does t.0 t.1 else w
 
+-- the world after one event; only a member that runs takes an action, and only one of the n restarts
 unfoldable pub happens : {C : Type 0} → (C → C → Bool) → (n : ℕ) → World C → Event C → World C
 happens same n w (Runs a) = at_member n w (comes_to w a) (λ m x. goes_on w m x (step_in same n w m x))
 happens same n w (StopBefore a) = at_member n w (comes_to w a) (λ m x. emptied w m false)

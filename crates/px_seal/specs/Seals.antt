@@ -7,10 +7,11 @@ use Rattle.px_seal.specs.Hmac.{tag_under}
 abbrev pub sealed : List ℕ → List ℕ → List ℕ
 sealed block m = m ++ tag_under block m
 
--- all but the last 32 bytes, and those
+-- all but the last 32 bytes, none where there are fewer
 abbrev pub body : List ℕ → List ℕ
 body b = take (length b - 32) b
 
+-- the last 32 bytes, or all where there are fewer
 abbrev pub tail : List ℕ → List ℕ
 tail b = drop (length b - 32) b
 

@@ -12,6 +12,7 @@ shown_by (Some e) = e
 unfoldable pub entry_of : Bytes → Entry Bytes
 entry_of bytes = shown_by (entry_in bytes)
 
+-- there is an entry, a member is its origin, and its number is below 2^48
 abbrev pub is_member's : (members : ℕ) → Option (Entry Bytes) → Bool
 is_member's members None = false
 is_member's members (Some e) = nat_lt e.origin members && nat_lt e.number (2 ^ 48)

@@ -12,12 +12,14 @@ use Rattle.px_sql.specs.declared.calls.Identity.{Identity}
 use Rattle.px_sql.specs.declared.fault.AdoptFault.{AdoptFault}
 use Rattle.px_sql.specs.declared.fault.AdoptFault.TheVariants.{StoreVersion, BadStore, WrongNode}
 
+-- there is a row
 abbrev pub has_rows : List Row → Bool
 has_rows [] = false
 has_rows (r ∷ rows) = true
 
 -- ---- the row for the whole node: id, format, cluster, members, node, round, number
 
+-- the row says that the store has this format
 abbrev pub says_format : ℕ → Row → Bool
 says_format format r = is_number (column r 1) && nat_eq (number_in (column r 1)) format
 
@@ -26,6 +28,7 @@ abbrev pub is_member_of : (cluster members node : ℕ) → Bool
 is_member_of cluster members node =
     nat_le cluster 4294967295 && (nat_le 1 members && (nat_le members 15 && nat_lt node members))
 
+-- the row says of which cluster of 1 to 15 members the node is, and which of them
 abbrev pub says_member : Row → Bool
 says_member r = is_number (column r 2) && (is_number (column r 3) && (is_number (column r 4) &&
     is_member_of (number_in (column r 2)) (number_in (column r 3)) (number_in (column r 4))))
@@ -35,10 +38,12 @@ abbrev pub says_numbers : Row → Bool
 says_numbers r = is_number (column r 5) && (is_number (column r 6) &&
     (nat_lt (number_in (column r 5)) (2 ^ 48) && nat_le (number_in (column r 6)) (2 ^ 48)))
 
+-- the node that opens is this one, of this cluster with so many members
 abbrev pub is_owner : Identity → (cluster members node : ℕ) → Bool
 is_owner i cluster members node =
     nat_eq cluster i.cluster && (nat_eq members i.members && nat_eq node i.node)
 
+-- the row says that the store belongs to the node that opens
 abbrev pub says_owner : Identity → Row → Bool
 says_owner i r = is_owner i (number_in (column r 2)) (number_in (column r 3)) (number_in (column r 4))
 
@@ -53,6 +58,7 @@ are_floor_rows members (r ∷ x ∷ more) = false
 
 -- ---- the refusal
 
+-- with one row for the whole node: 73 for another format, else 72 for a bad row or floor, else 71 for another owner
 abbrev pub row_refusal : (format : ℕ) → Identity → (floor : List Row) → Row → Option AdoptFault
 row_refusal format i floor r =
     if not (says_format format r) then Some StoreVersion

@@ -17,6 +17,7 @@ use Rattle.px_sql.specs.Store.{Stored}
 abbrev pub IsSlotGood : (members : ℕ) → List Row → (position : ℕ) → Type 0
 IsSlotGood members rows p = are_slot_rows members p (seen slot_columns rows p) ≡ true
 
+-- the same of what is learned at a position
 abbrev pub IsEntryGood : (members : ℕ) → List Row → (position : ℕ) → Type 0
 IsEntryGood members rows p = are_learned_rows members p (seen learned_columns rows p) ≡ true
 
@@ -35,6 +36,7 @@ IsHonest opened s = HasCleanDisk s × (opened ≡ schema_3)
 abbrev pub MayLeave : State → Record Bytes → Type 0
 MayLeave s found = (db : Trees) × s.may_leave db × (found ≡ record_in db)
 
+-- what a connection shows of a record, where these tables were found and so many calls have failed
 abbrev pub stored_of : (opened : Schema) (members failures : ℕ) → State → Stored
 stored_of opened members failures s = record {
   is_honest = IsHonest opened s;

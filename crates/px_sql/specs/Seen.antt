@@ -25,6 +25,7 @@ use Rattle.px_sql.specs.Entries.{entry_of, is_entry}
 abbrev pub rows_at : List Row → ℕ → List Row
 rows_at rows p = filter (has_rowid (pos p)) rows
 
+-- what these columns of a row hold
 abbrev pub shown : List ℕ → Row → Row
 shown columns r = map (column r) columns
 
@@ -34,6 +35,7 @@ seen columns rows p = map (shown columns) (rows_at rows p)
 
 -- ---- values
 
+-- the number that a value is, 0 where it is no number from 0 on
 abbrev pub number_in : Value → ℕ
 number_in Null = 0
 number_in (Int (pos n)) = n
@@ -42,6 +44,7 @@ number_in (Real x) = 0
 number_in (Text t) = 0
 number_in (Blob b) = 0
 
+-- the bytes that a value is, none where it is no blob
 abbrev pub bytes_in : Value → List ℕ
 bytes_in Null = []
 bytes_in (Int n) = []
@@ -51,6 +54,7 @@ bytes_in (Blob b) = b
 
 -- ---- slots: position, promised, ballot, entry
 
+-- what is read of a slot's row: position, promised, ballot, entry
 abbrev pub slot_columns : List ℕ
 slot_columns = 0 ∷ 2 ∷ 3 ∷ 4 ∷ []
 
@@ -66,11 +70,12 @@ accepted_in (r ∷ more) =
     then Some (record { ballot = number_in (column r 2); entry = entry_of (bytes_in (column r 3)) })
     else accepted_in more
 
--- and of the promise the first
+-- of the ballot promised the first row
 abbrev pub promised_in : List Row → ℕ
 promised_in [] = 0
 promised_in (r ∷ more) = number_in (column r 1)
 
+-- the slot that the rows of a position show
 abbrev pub slot_in : List Row → Slot Bytes
 slot_in rows = record { promised = promised_in rows; accepted = accepted_in rows }
 
@@ -78,6 +83,7 @@ slot_in rows = record { promised = promised_in rows; accepted = accepted_in rows
 abbrev pub is_ballot : (members : ℕ) → ℕ → Bool
 is_ballot members b = nat_le 1 (b / 256) && (nat_lt (b / 256) (2 ^ 48) && nat_lt (b % 256) members)
 
+-- 0, or the ballot of a member
 abbrev pub is_none_or_ballot : (members : ℕ) → ℕ → Bool
 is_none_or_ballot members b = if nat_eq b 0 then true else is_ballot members b
 
@@ -86,6 +92,7 @@ abbrev pub is_proposal : (members ballot : ℕ) → List ℕ → Bool
 is_proposal members ballot bytes =
     if nat_eq ballot 0 then nat_eq (length bytes) 0 else is_ballot members ballot && is_entry members bytes
 
+-- a promise or 0, and a proposal of a ballot not above it, or none
 abbrev pub is_slot : (members promised ballot : ℕ) → List ℕ → Bool
 is_slot members promised ballot bytes =
     is_none_or_ballot members promised && (nat_le ballot promised && is_proposal members ballot bytes)
@@ -99,6 +106,7 @@ is_number (Real x) = false
 is_number (Text t) = false
 is_number (Blob b) = false
 
+-- the value is a blob
 abbrev pub is_blob : Value → Bool
 is_blob Null = false
 is_blob (Int n) = false
@@ -110,6 +118,7 @@ is_blob (Blob b) = true
 abbrev pub is_key : ℕ → Value → Bool
 is_key p v = is_number v && nat_eq (number_in v) p
 
+-- a row that a commit may have written for the slot at this position
 abbrev pub is_slot_row : (members position : ℕ) → Row → Bool
 is_slot_row members p r =
     is_key p (column r 0) && (is_number (column r 1) && (is_number (column r 2) && (is_blob (column r 3)
@@ -123,16 +132,20 @@ are_slot_rows members p (r ∷ x ∷ more) = false
 
 -- ---- learned: position, entry
 
+-- what is read of a row of what is learned: position, entry
 abbrev pub learned_columns : List ℕ
 learned_columns = 0 ∷ 2 ∷ []
 
+-- the entry learned at a position, by the first of its rows; none where there is no row
 abbrev pub learned_in : List Row → Option (Entry Bytes)
 learned_in [] = None
 learned_in (r ∷ more) = Some (entry_of (bytes_in (column r 1)))
 
+-- a row that a commit may have written for what is learned at this position
 abbrev pub is_learned_row : (members position : ℕ) → Row → Bool
 is_learned_row members p r = is_key p (column r 0) && (is_blob (column r 1) && is_entry members (bytes_in (column r 1)))
 
+-- no row, or one good row
 abbrev pub are_learned_rows : (members position : ℕ) → List Row → Bool
 are_learned_rows members p [] = true
 are_learned_rows members p (r ∷ []) = is_learned_row members p r
@@ -140,24 +153,29 @@ are_learned_rows members p (r ∷ x ∷ more) = false
 
 -- ---- meta: id, format, cluster, members, node, round, number; floor: id, ballot
 
+-- what is read of the row for the whole node: id, format, cluster, members, node, round, number
 abbrev pub meta_columns : List ℕ
 meta_columns = 0 ∷ 2 ∷ 3 ∷ 4 ∷ 5 ∷ 6 ∷ 7 ∷ []
 
+-- what is read of the floor's row: id, ballot
 abbrev pub floor_columns : List ℕ
 floor_columns = 0 ∷ 2 ∷ []
 
+-- the row for the whole node, as it is read; its id is 1
 abbrev pub meta_row : (format cluster members node round number : ℕ) → Row
 meta_row format cluster members node round number =
     Int (pos 1) ∷ Int (pos format) ∷ Int (pos cluster) ∷ Int (pos members) ∷ Int (pos node) ∷
     Int (pos round) ∷ Int
     (pos number) ∷ []
 
+-- the number in this column of the first row, 0 where there is no row
 abbrev pub number_at : ℕ → List Row → ℕ
 number_at at [] = 0
 number_at at (r ∷ more) = number_in (column r at)
 
 -- ---- the record of the rows
 
+-- the record that the rows of the four tables show
 abbrev pub record_in : Trees → Record Bytes
 record_in db = record {
   meta = record {

@@ -4,6 +4,7 @@ use Rattle.px_model.specs.Node.{Record}
 use Rattle.px_model.specs.Spelling.{Bytes}
 use Rattle.px_records.specs.Records.{Place}
 
+-- what a connection shows of the record that it keeps
 pub record Stored : Type 1 where
   -- what was written is what is read; what is said of values holds then
   pub is_honest : Type 0

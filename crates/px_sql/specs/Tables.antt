@@ -13,6 +13,7 @@ use Rattle.sqlite.specs.Kind.TheVariants.{Integer, Blob}
 
 -- ---- the tables
 
+-- a strict column of this name and kind, with NULL in it or not
 abbrev column_of : List ℕ → Kind → (not_null : Bool) → Column
 column_of name kind not_null = record {
   name = name;
@@ -27,12 +28,15 @@ column_of name kind not_null = record {
 abbrev key_column : List ℕ → Column
 key_column name = column_of name Integer false
 
+-- a column of integers without NULL
 abbrev number_column : List ℕ → Column
 number_column name = column_of name Integer true
 
+-- a column of blobs without NULL
 abbrev bytes_column : List ℕ → Column
 bytes_column name = column_of name Blob true
 
+-- a table whose key is its first column, with its number among the tables, its columns and its checks
 abbrev sheet : List ℕ → ℕ → List Column → List Term → Table
 sheet name tree columns checks = record {
   name = name;
@@ -53,6 +57,7 @@ sheet name tree columns checks = record {
 abbrev only_row : List Term
 only_row = op2 (Compare Eq Binary) (col 1 0) (lit (Int (pos 1))) ∷ []
 
+-- the row for the whole node: id, format, cluster, members, node, round, number
 abbrev pub meta : Table
 meta = sheet (codes "meta") 0
     (key_column (codes "id") ∷ number_column (codes "format") ∷ number_column (codes "cluster") ∷ number_column
@@ -60,30 +65,37 @@ meta = sheet (codes "meta") 0
     ∷ number_column (codes "node") ∷ number_column (codes "round") ∷ number_column (codes "number") ∷
     []) only_row
 
+-- a row for each slot: position, promised, ballot, entry
 abbrev pub slots : Table
 slots = sheet (codes "slots") 1
     (key_column (codes "position") ∷ number_column (codes "promised") ∷ number_column (codes "ballot") ∷
     bytes_column
     (codes "entry") ∷ []) []
 
+-- the row with the ballot promised at every position: id, ballot
 abbrev pub floor : Table
 floor = sheet (codes "floor") 2 (key_column (codes "id") ∷ number_column (codes "ballot") ∷ []) only_row
 
+-- a row for each position where an entry is learned: position, entry
 abbrev pub learned : Table
 learned = sheet (codes "learned") 3 (key_column (codes "position") ∷ bytes_column (codes "entry") ∷ []) []
 
+-- the schema with these tables and nothing else
 abbrev pub with_tables : List Table → Schema
 with_tables tables = record { tables = tables; indexes = []; views = [] }
 
--- the schemas of an empty store, and of the formats 1, 2 and 3
+-- the schema of an empty store
 abbrev pub no_schema : Schema
 no_schema = with_tables []
 
+-- the tables of format 1: meta, slots
 abbrev pub schema_1 : Schema
 schema_1 = with_tables (meta ∷ slots ∷ [])
 
+-- the tables of format 2: those of format 1, and floor
 abbrev pub schema_2 : Schema
 schema_2 = with_tables (meta ∷ slots ∷ floor ∷ [])
 
+-- the tables of format 3: those of format 2, and learned
 abbrev pub schema_3 : Schema
 schema_3 = with_tables (meta ∷ slots ∷ floor ∷ learned ∷ [])

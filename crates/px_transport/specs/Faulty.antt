@@ -6,10 +6,11 @@ use Rattle.px_transport.specs.declared.faulty.FaultyWire.{FaultyWire}
 abbrev pub inner_of : {W : Type 0} → FaultyWire W → W
 inner_of w = w.inner
 
--- how many receives and how many sends are left up to the next that fails
+-- how many receives are left up to the next that fails
 abbrev pub recvs_left : {W : Type 0} → FaultyWire W → ℕ
 recvs_left w = w.recvs_left
 
+-- how many sends are left up to the next that fails
 abbrev pub sends_left : {W : Type 0} → FaultyWire W → ℕ
 sends_left w = w.sends_left
 

@@ -2,6 +2,7 @@
 use Rattle.std.specs.Prelude.{◌≡◌, ℕ, List, [], ◌∷◌, map, take, drop, Option, Some, None, if◌then◌else◌}
 use Rattle.px_transport.specs.declared.memory.MemoryWire.{MemoryWire}
 
+-- the datagrams that it gave so far, in order, each as it was given
 abbrev pub given_of : MemoryWire → Option (List (List ℕ))
 given_of w = Some (take w.next (map (λ d. d.items) w.coming.items))
 
@@ -9,6 +10,7 @@ given_of w = Some (take w.next (map (λ d. d.items) w.coming.items))
 abbrev pub handed_of : MemoryWire → Option (List (ℕ × List ℕ))
 handed_of w = if w.is_whole then Some (map (λ d. (d.0, d.1.items)) w.sent.items) else None
 
+-- the datagrams that are still to come, in order
 abbrev pub coming_of : MemoryWire → List (List ℕ)
 coming_of w = drop w.next (map (λ d. d.items) w.coming.items)
 

@@ -16,9 +16,11 @@ use Rattle.px_wire.specs.Sent.{is_command}
 
 -- ---- sent
 
+-- the entry as it is encoded, with the bytes that spell it
 abbrev pub lent_entry : Entry Bytes → Lent
 lent_entry e = record { origin = e.origin; number = e.number; bytes = spelled e }
 
+-- the same of what was accepted: a ballot and an entry, or none
 abbrev pub lent_proposal : Option (Proposal Bytes) → Option (ℕ × Lent)
 lent_proposal None = None
 lent_proposal (Some x) = Some (x.ballot, lent_entry x.entry)
@@ -40,9 +42,11 @@ as_sent (AskRefused token code) = ask_refused token code
 
 -- ---- heard
 
+-- the entry that was decoded; its command is cut out of its bytes
 abbrev pub entry_heard : Lent → Entry Bytes
 entry_heard x = record { origin = x.origin; number = x.number; command = command_in x.bytes }
 
+-- the same of what was accepted: a proposal, or none
 abbrev pub proposal_heard : Option (ℕ × Lent) → Option (Proposal Bytes)
 proposal_heard None = None
 proposal_heard (Some a) = Some (record { ballot = a.0; entry = entry_heard a.1 })

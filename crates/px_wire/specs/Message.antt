@@ -47,6 +47,7 @@ abbrev pub reported : Option (ℕ × Lent) → List ℕ
 reported None = to_be_bytes w64 0
 reported (Some a) = to_be_bytes w64 a.0 ++ sized a.1
 
+-- the number of a message's kind, 1 to 12
 abbrev pub kind : Message → ℕ
 kind (prepare b p) = 1
 kind (promise b p a) = 2
@@ -61,6 +62,7 @@ kind (ask_refused t c) = 10
 kind (prepare_all b p) = 11
 kind (promise_all b p top a) = 12
 
+-- what stands after the kind
 abbrev pub body : Message → List ℕ
 body (prepare b p) = to_be_bytes w64 b ++ to_be_bytes w32 p
 body (promise b p a) = to_be_bytes w64 b ++ to_be_bytes w32 p ++ reported a
@@ -83,6 +85,7 @@ spelling g from to message =
 
 -- ---- what is allowed
 
+-- the number of one of the members, who are numbered from 0
 abbrev pub is_member : Group → ℕ → Bool
 is_member g node = nat_lt node g.members
 
@@ -109,9 +112,11 @@ is_ballot g b = nat_le 256 b && nat_lt b (2 ^ 56) && is_member g (b % 256)
 abbrev pub is_ballot_of : Group → ℕ → ℕ → Bool
 is_ballot_of g node b = is_ballot g b && b % 256 == node
 
+-- positions are 0 to 999,999
 abbrev pub is_position : ℕ → Bool
 is_position p = nat_le p 999999
 
+-- a top is 0 to 1,000,000
 abbrev pub is_top : ℕ → Bool
 is_top top = nat_le top 1000000
 
@@ -119,6 +124,7 @@ is_top top = nat_le top 1000000
 abbrev pub is_number : ℕ → Bool
 is_number n = nat_lt n (2 ^ 48)
 
+-- the number of a refusal that whoever asked is told: 60 or 62
 abbrev pub is_refusal : ℕ → Bool
 is_refusal code = code == 60 || code == 62
 
@@ -137,10 +143,12 @@ pub record IsSpelling (x : Lent) : Type 0 where
 abbrev pub IsMembers : Group → Lent → Type 0
 IsMembers g e = IsSpelling e × IsTrue (is_member g e.origin)
 
+-- what a promise of ballot b tells: nothing, or a proposal of a lower ballot, its entry a member's
 abbrev pub IsReported : Group → ℕ → Option (ℕ × Lent) → Type 0
 IsReported g b None = Unit {0}
 IsReported g b (Some a) = IsTrue (is_ballot g a.0) × (a.0 < b) × IsMembers g a.1
 
+-- what stands after the kind: what proposes has the sender's ballot, what answers it the addressee's
 abbrev pub IsBody : Group → ℕ → ℕ → Message → Type 0
 IsBody g from to (prepare b p) = IsTrue (is_ballot_of g from b) × IsTrue (is_position p)
 IsBody g from to (promise b p a) = IsTrue (is_ballot_of g to b) × IsTrue (is_position p) × IsReported g b a

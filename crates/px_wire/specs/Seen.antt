@@ -15,10 +15,12 @@ use Rattle.px_wire.specs.Fields.{Field, first_fault}
 abbrev pub lent_of : EntryView → Lent
 lent_of e = record { origin = (view_of e).origin; number = (view_of e).number; bytes = spelled (view_of e) }
 
+-- the accepted proposal that a message in code tells, if it tells one: its ballot and its entry
 abbrev pub accepted_of : Option (Proposal EntryView) → Option (ℕ × Lent)
 accepted_of None = None
 accepted_of (Some a) = Some (a.ballot, lent_of a.entry)
 
+-- the message that a decoded one shows
 abbrev pub message_of : declared.Message EntryView → Message
 message_of (views.Prepare b p) = prepare b p
 message_of (views.Promise b p a) = promise b p (accepted_of a)

@@ -30,9 +30,11 @@ pub record IsBallot (n b : ℕ) : Type 0 where
 abbrev pub IsBallotOf : (n member b : ℕ) → Type 0
 IsBallotOf n m b = IsBallot n b × (b % 256 ≡ m)
 
+-- positions are 0 to 999,999
 abbrev pub IsPosition : ℕ → Type 0
 IsPosition p = p < 1_000_000
 
+-- tokens and the numbers of entries are below 2^48
 abbrev pub IsNumber : ℕ → Type 0
 IsNumber k = k < 2 ^ 48
 
@@ -109,9 +111,11 @@ is_for_all (promise_all b p top a) = false
 
 -- ---- the bytes of its entry
 
+-- each number of the list is a byte, 0 to 255
 abbrev pub AreBytes : List ℕ → Type 0
 AreBytes bytes = (i : ℕ) → slice_index_or bytes i 0 < 256
 
+-- the bytes of the entry that a promise tells, none where it tells none
 abbrev pub reported_bytes : Option (ℕ × Lent) → List ℕ
 reported_bytes None = []
 reported_bytes (Some a) = a.1.bytes
