@@ -70,7 +70,7 @@ accepted_in (r ∷ more) =
     then Some (record { ballot = number_in (column r 2); entry = entry_of (bytes_in (column r 3)) })
     else accepted_in more
 
--- of the ballot promised the first row
+-- the ballot that the first row promises, 0 without a row
 abbrev pub promised_in : List Row → ℕ
 promised_in [] = 0
 promised_in (r ∷ more) = number_in (column r 1)
