@@ -1,33 +1,30 @@
 //! An anchor, with all that stands below it.
 
-ghost use Rattle.std.specs.Prelude.{◌≡◌, ◌≤◌, ◌&&◌, ◌++◌, ◌∷◌, [], true, IfOk, OnOk, map};
-ghost use Rattle.std.specs.Prelude.{find, fold, option_map, length, take, drop, IfSome, is_some};
-ghost use Rattle.std.specs.List.{list_all, list_any, starts_with};
+ghost use Rattle.std.specs.Prelude.{◌≡◌, ◌≤◌, ◌&&◌, ◌++◌, [], IfOk, OnOk, map};
+ghost use Rattle.std.specs.Prelude.{fold, length};
+ghost use Rattle.std.specs.List.{list_any};
 ghost use Rattle.std.specs.Option.{option_copied};
-ghost use Rattle.std.specs.Str.{bytes_eq};
 ghost use Rattle.pf_ruleset.specs.Seen.{rule_of};
 ghost use Rattle.pf_ruleset.specs.Names.{is_before, begins_below};
-ghost use Rattle.pf_config.specs.Map.{AnchorValue, anchor_at, rules_in, tables_in, named, put_name};
-ghost use Rattle.pf_config.specs.Map.{name_after, names_after, followed_by};
-ghost use Rattle.pf_config.specs.Changes.{is_empty, is_some_unnamed, without_unnamed, refer, tidied_of};
-ghost use Rattle.pf_config.specs.Trees.{shared};
-ghost use Rattle.pf_config.specs.inner.Trees.{any_unnamed, any_sheds, is_idle, are_apart};
-ghost use Rattle.pf_config.specs.Trees.{child_at, last_name};
-ghost use Rattle.pf_config.specs.inner.Trees.{is_named, kids_before, kids_behind, some_kid, anchors_of};
-ghost use Rattle.pf_config.specs.Trees.{paths_of, AreBelow};
-ghost use Rattle.pf_config.specs.inner.Trees.{placed_in, passes, room_after, own_count};
-ghost use Rattle.pf_config.specs.Trees.{own_entry};
+ghost use Rattle.pf_config.specs.Map.{anchor_at, rules_in, tables_in, named, put_name, names_after, followed_by};
 ghost use Rattle.pf_config.specs.Map.{paths_in};
+ghost use Rattle.pf_config.specs.Changes.{is_empty, without_unnamed, refer, tidied_of};
+ghost use Rattle.pf_config.specs.Trees.{shared, child_at, last_name, paths_of, AreBelow};
+ghost use Rattle.pf_config.specs.inner.Trees.{any_unnamed, any_sheds, is_named, placed_in, room_after};
 ghost use Rattle.pf_config.specs.Ordered.{AreOrdered};
 ghost use Rattle.pf_config.specs.Orders.{stops_of, others_of};
-ghost use Rattle.pf_config.specs.inner.KidOrder.{AreInOrder};
 ghost use Rattle.pf_config.specs.inner.Referring.{Gains, KnowsAll};
 ghost use Rattle.pf_config.specs.declared.config.TheConstants.{RULES_MAX};
 
+use crate::below::{
+    any_unnamed, count_before, kid_named, last_name, owned_or_empty, push_some, put_kid,
+    shared_kids, take_named,
+};
 use crate::candidate_list::CandidateList;
 use crate::order::{Order, order_of};
+use crate::own::{are_apart, is_own_unnamed, is_unnamed_below, own_room, push_own_path};
 use crate::own_rules::OwnRules;
-use crate::paths::{copied_path, followed_by};
+use crate::paths::copied_path;
 use crate::referred::Referred;
 use crate::tables::{Tables, named};
 use crate::unused::{any_unused, items_refer, used_tables};
@@ -122,14 +119,14 @@ impl Anchor {
     }
 
     /// Whether its last name is before this one.
-    fn is_before(&self, name: &Name) -> bool
+    pub(crate) fn is_before(&self, name: &Name) -> bool
         ensures { result ≡ is_before (last_name self.now.names) name.now }
     {
         last_name(&self.names).cmp(name.as_bytes()) == Ordering::Less
     }
 
     /// Whether its last name is this one.
-    fn is_named(&self, name: &Name) -> bool
+    pub(crate) fn is_named(&self, name: &Name) -> bool
         ensures { result ≡ is_named name.now self.now }
     {
         last_name(&self.names) == name.as_bytes()
@@ -429,213 +426,12 @@ impl Anchor {
     }
 }
 
-/// Puts an anchor's own path behind those that are there, if it has an entry.
-#[tactic(auto, using(crate::proofs::Treed::empty_len, crate::proofs::Treed::empty_map))]
-fn push_own_path<'c>(
-    names: &'c [Name],
-    items: &[Item],
-    tables: &[(TableName, Table)],
-    paths: &mut Vec<&'c [Name]>,
-) -> Result<(), AllocError>
-    ensures { OnOk result (map (λ p. p.now) paths.new.items
-        ≡ map (λ p. p.now) paths.old.items
-        ++ paths_in (own_entry names.now (map rule_of items.now) tables.now)) }
-{
-    if items.is_empty() && tables.is_empty() {
-        return Ok(());
-    }
-    paths.push(names)?;
-    Ok(())
-}
-
-/// The room that is left once the anchor's own entry has its place.
-#[tactic(auto, using(crate::proofs::Treed::empty_len, crate::proofs::Treed::empty_map))]
-fn own_room(items: &[Item], tables: &[(TableName, Table)], room: usize) -> Option<usize>
-    ensures { result ≡ room_after room (own_count (map rule_of items.now) tables.now) }
-{
-    if items.is_empty() && tables.is_empty() {
-        Some(room)
-    } else if room == 0 {
-        None
-    } else {
-        Some(room - 1)
-    }
-}
-
-/// Whether neither of the paths begins with the other.
-fn are_apart(own: &[Name], path: &[Name]) -> bool
-    ensures { result ≡ are_apart own.now path.now }
-{
-    !own.starts_with(path) && !path.starts_with(own)
-}
-
-/// Whether the path begins with the other and an unnamed name.
-fn is_unnamed_below(own: &[Name], path: &[Name]) -> bool
-    ensures { result ≡ is_some_unnamed (name_after path.now own.now) }
-{
-    match own.get(path.len()) {
-        Some(name) => name.is_unnamed() && own.starts_with(path),
-        None => false,
-    }
-}
-
-/// Whether the anchor has an entry of its own whose path begins with the other and an unnamed name.
-#[tactic(auto, using(crate::proofs::Treed::empty_len, crate::proofs::Treed::empty_map))]
-fn is_own_unnamed(
-    names: &[Name],
-    items: &[Item],
-    tables: &[(TableName, Table)],
-    path: &[Name],
-) -> bool
-    ensures { result ≡ any_unnamed path.now (own_entry names.now (map rule_of items.now) tables.now) }
-{
-    if items.is_empty() && tables.is_empty() {
-        return false;
-    }
-    is_unnamed_below(names, path)
-}
-
-/// Whether one of the anchors is an unnamed block.
-fn any_unnamed(kids: &[Rc<Anchor>]) -> bool
-    ensures { result ≡ list_any (passes begins_below) (shared kids.now) }
-{
-    for kid in kids {
-        if kid.is_unnamed() {
-            return true;
-        }
-    }
-    false
-}
-
-/// The last of the names.
-fn last_name(names: &[Name]) -> &[u8]
-    ensures { result.now ≡ last_name names.now }
-{
-    match names.last() {
-        Some(own) => own.as_bytes(),
-        None => &[],
-    }
-}
-
 /// Whether there is none of all these.
 #[tactic(auto, using(crate::proofs::Treed::empty_len, crate::proofs::Treed::empty_map))]
 fn are_empty(items: &[Item], tables: &[(TableName, Table)], kids: &[Rc<Anchor>]) -> bool
     ensures { result ≡ (is_empty (map rule_of items.now) && (is_empty tables.now && is_empty (shared kids.now))) }
 {
     items.is_empty() && tables.is_empty() && kids.is_empty()
-}
-
-/// The anchors once more, shared.
-fn shared_kids(alloc: Global, kids: &[Rc<Anchor>]) -> Result<Vec<Rc<Anchor>>, AllocError>
-    ensures { IfOk result (λ v. shared v.items ≡ shared kids.now) }
-{
-    let mut next = Vec::new(alloc);
-    for kid in kids {
-        next.push(kid.clone()?)?;
-    }
-    Ok(next)
-}
-
-/// Appends the anchor, unless it holds nothing.
-fn push_some(next: &mut Vec<Rc<Anchor>>, kid: Rc<Anchor>) -> Result<(), AllocError>
-    ensures { OnOk result (shared next.new.items ≡ shared next.old.items ++ some_kid kid.value) }
-{
-    if !kid.is_nothing() {
-        next.push(kid)?;
-    }
-    Ok(())
-}
-
-/// How many of the anchors have names before this one. They are counted by halves.
-fn count_before(kids: &[Rc<Anchor>], name: &Name) -> usize
-    requires { AreInOrder (shared kids.now) }
-    ensures { result ≡ length (kids_before name.now (shared kids.now)) }
-{
-    let mut left = kids;
-    let mut count = 0usize;
-    while !left.is_empty() {
-        let half = left.len() / 2;
-        let (front, back) = left.split_at(half);
-        let [middle, behind @ ..] = back else {
-            return count;
-        };
-        if middle.is_before(name) {
-            count += half + 1;
-            left = behind;
-        } else {
-            left = front;
-        }
-    }
-    count
-}
-
-/// Whether the anchor of that name is there. Its place is after those with names before it.
-fn stands_at(kids: &[Rc<Anchor>], at: usize, name: &Name) -> bool
-    requires order { AreInOrder (shared kids.now) }
-    requires place { at ≡ length (kids_before name.now (shared kids.now)) }
-    ensures { result ≡ is_some (find (is_named name.now) (shared kids.now)) }
-{
-    match kids.get(at) {
-        Some(kid) => kid.is_named(name),
-        None => false,
-    }
-}
-
-/// Takes the anchor of that name out from among the others, if it is there.
-fn take_named(kids: &mut Vec<Rc<Anchor>>, at: usize, name: &Name) -> Option<Rc<Anchor>>
-    requires order { AreInOrder (shared kids.old.items) }
-    requires place { at ≡ length (kids_before name.now (shared kids.old.items)) }
-    ensures taken { option_map (λ k. k.value) result ≡ find (is_named name.now) (shared kids.old.items) }
-    ensures left { shared kids.new.items ≡ kids_before name.now (shared kids.old.items) ++
-        kids_behind name.now (shared kids.old.items) }
-{
-    if !stands_at(kids, at, name) {
-        return None;
-    }
-    let kid = kids.remove(at);
-    Some(kid)
-}
-
-/// Puts the anchor in its place among the others, unless it holds nothing.
-fn put_kid(kids: &mut Vec<Rc<Anchor>>, at: usize, kid: Rc<Anchor>) -> Result<(), AllocError>
-    requires { at ≤ length kids.old.items }
-    ensures { OnOk result (shared kids.new.items ≡ take at (shared kids.old.items) ++
-        (some_kid kid.value ++ drop at (shared kids.old.items))) }
-{
-    if kid.is_nothing() {
-        return Ok(());
-    }
-    kids.insert(at, kid)?;
-    Ok(())
-}
-
-/// The anchor itself where nobody shares it, else a copy.
-fn owned(alloc: Global, anchor: Rc<Anchor>) -> Result<Anchor, AllocError>
-    ensures { IfOk result (λ a. a ≡ anchor.value) }
-{
-    match Rc::try_unwrap(anchor) {
-        Ok(own) => Ok(own),
-        Err(shared) => shared.copied(alloc),
-    }
-}
-
-/// The anchor that was taken out, to be changed, or one with nothing in it where none was there.
-fn owned_or_empty(
-    alloc: Global,
-    names: &[Name],
-    name: &Name,
-    kid: Option<Rc<Anchor>>,
-) -> Result<Anchor, AllocError>
-    requires { IfSome kid (λ k. k.value.names ≡ names.now ++ name.now ∷ []) }
-    ensures { IfOk result (λ a. a ≡ record {
-      names = names.now ++ name.now ∷ [];
-      anchors = anchors_of (option_map (λ k. k.value) kid);
-    }) }
-{
-    match kid {
-        Some(kid) => owned(alloc, kid),
-        None => Anchor::empty(alloc, followed_by(alloc, names, name)?),
-    }
 }
 
 /// The anchor with these rules and tables at a path below it. It is taken apart: what nobody else shares is changed in
@@ -673,31 +469,4 @@ pub(crate) fn with_entry(
             })
         }
     }
-}
-
-/// The anchor of that name, which is looked for at this place first and then by halves.
-fn kid_named<'c>(kids: &'c [Rc<Anchor>], name: &str, place: usize) -> Option<&'c Anchor>
-    requires { AreInOrder (shared kids.now) }
-    ensures { option_copied result ≡ find (is_named name.now) (shared kids.now) }
-{
-    let mut left = kids;
-    let mut at = place;
-    while !left.is_empty() {
-        let (front, back) = left.split_at(at.min(left.len() - 1));
-        let [middle, behind @ ..] = back else {
-            return None;
-        };
-        match last_name(middle.names()).cmp(name.as_bytes()) {
-            Ordering::Equal => return Some(middle),
-            Ordering::Less => {
-                at = behind.len() / 2;
-                left = behind;
-            }
-            Ordering::Greater => {
-                at = front.len() / 2;
-                left = front;
-            }
-        }
-    }
-    None
 }

@@ -13,6 +13,7 @@
 
 mod anchor;
 mod attached;
+mod below;
 mod blocks;
 mod candidate;
 mod candidate_list;
@@ -22,6 +23,7 @@ mod depths;
 mod fault;
 mod loading;
 mod order;
+mod own;
 mod own_rules;
 mod path_text;
 mod paths;

@@ -12,7 +12,6 @@ use Rattle.pf_entry.specs.Entry.{Address, Command, load, flush_rules, flush_tabl
 use Rattle.pf_entry.specs.Entry.{flush_table, Entry, is_name, is_table, is_origin}
 
 infixl 10 ◌>>=◌
-
 -- goes on with what was read, if it was read; else none
 abbrev pub ◌>>=◌ : {A B : Type 0} → Option A → (A → Option B) → Option B
 (Some x) >>= f = f x

@@ -19,6 +19,7 @@ ghost use Rattle.px_core.specs.declared.limits.TheConstants.{MEMBERS};
 use crate::coming::What;
 use crate::event::{LabFault, Outcome};
 use crate::seat::Seat;
+use pf_entry::ASKER;
 use px_replica::Datagram;
 use std::alloc::Global;
 
@@ -131,7 +132,7 @@ fn keep_members(out: &mut Vec<Datagram>)
     ensures items { out.new.items ≡ for_members out.old.items }
     ensures len { vec_len out.new ≤ vec_len out.old }
 {
-    out.retain(|d| d.to != 255);
+    out.retain(|d| d.to != ASKER);
 }
 
 /// Moves datagrams to the end of a list that has room for them.

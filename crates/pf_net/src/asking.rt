@@ -4,22 +4,19 @@ ghost use Rattle.std.specs.Prelude.{◌≡◌, ◌⊎◌, ◌<◌, Err, Some, fa
 ghost use Rattle.std.specs.Prelude.{ℕ, List};
 ghost use Rattle.pf_entry.specs.Entry.{EntryBytes};
 ghost use Rattle.pf_entry.specs.Owned.{is_over};
+ghost use Rattle.pf_entry.specs.declared.limits.TheConstants.{ASKER};
 ghost use Rattle.px_wire.specs.Message.{group};
 ghost use Rattle.px_wire.specs.Seen.{lent_of, message_of};
 ghost use Rattle.px_transport.specs.Wires.{Grows};
 ghost use Rattle.pf_net.specs.Asking.{asked_entry, lent_ask, IsAsk, ask_answer, Answers, Hears, Listens};
-ghost use Rattle.pf_net.specs.declared.asking.TheConstants.{ASKER};
 
 use crate::answer::AskAnswer;
-use pf_entry::{Command, EncodeFault, encode_asked};
+use pf_entry::{ASKER, Command, EncodeFault, encode_asked};
 use px_model::EntryView;
 use px_replica::NodeFault;
 use px_transport::Wire;
 use px_wire::{Membership, Message, MessageView, decode, encode};
 use std::alloc::Global;
-
-/// The number of whoever is no member.
-const ASKER: u8 = 255;
 
 /// By what an answer is known.
 const TOKEN: u64 = 1;

@@ -13,6 +13,7 @@ use crate::datagram::is_large;
 use crate::host::find;
 use crate::repeats::Repeats;
 use crate::trail::Trail;
+use pf_entry::ASKER;
 use px_transport::Wire;
 use std::alloc::{AllocError, AllocFailed, Global};
 use std::io::ErrorKind;
@@ -20,9 +21,6 @@ use std::net::{IpAddr, Ipv4Addr, Net, SocketAddr, UdpSocket};
 use std::os::fd::{AsRawFd, RawFd};
 use std::time::{Clock, Duration, Instant};
 use thiserror::Error;
-
-/// The number of whoever is no member.
-const ASKER: u8 = 255;
 
 /// Where a datagram has its sender's number.
 const FROM_PLACE: usize = 10;

@@ -4,7 +4,7 @@ use Rattle.pf_ruleset.specs.Names.{is_before}
 use Rattle.std.proofs.Common.{true, false}
 use Rattle.pf_config.proofs.Ordered.{cons_is}
 use Rattle.pf_config.proofs.KidPlaces.{count_halves}
-use Rattle.pf_config.proofs.anchor.count_before.Goals as goal
+use Rattle.pf_config.proofs.below.count_before.Goals as goal
 
 pub loop-left-preserved-then-is_before : goal.loop-left-preserved-then-is_before
 loop-left-preserved-then-is_before c =

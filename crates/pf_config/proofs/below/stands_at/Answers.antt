@@ -1,7 +1,7 @@
 use Rattle.std.proofs.Common.{◌≡◌, ◌<◌, ◌≤◌, Some, length, get_or, slice_get, rules, arith}
 use Rattle.std.proofs.lemmas.Option.{slice_get_read, slice_get_past}
 use Rattle.pf_config.proofs.KidPlaces.{stands_some, stands_none}
-use Rattle.pf_config.proofs.anchor.stands_at.Goals as goal
+use Rattle.pf_config.proofs.below.stands_at.Goals as goal
 
 pub returns-in-Some : goal.returns-in-Some
 returns-in-Some c =

@@ -2,7 +2,7 @@ use Rattle.std.proofs.Common.{◌≡◌, ◌+◌, ◌≤◌, length}
 use Rattle.pf_config.specs.Trees.{shared}
 use Rattle.pf_config.specs.inner.Trees.{kids_before}
 use Rattle.pf_config.specs.inner.KidOrder.{AreInOrder}
-use Rattle.pf_config.proofs.anchor.count_before.Given as goal
+use Rattle.pf_config.proofs.below.count_before.Given as goal
 
 -- those that are counted, and those of what is left, are all
 abbrev pub invariant-loop-left : goal.invariant-loop-left

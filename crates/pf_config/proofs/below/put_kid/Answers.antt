@@ -2,7 +2,7 @@ use Rattle.std.proofs.Common.{◌≡◌, ◌∙◌, ◌++◌, ◌∷◌, take, d
 use Rattle.pf_config.specs.Changes.{is_empty}
 use Rattle.pf_config.specs.Trees.{shared}
 use Rattle.pf_config.proofs.KidPlaces.{put_in}
-use Rattle.pf_config.proofs.anchor.put_kid.Goals as goal
+use Rattle.pf_config.proofs.below.put_kid.Goals as goal
 
 pub returns : goal.returns
 returns c =

@@ -1,7 +1,7 @@
 use Rattle.std.proofs.Common.{◌≡◌, ◌∙◌, ap, Some, ◌-◌, length, take, drop, sym, rules}
 use Rattle.pf_config.proofs.Ordered.{cons_is}
 use Rattle.pf_config.proofs.KidHalves.{kid_halves}
-use Rattle.pf_config.proofs.anchor.kid_named.Goals as goal
+use Rattle.pf_config.proofs.below.kid_named.Goals as goal
 
 pub returns-in-Equal : goal.returns-in-Equal
 returns-in-Equal c =

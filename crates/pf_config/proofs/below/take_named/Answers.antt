@@ -4,7 +4,7 @@ use Rattle.pf_config.specs.Trees.{shared}
 use Rattle.pf_config.specs.inner.Trees.{is_named}
 use Rattle.pf_config.proofs.Cut.{next_kid}
 use Rattle.pf_config.proofs.KidPlaces.{left_whole, has_place, taken_out}
-use Rattle.pf_config.proofs.anchor.take_named.Goals as goal
+use Rattle.pf_config.proofs.below.take_named.Goals as goal
 
 pub returns-then-not-stands_at-clause-left : goal.returns-then-not-stands_at-clause-left
 returns-then-not-stands_at-clause-left c =
