@@ -49,7 +49,6 @@ abbrev pub Read : Type 0 → Type 0
 Read X = Option (X × List Word)
 
 infixl 10 ◌>>=◌
-
 -- what a second reading makes of the first one's value; none where either is none
 abbrev pub ◌>>=◌ : {A B : Type 0} → Option A → (A → Option B) → Option B
 (Some x) >>= f = f x

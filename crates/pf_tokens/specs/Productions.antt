@@ -13,7 +13,6 @@ abbrev pub Read : Type 0 → Type 0
 Read X = Option (X × List Token)
 
 infixl 10 ◌>>=◌
-
 -- goes on with the value that there is; none where there is none
 abbrev pub ◌>>=◌ : {A B : Type 0} → Option A → (A → Option B) → Option B
 (Some x) >>= f = f x

@@ -4,7 +4,6 @@ use Rattle.pf_tokens.specs.Tokens.{Placed}
 use Rattle.pf_tokens.specs.Macros.{Definition, is_definition, flattened, depth_behind, ends}
 
 infixl 10 ◌>>=◌
-
 -- goes on with the value that there is; a refusal stays the answer
 abbrev pub ◌>>=◌ : {A B R : Type 0} → Result A R → (A → Result B R) → Result B R
 (Ok x) >>= f = f x
