@@ -1,12 +1,11 @@
 -- What a store that is opened shows.
-use Rattle.std.proofs.Common.{◌≡◌, ◌⊎◌, inl, inr, ℕ, pos, ◌<◌, ◌≤◌, ◌^◌, List, [], ◌∷◌, map, Bool, true, false, not, cond, ◌&&◌, ◌||◌, None, Some, refl, sym, ap, subst, subst₂, ◌∙◌, arith, length, Result, Ok, Err, IfOk}
+use Rattle.std.proofs.Common.{◌≡◌, ◌⊎◌, inl, inr, ℕ, pos, ◌<◌, ◌≤◌, ◌^◌, List, [], ◌∷◌, map, Bool, true, false, not, cond, ◌&&◌, ◌||◌, None, Some, refl, sym, ap, subst, subst₂, ◌∙◌, arith, length}
 use Rattle.std.proofs.lemmas.Bool.{ne_eqb, and_parts, and_from, eqb-true, eq-eqb, lt-ltb, le-leb}
 use Rattle.sqlite.specs.declared.types.Value.TheVariants.{Int}
 use Rattle.sqlite_value.specs.Order.{Row, column}
 use Rattle.sqlite.specs.Effect.{Database}
 use Rattle.sqlite.specs.Tree.{Trees}
 use Rattle.sqlite.specs.State.{State}
-use Rattle.px_sql.specs.Tables.{schema_3}
 use Rattle.px_model.specs.Node.{Record}
 use Rattle.px_model.specs.Spelling.{Bytes}
 use Rattle.px_model.specs.World.{nothing_stored}
@@ -22,10 +21,8 @@ use Rattle.std.specs.Prelude.{nat_lt, nat_le}
 use Rattle.px_sql.specs.Seen.{number_at, number_in, slot_in, learned_in, slot_columns, learned_columns, record_in}
 use Rattle.px_sql.specs.Seen.{rows_at, seen, shown, meta_columns, meta_row, floor_columns}
 use Rattle.px_sql.specs.inner.Seen.{floor_rows, Tells, IsMetaIn, IsFloorIn}
-use Rattle.px_sql.specs.inner.Effect.{IsStill, IsAlike}
-use Rattle.px_sql.specs.inner.Ready.{IsMeta}
+use Rattle.px_sql.specs.inner.Effect.{IsAlike}
 use Rattle.px_sql.specs.declared.calls.Identity.{Identity}
-use Rattle.px_model.specs.declared.record.Meta.{Meta}
 use Rattle.px_sql.proofs.Above.{number_is}
 
 told : (r : Row) (at n : ℕ) → Tells r at n → column r at ≡ Int (pos n)
@@ -77,25 +74,10 @@ floor_shown b rows [] (inr two) h = absurd (omega (arith, two.1))
 floor_shown b rows (r ∷ []) (inr two) h = absurd (omega (arith, two.1))
 floor_shown b rows (r ∷ x ∷ more) (inr two) h = absurd h
 
--- two reads, of the row for the whole node and of the floor
-pub is_read : (id : Identity) (m : Meta) (s t u : State) → s.now.schema ≡ schema_3 → IsStill s t → IsStill t u
-    → seen meta_columns (s.now.trees 0) 1 ≡ meta_row 3 id.cluster id.members id.node m.round m.number ∷ [] → seen floor_columns (t.now.trees 2) 1 ≡ floor_rows m.floor
-    → (u.now.schema ≡ schema_3) × ((u.in_transaction ≡ false) × ((u.is_open ≡ true) × IsMeta id m u.committed.trees))
-is_read id m s t u has first second one two =
-    let at_t : u.committed ≡ t.now = second.committed ∙ sym second.begun in
-    let at_s : u.committed ≡ s.now = at_t ∙ first.now in
-    let meta = ap (λ (d : Database). seen meta_columns (d.trees 0) 1) at_s ∙ one in
-    let floor = ap (λ (d : Database). seen floor_columns (d.trees 2) 1) at_t ∙ two in
-    (ap (λ (d : Database). d.schema) (second.now ∙ first.now) ∙ has, (second.auto, (second.is_open, (meta, floor))))
-
 -- fewer than two rows are those that were asked for
 pub alike_few : (rows answer : List Row) → IsAlike rows answer → length answer < 2 → rows ≡ answer
 alike_few rows answer (inl same) few = same
 alike_few rows answer (inr two) few = absurd (let k = two.1 in omega (arith, k, few))
-
-pub if_ok : {X E : Type 0} (r : Result X E) (P Q : X → Type 0) → ((x : X) → P x → Q x) → IfOk r P → IfOk r Q
-if_ok (Ok x) P Q f h = f x h
-if_ok (Err e) P Q f h = h
 
 -- ---- the record that was brought
 
@@ -174,12 +156,6 @@ pub shows_from : (f : Format) (id : Identity) (was : Trees) (round number : ℕ)
 shows_from f id was round number new r k b =
     record { schema = b.schema; is = brought_shows f id was new.now.trees (subst₂ (λ (x y : ℕ). AreBrought id x y (was 1) (trees_at f was 2) (trees_at f was 3) new.now.trees) (sym r) (sym k) (as_rows b)) }
 
-pub shows_anew : (id : Identity) (new : State) → Brought id 0 0 [] [] [] new → Shows nothing_stored new
-shows_anew id new b = record { schema = b.schema; is = anew_shows id new.now.trees (as_rows b) }
-
-pub shows_same : (db : Trees) (new : State) → new.now.schema ≡ schema_3 → new.now.trees ≡ db → Shows (record_at Three db) new
-shows_same db new has same = record { schema = has; is = ap (λ (t : Trees). record_in t) same }
-
 pub same_then : {a b c : State} → IsSame a b → IsSame b c → IsSame a c
 same_then h k = record { now = k.now ∙ h.now; auto = k.auto }
 
@@ -191,11 +167,6 @@ pub brought_more : (Old New P : Trees → Type 0) (whole : Trees) → ((db : Tre
 brought_more Old New P whole h p db left = elim (h db left) [ inl was ↦ inl was | inr same ↦ inr (subst P (sym same) p) ]
 
 -- ---- formats
-
-pub three_tables : (f : Format) → has_table 3 f ≡ true → f ≡ Three
-three_tables One has = absurd cc
-three_tables Two has = absurd cc
-three_tables Three has = refl
 
 -- a table that the format has shows its rows, and one that it lacks none
 pub with_table : (t : ℕ) (f : Format) (db : Trees) → has_table t f ≡ true → trees_at f db t ≡ db t

@@ -12,10 +12,12 @@ use Rattle.px_records.specs.declared.records.StoreFault.{StoreFault}
 use Rattle.px_records.specs.declared.records.StoreFault.TheVariants as fault
 use Rattle.px_sql.specs.Tables.{schema_3}
 use Rattle.px_sql.specs.Seen.{record_in}
-use Rattle.px_sql.specs.inner.Effect.{IsIdle, IsSettled, LeavesOld, Serves}
+use Rattle.px_sql.specs.inner.Effect.{IsSettled, LeavesOld, Serves}
 use Rattle.px_sql.specs.inner.Store.{Changed}
 use Rattle.px_sql.specs.Ready.{stored_of}
 use Rattle.px_sql.specs.inner.Ready.{IsMeta}
+use Rattle.px_sql.specs.Adopting.{Began}
+use Rattle.px_sql.specs.declared.formats.Format.TheVariants.{Three}
 use Rattle.px_sql.specs.inner.NewRows.{text_of, params_of, tree_of, key_of, columns_of, row_of, IsPut, Wrote, with_row, meta_with, HasFloor, Replaces}
 use Rattle.px_sql.specs.declared.calls.Identity.{Identity}
 use Rattle.px_sql.specs.declared.calls.NewRow.{NewRow}
@@ -55,19 +57,19 @@ goes id (Learned p) bytes = goes_learned p bytes
 
 -- ---- what it makes of a connection
 
-module _ (id : Identity) (r : NewRow) (bytes : Bytes) (old mid : State) (idle : IsIdle old) (begun : old.now ≡ old.committed)
+module _ (id : Identity) (r : NewRow) (bytes : Bytes) (old mid : State) (began : Began Three old) (begun : old.now ≡ old.committed)
     (clean : HasCleanDisk mid) (survives : Survives old mid (CommitsBy (text_of r) (params_of id r bytes) old)) where
   stops : (db : Trees) → mid.may_leave db → old.may_leave db ⊎ IsPut id r bytes old.committed.trees db
   stops db left = elim (survives.crash clean db left) [
     | inl was ↦ inl was
     | inr made ↦
-        let put = leaves (text_of r) (tree_of r) (width_of r) (terms_of r) (means r) (params_of id r bytes) (tree_of r) (key_of r) (columns_of r) (row_of id r bytes) (goes id r bytes) old idle.schema db made in
+        let put = leaves (text_of r) (tree_of r) (width_of r) (terms_of r) (means r) (params_of id r bytes) (tree_of r) (key_of r) (columns_of r) (row_of id r bytes) (goes id r bytes) old began.schema db made in
         inr (subst (λ (d : Database). IsPut id r bytes d.trees db) begun put)
   ]
 
   pub wrote : (count : ℕ) (x : Unit {0}) → Executes (text_of r) (params_of id r bytes) old mid (Ok count) → Wrote id r bytes (Ok x) old mid
   wrote count x h =
-      let k = keeps (text_of r) (tree_of r) (width_of r) (terms_of r) (means r) (params_of id r bytes) (tree_of r) (key_of r) (columns_of r) (row_of id r bytes) (goes id r bytes) old idle.schema mid count idle.auto h in
+      let k = keeps (text_of r) (tree_of r) (width_of r) (terms_of r) (means r) (params_of id r bytes) (tree_of r) (key_of r) (columns_of r) (row_of id r bytes) (goes id r bytes) old began.schema mid count began.auto h in
       record {
         ok = (committed_put (tree_of r) (key_of r) (columns_of r) (row_of id r bytes) old mid k.1 begun k.0, k.1);
         memory = λ e. absurd cc;
@@ -78,7 +80,7 @@ module _ (id : Identity) (r : NewRow) (bytes : Bytes) (old mid : State) (idle : 
       → Wrote id r bytes (Err trouble) old new
   not_wrote new e trouble h left serves = record {
     ok = tt;
-    memory = λ is. served old mid new (λ _. begun) (refused old mid _ _ e idle.auto (λ _. begun) h) (serves (let same = is in cc));
+    memory = λ is. served old mid new (λ _. begun) (refused old mid _ _ e began.auto (λ _. begun) h) (serves (let same = is in cc));
     stop = λ db l. stops db (left db l);
   }
 

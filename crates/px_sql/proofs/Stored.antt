@@ -1,7 +1,7 @@
 -- What the calls do to a record that a connection keeps.
-use Rattle.std.proofs.Common.{◌≡◌, inl, inr, ℕ, pos, negsuc, ◌≤◌, List, [], ◌∷◌, Bool, true, false, cond, refl, sym, ap, subst, subst₂, ◌∙◌, arith}
+use Rattle.std.proofs.Common.{◌≡◌, inl, inr, ℕ, pos, negsuc, ◌≤◌, List, [], ◌∷◌, true, false, refl, sym, ap, subst, subst₂, ◌∙◌, arith}
 use Rattle.std.proofs.lemmas.Bool.{cases_eq, eq-eqb, ne_eqb, and_parts, eqb-true}
-use Rattle.std.specs.Prelude.{nat_eq, ◌/◌}
+use Rattle.std.specs.Prelude.{◌/◌}
 use Rattle.std.proofs.Math.Bridge.{no_suc-le-zero}
 use Rattle.px_model.specs.Fits.{IsBallot}
 use Rattle.sqlite.specs.declared.types.Value.{Value}
@@ -41,19 +41,6 @@ pub learned_keyed : (members p : ℕ) (rows : List Row) → are_learned_rows mem
 learned_keyed members p [] good = tt
 learned_keyed members p (r ∷ []) good = key_is p (column r 0) (and_parts _ _ good).0
 learned_keyed members p (r ∷ x ∷ more) good = absurd cc
-
-pub meta_keyed : (id : Identity) (m : Meta) (db : Trees) → IsMeta id m db → IsKeyed 1 (seen meta_columns (db 0) 1)
-meta_keyed id m db h = subst (IsKeyed 1) (sym h.0) refl
-
-floor_has : (b : ℕ) → IsKeyed 1 (floor_rows b)
-floor_has b = go (nat_eq b 0)
-  where
-    go : (is : Bool) → IsKeyed 1 (cond is [] (floor_row b ∷ []))
-    go true = tt
-    go false = refl
-
-pub floor_keyed : (id : Identity) (m : Meta) (db : Trees) → IsMeta id m db → IsKeyed 1 (seen floor_columns (db 2) 1)
-floor_keyed id m db h = subst (IsKeyed 1) (sym h.1) (floor_has m.floor)
 
 -- ---- a call that only reads
 

@@ -6,7 +6,7 @@ ghost use Rattle.sqlite.specs.Held.{state};
 ghost use Rattle.sqlite.specs.Tree.{Trees};
 ghost use Rattle.sqlite.specs.State.{HasCleanDisk, Survives, Executes, CommitsBy};
 ghost use Rattle.sqlite.specs.State.{Shown, FailsToQuery, CommitsShowing};
-ghost use Rattle.px_sql.specs.inner.Effect.{IsIdle, LeavesOld, Serves};
+ghost use Rattle.px_sql.specs.inner.Effect.{LeavesOld, Serves};
 ghost use Rattle.px_sql.specs.Formats.{has_table};
 ghost use Rattle.px_sql.specs.Adopting.{Began};
 ghost use Rattle.px_sql.specs.inner.Questions.{asked_by, given_with, table_of, Looked};
@@ -144,7 +144,7 @@ pub(crate) fn put<S: Alter>(
 ) -> Result<(), Trouble>
     requires fits { AreIntegers row }
     ensures clean { HasCleanDisk (state S.Store conn.new) → HasCleanDisk (state S.Store conn.old) }
-    ensures wrote { HasCleanDisk (state S.Store conn.new) → IsIdle (state S.Store conn.old) →
+    ensures wrote { HasCleanDisk (state S.Store conn.new) → Began Format.Three (state S.Store conn.old) →
         IsTrue (state S.Store conn.old).is_open → Wrote identity row bytes.now result (state S.Store conn.old)
         (state S.Store conn.new) }
 {

@@ -8,11 +8,6 @@ use Rattle.px_sql.specs.Tables.{schema_3}
 use Rattle.px_sql.specs.Seen.{rows_at, seen}
 use Rattle.px_sql.specs.inner.Seen.{IsKeyed}
 
--- outside a transaction, over the four tables
-pub record IsIdle (s : State) : Type 0 where
-  pub schema : s.now.schema ≡ schema_3
-  pub auto : s.in_transaction ≡ false
-
 -- Under this key the tree shows this row, and nothing else differs, where the key had one row of its own or none.
 pub record Puts (tree p : ℕ) (columns : List ℕ) (row : Row) (old new : Trees) : Type 0 where
   pub put : seen columns (new tree) p ≡ row ∷ []

@@ -13,46 +13,33 @@ use Rattle.px_sql.proofs.finding.read_store.Goals as goal
 
 pub returns-clause-stays : goal.returns-clause-stays
 returns-clause-stays g c = λ clean began.
-    let clean2 = clean in
-    let before2 = c.in_ok-has_entry.ensures.clean clean2 in
-    let clean1 = before2 in
-    let before1 = c.in_ok-has_slot.ensures.clean clean1 in
-    let clean0 = before1 in
+    let clean1 = c.in_ok-has_entry.ensures.clean clean in
+    let clean0 = c.in_ok-has_slot.ensures.clean clean1 in
     let before0 = c.in_ok-floor.ensures.clean clean0 in
     let first = c.in_ok-meta.ensures.stays before0 began in
     let next0 = same_then first (c.in_ok-floor.ensures.stays clean0 (still first began)) in
     let next1 = same_then next0 (c.in_ok-has_slot.ensures.stays clean1 (still next0 began)) in
-    let next2 = same_then next1 (c.in_ok-has_entry.ensures.stays clean2 (still next1 began)) in
-    next2
+    same_then next1 (c.in_ok-has_entry.ensures.stays clean (still next1 began))
 
 pub returns-clause-rows : goal.returns-clause-rows
 returns-clause-rows g c = λ clean began.
-    let clean2 = clean in
-    let before2 = c.in_ok-has_entry.ensures.clean clean2 in
-    let clean1 = before2 in
-    let before1 = c.in_ok-has_slot.ensures.clean clean1 in
-    let clean0 = before1 in
+    let clean1 = c.in_ok-has_entry.ensures.clean clean in
+    let clean0 = c.in_ok-has_slot.ensures.clean clean1 in
     let before0 = c.in_ok-floor.ensures.clean clean0 in
     subst (λ (t : List Row). IsAlike (seen meta_columns t 1) (rows_in c.in_ok-meta.meta)) (with_table 0 c.args.format (state g.S.Store c.args.conn.now).now.trees (first_has c.args.format)) (c.in_ok-meta.ensures.rows before0 began)
 
 pub returns-clause-floors : goal.returns-clause-floors
 returns-clause-floors g c = λ clean began.
-    let clean2 = clean in
-    let before2 = c.in_ok-has_entry.ensures.clean clean2 in
-    let clean1 = before2 in
-    let before1 = c.in_ok-has_slot.ensures.clean clean1 in
-    let clean0 = before1 in
+    let clean1 = c.in_ok-has_entry.ensures.clean clean in
+    let clean0 = c.in_ok-has_slot.ensures.clean clean1 in
     let before0 = c.in_ok-floor.ensures.clean clean0 in
     let first = c.in_ok-meta.ensures.stays before0 began in
     subst (λ (d : Database). IsAlike (seen floor_columns (trees_at c.args.format d.trees 2) 1) (rows_in c.in_ok-floor.floor)) first.now (c.in_ok-floor.ensures.rows clean0 (still first began))
 
 pub returns-clause-slots : goal.returns-clause-slots
 returns-clause-slots g c = λ clean began.
-    let clean2 = clean in
-    let before2 = c.in_ok-has_entry.ensures.clean clean2 in
-    let clean1 = before2 in
-    let before1 = c.in_ok-has_slot.ensures.clean clean1 in
-    let clean0 = before1 in
+    let clean1 = c.in_ok-has_entry.ensures.clean clean in
+    let clean0 = c.in_ok-has_slot.ensures.clean clean1 in
     let before0 = c.in_ok-floor.ensures.clean clean0 in
     let first = c.in_ok-meta.ensures.stays before0 began in
     let next0 = same_then first (c.in_ok-floor.ensures.stays clean0 (still first began)) in
@@ -60,16 +47,13 @@ returns-clause-slots g c = λ clean began.
 
 pub returns-clause-entries : goal.returns-clause-entries
 returns-clause-entries g c = λ clean began.
-    let clean2 = clean in
-    let before2 = c.in_ok-has_entry.ensures.clean clean2 in
-    let clean1 = before2 in
-    let before1 = c.in_ok-has_slot.ensures.clean clean1 in
-    let clean0 = before1 in
+    let clean1 = c.in_ok-has_entry.ensures.clean clean in
+    let clean0 = c.in_ok-has_slot.ensures.clean clean1 in
     let before0 = c.in_ok-floor.ensures.clean clean0 in
     let first = c.in_ok-meta.ensures.stays before0 began in
     let next0 = same_then first (c.in_ok-floor.ensures.stays clean0 (still first began)) in
     let next1 = same_then next0 (c.in_ok-has_slot.ensures.stays clean1 (still next0 began)) in
-    c.in_ok-has_entry.ensures.value clean2 (still next1 began) ∙ ap (λ (d : Database). has_rows (trees_at c.args.format d.trees 3)) next1.now
+    c.in_ok-has_entry.ensures.value clean (still next1 began) ∙ ap (λ (d : Database). has_rows (trees_at c.args.format d.trees 3)) next1.now
 
 pub returns-in_err-meta-clause-crash : goal.returns-in_err-meta-clause-crash
 returns-in_err-meta-clause-crash g c = λ clean began. c.in_err-meta.ensures.crash clean began
