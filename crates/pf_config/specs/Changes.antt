@@ -106,7 +106,8 @@ refer name a = list_any (refers name) a.rules
 abbrev pub is_used : List AnchorValue → AnchorValue → Name → Bool
 is_used anchors a name = if is_empty a.path then list_any (refer name) anchors else refer name a
 
--- of an anchor's tables those that stay: with persist, or referred to by some rule
+-- of an anchor's tables those that stay: with persist, or used: main's by any rule, another one's by a rule of that
+-- anchor
 abbrev pub used_tables : List AnchorValue → AnchorValue → List (Name × TableValue) → List (Name × TableValue)
 used_tables anchors a tables = filter (λ (t : Name × TableValue). t.1.persist || is_used anchors a t.0) tables
 
@@ -287,10 +288,11 @@ drain c p name None change = Err NoTable
 drain c p name (Some t) change = if t.is_const then Err ConstTable
     else set_table c p name (with_contents t (change t.entries))
 
--- each entry that is listed with its own sign goes from a table; 20 where there is no table
+-- each entry that is listed with its own sign goes from a table, where of a prefix listed twice the first counts; 20
+-- where there is no table, 21 where it is const
 unfoldable pub delete : Configuration → Path → Name → List TableEntry → Result Configuration ConfigFault
 delete c p name list = drain c p name (table_at c p name) (λ entries. without_entries entries list)
 
--- all entries of a table go, and the table stays; 20 where there is none
+-- all entries of a table go, and the table stays; 20 where there is none, 21 where it is const
 unfoldable pub flush_table : Configuration → Path → Name → Result Configuration ConfigFault
 flush_table c p name = drain c p name (table_at c p name) (λ entries. [])

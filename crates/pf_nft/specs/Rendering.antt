@@ -128,7 +128,8 @@ on_some (n ∷ ns) = only_tests (OnInterface (n ∷ ns) false ∷ []) ∷ []
 abbrev pub is_meant : Interface → List Name → Bool
 is_meant i names = turned i.negated (list_any (λ n. bytes_eq n i.name) names)
 
--- the packet is on one of the machine's interfaces that the rule means; no alternative where there is none of these
+-- the packet is on one of the machine's interfaces that the rule means, no alternative where it means none of them;
+-- where the rule names no interface nothing is asked
 abbrev pub interface_alternatives : Machine → Option Interface → List Alternative
 interface_alternatives m None = always ∷ []
 interface_alternatives m (Some i) = on_some (interfaces_with (is_meant i) m)
@@ -165,7 +166,8 @@ on_ports side None = []
 on_ports side (Some s) = of_protocol 6 (AtPort side s.low s.high s.negated)
     ∷ of_protocol 17 (AtPort side s.low s.high s.negated) ∷ []
 
--- the port of that end passes the rule's test, one alternative for TCP and one for UDP; without a test nothing is asked
+-- the port of that end passes the rule's test: an alternative for TCP and one for UDP, none where no port passes;
+-- without a test nothing is asked
 abbrev pub port_alternatives : Side → Option PortTest → List Alternative
 port_alternatives side None = always ∷ []
 port_alternatives side (Some test) = on_ports side (port_span test)
@@ -199,7 +201,8 @@ off_place side f None = record { family = Some f; protocol = AnyProtocol; tests 
 off_place side f (Some place) =
     record { family = Some f; protocol = AnyProtocol; tests = AtAddress side f place true ∷ [] } ∷ []
 
--- the address of that end is one that a rule at a path asks for, an alternative a family; Any asks nothing
+-- the address of that end is one that a rule at a path asks for: an alternative for each family for which there is a
+-- place, or, negated, for each family; Any asks nothing
 abbrev pub host_alternatives : Configuration → Path → Side → Host → List Alternative
 host_alternatives c p side host.Any = always ∷ []
 host_alternatives c p side (host.In set) =

@@ -45,7 +45,7 @@ same_entry e f = is_prefix e.prefix f && bool_eq e.negated f.negated
 abbrev pub unlisted : List TableEntry → List TableEntry → List TableEntry
 unlisted entries listed = filter (λ (e : TableEntry). not (list_any (same_entry e) listed)) entries
 
--- each entry that is listed with its sign goes
+-- each entry that is listed with its sign goes; of a prefix listed twice the first counts
 abbrev pub without_entries : List TableEntry → List TableEntry → List TableEntry
 without_entries entries less = unlisted entries (contents_of less)
 
