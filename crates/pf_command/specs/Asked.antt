@@ -100,7 +100,7 @@ chosen check None None (Some text) None = unless check (table_word text)
 chosen check None None None (Some text) = unless check (show_word text)
 chosen _ _ _ _ _ = None
 
--- the word among what was given, none where the options don't go together
+-- the word among what was given, none where the options don't go together or the value is no such word
 abbrev pub word_of : GivenWords → Option Word
 word_of given = chosen given.check given.file given.flush given.change given.show
 

@@ -10,7 +10,7 @@ abbrev pub heard_json : Option ℕ → List ℕ
 heard_json None = codes ",\"heard\":null"
 heard_json (Some seconds) = field (codes ",\"heard\":", seconds)
 
--- an object for a peer, with the names of its line
+-- an object for a peer: node, heard, in, out
 abbrev pub peer_json : PeerTally → List ℕ
 peer_json p = ((field (codes "{\"node\":", p.node) ++ heard_json p.heard)
     ++ fields ((codes ",\"in\":", p.datagrams_in) ∷ (codes ",\"out\":", p.datagrams_out) ∷ [])) ++ codes "}"

@@ -17,7 +17,7 @@ use Rattle.pf_lab.specs.declared.state.Lab.{Lab}
 abbrev pub state_of : Seat → NodeState Bytes
 state_of s = record { is_up = s.is_up; stored = (state_in s.node).stored; volatile = (state_in s.node).volatile }
 
--- the group of the node in a seat
+-- the membership of the node in a seat
 abbrev pub group_of : Seat → Membership
 group_of s = membership_of s.node
 

@@ -18,7 +18,8 @@ abbrev pub line_read : Configuration → Option entries.Entry → List ℕ
 line_read c None = []
 line_read c (Some e) = change_line (is_counted e.command) (effect c e.command)
 
--- the line of what a position has, at the configuration before it, nothing where one of them isn't there
+-- the line of what a position has, at the configuration before it; nothing where one of them isn't there, or no command
+-- is spelled
 abbrev pub line_in : Option Configuration → Option (node.Entry Bytes) → List ℕ
 line_in None e = []
 line_in (Some c) None = []

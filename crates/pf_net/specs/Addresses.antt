@@ -18,7 +18,7 @@ is_no_colon b = not (b == 58)
 abbrev pub is_no_bracket : ℕ → Bool
 is_no_bracket b = not (b == 93)
 
--- an IPv4 address, and an IPv6 address
+-- an IPv4 address, none where it is IPv6 or a fault
 abbrev pub four_in : Result Addr AddrFault → Option Addr
 four_in (Ok (V4 bits)) = Some (V4 bits)
 four_in (Ok (V6 bits)) = None

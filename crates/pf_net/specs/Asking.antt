@@ -17,7 +17,7 @@ use Rattle.pf_net.specs.declared.answer.AskAnswer.TheVariants.{Asked, Refused, N
 abbrev pub asked_entry : Command → entries.Entry
 asked_entry c = record { origin = 255; number = 1; command = command_value c }
 
--- an ask of a command from outside, under number 1, as bytes
+-- the entry that stands for a command asked from outside, of number 1, with the bytes that spell it
 abbrev pub lent_ask : Command → Lent
 lent_ask c = record { origin = 255; number = 1; bytes = spelling (asked_entry c) }
 

@@ -21,7 +21,8 @@ abbrev pub outcome_read : Configuration → Option entries.Entry → Outcome
 outcome_read c None = NoCommand
 outcome_read c (Some e) = outcome_of (effect c e.command)
 
--- what came of what a position has, at the configuration before it; nothing where one of them isn't there
+-- what came of what a position has, at the configuration before it; NoCommand where one of them isn't there, or no
+-- command is spelled
 abbrev pub outcome_in : Option Configuration → Option (node.Entry Bytes) → Outcome
 outcome_in None e = NoCommand
 outcome_in (Some c) None = NoCommand

@@ -92,7 +92,7 @@ abbrev pub flag_at : Option Data → Bool
 flag_at None = false
 flag_at (Some value) = is_true (as_bool value)
 
--- the texts among some items, and those of a value that is a list of them
+-- the texts among some items
 abbrev pub texts_of : Items → List (List ℕ)
 texts_of no_items = []
 texts_of (item (string text) values) = text ∷ texts_of values

@@ -9,7 +9,7 @@ use Rattle.pf_node_words.specs.declared.outcome.Outcome.{Outcome}
 use Rattle.pf_node_words.specs.declared.outcome.Outcome.TheVariants.{Front, Asked, Key, Refused, RefusedLine, NoAnswer}
 use Rattle.pf_node_words.specs.declared.outcome.Outcome.TheVariants.{Memory, Unread}
 
--- what a run writes of its outcome, a line
+-- what a run writes of its outcome, a line; nothing where the words were not read
 abbrev pub line_of : Outcome → List ℕ
 line_of (Front front applied) = line (codes "front " ++ decimal front ++ codes " applied " ++ decimal applied)
 line_of (Asked node number) = line (codes "asked " ++ decimal node ++ codes "." ++ decimal number)

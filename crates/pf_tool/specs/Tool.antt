@@ -108,7 +108,7 @@ abbrev pub checked_text : Place → Option (List ℕ) → Written
 checked_text place None = unread
 checked_text place (Some text) = check_output place text
 
--- what is written ends in a refusal
+-- the ending is that of a refusal
 abbrev pub is_refused : Ending → Bool
 is_refused Done = false
 is_refused Refused = true
@@ -180,7 +180,7 @@ explained table (Some r) = record { text = paragraph r; ending = Done }
 
 -- ---- a run
 
--- how a run ends that wrote this
+-- how a run with this ending exits
 abbrev pub status_of : Ending → Status
 status_of Done = status.Done
 status_of Refused = status.Refused

@@ -63,7 +63,8 @@ pub record ProposalFits {C : Type 0} (IsSpelled : C → Type 0) (n : ℕ) (x : P
 abbrev pub ReportFits : {C : Type 0} → (C → Type 0) → (n b : ℕ) → Option (Proposal C) → Type 0
 ReportFits IsSpelled n b a = IfSome a (λ x. ProposalFits IsSpelled n x × (x.ballot < b))
 
--- what a message tells, by its kind: what proposes has the sender's ballot, what answers it the addressee's
+-- what a message tells, by its kind: what proposes has the sender's ballot, what answers it the addressee's,
+-- a vote any member's
 abbrev pub MessageFits : {C : Type 0} → (C → Type 0) → (n from to : ℕ) → Message C → Type 0
 MessageFits S n from to (Prepare b p) = IsBallotOf n from b × IsPosition p
 MessageFits S n from to (Promise b p a) = IsBallotOf n to b × IsPosition p × ReportFits S n b a

@@ -14,7 +14,7 @@ IsSmall c = nat_lt c 100 ≡ true
 abbrev pub Goes : (from to : ℕ) → Message ℕ → Type 0
 Goes from to x = EnvelopeFits IsSmall 3 (record { sender = from; addressee = to; message = x })
 
--- rounds are 1 to 2^48-1; a proposal has the sender's ballot, an answer the addressee's, a vote any member's
+-- rounds are 1 to 2^48-1; a prepare request has the sender's ballot, an answer the addressee's, a vote any member's
 pub record BallotsThatFit : Type 0 where
   pub first : Goes 0 1 (PrepareAll (ballot_of 1 0) 0)
   pub last : Goes 2 1 (PrepareAll (ballot_of (2 ^ 48 - 1) 2) 0)

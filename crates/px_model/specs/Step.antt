@@ -177,7 +177,8 @@ tick_for n me meta front v [] =
     Planned (record { change = None; volatile = v; sends = to_all n me (Need front) })
 tick_for n me meta front v (e ∷ rest) = propose n me meta front v e v.lead
 
--- the clock ticks: with positions left, the first that waits is proposed, or what is missing asked for
+-- the clock ticks: with positions left, the lead is used for what waits first, or a new ballot begun, 61 where none is
+-- left; where nothing waits, what is missing is asked for
 unfoldable pub on_tick : {C : Type 0} → (n me : ℕ) → Meta → Log C → Volatile C → Answer C
 on_tick n me meta learned v =
     if nat_eq (front learned) positions

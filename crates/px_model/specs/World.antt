@@ -59,7 +59,7 @@ pub data Event (C : Type 0) : Type 0 where
   StopAfter : (action : Action C) → Event C
   Restart : (member : ℕ) → Event C
 
--- to whom an action comes, and as what; none where no such message was sent
+-- to whom a message comes, and as what; none without one
 abbrev pub delivered : {C : Type 0} → Option (Envelope C) → Option (ℕ × Input C)
 delivered None = None
 delivered (Some x) = Some (x.addressee, Comes x.sender x.message)

@@ -29,7 +29,7 @@ rows_at rows p = filter (has_rowid (pos p)) rows
 abbrev pub shown : List ℕ → Row → Row
 shown columns r = map (column r) columns
 
--- what these columns of them show
+-- what these columns of the rows with this key show
 abbrev pub seen : List ℕ → List Row → ℕ → List Row
 seen columns rows p = map (shown columns) (rows_at rows p)
 

@@ -1,4 +1,4 @@
--- The four tables of a record, and the texts that make, write and read them.
+-- The four tables of a record.
 use Rattle.std.specs.Prelude.{Bool, true, false, [], ◌∷◌, Some, codes, List, ℕ, pos}
 use Rattle.sqlite.specs.Collation.TheVariants.{Binary}
 use Rattle.sqlite.specs.declared.types.Value.TheVariants.{Null, Int}
@@ -13,7 +13,7 @@ use Rattle.sqlite.specs.Kind.TheVariants.{Integer, Blob}
 
 -- ---- the tables
 
--- a strict column of this name and kind, with NULL in it or not
+-- a strict column of this name and kind, without NULL where not_null
 abbrev column_of : List ℕ → Kind → (not_null : Bool) → Column
 column_of name kind not_null = record {
   name = name;

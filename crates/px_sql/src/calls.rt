@@ -1,9 +1,7 @@
-//! The statements: a row is put by one call, and rows are asked for by another.
+//! The statements over a record of format 3: a row is put by one call, and rows are asked for by another.
 
-ghost use Rattle.std.specs.Prelude.{◌≡◌, ◌<◌, ◌≤◌, ◌^◌, ℕ, pos, true, false, [], Err, OnOk};
-ghost use Rattle.std.specs.Prelude.{IfOk, IfErr, IsTrue};
+ghost use Rattle.std.specs.Prelude.{◌≡◌, ◌<◌, pos, true, [], Err, IfOk, IfErr, IsTrue};
 ghost use Rattle.sqlite.specs.Held.{state};
-ghost use Rattle.sqlite.specs.Tree.{Trees};
 ghost use Rattle.sqlite.specs.State.{HasCleanDisk, Survives, Executes, CommitsBy};
 ghost use Rattle.sqlite.specs.State.{Shown, FailsToQuery, CommitsShowing};
 ghost use Rattle.px_sql.specs.inner.Effect.{LeavesOld, Serves};
@@ -24,7 +22,7 @@ pub struct Identity {
     pub node: u8,
 }
 
-/// Why a statement was not run: for want of memory, with nothing changed, or else.
+/// Why a statement failed: for want of memory, with nothing changed and the connection serving, or else.
 #[derive(Clone, Copy, Debug, PartialEq, Eq)]
 pub(crate) enum Trouble {
     Memory,
@@ -135,7 +133,8 @@ fn run<S: Alter>(
     }
 }
 
-/// Puts a row, in a transaction of its own.
+/// Puts a row, in a transaction of its own. The identity stands in the row for the whole node alone, the bytes in those
+/// of slots and of what is learned.
 pub(crate) fn put<S: Alter>(
     conn: &mut Connection<S>,
     identity: Identity,
@@ -148,6 +147,7 @@ pub(crate) fn put<S: Alter>(
         IsTrue (state S.Store conn.old).is_open → Wrote identity row bytes.now result (state S.Store conn.old)
         (state S.Store conn.new) }
 {
+    // for the proof: no transaction is open
     let _settled = conn.is_autocommit();
     match run(conn, identity, row, bytes) {
         Ok(_) => Ok(()),
@@ -239,6 +239,7 @@ pub(crate) fn get<S: Alter>(
         has_table (table_of question) f ≡ true → Looked question result (state S.Store conn.old)
         (state S.Store conn.new) }
 {
+    // for the proof: no transaction is open
     let _settled = conn.is_autocommit();
     match ask(conn, question) {
         Ok(rows) => Ok(rows),

@@ -8,8 +8,8 @@
 //! - [`SqlRecords`] keeps [`Records`](px_records::Records) (`sql`): reads by a position (`looking`), writes of one row
 //!   each (`writing`), over one call that puts a row and one that asks for rows (`calls`). What rows say stands in
 //!   `reading`.
-//! - `specs/Tables.antt` has the tables and the statements, `Seen.antt` the record that rows show, `Formats.antt` that
-//!   of an older format.
+//! - `specs/Tables.antt` has the tables, `inner/Tables.antt` the statements, `Seen.antt` the record that rows show,
+//!   `Formats.antt` that of an older format.
 #![tactic(auto)]
 
 mod adopt;

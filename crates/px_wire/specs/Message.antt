@@ -148,7 +148,8 @@ abbrev pub IsReported : Group → ℕ → Option (ℕ × Lent) → Type 0
 IsReported g b None = Unit {0}
 IsReported g b (Some a) = IsTrue (is_ballot g a.0) × (a.0 < b) × IsMembers g a.1
 
--- what stands after the kind: what proposes has the sender's ballot, what answers it the addressee's
+-- what stands after the kind: what proposes has the sender's ballot, what answers it the addressee's, a vote any
+-- member's
 abbrev pub IsBody : Group → ℕ → ℕ → Message → Type 0
 IsBody g from to (prepare b p) = IsTrue (is_ballot_of g from b) × IsTrue (is_position p)
 IsBody g from to (promise b p a) = IsTrue (is_ballot_of g to b) × IsTrue (is_position p) × IsReported g b a

@@ -56,7 +56,8 @@ abbrev pub ReportFits : (n b : ℕ) → Option (ℕ × Lent) → Type 0
 ReportFits n b None = Unit {0}
 ReportFits n b (Some a) = IsBallot n a.0 × (a.0 < b) × MembersFits n a.1
 
--- what a message tells, by its kind: what proposes has the sender's ballot, what answers it the addressee's
+-- what a message tells, by its kind: what proposes has the sender's ballot, what answers it the addressee's,
+-- a vote any member's
 abbrev pub MessageFits : (n from to : ℕ) → Message → Type 0
 MessageFits n from to (prepare b p) = IsBallotOf n from b × IsPosition p
 MessageFits n from to (promise b p a) = IsBallotOf n to b × IsPosition p × ReportFits n b a

@@ -8,7 +8,7 @@ use Rattle.px_sql.specs.Seen.{record_in}
 use Rattle.px_sql.specs.declared.fault.AdoptFault.{AdoptFault}
 use Rattle.px_sql.specs.Adopting.{IsVerdict}
 
--- the same of an answer
+-- the answer is a verdict: 73, 72 or 71
 abbrev pub IsRefused : {X : Type 0} → Result X AdoptFault → Type 0
 IsRefused (Ok x) = ⊥
 IsRefused (Err e) = IsVerdict e
