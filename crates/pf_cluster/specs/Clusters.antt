@@ -14,8 +14,8 @@ use Rattle.px_replica.specs.Made.{Makes, LeavesOne}
 use Rattle.px_replica.specs.Spelled.{for_members}
 use Rattle.px_replica.specs.declared.datagram.Datagram.{Datagram}
 
--- The members' records and volatile parts, all datagrams that were ever handed out to members, in order, and all entries
--- whose commands were ever asked and taken in, the last one first.
+-- The members' records and volatile parts, all datagrams that were ever handed out to members, in order, and all
+-- entries whose commands were ever asked and taken in, the last one first.
 pub record Cluster : Type 0 where
   pub nodes : (member : ℕ) → NodeState Bytes
   pub sent : List Datagram

@@ -39,8 +39,8 @@ AreDelivered g (Happening.Calls m x t out ∷ hs) sent =
 AreDelivered g (Happening.Stops m x left ∷ hs) sent = IsDelivered g sent m x × AreDelivered g hs sent
 AreDelivered g (Happening.Opens m ∷ hs) sent = AreDelivered g hs sent
 
--- Whatever members lived, each from an empty record, makes a history, in whatever order of theirs each datagram that one
--- took had been handed out to it.
+-- Whatever members lived, each from an empty record, makes a history, in whatever order of theirs each datagram that
+-- one took had been handed out to it.
 abbrev pub LivesAreHistories : Type 0
 LivesAreHistories =
     (g : Group) (history : List Happening) → AreOfMembers g history →

@@ -28,7 +28,8 @@ is_needed applied peers = list_any (λ p. nat_lt applied p.need) peers
 abbrev pub health_by : (failed few behind : Bool) → Health
 health_by failed few behind = if failed then Failed else if few then Alone else if behind then Behind else Works
 
--- a node's health; unless its store failed, it is alone where fewer of the others are heard than half of the members, rounded down
+-- a node's health; unless its store failed, it is alone where fewer of the others are heard than half of the members,
+-- rounded down
 abbrev pub health : {R : Type 0} {G : Ghosts R} → Node R G → List PeerTally → Health
 health n peers = health_by (has_failed n)
     (nat_lt (counted peers) ((membership_of n).members / 2))

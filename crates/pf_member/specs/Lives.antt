@@ -18,8 +18,8 @@ use Rattle.pf_turn.specs.Living.{LeavesThere}
 use Rattle.pf_member.specs.declared.ended.Ended.{Ended}
 use Rattle.pf_member.specs.declared.ended.Ended.TheVariants.{Front, Fault, NoWire}
 
--- What is said of turns at whose end so many positions are learned without a gap: how many these are, or the fault. Where
--- there is no wire, or memory is wanting before the first turn, none is made.
+-- What is said of turns at whose end so many positions are learned without a gap: how many these are, or the fault.
+-- Where there is no wire, or memory is wanting before the first turn, none is made.
 abbrev pub Tells : (front : ℕ) → (answered : Option NodeFault) → Ended → Type 0
 Tells n None ended =
     ((applied : ℕ) × (ended ≡ Front n applied)) ⊎ ((ended ≡ NoWire) ⊎ (ended ≡ Fault fault.Memory))
@@ -56,9 +56,9 @@ abbrev pub Runs : {R : Type 0} → (G : Ghosts R) → Membership → (given : R)
 Runs G m given ended back =
     ((e : NodeFault) × (ended ≡ Fault e) × OpenRefused G m.members given e back) ⊎ Life G m given ended back
 
--- Steps of the model, one after the other, befell the member from what its record held on, up to the call that failed, if
--- one did. That is what the record holds then, unless its store failed; and whatever a stop leaves of it is that, or that
--- with the change of the next step.
+-- Steps of the model, one after the other, befell the member from what its record held on, up to the call that failed,
+-- if one did. That is what the record holds then, unless its store failed; and whatever a stop leaves of it is that, or
+-- that with the change of the next step.
 pub record LivedOver {R : Type 0} (G : Ghosts R) (m : Membership) (given back : R) (ended : Ended) : Type 0 where
   pub deeds : List Deed
   pub then : NodeState Bytes

@@ -38,7 +38,8 @@ leads_back (AnchorRule a) = not a.target.children && is_empty a.target.names
 abbrev pub some_leads_back : Configuration → Bool
 some_leads_back c = list_any (λ p. list_any leads_back (rules_at c p)) (paths_in c.anchors)
 
--- of each packet of the direction on the machine the ruleset decides the configuration's verdict, with the deciding rule
+-- of each packet of the direction on the machine the ruleset decides the configuration's verdict, with the deciding
+-- rule
 abbrev pub DecidesAs : Configuration → Machine → Direction → NftRuleset → Type 0
 DecidesAs c m d r = (k : PacketValue) → k.direction ≡ d → IsPacketOn m k →
     run 10 r k Base ≡ Some (decision_of (judgement c k))

@@ -163,8 +163,8 @@ called_by table word rows =
     else (if bytes_eq word (codes "lab") then Some Lab
     else (if bytes_eq word (codes "explain") then explain_as table (first_of (codes "code") rows) else None))))
 
--- what the words ask for, by the word named; nothing where none is, where it is one that is named alone (node, ask, key,
--- show, follow), or where what is given with it isn't understood
+-- what the words ask for, by the word named; nothing where none is, where it is one that is named alone (node, ask,
+-- key, show, follow), or where what is given with it isn't understood
 abbrev pub called : List Explanation → Option (Text × List Row) → Option CallValue
 called table None = None
 called table (Some (word, rows)) = called_by table word rows

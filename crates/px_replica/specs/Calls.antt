@@ -132,8 +132,8 @@ Receives s t bytes old new result =
 
 -- ---- openings
 
--- A record isn't opened, and is given back: as it was, but where a call on it failed. Nothing is committed: a stop leaves
--- what it could leave before.
+-- A record isn't opened, and is given back: as it was, but where a call on it failed. Nothing is committed: a stop
+-- leaves what it could leave before.
 pub record OpenRefused {R : Type 0} (G : Ghosts R) (members : ℕ) (given : R) (e : NodeFault) (back : R) : Type 0 where
   pub was : G.is_honest back → G.is_honest given
   pub stays : G.is_honest back → e ≢ fault.Store → G.stored back ≡ G.stored given
