@@ -4,7 +4,7 @@ use pf_addr::Addr;
 use pf_entry::{Command, Path, TableName};
 
 /// What the words of pfctl ask for.
-#[derive(Debug, Drop)]
+#[derive(Drop)]
 pub enum Action {
     /// A change of the configuration.
     Change(Command),

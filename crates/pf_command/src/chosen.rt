@@ -7,7 +7,7 @@ ghost use Rattle.pf_command.specs.inner.Answers.{given_of};
 use crate::given::Given;
 
 /// What is done with an anchor as a whole.
-#[derive(Clone, Copy, Debug, PartialEq, Eq)]
+#[derive(Clone, Copy, PartialEq, Eq)]
 pub(crate) enum WholeWord {
     Load,
     Check,
@@ -20,7 +20,7 @@ pub(crate) enum WholeWord {
 }
 
 /// What is done with one table.
-#[derive(Clone, Copy, Debug, PartialEq, Eq)]
+#[derive(Clone, Copy, PartialEq, Eq)]
 pub(crate) enum TableWord {
     Add,
     Delete,
@@ -31,7 +31,7 @@ pub(crate) enum TableWord {
 }
 
 /// What is done.
-#[derive(Clone, Copy, Debug, PartialEq, Eq)]
+#[derive(Clone, Copy, PartialEq, Eq)]
 pub(crate) enum Word {
     Whole(WholeWord),
     OnTable(TableWord),

@@ -5,14 +5,14 @@ use pf_ruleset::{Direction, FlagTest, Host, Interface, PortTest};
 use pf_tokens::Listed;
 
 /// A protocol.
-#[derive(Clone, Copy, Debug, PartialEq, Eq)]
+#[derive(Clone, Copy, PartialEq, Eq)]
 pub struct Protocol {
     /// Its number, as IP has it (RFC 791, 3.1).
     pub number: u8,
 }
 
 /// An operator before a port (pf.conf(5), `port`).
-#[derive(Clone, Copy, Debug, PartialEq, Eq)]
+#[derive(Clone, Copy, PartialEq, Eq)]
 pub(crate) enum Comparison {
     Equal,
     NotEqual,
@@ -23,21 +23,21 @@ pub(crate) enum Comparison {
 }
 
 /// A test on ports, none where a port is neither number nor name.
-#[derive(Clone, Copy, Debug, PartialEq, Eq)]
+#[derive(Clone, Copy, PartialEq, Eq)]
 pub struct WrittenPort {
     /// The test, if the port is one.
     pub test: Option<PortTest>,
 }
 
 /// A type of ICMP, none where it is neither number nor name.
-#[derive(Clone, Copy, Debug, PartialEq, Eq)]
+#[derive(Clone, Copy, PartialEq, Eq)]
 pub struct WrittenType {
     /// The type's number, if it is one.
     pub number: Option<u8>,
 }
 
 /// The hosts and the ports at one end.
-#[derive(Debug, Drop)]
+#[derive(Drop)]
 pub struct End {
     /// The hosts; `any` where none are written.
     pub hosts: Listed<Host>,
@@ -46,7 +46,7 @@ pub struct End {
 }
 
 /// What stands from `on` to the hosts, in rules and in anchor rules alike.
-#[derive(Debug, Drop)]
+#[derive(Drop)]
 pub struct Common {
     /// The interfaces, if they are written.
     pub interfaces: Option<Listed<Interface>>,
@@ -61,7 +61,7 @@ pub struct Common {
 }
 
 /// All that a rule or an anchor rule says of the packets that it matches.
-#[derive(Debug, Drop)]
+#[derive(Drop)]
 pub struct WrittenConditions {
     /// The direction, if it is said.
     pub direction: Option<Direction>,

@@ -5,7 +5,7 @@ use pf_intervals::Interval;
 use pf_ruleset::Direction;
 
 /// What few compares tell of a rule's conditions: the rule matches no packet that is outside of one of these.
-#[derive(Clone, Copy, Debug)]
+#[derive(Clone, Copy)]
 pub struct Sieve {
     pub direction: Option<Direction>,
     pub family: Option<Family>,
@@ -19,7 +19,7 @@ pub struct Sieve {
 }
 
 /// A rule that may match: its index among the rules of its path, from 0 on, and its sieve.
-#[derive(Clone, Copy, Debug)]
+#[derive(Clone, Copy)]
 pub struct Candidate {
     pub index: u32,
     pub sieve: Sieve,

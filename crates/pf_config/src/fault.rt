@@ -7,7 +7,7 @@ ghost use Rattle.pf_config.specs.declared.fault.ConfigFault.TheVariants.{Memory}
 use std::alloc::{AllocError, AllocFailed};
 
 /// Why a change is refused. The configuration is then unchanged.
-#[derive(Clone, Copy, Debug, PartialEq, Eq)]
+#[derive(Clone, Copy, PartialEq, Eq)]
 pub enum ConfigFault {
     /// 20: there is no such table.
     NoTable,

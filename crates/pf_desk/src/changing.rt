@@ -14,7 +14,7 @@ use px_records::Records;
 use std::alloc::{AllocError, Global};
 
 /// What became of words of a change.
-#[derive(Clone, Copy, Debug, PartialEq, Eq)]
+#[derive(Clone, Copy, PartialEq, Eq)]
 pub enum Changed {
     /// The node took the command in: its number as a member, and the number that the request got there.
     Asked(u8, u64),

@@ -12,7 +12,7 @@ use px_records::Records;
 use std::alloc::{AllocError, Global};
 
 /// How a node stands among the others.
-#[derive(Clone, Copy, Debug, PartialEq, Eq)]
+#[derive(Clone, Copy, PartialEq, Eq)]
 pub enum Health {
     /// It hears a majority, and has applied what it could.
     Works,

@@ -1,7 +1,7 @@
 //! What the loop counts.
 
 /// What the loop counted of a peer.
-#[derive(Clone, Copy, Debug, PartialEq, Eq, Default)]
+#[derive(Clone, Copy, PartialEq, Eq, Default)]
 pub struct PeerTally {
     /// The member's number.
     pub node: u8,

@@ -30,7 +30,7 @@ pub(crate) struct Seat {
 }
 
 /// What became of a seat when it was looked at.
-#[derive(Clone, Copy, Debug, PartialEq, Eq)]
+#[derive(Clone, Copy, PartialEq, Eq)]
 pub(crate) enum Look {
     /// Nothing could be done.
     Quiet,

@@ -20,7 +20,7 @@ use std::alloc::{AllocError, Global};
 
 /// How many entries, with their signs, came to a command's table and went from it; 0 and 0 for loads and for flushes of
 /// rules or of all tables.
-#[derive(Clone, Copy, Debug, PartialEq, Eq)]
+#[derive(Clone, Copy, PartialEq, Eq)]
 pub struct Applied {
     /// How many entries the table has that it didn't have.
     pub added: usize,

@@ -7,7 +7,7 @@ use pf_ruleset::{Path, TableEntry, TableName};
 use pf_words::Profile;
 
 /// One address or more.
-#[derive(Debug, Drop)]
+#[derive(Drop)]
 pub struct SomeAddresses {
     /// The addresses, in the order given.
     pub items: Vec<TableEntry>,
@@ -15,7 +15,7 @@ pub struct SomeAddresses {
 }
 
 /// A change of the configuration, with the path of the anchor that it changes.
-#[derive(Debug, Drop)]
+#[derive(Drop)]
 pub enum Command {
     /// Reads a text by a profile, and makes it the anchor's rules and tables.
     Load {
@@ -78,7 +78,7 @@ pub enum Command {
 }
 
 /// A command, who asked for it (a member, or 255), and its number there, below 2^48.
-#[derive(Debug, Drop)]
+#[derive(Drop)]
 pub struct Entry {
     /// Who was asked: a member, 0 to 14, or 255 where the command comes from outside.
     pub origin: u8,

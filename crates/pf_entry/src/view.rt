@@ -6,7 +6,7 @@ ghost use Rattle.pf_entry.specs.Reading.{names_at, addresses_at};
 use pf_words::Profile;
 
 /// Names that begin some bytes, each with its length. As an iterator it gives them in order.
-#[derive(Clone, Copy, Debug)]
+#[derive(Clone, Copy)]
 pub struct Names<'a> {
     pub(crate) count: u8,
     pub(crate) bytes: &'a [u8],
@@ -14,7 +14,7 @@ pub struct Names<'a> {
 }
 
 /// Addresses that begin some bytes. As an iterator it gives them in order.
-#[derive(Clone, Copy, Debug)]
+#[derive(Clone, Copy)]
 pub struct Addresses<'a> {
     pub(crate) count: u16,
     pub(crate) bytes: &'a [u8],
@@ -22,7 +22,7 @@ pub struct Addresses<'a> {
 }
 
 /// A command with its path. Names, addresses and text lie in the bytes that were read.
-#[derive(Clone, Copy, Debug)]
+#[derive(Clone, Copy)]
 pub enum CommandView<'a> {
     /// A text becomes the anchor's rules and tables.
     Load {
@@ -85,7 +85,7 @@ pub enum CommandView<'a> {
 }
 
 /// A command, who asked for it, and its number there.
-#[derive(Clone, Copy, Debug)]
+#[derive(Clone, Copy)]
 pub struct EntryView<'a> {
     /// Who was asked: a member, 0 to 14, or 255.
     pub origin: u8,

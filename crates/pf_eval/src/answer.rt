@@ -4,7 +4,7 @@ use pf_ruleset::Name;
 
 /// Where the deciding rule stands: the path of its anchor, which has no name where that is the main ruleset, and the
 /// rule's place among the anchor's rules in their expanded order, from 0.
-#[derive(Clone, Copy, Debug)]
+#[derive(Clone, Copy)]
 pub struct Spot<'c> {
     /// The path of its anchor.
     pub names: &'c [Name],
@@ -13,7 +13,7 @@ pub struct Spot<'c> {
 }
 
 /// What is done with a packet, and why.
-#[derive(Clone, Copy, Debug)]
+#[derive(Clone, Copy)]
 pub enum Verdict<'c> {
     /// It passes, since its interface is skipped (pf.conf(5), `set skip`).
     Skip,

@@ -23,14 +23,14 @@ use pf_words::{
 use std::alloc::Global;
 
 /// An address and its port.
-#[derive(Clone, Copy, Debug)]
+#[derive(Clone, Copy)]
 pub(crate) struct End {
     pub(crate) addr: Addr,
     pub(crate) port: Option<u16>,
 }
 
 /// The words that are left to read, as the text that is left.
-#[derive(Clone, Copy, Debug)]
+#[derive(Clone, Copy)]
 pub(crate) struct Cursor<'t> {
     rest: &'t [u8],
 }

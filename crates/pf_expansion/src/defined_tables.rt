@@ -9,7 +9,7 @@ use std::alloc::{AllocError, Global};
 use std::collections::BTreeSet;
 
 /// Tables in the order of their definitions, of which one is found by its name at the logarithm of their number.
-#[derive(Debug, Drop)]
+#[derive(Drop)]
 pub struct DefinedTables {
     all: Vec<TableDef>,
     names: BTreeSet<Vec<u8>>,

@@ -18,7 +18,7 @@ use std::alloc::{AllocError, Global};
 const TOO_MANY_RULES: usize = 1_025;
 
 /// What is wrong with rules, and how many they come to, of which no more than 1,025 are told apart.
-#[derive(Clone, Copy, Debug, PartialEq, Eq)]
+#[derive(Clone, Copy, PartialEq, Eq)]
 pub struct Judged {
     /// A port is no port, or stands in a rule without protocols that have ports.
     pub ports: bool,

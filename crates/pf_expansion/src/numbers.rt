@@ -7,7 +7,7 @@ use std::alloc::{AllocError, Global};
 use std::collections::BTreeMap;
 
 /// Numbers for paths: the empty path has 0, and each step from a numbered path to a name behind it one of its own.
-#[derive(Debug, Drop)]
+#[derive(Drop)]
 pub(crate) struct Numbers {
     pub(crate) steps: BTreeMap<(usize, Vec<u8>), usize>,
     ghost within: { AreWithin steps },

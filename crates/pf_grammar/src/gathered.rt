@@ -13,7 +13,7 @@ use pf_tokens::{Macro, Macros};
 use std::alloc::{AllocError, Global};
 
 /// The ruleset that the statements so far come to.
-#[derive(Debug, Drop)]
+#[derive(Drop)]
 pub(crate) struct GatheredRuleset {
     pub(crate) skip: Vec<InterfaceName>,
     pub(crate) tables: DefinedTables,
@@ -21,7 +21,7 @@ pub(crate) struct GatheredRuleset {
 }
 
 /// What the statements so far come to: what is the text's alone, and the ruleset.
-#[derive(Debug, Drop)]
+#[derive(Drop)]
 pub(crate) struct Gathered {
     pub(crate) macros: Macros,
     /// What a plain `block` does.
@@ -30,7 +30,7 @@ pub(crate) struct Gathered {
 }
 
 /// What a statement that isn't refused changes.
-#[derive(Debug, Drop)]
+#[derive(Drop)]
 pub(crate) enum Change {
     /// It defines a macro.
     Defines(Macro),

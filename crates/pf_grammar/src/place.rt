@@ -1,7 +1,7 @@
 //! Where a text is loaded.
 
 /// Where a text is loaded.
-#[derive(Clone, Copy, Debug, PartialEq, Eq)]
+#[derive(Clone, Copy, PartialEq, Eq)]
 pub enum Place {
     /// The main ruleset.
     Main,

@@ -6,7 +6,7 @@ ghost use Rattle.pf_intervals.specs.inner.Intervals.{meets};
 
 /// The numbers of 32 bits from a first one on: so many as the width says, and one more. Past the greatest number they
 /// go on with 0.
-#[derive(Clone, Copy, Debug)]
+#[derive(Clone, Copy)]
 pub struct Interval {
     pub first: u32,
     pub width: u32,

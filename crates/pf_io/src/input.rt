@@ -15,7 +15,7 @@ const READS_MAX: u32 = 16_777_217;
 const BYTES_MAX: usize = 16_777_216;
 
 /// Why the input isn't there.
-#[derive(Clone, Copy, Debug, PartialEq, Eq)]
+#[derive(Clone, Copy, PartialEq, Eq)]
 pub enum InputFault {
     /// A growth was refused.
     Memory,

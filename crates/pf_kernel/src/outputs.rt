@@ -21,7 +21,7 @@ use pf_ruleset::{Path, Ruleset};
 use std::alloc::{AllocError, Global};
 
 /// All that is to be written, and whether it is a refusal.
-#[derive(Debug, Drop)]
+#[derive(Drop)]
 pub struct Written {
     /// The text.
     pub text: String,

@@ -4,7 +4,7 @@ use pf_node::Command;
 use thiserror::Error;
 
 /// What comes to a member.
-#[derive(Debug, Drop)]
+#[derive(Drop)]
 pub enum LabAction {
     /// A command is asked of the member by a call.
     Ask(u8, Command),
@@ -16,7 +16,7 @@ pub enum LabAction {
 }
 
 /// An event. A member that stops loses all but its record, and the messages of the action.
-#[derive(Debug, Drop)]
+#[derive(Drop)]
 pub enum LabEvent {
     /// The action happens.
     Runs(LabAction),
@@ -29,7 +29,7 @@ pub enum LabEvent {
 }
 
 /// What became of an event.
-#[derive(Clone, Copy, Debug, PartialEq, Eq)]
+#[derive(Clone, Copy, PartialEq, Eq)]
 pub enum Outcome {
     /// Nothing that is shown.
     Nothing,

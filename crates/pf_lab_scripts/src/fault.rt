@@ -6,7 +6,7 @@ ghost use Rattle.pf_lab_scripts.specs.declared.fault.LineFault.TheVariants.{Memo
 use std::alloc::{AllocError, AllocFailed};
 
 /// Why a line comes to nothing.
-#[derive(Clone, Copy, Debug, PartialEq, Eq)]
+#[derive(Clone, Copy, PartialEq, Eq)]
 pub(crate) enum LineFault {
     /// Memory is wanting: the script isn't gone on with.
     Memory,

@@ -1,7 +1,7 @@
 //! What a node answers to a command.
 
 /// What a node answers to a command that was asked from outside.
-#[derive(Clone, Copy, Debug, PartialEq, Eq)]
+#[derive(Clone, Copy, PartialEq, Eq)]
 pub enum AskAnswer {
     /// The command was taken in as this request of the node.
     Asked(u64),

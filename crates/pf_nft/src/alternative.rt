@@ -11,7 +11,7 @@ use pf_addr::Family;
 use std::alloc::{AllocError, Global};
 
 /// What is asked of the protocol.
-#[derive(Clone, Copy, Debug, PartialEq, Eq)]
+#[derive(Clone, Copy, PartialEq, Eq)]
 pub enum Protocol {
     /// Nothing.
     AnyProtocol,

@@ -24,7 +24,7 @@ use std::alloc::{AllocError, AllocFailed, Global};
 pub const ASKED_MAX: u32 = 100_000;
 
 /// Why a configuration isn't rendered.
-#[derive(Clone, Copy, Debug, PartialEq, Eq)]
+#[derive(Clone, Copy, PartialEq, Eq)]
 pub enum RenderFault {
     /// 87: an anchor rule's target is the anchor that holds it, a loop that nftables refuses.
     LeadsBack,

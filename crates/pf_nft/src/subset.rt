@@ -10,7 +10,7 @@ use std::alloc::AllocError;
 use std::rc::Rc;
 
 /// Of the two ends of a packet.
-#[derive(Clone, Copy, Debug, PartialEq, Eq)]
+#[derive(Clone, Copy, PartialEq, Eq)]
 pub enum Side {
     /// Where it comes from.
     Source,
@@ -19,7 +19,7 @@ pub enum Side {
 }
 
 /// Of the chains of a path one holds what may end the evaluation, forwards, and one the rest, backwards.
-#[derive(Clone, Copy, Debug, PartialEq, Eq)]
+#[derive(Clone, Copy, PartialEq, Eq)]
 pub enum Pass {
     /// Quick rules, and what anchor rules evaluate.
     Forward,
@@ -28,7 +28,7 @@ pub enum Pass {
 }
 
 /// What is done with a packet.
-#[derive(Clone, Copy, Debug, PartialEq, Eq)]
+#[derive(Clone, Copy, PartialEq, Eq)]
 pub enum Outcome {
     /// `accept`.
     Accept,
@@ -39,7 +39,7 @@ pub enum Outcome {
 }
 
 /// From the first number to the last.
-#[derive(Clone, Copy, Debug, PartialEq, Eq)]
+#[derive(Clone, Copy, PartialEq, Eq)]
 pub struct Interval {
     /// The first.
     pub low: u128,
@@ -48,7 +48,7 @@ pub struct Interval {
 }
 
 /// The name of a set: whose table it holds, and of which family the addresses are.
-#[derive(Clone, Copy, Debug)]
+#[derive(Clone, Copy)]
 pub struct SetName<'c> {
     /// The path of the table's anchor.
     pub owner: &'c [Name],
@@ -68,7 +68,7 @@ pub struct NamedSet<'c> {
 }
 
 /// A place among addresses.
-#[derive(Clone, Copy, Debug)]
+#[derive(Clone, Copy)]
 pub enum Where<'c> {
     /// `low-high`.
     From { low: u128, high: u128 },

@@ -6,7 +6,7 @@ use std::alloc::Global;
 use std::collections::VecDeque;
 
 /// What came of the command at a position, when it was applied.
-#[derive(Clone, Copy, Debug, PartialEq, Eq)]
+#[derive(Clone, Copy, PartialEq, Eq)]
 pub enum Outcome {
     /// It was done: how many entries, with their signs, came to its table and went from it, 0 and 0 where it isn't on
     /// one table.

@@ -14,7 +14,7 @@ use px_seal::group_key;
 use std::alloc::Global;
 
 /// The keys of a cluster's tags: the one that a node seals with, and another under which it hears too.
-#[derive(Clone, Copy, Debug)]
+#[derive(Clone, Copy)]
 pub(crate) struct Keys {
     pub(crate) key: [u8; 32],
     pub(crate) other: Option<[u8; 32]>,

@@ -6,7 +6,7 @@ ghost use Rattle.pf_refusals.specs.Explained.{paragraph};
 use std::fmt;
 
 /// What is said of a refusal. It is shown as a paragraph of four lines or more, the last one with its newline.
-#[derive(Clone, Copy, Debug)]
+#[derive(Clone, Copy)]
 pub struct Explanation {
     /// Its number, 1 to 255.
     pub code: u8,

@@ -7,7 +7,7 @@ use std::fmt;
 
 /// A refusal that came, for people: where, and which. It is shown in pfctl's manner, `stdin:3: bad port (13)`, without
 /// a newline.
-#[derive(Clone, Copy, Debug)]
+#[derive(Clone, Copy)]
 pub struct Remark<'a> {
     /// The text that is refused: a file's name, or `stdin`.
     pub source: &'a str,

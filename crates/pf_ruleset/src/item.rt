@@ -10,7 +10,7 @@ use std::alloc::{AllocError, Global};
 use std::rc::Rc;
 
 /// Which anchors an anchor rule evaluates, named relative to the anchor that holds the rule (pf.conf(5), ANCHORS).
-#[derive(Debug, Drop)]
+#[derive(Drop)]
 pub struct Target {
     /// The names that lead to the anchor: 1 to 8 in a rule that a text gives.
     pub names: Vec<Name>,
@@ -19,7 +19,7 @@ pub struct Target {
 }
 
 /// An anchor rule without the block that it may carry.
-#[derive(Debug, Drop)]
+#[derive(Drop)]
 pub struct AnchorHeading {
     /// The anchors that it evaluates.
     pub target: Target,
@@ -31,7 +31,7 @@ pub struct AnchorHeading {
 
 /// A rule that evaluates anchors (pf.conf(5), ANCHORS).
 #[cycle(item)]
-#[derive(Debug, Drop)]
+#[derive(Drop)]
 pub struct AnchorRule {
     /// What it says without its block.
     pub heading: AnchorHeading,
@@ -41,7 +41,7 @@ pub struct AnchorRule {
 
 /// What is evaluated in its turn.
 #[cycle(item)]
-#[derive(Debug, Drop)]
+#[derive(Drop)]
 pub enum Item {
     Filter(Rule),
     Anchor(AnchorRule),

@@ -6,28 +6,28 @@ use pf_addr::{Prefix, Range};
 use pf_words::TcpFlags;
 
 /// What a plain `block` does (pf.conf(5), `set block-policy`).
-#[derive(Clone, Copy, Debug, PartialEq, Eq)]
+#[derive(Clone, Copy, PartialEq, Eq)]
 pub enum Policy {
     Drop,
     Return,
 }
 
 /// The direction of a packet, as the filter sees it.
-#[derive(Clone, Copy, Debug, PartialEq, Eq)]
+#[derive(Clone, Copy, PartialEq, Eq)]
 pub enum Direction {
     In,
     Out,
 }
 
 /// An interface or a group of them, or, negated, each other one.
-#[derive(Debug, Drop)]
+#[derive(Drop)]
 pub struct Interface {
     pub negated: bool,
     pub name: InterfaceName,
 }
 
 /// A set of addresses.
-#[derive(Debug, Drop)]
+#[derive(Drop)]
 pub enum Addresses {
     /// Those that agree with the prefix.
     Prefix(Prefix),
@@ -38,7 +38,7 @@ pub enum Addresses {
 }
 
 /// Which addresses are meant.
-#[derive(Debug, Drop)]
+#[derive(Drop)]
 pub enum Host {
     /// Every address.
     Any,
@@ -49,7 +49,7 @@ pub enum Host {
 }
 
 /// Which ports are meant (pf.conf(5), `port`).
-#[derive(Clone, Copy, Debug, PartialEq, Eq)]
+#[derive(Clone, Copy, PartialEq, Eq)]
 pub enum PortTest {
     Equal(u16),
     NotEqual(u16),
@@ -66,7 +66,7 @@ pub enum PortTest {
 }
 
 /// What is asked of the flags: nothing, or that of the flags in `of` just those in `set` are set.
-#[derive(Clone, Copy, Debug, PartialEq, Eq)]
+#[derive(Clone, Copy, PartialEq, Eq)]
 pub enum FlagTest {
     Any,
     Just { set: TcpFlags, of: TcpFlags },

@@ -13,7 +13,7 @@ pub const PATH_MAX: usize = 8;
 
 /// The path of an anchor that commands may name: the names of the anchors that lead to it, 8 at most, none of an
 /// unnamed block. The main ruleset's path has no name (pf.conf(5), ANCHORS).
-#[derive(Debug, Drop)]
+#[derive(Drop)]
 pub struct Path {
     names: Vec<Name>,
     ghost few: { length names.items ≤ 8 },

@@ -4,7 +4,7 @@ use crate::parts::{Direction, FlagTest, Host, Interface, PortTest};
 use pf_addr::Family;
 
 /// What is done with a packet (pf.conf(5), PACKET FILTERING).
-#[derive(Clone, Copy, Debug, PartialEq, Eq)]
+#[derive(Clone, Copy, PartialEq, Eq)]
 pub enum Action {
     /// It passes.
     Pass,
@@ -15,7 +15,7 @@ pub enum Action {
 }
 
 /// What a packet must be for a rule to match. Where nothing is said every packet will do.
-#[derive(Debug, Drop)]
+#[derive(Drop)]
 pub struct Conditions {
     pub direction: Option<Direction>,
     pub interface: Option<Interface>,
@@ -31,7 +31,7 @@ pub struct Conditions {
 }
 
 /// A filter rule.
-#[derive(Debug, Drop)]
+#[derive(Drop)]
 pub struct Rule {
     pub action: Action,
     /// Whether the evaluation ends where the rule matches.

@@ -11,7 +11,7 @@ use crate::table_name::TableName;
 use pf_addr::Prefix;
 
 /// A prefix that a table holds, or where it is negated one that it leaves out (pf.conf(5), TABLES).
-#[derive(Clone, Copy, Debug, PartialEq, Eq)]
+#[derive(Clone, Copy, PartialEq, Eq)]
 pub struct TableEntry {
     /// Whether `!` stands before it.
     pub negated: bool,
@@ -20,7 +20,7 @@ pub struct TableEntry {
 }
 
 /// A table that a text defines (pf.conf(5), TABLES).
-#[derive(Debug, Drop)]
+#[derive(Drop)]
 pub struct TableDef {
     /// Its name.
     pub name: TableName,
@@ -34,7 +34,7 @@ pub struct TableDef {
 }
 
 /// What a text comes to.
-#[derive(Debug, Drop)]
+#[derive(Drop)]
 pub struct Ruleset {
     /// The interfaces and groups whose packets aren't filtered, in the order of the text, as often as written.
     pub skip: Vec<InterfaceName>,

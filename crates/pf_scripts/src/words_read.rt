@@ -4,7 +4,7 @@ use pf_command::Command;
 use std::alloc::{AllocError, AllocFailed};
 
 /// What a line of pfctl's words comes to where nothing is changed.
-#[derive(Debug, Drop)]
+#[derive(Drop)]
 pub enum WordsRead {
     /// It asks for this change, which isn't made.
     Change(Command),
@@ -15,7 +15,7 @@ pub enum WordsRead {
 }
 
 /// Why words ask for no change.
-#[derive(Clone, Copy, Debug, PartialEq, Eq)]
+#[derive(Clone, Copy, PartialEq, Eq)]
 pub enum ChangeFault {
     /// Memory is wanting.
     Memory,

@@ -4,7 +4,7 @@ use clap::ArgMatches;
 use std::alloc::{AllocError, Global};
 
 /// What is asked for beside a listing.
-#[derive(Clone, Copy, Debug, PartialEq, Eq)]
+#[derive(Clone, Copy, PartialEq, Eq)]
 pub(crate) enum Kind {
     /// pfctl's words.
     Words,

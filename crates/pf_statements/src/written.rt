@@ -10,7 +10,7 @@ use pf_ruleset::{FlagTest, InterfaceName, Policy, TableEntry, TableName, Target}
 use pf_tokens::Listed;
 
 /// What a rule does, as written.
-#[derive(Clone, Copy, Debug, PartialEq, Eq)]
+#[derive(Clone, Copy, PartialEq, Eq)]
 pub enum WrittenAction {
     /// `pass`.
     Pass,
@@ -19,7 +19,7 @@ pub enum WrittenAction {
 }
 
 /// The options behind a rule's hosts.
-#[derive(Debug, Drop)]
+#[derive(Drop)]
 pub struct RuleOptions {
     /// What is asked of a TCP packet's flags, if it is said.
     pub flags: Option<FlagTest>,
@@ -30,7 +30,7 @@ pub struct RuleOptions {
 }
 
 /// A rule as it is written.
-#[derive(Debug, Drop)]
+#[derive(Drop)]
 pub struct WrittenRule {
     /// What it does.
     pub action: WrittenAction,
@@ -43,7 +43,7 @@ pub struct WrittenRule {
 }
 
 /// An anchor rule without a block, as it is written.
-#[derive(Debug, Drop)]
+#[derive(Drop)]
 pub struct WrittenAnchor {
     /// The anchors that it evaluates.
     pub target: Target,
@@ -54,7 +54,7 @@ pub struct WrittenAnchor {
 }
 
 /// An anchor rule up to its block, as it is written (pf.conf(5), ANCHORS).
-#[derive(Debug, Drop)]
+#[derive(Drop)]
 pub struct WrittenHeading {
     /// The anchors that it evaluates, if they are named: the name of a block may be left out.
     pub target: Option<Target>,
@@ -65,7 +65,7 @@ pub struct WrittenHeading {
 }
 
 /// A rule of any kind as it is written.
-#[derive(Debug, Drop)]
+#[derive(Drop)]
 pub enum WrittenItem {
     /// A filter rule.
     Rule(WrittenRule),
@@ -99,7 +99,7 @@ impl WrittenItem {
 }
 
 /// A table statement as it is written (pf.conf(5), TABLES).
-#[derive(Debug, Drop)]
+#[derive(Drop)]
 pub struct WrittenTable {
     /// The table's name.
     pub name: TableName,
@@ -112,7 +112,7 @@ pub struct WrittenTable {
 }
 
 /// What `set` says.
-#[derive(Debug, Drop)]
+#[derive(Drop)]
 pub enum Setting {
     /// `set block-policy`.
     Policy(Policy),
@@ -121,7 +121,7 @@ pub enum Setting {
 }
 
 /// A statement that defines no macro.
-#[derive(Debug, Drop)]
+#[derive(Drop)]
 pub enum Statement {
     /// `set`.
     Sets(Setting),

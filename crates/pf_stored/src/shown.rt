@@ -26,7 +26,7 @@ pub enum Wanted<'a> {
 }
 
 /// All that is to be written, and whether it is a refusal.
-#[derive(Debug, Drop)]
+#[derive(Drop)]
 pub struct Shown {
     /// The text.
     pub bytes: Vec<u8>,

@@ -25,7 +25,7 @@ use std::alloc::{AllocError, AllocFailed, Global};
 const TEXT_MAX: usize = 4096;
 
 /// Why a macro statement defines nothing.
-#[derive(Clone, Copy, Debug, PartialEq, Eq)]
+#[derive(Clone, Copy, PartialEq, Eq)]
 pub enum DefinitionFault {
     /// Memory ran out.
     Memory,

@@ -11,7 +11,7 @@ ghost use Rattle.pf_tokens.specs.inner.Lexed.{front_of};
 use crate::symbol::{Symbol, symbol_of, symbol_of_two};
 
 /// A token without its place.
-#[derive(Clone, Copy, Debug)]
+#[derive(Clone, Copy)]
 pub enum Lexeme<'a> {
     /// The longest run of letters, digits and `. : _ - + * % @`.
     Word(&'a [u8]),
@@ -44,7 +44,7 @@ impl Lexeme<'_> {
 }
 
 /// A token, its line, and whether it stands in the text as it is, and not in a macro's text.
-#[derive(Clone, Copy, Debug)]
+#[derive(Clone, Copy)]
 pub(crate) struct Lexed<'a> {
     pub lexeme: Lexeme<'a>,
     pub line: u64,

@@ -16,7 +16,7 @@ fn line_after(line: u64, b: u8) -> u64
 /// The tokens of a text, which are made one at a time.
 ///
 /// Lines are those of the text as given: at each of the steps a backslash and a newline were taken out.
-#[derive(Clone, Copy, Debug)]
+#[derive(Clone, Copy)]
 pub struct Lexer<'a> {
     rest: &'a [u8],
     at: usize,

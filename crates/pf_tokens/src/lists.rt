@@ -40,7 +40,7 @@ pub trait Element {
 }
 
 /// What a list has.
-#[derive(Debug, Drop)]
+#[derive(Drop)]
 pub struct Listed<E> {
     /// The elements in order, with those of the lists in it.
     pub items: Vec<E>,

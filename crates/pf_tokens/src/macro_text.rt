@@ -6,7 +6,7 @@ ghost use Rattle.pf_tokens.specs.Tokens.{plain_tokens};
 use crate::lexer::Lexer;
 
 /// A macro and its text (`pf.conf(5)`, MACROS).
-#[derive(Debug, Drop)]
+#[derive(Drop)]
 pub struct Macro {
     pub(crate) name: Vec<u8>,
     pub(crate) text: Vec<u8>,

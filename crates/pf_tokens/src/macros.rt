@@ -9,7 +9,7 @@ use std::alloc::{AllocError, Global};
 use std::collections::BTreeMap;
 
 /// The macros that are known, in the order of their definitions.
-#[derive(Debug, Drop)]
+#[derive(Drop)]
 pub struct Macros {
     all: Vec<Macro>,
     /// Where the last definition of each name stands.

@@ -21,7 +21,7 @@ use pf_words::is_same_word;
 ///
 /// A statement ends at the first newline outside braces. Contracts speak of `left`, the tokens that the statement
 /// still has, and of `later`, the tokens of the text from its end on.
-#[derive(Clone, Copy, Debug)]
+#[derive(Clone, Copy)]
 pub struct Parser<'t, 's> {
     stream: Stream<'t, 's>,
     /// What was passed of the statement, with the newlines that are blanks.

@@ -20,7 +20,7 @@ const TOKENS_MAX: u32 = 65536;
 const OPEN_MAX: u8 = 64;
 
 /// How many tokens of a statement were passed, and the first fault among them, behind which none is counted.
-#[derive(Clone, Copy, Debug)]
+#[derive(Clone, Copy)]
 pub(crate) struct Passed {
     count: u32,
     pub fault: Option<ReadingFault>,

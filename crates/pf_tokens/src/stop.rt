@@ -6,7 +6,7 @@ ghost use Rattle.pf_tokens.specs.declared.stop.Stop.TheVariants.{Memory};
 use std::alloc::{AllocError, AllocFailed};
 
 /// Why a value that takes memory isn't read.
-#[derive(Clone, Copy, Debug, PartialEq, Eq)]
+#[derive(Clone, Copy, PartialEq, Eq)]
 pub enum Stop {
     /// Memory ran out.
     Memory,

@@ -20,7 +20,7 @@ use crate::passed::Passed;
 use crate::symbol::Symbol;
 
 /// The tokens of a text from the start of a statement on, in which macros are replaced, with one of them at hand.
-#[derive(Clone, Copy, Debug)]
+#[derive(Clone, Copy)]
 pub(crate) struct Stream<'t, 's> {
     pub next: Option<Lexed<'s>>,
     /// The line of the tokens of the macro that is being replaced.

@@ -4,7 +4,7 @@ ghost use Rattle.std.specs.Prelude.{◌≡◌};
 ghost use Rattle.pf_tokens.specs.Tokens.{symbol_of, symbol_of_two};
 
 /// A token of one or two letters that stands for itself (`pf.conf(5)`, GRAMMAR).
-#[derive(Clone, Copy, Debug, PartialEq, Eq)]
+#[derive(Clone, Copy, PartialEq, Eq)]
 pub enum Symbol {
     /// `{`
     Open,

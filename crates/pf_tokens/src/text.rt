@@ -14,7 +14,7 @@ use std::borrow::CowSlice;
 
 /// A text as given, with its tokens: each backslash directly before a newline has been taken out together with
 /// it, once, also in strings and comments.
-#[derive(Debug, Drop)]
+#[derive(Drop)]
 pub struct Text<'a> {
     bytes: CowSlice<'a, u8>,
     /// For each backslash and newline that was taken out, how many bytes stayed before it.

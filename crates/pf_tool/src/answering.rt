@@ -27,7 +27,7 @@ use std::alloc::{AllocError, AllocFailed, Global};
 use std::io::Read;
 
 /// Why there is no output.
-#[derive(Clone, Copy, Debug, PartialEq, Eq)]
+#[derive(Clone, Copy, PartialEq, Eq)]
 pub(crate) enum RunFault {
     /// A growth was refused.
     Memory,

@@ -9,14 +9,14 @@ use pf_refusals::UNREADABLE;
 use std::alloc::{AllocError, Global};
 
 /// How a run ends that wrote all of its output.
-#[derive(Clone, Copy, Debug, PartialEq, Eq)]
+#[derive(Clone, Copy, PartialEq, Eq)]
 pub(crate) enum Ending {
     Done,
     Refused,
 }
 
 /// All that is to be written, and how the run ends then.
-#[derive(Debug, Drop)]
+#[derive(Drop)]
 pub(crate) struct Output {
     pub(crate) text: String,
     pub(crate) ending: Ending,

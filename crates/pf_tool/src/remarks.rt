@@ -4,7 +4,7 @@ use pf_refusals::{Explanation, NO_PACKET, Remark, explanation};
 use std::alloc::{AllocError, Global};
 
 /// What people are told.
-#[derive(Clone, Copy, Debug, PartialEq, Eq)]
+#[derive(Clone, Copy, PartialEq, Eq)]
 pub(crate) enum Level {
     /// Nothing.
     Silent,
@@ -15,7 +15,7 @@ pub(crate) enum Level {
 }
 
 /// What is said to people, a line each.
-#[derive(Debug, Drop)]
+#[derive(Drop)]
 pub(crate) struct Remarks<'t> {
     alloc: Global,
     table: &'t [Explanation],
@@ -24,7 +24,7 @@ pub(crate) struct Remarks<'t> {
 }
 
 /// A printed refusal: its number, and the line that it names.
-#[derive(Clone, Copy, Debug, PartialEq, Eq)]
+#[derive(Clone, Copy, PartialEq, Eq)]
 struct Refused {
     code: u8,
     line: Option<u64>,

@@ -9,7 +9,7 @@ use std::alloc::{AllocError, Global};
 use std::fs;
 
 /// A text, and how people call it: a file's name.
-#[derive(Debug, Drop)]
+#[derive(Drop)]
 pub(crate) struct Source<'a> {
     pub(crate) name: &'a str,
     /// None where it can't be read.

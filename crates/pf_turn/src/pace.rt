@@ -42,7 +42,7 @@ const SLOWER: u32 = 16;
 const LONGEST_WAIT: u64 = 100;
 
 /// What is seen of a node when it is to be decided whether its clock ticks.
-#[derive(Clone, Copy, Debug, PartialEq, Eq)]
+#[derive(Clone, Copy, PartialEq, Eq)]
 pub struct View {
     /// How many commands wait to be proposed.
     pub waiting: usize,
@@ -59,7 +59,7 @@ pub struct View {
 }
 
 /// What a node does next.
-#[derive(Clone, Copy, Debug, PartialEq, Eq)]
+#[derive(Clone, Copy, PartialEq, Eq)]
 pub enum Beat {
     /// Its clock ticks.
     Tick,
@@ -79,7 +79,7 @@ pub enum Beat {
 /// Two times are learned. How long an attempt takes, from those that led to something and weren't begun anew meanwhile;
 /// and how long an answer takes, from what was sent once and answered, to be sent again after that. The clock decides
 /// when a tick comes, never what it does: whatever is answered here, a node makes turns and nothing else.
-#[derive(Clone, Copy, Debug)]
+#[derive(Clone, Copy)]
 pub struct Pace {
     me: u8,
     /// When the clock ticked last, in microseconds.

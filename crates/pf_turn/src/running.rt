@@ -69,7 +69,7 @@ fn release<R: Records, W: Wire>(node: &Node<R>, wire: &mut W, from: u32)
 }
 
 /// What a round came to.
-#[derive(Clone, Copy, Debug, PartialEq, Eq)]
+#[derive(Clone, Copy, PartialEq, Eq)]
 pub struct Progress {
     /// For how many turns it counts, 1 at least: each datagram is one, a tick, and a wait.
     pub turns: u32,

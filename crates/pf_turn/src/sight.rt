@@ -16,7 +16,7 @@ const FAR_PLACE: usize = 21;
 
 /// What was seen of other members since the start, by kinds and positions of datagrams alone. It decides when the
 /// clock ticks and what is sent again, and nothing else.
-#[derive(Clone, Copy, Debug, PartialEq, Eq)]
+#[derive(Clone, Copy, PartialEq, Eq)]
 pub(crate) struct Sight {
     /// A position below which some member has learned all, as far as is seen.
     pub(crate) reached: u32,

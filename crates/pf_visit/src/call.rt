@@ -5,7 +5,7 @@ use percent_encoding::{NON_ALPHANUMERIC, utf8_percent_encode};
 use std::alloc::{AllocError, Global};
 
 /// A request as HTTP has it.
-#[derive(Debug, Drop)]
+#[derive(Drop)]
 pub(crate) struct Call {
     pub(crate) method: &'static str,
     pub(crate) target: String,

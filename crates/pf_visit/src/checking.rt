@@ -6,7 +6,7 @@ use pf_grammar::{ParseFault, Place, Profile, parse};
 use std::alloc::{AllocError, Global};
 
 /// Why words aren't asked of a node.
-#[derive(Clone, Copy, Debug, PartialEq, Eq)]
+#[derive(Clone, Copy, PartialEq, Eq)]
 pub(crate) struct Refused {
     /// The number of the refusal.
     pub(crate) code: u8,

@@ -19,7 +19,7 @@ const PATIENCE: u64 = 10;
 const FIELDS: usize = 64;
 
 /// Why there is no answer.
-#[derive(Clone, Copy, Debug, PartialEq, Eq)]
+#[derive(Clone, Copy, PartialEq, Eq)]
 pub enum VisitFault {
     /// A growth was refused.
     Memory,
@@ -36,7 +36,7 @@ impl From<AllocError> for VisitFault {
 }
 
 /// An answer: HTTP's status and the body, and how many positions the node knows the commands of.
-#[derive(Debug, Drop)]
+#[derive(Drop)]
 pub struct Reply {
     pub code: u16,
     pub body: Vec<u8>,

@@ -24,7 +24,7 @@ pub(crate) struct Change<'a> {
 }
 
 /// Why there is no next change.
-#[derive(Clone, Copy, Debug, PartialEq, Eq)]
+#[derive(Clone, Copy, PartialEq, Eq)]
 pub(crate) enum ScriptFault {
     /// A growth was refused.
     Memory,

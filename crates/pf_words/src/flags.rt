@@ -1,7 +1,7 @@
 //! Flags of TCP.
 
 /// Flags of a TCP packet (RFC 9293, 3.1).
-#[derive(Clone, Copy, Debug, PartialEq, Eq)]
+#[derive(Clone, Copy, PartialEq, Eq)]
 pub struct TcpFlags {
     pub fin: bool,
     pub syn: bool,

@@ -1,7 +1,7 @@
 //! Profiles of the grammar.
 
 /// Which words a text may use. Texts of a log keep the profile that they were written for.
-#[derive(Clone, Copy, Debug, PartialEq, Eq)]
+#[derive(Clone, Copy, PartialEq, Eq)]
 pub enum Profile {
     /// The grammar without types of ICMP.
     One,

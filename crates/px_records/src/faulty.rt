@@ -5,7 +5,7 @@ use crate::records::{Records, StoreFault};
 use px_model::{Change, Entry, Meta, Slot};
 
 /// Whether the commit that fails does so before its change is made or after.
-#[derive(Clone, Copy, Debug, PartialEq, Eq)]
+#[derive(Clone, Copy, PartialEq, Eq)]
 pub enum When {
     /// The record is as it was.
     Before,

@@ -3,7 +3,7 @@
 use px_wire::WireFault;
 
 /// What became of a datagram.
-#[derive(Clone, Copy, Debug, PartialEq, Eq)]
+#[derive(Clone, Copy, PartialEq, Eq)]
 pub enum Received {
     /// Its message was taken.
     Done,

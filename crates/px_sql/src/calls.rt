@@ -15,7 +15,7 @@ use crate::formats::Format;
 use sqlite::{Alter, Connection, Error, ErrorCode, Row, params};
 
 /// Whom a store belongs to.
-#[derive(Clone, Copy, Debug, PartialEq, Eq)]
+#[derive(Clone, Copy, PartialEq, Eq)]
 pub struct Identity {
     pub cluster: u32,
     pub members: u8,
@@ -23,7 +23,7 @@ pub struct Identity {
 }
 
 /// Why a statement failed: for want of memory, with nothing changed and the connection serving, or else.
-#[derive(Clone, Copy, Debug, PartialEq, Eq)]
+#[derive(Clone, Copy, PartialEq, Eq)]
 pub(crate) enum Trouble {
     Memory,
     Failed,

@@ -21,7 +21,7 @@ use crate::reading::{NUMBERS, ReadFault, floor_in_rows, number};
 use sqlite::{Alter, Connection, Row};
 
 /// What the row for the whole node says, or nothing.
-#[derive(Clone, Copy, Debug, PartialEq, Eq)]
+#[derive(Clone, Copy, PartialEq, Eq)]
 pub(crate) struct Found {
     pub(crate) has_row: bool,
     pub(crate) cluster: u64,

@@ -32,14 +32,14 @@ pub(crate) const NUMBERS: u64 = 281_474_976_710_656;
 pub(crate) const INTEGERS: u64 = 9_223_372_036_854_775_808;
 
 /// Why a row isn't read: for want of memory, or since no commit writes it.
-#[derive(Clone, Copy, Debug, PartialEq, Eq)]
+#[derive(Clone, Copy, PartialEq, Eq)]
 pub(crate) enum ReadFault {
     Memory,
     Bad,
 }
 
 /// The columns of a slot.
-#[derive(Debug, Drop)]
+#[derive(Drop)]
 pub(crate) struct SlotRow {
     pub(crate) promised: u64,
     pub(crate) ballot: u64,
@@ -220,7 +220,7 @@ pub(crate) fn end_in_rows(rows: &[Row]) -> Result<u32, ReadFault>
 }
 
 /// The numbers of the row for the whole node.
-#[derive(Clone, Copy, Debug, PartialEq, Eq)]
+#[derive(Clone, Copy, PartialEq, Eq)]
 pub(crate) struct Numbers {
     pub(crate) round: u64,
     pub(crate) number: u64,

@@ -10,7 +10,7 @@ use crate::limits::{BALLOTS, FIRST_BALLOT};
 /// `round * 256 + node`, and 0 is none.
 ///
 /// Source: Paxos Made Simple, 2.5, where proposers have numbers of their own.
-#[derive(Clone, Copy, Debug, PartialEq, Eq, PartialOrd, Ord)]
+#[derive(Clone, Copy, PartialEq, Eq, PartialOrd, Ord)]
 pub struct Ballot {
     /// The round, 1 to 2^48-1.
     pub round: u64,

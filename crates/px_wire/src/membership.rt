@@ -6,7 +6,7 @@ ghost use Rattle.std.specs.Prelude.{IsTrue, IsSome, IfSome, ◌↔◌};
 use crate::limits::{ASKER, MEMBERS};
 
 /// A cluster's number, how many members it has, and the number of the one that reads and writes: a member's, or 255.
-#[derive(Clone, Copy, Debug, PartialEq, Eq)]
+#[derive(Clone, Copy, PartialEq, Eq)]
 pub struct Membership {
     cluster: u32,
     members: u8,
