@@ -7,7 +7,7 @@ _pfx() {
     if ((COMP_CWORD == 1)); then
         case $current in
         -*) words="-h --help" ;;
-        *) words="check test ctl lab explain node ask key show follow help" ;;
+        *) words="check test ctl lab explain node ask key show follow batch help" ;;
         esac
         COMPREPLY=($(compgen -W "$words" -- "$current"))
         return
@@ -41,6 +41,7 @@ _pfx() {
         options="--store --nft --interfaces --pf --script --from --count -a -f -n -F -t -T -s"
         words="test log" ;;
     follow) options="--door --nft --interfaces --pf --turns" ;;
+    batch) [[ $current == -* ]] || { COMPREPLY=($(compgen -f -- "$current")); return; } ;;
     help) words="check test ctl lab explain help" ;;
     lab | explain | key) ;;
     *) return ;;

@@ -2,7 +2,7 @@
 
 complete -c pfx -f
 complete -c pfx -s h -l help -d 'Print help' -n 'not __fish_seen_subcommand_from help'
-complete -c pfx -n __fish_use_subcommand -a 'check test ctl lab explain node ask key show follow help'
+complete -c pfx -n __fish_use_subcommand -a 'check test ctl lab explain node ask key show follow batch help'
 complete -c pfx -n '__fish_seen_subcommand_from help' -a 'check test ctl lab explain help'
 
 set -l check '__fish_seen_subcommand_from check'
@@ -79,3 +79,5 @@ complete -c pfx -n "$follow" -l nft -d 'Lines for nft(8)'
 complete -c pfx -n "$follow" -l interfaces -r -F -d 'The interfaces, a line each'
 complete -c pfx -n "$follow" -l pf -x -a '(__fish_complete_directories)' -d 'A folder for texts for pfctl(8)'
 complete -c pfx -n "$follow" -l turns -x -d 'How often the door is asked'
+
+complete -c pfx -n '__fish_seen_subcommand_from batch' -F

@@ -91,7 +91,7 @@ abbrev pub pfx_app : App
 pfx_app =
     let node = with_named (codes "node") scripts_app in
     let key = with_named (codes "key") (with_named (codes "ask") node) in
-    let named = with_named (codes "follow") (with_named (codes "show") key) in
+    let named = with_named (codes "batch") (with_named (codes "follow") (with_named (codes "show") key)) in
     record named { top = record named.top { subcommand_required = true } }
 
 -- ---- what they ask for
@@ -164,7 +164,7 @@ called_by table word rows =
     else (if bytes_eq word (codes "explain") then explain_as table (first_of (codes "code") rows) else None))))
 
 -- what the words ask for, by the word named; nothing where none is, where it is one that is named alone (node, ask,
--- key, show, follow), or where what is given with it isn't understood
+-- key, show, follow, batch), or where what is given with it isn't understood
 abbrev pub called : List Explanation → Option (Text × List Row) → Option CallValue
 called table None = None
 called table (Some (word, rows)) = called_by table word rows

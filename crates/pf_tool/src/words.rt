@@ -289,5 +289,11 @@ pub(crate) fn command<'a>(alloc: Global) -> Result<Command<'a>, AllocError>
         "follow",
         "Follows what a node applies, as rules for a kernel",
     )?;
+    let command = with_named(
+        alloc,
+        command,
+        "batch",
+        "Runs the command lines of a file, each with its input",
+    )?;
     Ok(command.subcommand_required(true))
 }

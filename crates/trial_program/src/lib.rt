@@ -1,4 +1,4 @@
-//! Tests of the words `check` and `test` that are no rows of rows_program: texts at limits, reads and writes that fail,
+//! Tests of the words `check` and `test` that are no rows of pfx: texts at limits, reads and writes that fail,
 //! and what the place and the profile decide, of texts and of loads as entries.
 #![tactic(auto)]
 

@@ -1,0 +1,240 @@
+//! The subcommand `batch`: the command lines of a file, one after another, each with its input.
+//!
+//! A line that begins with `==` is a command line: behind a blank it has the subcommand and its arguments, between
+//! tabs. The lines up to the next one are its input, without the last newline. Before the subcommand may be the marks
+//! `!`, where it must fail, and then `|`, where its input begins with what the last `show` wrote. An argument `*`
+//! stands for the lines before the first command line, but for empty ones and those that begin with `#`; one that
+//! begins with `#` begins a comment. `chmod MODE FILE..` sets the mode of files. Of each command line the output has
+//! the same line, what it writes, each line of its standard error behind `! `, and `-- STATUS`.
+
+use crate::line::{BEGIN, Line, LineFault, arguments_of, line_of, mode_of};
+use crate::running::{run_line, subcommand_of};
+use bstr::ByteSlice;
+use clap::{Arg, ArgAction, Command};
+use pf_io::{InputFault, Status, misused, out_of_memory, read_all};
+use pf_kernel_words::read_file;
+use pf_show_words::run_show;
+use std::alloc::{AllocError, Global};
+use std::fs::{self, Permissions};
+use std::io::{self, Write};
+use std::os::unix::fs::PermissionsExt;
+
+const FILE: &str = "The file of command lines; without one, or with -, it is standard input";
+
+const BELOW: &str =
+    "A line that begins with == is a command line, its arguments between tabs. The lines up to the next are its input:
+  == check\t--anchor\t# a comment
+  block all
+  == !\tcheck
+  bogus
+Before the subcommand may be ! (it must fail) and then | (its input begins with what the last show wrote). An argument
+* stands for the lines before the first command line, but for empty ones and those that begin with #. chmod MODE FILE..
+sets the mode of files, in octal digits.
+
+Each is printed with its output, each line of its standard error behind !, and -- STATUS. What isn't run, as a batch in
+a batch, is refused 40; a file that can't be read, or whose mode can't be set, is refused 90.
+
+Status: 0 where each ended with 0, or with another status where it must fail; else 1, and standard error has each that
+didn't.";
+
+/// The modes that `chmod` takes.
+const BAD_MODE: LineFault = LineFault::Refused(
+    40,
+    "chmod takes a mode of octal digits, 0 to 7777, and files",
+);
+
+/// `batch [FILE]`
+fn command<'a>(alloc: Global) -> Result<Command<'a>, AllocError> {
+    let file = Arg::new(alloc, "file").action(ArgAction::Set).help(FILE);
+    let batch = Command::new(alloc, "batch")
+        .about("Runs the command lines of a file, each with its input")
+        .after_help(BELOW)
+        .arg(file)?;
+    let command = Command::new(alloc, "pfx").subcommand(batch)?;
+    Ok(command.subcommand_required(true))
+}
+
+/// The status of a run behind which this was written.
+fn after(written: io::Result<()>, status: Status) -> Status {
+    match written {
+        Ok(()) => status,
+        Err(_) => Status::Failed,
+    }
+}
+
+/// Writes a line behind its mark.
+fn write_line<W: Write>(writer: &mut W, mark: &[u8], line: &[u8]) -> io::Result<()> {
+    writer.write_all(mark)?;
+    writer.write_all(line)?;
+    writer.write_all(b"\n")
+}
+
+/// Sets the mode of files.
+fn set_modes(rt: &HostRuntime, arguments: &[&str]) -> Result<Status, LineFault> {
+    let [_, _, digits, files @ ..] = arguments else {
+        return Err(BAD_MODE);
+    };
+    let Some(mode) = mode_of(digits) else {
+        return Err(BAD_MODE);
+    };
+    if files.is_empty() {
+        return Err(BAD_MODE);
+    }
+    for file in files {
+        if fs::set_permissions(rt, *file, Permissions::from_mode(mode)).is_err() {
+            return Err(LineFault::Refused(90, "a mode that can't be set"));
+        }
+    }
+    Ok(Status::Done)
+}
+
+/// Writes what a store shows, and keeps it.
+fn run_kept<W: Write>(
+    rt: &HostRuntime,
+    arguments: &[&str],
+    kept: &mut Vec<u8>,
+    writer: &mut W,
+) -> Status {
+    kept.clear();
+    match run_show(rt, rt.alloc(), arguments, kept) {
+        // a growth of what is kept was refused
+        Status::Failed => {
+            kept.clear();
+            out_of_memory(writer)
+        }
+        status => after(writer.write_all(kept.as_slice()), status),
+    }
+}
+
+/// The input of a command line.
+fn input_of(alloc: Global, line: Line<'_>, kept: &[u8]) -> Result<Vec<u8>, AllocError> {
+    let mut input = Vec::new(alloc);
+    if line.is_piped {
+        input.extend_from_slice(kept)?;
+    }
+    input.extend_from_slice(line.text)?;
+    Ok(input)
+}
+
+/// Does what a command line asks for.
+fn status_of<W: Write>(
+    rt: &HostRuntime,
+    shared: &[u8],
+    line: Line<'_>,
+    kept: &mut Vec<u8>,
+    writer: &mut W,
+    errors: &mut Vec<u8>,
+) -> Result<Status, LineFault> {
+    let arguments = arguments_of(rt.alloc(), shared, line.arguments)?;
+    let arguments = arguments.as_slice();
+    match subcommand_of(arguments) {
+        "" => Err(LineFault::Refused(40, "no subcommand")),
+        "batch" => Err(LineFault::Refused(40, "a batch in a batch")),
+        "chmod" => set_modes(rt, arguments),
+        "show" => Ok(run_kept(rt, arguments, kept, writer)),
+        _ => {
+            let input = input_of(rt.alloc(), line, kept.as_slice()).map_err(|_| LineFault::Memory)?;
+            Ok(run_line(rt, arguments, &mut input.as_slice(), writer, errors, false))
+        }
+    }
+}
+
+/// Runs a command line, and writes it with its output, its standard error and its status.
+fn run_one<W: Write>(
+    rt: &HostRuntime,
+    shared: &[u8],
+    line: Line<'_>,
+    kept: &mut Vec<u8>,
+    writer: &mut W,
+) -> io::Result<Status> {
+    write_line(writer, b"==", line.header)?;
+    let mut errors = Vec::new(rt.alloc());
+    let status = match status_of(rt, shared, line, kept, writer, &mut errors) {
+        Ok(status) => status,
+        Err(LineFault::Memory) => out_of_memory(writer),
+        Err(LineFault::Refused(code, why)) => {
+            // that people can't be told changes nothing
+            let _told = errors.extend_from_slice(why.as_bytes());
+            after(writeln!(writer, "refused {code}"), Status::Refused)
+        }
+    };
+    for error in errors.as_slice().lines() {
+        write_line(writer, b"! ", error)?;
+    }
+    writeln!(writer, "-- {}", status.code())?;
+    Ok(status)
+}
+
+/// Runs the command lines of a batch: refused where one didn't end as its mark says.
+fn run_all<W: Write, E: Write>(
+    rt: &HostRuntime,
+    batch: &[u8],
+    writer: &mut W,
+    errors: &mut E,
+) -> io::Result<Status> {
+    let mut parts = batch.split_str(BEGIN);
+    let shared = parts.next().unwrap_or(b"");
+    let mut kept = Vec::new(rt.alloc());
+    let mut ending = Status::Done;
+    for part in parts {
+        let line = line_of(part);
+        let status = run_one(rt, shared, line, &mut kept, writer)?;
+        if (status == Status::Done) == line.must_fail {
+            ending = Status::Refused;
+            // that people can't be told changes nothing
+            let _told = write_line(errors, b"pfx: not as marked: ==", line.header);
+        }
+    }
+    Ok(ending)
+}
+
+/// The batch without its last newline, behind one more, so that its first line may be a command line; none where the
+/// file can't be read.
+fn read_batch(rt: &HostRuntime, file: Option<&str>) -> Result<Option<Vec<u8>>, InputFault> {
+    let alloc = rt.alloc();
+    let read = match file {
+        None | Some("-") => read_all(alloc, &mut rt.reader())?,
+        Some(path) => match read_file(rt, alloc, path) {
+            Ok(Some(read)) => read,
+            Ok(None) => return Ok(None),
+            Err(_) => return Err(InputFault::Memory),
+        },
+    };
+    let lines = read.as_slice();
+    let lines = lines.strip_suffix(b"\n").unwrap_or(lines);
+    let mut batch = Vec::new(alloc);
+    batch.push(b'\n').map_err(|_| InputFault::Memory)?;
+    batch
+        .extend_from_slice(lines)
+        .map_err(|_| InputFault::Memory)?;
+    Ok(Some(batch))
+}
+
+/// What the arguments `batch [FILE]` ask for, the program's name first.
+pub(crate) fn run_batch<W: Write, E: Write>(
+    rt: &HostRuntime,
+    arguments: &[String],
+    writer: &mut W,
+    errors: &mut E,
+) -> Status {
+    let alloc = rt.alloc();
+    let Ok(command) = command(alloc) else {
+        return out_of_memory(writer);
+    };
+    let matches = match command.try_get_matches_from(arguments) {
+        Ok(matches) => matches,
+        Err(error) => return misused(alloc, &error, writer),
+    };
+    let Some(inner) = matches.subcommand_matches("batch") else {
+        return Status::Usage;
+    };
+    match read_batch(rt, inner.get_str("file")) {
+        Ok(Some(batch)) => match run_all(rt, batch.as_slice(), writer, errors) {
+            Ok(status) => status,
+            Err(_) => Status::Failed,
+        },
+        Ok(None) => after(writer.write_all(b"refused 90\n"), Status::Refused),
+        Err(InputFault::Memory) => out_of_memory(writer),
+        Err(InputFault::Failed | InputFault::TooLong) => Status::Failed,
+    }
+}

@@ -1,0 +1,110 @@
+//! The command lines of a batch.
+
+use bstr::ByteSlice;
+use std::alloc::Global;
+
+/// What is before a command line, which has a blank behind it.
+pub(crate) const BEGIN: &[u8] = b"\n==";
+
+/// Why a command line isn't run.
+#[derive(Clone, Copy)]
+pub(crate) enum LineFault {
+    /// A growth was refused.
+    Memory,
+    /// The number of the refusal, and why, for people.
+    Refused(u8, &'static str),
+}
+
+/// That a command line, or a line that it shares, isn't UTF-8.
+const NO_TEXT: LineFault = LineFault::Refused(40, "not UTF-8");
+
+/// A command line with its input.
+#[derive(Clone, Copy)]
+pub(crate) struct Line<'i> {
+    /// The whole line behind `==`.
+    pub header: &'i [u8],
+    /// Its arguments, none where it doesn't begin with a blank.
+    pub arguments: &'i [u8],
+    /// Whether it must fail.
+    pub must_fail: bool,
+    /// Whether its input begins with what the last `show` wrote.
+    pub is_piped: bool,
+    /// Its input, or the rest of it.
+    pub text: &'i [u8],
+}
+
+/// What is behind a mark, and whether the mark was there.
+fn after_mark<'i>(arguments: &'i [u8], mark: &[u8]) -> (&'i [u8], bool) {
+    match arguments.strip_prefix(mark) {
+        Some(rest) => (rest, true),
+        None => (arguments, false),
+    }
+}
+
+/// The command line that begins this part of a batch, with its input.
+pub(crate) fn line_of<'i>(part: &'i [u8]) -> Line<'i> {
+    let (header, text) = match part.split_once_str(b"\n") {
+        Some(both) => both,
+        None => (part, b"".as_slice()),
+    };
+    let arguments = header.strip_prefix(b" ").unwrap_or(b"");
+    let (arguments, must_fail) = after_mark(arguments, b"!\t");
+    let (arguments, is_piped) = after_mark(arguments, b"|\t");
+    Line {
+        header,
+        arguments,
+        must_fail,
+        is_piped,
+        text,
+    }
+}
+
+/// Adds an argument.
+fn push<'i>(arguments: &mut Vec<&'i str>, argument: &'i str) -> Result<(), LineFault> {
+    arguments.push(argument).map_err(|_| LineFault::Memory)
+}
+
+/// Adds each shared line as an argument, but for empty ones and comments.
+fn push_shared<'i>(arguments: &mut Vec<&'i str>, shared: &'i [u8]) -> Result<(), LineFault> {
+    let Ok(shared) = std::str::from_utf8(shared) else {
+        return Err(NO_TEXT);
+    };
+    for line in shared.lines() {
+        if !line.is_empty() && !line.starts_with('#') {
+            push(arguments, line)?;
+        }
+    }
+    Ok(())
+}
+
+/// The arguments of a command line, the program's name first, with the shared lines for `*` and without a comment.
+pub(crate) fn arguments_of<'i>(
+    alloc: Global,
+    shared: &'i [u8],
+    line: &'i [u8],
+) -> Result<Vec<&'i str>, LineFault> {
+    let Ok(line) = std::str::from_utf8(line) else {
+        return Err(NO_TEXT);
+    };
+    let mut arguments = Vec::new(alloc);
+    push(&mut arguments, "pfx")?;
+    for argument in line.split('\t') {
+        if argument.starts_with('#') {
+            break;
+        }
+        if argument == "*" {
+            push_shared(&mut arguments, shared)?;
+        } else {
+            push(&mut arguments, argument)?;
+        }
+    }
+    Ok(arguments)
+}
+
+/// A file's mode in octal digits.
+pub(crate) fn mode_of(digits: &str) -> Option<u32> {
+    match u32::from_str_radix(digits, 8) {
+        Ok(mode) if mode <= 0o7777 => Some(mode),
+        _ => None,
+    }
+}
