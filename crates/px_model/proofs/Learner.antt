@@ -24,7 +24,7 @@ among_without {C} same e (y ∷ ys) x a =
       | inr c ↦ (let r = among_without same e ys x c in (inr r.0, r.1))
     ]) a
 
-same_entry_self : {C : Type 0} (same : C → C → Bool) → IsEquality same → (e : Entry C) → same_entry same e e ≡ true
+pub same_entry_self : {C : Type 0} (same : C → C → Bool) → IsEquality same → (e : Entry C) → same_entry same e e ≡ true
 same_entry_self same exact e =
     and_from (eqb e.origin e.origin) (eqb e.number e.number && same e.command e.command)
     (eq-eqb e.origin e.origin refl)

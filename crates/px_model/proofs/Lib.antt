@@ -28,3 +28,12 @@ pub mod Commands
 pub mod Enough
 pub mod Rising
 pub mod Weaker
+pub mod Going
+pub mod Replies
+pub mod Attempts
+pub mod Promising
+pub mod Voting
+pub mod Finishing
+pub mod CatchingUp
+pub mod Following
+pub mod ProgressCases

@@ -125,7 +125,7 @@ real_up : {C : Type 0} (h h' : List (Acceptance C)) (m p low high : ℕ) (a : Op
 real_up h h' m p low high None le more r = tt
 real_up h h' m p low high (Some x) le more r = (more x.ballot x.entry r.0, (let u = r.1 in omega arith))
 
-at_most_real : {C : Type 0} (h : List (Acceptance C)) (m p promised b c : ℕ) (a : Option (Proposal C)) → promised ≤ b → AtMost a c → IsReal h m p promised a → c ≤ b
+pub at_most_real : {C : Type 0} (h : List (Acceptance C)) (m p promised b c : ℕ) (a : Option (Proposal C)) → promised ≤ b → AtMost a c → IsReal h m p promised a → c ≤ b
 at_most_real h m p promised b c None le at r = absurd at
 at_most_real h m p promised b c (Some x) le at r = let u = r.1 in omega arith
 

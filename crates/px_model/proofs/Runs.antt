@@ -113,7 +113,7 @@ module _ {C : Type 0} (same : C → C → Bool) (exact : IsEquality same) (n : �
   comes_ok w (Tick k) m input is = subst (λ (o : Option (ℕ × Input C)). InputOf w o) is tt
   comes_ok w (Deliver k) m input is = delivered_ok w (slice_get w.sent k) (λ x e. among_get w.sent k x e) m input is
 
-  happens_ok : (w : World C) → Good n w → (e : Event C) → Good n (happens same n w e)
+  pub happens_ok : (w : World C) → Good n w → (e : Event C) → Good n (happens same n w e)
   unfolding happens
   happens_ok w good (Runs a) = at_member_ok w good (comes_to w a) _ (λ m input is member. goes_on_ok w good.0 good.1 m member input (step_in same n w m input) (step_ok w good.0 m good.1 input (comes_ok w a m input is)))
   happens_ok w good (StopBefore a) = at_member_ok w good (comes_to w a) _ (λ m input is member. emptied_ok w good.0 good.1 m member false)

@@ -47,7 +47,7 @@ module _ {C : Type 0} (same : C → C → Bool) (n : ℕ) where
     votes = λ m lt q. (let s = c.votes m lt q in (s.0, run_sent same n _ es w s.1));
   }
 
-  run_append : (xs ys : List (Event C)) (w : World C) → run same n (xs ++ ys) w ≡ run same n ys (run same n xs w)
+  pub run_append : (xs ys : List (Event C)) (w : World C) → run same n (xs ++ ys) w ≡ run same n ys (run same n xs w)
   run_append [] ys w = refl
   run_append (e ∷ xs) ys w = run_append xs ys (happens same n w e)
 

@@ -13,4 +13,6 @@ pub mod Entries
 pub mod Seen
 pub mod Bounds
 pub mod Rising
+pub mod Progress
+pub mod ProgressCases
 pub mod inner

@@ -6,6 +6,7 @@ ghost use Rattle.px_model.specs.FitsCases.{BallotsThatFit, OthersThatFit, RowsTh
 ghost use Rattle.px_model.specs.MoreCases.{AProposalFromNothing, ALeadComesToTheFront, APromiseHereBindsToo};
 ghost use Rattle.px_model.specs.MoreCases.{TheBordersAreExact, LearningLetsGo, NeedIsAnswered, NothingIsLearnedTwice};
 ghost use Rattle.px_model.specs.MoreCases.{AStopKeepsWhatWasRecorded};
+ghost use Rattle.px_model.specs.ProgressCases.{AMajorityFinishes, TheLawsApply};
 ghost use Rattle.px_model.specs.Worked.{ALaterBallotTakesTheAcceptedEntry, AVoteCountsOnceAMember};
 ghost use Rattle.px_model.specs.Worked.{WhatWasLearnedIsKept, AStopAfterTheRound, LearnedOutOfOrder};
 ghost use Rattle.px_model.specs.Worked.{NoLeadBelowACountedTop};
@@ -138,4 +139,14 @@ pub fn others_that_fit()
 /// A record has rounds and numbers that aren't past the last, promises of members, and nothing accepted above them.
 pub fn rows_that_fit()
     ensures { RowsThatFit }
+{}
+
+/// A refused member learns of the higher round, proposes what another had accepted there, and then its own entry.
+pub fn a_majority_finishes()
+    ensures { AMajorityFinishes }
+{}
+
+/// The premises of the laws of progress hold when a member was asked and nothing else happened.
+pub fn the_laws_apply()
+    ensures { TheLawsApply }
 {}
