@@ -258,12 +258,12 @@ pub record Later (g : Group) (c d : Cluster) : Type 0 where
   pub early : IsWorld g c (run same g.members before start)
   pub late : IsWorld g d (run same g.members (before ++ more) start)
 
-split : (g : Group) (hs more : List Happening) (c : Cluster) → MayAllHappen g (hs ++ more) c →
+pub split : (g : Group) (hs more : List Happening) (c : Cluster) → MayAllHappen g (hs ++ more) c →
     MayAllHappen g hs c × MayAllHappen g more (after hs c)
 split g [] more c may = (tt, may)
 split g (h ∷ hs) more c may = let s = split g hs more (next c h) may.1 in ((may.0, s.0), s.1)
 
-after_both : (hs more : List Happening) (c : Cluster) → after (hs ++ more) c ≡ after more (after hs c)
+pub after_both : (hs more : List Happening) (c : Cluster) → after (hs ++ more) c ≡ after more (after hs c)
 after_both [] more c = refl
 after_both (h ∷ hs) more c = after_both hs more (next c h)
 

@@ -1,3 +1,6 @@
 pub mod Clusters
 pub mod Promised
 pub mod Lives
+pub mod Wires
+pub mod Carried
+pub mod Runs

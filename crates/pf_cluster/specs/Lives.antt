@@ -6,7 +6,6 @@ use Rattle.px_wire.specs.Message.{Group}
 use Rattle.px_replica.specs.Lives.{Deed, Lived}
 use Rattle.px_replica.specs.Spelled.{for_members}
 use Rattle.px_replica.specs.declared.datagram.Datagram.{Datagram}
-use Rattle.pf_cluster.specs.Clusters as clusters
 use Rattle.pf_cluster.specs.Clusters.{Happening, IsDelivered, MayAllHappen, begun}
 
 -- the member that it happens to

@@ -1,2 +1,4 @@
-mod Asking
-mod Going
+pub mod Asking
+pub mod Going
+mod Lives
+mod Opening

@@ -1,3 +1,4 @@
 pub mod Runs
+pub mod Lives
 pub mod Wiring
 pub mod inner

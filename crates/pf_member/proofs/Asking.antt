@@ -1,19 +1,13 @@
 -- An ask has 255 where a datagram has its sender.
-use Rattle.std.proofs.Common.{◌≡◌, ◌≢◌, ◌∙◌, ℕ, true, false, cond, leb, eqb, List, Result, refl, sym, ap, subst}
-use Rattle.std.specs.Prelude.{◌==◌, ◌&&◌, ◌||◌, not, slice_index}
+use Rattle.std.proofs.Common.{◌≡◌, ◌∙◌, ℕ, true, leb, eqb, List, refl, ap, subst}
+use Rattle.std.specs.Prelude.{◌==◌, ◌&&◌, slice_index}
 use Rattle.std.proofs.lemmas.Bool.{and_parts}
 use Rattle.px_model.specs.Node as node
 use Rattle.px_model.specs.Node.Message.{Ask}
 use Rattle.px_model.specs.Spelling.{Bytes}
 use Rattle.px_records.specs.declared.records.Records.{Ghosts}
-use Rattle.px_wire.specs.Message as messages
 use Rattle.px_wire.specs.Message.{Group, Message, is_kind, DatagramBytes, spelling}
 use Rattle.px_wire.specs.Members.{as_sent}
-use Rattle.px_replica.specs.Calls.{IsTaken}
-use Rattle.px_replica.specs.declared.datagram.Datagram.{Datagram}
-use Rattle.px_replica.specs.declared.fault.NodeFault.{NodeFault}
-use Rattle.px_replica.specs.declared.receiving.Received.{Received}
-use Rattle.px_replica.specs.declared.state.Replica.{Replica}
 use Rattle.pf_member.specs.Asking.{MembersAskNothing}
 
 -- the sender's place

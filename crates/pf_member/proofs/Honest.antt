@@ -1,76 +1,113 @@
--- A record that is honest after turns was honest before them.
-use Rattle.std.proofs.Common.{◌≡◌, ◌≢◌, ◌∙◌, ℕ, zero, suc, List, Option, Some, None, Result, refl, sym, ap, subst, inl, inr, false}
+-- What became of a record in a run, in the words of the model.
+use Rattle.std.proofs.Common.{◌≢◌, ◌∙◌, ℕ, List, ◌∷◌, ◌++◌, Option, Some, None, sym, ap, subst}
 use Rattle.px_model.specs.Node.{Record}
 use Rattle.px_model.specs.Spelling.{Bytes}
 use Rattle.px_model.specs.World.{NodeState, started}
-use Rattle.px_model.specs.Step.{front}
 use Rattle.px_records.specs.declared.records.Records.{Ghosts}
 use Rattle.px_wire.specs.Message.{group}
 use Rattle.px_wire.specs.declared.membership.Membership.{Membership}
 use Rattle.px_replica.specs.Lives.{Lived}
-use Rattle.px_replica.specs.Replicas.{records_of, learned_by, membership_of, has_failed, state_in}
-use Rattle.px_replica.specs.declared.datagram.Datagram.{Datagram}
+use Rattle.px_replica.specs.Lives.Deed.{Stops, Opens}
 use Rattle.px_replica.specs.declared.fault.NodeFault.{NodeFault}
 use Rattle.px_replica.specs.declared.fault.NodeFault.TheVariants as fault
-use Rattle.px_replica.specs.declared.state.Replica.{Replica}
-use Rattle.pf_turn.specs.Turns.{Acts, Stand, Turned, Turns, Ends, Served}
-use Rattle.pf_turn.specs.Living.{LeavesThere, Living, TurnsAreLived}
-use Rattle.pf_member.specs.Lives.{Tells, Serves, Life, LivedOver, RunsAreLived}
+use Rattle.pf_node.specs.Nodes.{records_of, state_in}
+use Rattle.pf_node.specs.declared.state.Node.{Node}
+use Rattle.pf_turn.specs.Living.{Heard, message_in, messages_of, Brings, AreBrought, LeavesThere, Living, TurnsAreLived}
+use Rattle.pf_turn.proofs.Traffic.{messages_then, are_brought, brought_then}
+use Rattle.pf_turn.proofs.Lives.{lived_then, served_before}
+use Rattle.pf_member.specs.Lives.{Told, stands, Tells, Serves, Life, LivedOver, RunsAreLived, OneLife, RunsGoOn}
 use Rattle.pf_member.specs.declared.ended.Ended.{Ended}
 use Rattle.pf_member.specs.declared.ended.Ended.TheVariants.{Fault}
 
-before : {R : Type 0} {G : Ghosts R} (x y : Replica R G) (came : Option Bytes) (out : List Datagram) (a : Option NodeFault) →
-    Acts x y came out a → G.is_honest (records_of y) → G.is_honest (records_of x)
-before x y None out a call = call.was
-before {R} {G} x y (Some bytes) out a (r, inl lost, is) =
-    subst (λ (z : Replica R G). G.is_honest (records_of z) → G.is_honest (records_of x)) (sym lost.still) (λ h. h)
-before {R} {G} x y (Some bytes) out a (r, inr (inl passed), is) =
-    subst (λ (z : Replica R G). G.is_honest (records_of z) → G.is_honest (records_of x)) (sym passed.still) (λ h. h)
-before x y (Some bytes) out a (r, inr (inr taken), is) = taken.call.was
+-- ---- one run
 
-turns_before : {R : Type 0} {G : Ghosts R} (n : ℕ) (x y : Stand G) → Turns n x y → G.is_honest (records_of y.replica) →
-    G.is_honest (records_of x.replica)
-turns_before {R} {G} zero x y same honest = subst (λ (z : Replica R G). G.is_honest (records_of z)) same.replica honest
-turns_before (suc n) x y (w, turns, turn) honest =
-    turns_before n x w turns (before w.replica y.replica turn.came turn.out None turn.acts honest)
+module _ {R : Type 0} (G : Ghosts R) (How : (s t : Node R G) → Type 0)
+    (before : (s t : Node R G) → How s t → G.is_honest (records_of t) → G.is_honest (records_of s)) where
+  -- it was honest as it was opened, if it is as it is given back
+  pub at_start : (m : Membership) (given back : R) → G.is_honest back → (l : Life G How m given back) → G.is_honest (records_of l.begun)
+  at_start m given back honest l =
+      before l.begun l.done l.went (subst (λ (r : R). G.is_honest r) l.closed honest)
 
-ends_before : {R : Type 0} {G : Ghosts R} (x y : Stand G) (a : Option NodeFault) → Ends x y a → G.is_honest (records_of y.replica) →
-    G.is_honest (records_of x.replica)
-ends_before {R} {G} x y None same honest = subst (λ (z : Replica R G). G.is_honest (records_of z)) same.replica honest
-ends_before x y (Some e) turn honest = before x.replica y.replica turn.came turn.out (Some e) turn.acts honest
-
-served_before : {R : Type 0} {G : Ghosts R} (x y : Stand G) (a : Option NodeFault) → Served x y a → G.is_honest (records_of y.replica) →
-    G.is_honest (records_of x.replica)
-served_before x y a s honest = turns_before s.turns x s.then s.made (ends_before s.then y a s.last honest)
+  -- a life from where the node began is one from what its record held
+  pub life_lived : (m : Membership) (given back : R) (w v : Told) (a : Option NodeFault) → G.is_honest back → (l : Life G How m given back) →
+      Living (stands l.begun w) (stands l.done v) a → LivedOver G m given back w v
+  life_lived m given back w v a honest l living =
+      let began = l.starts (at_start m given back honest l) in
+      let deeds = living.deeds in
+      record {
+        deeds = deeds;
+        then = living.then;
+        lived = subst (λ (b : NodeState Bytes). Lived (group m) m.me b deeds living.then) began
+            (subst (λ (n : Membership). Lived (group n) n.me (state_in l.begun) deeds living.then) l.membership living.lived);
+        up = living.up;
+        came = living.came;
+        last = living.last;
+        brought = subst (λ (n : Membership). Brings (group n) n.me living.came (messages_of deeds)) l.membership living.brought;
+        gave = living.gave;
+        sent = living.sent;
+        stays = λ none. ap G.stored l.closed
+            ∙ ap (λ (t : NodeState Bytes). t.stored) (living.stays (sym (ap G.failed l.closed) ∙ none));
+        stop = λ left may. subst (λ (n : Membership). LeavesThere (group n) n.me living.last living.then left) l.membership
+            (living.stop left (subst (λ (r : R). G.may_leave r left) l.closed may));
+      }
 
 -- a run that doesn't end with a fault of the store has none
-not_store : (n : ℕ) (a : Option NodeFault) (ended : Ended) → Tells n a ended → ended ≢ Fault fault.Store → a ≢ Some fault.Store
-not_store n None ended told other h = absurd cc
-not_store n (Some e) ended told other h = other (told ∙ ap (λ (o : Option NodeFault). Fault (of o)) h)
+not_store : (n k : ℕ) (a : Option NodeFault) (ended : Ended) → Tells n k a ended → ended ≢ Fault fault.Store → a ≢ Some fault.Store
+not_store n k None ended told other h = absurd cc
+not_store n k (Some e) ended told other h = other (told ∙ ap (λ (o : Option NodeFault). Fault (of o)) h)
   where
     of : Option NodeFault → NodeFault
     of None = fault.Store
     of (Some e) = e
 
 pub runs_lived : {R : Type 0} (G : Ghosts R) → TurnsAreLived G → RunsAreLived G
-runs_lived {R} G law m given back ended honest life =
-    let s = life.serves in
-    let at_end : G.is_honest (records_of s.to.replica) =
-    subst (λ (z : Replica R G). G.is_honest (records_of z)) (sym s.ends) (subst (λ (r : R). G.is_honest r) life.closed honest) in
-    let at_start : G.is_honest (records_of life.begun) =
-    subst (λ (z : Replica R G). G.is_honest (records_of z)) s.begins (served_before s.from s.to s.answered s.served at_end) in
-    let works : has_failed s.from.replica ≡ false = ap (λ (z : Replica R G). has_failed z) s.begins ∙ life.works in
-    let living = law s.from s.to s.answered at_end works s.served in
-    let member : membership_of s.from.replica ≡ m = ap (λ (z : Replica R G). membership_of z) s.begins ∙ life.membership in
-    let began : state_in s.from.replica ≡ started (G.stored given) = ap (λ (z : Replica R G). state_in z) s.begins ∙ life.starts at_start in
-    let back_is : back ≡ records_of s.to.replica = life.closed ∙ sym (ap (λ (z : Replica R G). records_of z) s.ends) in
+runs_lived {R} G law m given back w v ended honest l =
+    let s = l.went in
+    let before = λ (x y : Node R G) (k : Serves x y w v ended) (h : G.is_honest (records_of y)).
+    served_before (stands x w) (stands y v) k.answered k.served h in
+    let at_end = subst (λ (r : R). G.is_honest r) l.closed honest in
+    let lives = law (stands l.begun w) (stands l.done v) s.answered at_end l.works s.served in (
+      life_lived G (λ x y. Serves x y w v ended) before m given back w v s.answered honest l lives.0,
+      λ other. ap G.failed l.closed ∙ lives.1 (not_store _ _ s.answered ended s.told other),
+    )
+
+-- ---- several runs
+
+one_life : {R : Type 0} (G : Ghosts R) (m : Membership) (given back : R) (w v : Told) → LivedOver G m given back w v → OneLife G m (G.stored given) back
+one_life G m given back w v l = record {
+  deeds = l.deeds;
+  then = l.then;
+  lived = l.lived;
+  up = l.up;
+  gave = l.came;
+  last = l.last;
+  brought = are_brought (group m) m.me l.came (messages_of l.deeds) l.brought;
+  stays = l.stays;
+  stop = l.stop;
+}
+
+next_life : {R : Type 0} (G : Ghosts R) (m : Membership) (first : Record Bytes) (back given end : R) (w v : Told) → OneLife G m first back →
+    G.may_leave back (G.stored given) → LivedOver G m given end w v → OneLife G m first end
+next_life G m first back given end w v a may b =
+    let g = group m in
+    let left = G.stored given in
+    let s = a.stop left may in
+    let tail = Stops s.0 left ∷ Opens ∷ b.deeds in
+    let last : AreBrought g m.me (a.last ++ b.came) (messages_of tail) =
+    brought_then g m.me a.last b.came (message_in s.0) (messages_of b.deeds) s.2
+    (are_brought g m.me b.came (messages_of b.deeds) b.brought) in
     record {
-      deeds = living.deeds;
-      then = living.then;
-      lived = subst (λ (b : NodeState Bytes). Lived (group m) m.me b living.deeds living.then) began
-          (subst (λ (n : Membership). Lived (group n) n.me (state_in s.from.replica) living.deeds living.then) member living.lived);
-      stays = λ other. ap G.stored back_is ∙ ap (λ (t : NodeState Bytes). t.stored)
-          (living.stays (not_store _ s.answered ended s.told other));
-      stop = λ left may. subst (λ (n : Membership). LeavesThere (group n) n.me living.then left) member
-          (living.stop left (subst (λ (r : R). G.may_leave r left) back_is may));
+      deeds = a.deeds ++ tail;
+      then = b.then;
+      lived = lived_then g m.me (started first) a.then b.then a.deeds tail a.lived (a.up, s.1, s.3, b.lived);
+      up = b.up;
+      gave = a.gave ++ (a.last ++ b.came);
+      last = b.last;
+      brought = subst (λ (ms : List Heard). AreBrought g m.me (a.gave ++ (a.last ++ b.came)) ms) (sym (messages_then a.deeds tail))
+          (brought_then g m.me a.gave (a.last ++ b.came) (messages_of a.deeds) (messages_of tail) a.brought last);
+      stays = b.stays;
+      stop = b.stop;
     }
+
+pub runs_go_on : {R : Type 0} (G : Ghosts R) → RunsGoOn G
+runs_go_on G = record { one = one_life G; next = next_life G }

@@ -1,44 +1,56 @@
--- A member's run over its record.
-use Rattle.std.specs.Prelude.{◌≡◌, ◌≢◌, ◌⊎◌, ℕ, false, List, Option, Some, None}
+-- A member's run over its record and its wire.
+use Rattle.std.specs.Prelude.{◌≡◌, ◌≢◌, ◌⊎◌, ℕ, true, false, List, ◌++◌, Option, Some, None}
 use Rattle.px_model.specs.Node.{Record}
 use Rattle.px_model.specs.Step.{front}
 use Rattle.px_model.specs.Spelling.{Bytes}
 use Rattle.px_model.specs.World.{NodeState, started}
 use Rattle.px_records.specs.declared.records.Records.{Ghosts}
+use Rattle.px_transport.specs.Wires.{GrowsBy}
+use Rattle.px_transport.specs.declared.wire.Wire as wires
 use Rattle.px_wire.specs.Message.{group}
 use Rattle.px_wire.specs.declared.membership.Membership.{Membership}
 use Rattle.px_replica.specs.Calls.{OpenRefused}
 use Rattle.px_replica.specs.Lives.{Deed, Lived}
-use Rattle.px_replica.specs.Replicas.{records_of, learned_by, membership_of, has_failed, state_in}
 use Rattle.px_replica.specs.declared.fault.NodeFault.{NodeFault}
 use Rattle.px_replica.specs.declared.fault.NodeFault.TheVariants as fault
-use Rattle.px_replica.specs.declared.state.Replica.{Replica}
+use Rattle.pf_node.specs.Nodes.{replica_of, records_of, learned_by, membership_of, has_failed, state_in, applied_of}
+use Rattle.pf_node.specs.declared.state.Node.{Node}
 use Rattle.pf_turn.specs.Turns.{Stand, Served}
-use Rattle.pf_turn.specs.Living.{LeavesThere}
+use Rattle.pf_turn.specs.Living.{messages_of, Brings, AreBrought, sent_by, LeavesThere}
 use Rattle.pf_member.specs.declared.ended.Ended.{Ended}
 use Rattle.pf_member.specs.declared.ended.Ended.TheVariants.{Front, Fault, NoWire}
 
--- What is said of turns at whose end so many positions are learned without a gap: how many these are, or the fault.
--- Where there is no wire, or memory is wanting before the first turn, none is made.
-abbrev pub Tells : (front : ℕ) → (answered : Option NodeFault) → Ended → Type 0
-Tells n None ended =
-    ((applied : ℕ) × (ended ≡ Front n applied)) ⊎ ((ended ≡ NoWire) ⊎ (ended ≡ Fault fault.Memory))
-Tells n (Some e) ended = ended ≡ Fault e
+-- ---- a run
 
--- turns of the member and nothing else led from one state to the other
-pub record Serves {R : Type 0} {G : Ghosts R} (s t : Replica R G) (ended : Ended) : Type 0 where
-  pub from : Stand G
-  pub to : Stand G
-  pub begins : from.replica ≡ s
-  pub ends : to.replica ≡ t
+-- what a wire gave so far, and what it was handed, where it tells these
+pub record Told : Type 0 where
+  pub given : Option (List Bytes)
+  pub handed : Option (List (ℕ × Bytes))
+
+abbrev pub told_by : {W : Type 0} → wires.Ghosts W → W → Told
+told_by H w = record { given = H.given w; handed = H.handed w }
+
+-- a node with what its wire tells
+abbrev pub stands : {R : Type 0} {G : Ghosts R} → Node R G → Told → Stand G
+stands n w = record { replica = replica_of n; given = w.given; handed = w.handed }
+
+-- What is said of turns at whose end so many positions are learned without a gap and so many are applied: how many these
+-- are, or the fault. Where there is no wire, or memory is wanting before the first turn, none is made.
+abbrev pub Tells : (front applied : ℕ) → (answered : Option NodeFault) → Ended → Type 0
+Tells n applied None ended = (ended ≡ Front n applied) ⊎ ((ended ≡ NoWire) ⊎ (ended ≡ Fault fault.Memory))
+Tells n applied (Some e) ended = ended ≡ Fault e
+
+-- turns of the node and nothing else led from one to the other, and these went over its wire
+pub record Serves {R : Type 0} {G : Ghosts R} (s t : Node R G) (w v : Told) (ended : Ended) : Type 0 where
   pub answered : Option NodeFault
-  pub served : Served from to answered
-  pub told : Tells (front (learned_by t)) answered ended
+  pub served : Served (stands s w) (stands t v) answered
+  pub told : Tells (front (learned_by t)) (applied_of t) answered ended
 
--- A record is opened, turns of the member and nothing else are made, and it is given back.
-pub record Life {R : Type 0} (G : Ghosts R) (m : Membership) (given : R) (ended : Ended) (back : R) : Type 0 where
-  pub begun : Replica R G
-  pub done : Replica R G
+-- A record is opened, the node goes on in some way, and the record is given back.
+pub record Life {R : Type 0} (G : Ghosts R) (How : (s t : Node R G) → Type 0) (m : Membership) (given back : R) :
+    Type 0 where
+  pub begun : Node R G
+  pub done : Node R G
   -- it is opened
   pub membership : membership_of begun ≡ m
   pub works : has_failed begun ≡ false
@@ -46,28 +58,63 @@ pub record Life {R : Type 0} (G : Ghosts R) (m : Membership) (given : R) (ended 
   pub starts : G.is_honest (records_of begun) → state_in begun ≡ started (G.stored given)
   pub stop : G.is_honest (records_of begun) → (left : Record Bytes) → G.may_leave (records_of begun) left →
       G.may_leave given left
-  -- turns are made
-  pub serves : Serves begun done ended
+  -- it goes on
+  pub went : How begun done
   -- it is given back
   pub closed : back ≡ records_of done
 
--- a record isn't opened, or it is, and turns are made
-abbrev pub Runs : {R : Type 0} → (G : Ghosts R) → Membership → (given : R) → Ended → (back : R) → Type 0
-Runs G m given ended back =
-    ((e : NodeFault) × (ended ≡ Fault e) × OpenRefused G m.members given e back) ⊎ Life G m given ended back
+-- a record isn't opened, and nothing goes over the wire; or it is, and turns are made over it and nothing else is done
+abbrev pub Runs : {R : Type 0} → (G : Ghosts R) → Membership → (given : R) → (w v : Told) → Ended → (back : R) → Type 0
+Runs G m given w v ended back =
+    ((e : NodeFault) × (ended ≡ Fault e) × OpenRefused G m.members given e back × (v ≡ w))
+    ⊎ Life G (λ s t. Serves s t w v ended) m given back
+
+-- ---- a life
 
 -- Steps of the model, one after the other, befell the member from what its record held on, up to the call that failed,
--- if one did. That is what the record holds then, unless its store failed; and whatever a stop leaves of it is that, or
--- that with the change of the next step.
-pub record LivedOver {R : Type 0} (G : Ghosts R) (m : Membership) (given back : R) (ended : Ended) : Type 0 where
+-- if one did. That is what the record holds then, unless a call on it failed; and whatever a stop leaves of it is that,
+-- or that with the change of the next step.
+-- The wire gave the datagrams that are the messages which came, each in its place, others that are nobody's, and last
+-- what came for the call that failed and after it; and it was handed what the steps handed out and nothing else.
+pub record LivedOver {R : Type 0} (G : Ghosts R) (m : Membership) (given back : R) (w v : Told) : Type 0 where
   pub deeds : List Deed
   pub then : NodeState Bytes
   pub lived : Lived (group m) m.me (started (G.stored given)) deeds then
-  pub stays : ended ≢ Fault fault.Store → G.stored back ≡ then.stored
-  pub stop : (left : Record Bytes) → G.may_leave back left → LeavesThere (group m) m.me then left
+  pub up : then.is_up ≡ true
+  pub came : List Bytes
+  pub last : List Bytes
+  pub brought : Brings (group m) m.me came (messages_of deeds)
+  pub gave : GrowsBy w.given (came ++ last) v.given
+  pub sent : GrowsBy w.handed (sent_by deeds) v.handed
+  pub stays : G.failed back ≡ 0 → G.stored back ≡ then.stored
+  pub stop : (left : Record Bytes) → G.may_leave back left → LeavesThere (group m) m.me last then left
 
--- a run's life, over a record that is honest as it is given back, is a life of the model
+-- a run's life, over a record that is honest as it is given back, is a life of the model; and a call on the record
+-- failed where the run ends with a fault of the store, and nowhere else
 abbrev pub RunsAreLived : {R : Type 0} → Ghosts R → Type 0
-RunsAreLived G =
-    (m : Membership) (given back : _) (ended : Ended) → G.is_honest back → Life G m given ended back →
-    LivedOver G m given back ended
+RunsAreLived {R} G =
+    (m : Membership) (given back : R) (w v : Told) (ended : Ended) → G.is_honest back →
+    Life G (λ s t. Serves s t w v ended) m given back →
+    LivedOver G m given back w v × (ended ≢ Fault fault.Store → G.failed back ≡ 0)
+
+-- ---- one life of several runs
+
+-- Steps of the model befell the member one after the other, from an opening of this record on, through whatever runs:
+-- each message that came was brought by a datagram that a wire gave.
+pub record OneLife {R : Type 0} (G : Ghosts R) (m : Membership) (first : Record Bytes) (back : R) : Type 0 where
+  pub deeds : List Deed
+  pub then : NodeState Bytes
+  pub lived : Lived (group m) m.me (started first) deeds then
+  pub up : then.is_up ≡ true
+  pub gave : List Bytes
+  pub last : List Bytes
+  pub brought : AreBrought (group m) m.me gave (messages_of deeds)
+  pub stays : G.failed back ≡ 0 → G.stored back ≡ then.stored
+  pub stop : (left : Record Bytes) → G.may_leave back left → LeavesThere (group m) m.me last then left
+
+-- A run is one life. Where the next one finds what a stop may have left, both are one life: so are all that follow one
+-- another over one store.
+pub record RunsGoOn {R : Type 0} (G : Ghosts R) : Type 0 where
+  pub one : (m : Membership) (given back : R) (w v : Told) → LivedOver G m given back w v → OneLife G m (G.stored given) back
+  pub next : (m : Membership) (first : Record Bytes) (back given end : R) (w v : Told) → OneLife G m first back →
+      G.may_leave back (G.stored given) → LivedOver G m given end w v → OneLife G m first end

@@ -1,17 +1,23 @@
 //! What holds of members' runs.
 
 ghost use Rattle.pf_member.specs.Asking.{MembersAskNothing};
-ghost use Rattle.pf_member.specs.Lives.{RunsAreLived};
+ghost use Rattle.pf_member.specs.Lives.{RunsAreLived, RunsGoOn};
 
 use pf_turn::laws::turns_are_lived;
 use px_records::Records;
 
-/// What a run did to its record is a life of the model, from what the record held on.
+/// What a run did to its record and over its wire is a life of the model, from what the record held on.
 pub fn runs_are_lived<R: Records>()
     ensures { RunsAreLived R.Records }
 {
     turns_are_lived::<R>();
 }
+
+/// Runs that follow one another over one store, where each opening finds what a stop may have left, are one life of the
+/// member.
+pub fn runs_go_on<R: Records>()
+    ensures { RunsGoOn R.Records }
+{}
 
 /// A datagram whose byte for the sender isn't 255 asks nothing of a member, whatever else it has. Such are all that a
 /// `MembersWire` of px_seal gives.

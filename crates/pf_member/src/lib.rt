@@ -3,7 +3,9 @@
 //! # Organization
 //!
 //! - [`run_member`]: a record is opened, turns are made over a wire, and the record is given back. [`Ended`].
-//! - `specs/Lives` says what becomes of the record; [`laws`] that this is a life of the model.
+//!   [`open_member`] where there is no wire.
+//! - `specs/Lives` says what becomes of the record and what went over the wire; [`laws`] that this is a life of the
+//!   model, and that runs which follow one another over one store are one life.
 #![tactic(auto)]
 
 mod ended;
@@ -11,6 +13,6 @@ pub mod laws;
 mod member;
 
 pub use ended::Ended;
-pub use member::run_member;
+pub use member::{open_member, run_member};
 pub use pf_node::Membership;
 pub use px_replica::NodeFault;

@@ -1,8 +1,7 @@
 //! A member's run.
 
 ghost use Rattle.std.specs.Prelude.{◌≡◌, ◌<◌};
-ghost use Rattle.pf_node.specs.Nodes.{replica_of};
-ghost use Rattle.pf_member.specs.Lives.{Serves, Runs};
+ghost use Rattle.pf_member.specs.Lives.{Serves, Runs, Told, told_by};
 
 use crate::ended::Ended;
 use pf_node::{Membership, Node};
@@ -21,7 +20,7 @@ fn served<R: Records, W: Wire, C: Clock>(
     clock: &C,
     turns: u64,
 ) -> Ended
-    ensures { Serves (replica_of node.old) (replica_of node.new) result }
+    ensures { Serves node.old node.new (told_by W.Wire wire.old) (told_by W.Wire wire.new) result }
 {
     let Ok(mut room) = Room::new(alloc) else {
         return Ended::Fault(NodeFault::Memory);
@@ -35,44 +34,37 @@ fn served<R: Records, W: Wire, C: Clock>(
     }
 }
 
-/// The same over a wire, if there is one.
-fn served_by<R: Records, W: Wire + Drop, C: Clock>(
-    alloc: Global,
-    node: &mut Node<R>,
-    wire: Option<W>,
-    clock: &C,
-    turns: u64,
-) -> Ended
-    ensures { Serves (replica_of node.old) (replica_of node.new) result }
-{
-    match wire {
-        Some(wire) => {
-            let mut wire = wire;
-            served(alloc, node, &mut wire, clock, turns)
-        }
-        None => Ended::NoWire,
-    }
-}
-
 /// The run of a member over its record: the record is opened, so many turns are made over the wire, up to the first
-/// fault, and the record is given back. Without a wire it is opened alone. When the clock ticks is the clock's to say,
-/// and what a turn does isn't.
-pub fn run_member<R: Records, W: Wire + Drop, C: Clock>(
+/// fault, and the record is given back. Nothing goes over the wire but what the turns take and send. When the clock
+/// ticks is the clock's to say, and what a turn does isn't.
+pub fn run_member<R: Records, W: Wire, C: Clock>(
     alloc: Global,
     m: Membership,
     records: R,
-    wire: Option<W>,
+    wire: &mut W,
     clock: &C,
     turns: u64,
 ) -> (Ended, R)
     requires members { R.members records ≡ m.members }
     requires here { m.me < m.members }
-    ensures { Runs R.Records m records result.0 result.1 }
+    ensures { Runs R.Records m records (told_by W.Wire wire.old) (told_by W.Wire wire.new) result.0 result.1 }
 {
     let mut node = match Node::open(alloc, m, records) {
         Ok(node) => node,
         Err((fault, records)) => return (Ended::Fault(fault), records),
     };
-    let ended = served_by(alloc, &mut node, wire, clock, turns);
+    let ended = served(alloc, &mut node, wire, clock, turns);
     (ended, node.close())
+}
+
+/// The same where there is no wire: the record is opened, no turn is made, and it is given back.
+pub fn open_member<R: Records>(alloc: Global, m: Membership, records: R) -> (Ended, R)
+    requires members { R.members records ≡ m.members }
+    requires here { m.me < m.members }
+    ensures { (w : Told) → Runs R.Records m records w w result.0 result.1 }
+{
+    match Node::open(alloc, m, records) {
+        Ok(node) => (Ended::NoWire, node.close()),
+        Err((fault, records)) => (Ended::Fault(fault), records),
+    }
 }

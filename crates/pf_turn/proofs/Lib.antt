@@ -1,3 +1,4 @@
 mod Given
 mod Chains
-mod Lives
+pub mod Traffic
+pub mod Lives

@@ -1,11 +1,13 @@
--- Turns are steps of the model that befell a member.
-use Rattle.std.proofs.Common.{◌≡◌, ◌≢◌, ◌∙◌, ℕ, zero, suc, true, false, List, [], ◌∷◌, ◌++◌, Option, Some, None, Result, Ok, Err, refl, sym, ap, subst, inl, inr}
+-- Turns are steps of the model that befell a member, and what they took and handed out went over its wire.
+use Rattle.std.proofs.Common.{◌≡◌, ◌≢◌, ◌∙◌, ℕ, zero, suc, ◌<◌, true, false, List, [], ◌∷◌, ◌++◌, Option, Some, None, Result, refl, sym, ap, subst, inl, inr, arith}
 use Rattle.std.proofs.lemmas.Bool.{false_from_ne_true}
+use Rattle.std.proofs.lemmas.List.{append-nil}
 use Rattle.px_model.specs.Node.{Record, Input}
 use Rattle.px_model.specs.Node.Input.{Ticks, Comes}
 use Rattle.px_model.specs.Spelling.{Bytes}
 use Rattle.px_model.specs.World.{NodeState}
 use Rattle.px_records.specs.declared.records.Records.{Ghosts}
+use Rattle.px_transport.specs.Wires.{GrowsBy, Gives}
 use Rattle.px_wire.specs.Message.{Group, group}
 use Rattle.px_wire.specs.declared.membership.Membership.{Membership}
 use Rattle.px_replica.specs.Calls.{Call, Receives}
@@ -18,152 +20,361 @@ use Rattle.px_replica.specs.declared.fault.NodeFault.{NodeFault}
 use Rattle.px_replica.specs.declared.fault.NodeFault.TheVariants as fault
 use Rattle.px_replica.specs.declared.receiving.Received.{Received}
 use Rattle.px_replica.specs.declared.state.Replica.{Replica}
-use Rattle.pf_turn.specs.Turns.{Acts, Stand, Turned, Same, Turns, Ends, Served}
-use Rattle.pf_turn.specs.Living.{LeavesThere, Living, TurnsAreLived}
+use Rattle.pf_turn.specs.Turns.{Acts, Stand, Same, Turns, Ends, Served, handed_over}
+use Rattle.pf_turn.specs.Living.{Heard, message_in, messages_of, Brings, AreBrought, sent_by, LeavesThere, Living, TurnsAreLived}
+use Rattle.pf_turn.proofs.Traffic.{grows_none, grows_then, messages_then, sent_then, brings_then, are_brought, brought_more, none_brought}
 
 -- one life behind the other
-lived_then : (g : Group) (me : ℕ) (s t u : NodeState Bytes) (xs ys : List Deed) → Lived g me s xs t → Lived g me t ys u →
+pub lived_then : (g : Group) (me : ℕ) (s t u : NodeState Bytes) (xs ys : List Deed) → Lived g me s xs t → Lived g me t ys u →
     Lived g me s (xs ++ ys) u
 lived_then g me s t u [] ys a b = subst (λ (z : NodeState Bytes). Lived g me z ys u) a b
 lived_then g me s t u (Calls x w out ∷ xs) ys (up, input, makes, rest) b = (up, input, makes, lived_then g me w t u xs ys rest b)
 lived_then g me s t u (Stops x left ∷ xs) ys (up, input, leaves, rest) b = (up, input, leaves, lived_then g me _ t u xs ys rest b)
 lived_then g me s t u (Opens ∷ xs) ys rest b = lived_then g me _ t u xs ys rest b
 
--- what a turn without a fault leads to
-record Led {R : Type 0} {G : Ghosts R} (m : Membership) (x y : Replica R G) : Type 0 where
-  deeds : List Deed
-  lived : Lived (group m) m.me (state_in x) deeds (state_in y)
-  was : G.is_honest (records_of y) → G.is_honest (records_of x)
-  works : has_failed y ≡ false
-  membership : membership_of y ≡ m
+-- what calls without a fault lead to
+pub record Led {R : Type 0} {G : Ghosts R} (m : Membership) (x y : Stand G) : Type 0 where
+  pub deeds : List Deed
+  pub lived : Lived (group m) m.me (state_in x.replica) deeds (state_in y.replica)
+  pub came : List Bytes
+  pub brought : Brings (group m) m.me came (messages_of deeds)
+  pub gave : GrowsBy x.given came y.given
+  pub sent : GrowsBy x.handed (sent_by deeds) y.handed
+  pub was : G.is_honest (records_of y.replica) → G.is_honest (records_of x.replica)
+  pub works : has_failed y.replica ≡ false
+  pub membership : membership_of y.replica ≡ m
 
 some_none : (e : NodeFault) → Some e ≡ None → ⊥
 some_none e h = absurd cc
 
-called : {R : Type 0} {G : Ghosts R} (x y : Replica R G) (i : Input Bytes) (out : List Datagram) → has_failed x ≡ false →
-    G.is_honest (records_of y) → IsInput (group (membership_of x)) (membership_of x).me i → Call x y i [] out None →
-    Led (membership_of x) x y
-called x y i out works honest input call = record {
-  deeds = Calls i (state_in y) out ∷ [];
+-- a call that answered Ok, for which this came
+pub called : {R : Type 0} {G : Ghosts R} (x y : Stand G) (i : Input Bytes) (came : List Bytes) (out : List Datagram) →
+    has_failed x.replica ≡ false → G.is_honest (records_of y.replica) →
+    IsInput (group (membership_of x.replica)) (membership_of x.replica).me i →
+    Brings (group (membership_of x.replica)) (membership_of x.replica).me came (message_in i) →
+    Call x.replica y.replica i [] out None → GrowsBy x.given came y.given → GrowsBy x.handed (handed_over out) y.handed →
+    Led (membership_of x.replica) x y
+called {R} {G} x y i came out works honest input brings call gave sent = record {
+  deeds = Calls i (state_in y.replica) out ∷ [];
   lived = (refl, input, call.made honest refl, refl);
+  came = came;
+  brought = subst (λ (ms : List Heard). Brings (group (membership_of x.replica)) (membership_of x.replica).me came ms)
+      (sym (append-nil (message_in i))) brings;
+  gave = gave;
+  sent = subst (λ (ds : List (ℕ × Bytes)). GrowsBy x.handed ds y.handed) (sym (append-nil (handed_over out))) sent;
   was = call.was;
-  works = false_from_ne_true (has_failed y) (λ h. (call.fails works).0 h);
+  works = false_from_ne_true (has_failed y.replica) (λ h. (call.fails works).0 h);
   membership = call.membership;
 }
 
-received : {R : Type 0} {G : Ghosts R} (x y : Replica R G) (bytes : Bytes) (out : List Datagram) (r : Result Received NodeFault) →
-    has_failed x ≡ false → G.is_honest (records_of y) → Receives x y bytes [] out r → fault_of r ≡ None → Led (membership_of x) x y
-received x y bytes out r works honest (inl lost) none = absurd (let is : true ≡ false = sym lost.failed ∙ works in cc)
-received {R} {G} x y bytes out r works honest (inr (inl passed)) none = record {
+-- nothing is done
+pub led_same : {R : Type 0} {G : Ghosts R} (x y : Stand G) → Same x y → has_failed x.replica ≡ false → Led (membership_of x.replica) x y
+led_same {R} {G} x y same works = record {
+  deeds = [];
+  lived = ap (λ (z : Replica R G). state_in z) same.replica;
+  came = [];
+  brought = tt;
+  gave = grows_none x.given y.given same.given;
+  sent = grows_none x.handed y.handed same.handed;
+  was = subst (λ (z : Replica R G). G.is_honest (records_of z) → G.is_honest (records_of x.replica)) (sym same.replica) (λ h. h);
+  works = ap (λ (z : Replica R G). has_failed z) same.replica ∙ works;
+  membership = ap (λ (z : Replica R G). membership_of z) same.replica;
+}
+
+received : {R : Type 0} {G : Ghosts R} (x y : Stand G) (bytes : Bytes) (out : List Datagram) (r : Result Received NodeFault) →
+    has_failed x.replica ≡ false → G.is_honest (records_of y.replica) → Receives x.replica y.replica bytes [] out r → fault_of r ≡ None →
+    GrowsBy x.given (bytes ∷ []) y.given → GrowsBy x.handed (handed_over out) y.handed → Led (membership_of x.replica) x y
+received x y bytes out r works honest (inl lost) none gave sent = absurd (let is : true ≡ false = sym lost.failed ∙ works in cc)
+received {R} {G} x y bytes out r works honest (inr (inl passed)) none gave sent = record {
   deeds = [];
   lived = ap (λ (z : Replica R G). state_in z) passed.still;
-  was = subst (λ (z : Replica R G). G.is_honest (records_of z) → G.is_honest (records_of x)) (sym passed.still) (λ h. h);
+  came = bytes ∷ [];
+  brought = (passed.unspelled, tt);
+  gave = gave;
+  sent = subst (λ (ds : List Datagram). GrowsBy x.handed (handed_over ds) y.handed) passed.silent sent;
+  was = subst (λ (z : Replica R G). G.is_honest (records_of z) → G.is_honest (records_of x.replica)) (sym passed.still) (λ h. h);
   works = ap (λ (z : Replica R G). has_failed z) passed.still ∙ works;
   membership = ap (λ (z : Replica R G). membership_of z) passed.still;
 }
-received x y bytes out r works honest (inr (inr taken)) none =
-    called x y (Comes taken.sender taken.message) out works honest taken.passes
-    (subst (λ (o : Option NodeFault). Call x y (Comes taken.sender taken.message) [] out o) none taken.call)
+received {R} {G} x y bytes out r works honest (inr (inr taken)) none gave sent =
+    called x y (Comes taken.sender taken.message) (bytes ∷ []) out works honest taken.passes (inr (taken.spelled, tt))
+    (subst (λ (o : Option NodeFault). Call x.replica y.replica (Comes taken.sender taken.message) [] out o) none taken.call) gave sent
 
-acted : {R : Type 0} {G : Ghosts R} (x y : Replica R G) (came : Option Bytes) (out : List Datagram) → has_failed x ≡ false →
-    G.is_honest (records_of y) → Acts x y came out None → Led (membership_of x) x y
-acted x y None out works honest call = called x y Ticks out works honest tt call
-acted x y (Some bytes) out works honest (r, receives, none) = received x y bytes out r works honest receives none
+acted : {R : Type 0} {G : Ghosts R} (x y : Stand G) (came : Option Bytes) (out : List Datagram) → has_failed x.replica ≡ false →
+    G.is_honest (records_of y.replica) → Acts x.replica y.replica came out None → Gives x.given came y.given →
+    GrowsBy x.handed (handed_over out) y.handed → Led (membership_of x.replica) x y
+acted x y None out works honest call gave sent =
+    called x y Ticks [] out works honest tt tt call (grows_none x.given y.given gave) sent
+acted x y (Some bytes) out works honest (r, receives, none) gave sent = received x y bytes out r works honest receives none gave sent
 
-on_from : {R : Type 0} {G : Ghosts R} (m : Membership) (x y z : Replica R G) → Led m x y → Led (membership_of y) y z → Led m x z
-on_from {R} {G} m x y z a b =
-    let b' : Lived (group m) m.me (state_in y) b.deeds (state_in z) =
-    subst (λ (n : Membership). Lived (group n) n.me (state_in y) b.deeds (state_in z)) a.membership b.lived in
+-- one behind the other
+pub led_then : {R : Type 0} {G : Ghosts R} (m : Membership) (x y z : Stand G) → Led m x y → Led (membership_of y.replica) y z → Led m x z
+led_then {R} {G} m x y z a b =
+    let lived : Lived (group m) m.me (state_in y.replica) b.deeds (state_in z.replica) =
+    subst (λ (n : Membership). Lived (group n) n.me (state_in y.replica) b.deeds (state_in z.replica)) a.membership b.lived in
+    let brought : Brings (group m) m.me b.came (messages_of b.deeds) =
+    subst (λ (n : Membership). Brings (group n) n.me b.came (messages_of b.deeds)) a.membership b.brought in
     record {
       deeds = a.deeds ++ b.deeds;
-      lived = lived_then (group m) m.me (state_in x) (state_in y) (state_in z) a.deeds b.deeds a.lived b';
+      lived = lived_then (group m) m.me (state_in x.replica) (state_in y.replica) (state_in z.replica) a.deeds b.deeds a.lived lived;
+      came = a.came ++ b.came;
+      brought = subst (λ (ms : List Heard). Brings (group m) m.me (a.came ++ b.came) ms) (sym (messages_then a.deeds b.deeds))
+          (brings_then (group m) m.me a.came b.came (messages_of a.deeds) (messages_of b.deeds) a.brought brought);
+      gave = grows_then x.given y.given z.given a.came b.came a.gave b.gave;
+      sent = subst (λ (ds : List (ℕ × Bytes)). GrowsBy x.handed ds z.handed) (sym (sent_then a.deeds b.deeds))
+          (grows_then x.handed y.handed z.handed (sent_by a.deeds) (sent_by b.deeds) a.sent b.sent);
       was = λ h. a.was (b.was h);
       works = b.works;
       membership = b.membership ∙ a.membership;
     }
 
--- an honest record was honest before the turn, and a member that has failed makes no turn without a fault
-before : {R : Type 0} {G : Ghosts R} (x y : Replica R G) (came : Option Bytes) (out : List Datagram) →
-    Acts x y came out None → (G.is_honest (records_of y) → G.is_honest (records_of x))
-before x y None out call = call.was
-before {R} {G} x y (Some bytes) out (r, inl lost, none) =
+-- an honest record was honest before the turn
+acted_before : {R : Type 0} {G : Ghosts R} (x y : Replica R G) (came : Option Bytes) (out : List Datagram) (a : Option NodeFault) →
+    Acts x y came out a → G.is_honest (records_of y) → G.is_honest (records_of x)
+acted_before x y None out a call = call.was
+acted_before {R} {G} x y (Some bytes) out a (r, inl lost, is) =
     subst (λ (z : Replica R G). G.is_honest (records_of z) → G.is_honest (records_of x)) (sym lost.still) (λ h. h)
-before {R} {G} x y (Some bytes) out (r, inr (inl passed), none) =
+acted_before {R} {G} x y (Some bytes) out a (r, inr (inl passed), is) =
     subst (λ (z : Replica R G). G.is_honest (records_of z) → G.is_honest (records_of x)) (sym passed.still) (λ h. h)
-before x y (Some bytes) out (r, inr (inr taken), none) = taken.call.was
+acted_before x y (Some bytes) out a (r, inr (inr taken), is) = taken.call.was
+
+turns_before : {R : Type 0} {G : Ghosts R} (n : ℕ) (x y : Stand G) → Turns n x y → G.is_honest (records_of y.replica) →
+    G.is_honest (records_of x.replica)
+turns_before {R} {G} zero x y same honest = subst (λ (z : Replica R G). G.is_honest (records_of z)) same.replica honest
+turns_before (suc n) x y (w, turns, turn) honest =
+    turns_before n x w turns (acted_before w.replica y.replica turn.came turn.out None turn.acts honest)
+
+ends_before : {R : Type 0} {G : Ghosts R} (x y : Stand G) (a : Option NodeFault) → Ends x y a → G.is_honest (records_of y.replica) →
+    G.is_honest (records_of x.replica)
+ends_before {R} {G} x y None same honest = subst (λ (z : Replica R G). G.is_honest (records_of z)) same.replica honest
+ends_before x y (Some e) turn honest = acted_before x.replica y.replica turn.came turn.out (Some e) turn.acts honest
+
+-- a record that is honest after turns was honest before them
+pub served_before : {R : Type 0} {G : Ghosts R} (x y : Stand G) (a : Option NodeFault) → Served x y a → G.is_honest (records_of y.replica) →
+    G.is_honest (records_of x.replica)
+served_before x y a s honest = turns_before s.turns x s.then s.made (ends_before s.then y a s.last honest)
 
 turns_led : {R : Type 0} {G : Ghosts R} (n : ℕ) (x y : Stand G) → Turns n x y → has_failed x.replica ≡ false →
-    G.is_honest (records_of y.replica) → Led (membership_of x.replica) x.replica y.replica
-turns_led {R} {G} zero x y same works honest = record {
-  deeds = [];
-  lived = ap (λ (z : Replica R G). state_in z) same.replica;
-  was = subst (λ (z : Replica R G). G.is_honest (records_of z) → G.is_honest (records_of x.replica)) (sym same.replica) (λ h. h);
-  works = ap (λ (z : Replica R G). has_failed z) same.replica ∙ works;
-  membership = ap (λ (z : Replica R G). membership_of z) same.replica;
-}
+    G.is_honest (records_of y.replica) → Led (membership_of x.replica) x y
+turns_led zero x y same works honest = led_same x y same works
 turns_led (suc n) x y (w, turns, turn) works honest =
-    let honest' = before w.replica y.replica turn.came turn.out turn.acts honest in
-    let a = turns_led n x w turns works honest' in
-    on_from (membership_of x.replica) x.replica w.replica y.replica a
-    (acted w.replica y.replica turn.came turn.out a.works honest turn.acts)
+    let a = turns_led n x w turns works (acted_before w.replica y.replica turn.came turn.out None turn.acts honest) in
+    led_then (membership_of x.replica) x w y a (acted w y turn.came turn.out a.works honest turn.acts turn.gave turn.sent)
+
+-- turns without a fault
+pub served_led : {R : Type 0} {G : Ghosts R} (x y : Stand G) → Served x y None → has_failed x.replica ≡ false →
+    G.is_honest (records_of y.replica) → Led (membership_of x.replica) x y
+served_led {R} {G} x y s works honest =
+    let a = turns_led s.turns x s.then s.made works (subst (λ (z : Replica R G). G.is_honest (records_of z)) s.last.replica honest) in
+    led_then (membership_of x.replica) x s.then y a (led_same s.then y s.last a.works)
 
 -- ---- the last turn
 
--- what a last call that failed leaves
-record Ended {R : Type 0} {G : Ghosts R} (w z : Replica R G) (e : NodeFault) : Type 0 where
-  was : G.is_honest (records_of w)
-  stays : Some e ≢ Some fault.Store → state_in z ≡ state_in w
-  stop : has_failed w ≡ false → (left : Record Bytes) → G.may_leave (records_of z) left →
-      LeavesThere (group (membership_of w)) (membership_of w).me (state_in w) left
+-- What a last call that failed leaves. It came from w, which worked.
+pub record Ended {R : Type 0} {G : Ghosts R} (w z : Stand G) (e : NodeFault) : Type 0 where
+  pub last : List Bytes
+  pub gave : GrowsBy w.given last z.given
+  pub sent : GrowsBy w.handed [] z.handed
+  pub stays : G.failed (records_of z.replica) ≡ 0 → state_in z.replica ≡ state_in w.replica
+  pub stop : (left : Record Bytes) → G.may_leave (records_of z.replica) left →
+      LeavesThere (group (membership_of w.replica)) (membership_of w.replica).me last (state_in w.replica) left
+  pub counts : Some e ≢ Some fault.Store → G.failed (records_of z.replica) ≡ 0
+  pub membership : membership_of z.replica ≡ membership_of w.replica
 
-failed_call : {R : Type 0} {G : Ghosts R} (w z : Replica R G) (i : Input Bytes) (out : List Datagram) (e : NodeFault) →
-    G.is_honest (records_of z) → IsInput (group (membership_of w)) (membership_of w).me i → Call w z i [] out (Some e) → Ended w z e
-failed_call w z i out e honest input call = record {
-  was = call.was honest;
-  stays = λ other. call.stays honest refl other;
-  stop = λ works left may. inr (i, input, call.stop works honest left may);
+pub none_above : (n : ℕ) → (0 < n → ⊥) → n ≡ 0
+none_above zero h = refl
+none_above (suc n) h = absurd (h (omega arith))
+
+-- the call that failed, for which this came
+unfoldable pub failed_call : {R : Type 0} {G : Ghosts R} (w z : Stand G) (i : Input Bytes) (last : List Bytes) (out : List Datagram) (e : NodeFault) →
+    has_failed w.replica ≡ false → G.is_honest (records_of z.replica) →
+    IsInput (group (membership_of w.replica)) (membership_of w.replica).me i →
+    AreBrought (group (membership_of w.replica)) (membership_of w.replica).me last (message_in i) →
+    Call w.replica z.replica i [] out (Some e) → GrowsBy w.given last z.given → GrowsBy w.handed (handed_over out) z.handed → Ended w z e
+failed_call {R} {G} w z i last out e works honest input brought call gave sent = record {
+  last = last;
+  gave = gave;
+  sent = subst (λ (ds : List Datagram). GrowsBy w.handed (handed_over ds) z.handed) (call.silent refl) sent;
+  stays = λ none. call.stays honest refl (λ is. let above : 0 < G.failed (records_of z.replica) = (call.counts works).0 is in
+      let none' : G.failed (records_of z.replica) ≡ 0 = none in omega arith);
+  stop = λ left may. (i, input, brought, call.stop works honest left may);
+  counts = λ other. none_above (G.failed (records_of z.replica)) (λ above. other ((call.counts works).1 above));
+  membership = call.membership;
 }
 
-failed_turn : {R : Type 0} {G : Ghosts R} (w z : Replica R G) (came : Option Bytes) (out : List Datagram) (e : NodeFault) →
-    G.is_honest (records_of z) → Acts w z came out (Some e) → Ended w z e
-failed_turn w z None out e honest call = failed_call w z Ticks out e honest tt call
-failed_turn {R} {G} w z (Some bytes) out e honest (r, inl lost, is) = record {
-  was = subst (λ (y : Replica R G). G.is_honest (records_of y)) lost.still honest;
-  stays = λ other. ap (λ (y : Replica R G). state_in y) lost.still;
-  stop = λ works left may. absurd (let h : true ≡ false = sym lost.failed ∙ works in cc);
-}
-failed_turn w z (Some bytes) out e honest (r, inr (inl passed), is) =
+failed_turn : {R : Type 0} {G : Ghosts R} (w z : Stand G) (came : Option Bytes) (out : List Datagram) (e : NodeFault) →
+    has_failed w.replica ≡ false → G.is_honest (records_of z.replica) → Acts w.replica z.replica came out (Some e) →
+    Gives w.given came z.given → GrowsBy w.handed (handed_over out) z.handed → Ended w z e
+failed_turn w z None out e works honest call gave sent =
+    failed_call w z Ticks [] out e works honest tt (none_brought _ _ []) call (grows_none w.given z.given gave) sent
+failed_turn w z (Some bytes) out e works honest (r, inl lost, is) gave sent =
+    absurd (let h : true ≡ false = sym lost.failed ∙ works in cc)
+failed_turn w z (Some bytes) out e works honest (r, inr (inl passed), is) gave sent =
     absurd (some_none e (sym is ∙ ap fault_of passed.answered))
-failed_turn w z (Some bytes) out e honest (r, inr (inr taken), is) =
-    failed_call w z (Comes taken.sender taken.message) out e honest taken.passes
-    (subst (λ (o : Option NodeFault). Call w z (Comes taken.sender taken.message) [] out o) is taken.call)
+failed_turn w z (Some bytes) out e works honest (r, inr (inr taken), is) gave sent =
+    failed_call w z (Comes taken.sender taken.message) (bytes ∷ []) out e works honest taken.passes
+    (are_brought _ _ (bytes ∷ []) ((taken.sender, taken.message) ∷ []) (inr (taken.spelled, tt)))
+    (subst (λ (o : Option NodeFault). Call w.replica z.replica (Comes taken.sender taken.message) [] out o) is taken.call) gave sent
+
+-- turns that end with a fault: those without, and the last one
+pub served_ended : {R : Type 0} {G : Ghosts R} (x z : Stand G) (e : NodeFault) → Served x z (Some e) → has_failed x.replica ≡ false →
+    G.is_honest (records_of z.replica) → (w : Stand G) × Led (membership_of x.replica) x w × Ended w z e
+served_ended x z e s works honest =
+    let t = s.last in
+    let l = turns_led s.turns x s.then s.made works (acted_before s.then.replica z.replica t.came t.out (Some e) t.acts honest) in
+    (s.then, l, failed_turn s.then z t.came t.out e l.works honest t.acts t.gave t.sent)
+
+-- ---- a member that has failed
+
+-- It does nothing and sends nothing; what its wire gave is lost.
+pub record Lost {R : Type 0} {G : Ghosts R} (y z : Stand G) : Type 0 where
+  pub replica : z.replica ≡ y.replica
+  pub lost : List Bytes
+  pub gave : GrowsBy y.given lost z.given
+  pub sent : GrowsBy y.handed [] z.handed
+
+unfoldable pub same_lost : {R : Type 0} {G : Ghosts R} (y z : Stand G) → Same y z → Lost y z
+same_lost y z same = record {
+  replica = same.replica;
+  lost = [];
+  gave = grows_none y.given z.given same.given;
+  sent = grows_none y.handed z.handed same.handed;
+}
+
+none_failed : (e : NodeFault) → None ≡ Some e → ⊥
+none_failed e h = absurd cc
+
+-- it makes no turn without a fault
+no_turn : {R : Type 0} {G : Ghosts R} (x y : Replica R G) (came : Option Bytes) (out : List Datagram) → has_failed x ≡ true →
+    Acts x y came out None → ⊥
+no_turn x y None out broken call = none_failed fault.Failed (call.failed.1 broken)
+no_turn x y (Some bytes) out broken (r, inl lost, is) = none_failed fault.Failed (sym is ∙ ap fault_of lost.answered)
+no_turn x y (Some bytes) out broken (r, inr (inl passed), is) = absurd (let h : true ≡ false = sym broken ∙ passed.works in cc)
+no_turn x y (Some bytes) out broken (r, inr (inr taken), is) = absurd (let h : true ≡ false = sym broken ∙ taken.works in cc)
+
+broken_turns : {R : Type 0} {G : Ghosts R} (n : ℕ) (x y : Stand G) → has_failed x.replica ≡ true → Turns n x y → Same x y
+broken_turns zero x y broken same = same
+broken_turns {R} {G} (suc n) x y broken (w, turns, turn) =
+    let same = broken_turns n x w broken turns in
+    absurd (no_turn w.replica y.replica turn.came turn.out (ap (λ (z : Replica R G). has_failed z) same.replica ∙ broken) turn.acts)
+
+broken_turn : {R : Type 0} {G : Ghosts R} (x y : Stand G) (came : Option Bytes) (out : List Datagram) (e : NodeFault) →
+    has_failed x.replica ≡ true → Acts x.replica y.replica came out (Some e) → Gives x.given came y.given →
+    GrowsBy x.handed (handed_over out) y.handed → Lost x y
+broken_turn x y None out e broken call gave sent = record {
+  replica = call.still broken;
+  lost = [];
+  gave = grows_none x.given y.given gave;
+  sent = subst (λ (ds : List Datagram). GrowsBy x.handed (handed_over ds) y.handed) (call.silent refl) sent;
+}
+broken_turn x y (Some bytes) out e broken (r, inl lost, is) gave sent = record {
+  replica = lost.still;
+  lost = bytes ∷ [];
+  gave = gave;
+  sent = subst (λ (ds : List Datagram). GrowsBy x.handed (handed_over ds) y.handed) lost.silent sent;
+}
+broken_turn x y (Some bytes) out e broken (r, inr (inl passed), is) gave sent =
+    absurd (let h : true ≡ false = sym broken ∙ passed.works in cc)
+broken_turn x y (Some bytes) out e broken (r, inr (inr taken), is) gave sent =
+    absurd (let h : true ≡ false = sym broken ∙ taken.works in cc)
+
+lost_from : {R : Type 0} {G : Ghosts R} (x y z : Stand G) → Same x y → Lost y z → Lost x z
+lost_from x y z same l = record {
+  replica = l.replica ∙ same.replica;
+  lost = l.lost;
+  gave = subst (λ (u : Option (List Bytes)). GrowsBy u l.lost z.given) same.given l.gave;
+  sent = subst (λ (u : Option (List (ℕ × Bytes))). GrowsBy u [] z.handed) same.handed l.sent;
+}
+
+-- turns that it makes, with whatever end
+pub broken_served : {R : Type 0} {G : Ghosts R} (x z : Stand G) (a : Option NodeFault) → has_failed x.replica ≡ true → Served x z a → Lost x z
+broken_served x z None broken s =
+    lost_from x s.then z (broken_turns s.turns x s.then broken s.made) (same_lost s.then z s.last)
+broken_served {R} {G} x z (Some e) broken s =
+    let same = broken_turns s.turns x s.then broken s.made in
+    let t = s.last in
+    lost_from x s.then z same
+    (broken_turn s.then z t.came t.out e (ap (λ (y : Replica R G). has_failed y) same.replica ∙ broken) t.acts t.gave t.sent)
+
+pub broken_same : {R : Type 0} {G : Ghosts R} (x z : Stand G) → has_failed x.replica ≡ true → Served x z None → Same x z
+broken_same x z broken s =
+    let same = broken_turns s.turns x s.then broken s.made in
+    record {
+      replica = s.last.replica ∙ same.replica;
+      given = s.last.given ∙ same.given;
+      handed = s.last.handed ∙ same.handed;
+    }
+
+-- a call that failed, and what was lost after it
+unfoldable pub ended_more : {R : Type 0} {G : Ghosts R} (w y z : Stand G) (e : NodeFault) → Ended w y e → Lost y z → Ended w z e
+ended_more {R} {G} w y z e d l =
+    let m = membership_of w.replica in record {
+      last = d.last ++ l.lost;
+      gave = grows_then w.given y.given z.given d.last l.lost d.gave l.gave;
+      sent = grows_then w.handed y.handed z.handed [] [] d.sent l.sent;
+      stays = λ none. ap (λ (r : Replica R G). state_in r) l.replica
+          ∙ d.stays (sym (ap (λ (r : Replica R G). G.failed (records_of r)) l.replica) ∙ none);
+      stop = λ left may.
+          let s = d.stop left (subst (λ (r : Replica R G). G.may_leave (records_of r) left) l.replica may) in
+          (s.0, s.1, brought_more (group m) m.me d.last l.lost (message_in s.0) s.2, s.3);
+      counts = λ other. ap (λ (r : Replica R G). G.failed (records_of r)) l.replica ∙ d.counts other;
+      membership = ap (λ (r : Replica R G). membership_of r) l.replica ∙ d.membership;
+    }
+
+-- ---- lives
 
 module _ {R : Type 0} (G : Ghosts R)
     (settled : (r : R) → G.is_honest r → G.failed r ≡ 0 → (d : Record Bytes) → G.may_leave r d → d ≡ G.stored r) where
+  -- calls without a fault alone
+  pub led_living : (x z : Stand G) → G.is_honest (records_of z.replica) → Led (membership_of x.replica) x z → Living x z None
+  led_living x z honest l = record {
+    deeds = l.deeds;
+    then = state_in z.replica;
+    lived = l.lived;
+    up = refl;
+    came = l.came;
+    last = [];
+    brought = l.brought;
+    gave = grows_then x.given z.given z.given l.came [] l.gave (grows_none z.given z.given refl);
+    sent = l.sent;
+    stays = λ none. refl;
+    stop = λ left may. (Ticks, tt, none_brought _ _ [], inl (settled (records_of z.replica) honest (z.replica.works l.works) left may));
+    whole = λ none. refl;
+    membership = l.membership;
+  }
+
+  -- and then the call that failed, whichever fault is told in the end
+  pub ended_living : (x w z : Stand G) (e : NodeFault) (a : Option NodeFault) → Led (membership_of x.replica) x w →
+      (d : Ended w z e) → (a ≡ None → d.last ≡ []) → Living x z a
+  ended_living x w z e a l d whole = record {
+    deeds = l.deeds;
+    then = state_in w.replica;
+    lived = l.lived;
+    up = refl;
+    came = l.came;
+    last = d.last;
+    brought = l.brought;
+    gave = grows_then x.given w.given z.given l.came d.last l.gave d.gave;
+    sent = subst (λ (ds : List (ℕ × Bytes)). GrowsBy x.handed ds z.handed) (append-nil (sent_by l.deeds))
+        (grows_then x.handed w.handed z.handed (sent_by l.deeds) [] l.sent d.sent);
+    stays = d.stays;
+    stop = λ left may. subst (λ (m : Membership). LeavesThere (group m) m.me d.last (state_in w.replica) left) l.membership
+        (d.stop left may);
+    whole = whole;
+    membership = d.membership ∙ l.membership;
+  }
+
   ended : (x w z : Stand G) (a : Option NodeFault) (n : ℕ) → G.is_honest (records_of z.replica) → has_failed x.replica ≡ false →
-      Turns n x w → Ends w z a → Living x z a
+      Turns n x w → Ends w z a → Living x z a × (a ≢ Some fault.Store → G.failed (records_of z.replica) ≡ 0)
   ended x w z None n honest works turns same =
       let honest' = subst (λ (y : Replica R G). G.is_honest (records_of y)) same.replica honest in
       let l = turns_led n x w turns works honest' in
-      record {
-        deeds = l.deeds;
-        then = state_in w.replica;
-        lived = l.lived;
-        stays = λ other. ap (λ (y : Replica R G). state_in y) same.replica;
-        stop = λ left may. inl (settled (records_of w.replica) honest' (w.replica.works l.works) left
-            (subst (λ (y : Replica R G). G.may_leave (records_of y) left) same.replica may));
-      }
+      let all = led_then (membership_of x.replica) x w z l (led_same w z same l.works) in
+      (led_living x z honest all, λ other. z.replica.works all.works)
   ended x w z (Some e) n honest works turns turn =
-      let d = failed_turn w.replica z.replica turn.came turn.out e honest turn.acts in
-      let l = turns_led n x w turns works d.was in
-      record {
-        deeds = l.deeds;
-        then = state_in w.replica;
-        lived = l.lived;
-        stays = d.stays;
-        stop = λ left may. subst (λ (m : Membership). LeavesThere (group m) m.me (state_in w.replica) left) l.membership
-            (d.stop l.works left may);
-      }
+      let l = turns_led n x w turns works (acted_before w.replica z.replica turn.came turn.out (Some e) turn.acts honest) in
+      let d = failed_turn w z turn.came turn.out e l.works honest turn.acts turn.gave turn.sent in
+      (ended_living x w z e (Some e) l d (λ none. absurd (some_none e none)), d.counts)
 
   pub turns_lived : TurnsAreLived G
   turns_lived x z answered honest works served = ended x served.then z answered served.turns honest works served.made served.last

@@ -1,5 +1,5 @@
 -- the turn of what had come, or none
-use Rattle.std.proofs.Common.{refl, subst, Option, Some, None, option_map}
+use Rattle.std.proofs.Common.{refl, subst, Option, None, option_map}
 use Rattle.px_model.specs.Spelling.{Bytes}
 use Rattle.px_transport.specs.Wires.{Gives}
 use Rattle.pf_node.specs.Nodes.{replica_of}
