@@ -1,1 +1,2 @@
 pub mod Writing
+mod Refusing

@@ -15,7 +15,7 @@ use crate::hearing::HearingWire;
 use crate::key::{Keys, keys_for, warn_unsealed};
 use crate::outcome::{Outcome, ended_outcome};
 use clap::ArgMatches;
-use pf_member::{Membership, run_member};
+use pf_member::{Membership, open_member, run_member};
 use pf_net::{BindFault, UdpWire};
 use pf_node_file::NodeFile;
 use px_records::Records;
@@ -255,17 +255,16 @@ fn run_over<R: Records, W: Wire + Drop>(
 {
     match wire {
         Ok(wire) => {
-            let wire = LoopbackWire::new(
+            let mut wire = LoopbackWire::new(
                 alloc,
                 HearingWire::new(rt, wire, m, words.is_quiet),
                 words.me,
             );
-            let (ended, records) = run_member(alloc, m, records, Some(wire), rt, words.turns);
+            let (ended, records) = run_member(alloc, m, records, &mut wire, rt, words.turns);
             (ended_outcome(ended, Outcome::Memory), records)
         }
         Err(outcome) => {
-            let without = None::<LoopbackWire<HearingWire<W>>>;
-            let (ended, records) = run_member(alloc, m, records, without, rt, 0);
+            let (ended, records) = open_member(alloc, m, records);
             (ended_outcome(ended, outcome), records)
         }
     }

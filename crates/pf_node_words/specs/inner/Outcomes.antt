@@ -6,7 +6,7 @@ use Rattle.px_replica.specs.declared.fault.NodeFault.{NodeFault}
 use Rattle.px_replica.specs.declared.fault.NodeFault.TheVariants as fault
 use Rattle.px_sql.specs.declared.fault.AdoptFault.{AdoptFault}
 use Rattle.px_sql.specs.declared.fault.AdoptFault.TheVariants as adopt
-use Rattle.pf_member.specs.Lives.{Runs}
+use Rattle.pf_member.specs.Lives.{Told, Runs}
 use Rattle.pf_member.specs.declared.ended.Ended.{Ended}
 use Rattle.pf_member.specs.declared.ended.Ended.TheVariants as ended
 use Rattle.pf_net.specs.declared.answer.AskAnswer.{AskAnswer}
@@ -36,8 +36,8 @@ ended_outcome without ended.NoWire = without
 -- it is given back. Where there is no wire that is 82, or memory is wanting.
 abbrev pub ComesTo : {R : Type 0} → Ghosts R → Membership → (given : R) → Outcome → (back : R) → Type 0
 ComesTo G m given outcome back =
-    (how : Ended) × (without : Outcome) × Runs G m given how back × (outcome ≡ ended_outcome without how)
-    × ((without ≡ Memory) ⊎ (without ≡ Refused 82))
+    (w : Told) × (v : Told) × (how : Ended) × (without : Outcome) × Runs G m given w v how back
+    × (outcome ≡ ended_outcome without how) × ((without ≡ Memory) ⊎ (without ≡ Refused 82))
 
 -- the refusals of a store
 abbrev pub adopt_outcome : AdoptFault → Outcome
