@@ -1,2 +1,3 @@
 pub mod Writing
 mod Refusing
+mod Desks

@@ -1,13 +1,17 @@
 //! A member with its door open.
 
-ghost use Rattle.std.specs.Prelude.{◌≡◌, ◌<◌};
+ghost use Rattle.std.specs.Prelude.{◌≡◌, ◌<◌, IfErr};
+ghost use Rattle.px_model.specs.Step.{front};
+ghost use Rattle.px_replica.specs.Faults.{fault_of};
+ghost use Rattle.pf_node.specs.Nodes.{learned_by, applied_of};
+ghost use Rattle.pf_node_words.specs.inner.Outcomes.{IsDoorless, DeskComesTo, ShowsDesk, ComesOpen};
 
 use crate::hearing::HearingWire;
 use crate::outcome::{Outcome, fault_outcome};
 use pf_door::{Desk, Door, DoorFault, TallyWire, run_open};
 use pf_member::Membership;
 use pf_node::Node;
-use pf_turn::Room;
+use pf_turn::{NodeFault, Room};
 use px_records::Records;
 use px_transport::{LoopbackWire, Wire};
 use std::alloc::Global;
@@ -30,7 +34,9 @@ pub(crate) struct DoorWords<'a> {
 }
 
 /// The door, which is opened too when a datagram comes.
-fn open_door(rt: &HostRuntime, alloc: Global, words: DoorWords<'_>) -> Result<Door, Outcome> {
+fn open_door(rt: &HostRuntime, alloc: Global, words: DoorWords<'_>) -> Result<Door, Outcome>
+    ensures { IfErr result (λ outcome. IsDoorless outcome) }
+{
     let Ok(keys) = RandomState::new(rt) else {
         return Err(Outcome::Refused(84));
     };
@@ -48,6 +54,19 @@ fn open_door(rt: &HostRuntime, alloc: Global, words: DoorWords<'_>) -> Result<Do
     }
 }
 
+/// What the turns of a desk's node come to, by how they ended.
+fn desk_outcome<R: Records>(ended: Result<(), NodeFault>, desk: &Desk<R>) -> Outcome
+    ensures { ShowsDesk (front (learned_by desk.now.node)) (applied_of desk.now.node) (fault_of ended) result }
+{
+    match ended {
+        Ok(()) => Outcome::Front {
+            front: desk.node.front(),
+            applied: desk.node.applied(),
+        },
+        Err(fault) => fault_outcome(fault),
+    }
+}
+
 /// A desk with the wire and the room that its node's turns use.
 fn served_by<R: Records, W: Wire + Drop>(
     rt: &HostRuntime,
@@ -56,7 +75,9 @@ fn served_by<R: Records, W: Wire + Drop>(
     desk: Desk<R>,
     wire: &mut TallyWire<W>,
     door: &mut Door,
-) -> (Outcome, Desk<R>) {
+) -> (Outcome, Desk<R>)
+    ensures { DeskComesTo desk result.1 result.0 }
+{
     let Ok(tally) = wire.first_tally(alloc) else {
         return (Outcome::Memory, desk);
     };
@@ -64,14 +85,28 @@ fn served_by<R: Records, W: Wire + Drop>(
         return (Outcome::Memory, desk);
     };
     let (ended, desk) = run_open(alloc, desk, tally, wire, &mut room, door, rt, words.turns);
-    let outcome = match ended {
-        Ok(()) => Outcome::Front {
-            front: desk.node.front(),
-            applied: desk.node.applied(),
-        },
-        Err(fault) => fault_outcome(fault),
-    };
-    (outcome, desk)
+    (desk_outcome(ended, &desk), desk)
+}
+
+/// The same over a wire that isn't counted yet.
+fn served_over<R: Records, W: Wire + Drop>(
+    rt: &HostRuntime,
+    alloc: Global,
+    words: DoorWords<'_>,
+    desk: Desk<R>,
+    wire: W,
+    m: Membership,
+    door: &mut Door,
+) -> (Outcome, Desk<R>)
+    ensures { DeskComesTo desk result.1 result.0 }
+{
+    match TallyWire::new(alloc, wire, m) {
+        Ok(wire) => {
+            let mut wire = wire;
+            served_by(rt, alloc, words, desk, &mut wire, door)
+        }
+        Err(_) => (Outcome::Memory, desk),
+    }
 }
 
 /// What the turns of a node with an open door come to.
@@ -81,17 +116,16 @@ fn served<R: Records, W: Wire + Drop>(
     words: DoorWords<'_>,
     desk: Desk<R>,
     wire: W,
-) -> (Outcome, Desk<R>) {
+) -> (Outcome, Desk<R>)
+    ensures { DeskComesTo desk result.1 result.0 }
+{
     let mut door = match open_door(rt, alloc, words) {
         Ok(door) => door,
         Err(outcome) => return (outcome, desk),
     };
     let m = desk.node.membership();
     let wire = LoopbackWire::new(alloc, HearingWire::new(rt, wire, m, words.is_quiet), m.me());
-    let (outcome, desk) = match TallyWire::new(alloc, wire, m) {
-        Ok(mut wire) => served_by(rt, alloc, words, desk, &mut wire, &mut door),
-        Err(_) => (Outcome::Memory, desk),
-    };
+    let (outcome, desk) = served_over(rt, alloc, words, desk, wire, m, &mut door);
     door.close(rt, words.path);
     (outcome, desk)
 }
@@ -107,6 +141,7 @@ pub(crate) fn run_with_door<R: Records, W: Wire + Drop>(
 ) -> (Outcome, R)
     requires members { R.members records ≡ m.members }
     requires here { m.me < m.members }
+    ensures { ComesOpen R.Records m records result.0 result.1 }
 {
     let node = match Node::open(alloc, m, records) {
         Ok(node) => node,

@@ -6,7 +6,7 @@ ghost use Rattle.toml.specs.Data.{as_str, get_member};
 ghost use Rattle.pf_node_file.specs.Files.{settings_of};
 ghost use Rattle.pf_node_file.specs.Settings.{number_of};
 ghost use Rattle.pf_node_words.specs.declared.outcome.Outcome.TheVariants.{Memory, Refused};
-ghost use Rattle.pf_node_words.specs.inner.Outcomes.{adopt_outcome, ComesTo};
+ghost use Rattle.pf_node_words.specs.inner.Outcomes.{adopt_outcome, ComesTo, ComesOpenOr};
 ghost use Rattle.pf_node_words.specs.inner.Places.{is_count, has_place, turns_or_all, chosen};
 
 use crate::door::{DoorWords, run_with_door};
@@ -322,6 +322,7 @@ fn run_at_door<R: Records>(
 ) -> (Outcome, R)
     requires members { R.members records ≡ m.members }
     requires here { m.me < m.members }
+    ensures { ComesOpenOr R.Records m records result.0 result.1 }
 {
     let wire = match bind(rt, alloc, words) {
         Ok(wire) => wire,

@@ -1,12 +1,18 @@
 -- What only code and proofs use beside `Outcomes`.
-use Rattle.std.specs.Prelude.{◌≡◌, ◌⊎◌, ℕ}
+use Rattle.std.specs.Prelude.{◌≡◌, ◌⊎◌, ℕ, Option, Some, None}
+use Rattle.px_model.specs.Step.{front}
 use Rattle.px_records.specs.declared.records.Records.{Ghosts}
 use Rattle.px_wire.specs.declared.membership.Membership.{Membership}
 use Rattle.px_replica.specs.declared.fault.NodeFault.{NodeFault}
 use Rattle.px_replica.specs.declared.fault.NodeFault.TheVariants as fault
 use Rattle.px_sql.specs.declared.fault.AdoptFault.{AdoptFault}
 use Rattle.px_sql.specs.declared.fault.AdoptFault.TheVariants as adopt
-use Rattle.pf_member.specs.Lives.{Told, Runs}
+use Rattle.px_replica.specs.Calls.{OpenRefused}
+use Rattle.pf_node.specs.Nodes.{learned_by, applied_of}
+use Rattle.pf_desk.specs.declared.desk.Desk.{Desk}
+use Rattle.pf_door.specs.Lives.{desk_at, ServesDesk}
+use Rattle.pf_door.specs.Runs.{Opened}
+use Rattle.pf_member.specs.Lives.{Told, Runs, Life}
 use Rattle.pf_member.specs.declared.ended.Ended.{Ended}
 use Rattle.pf_member.specs.declared.ended.Ended.TheVariants as ended
 use Rattle.pf_net.specs.declared.answer.AskAnswer.{AskAnswer}
@@ -38,6 +44,42 @@ abbrev pub ComesTo : {R : Type 0} → Ghosts R → Membership → (given : R) �
 ComesTo G m given outcome back =
     (w : Told) × (v : Told) × (how : Ended) × (without : Outcome) × Runs G m given w v how back
     × (outcome ≡ ended_outcome without how) × ((without ≡ Memory) ⊎ (without ≡ Refused 82))
+
+-- ---- with a door
+
+-- there is no door, no port for figures, or no memory for one of these
+abbrev pub IsDoorless : Outcome → Type 0
+IsDoorless outcome = (outcome ≡ Memory) ⊎ ((outcome ≡ Refused 82) ⊎ (outcome ≡ Refused 84))
+
+-- what a run at a desk is shown as at whose end so many positions are learned and so many applied
+abbrev pub ShowsDesk : (front applied : ℕ) → Option NodeFault → Outcome → Type 0
+ShowsDesk n applied None outcome = (outcome ≡ Front n applied) ⊎ IsDoorless outcome
+ShowsDesk n applied (Some e) outcome = outcome ≡ outcome_of e
+
+-- turns of a desk's node were made and requests answered, and nothing else
+abbrev pub DeskComesTo : {R : Type 0} {G : Ghosts R} → (s t : Desk R G) → Outcome → Type 0
+DeskComesTo s t outcome =
+    (w : Told) × (v : Told) × (answered : Option NodeFault) × Opened (desk_at s w) (desk_at t v) answered
+    × ShowsDesk (front (learned_by t.node)) (applied_of t.node) answered outcome
+
+-- a run over a record with its door open, and what it is shown as
+pub record OpenLife {R : Type 0} (G : Ghosts R) (m : Membership) (given : R) (outcome : Outcome) (back : R) : Type 0 where
+  pub begin : Told
+  pub end : Told
+  pub answered : Option NodeFault
+  pub life : Life G (λ s t. ServesDesk s t begin end answered) m given back
+  pub shows : ShowsDesk (front (learned_by life.done)) (applied_of life.done) answered outcome
+
+-- What a node's run with its door open comes to: the record isn't opened, or it is, turns of the member are made and
+-- requests answered at its desk, and nothing else, and it is given back.
+abbrev pub ComesOpen : {R : Type 0} → Ghosts R → Membership → (given : R) → Outcome → (back : R) → Type 0
+ComesOpen G m given outcome back =
+    ((e : NodeFault) × (outcome ≡ outcome_of e) × OpenRefused G m.members given e back)
+    ⊎ OpenLife G m given outcome back
+
+-- the same, where there may be no socket
+abbrev pub ComesOpenOr : {R : Type 0} → Ghosts R → Membership → (given : R) → Outcome → (back : R) → Type 0
+ComesOpenOr G m given outcome back = ComesOpen G m given outcome back ⊎ (IsDoorless outcome × (back ≡ given))
 
 -- the refusals of a store
 abbrev pub adopt_outcome : AdoptFault → Outcome
