@@ -1,5 +1,5 @@
 -- A member that waits for nothing is told what it has missed, position by position.
-use Rattle.std.proofs.Common.{◌≡◌, ℕ, zero, suc, ◌+◌, ◌-◌, ◌*◌, ◌<◌, ◌≤◌, Bool, true, ◌&&◌, inl, inr, List, [], ◌∷◌, Option, Some, None, is_none, arith, refl, sym, ap, subst, ◌∙◌, eqb, ltb, leb, ne_eqb, eq-eqb, eqb-true, lt-ltb, le-leb}
+use Rattle.std.proofs.Common.{◌≡◌, ℕ, zero, suc, ◌+◌, ◌-◌, ◌*◌, ◌<◌, ◌≤◌, Bool, true, ◌&&◌, inl, inr, List, [], ◌∷◌, length, Option, Some, None, is_none, arith, refl, sym, ap, subst, ◌∙◌, eqb, ltb, leb, ne_eqb, eq-eqb, eqb-true, lt-ltb, le-leb}
 use Rattle.std.proofs.lemmas.Bool.{cond_both, cases_lt, and_from}
 use Rattle.px_model.specs.Node.{IsEquality, Entry, Log, Message, Input, Plan, Answer, Volatile, Record}
 use Rattle.px_model.specs.Node.Change.{NewLearned}
@@ -10,12 +10,12 @@ use Rattle.px_model.specs.Step.{without, positions, front, in_window, to_all, an
 use Rattle.px_model.specs.World.{World, NodeState, Learning, Event, learned_by, comes_to, step_in, goes_on, emptied, stops_after, at_member, happens, run, moved}
 use Rattle.px_model.specs.World.Event.{Runs, StopBefore, StopAfter, Restart}
 use Rattle.px_model.specs.Law.{Among, learned_of, world_after}
-use Rattle.px_model.specs.Progress.{CanReach, CatchesUp, pair, only}
+use Rattle.px_model.specs.Progress.{CatchesUp, pair, only}
 use Rattle.px_model.proofs.Basics.{put_all, among_right, put_same}
 use Rattle.px_model.proofs.Backed.{record_of}
 use Rattle.px_model.proofs.Plans.{after, at_front, front_within, below_front}
 use Rattle.px_model.proofs.Runs.{always_good}
-use Rattle.px_model.proofs.Going.{Live, live_run, already, weaker, then, tick, deliver}
+use Rattle.px_model.proofs.Going.{Live, Reaches, IsFresh, all_new, live_run, already, weaker, then, tick, deliver}
 use Rattle.px_model.proofs.Replies.{learning_plan, yes_no, if_true, if_false}
 use Rattle.px_model.proofs.Attempts.{now, sent_all, sent_one, stored_stays, volatile_stays}
 
@@ -79,11 +79,11 @@ front_passed {C} w w' k m x under is =
       | inr over ↦ (let at : f ≡ q = omega arith in (x, subst (λ (j : ℕ). learned_of w' m j ≡ Some x) at is))
     ])
 
-module _ {C : Type 0} (same : C → C → Bool) (exact : IsEquality same) (n : ℕ) (small : n ≤ 15) (clocks members : ℕ → Bool) where
-  pub keeping : (w : World C) (k : ℕ) (P : World C → Type 0) → Live n members w → CanReach same n clocks members w k P → CanReach same n clocks members w k (λ w'. P w' × Keeps w w')
+module _ {C : Type 0} (same : C → C → Bool) (exact : IsEquality same) (n : ℕ) (small : n ≤ 15) (since : ℕ) (clocks members : ℕ → Bool) where
+  pub keeping : (w : World C) (k : ℕ) (P : World C → Type 0) → Live n since members w → Reaches same n since clocks members w k P → Reaches same n since clocks members w k (λ w'. P w' × Keeps w w')
   keeping w k P l g =
       let w' = run same n g.events w in
-      let l' = live_run same exact n small clocks members g.events w g.within l in
+      let l' = live_run same exact n small since clocks members g.events w g.within l in
       record {
         events = g.events;
         few = g.few;
@@ -150,20 +150,20 @@ told_later {C} w w1 w2 j p x stored volatile t = record {
   learned = t.learned;
 }
 
-module _ {C : Type 0} (same : C → C → Bool) (exact : IsEquality same) (n : ℕ) (small : n ≤ 15) (clocks members : ℕ → Bool) (m : ℕ) (member : m < n) (belongs : members m ≡ true) (j : ℕ) (lt : j < n) (q : members j ≡ true) (clock : clocks j ≡ true) where
+module _ {C : Type 0} (same : C → C → Bool) (exact : IsEquality same) (n : ℕ) (small : n ≤ 15) (since : ℕ) (clocks members : ℕ → Bool) (m : ℕ) (member : m < n) (belongs : members m ≡ true) (j : ℕ) (lt : j < n) (q : members j ≡ true) (clock : clocks j ≡ true) where
   -- m's answer comes
-  answered_ : (w : World C) → Live n members w → (w.nodes j).volatile.waiting ≡ [] → (x : Entry C) → front (learned_of w j) < positions → Among w.sent (record { sender = m; addressee = j; message = Learned (front (learned_of w j)) x }) → CanReach same n clocks members w 1 (λ z. Told w z j (front (learned_of w j)) x)
+  answered_ : (w : World C) → Live n since members w → (w.nodes j).volatile.waiting ≡ [] → (x : Entry C) → front (learned_of w j) < positions → IsFresh since w.sent (record { sender = m; addressee = j; message = Learned (front (learned_of w j)) x }) → Reaches same n since clocks members w 1 (λ z. Told w z j (front (learned_of w j)) x)
   answered_ w l idle_ x under sent =
       let p = front (learned_of w j) in
       let v = (w.nodes j).volatile in
       let back : Input C = Comes m (Learned p x) in
       let learning = learning_plan same (learned_of w j) v p x in
       let w' = after w j back learning in
-      deliver same exact n small clocks members w m j (Learned p x) learning 0 (λ z. Told w z j p x) l lt belongs q sent (is_told same n w j m p x (at_front (learned_of w j) under) refl under) (λ l'.
-      already same exact n small clocks members w' 0 (λ z. Told w z j p x) (learns w j back learning.volatile p x (ap (λ (ws : List (Entry C)). without same x ws) idle_) refl))
+      deliver same exact n small since clocks members w m j (Learned p x) learning 0 (λ z. Told w z j p x) l lt belongs q sent (is_told same n w j m p x (at_front (learned_of w j) under) refl under) (λ l'.
+      already same exact n small since clocks members w' 0 (λ z. Told w z j p x) (learns w j back learning.volatile p x (ap (λ (ws : List (Entry C)). without same x ws) idle_) refl))
 
   -- m is asked
-  asked_ : (w : World C) → Live n members w → (w.nodes j).volatile.waiting ≡ [] → (x : Entry C) → learned_of w m (front (learned_of w j)) ≡ Some x → front (learned_of w j) < positions → Among w.sent (record { sender = j; addressee = m; message = Need (front (learned_of w j)) }) → CanReach same n clocks members w 2 (λ z. Told w z j (front (learned_of w j)) x)
+  asked_ : (w : World C) → Live n since members w → (w.nodes j).volatile.waiting ≡ [] → (x : Entry C) → learned_of w m (front (learned_of w j)) ≡ Some x → front (learned_of w j) < positions → IsFresh since w.sent (record { sender = j; addressee = m; message = Need (front (learned_of w j)) }) → Reaches same n since clocks members w 2 (λ z. Told w z j (front (learned_of w j)) x)
   asked_ w l idle_ x known under sent =
       let p = front (learned_of w j) in
       let v = (w.nodes m).volatile in
@@ -175,14 +175,14 @@ module _ {C : Type 0} (same : C → C → Bool) (exact : IsEquality same) (n : �
       let volatile = volatile_stays w m come None answer.sends in
       let at : learned_of w' j ≡ learned_of w j = ap (λ (d : Record C). d.learned) (stored j) in
       let front_at : front (learned_of w' j) ≡ p = ap (λ (z : Log C). front z) at in
-      deliver same exact n small clocks members w j m (Need p) answer 1 (λ z. Told w z j p x) l member q belongs sent (tells same n w m j p x known) (λ l'.
-      weaker same exact n small clocks members w' 1 1 (λ z. Told w' z j (front (learned_of w' j)) x) (λ z. Told w z j p x) (omega arith)
+      deliver same exact n small since clocks members w j m (Need p) answer 1 (λ z. Told w z j p x) l member q belongs sent (tells same n w m j p x known) (λ l'.
+      weaker same exact n small since clocks members w' 1 1 (λ z. Told w' z j (front (learned_of w' j)) x) (λ z. Told w z j p x) (omega arith)
       (λ z t. told_later w w' z j p x stored volatile (subst (λ (k : ℕ). Told w' z j k x) front_at t))
       (answered_ w' l' (ap (λ (z : Volatile C). z.waiting) (volatile j) ∙ idle_) x (omega arith)
-      (subst (λ (k : ℕ). Among w'.sent (record { sender = m; addressee = j; message = Learned k x })) (sym front_at) (sent_one w m come n small None v saying j lt))))
+      (subst (λ (k : ℕ). IsFresh since w'.sent (record { sender = m; addressee = j; message = Learned k x })) (sym front_at) (sent_one w m come n small since l.sent None v saying j lt))))
 
   -- j's clock ticks
-  pub told : (w : World C) → Live n members w → (w.nodes j).volatile.waiting ≡ [] → (x : Entry C) → learned_of w m (front (learned_of w j)) ≡ Some x → front (learned_of w j) < positions → CanReach same n clocks members w 3 (λ z. Told w z j (front (learned_of w j)) x)
+  pub told : (w : World C) → Live n since members w → (w.nodes j).volatile.waiting ≡ [] → (x : Entry C) → learned_of w m (front (learned_of w j)) ≡ Some x → front (learned_of w j) < positions → Reaches same n since clocks members w 3 (λ z. Told w z j (front (learned_of w j)) x)
   told w l idle_ x known under =
       let p = front (learned_of w j) in
       let v = (w.nodes j).volatile in
@@ -194,33 +194,33 @@ module _ {C : Type 0} (same : C → C → Bool) (exact : IsEquality same) (n : �
       let at : learned_of w' j ≡ learned_of w j = ap (λ (d : Record C). d.learned) (stored j) in
       let front_at : front (learned_of w' j) ≡ p = ap (λ (z : Log C). front z) at in
       let known' : learned_of w' m (front (learned_of w' j)) ≡ Some x = subst (λ (k : ℕ). learned_of w' m k ≡ Some x) (sym front_at) (there (learned_of w' m) (learned_of w m) p (Some x) (ap (λ (d : Record C). d.learned) (stored m)) known) in
-      tick same exact n small clocks members w j plan 2 (λ z. Told w z j p x) l lt q clock (asks same n w j idle_ under) (λ l'.
-      weaker same exact n small clocks members w' 2 2 (λ z. Told w' z j (front (learned_of w' j)) x) (λ z. Told w z j p x) (omega arith)
+      tick same exact n small since clocks members w j plan 2 (λ z. Told w z j p x) l lt q clock (asks same n w j idle_ under) (λ l'.
+      weaker same exact n small since clocks members w' 2 2 (λ z. Told w' z j (front (learned_of w' j)) x) (λ z. Told w z j p x) (omega arith)
       (λ z t. told_later w w' z j p x stored volatile (subst (λ (k : ℕ). Told w' z j k x) front_at t))
       (asked_ w' l' (ap (λ (z : Volatile C). z.waiting) (volatile j) ∙ idle_) x known' (omega arith)
-      (subst (λ (k : ℕ). Among w'.sent (record { sender = j; addressee = m; message = Need k })) (sym front_at) (sent_all w j Ticks n small None v asking m member))))
+      (subst (λ (k : ℕ). IsFresh since w'.sent (record { sender = j; addressee = m; message = Need k })) (sym front_at) (sent_all w j Ticks n small since l.sent None v asking m member))))
 
   -- ---- position after position
 
-  catches_up : (goal d : ℕ) (w : World C) → Live n members w → (w.nodes j).volatile.waiting ≡ [] → goal ≤ front (learned_of w j) + d → goal ≤ front (learned_of w m) → CanReach same n clocks members w (3 * d) (λ z. goal ≤ front (learned_of z j))
-  catches_up goal zero w l idle_ far passed = already same exact n small clocks members w (3 * zero) (λ z. goal ≤ front (learned_of z j)) (omega arith)
+  catches_up : (goal d : ℕ) (w : World C) → Live n since members w → (w.nodes j).volatile.waiting ≡ [] → goal ≤ front (learned_of w j) + d → goal ≤ front (learned_of w m) → Reaches same n since clocks members w (3 * d) (λ z. goal ≤ front (learned_of z j))
+  catches_up goal zero w l idle_ far passed = already same exact n small since clocks members w (3 * zero) (λ z. goal ≤ front (learned_of z j)) (omega arith)
   catches_up goal (suc d) w l idle_ far passed =
       let p = front (learned_of w j) in
       let P : World C → Type 0 = λ z. goal ≤ front (learned_of z j) in
       elim (cases_lt p goal) [
-        | inr le ↦ already same exact n small clocks members w (3 * suc d) P le
+        | inr le ↦ already same exact n small since clocks members w (3 * suc d) P le
         | inl less ↦
             let under : p < positions = (let u = front_within (learned_of w m) in omega arith) in
             let known = below_front (learned_of w m) p (omega arith) in
-            weaker same exact n small clocks members w (3 + 3 * d) (3 * suc d) P P (omega arith) (λ z g. g)
-            (then same exact n small clocks members w 3 (3 * d) (λ z. Told w z j p known.0 × Keeps w z) P l
-            (keeping same exact n small clocks members w 3 (λ z. Told w z j p known.0) l (told w l idle_ known.0 known.1 under))
+            weaker same exact n small since clocks members w (3 + 3 * d) (3 * suc d) P P (omega arith) (λ z g. g)
+            (then same exact n small since clocks members w 3 (3 * d) (λ z. Told w z j p known.0 × Keeps w z) P l
+            (keeping same exact n small since clocks members w 3 (λ z. Told w z j p known.0) l (told w l idle_ known.0 known.1 under))
             (λ w' l' a.
             let rises = front_passed w w' a.1 j known.0 under a.0.learned in
             catches_up goal d w' l' a.0.waiting (omega arith) (front_stays w w' a.1 m goal passed)))
       ]
 
-  pub all_told : (w : World C) → Live n members w → (w.nodes j).volatile.waiting ≡ [] → CanReach same n clocks members w (3 * (front (learned_of w m) - front (learned_of w j))) (λ z. front (learned_of w m) ≤ front (learned_of z j))
+  pub all_told : (w : World C) → Live n since members w → (w.nodes j).volatile.waiting ≡ [] → Reaches same n since clocks members w (3 * (front (learned_of w m) - front (learned_of w j))) (λ z. front (learned_of w m) ≤ front (learned_of z j))
   all_told w l idle_ = catches_up (front (learned_of w m)) (front (learned_of w m) - front (learned_of w j)) w l idle_ (omega arith) (omega arith)
 
 pub member_catches_up : {C : Type 0} → CatchesUp C
@@ -229,10 +229,12 @@ member_catches_up {C} same exact n some small events k m lk lm uk um idle_ =
     let both = pair k m in
     let mine : both k ≡ true = if_true (eqb k k) _ _ (eq-eqb k k refl) in
     let its : both m ≡ true = cond_both (eqb m k) true (eqb m m) (λ (b : Bool). b ≡ true) (λ t. refl) (λ f. eq-eqb m m refl) in
-    all_told same exact n small (only k) both m lm its k lk mine (eq-eqb k k refl) w (record {
+    all_new same n (only k) both w _ _
+    (all_told same exact n small (length w.sent) (only k) both m lm its k lk mine (eq-eqb k k refl) w (record {
       good = always_good same exact n small events;
       up = λ i lt q. elim (yes_no (eqb i k)) [
         | inl t ↦ subst (λ (a : ℕ). (w.nodes a).is_up ≡ true) (sym (eqb-true i k t)) uk
         | inr f ↦ subst (λ (a : ℕ). (w.nodes a).is_up ≡ true) (sym (eqb-true i m (sym (if_false (eqb i k) true (eqb i m) f) ∙ q))) um
       ];
-    }) idle_
+      sent = omega arith;
+    }) idle_)

@@ -7,7 +7,7 @@ use Rattle.px_model.specs.Node.Message.{Vote}
 use Rattle.px_model.specs.Step.{IsMajority, put, positions, front, without}
 use Rattle.px_model.specs.World.{World, NodeState}
 use Rattle.px_model.specs.Law.{Chosen, learned_of, world_after}
-use Rattle.px_model.specs.Progress.{CanReach, HasEntry, NeverStuck, positions_left, only}
+use Rattle.px_model.specs.Progress.{HasEntry, NeverStuck, positions_left, only}
 use Rattle.px_model.proofs.Basics.{majorities_meet, put_same}
 use Rattle.px_model.proofs.Backed.{Acceptance, AtMost}
 use Rattle.px_model.proofs.Invariant.{Inv}
@@ -16,7 +16,7 @@ use Rattle.px_model.proofs.Reach.{front_grows}
 use Rattle.px_model.proofs.Learner.{same_entry_self}
 use Rattle.px_model.proofs.Ranges.{without_shorter}
 use Rattle.px_model.proofs.Runs.{always_good}
-use Rattle.px_model.proofs.Going.{Live, already, weaker, then, tick}
+use Rattle.px_model.proofs.Going.{Live, Reaches, all_new, already, weaker, then, tick}
 use Rattle.px_model.proofs.Replies.{NoLead, lead_plan, if_true, if_false, yes_no, some_or_none, leads}
 use Rattle.px_model.proofs.Attempts.{log_stays, now, AllUpTo, up_to_weaker, up_to_after, up_to_same, next_of, begin, Refusing, all_refuse}
 use Rattle.px_model.proofs.Promising.{Gathering, all_promise, proposed}
@@ -32,42 +32,42 @@ pub record Attempted {C : Type 0} (same : C → C → Bool) (n : ℕ) (members :
 
 -- ---- one attempt
 
-module _ {C : Type 0} (same : C → C → Bool) (exact : IsEquality same) (n : ℕ) (small : n ≤ 15) (clocks members : ℕ → Bool) (most : IsMajority n members) (m : ℕ) (member : m < n) (belongs : members m ≡ true) (clock : clocks m ≡ true) (log : Log C) (under : front log < positions) (e : Entry C) (rest : List (Entry C)) (top r : ℕ) where
+module _ {C : Type 0} (same : C → C → Bool) (exact : IsEquality same) (n : ℕ) (small : n ≤ 15) (since : ℕ) (clocks members : ℕ → Bool) (most : IsMajority n members) (m : ℕ) (member : m < n) (belongs : members m ≡ true) (clock : clocks m ≡ true) (log : Log C) (under : front log < positions) (e : Entry C) (rest : List (Entry C)) (top r : ℕ) where
   abbrev Done : World C → Type 0
   Done w = Attempted same n members m log e rest top (r + 2) w
 
   -- with a ballot above all that the group promised there
-  voted : (b : ℕ) → b < (r + 2 + 1) * 256 → (w : World C) → Live n members w → Gathering n members m log e rest top (r + 2) b n w → CanReach same n clocks members w (2 * n) Done
+  voted : (b : ℕ) → b < (r + 2 + 1) * 256 → (w : World C) → Live n since members w → Gathering n since members m log e rest top (r + 2) b n w → Reaches same n since clocks members w (2 * n) Done
   voted b low w l g =
-      let p = proposed same exact n small clocks members m member belongs log under e rest top (r + 2) b low w most g in
+      let p = proposed same exact n small since clocks members m member belongs log under e rest top (r + 2) b low w most g in
       let far = max top (suc (front log)) in
       let beyond : front log < far = omega arith in
-      let start : Voting same n members m log e rest far (r + 2) b p.entry 0 w = record {
+      let start : Voting same n since members m log e rest far (r + 2) b p.entry 0 w = record {
         up_to = λ k lt q. up_to_weaker top far (r + 2) (r + 2) (w.nodes k) (omega arith) (omega arith) (g.up_to k lt q);
         asked = p.sent;
         within = g.within;
         state = inl (record { log_is = g.log_is; waits = g.waits; votes = λ k lt q. absurd (omega arith); few = λ k lt q. absurd (omega arith) });
       } in
-      weaker same exact n small clocks members w (2 * n) (2 * n) (Voting same n members m log e rest far (r + 2) b p.entry n) Done (omega arith)
+      weaker same exact n small since clocks members w (2 * n) (2 * n) (Voting same n since members m log e rest far (r + 2) b p.entry n) Done (omega arith)
       (λ w' v.
-      let s = learned_there same exact n small clocks members m member belongs log under e rest far (r + 2) b low beyond p.entry w' most v in
+      let s = learned_there same exact n small since clocks members m member belongs log under e rest far (r + 2) b low beyond p.entry w' most v in
       record { entry = p.entry; log_is = s.log_is; waits = s.waits; up_to = v.up_to; own = p.own })
-      (all_vote same exact n small clocks members m member belongs log under e rest far (r + 2) b low beyond p.entry w l start)
+      (all_vote same exact n small since clocks members m member belongs log under e rest far (r + 2) b low beyond p.entry w l start)
 
-  gathered : (b : ℕ) → b < (r + 2 + 1) * 256 → (w : World C) → Live n members w → Gathering n members m log e rest top (r + 2) b 0 w → CanReach same n clocks members w (2 * n + 2 * n) Done
+  gathered : (b : ℕ) → b < (r + 2 + 1) * 256 → (w : World C) → Live n since members w → Gathering n since members m log e rest top (r + 2) b 0 w → Reaches same n since clocks members w (2 * n + 2 * n) Done
   gathered b low w l g =
-      then same exact n small clocks members w (2 * n) (2 * n) (Gathering n members m log e rest top (r + 2) b n) Done l
-      (all_promise same exact n small clocks members m member belongs log under e rest top (r + 2) b low w most l g)
+      then same exact n small since clocks members w (2 * n) (2 * n) (Gathering n since members m log e rest top (r + 2) b n) Done l
+      (all_promise same exact n small since clocks members m member belongs log under e rest top (r + 2) b low w most l g)
       (voted b low)
 
   -- the second round, after the refusals of the first
-  second : (b : ℕ) (w : World C) → Live n members w → r + 2 < 2 ^ 48 → Refusing n members m log e rest top (r + 1) b n w → CanReach same n clocks members w (suc (2 * n + 2 * n)) Done
+  second : (b : ℕ) (w : World C) → Live n since members w → r + 2 < 2 ^ 48 → Refusing n since members m log e rest top (r + 1) b n w → Reaches same n since clocks members w (suc (2 * n + 2 * n)) Done
   second b w l enough g =
       let q = next_of w m in
       let c = ballot_of q m in
       let here = g.up_to m member belongs in
       let le : q ≤ r + 2 = (let u = here.used in let v = here.heard in omega arith) in
-      begin same exact n small clocks members m member belongs clock log e rest top (r + 2) w l g.log_is g.waits under (subst (λ (o : Option Lead). NoLead (front log) o) (sym g.lead) tt) (omega arith) le
+      begin same exact n small since clocks members m member belongs clock log e rest top (r + 2) w l g.log_is g.waits under (subst (λ (o : Option Lead). NoLead (front log) o) (sym g.lead) tt) (omega arith) le
       (λ k lt k_in. up_to_weaker top top (r + 1) (r + 2) (w.nodes k) (omega arith) (omega arith) (g.up_to k lt k_in))
       (2 * n + 2 * n) Done
       (λ w' l' s promised up_to. gathered c (omega arith) w' l' (record {
@@ -89,17 +89,17 @@ module _ {C : Type 0} (same : C → C → Bool) (exact : IsEquality same) (n : �
       }))
 
   -- where no lead is to be used
-  without_lead : (w : World C) → Live n members w → learned_of w m ≡ log → (w.nodes m).volatile.waiting ≡ e ∷ rest → NoLead (front log) (w.nodes m).volatile.lead → AllUpTo n members top r w → r + 2 < 2 ^ 48 → CanReach same n clocks members w (suc (2 * n + suc (2 * n + 2 * n))) Done
+  without_lead : (w : World C) → Live n since members w → learned_of w m ≡ log → (w.nodes m).volatile.waiting ≡ e ∷ rest → NoLead (front log) (w.nodes m).volatile.lead → AllUpTo n members top r w → r + 2 < 2 ^ 48 → Reaches same n since clocks members w (suc (2 * n + suc (2 * n + 2 * n))) Done
   without_lead w l log_is waits lead up_to enough =
       let q = next_of w m in
       let b = ballot_of q m in
       let here = up_to m member belongs in
       let le : q ≤ r + 1 = (let u = here.used in let v = here.heard in omega arith) in
-      begin same exact n small clocks members m member belongs clock log e rest top (r + 1) w l log_is waits under lead (omega arith) le
+      begin same exact n small since clocks members m member belongs clock log e rest top (r + 1) w l log_is waits under lead (omega arith) le
       (λ k lt k_in. up_to_weaker top top r (r + 1) (w.nodes k) (omega arith) (omega arith) (up_to k lt k_in))
       (2 * n + suc (2 * n + 2 * n)) Done
-      (λ w' l' s promised up. then same exact n small clocks members w' (2 * n) (suc (2 * n + 2 * n)) (Refusing n members m log e rest top (r + 1) b n) Done l'
-      (all_refuse same exact n small clocks members m member belongs log e rest top (r + 1) b w' l' (record {
+      (λ w' l' s promised up. then same exact n small since clocks members w' (2 * n) (suc (2 * n + 2 * n)) (Refusing n since members m log e rest top (r + 1) b n) Done l'
+      (all_refuse same exact n small since clocks members m member belongs log e rest top (r + 1) b w' l' (record {
         log_is = s.log_is;
         waits = s.waits;
         lead = s.lead;
@@ -110,17 +110,17 @@ module _ {C : Type 0} (same : C → C → Bool) (exact : IsEquality same) (n : �
       }))
       (λ w2 l2 g. second b w2 l2 enough g))
 
-  with_lead : (w : World C) (x : Lead) → Live n members w → learned_of w m ≡ log → (w.nodes m).volatile.waiting ≡ e ∷ rest → (w.nodes m).volatile.lead ≡ Some x → AllUpTo n members top r w → r + 2 < 2 ^ 48 → CanReach same n clocks members w (suc (suc (2 * n + suc (2 * n + 2 * n)))) Done
+  with_lead : (w : World C) (x : Lead) → Live n since members w → learned_of w m ≡ log → (w.nodes m).volatile.waiting ≡ e ∷ rest → (w.nodes m).volatile.lead ≡ Some x → AllUpTo n members top r w → r + 2 < 2 ^ 48 → Reaches same n since clocks members w (suc (suc (2 * n + suc (2 * n + 2 * n)))) Done
   with_lead w x l log_is waits lead up_to enough =
       let limit = suc (2 * n + suc (2 * n + 2 * n)) in
       elim (cases_lt (front log) x.from) [
-        | inl above ↦ weaker same exact n small clocks members w limit (suc limit) Done Done (omega arith) (λ w' z. z) (without_lead w l log_is waits (subst (λ (o : Option Lead). NoLead (front log) o) (sym lead) above) up_to enough)
+        | inl above ↦ weaker same exact n small since clocks members w limit (suc limit) Done Done (omega arith) (λ w' z. z) (without_lead w l log_is waits (subst (λ (o : Option Lead). NoLead (front log) o) (sym lead) above) up_to enough)
         | inr le ↦
             let at : front (learned_of w m) ≡ front log = ap (λ (z : Log C). front z) log_is in
             let plan = lead_plan n m (front (learned_of w m)) (w.nodes m).volatile e x in
             let is = now w m Ticks plan.change plan.volatile plan.sends in
             let o = up_to m member belongs in
-            tick same exact n small clocks members w m plan limit Done l member belongs clock (leads same n w m e rest x waits (omega arith) lead (omega arith)) (λ l'.
+            tick same exact n small since clocks members w m plan limit Done l member belongs clock (leads same n w m e rest x waits (omega arith) lead (omega arith)) (λ l'.
             without_lead (after w m Ticks plan) l'
             (log_stays w m Ticks plan.change plan.volatile plan.sends refl m ∙ log_is)
             (ap (λ (z : NodeState C). z.volatile.waiting) is ∙ waits)
@@ -129,12 +129,12 @@ module _ {C : Type 0} (same : C → C → Bool) (exact : IsEquality same) (n : �
             enough)
       ]
 
-  pub attempt : (w : World C) → Live n members w → learned_of w m ≡ log → (w.nodes m).volatile.waiting ≡ e ∷ rest → AllUpTo n members top r w → r + 2 < 2 ^ 48 → CanReach same n clocks members w (6 * n + 3) Done
+  pub attempt : (w : World C) → Live n since members w → learned_of w m ≡ log → (w.nodes m).volatile.waiting ≡ e ∷ rest → AllUpTo n members top r w → r + 2 < 2 ^ 48 → Reaches same n since clocks members w (6 * n + 3) Done
   attempt w l log_is waits up_to enough =
       let limit = suc (2 * n + suc (2 * n + 2 * n)) in
       elim (some_or_none (w.nodes m).volatile.lead) [
-        | inl none ↦ weaker same exact n small clocks members w limit (6 * n + 3) Done Done (omega arith) (λ w' z. z) (without_lead w l log_is waits (subst (λ (o : Option Lead). NoLead (front log) o) (sym none) tt) up_to enough)
-        | inr some ↦ weaker same exact n small clocks members w (suc limit) (6 * n + 3) Done Done (omega arith) (λ w' z. z) (with_lead w some.0 l log_is waits some.1 up_to enough)
+        | inl none ↦ weaker same exact n small since clocks members w limit (6 * n + 3) Done Done (omega arith) (λ w' z. z) (without_lead w l log_is waits (subst (λ (o : Option Lead). NoLead (front log) o) (sym none) tt) up_to enough)
+        | inr some ↦ weaker same exact n small since clocks members w (suc limit) (6 * n + 3) Done Done (omega arith) (λ w' z. z) (with_lead w some.0 l log_is waits some.1 up_to enough)
       ]
 
 -- ---- what a member learned was accepted in the group
@@ -253,7 +253,7 @@ pub record Finished {C : Type 0} (n : ℕ) (members : ℕ → Bool) (m : ℕ) (e
   pub passed : position < front (learned_of w m)
   pub up_to : AllUpTo n members (suc end) r w
 
-module _ {C : Type 0} (same : C → C → Bool) (exact : IsEquality same) (n : ℕ) (small : n ≤ 15) (clocks members : ℕ → Bool) (most : IsMajority n members) (m : ℕ) (member : m < n) (belongs : members m ≡ true) (clock : clocks m ≡ true) (e : Entry C) (end : ℕ) (low : end < positions) where
+module _ {C : Type 0} (same : C → C → Bool) (exact : IsEquality same) (n : ℕ) (small : n ≤ 15) (since : ℕ) (clocks members : ℕ → Bool) (most : IsMajority n members) (m : ℕ) (member : m < n) (belongs : members m ≡ true) (clock : clocks m ≡ true) (e : Entry C) (end : ℕ) (low : end < positions) where
   -- the attempt was for e
   ended : (log : Log C) (first : Entry C) (others : List (Entry C)) (top r s : ℕ) → front log < positions → front log ≤ top → top ≤ end → r ≤ s → (w : World C) (a : Attempted same n members m log first others top r w) → a.entry ≡ e → Finished n members m e end s w
   ended log first others top r s under early le more w a is =
@@ -268,20 +268,20 @@ module _ {C : Type 0} (same : C → C → Bool) (exact : IsEquality same) (n : �
         up_to = λ j lt q. up_to_weaker (max top (suc p)) (suc end) r s (w.nodes j) (omega arith) more (a.up_to j lt q);
       }
 
-  pub finish : (d top r : ℕ) (before rest : List (Entry C)) (w : World C) → Live n members w → top + length before ≤ front (learned_of w m) + d → top + length before ≤ end → (w.nodes m).volatile.waiting ≡ before ++ e ∷ rest → AllUpTo n members top r w → r + 2 * (d + 1) < 2 ^ 48 → CanReach same n clocks members w ((d + 1) * (6 * n + 3)) (Finished n members m e end (r + 2 * (d + 1)))
+  pub finish : (d top r : ℕ) (before rest : List (Entry C)) (w : World C) → Live n since members w → top + length before ≤ front (learned_of w m) + d → top + length before ≤ end → (w.nodes m).volatile.waiting ≡ before ++ e ∷ rest → AllUpTo n members top r w → r + 2 * (d + 1) < 2 ^ 48 → Reaches same n since clocks members w ((d + 1) * (6 * n + 3)) (Finished n members m e end (r + 2 * (d + 1)))
   finish zero top r before rest w l far fits waits up_to enough =
       let log = learned_of w m in
       let under = front_low n w l.good.0 l.good.1 members most top r up_to (omega arith) m in
       let early = front_at_most n w l.good.0 l.good.1 members most top r up_to (omega arith) m in
       let first = first_of before e in
       let others = others_of before e rest in
-      weaker same exact n small clocks members w (6 * n + 3) ((zero + 1) * (6 * n + 3)) (Attempted same n members m log first others top (r + 2)) (Finished n members m e end (r + 2 * (zero + 1))) (omega arith)
+      weaker same exact n small since clocks members w (6 * n + 3) ((zero + 1) * (6 * n + 3)) (Attempted same n members m log first others top (r + 2)) (Finished n members m e end (r + 2 * (zero + 1))) (omega arith)
       (λ w' a. ended log first others top (r + 2) (r + 2 * (zero + 1)) under early (omega arith) (omega arith) w' a
       (elim (yes_no (same_entry same e a.entry)) [
         | inl is ↦ sym (entries_same same exact e a.entry is)
         | inr other ↦ absurd (let fewer = without_first same exact a.entry before e (a.own (omega arith)) other in omega arith)
       ]))
-      (attempt same exact n small clocks members most m member belongs clock log under first others top r w l refl (waits ∙ parts_of before e rest) up_to (omega arith))
+      (attempt same exact n small since clocks members most m member belongs clock log under first others top r w l refl (waits ∙ parts_of before e rest) up_to (omega arith))
   finish (suc d) top r before rest w l far fits waits up_to enough =
       let log = learned_of w m in
       let p = front log in
@@ -292,12 +292,12 @@ module _ {C : Type 0} (same : C → C → Bool) (exact : IsEquality same) (n : �
       let k = 6 * n + 3 in
       let s = r + 2 * (suc d + 1) in
       let Wanted : World C → Type 0 = λ z. Finished n members m e end s z in
-      weaker same exact n small clocks members w (k + (d + 1) * k) ((suc d + 1) * k) Wanted Wanted (one_more d k) (λ w' z. z)
-      (then same exact n small clocks members w k ((d + 1) * k) (Attempted same n members m log first others top (r + 2)) Wanted l
-      (attempt same exact n small clocks members most m member belongs clock log under first others top r w l refl (waits ∙ parts_of before e rest) up_to (omega arith))
+      weaker same exact n small since clocks members w (k + (d + 1) * k) ((suc d + 1) * k) Wanted Wanted (one_more d k) (λ w' z. z)
+      (then same exact n small since clocks members w k ((d + 1) * k) (Attempted same n members m log first others top (r + 2)) Wanted l
+      (attempt same exact n small since clocks members most m member belongs clock log under first others top r w l refl (waits ∙ parts_of before e rest) up_to (omega arith))
       (λ w' l' a.
       elim (yes_no (same_entry same e a.entry)) [
-        | inl is ↦ already same exact n small clocks members w' ((d + 1) * k) Wanted (ended log first others top (r + 2) s under early (omega arith) (omega arith) w' a (sym (entries_same same exact e a.entry is)))
+        | inl is ↦ already same exact n small since clocks members w' ((d + 1) * k) Wanted (ended log first others top (r + 2) s under early (omega arith) (omega arith) w' a (sym (entries_same same exact e a.entry is)))
         | inr other ↦
             let rises = front_rises log a.entry under in
             let moved : front (learned_of w' m) ≡ front (put log p (Some a.entry)) = ap (λ (z : Log C). front z) a.log_is in
@@ -306,7 +306,7 @@ module _ {C : Type 0} (same : C → C → Bool) (exact : IsEquality same) (n : �
             let short = without_shorter same a.entry before in
             let waits' : (w'.nodes m).volatile.waiting ≡ before' ++ e ∷ without same a.entry rest =
             a.waits ∙ (ap (λ (ws : List (Entry C)). without same a.entry ws) (sym (parts_of before e rest)) ∙ without_other same a.entry before e rest other) in
-            subst (λ (z : ℕ). CanReach same n clocks members w' ((d + 1) * k) (Finished n members m e end z)) same_rounds
+            subst (λ (z : ℕ). Reaches same n since clocks members w' ((d + 1) * k) (Finished n members m e end z)) same_rounds
             (elim (cases_lt p top) [
               | inr over ↦
                   let fewer = without_first same exact a.entry before e (a.own over) other in
@@ -327,7 +327,9 @@ never_stuck {C} same exact n some small events members top r m before e waits lo
     let c = waits.majority_runs in
     let end = top + length before in
     let limit = positions_left f end * (6 * n + 3) in
-    weaker same exact n small (only m) members w limit limit (Finished n members m e end (r + 2 * (end - f + 1))) (HasEntry m e) (omega arith) (λ w' g. (g.position, g.has))
-    (finish same exact n small (only m) members c.majority m waits.member waits.belongs (eq-eqb m m refl) e end low (end - f) top r before waits.rest w
-    (record { good = always_good same exact n small events; up = c.running })
-    (omega arith) (omega arith) waits.waiting c.up_to enough)
+    let since = length w.sent in
+    all_new same n (only m) members w limit (HasEntry m e)
+    (weaker same exact n small since (only m) members w limit limit (Finished n members m e end (r + 2 * (end - f + 1))) (HasEntry m e) (omega arith) (λ w' g. (g.position, g.has))
+    (finish same exact n small since (only m) members c.majority m waits.member waits.belongs (eq-eqb m m refl) e end low (end - f) top r before waits.rest w
+    (record { good = always_good same exact n small events; up = c.running; sent = omega arith })
+    (omega arith) (omega arith) waits.waiting c.up_to enough))

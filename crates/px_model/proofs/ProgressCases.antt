@@ -1,5 +1,5 @@
 -- The cases of progress, computed.
-use Rattle.std.proofs.Common.{◌≡◌, ℕ, true, [], ◌∷◌, ◌++◌, refl, arith}
+use Rattle.std.proofs.Common.{◌≡◌, ℕ, true, [], ◌∷◌, ◌++◌, length, refl, arith}
 use Rattle.px_model.specs.Step.{front, first_gap, top_below, step, on_ask, on_tick, new_round, use_lead, on_prepare_all, on_accept, on_promise_all, gathered, on_vote, with_vote, learn, on_nack}
 use Rattle.px_model.specs.World.{World, NodeState, happens, start}
 use Rattle.px_model.specs.Worked as worked
@@ -30,6 +30,7 @@ the_laws_apply =
 pub a_majority_finishes : cases.AMajorityFinishes
 unfolding front first_gap top_below step on_ask on_tick new_round use_lead on_prepare_all on_accept on_promise_all gathered on_vote with_vote learn on_nack
 a_majority_finishes = record {
+  sent_before = computed (λ (w : World ℕ). length w.sent) 3 cases.contended _ refl refl;
   nothing_yet = computed (λ (w : World ℕ). worked.log_of w 0) 3 (cases.contended ++ cases.refused) _ refl refl;
   first = computed (λ (w : World ℕ). worked.log_of w 0) 3 (cases.contended ++ cases.refused ++ cases.first_learned) _ refl refl;
   second = computed (λ (w : World ℕ). worked.log_of w 0) 3 (cases.contended ++ cases.refused ++ cases.first_learned ++ cases.second_learned) _ refl refl;

@@ -1,5 +1,6 @@
--- Never stuck: after any events, a majority of running members can learn what one of them waits for, by ticks and
--- messages among themselves alone. No clock and no fairness is assumed: the laws say what can happen, not what will.
+-- Never stuck: after any events, a majority of running members can learn each entry that waits at one of them, by ticks
+-- and new messages among themselves alone. No clock and no fairness is assumed: the laws say what can happen, not what
+-- will.
 use Rattle.std.specs.Prelude.{◌≡◌, ℕ, ◌+◌, ◌-◌, ◌*◌, ◌^◌, ◌<◌, ◌≤◌, Bool, true, List, [], ◌∷◌, ◌++◌, length}
 use Rattle.std.specs.Prelude.{Option, Some, None, if◌then◌else◌, nat_eq, slice_get}
 use Rattle.px_model.specs.Node.{IsEquality, Entry, Envelope, round_of}
@@ -16,29 +17,31 @@ abbrev pub IsExchanged : {C : Type 0} → (members : ℕ → Bool) → Option (E
 IsExchanged members None = ⊥
 IsExchanged members (Some x) = (members x.sender ≡ true) × (members x.addressee ≡ true)
 
--- the event is a tick of one of these clocks, or the delivery of a message between these members
-abbrev pub IsWithin : {C : Type 0} → (clocks members : ℕ → Bool) → World C → Event C → Type 0
-IsWithin clocks members w (Runs (Tick m)) = clocks m ≡ true
-IsWithin clocks members w (Runs (Deliver k)) = IsExchanged members (slice_get w.sent k)
-IsWithin clocks members w (Runs (Ask m c)) = ⊥
-IsWithin clocks members w (Runs (AskFrom m token c)) = ⊥
-IsWithin clocks members w (StopBefore a) = ⊥
-IsWithin clocks members w (StopAfter a) = ⊥
-IsWithin clocks members w (Restart m) = ⊥
+-- The event is a tick of one of these clocks, or the delivery of a message between these members, which isn't among
+-- the first `old` messages.
+abbrev pub IsWithin : {C : Type 0} → (old : ℕ) → (clocks members : ℕ → Bool) → World C → Event C → Type 0
+IsWithin old clocks members w (Runs (Tick m)) = clocks m ≡ true
+IsWithin old clocks members w (Runs (Deliver k)) = (old ≤ k) × IsExchanged members (slice_get w.sent k)
+IsWithin old clocks members w (Runs (Ask m c)) = ⊥
+IsWithin old clocks members w (Runs (AskFrom m token c)) = ⊥
+IsWithin old clocks members w (StopBefore a) = ⊥
+IsWithin old clocks members w (StopAfter a) = ⊥
+IsWithin old clocks members w (Restart m) = ⊥
 
 -- so is each of the events, in the world that those before it made
-abbrev pub AreWithin : {C : Type 0} → (C → C → Bool) → (n : ℕ) → (clocks members : ℕ → Bool) → World C →
+abbrev pub AreWithin : {C : Type 0} → (C → C → Bool) → (n old : ℕ) → (clocks members : ℕ → Bool) → World C →
     List (Event C) → Type 0
-AreWithin same n clocks members w [] = Unit {0}
-AreWithin same n clocks members w (e ∷ es) =
-    IsWithin clocks members w e × AreWithin same n clocks members (happens same n w e) es
+AreWithin same n old clocks members w [] = Unit {0}
+AreWithin same n old clocks members w (e ∷ es) =
+    IsWithin old clocks members w e × AreWithin same n old clocks members (happens same n w e) es
 
--- At most `limit` events, ticks of these clocks and messages between these members, lead to a world that is wanted.
+-- At most `limit` events lead to a wanted world: ticks of these clocks, and deliveries of messages that these members
+-- send each other in these very events. Nothing that was sent before is delivered.
 pub record CanReach {C : Type 0} (same : C → C → Bool) (n : ℕ) (clocks members : ℕ → Bool) (w : World C) (limit : ℕ)
     (Wanted : World C → Type 0) : Type 0 where
   pub events : List (Event C)
   pub few : length events ≤ limit
-  pub within : AreWithin same n clocks members w events
+  pub within : AreWithin same n (length w.sent) clocks members w events
   pub reached : Wanted (run same n events w)
 
 -- this member alone
@@ -64,7 +67,7 @@ pub record RunningMajority {C : Type 0} (n : ℕ) (w : World C) (members : ℕ �
 abbrev pub HasEntry : {C : Type 0} → (member : ℕ) → Entry C → World C → Type 0
 HasEntry m e w = (p : ℕ) × (learned_of w m p ≡ Some e)
 
--- The member m of a running majority waits for e, behind the entries `before`.
+-- The entry e waits at the member m of a running majority, behind the entries `before`.
 pub record Waits {C : Type 0} (n : ℕ) (w : World C) (members : ℕ → Bool) (top r m : ℕ) (before : List (Entry C))
     (e : Entry C) : Type 0 where
   pub majority_runs : RunningMajority n w members top r
@@ -79,9 +82,10 @@ positions_left front last = last - front + 1
 
 -- ---- the laws
 
--- After any events, if the member m of a running majority waits for e, m can learn e by its own ticks and messages
--- between members of the majority. The last position where that may be is top, or behind it as many as wait before e:
--- it must exist, with two rounds for each position up to it. Three ticks and six messages a member are enough for each.
+-- After any events, if e waits at the member m of a running majority, m can learn e by its own ticks and by new
+-- messages between members of the majority. The last position that this may take is top, plus one for each entry that
+-- waits before e: it must exist, with two rounds for each position up to it. Three ticks and six messages a member are
+-- enough for each.
 abbrev pub NeverStuck : (C : Type 0) → Type 0
 NeverStuck C =
     (same : C → C → Bool) → IsEquality same → (n : ℕ) → 1 ≤ n → n ≤ 15 →
@@ -113,8 +117,8 @@ AllLearn C =
 abbrev pub pair : (k m : ℕ) → ℕ → Bool
 pair k m j = if nat_eq j k then true else nat_eq j m
 
--- After any events, a running member k that waits for nothing can reach the front of any other running member m, by its
--- own ticks and messages between the two: three events a position, with no round and no majority.
+-- After any events, a running member k at which nothing waits can reach the front of any other running member m, by its
+-- own ticks and by new messages between the two: three events a position, with no round and no majority.
 abbrev pub CatchesUp : (C : Type 0) → Type 0
 CatchesUp C =
     (same : C → C → Bool) → IsEquality same → (n : ℕ) → 1 ≤ n → n ≤ 15 →

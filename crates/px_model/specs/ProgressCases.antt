@@ -28,8 +28,10 @@ first_learned = tick 0 ∷ deliver (16 ∷ 19 ∷ 17 ∷ 20 ∷ 21 ∷ 24 ∷ 22
 abbrev pub second_learned : List (List (Event ℕ))
 second_learned = tick 0 ∷ deliver (30 ∷ 33 ∷ 31 ∷ 36 ∷ []) ∷ []
 
--- by 19 events, 0's ticks and messages between 0 and 1, 0 learns 1's entry, and then its own
+-- 11 messages, numbered 0 to 10, were sent before, and none of them is delivered. By 19 events, 0's ticks and messages
+-- between 0 and 1, 0 learns 1's entry, and then its own
 pub record AMajorityFinishes : Type 0 where
+  pub sent_before : length (world 3 contended).sent ≡ 11
   pub nothing_yet : log_of (world 3 (contended ++ refused)) 0 ≡ None ∷ None ∷ None ∷ []
   pub first :
       log_of (world 3 (contended ++ refused ++ first_learned)) 0 ≡ Some (entry 1 0 8) ∷ None ∷ None ∷ []

@@ -109,11 +109,12 @@ pub fn reads_suffice()
     ensures { ReadsSuffice }
 {}
 
-/// Never stuck: after any events, if a majority of the members runs and one of them waits for an entry, that member can
-/// learn it by its own ticks and messages between these members. The others may be stopped or cut off for ever, and no
-/// message that was lost is needed again. Three ticks and six messages a member are enough for each position from the
-/// member's front up to the first from which on no member of the majority accepted anything, and for one more position
-/// for each entry that waits before. These positions must exist, and two rounds for each.
+/// Never stuck: after any events, if a majority of the members runs and an entry waits at one of them, that member can
+/// learn it: by its own ticks, and by messages that these members send each other from then on. No message that was
+/// sent before is needed, and the other members may be stopped or cut off for ever. Three ticks and six messages a
+/// member are enough for each position from the member's front up to the first from which on no member of the majority
+/// accepted anything, and for one more position for each entry that waits before it. These positions must exist, with
+/// two rounds for each.
 ///
 /// The law says what can happen, not that it will: it assumes no clock and no fairness.
 ///
@@ -122,16 +123,17 @@ pub fn never_stuck<C>()
     ensures { NeverStuck C }
 {}
 
-/// The same of all members of such a majority: by their ticks and messages each can learn the entry, at the one position
-/// that [`agreement`] allows.
+/// The same of all members of such a majority: by their ticks and new messages each can learn the entry, at the one
+/// position that [`agreement`] allows.
 ///
 /// Source: as of [`never_stuck`].
 pub fn all_learn<C>()
     ensures { AllLearn C }
 {}
 
-/// After any events, a running member that waits for nothing can reach the front of any other running member, by its own
-/// ticks and messages between the two: three events a position, with no round and no majority.
+/// After any events, a running member at which nothing waits can reach the front of any other running member, by its
+/// own ticks and by messages that the two send each other from then on: three events a position, with no round and no
+/// majority.
 ///
 /// Source: Paxos Made Simple, 2.3, for a learner that misses what was chosen; the messages are this project's own.
 pub fn catches_up<C>()
