@@ -21,9 +21,9 @@ are_first : (g : Group) (xs ys : List Stretch) → AreStretches g (xs ++ ys) →
 are_first g [] ys a = tt
 are_first g (x ∷ xs) ys a = (a.0, a.1, are_first g xs ys a.2)
 
-carried_first : (xs ys : List Stretch) (handed : List (ℕ × Bytes)) → AreCarried (xs ++ ys) handed → AreCarried xs handed
-carried_first [] ys handed c = tt
-carried_first (x ∷ xs) ys handed c = (c.0, carried_first xs ys (handed ++ sent_by x.deeds) c.1)
+carried_first : (g : Group) (xs ys : List Stretch) (handed : List (ℕ × Bytes)) → AreCarried g (xs ++ ys) handed → AreCarried g xs handed
+carried_first g [] ys handed c = tt
+carried_first g (x ∷ xs) ys handed c = (c.0, carried_first g xs ys (handed ++ sent_by x.deeds) c.1)
 
 deeds_more : (m : ℕ) (x : Stretch) (xs ys : List Stretch) (b : Bool) → deeds_in m (xs ++ ys) ≡ deeds_in m xs ++ deeds_in m ys →
     cond b (x.deeds ++ deeds_in m (xs ++ ys)) (deeds_in m (xs ++ ys)) ≡ cond b (x.deeds ++ deeds_in m xs) (deeds_in m xs) ++ deeds_in m ys
@@ -43,7 +43,7 @@ goes_first g xs ys goes = record {
       let s = started nothing_stored in
       lived_front g m s (stand (xs ++ ys) m) (deeds_in m xs) (deeds_in m ys)
       (subst (λ (ds : List Deed). Lived g m s ds (stand (xs ++ ys) m)) (deeds_then m xs ys) (goes.lived m below));
-  carried = carried_first xs ys [] goes.carried;
+  carried = carried_first g xs ys [] goes.carried;
 }
 
 history_then : (xs ys : List Stretch) → history_of (xs ++ ys) ≡ history_of xs ++ history_of ys

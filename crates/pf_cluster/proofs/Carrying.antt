@@ -79,7 +79,7 @@ placed : (g : Group) (from to : ℕ) (x : Message) → slice_index (spelling g f
 placed g from to x = refl
 
 message_delivered : (g : Group) (handed : List (ℕ × Bytes)) (sent : List Datagram) (m sender : ℕ) (message : node.Message Bytes) (bytes : Bytes) →
-    m ≢ asker → Holds handed sent → IsCarried handed m bytes → DatagramBytes g sender m (as_sent message) bytes →
+    m ≢ asker → Holds handed sent → IsCarried g handed m bytes → DatagramBytes g sender m (as_sent message) bytes →
     WasSent g sent m sender message ⊎ (sender ≡ asker)
 message_delivered g handed sent m sender message bytes other holds (inl among) spelled =
     let r = holds m bytes other among in
@@ -91,11 +91,13 @@ message_delivered g handed sent m sender message bytes other holds (inl among) s
       to_it = r.2;
       spelled = subst (λ (b : Bytes). DatagramBytes g sender m (as_sent message) b) (sym r.3) spelled;
     })
-message_delivered g handed sent m sender message bytes other holds (inr asks) spelled =
+message_delivered g handed sent m sender message bytes other holds (inr (inr nobodys)) spelled =
+    absurd (nobodys sender (as_sent message) spelled)
+message_delivered g handed sent m sender message bytes other holds (inr (inl asks)) spelled =
     inr (sym (placed g sender m (as_sent message)) ∙ (sym (ap (λ (b : Bytes). slice_index b 10) spelled.spelled) ∙ asks))
 
 one_delivered : (g : Group) (handed : List (ℕ × Bytes)) (sent : List Datagram) (m : ℕ) (gave : List Bytes) (x : Input Bytes) →
-    m ≢ asker → Holds handed sent → ((b : Bytes) → Among gave b → IsCarried handed m b) → AreBrought g m gave (message_in x) →
+    m ≢ asker → Holds handed sent → ((b : Bytes) → Among gave b → IsCarried g handed m b) → AreBrought g m gave (message_in x) →
     IsDelivered g sent m x
 one_delivered g handed sent m gave (Asks command) other holds carried brought = tt
 one_delivered g handed sent m gave Ticks other holds carried brought = tt
@@ -117,7 +119,7 @@ brought_rest : (g : Group) (m : ℕ) (gave : List Bytes) (xs ys : List Heard) �
 brought_rest g m gave xs ys b x among = b x (among_right xs ys x among)
 
 all_delivered : (g : Group) (handed : List (ℕ × Bytes)) (sent : List Datagram) (m : ℕ) (gave : List Bytes) (ds : List Deed) →
-    m ≢ asker → Holds handed sent → ((b : Bytes) → Among gave b → IsCarried handed m b) → AreBrought g m gave (messages_of ds) →
+    m ≢ asker → Holds handed sent → ((b : Bytes) → Among gave b → IsCarried g handed m b) → AreBrought g m gave (messages_of ds) →
     AreDelivered g sent m ds
 all_delivered g handed sent m gave [] other holds carried brought = tt
 all_delivered g handed sent m gave (Deed.Calls x t out ∷ ds) other holds carried brought = (
@@ -334,7 +336,7 @@ no_asker : (n m : ℕ) → n ≤ 15 → m < n → m ≢ asker
 no_asker n m few below is = let is' : m ≡ 255 = is in omega (arith, few, below, is')
 
 goes_on : (g : Group) (xs : List Stretch) (c : Cluster) (nodes : ℕ → NodeState Bytes) (handed : List (ℕ × Bytes)) → g.members ≤ 15 →
-    Stands c nodes → Holds handed c.sent → AreStretches g xs → Live g nodes xs → AreCarried xs handed →
+    Stands c nodes → Holds handed c.sent → AreStretches g xs → Live g nodes xs → AreCarried g xs handed →
     MayAllHappen g (history_of xs) c × ((k : ℕ) → (after (history_of xs) c).nodes k ≡ led_to (nodes k) (deeds_in k xs))
 goes_on g [] c nodes handed few stands holds are live carried = (tt, stands)
 goes_on g (x ∷ xs) c nodes handed few stands holds are live carried =

@@ -114,12 +114,12 @@ told old new xs ys g t = told_more t.0 xs ys old new t.1 t.2 g
 record IsLived {R : Type 0} {G : Ghosts R} (g : Group) (nodes : ℕ → NodeState Bytes) (handed : List (ℕ × Bytes)) (r : Run G) : Type 0 where
   stretch : Stretch
   lived : IsStretch g (nodes stretch.member) stretch
-  carried : (bytes : Bytes) → Among stretch.gave bytes → IsCarried handed stretch.member bytes
+  carried : (bytes : Bytes) → Among stretch.gave bytes → IsCarried g handed stretch.member bytes
   sent : r.handed ≡ sent_by stretch.deeds
   stands : put nodes (member_in r) (state_in r.to.replica) ≡ put_on nodes stretch
 
 run_lived : {R : Type 0} {G : Ghosts R} (g : Group) (nodes : ℕ → NodeState Bytes) (handed : List (ℕ × Bytes)) (r : Run G) →
-    IsRun g (nodes (member_in r)) r → ((bytes : Bytes) → Among r.gave bytes → IsCarried handed (member_in r) bytes) →
+    IsRun g (nodes (member_in r)) r → ((bytes : Bytes) → Among r.gave bytes → IsCarried g handed (member_in r) bytes) →
     IsLived g nodes handed r
 run_lived {R} {G} g nodes handed r is carries =
     let l = is.living in
@@ -150,7 +150,7 @@ record AreOf {R : Type 0} {G : Ghosts R} (g : Group) (nodes : ℕ → NodeState 
   more : List Stretch
   are : AreStretches g (before ++ more)
   live : Live g nodes (before ++ more)
-  carried : AreCarried (before ++ more) handed
+  carried : AreCarried g (before ++ more) handed
   early : (k : ℕ) → led_to (nodes k) (deeds_in k before) ≡ standing_in rs nodes k
   late : (k : ℕ) → led_to (nodes k) (deeds_in k (before ++ more)) ≡ standing_in (rs ++ ss) nodes k
 
@@ -168,7 +168,7 @@ first_led g nodes handed r xs one k t e =
     ∙ ap (λ (n : ℕ → NodeState Bytes). led_to (n k) (deeds_in k xs)) (sym one.stands) ∙ e
 
 runs_lived : {R : Type 0} {G : Ghosts R} (g : Group) (ss : List (Run G)) (nodes : ℕ → NodeState Bytes) (handed : List (ℕ × Bytes)) →
-    AreRuns g ss nodes → NetworkCarries ss handed → AreOf g nodes handed [] ss
+    AreRuns g ss nodes → NetworkCarries g ss handed → AreOf g nodes handed [] ss
 runs_lived g [] nodes handed are carries = record {
   before = [];
   more = [];
@@ -187,13 +187,13 @@ runs_lived g (r ∷ ss) nodes handed are carries =
       more = one.stretch ∷ xs;
       are = (one.lived.below, one.lived.brought, rest.are);
       live = first_live g nodes handed r xs one rest.live;
-      carried = (one.carried, subst (λ (hs : List (ℕ × Bytes)). AreCarried xs (handed ++ hs)) one.sent rest.carried);
+      carried = (one.carried, subst (λ (hs : List (ℕ × Bytes)). AreCarried g xs (handed ++ hs)) one.sent rest.carried);
       early = λ k. refl;
       late = λ k. first_led g nodes handed r xs one k _ (rest.late k);
     }
 
 both_lived : {R : Type 0} {G : Ghosts R} (g : Group) (rs ss : List (Run G)) (nodes : ℕ → NodeState Bytes) (handed : List (ℕ × Bytes)) →
-    AreRuns g (rs ++ ss) nodes → NetworkCarries (rs ++ ss) handed → AreOf g nodes handed rs ss
+    AreRuns g (rs ++ ss) nodes → NetworkCarries g (rs ++ ss) handed → AreOf g nodes handed rs ss
 both_lived g [] ss nodes handed are carries = runs_lived g ss nodes handed are carries
 both_lived g (r ∷ rs) ss nodes handed are carries =
     let one = run_lived g nodes handed r are.0 carries.0 in
@@ -204,7 +204,7 @@ both_lived g (r ∷ rs) ss nodes handed are carries =
       more = rest.more;
       are = (one.lived.below, one.lived.brought, rest.are);
       live = first_live g nodes handed r xs one rest.live;
-      carried = (one.carried, subst (λ (hs : List (ℕ × Bytes)). AreCarried xs (handed ++ hs)) one.sent rest.carried);
+      carried = (one.carried, subst (λ (hs : List (ℕ × Bytes)). AreCarried g xs (handed ++ hs)) one.sent rest.carried);
       early = λ k. first_led g nodes handed r rest.before one k _ (rest.early k);
       late = λ k. first_led g nodes handed r xs one k _ (rest.late k);
     }

@@ -1,48 +1,65 @@
 -- What a network may carry, worked on small cases. No law rests on these.
-use Rattle.std.proofs.Common.{◌≡◌, ◌≢◌, ◌∙◌, sym, ap, refl, ℕ, List, [], ◌∷◌, Some, inl, inr}
+use Rattle.std.proofs.Common.{◌≡◌, ◌≢◌, ◌∙◌, sym, ap, subst, refl, ℕ, List, [], ◌∷◌, Some, inl, inr}
 use Rattle.std.specs.Prelude.{slice_index}
 use Rattle.px_model.specs.Node.Input.{Ticks}
 use Rattle.px_model.specs.Spelling.{Bytes}
 use Rattle.px_model.specs.World.{NodeState}
+use Rattle.px_wire.specs.Message.{Group, Message, DatagramBytes}
 use Rattle.px_replica.specs.Lives.Deed.{Calls}
+use Rattle.px_replica.specs.Replicas.{IsUnspelled}
 use Rattle.px_replica.specs.declared.datagram.Datagram.{Datagram}
 use Rattle.px_transport.specs.Memory.{given_of}
 use Rattle.px_transport.specs.declared.memory.MemoryWire.{MemoryWire}
 use Rattle.pf_cluster.specs.Wires.{AreCarried}
 use Rattle.pf_cluster.specs.Runs.{TellsMore}
 
--- Member 0's clock ticks, and it hands out one datagram for member 1. Member 1's wire gives it twice; member 2's gives an
--- ask that nobody handed over. A network may carry all of this.
-pub may_be_carried : (t u v : NodeState Bytes) (d : Datagram) (ask : Bytes) → d.to ≡ 1 → slice_index ask 10 ≡ 255 →
-    AreCarried (record { member = 0; deeds = Calls Ticks t (d ∷ []) ∷ []; gave = [] }
+empty_is_nobodys : (g : Group) (m : ℕ) → IsUnspelled g m []
+empty_is_nobodys g m from x spelled = let e : 0 ≡ 0x50 = ap (λ (b : Bytes). slice_index b 0) spelled.spelled in cc
+
+-- Member 0's clock ticks, and it hands out one datagram for member 1. Member 1's wire gives it twice; member 2's gives a
+-- request from outside that nobody handed over, and an empty datagram in place of one that it dropped. A network may
+-- carry all of this.
+pub may_be_carried : (g : Group) (t u v : NodeState Bytes) (d : Datagram) (ask : Bytes) → d.to ≡ 1 → slice_index ask 10 ≡ 255 →
+    AreCarried g (record { member = 0; deeds = Calls Ticks t (d ∷ []) ∷ []; gave = [] }
     ∷ record { member = 1; deeds = []; gave = d.bytes.items ∷ d.bytes.items ∷ [] }
-    ∷ record { member = 2; deeds = []; gave = ask ∷ [] } ∷ []) []
-may_be_carried t u v d ask to asks = (
+    ∷ record { member = 2; deeds = []; gave = ask ∷ [] ∷ [] } ∷ []) []
+may_be_carried g t u v d ask to asks = (
   λ bytes among. absurd among,
   (
     λ bytes among. elim among [
       | inl is ↦ inl (inl (cc))
       | inr later ↦ (elim later [ inl is ↦ inl (inl (cc)) | inr none ↦ absurd none ])
     ],
-    (λ bytes among. elim among [ inl is ↦ inr (ap (λ (b : Bytes). slice_index b 10) (sym is) ∙ asks) | inr none ↦ absurd none ], tt),
+    (
+      λ bytes among. elim among [
+        | inl is ↦ inr (inl (ap (λ (b : Bytes). slice_index b 10) (sym is) ∙ asks))
+        | inr later ↦ (elim later [ inl is ↦ inr (inr (subst (λ (b : Bytes). IsUnspelled g 2 b) is (empty_is_nobodys g 2))) | inr none ↦ absurd none ])
+      ],
+      tt,
+    ),
   ),
 )
 
--- A datagram that nobody handed over and that doesn't ask from outside it may not bring.
-pub forged_is_not : (m : ℕ) (t : NodeState Bytes) (forged : Bytes) → slice_index forged 10 ≢ 255 →
-    AreCarried (record { member = m; deeds = []; gave = forged ∷ [] } ∷ []) [] → ⊥
-forged_is_not m t forged other carried = elim (carried.0 forged (inl refl)) [ inl none ↦ none | inr asks ↦ other asks ]
+-- A member's message to this member that nobody handed over it may not bring.
+pub forged_is_not : (g : Group) (m sender : ℕ) (x : Message) (forged : Bytes) → DatagramBytes g sender m x forged → slice_index forged 10 ≢ 255 →
+    AreCarried g (record { member = m; deeds = []; gave = forged ∷ [] } ∷ []) [] → ⊥
+forged_is_not g m sender x forged spelled other carried =
+    elim (carried.0 forged (inl refl)) [
+      | inl none ↦ none
+      | inr r ↦ (elim r [ inl asks ↦ other asks | inr nobodys ↦ nobodys sender x spelled ])
+    ]
 
--- Nor one that was handed over for another member.
-pub misled_is_not : (t u : NodeState Bytes) (d : Datagram) → d.to ≡ 1 → slice_index d.bytes.items 10 ≢ 255 →
-    AreCarried (record { member = 0; deeds = Calls Ticks t (d ∷ []) ∷ []; gave = [] }
+-- Nor one that was handed over for another member, and is a message to this one.
+pub misled_is_not : (g : Group) (t : NodeState Bytes) (d : Datagram) (sender : ℕ) (x : Message) → d.to ≡ 1 →
+    DatagramBytes g sender 2 x d.bytes.items → slice_index d.bytes.items 10 ≢ 255 →
+    AreCarried g (record { member = 0; deeds = Calls Ticks t (d ∷ []) ∷ []; gave = [] }
     ∷ record { member = 2; deeds = []; gave = d.bytes.items ∷ [] } ∷ []) [] → ⊥
-misled_is_not t u d to other carried = elim (carried.1.0 d.bytes.items (inl refl)) [
+misled_is_not g t d sender x to spelled other carried = elim (carried.1.0 d.bytes.items (inl refl)) [
   | inl among ↦ (elim among [
     | inl is ↦ (let one : d.to ≡ 2 = ap (λ (p : ℕ × Bytes). p.0) is in cc)
     | inr none ↦ none
   ])
-  | inr asks ↦ other asks
+  | inr r ↦ (elim r [ inl asks ↦ other asks | inr nobodys ↦ nobodys sender x spelled ])
 ]
 
 -- a wire in memory that gave nothing before tells just what it gave

@@ -1,4 +1,4 @@
--- What is promised of members whose wires give nothing but what wires were handed, and asks.
+-- What is promised of members whose wires give no member's message but those that wires were handed, and requests.
 use Rattle.std.specs.Prelude.{◌≡◌, ◌<◌, ℕ, false, List, [], ◌++◌, Some}
 use Rattle.px_model.specs.Law.{Among, NoneTwice}
 use Rattle.px_model.specs.Node.{Entry}
@@ -15,14 +15,14 @@ use Rattle.pf_cluster.specs.Clusters.{MayAllHappen, after, begun}
 use Rattle.pf_cluster.specs.Promised.{IsGroup}
 use Rattle.pf_cluster.specs.Wires.{Stretch, AreStretches, AreCarried, deeds_in, stand, history_of}
 
--- These stretches happened in a cluster, in this order. What befell each member in its own, one after another, are steps
--- of the model from an empty record on. And the network gave no datagram but those that it had been handed for that
--- member, and asks.
+-- These stretches happened in a cluster, in this order. What befell each member in its own, one after another, are
+-- steps of the model from an empty record on. And the network gave a member no datagram but those that had been handed
+-- to some wire for that member before, requests from outside, and what is no member's message to it.
 pub record Goes (g : Group) (stretches : List Stretch) : Type 0 where
   pub group : IsGroup g
   pub are : AreStretches g stretches
   pub lived : (m : ℕ) → m < g.members → Lived g m (started nothing_stored) (deeds_in m stretches) (stand stretches m)
-  pub carried : AreCarried stretches []
+  pub carried : AreCarried g stretches []
 
 -- what befell the members is a history of the cluster, which leaves each of them as it stands
 abbrev pub WiresAreHistories : Type 0

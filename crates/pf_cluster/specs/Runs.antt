@@ -27,20 +27,21 @@ pub record IsStretch (g : Group) (from : NodeState Bytes) (x : Stretch) : Type 0
   pub brought : AreBrought g x.member x.gave (messages_of x.deeds)
 
 -- the stretch that it lived, up to the call that failed, if one did
-abbrev pub stretch_of : {R : Type 0} {G : Ghosts R} (x z : Stand G) (answered : Option NodeFault) → Living x z answered → Stretch
+abbrev pub stretch_of : {R : Type 0} {G : Ghosts R} (x z : Stand G) (answered : Option NodeFault) →
+    Living x z answered → Stretch
 stretch_of x z answered l = record { member = (membership_of x.replica).me; deeds = l.deeds; gave = l.came }
 
 -- the stretch that it lived and in which it stopped, in a call for this input
-abbrev pub stretch_to : {R : Type 0} {G : Ghosts R} (x z : Stand G) (answered : Option NodeFault) → Living x z answered →
-    Input Bytes → Record Bytes → Stretch
+abbrev pub stretch_to : {R : Type 0} {G : Ghosts R} (x z : Stand G) (answered : Option NodeFault) →
+    Living x z answered → Input Bytes → Record Bytes → Stretch
 stretch_to x z answered l input left = record {
   member = (membership_of x.replica).me;
   deeds = l.deeds ++ Stops input left ∷ [];
   gave = l.came ++ l.last;
 }
 
--- What a member lived is a stretch from where it began, and leads to where it stands. And whatever a stop in the end may
--- leave of its record, it lived a stretch that ends with that stop.
+-- What a member lived is a stretch from where it began, and leads to where it stands. And whatever a stop in the end
+-- may leave of its record, it lived a stretch that ends with that stop.
 abbrev pub LivesAreStretches : {R : Type 0} → Ghosts R → Type 0
 LivesAreStretches G =
     (x z : Stand G) (answered : Option NodeFault) (l : Living x z answered) →
@@ -48,7 +49,8 @@ LivesAreStretches G =
     IsStretch (group (membership_of x.replica)) (state_in x.replica) (stretch_of x z answered l) ×
     (l.then ≡ led_to (state_in x.replica) l.deeds) ×
     ((left : Record Bytes) → G.may_leave (records_of z.replica) left →
-    (input : Input Bytes) × IsStretch (group (membership_of x.replica)) (state_in x.replica) (stretch_to x z answered l input left))
+    (input : Input Bytes) ×
+    IsStretch (group (membership_of x.replica)) (state_in x.replica) (stretch_to x z answered l input left))
 
 -- the same stretch, begun by an opening of what the record was left as
 abbrev pub opened : Stretch → Stretch
@@ -76,7 +78,7 @@ LivesGo G =
     (lives : (m : ℕ) → m < g.members → Living (from m) (to m) (answered m)) →
     ((m : ℕ) → m < g.members → IsNew g m (from m)) →
     (stretches : List Stretch) → ((m : ℕ) (it : m < g.members) → deeds_in m stretches ≡ (lives m it).deeds) →
-    AreStretches g stretches → AreCarried stretches [] →
+    AreStretches g stretches → AreCarried g stretches [] →
     Goes g stretches × ((m : ℕ) (it : m < g.members) → stand stretches m ≡ (lives m it).then)
 
 -- ---- wires that tell
@@ -114,27 +116,28 @@ AreRuns g [] nodes = Unit {0}
 AreRuns g (r ∷ rs) nodes =
     IsRun g (nodes (member_in r)) r × AreRuns g rs (put nodes (member_in r) (state_in r.to.replica))
 
--- Each datagram that a wire gave in a run was handed to some wire for that member before the run began, or asks from
--- outside; these were handed already.
-abbrev pub NetworkCarries : {R : Type 0} {G : Ghosts R} → List (Run G) → (handed : List (ℕ × Bytes)) → Type 0
-NetworkCarries [] handed = Unit {0}
-NetworkCarries (r ∷ rs) handed =
-    ((bytes : Bytes) → Among r.gave bytes → IsCarried handed (member_in r) bytes) ×
-    NetworkCarries rs (handed ++ r.handed)
+-- Each datagram that a wire gave in a run was handed to some wire for that member before the run began, or is a request
+-- from outside, or no member's message to that member; these were handed already.
+abbrev pub NetworkCarries : {R : Type 0} {G : Ghosts R} → Group → List (Run G) → (handed : List (ℕ × Bytes)) → Type 0
+NetworkCarries g [] handed = Unit {0}
+NetworkCarries g (r ∷ rs) handed =
+    ((bytes : Bytes) → Among r.gave bytes → IsCarried g handed (member_in r) bytes) ×
+    NetworkCarries g rs (handed ++ r.handed)
 
 -- the members as they stand before the first run, each with an empty record
 abbrev pub at_first : (member : ℕ) → NodeState Bytes
 at_first m = started nothing_stored
 
 -- how the members stand after these runs
-abbrev pub standing_in : {R : Type 0} {G : Ghosts R} → List (Run G) → (nodes : ℕ → NodeState Bytes) → (member : ℕ) → NodeState Bytes
+abbrev pub standing_in : {R : Type 0} {G : Ghosts R} → List (Run G) → (nodes : ℕ → NodeState Bytes) → (member : ℕ) →
+    NodeState Bytes
 standing_in [] nodes = nodes
 standing_in (r ∷ rs) nodes = standing_in rs (put nodes (member_in r) (state_in r.to.replica))
 
 -- runs are stretches: a network that carries what the wires tell carries what the stretches need
 abbrev pub RunsAreStretches : {R : Type 0} → Ghosts R → Type 0
 RunsAreStretches G =
-    (g : Group) → IsGroup g → (runs : List (Run G)) → AreRuns g runs at_first → NetworkCarries runs [] →
+    (g : Group) → IsGroup g → (runs : List (Run G)) → AreRuns g runs at_first → NetworkCarries g runs [] →
     (stretches : List Stretch) × Goes g stretches × ((m : ℕ) → stand stretches m ≡ standing_in runs at_first m)
 
 -- At a moment one member has an entry as learned, at that moment or later another has one: at one position they are one
@@ -142,6 +145,6 @@ RunsAreStretches G =
 abbrev pub RunsNeverDiffer : {R : Type 0} → Ghosts R → Type 0
 RunsNeverDiffer G =
     (g : Group) → IsGroup g → (before more : List (Run G)) → AreRuns g (before ++ more) at_first →
-    NetworkCarries (before ++ more) [] → (i j p q : ℕ) (e f : Entry Bytes) →
+    NetworkCarries g (before ++ more) [] → (i j p q : ℕ) (e f : Entry Bytes) →
     HasLearned (standing_in before at_first i) p e → HasLearned (standing_in (before ++ more) at_first j) q f →
     (p ≡ q → e ≡ f) × (e ≡ f → p ≡ q)

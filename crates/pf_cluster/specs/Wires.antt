@@ -5,6 +5,7 @@ use Rattle.px_model.specs.World.{NodeState, nothing_stored, started}
 use Rattle.px_model.specs.Spelling.{Bytes}
 use Rattle.px_wire.specs.Message.{Group}
 use Rattle.px_replica.specs.Lives.{Deed, stopped}
+use Rattle.px_replica.specs.Replicas.{IsUnspelled}
 use Rattle.pf_turn.specs.Living.{messages_of, AreBrought, sent_by}
 use Rattle.pf_cluster.specs.Clusters.{Happening}
 
@@ -40,15 +41,18 @@ AreStretches g (x ∷ xs) =
 -- ---- the network
 
 -- The datagram was handed to some member's wire, for this member, at any time before and however often it is given. Or
--- whoever sent it asks from outside: its byte for the sender is 255.
-abbrev pub IsCarried : (handed : List (ℕ × Bytes)) → (member : ℕ) → Bytes → Type 0
-IsCarried handed m bytes = Among handed (m, bytes) ⊎ (slice_index bytes 10 ≡ 255)
+-- it is a request from outside: its byte for the sender is 255. Or it is no member's message to this member, which
+-- ignores it: garbage, a datagram of another cluster, the empty one that a wire gives in place of one that it drops.
+abbrev pub IsCarried : Group → (handed : List (ℕ × Bytes)) → (member : ℕ) → Bytes → Type 0
+IsCarried g handed m bytes = Among handed (m, bytes) ⊎ ((slice_index bytes 10 ≡ 255) ⊎ IsUnspelled g m bytes)
 
--- Each datagram that a wire gave in a stretch was handed to a wire before that stretch began; these were handed already.
-abbrev pub AreCarried : List Stretch → (handed : List (ℕ × Bytes)) → Type 0
-AreCarried [] handed = Unit {0}
-AreCarried (x ∷ xs) handed =
-    ((bytes : Bytes) → Among x.gave bytes → IsCarried handed x.member bytes) × AreCarried xs (handed ++ sent_by x.deeds)
+-- So is each datagram that a wire gave in a stretch, by what wires were handed before that stretch began; these were
+-- handed already.
+abbrev pub AreCarried : Group → List Stretch → (handed : List (ℕ × Bytes)) → Type 0
+AreCarried g [] handed = Unit {0}
+AreCarried g (x ∷ xs) handed =
+    ((bytes : Bytes) → Among x.gave bytes → IsCarried g handed x.member bytes) ×
+    AreCarried g xs (handed ++ sent_by x.deeds)
 
 -- ---- what happens in the cluster
 
