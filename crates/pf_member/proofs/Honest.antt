@@ -1,5 +1,5 @@
 -- What became of a record in a run, in the words of the model.
-use Rattle.std.proofs.Common.{◌≢◌, ◌∙◌, ℕ, List, ◌∷◌, ◌++◌, Option, Some, None, sym, ap, subst}
+use Rattle.std.proofs.Common.{◌≢◌, ◌∙◌, ℕ, List, [], ◌∷◌, ◌++◌, Option, Some, None, refl, sym, ap, subst, subst₂, append_assoc}
 use Rattle.px_model.specs.Node.{Record}
 use Rattle.px_model.specs.Spelling.{Bytes}
 use Rattle.px_model.specs.World.{NodeState, started}
@@ -12,8 +12,8 @@ use Rattle.px_replica.specs.declared.fault.NodeFault.{NodeFault}
 use Rattle.px_replica.specs.declared.fault.NodeFault.TheVariants as fault
 use Rattle.pf_node.specs.Nodes.{records_of, state_in}
 use Rattle.pf_node.specs.declared.state.Node.{Node}
-use Rattle.pf_turn.specs.Living.{Heard, message_in, messages_of, Brings, AreBrought, LeavesThere, Living, TurnsAreLived}
-use Rattle.pf_turn.proofs.Traffic.{messages_then, are_brought, brought_then}
+use Rattle.pf_turn.specs.Living.{Heard, message_in, messages_of, Brings, AreBrought, sent_by, LeavesThere, Living, TurnsAreLived}
+use Rattle.pf_turn.proofs.Traffic.{messages_then, sent_then, are_brought, brought_then}
 use Rattle.pf_turn.proofs.Lives.{lived_then, served_before}
 use Rattle.pf_member.specs.Lives.{Told, stands, Tells, Serves, Life, LivedOver, RunsAreLived, OneLife, RunsGoOn}
 use Rattle.pf_member.specs.declared.ended.Ended.{Ended}
@@ -73,7 +73,8 @@ runs_lived {R} G law m given back w v ended honest l =
 
 -- ---- several runs
 
-one_life : {R : Type 0} (G : Ghosts R) (m : Membership) (given back : R) (w v : Told) → LivedOver G m given back w v → OneLife G m (G.stored given) back
+one_life : {R : Type 0} (G : Ghosts R) (m : Membership) (given back : R) (w v : Told) → LivedOver G m given back w v →
+    OneLife G m (G.stored given) back ((w, v) ∷ [])
 one_life G m given back w v l = record {
   deeds = l.deeds;
   then = l.then;
@@ -82,13 +83,14 @@ one_life G m given back w v l = record {
   gave = l.came;
   last = l.last;
   brought = are_brought (group m) m.me l.came (messages_of l.deeds) l.brought;
+  told = ([], l.came ++ l.last, [], sent_by l.deeds, (refl, refl), l.gave, l.sent, refl, refl);
   stays = l.stays;
   stop = l.stop;
 }
 
-next_life : {R : Type 0} (G : Ghosts R) (m : Membership) (first : Record Bytes) (back given end : R) (w v : Told) → OneLife G m first back →
-    G.may_leave back (G.stored given) → LivedOver G m given end w v → OneLife G m first end
-next_life G m first back given end w v a may b =
+next_life : {R : Type 0} (G : Ghosts R) (m : Membership) (first : Record Bytes) (back given end : R) (runs : List (Told × Told)) (w v : Told) → OneLife G m first back runs →
+    G.may_leave back (G.stored given) → LivedOver G m given end w v → OneLife G m first end ((w, v) ∷ runs)
+next_life G m first back given end runs w v a may b =
     let g = group m in
     let left = G.stored given in
     let s = a.stop left may in
@@ -101,10 +103,22 @@ next_life G m first back given end w v a may b =
       then = b.then;
       lived = lived_then g m.me (started first) a.then b.then a.deeds tail a.lived (a.up, s.1, s.3, b.lived);
       up = b.up;
-      gave = a.gave ++ (a.last ++ b.came);
+      gave = (a.gave ++ a.last) ++ b.came;
       last = b.last;
-      brought = subst (λ (ms : List Heard). AreBrought g m.me (a.gave ++ (a.last ++ b.came)) ms) (sym (messages_then a.deeds tail))
+      brought = subst₂ (λ (bs : List Bytes) (ms : List Heard). AreBrought g m.me bs ms) (sym (append_assoc a.gave a.last b.came))
+          (sym (messages_then a.deeds tail))
           (brought_then g m.me a.gave (a.last ++ b.came) (messages_of a.deeds) (messages_of tail) a.brought last);
+      told = (
+        a.gave ++ a.last,
+        b.came ++ b.last,
+        sent_by a.deeds,
+        sent_by b.deeds,
+        a.told,
+        b.gave,
+        b.sent,
+        append_assoc (a.gave ++ a.last) b.came b.last,
+        sent_then a.deeds tail,
+      );
       stays = b.stays;
       stop = b.stop;
     }

@@ -1,5 +1,5 @@
 -- A member's run over its record and its wire.
-use Rattle.std.specs.Prelude.{◌≡◌, ◌≢◌, ◌⊎◌, ℕ, true, false, List, ◌++◌, Option, Some, None}
+use Rattle.std.specs.Prelude.{◌≡◌, ◌≢◌, ◌⊎◌, ℕ, true, false, List, [], ◌∷◌, ◌++◌, Option, Some, None}
 use Rattle.px_model.specs.Node.{Record}
 use Rattle.px_model.specs.Step.{front}
 use Rattle.px_model.specs.Spelling.{Bytes}
@@ -34,8 +34,8 @@ told_by H w = record { given = H.given w; handed = H.handed w }
 abbrev pub stands : {R : Type 0} {G : Ghosts R} → Node R G → Told → Stand G
 stands n w = record { replica = replica_of n; given = w.given; handed = w.handed }
 
--- What is said of turns at whose end so many positions are learned without a gap and so many are applied: how many these
--- are, or the fault. Where there is no wire, or memory is wanting before the first turn, none is made.
+-- What is said of turns at whose end so many positions are learned without a gap and so many are applied: how many
+-- these are, or the fault. Where there is no wire, or memory is wanting before the first turn, none is made.
 abbrev pub Tells : (front applied : ℕ) → (answered : Option NodeFault) → Ended → Type 0
 Tells n applied None ended = (ended ≡ Front n applied) ⊎ ((ended ≡ NoWire) ⊎ (ended ≡ Fault fault.Memory))
 Tells n applied (Some e) ended = ended ≡ Fault e
@@ -89,8 +89,8 @@ pub record LivedOver {R : Type 0} (G : Ghosts R) (m : Membership) (given back : 
   pub stays : G.failed back ≡ 0 → G.stored back ≡ then.stored
   pub stop : (left : Record Bytes) → G.may_leave back left → LeavesThere (group m) m.me last then left
 
--- a run's life, over a record that is honest as it is given back, is a life of the model; and a call on the record
--- failed where the run ends with a fault of the store, and nowhere else
+-- a run over a record that is honest when it is given back is a trace of the model; and no call on the record failed,
+-- unless the run ends with a fault of the store
 abbrev pub RunsAreLived : {R : Type 0} → Ghosts R → Type 0
 RunsAreLived {R} G =
     (m : Membership) (given back : R) (w v : Told) (ended : Ended) → G.is_honest back →
@@ -99,9 +99,20 @@ RunsAreLived {R} G =
 
 -- ---- one life of several runs
 
--- Steps of the model befell the member one after the other, from an opening of this record on, through whatever runs:
--- each message that came was brought by a datagram that a wire gave.
-pub record OneLife {R : Type 0} (G : Ghosts R) (m : Membership) (first : Record Bytes) (back : R) : Type 0 where
+-- The wires of these runs, the latest first, gave these datagrams in them and were handed these, where they report it.
+-- A run is what its wire reported before it and after it.
+abbrev pub WiresReport : (runs : List (Told × Told)) → (gave : List Bytes) → (handed : List (ℕ × Bytes)) → Type 0
+WiresReport [] gave handed = (gave ≡ []) × (handed ≡ [])
+WiresReport (r ∷ rs) gave handed =
+    (before : List Bytes) × (now : List Bytes) × (sent : List (ℕ × Bytes)) × (sends : List (ℕ × Bytes)) ×
+    WiresReport rs before sent × GrowsBy r.0.given now r.1.given × GrowsBy r.0.handed sends r.1.handed ×
+    (gave ≡ before ++ now) × (handed ≡ sent ++ sends)
+
+-- Steps of the model at this member, one after the other, from an opening of this record on, through these runs, the
+-- latest first. The datagrams that their wires gave have each message received among them, and those for a call that
+-- failed last; and the wires were handed what the steps send, in order, and nothing else.
+pub record OneLife {R : Type 0} (G : Ghosts R) (m : Membership) (first : Record Bytes) (back : R)
+    (runs : List (Told × Told)) : Type 0 where
   pub deeds : List Deed
   pub then : NodeState Bytes
   pub lived : Lived (group m) m.me (started first) deeds then
@@ -109,12 +120,15 @@ pub record OneLife {R : Type 0} (G : Ghosts R) (m : Membership) (first : Record 
   pub gave : List Bytes
   pub last : List Bytes
   pub brought : AreBrought (group m) m.me gave (messages_of deeds)
+  pub told : WiresReport runs (gave ++ last) (sent_by deeds)
   pub stays : G.failed back ≡ 0 → G.stored back ≡ then.stored
   pub stop : (left : Record Bytes) → G.may_leave back left → LeavesThere (group m) m.me last then left
 
--- A run is one life. Where the next one finds what a stop may have left, both are one life: so are all that follow one
--- another over one store.
+-- A run is one trace. Where the next one finds what a stop may have left, both are one trace: so are all that follow
+-- one another over one store.
 pub record RunsGoOn {R : Type 0} (G : Ghosts R) : Type 0 where
-  pub one : (m : Membership) (given back : R) (w v : Told) → LivedOver G m given back w v → OneLife G m (G.stored given) back
-  pub next : (m : Membership) (first : Record Bytes) (back given end : R) (w v : Told) → OneLife G m first back →
-      G.may_leave back (G.stored given) → LivedOver G m given end w v → OneLife G m first end
+  pub one : (m : Membership) (given back : R) (w v : Told) → LivedOver G m given back w v →
+      OneLife G m (G.stored given) back ((w, v) ∷ [])
+  pub next : (m : Membership) (first : Record Bytes) (back given end : R) (runs : List (Told × Told)) (w v : Told) →
+      OneLife G m first back runs → G.may_leave back (G.stored given) → LivedOver G m given end w v →
+      OneLife G m first end ((w, v) ∷ runs)
