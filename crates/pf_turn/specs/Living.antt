@@ -62,8 +62,8 @@ sent_by (Opens ∷ ds) = sent_by ds
 
 -- ---- a life
 
--- What a stop leaves of a member: its record, or with the change of one step more. If that step is for a message, one of
--- these datagrams brought it.
+-- What a stop leaves of a member: its record, or with the change of one step more. If that step is for a message, one
+-- of these datagrams brought it.
 abbrev pub LeavesThere : Group → (me : ℕ) → (gave : List Bytes) → NodeState Bytes → Record Bytes → Type 0
 LeavesThere g me gave s left =
     (x : Input Bytes) × IsInput g me x × AreBrought g me gave (message_in x) × LeavesOne g.members me s x left
@@ -72,8 +72,8 @@ LeavesThere g me gave s left =
 -- unless a call on its record failed; and whenever it stops it leaves its record as it was there, or with the change of
 -- the next step.
 -- Its wire gave the datagrams that are the messages which came to it, each in its place, and others that are nobody's;
--- and then, where a call failed, what came for that call and after it. And it was handed what the steps handed out, each
--- datagram once, in order, and nothing else.
+-- and then, where a call failed, what came for that call and after it. And it was handed what the steps handed out,
+-- each datagram once, in order, and nothing else.
 pub record Living {R : Type 0} {G : Ghosts R} (x z : Stand G) (answered : Option NodeFault) : Type 0 where
   pub deeds : List Deed
   pub then : NodeState Bytes
@@ -93,8 +93,8 @@ pub record Living {R : Type 0} {G : Ghosts R} (x z : Stand G) (answered : Option
   pub whole : answered ≡ None → last ≡ []
   pub membership : membership_of z.replica ≡ membership_of x.replica
 
--- Whatever turns a node makes, over a record that is honest as they end, are steps of the model that befell it; and a
--- call on its record failed where they end with a fault of the store, and nowhere else.
+-- Any turns of a node, over a record that is honest when they end, are steps of the model at that member, its trace;
+-- and no call on its record failed, unless they end with a fault of the store.
 abbrev pub TurnsAreLived : {R : Type 0} → Ghosts R → Type 0
 TurnsAreLived G =
     (x z : Stand G) (answered : Option NodeFault) → G.is_honest (records_of z.replica) →
