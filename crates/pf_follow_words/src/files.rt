@@ -4,7 +4,8 @@ use pf_config::Config;
 use pf_dump::{push_text, text_paths};
 use pf_ruleset::Name;
 use std::alloc::{AllocError, Global};
-use std::fs;
+use std::fs::{self, OpenOptions};
+use std::io::{self, Write};
 
 /// A file and its text.
 #[derive(Drop)]
@@ -70,6 +71,16 @@ fn is_written(files: &[TextFile], name: &str, text: &str) -> bool {
     files.iter().any(|old| old.is_put && old.name.as_str() == name && old.text.as_str() == text)
 }
 
+/// Writes a file that isn't there: what is under this path is taken away first, a link too, whose target stays as it is.
+fn write_new(rt: &HostRuntime, path: &str, text: &str) -> io::Result<()> {
+    let _gone = fs::remove_file(rt, path);
+    let mut file = OpenOptions::new()
+        .write(true)
+        .create_new(true)
+        .open(rt, path)?;
+    file.write_all(text.as_bytes())
+}
+
 impl TextFiles {
     /// Before anything is written.
     pub(crate) fn new(alloc: Global, folder: &str) -> Result<TextFiles, AllocError> {
@@ -91,7 +102,7 @@ impl TextFiles {
         let place = format!(in alloc; "{folder}/{name}")?;
         let beside = format!(in alloc; "{folder}/.{name}.new")?;
         Ok(
-            fs::write(rt, beside.as_str(), text).is_ok()
+            write_new(rt, beside.as_str(), text).is_ok()
                 && fs::rename(rt, beside.as_str(), place.as_str()).is_ok(),
         )
     }

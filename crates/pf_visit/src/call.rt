@@ -1,8 +1,24 @@
 //! What is sent at a door for an operator's words.
 
+use crate::sending::change_line;
 use clap::ArgMatches;
 use percent_encoding::{NON_ALPHANUMERIC, utf8_percent_encode};
 use std::alloc::{AllocError, Global};
+
+/// What a request is for.
+#[derive(Clone, Copy, PartialEq, Eq)]
+pub(crate) enum Kind {
+    /// To read what a subcommand of the node itself asks for.
+    Read,
+    /// To read a listing of pfctl's.
+    List,
+    /// To look addresses up in a table.
+    TableTest,
+    /// To learn the position of a command that changes nothing.
+    Sync,
+    /// To change the configuration.
+    Change,
+}
 
 /// A request as HTTP has it.
 #[derive(Drop)]
@@ -10,47 +26,41 @@ pub(crate) struct Call {
     pub(crate) method: &'static str,
     pub(crate) target: String,
     pub(crate) body: Vec<u8>,
-    /// Whether a command is taken in by it.
-    pub(crate) is_change: bool,
-    /// Whether that command is asked for its position alone.
-    pub(crate) is_sync: bool,
+    pub(crate) kind: Kind,
     /// Whether it is sent again where no answer comes.
     pub(crate) is_repeatable: bool,
 }
 
 impl Call {
+    fn new(method: &'static str, target: String, body: Vec<u8>, kind: Kind) -> Call {
+        Call {
+            method,
+            target,
+            body,
+            kind,
+            is_repeatable: false,
+        }
+    }
+
     /// A request without a body.
-    pub(crate) fn get(alloc: Global, target: String) -> Call {
-        Call {
-            method: "GET",
-            target,
-            body: Vec::new(alloc),
-            is_change: false,
-            is_sync: false,
-            is_repeatable: false,
-        }
+    pub(crate) fn get(alloc: Global, target: String, kind: Kind) -> Call {
+        Call::new("GET", target, Vec::new(alloc), kind)
     }
 
-    fn post(target: String, body: Vec<u8>) -> Call {
-        Call {
-            method: "POST",
-            target,
-            body,
-            is_change: false,
-            is_sync: false,
-            is_repeatable: false,
-        }
-    }
-
-    pub(crate) fn change(target: String, body: Vec<u8>) -> Call {
-        Call {
-            method: "POST",
-            target,
-            body,
-            is_change: true,
-            is_sync: false,
-            is_repeatable: false,
-        }
+    /// A change, of pfctl's arguments and the text of `-f`; none where an argument can't be sent as one.
+    pub(crate) fn change(
+        alloc: Global,
+        args: &[&str],
+        text: &[u8],
+    ) -> Result<Option<Call>, AllocError> {
+        let Some(line) = change_line(alloc, args)? else {
+            return Ok(None);
+        };
+        let mut body = Vec::from_slice(alloc, line.as_bytes())?;
+        body.push(b'\n')?;
+        body.extend_from_slice(text)?;
+        let target = String::from_str(alloc, "/v1/changes")?;
+        Ok(Some(Call::new("POST", target, body, Kind::Change)))
     }
 }
 
@@ -93,44 +103,32 @@ fn lines_of(alloc: Global, words: &[&str]) -> Result<Vec<u8>, AllocError> {
     Ok(body)
 }
 
-/// Adds an option and its value to a line, if the words have it.
-fn add_option(
-    line: &mut Vec<u8>,
-    matches: &ArgMatches<'_>,
-    option: &str,
-    id: &str,
-) -> Result<(), AllocError> {
-    if let Some(value) = matches.get_str(id) {
-        line.extend_from_slice(option.as_bytes())?;
-        line.push(b' ')?;
-        line.extend_from_slice(value.as_bytes())?;
-        line.push(b' ')?;
-    }
-    Ok(())
-}
+/// The options of pfctl that have a value and are sent, with the names under which `clap` has them.
+const OPTIONS: [(&str, &str); 4] = [
+    ("-a", "path"),
+    ("-F", "flush"),
+    ("-t", "table"),
+    ("-T", "change"),
+];
 
-/// The line of a change, and the text behind it.
-fn change_body(
+/// pfctl's arguments of a change.
+fn change_args<'m>(
     alloc: Global,
-    matches: &ArgMatches<'_>,
-    rest: &[&str],
-    text: &[u8],
-) -> Result<Vec<u8>, AllocError> {
-    let mut body = Vec::new(alloc);
-    add_option(&mut body, matches, "-a", "path")?;
-    add_option(&mut body, matches, "-F", "flush")?;
-    add_option(&mut body, matches, "-t", "table")?;
-    add_option(&mut body, matches, "-T", "change")?;
-    for word in rest {
-        body.extend_from_slice(word.as_bytes())?;
-        body.push(b' ')?;
+    matches: &'m ArgMatches<'_>,
+    rest: &'m [&'m str],
+) -> Result<Vec<&'m str>, AllocError> {
+    let mut args = Vec::new(alloc);
+    for (option, id) in &OPTIONS {
+        if let Some(value) = matches.get_str(id) {
+            args.push(*option)?;
+            args.push(value)?;
+        }
     }
+    args.extend_from_slice(rest)?;
     if matches.get_str("file").is_some() {
-        body.extend_from_slice(b"-f -")?;
+        args.extend_from_slice(&["-f", "-"])?;
     }
-    body.push(b'\n')?;
-    body.extend_from_slice(text)?;
-    Ok(body)
+    Ok(args)
 }
 
 /// The words, none where there are none.
@@ -155,11 +153,13 @@ fn listing(
         (None, Some("show")) => "/v1/table",
         (None, Some("test")) => {
             let target = target_in(alloc, "/v1/table-test", matches, at)?;
-            return Ok(Some(Call::post(target, lines_of(alloc, rest)?)));
+            let body = lines_of(alloc, rest)?;
+            return Ok(Some(Call::new("POST", target, body, Kind::TableTest)));
         }
         _ => return Ok(None),
     };
-    Ok(Some(Call::get(alloc, target_in(alloc, path, matches, at)?)))
+    let target = target_in(alloc, path, matches, at)?;
+    Ok(Some(Call::get(alloc, target, Kind::List)))
 }
 
 /// A path that ends in a word.
@@ -171,61 +171,83 @@ fn path_with(alloc: Global, path: &str, word: &str) -> Result<String, AllocError
 
 /// A command that changes nothing, since its text is refused wherever it is loaded.
 fn sync(alloc: Global) -> Result<Call, AllocError> {
-    Ok(Call {
-        method: "POST",
-        target: String::from_str(alloc, "/v1/changes")?,
-        body: Vec::from_slice(alloc, b"-f -\nsync\n")?,
-        is_change: true,
-        is_sync: true,
-        is_repeatable: false,
-    })
+    let target = String::from_str(alloc, "/v1/changes")?;
+    let body = Vec::from_slice(alloc, b"-f -\nsync\n")?;
+    Ok(Call::new("POST", target, body, Kind::Sync))
 }
 
-/// What a word of the node itself sends; none where there is no such word.
-fn own_word(
+/// What a subcommand of the node itself sends; none where there is no such subcommand.
+fn own_call(
     alloc: Global,
     matches: &ArgMatches<'_>,
     rest: &[&str],
     at: u32,
 ) -> Result<Option<Call>, AllocError> {
-    let found = match rest {
-        ["status"] => Call::get(alloc, target_in(alloc, "/v1/status", matches, at)?),
-        ["health"] => Call::get(alloc, target_in(alloc, "/readyz", matches, 0)?),
-        ["metrics"] => Call::get(alloc, target_in(alloc, "/metrics", matches, 0)?),
-        ["log"] => Call::get(alloc, target_in(alloc, "/v1/log", matches, at)?),
-        ["log", from] => Call::get(alloc, path_with(alloc, "/v1/log?from=", from)?),
-        ["request", request] => Call::get(alloc, path_with(alloc, "/v1/requests/", request)?),
-        ["stop"] => Call::post(String::from_str(alloc, "/v1/stop")?, Vec::new(alloc)),
-        ["sync"] => sync(alloc)?,
-        ["test", packets @ ..] => Call::post(
-            target_in(alloc, "/v1/test", matches, at)?,
-            lines_of(alloc, packets)?,
-        ),
+    let target = match rest {
+        ["status"] => target_in(alloc, "/v1/status", matches, at)?,
+        ["health"] => target_in(alloc, "/readyz", matches, 0)?,
+        ["metrics"] => target_in(alloc, "/metrics", matches, 0)?,
+        ["log"] => target_in(alloc, "/v1/log", matches, at)?,
+        ["log", from] => path_with(alloc, "/v1/log?from=", from)?,
+        ["request", request] => path_with(alloc, "/v1/requests/", request)?,
+        ["sync"] => return Ok(Some(sync(alloc)?)),
+        ["stop"] => {
+            let target = String::from_str(alloc, "/v1/stop")?;
+            return Ok(Some(Call::new("POST", target, Vec::new(alloc), Kind::Read)));
+        }
+        ["test", packets @ ..] => {
+            let target = target_in(alloc, "/v1/test", matches, at)?;
+            let body = lines_of(alloc, packets)?;
+            return Ok(Some(Call::new("POST", target, body, Kind::Read)));
+        }
         _ => return Ok(None),
     };
-    Ok(Some(found))
+    Ok(Some(Call::get(alloc, target, Kind::Read)))
 }
 
-/// What is sent for the words, with the text that `-f` names: a listing, a word of the node itself where the words have
-/// no option of pfctl's, else a change.
+/// Whether an argument has a control character.
+fn has_control(arg: &str) -> bool {
+    arg.as_bytes().iter().any(|b| *b < b' ' || *b == 127)
+}
+
+/// Whether an argument that is sent has a control character.
+fn have_control(matches: &ArgMatches<'_>, rest: &[&str]) -> bool {
+    rest.iter().any(|arg| has_control(arg))
+        || OPTIONS.iter().any(|(_, id)| match matches.get_str(id) {
+            Some(value) => has_control(value),
+            None => false,
+        })
+}
+
+/// Whether the arguments have an option of pfctl's.
+fn has_option(matches: &ArgMatches<'_>) -> bool {
+    ["table", "change", "flush", "file", "path", "show"]
+        .iter()
+        .any(|id| matches.get_str(id).is_some())
+        || matches.get_flag("check")
+}
+
+/// What is sent for the arguments, with the text that `-f` names: a listing, a subcommand of the node itself where the
+/// arguments have no option of pfctl's, else a change. None where an argument has a control character, or one of a
+/// change can't be sent as one argument: that is refused with 40.
 pub(crate) fn call_in(
     alloc: Global,
     matches: &ArgMatches<'_>,
     text: &[u8],
     at: u32,
-) -> Result<Call, AllocError> {
+) -> Result<Option<Call>, AllocError> {
     let rest = or_none(matches.get_strs("address"));
-    if let Some(call) = listing(alloc, matches, rest, at)? {
-        return Ok(call);
+    if have_control(matches, rest) {
+        return Ok(None);
     }
-    let has_option = ["table", "change", "flush", "file", "path"]
-        .iter()
-        .any(|id| matches.get_str(id).is_some());
-    if !has_option {
-        if let Some(call) = own_word(alloc, matches, rest, at)? {
-            return Ok(call);
+    if let Some(call) = listing(alloc, matches, rest, at)? {
+        return Ok(Some(call));
+    }
+    if !has_option(matches) {
+        if let Some(call) = own_call(alloc, matches, rest, at)? {
+            return Ok(Some(call));
         }
     }
-    let body = change_body(alloc, matches, rest, text)?;
-    Ok(Call::change(String::from_str(alloc, "/v1/changes")?, body))
+    let args = change_args(alloc, matches, rest)?;
+    Call::change(alloc, args.as_slice(), text)
 }

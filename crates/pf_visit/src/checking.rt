@@ -53,16 +53,17 @@ pub(crate) fn refused_command(
     }
 }
 
-/// What the words of a change are refused for before a node is asked: the faults of the words and their addresses (40,
-/// 24, 1 to 3, 41), and those of the text that they load (10 to 19), with its line.
-pub(crate) fn refused_words(
+/// What pfctl's arguments are refused for before a node is asked, as `ctl` refuses them: 40, 24, 1 to 3, 41, and of the
+/// text that they load 10 to 19, with its line. What reads a text and doesn't load it is 40.
+pub(crate) fn refused_args(
     alloc: Global,
     matches: &ArgMatches<'_>,
     text: &[u8],
 ) -> Result<Option<Refused>, AllocError> {
     match from_matches(alloc, matches, text) {
         Ok(Action::Change(command)) => refused_command(alloc, &command),
-        Ok(_) => Ok(Some(Refused { code: 40, line: 0 })),
+        Ok(Action::CheckOnly(_)) => Ok(Some(Refused { code: 40, line: 0 })),
+        Ok(_) => Ok(None),
         Err(fault) => match fault.code() {
             Some(code) => Ok(Some(Refused { code, line: 0 })),
             None => Err(AllocError),

@@ -2,18 +2,18 @@
 
 ghost use Rattle.std.specs.Prelude.{◌≤◌, length};
 
-use crate::call::Call;
+use crate::call::{Call, Kind};
 use httparse::Status;
 use httparse::spans::{EMPTY_HEADER_SPAN, HeaderSpan, parse_response};
 use pf_io::{InputFault, read_all};
 use std::alloc::{AllocError, Global};
-use std::io::{self, Write};
+use std::io::{self, ErrorKind, Read, Write};
 use std::net::Net;
 use std::os::unix::net::UnixStream;
-use std::time::Duration;
+use std::time::{Clock, Duration, Instant};
 
-/// How long a read or a write may take, in seconds.
-const PATIENCE: u64 = 10;
+/// How long an answer is waited for, in seconds, where nothing else is asked for.
+pub(crate) const PATIENCE: u32 = 10;
 
 /// How many fields an answer's head has at most.
 const FIELDS: usize = 64;
@@ -56,12 +56,57 @@ fn request_bytes(alloc: Global, call: &Call) -> Result<Vec<u8>, AllocError> {
     Ok(bytes)
 }
 
-/// The stream to whoever answers at the door.
-fn connect<RT: Net>(rt: &RT, door: &str) -> io::Result<UnixStream> {
+/// Until when answers are waited for, however they come.
+#[derive(Clone, Copy)]
+pub(crate) struct Deadline {
+    start: Instant,
+    limit: Duration,
+}
+
+impl Deadline {
+    /// The given number of seconds from now on.
+    pub(crate) fn new<RT: Clock>(rt: &RT, seconds: u32) -> Result<Deadline, VisitFault> {
+        match Instant::now(rt) {
+            Ok(start) => Ok(Deadline {
+                start,
+                limit: Duration::from_secs(u64::from(seconds)),
+            }),
+            Err(_) => Err(VisitFault::BadAnswer),
+        }
+    }
+
+    /// How long that is; an error where it has passed.
+    pub(crate) fn left<RT: Clock>(self, rt: &RT) -> io::Result<Duration> {
+        let left = self
+            .limit
+            .saturating_sub(Instant::now(rt)?.duration_since(self.start));
+        if left.is_zero() {
+            Err(io::Error::from(ErrorKind::TimedOut))
+        } else {
+            Ok(left)
+        }
+    }
+}
+
+/// A stream that is read until the deadline.
+struct Timed<'a, RT> {
+    rt: &'a RT,
+    stream: UnixStream,
+    deadline: Deadline,
+}
+
+impl<RT: Clock> Read for Timed<'_, RT> {
+    fn read(&mut self, into: &mut [u8]) -> io::Result<usize> {
+        let left = self.deadline.left(self.rt)?;
+        self.stream.set_read_timeout(Some(left))?;
+        self.stream.read(into)
+    }
+}
+
+/// The stream to whoever answers at the control socket.
+fn connect<RT: Net + Clock>(rt: &RT, door: &str, deadline: Deadline) -> io::Result<UnixStream> {
     let stream = UnixStream::connect(rt, door)?;
-    let patience = Duration::from_secs(PATIENCE);
-    stream.set_read_timeout(Some(patience))?;
-    stream.set_write_timeout(Some(patience))?;
+    stream.set_write_timeout(Some(deadline.left(rt)?))?;
     Ok(stream)
 }
 
@@ -114,34 +159,42 @@ fn reply_in(alloc: Global, bytes: &[u8]) -> Result<Reply, VisitFault> {
     })
 }
 
-/// Asks once at the door, over a connection of its own.
-pub(crate) fn exchange<RT: Net>(
+/// Asks once at the control socket, over a connection of its own.
+pub(crate) fn exchange<RT: Net + Clock>(
     rt: &RT,
     alloc: Global,
     door: &str,
     call: &Call,
+    deadline: Deadline,
 ) -> Result<Reply, VisitFault> {
     let bytes = request_bytes(alloc, call)?;
-    let Ok(mut stream) = connect(rt, door) else {
+    let Ok(mut stream) = connect(rt, door, deadline) else {
         return Err(VisitFault::NoDoor);
     };
     // an answer may come before all is sent
     let _sent = stream.write_all(bytes.as_slice());
-    match read_all(alloc, &mut stream) {
+    let mut answers = Timed {
+        rt,
+        stream,
+        deadline,
+    };
+    match read_all(alloc, &mut answers) {
         Ok(answer) => reply_in(alloc, answer.as_slice()),
         Err(InputFault::Memory) => Err(VisitFault::Memory),
         Err(InputFault::Failed | InputFault::TooLong) => Err(VisitFault::BadAnswer),
     }
 }
 
-/// What is read at a door under a target, in one request: an answer whose status is 200.
-pub fn read_at<RT: Net>(
+/// What is read at a control socket under a target, in one request: an answer whose status is 200, within 10 seconds.
+pub fn read_at<RT: Net + Clock>(
     rt: &RT,
     alloc: Global,
     door: &str,
     target: String,
 ) -> Result<Reply, VisitFault> {
-    let reply = exchange(rt, alloc, door, &Call::get(alloc, target))?;
+    let deadline = Deadline::new(rt, PATIENCE)?;
+    let call = Call::get(alloc, target, Kind::Read);
+    let reply = exchange(rt, alloc, door, &call, deadline)?;
     if reply.code == 200 {
         Ok(reply)
     } else {

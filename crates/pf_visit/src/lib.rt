@@ -4,18 +4,23 @@
 //!
 //! - [`run_visit`]: the word `ask` with `--door`, over any reader and writer.
 //! - [`read_at`], [`pause`]: one read at a door with its [`Reply`], and the time between two.
+//! - [`change_line`]: the line of a change that is sent, and [`laws`]: it is read as the arguments that it was made of.
 //!
-//! Within: `words` has the words as `clap` reads them, `call` what is sent for them, `checking` what they are refused
-//! for before that, `exchange` one request and its answer over the socket, `visiting` how often it is asked, `script`
-//! reads the changes of a script, `scripting` asks them, and `telling` has what people are told on standard error.
+//! Within: `words` has the arguments as `clap` reads them, `call` what is sent for them, `checking` what they are refused
+//! for before that, `exchange` one request and its answer over the socket, `visiting` how often it is asked, `showing`
+//! an answer for a terminal, `script` reads the changes of a script, `scripting` asks them, and `telling` has what people
+//! are told on standard error.
 #![tactic(auto)]
 
 mod call;
 mod checking;
 mod exchange;
+pub mod laws;
 mod running;
 mod script;
 mod scripting;
+mod sending;
+mod showing;
 mod telling;
 mod visiting;
 mod words;
@@ -23,4 +28,5 @@ mod words;
 pub use exchange::{Reply, VisitFault, read_at};
 pub use pf_io::Status;
 pub use running::run_visit;
+pub use sending::change_line;
 pub use visiting::pause;

@@ -1,12 +1,12 @@
 //! A run of `ask` with `--door`.
 
-use crate::call::{Call, call_in};
-use crate::checking::{Refused, refused_words};
+use crate::call::{Call, Kind, call_in};
+use crate::checking::{Refused, refused_args};
 use crate::exchange::{Reply, VisitFault};
 use crate::script::refused_script;
 use crate::scripting::{Errand, ask_script};
 use crate::telling::tell_left;
-use crate::visiting::visit;
+use crate::visiting::{outcome_behind, visit};
 use crate::words::command;
 use clap::ArgMatches;
 use pf_io::{InputFault, Status, misused, out_of_memory, read_all};
@@ -18,7 +18,8 @@ use std::io::{Read, Write};
 
 /// What a run comes to.
 enum Outcome {
-    Reply(Reply),
+    /// An answer, and whether it says that what was asked for was done.
+    Reply(Reply, bool),
     Refused(Refused),
     Memory,
     Unread,
@@ -54,17 +55,43 @@ fn text_for<R: Read>(
     }
 }
 
-/// What words of a change are refused for before a node is asked, unless they say that nothing is to be looked at.
+/// What pfctl's arguments are refused for before a node is asked; of a change nothing where they say that it isn't looked
+/// at.
 fn checked(
     alloc: Global,
     matches: &ArgMatches<'_>,
     call: &Call,
     text: &[u8],
 ) -> Result<Option<Refused>, AllocError> {
-    if !call.is_change || call.is_sync || matches.get_flag("unchecked") {
-        return Ok(None);
+    match call.kind {
+        Kind::Read | Kind::Sync => Ok(None),
+        Kind::Change if matches.get_flag("unchecked") => Ok(None),
+        Kind::List | Kind::TableTest | Kind::Change => refused_args(alloc, matches, text),
     }
-    refused_words(alloc, matches, text)
+}
+
+/// Whether all addresses of a test are in the table, as `2 of 3 match` says.
+fn all_match(body: &[u8]) -> bool {
+    let Ok(text) = std::str::from_utf8(body) else {
+        return false;
+    };
+    match text.split_once(" of ") {
+        Some((some, rest)) => match rest.split_once(' ') {
+            Some((all, _)) => some == all,
+            None => false,
+        },
+        None => false,
+    }
+}
+
+/// Whether an answer says that what was asked for was done.
+fn is_done(call: &Call, reply: &Reply) -> bool {
+    let body = reply.body.as_slice();
+    reply.code < 300 && match call.kind {
+        Kind::Read | Kind::List => true,
+        Kind::TableTest => all_match(body),
+        Kind::Sync | Kind::Change => !outcome_behind(body).starts_with(b"refused"),
+    }
 }
 
 /// What the words come to.
@@ -86,8 +113,10 @@ fn outcome_of<R: Read>(
         Ok(text) => text,
         Err(outcome) => return outcome,
     };
-    let Ok(call) = call_in(alloc, matches, text.as_slice(), at) else {
-        return Outcome::Memory;
+    let call = match call_in(alloc, matches, text.as_slice(), at) {
+        Ok(Some(call)) => call,
+        Ok(None) => return refused(40),
+        Err(_) => return Outcome::Memory,
     };
     match checked(alloc, matches, &call, text.as_slice()) {
         Ok(None) => {}
@@ -96,10 +125,11 @@ fn outcome_of<R: Read>(
     }
     match visit(rt, alloc, door, &call, seconds) {
         Ok(reply) => {
-            if call.is_change {
+            if call.kind == Kind::Change || call.kind == Kind::Sync {
                 tell_left(rt, reply.front);
             }
-            Outcome::Reply(reply)
+            let is_done = is_done(&call, &reply);
+            Outcome::Reply(reply, is_done)
         }
         Err(VisitFault::Memory) => Outcome::Memory,
         Err(VisitFault::NoDoor) => refused(85),
@@ -117,11 +147,11 @@ fn refusal_line(alloc: Global, refused: Refused) -> Result<String, AllocError> {
 /// Writes what a run comes to.
 fn write_outcome<W: Write>(alloc: Global, outcome: Outcome, writer: &mut W) -> Status {
     match outcome {
-        Outcome::Reply(reply) => {
+        Outcome::Reply(reply, is_done) => {
             if writer.write_all(reply.body.as_slice()).is_err() {
                 return Status::Failed;
             }
-            if reply.code < 300 {
+            if is_done {
                 Status::Done
             } else {
                 Status::Refused
@@ -198,10 +228,14 @@ fn run_script<R: Read, W: Write>(
     }
 }
 
-/// What the word `ask` with `--door` asks for, the program's name first: a request at a node's door, whose answer is
-/// written; with `--script` each change of a script, one after the other. Words of a change that are refused wherever
-/// they are asked (40, 24, 1 to 3, 41), and a text that the grammar refuses, are told before the node is asked, unless
-/// `--unchecked` stands there. 85 where nobody answers at the door, 86 where the answer is cut short or none.
+/// What the subcommand `ask` with `--door` asks for, the program's name first: a request at a node's control socket, whose
+/// answer is written; with `--script` each change of a script, one after the other. Arguments of a change that are refused
+/// wherever they are asked (40, 24, 1 to 3, 41), and a text that the grammar refuses, are refused before the node is asked,
+/// unless `--unchecked` is among them. An argument with a control character is refused (40) in any case. 85 where nobody
+/// answers at the socket, 86 where the answer is cut short or none.
+///
+/// The status is 1 where a change was refused or its outcome isn't known in time, where not all addresses of `-T test`
+/// match, and of every refusal.
 pub fn run_visit<S: AsStr, R: Read, W: Write>(
     rt: &HostRuntime,
     alloc: Global,

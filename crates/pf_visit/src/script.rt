@@ -2,7 +2,7 @@
 
 use crate::call::Call;
 use crate::checking::{Refused, refused_command};
-use pf_scripts::{ChangeFault, cut_line, push_bytes, read_change, spaced, takes_text, words_in};
+use pf_scripts::{ChangeFault, cut_line, push_bytes, read_change, takes_text, words_in};
 use std::alloc::{AllocError, Global};
 
 /// What is left of a script, and the number of its first line, from 1.
@@ -117,16 +117,12 @@ impl Change<'_> {
         }
     }
 
-    /// What is sent for it.
-    pub(crate) fn call(&self, alloc: Global) -> Result<Call, AllocError> {
-        let words = match self.words.split_first() {
-            Some((_, words)) => spaced(alloc, words)?,
-            None => String::new(alloc),
-        };
-        let mut body = Vec::from_slice(alloc, words.as_bytes())?;
-        body.push(b'\n')?;
-        body.extend_from_slice(self.text.as_slice())?;
-        Ok(Call::change(String::from_str(alloc, "/v1/changes")?, body))
+    /// What is sent for it; none where an argument has a control character.
+    pub(crate) fn call(&self, alloc: Global) -> Result<Option<Call>, AllocError> {
+        match self.words.split_first() {
+            Some((_, args)) => Call::change(alloc, args, self.text.as_slice()),
+            None => Ok(None),
+        }
     }
 }
 

@@ -37,7 +37,9 @@ fn make(
     errand: &Errand<'_>,
     change: &Change<'_>,
 ) -> Result<Went, VisitFault> {
-    let call = change.call(alloc)?;
+    let Some(call) = change.call(alloc)? else {
+        return Ok(Went::Stopped(Vec::from_slice(alloc, b"refused 40\n")?));
+    };
     let reply = visit(rt, alloc, errand.door, &call, errand.seconds)?;
     tell_left(rt, reply.front);
     let outcome = outcome_behind(reply.body.as_slice());

@@ -1,12 +1,13 @@
 //! How often it is asked at a door: once, or until what was asked is there.
 
-use crate::call::Call;
-use crate::exchange::{Reply, VisitFault, exchange};
+use crate::call::{Call, Kind};
+use crate::exchange::{Deadline, PATIENCE, Reply, VisitFault, exchange};
+use crate::showing::shown;
 use std::alloc::{AllocError, Global};
 use std::io::Read;
 use std::net::Net;
 use std::os::unix::net::UnixStream;
-use std::time::{Clock, Duration, Instant};
+use std::time::{Clock, Duration};
 
 /// How many requests follow each other at once: some two milliseconds, in which a cluster whose members are near has
 /// learned a command. A shorter pause isn't to be had, since the system counts it in ticks of its clock.
@@ -37,15 +38,6 @@ pub fn pause<RT: Net>(rt: &RT, milliseconds: u64) {
     }
 }
 
-/// Whether so many seconds haven't passed.
-fn has_time<RT: Clock>(rt: &RT, start: Option<Instant>, seconds: u32) -> bool {
-    match (start, Instant::now(rt)) {
-        (Some(start), Ok(now)) => now.duration_since(start)
-            < Duration::from_secs(u64::from(seconds)),
-        _ => false,
-    }
-}
-
 /// Whether it is to be asked again: the node says that it is waiting; or there is no answer to what takes no command
 /// in, as while the node is started anew.
 fn is_open(call: &Call, found: &Result<Reply, VisitFault>) -> bool {
@@ -56,18 +48,42 @@ fn is_open(call: &Call, found: &Result<Reply, VisitFault>) -> bool {
     }
 }
 
-/// Asks again while that is to be done, for so many seconds at most.
+/// An answer as it is printed.
+fn printable(alloc: Global, reply: Reply) -> Result<Reply, VisitFault> {
+    match shown(alloc, reply.body.as_slice())? {
+        Some(text) => Ok(Reply {
+            code: reply.code,
+            body: Vec::from_slice(alloc, text.as_bytes())?,
+            front: reply.front,
+        }),
+        None => Err(VisitFault::BadAnswer),
+    }
+}
+
+/// Asks once.
+fn ask_once<RT: Net + Clock>(
+    rt: &RT,
+    alloc: Global,
+    door: &str,
+    call: &Call,
+    deadline: Deadline,
+) -> Result<Reply, VisitFault> {
+    let reply = exchange(rt, alloc, door, call, deadline)?;
+    printable(alloc, reply)
+}
+
+/// Asks again while that is to be done and time is left, if it may be asked again at all.
 fn ask_on<RT: Net + Clock>(
     rt: &RT,
     alloc: Global,
     door: &str,
     call: &Call,
-    start: Option<Instant>,
-    seconds: u32,
+    deadline: Deadline,
+    is_once: bool,
 ) -> Result<Reply, VisitFault> {
     for ask in 0..u64::MAX {
-        let found = exchange(rt, alloc, door, call);
-        if !is_open(call, &found) || !has_time(rt, start, seconds) {
+        let found = ask_once(rt, alloc, door, call, deadline);
+        if is_once || !is_open(call, &found) || deadline.left(rt).is_err() {
             return found;
         }
         if ask >= AT_ONCE {
@@ -160,9 +176,10 @@ fn synced(alloc: Global, reply: Reply) -> Result<Reply, AllocError> {
     }
 }
 
-/// Asks, and waits for so many seconds at most: for a node that isn't so far yet, and for what comes of a command that
-/// was taken in, whose position is asked for again where no answer comes; it is `waiting` where none came in time. No
-/// command is asked twice that may have been taken in.
+/// Asks, and waits for the given number of seconds in all: for a node that isn't so far yet, and for what comes of a
+/// command that was taken in, whose position is asked for again where no answer comes; it is `waiting` where none came in
+/// time. No command is asked twice that may have been taken in. With 0 seconds it is asked once, and the answer is waited
+/// for 10 seconds at most.
 pub(crate) fn visit<RT: Net + Clock>(
     rt: &RT,
     alloc: Global,
@@ -170,9 +187,10 @@ pub(crate) fn visit<RT: Net + Clock>(
     call: &Call,
     seconds: u32,
 ) -> Result<Reply, VisitFault> {
-    let start = Instant::now(rt).ok();
-    let taken = ask_on(rt, alloc, door, call, start, seconds)?;
-    if !call.is_change || seconds == 0 {
+    let deadline = Deadline::new(rt, if seconds == 0 { PATIENCE } else { seconds })?;
+    let taken = ask_on(rt, alloc, door, call, deadline, seconds == 0)?;
+    let is_command = call.kind == Kind::Change || call.kind == Kind::Sync;
+    if !is_command || seconds == 0 {
         return Ok(taken);
     }
     let mut target = String::from_str(alloc, "/v1/requests/")?;
@@ -180,14 +198,14 @@ pub(crate) fn visit<RT: Net + Clock>(
         Some(request) => target.push_str(request)?,
         None => return Ok(taken),
     }
-    let mut call_of = Call::get(alloc, target);
+    let mut call_of = Call::get(alloc, target, Kind::Read);
     call_of.is_repeatable = true;
-    let reply = match ask_on(rt, alloc, door, &call_of, start, seconds) {
+    let reply = match ask_on(rt, alloc, door, &call_of, deadline, false) {
         Ok(reply) => reply,
         Err(VisitFault::Memory) => return Err(VisitFault::Memory),
         Err(VisitFault::NoDoor | VisitFault::BadAnswer) => waiting(alloc)?,
     };
-    if call.is_sync {
+    if call.kind == Kind::Sync {
         return Ok(synced(alloc, reply)?);
     }
     Ok(joined(taken, reply)?)
