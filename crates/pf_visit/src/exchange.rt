@@ -89,6 +89,7 @@ impl Deadline {
 }
 
 /// A stream that is read until the deadline.
+#[derive(Drop)]
 struct Timed<'a, RT> {
     rt: &'a RT,
     stream: UnixStream,

@@ -1,4 +1,4 @@
-use Rattle.pf_visit.proofs.Sending.{args_read, text_read}
+use Rattle.pf_visit.proofs.Lines.{args_read, text_read}
 use Rattle.pf_visit.proofs.laws.lines_are_read_so.Goals as goal
 
 pub returns-args : goal.returns-args
