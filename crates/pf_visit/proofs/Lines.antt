@@ -66,7 +66,7 @@ no_newlines (w ∷ v ∷ ws) e =
     let a = and_parts (is_plain w) (list_all is_plain (v ∷ ws)) e in
     list_all-append (λ b. not (b == 10)) w (32 ∷ spaced (v ∷ ws)) ∙
     and_from (list_all (λ b. not (b == 10)) w) (list_all (λ b. not (b == 10)) (32 ∷ spaced (v ∷ ws)))
-        (each (λ b. not (b == 10)) no_newline w (graphic w a.0)) (no_newlines (v ∷ ws) a.1)
+    (each (λ b. not (b == 10)) no_newline w (graphic w a.0)) (no_newlines (v ∷ ws) a.1)
 
 not_true : (b : Bool) → not b ≡ true → b ≡ false
 not_true true e = cc

@@ -12,5 +12,4 @@ pub fn lines_are_read_so()
     ensures args { (args : List (List ℕ)) (line : List ℕ) → change_line args ≡ Some line → words line ≡ args }
     ensures text { (args : List (List ℕ)) (line text : List ℕ) → change_line args ≡ Some line →
         lines (line ++ 10 ∷ text) ≡ record { content = line; has_newline = true } ∷ lines text }
-{
-}
+{}

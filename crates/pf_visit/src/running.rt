@@ -87,11 +87,12 @@ fn all_match(body: &[u8]) -> bool {
 /// Whether an answer says that what was asked for was done.
 fn is_done(call: &Call, reply: &Reply) -> bool {
     let body = reply.body.as_slice();
-    reply.code < 300 && match call.kind {
-        Kind::Read | Kind::List => true,
-        Kind::TableTest => all_match(body),
-        Kind::Sync | Kind::Change => !outcome_behind(body).starts_with(b"refused"),
-    }
+    reply.code < 300
+        && match call.kind {
+            Kind::Read | Kind::List => true,
+            Kind::TableTest => all_match(body),
+            Kind::Sync | Kind::Change => !outcome_behind(body).starts_with(b"refused"),
+        }
 }
 
 /// What the words come to.
