@@ -1,5 +1,5 @@
 -- What the line of plain arguments is read as.
-use Rattle.std.proofs.Common.{◌≡◌, ◌==◌, ℕ, ◌<◌, ◌&&◌, ◌||◌, Bool, true, false, cond, List, [], ◌∷◌, ◌++◌, Option, Some, None, refl, sym, ap, ◌∙◌, arith}
+use Rattle.std.proofs.Common.{◌≡◌, ◌==◌, ℕ, ◌<◌, Bool, true, false, cond, List, [], ◌∷◌, ◌++◌, Some, None, refl, sym, ap, ◌∙◌, arith}
 use Rattle.std.specs.Prelude.{not, nat_lt}
 use Rattle.std.specs.List.{list_all}
 use Rattle.std.proofs.lemmas.Bool.{and_parts, and_from, or_from, ltb-true, eqb-true, false_from_ne_true, not_from_false}
@@ -7,7 +7,7 @@ use Rattle.std.proofs.lemmas.List.Folds.{list_all-append}
 use Rattle.pf_eval.specs.PacketTexts.{Word, is_blank, words}
 use Rattle.pf_eval.specs.PacketGrammar.{IsWord, LastBlank, AreSpaced, LastWord, MoreWords}
 use Rattle.pf_eval.proofs.Spaces.{words_are}
-use Rattle.pf_scripts.specs.Lines.{ScriptLine, lines, at_front, spaced}
+use Rattle.pf_scripts.specs.Lines.{lines, at_front, spaced}
 use Rattle.pf_visit.specs.Sending.{is_graphic, is_plain, change_line}
 
 -- ---- bytes
