@@ -1,14 +1,22 @@
 -- Turns one after the other.
 use Rattle.std.proofs.Common.{◌≡◌, ◌∙◌, ℕ, zero, suc, List, Option, Some, None, Bool, true, false, refl, sym, subst}
+use Rattle.std.proofs.Common.{absurd, Result, Ok, inl, inr}
 use Rattle.std.specs.Prelude.{option_map, take, is_some, not}
 use Rattle.px_model.specs.Spelling.{Bytes}
 use Rattle.px_records.specs.declared.records.Records.{Ghosts}
+use Rattle.px_replica.specs.Calls.{Receives}
+use Rattle.px_replica.specs.declared.datagram.Datagram.{Datagram}
 use Rattle.px_replica.specs.declared.fault.NodeFault.{NodeFault}
+use Rattle.px_replica.specs.declared.receiving.Received.{Received}
+use Rattle.px_replica.specs.declared.receiving.Received.TheVariants as received
 use Rattle.px_replica.specs.declared.state.Replica.{Replica}
 use Rattle.px_transport.specs.Wires.{GrowsBy, Gives}
+use Rattle.px_wire.specs.Members.{as_sent}
 use Rattle.pf_turn.specs.Turns.{Acts, Stand, Turned, Ticked, Took, TookAll, TookThenTicked, Same, Turns, Ends, Served}
 use Rattle.pf_turn.specs.Turns.{handed_over}
-use Rattle.pf_turn.specs.inner.Turns.{TookOne}
+use Rattle.pf_turn.specs.Progress.{IsNobodys, SawAll}
+use Rattle.pf_turn.specs.inner.Turns.{SawOne}
+use Rattle.pf_turn.specs.declared.sight.Sight.{Sight}
 
 pub same_then : {R : Type 0} {G : Ghosts R} (x y z : Stand G) → Same x y → Same y z → Same x z
 same_then x y z s t = record {
@@ -76,31 +84,55 @@ turned_by_clock x y a t = record { came = None; gave = t.given; out = t.out; act
 pub turned_by_datagram : {R : Type 0} {G : Ghosts R} (x y : Stand G) (a : Option NodeFault) → Took x y a → Turned x y a
 turned_by_datagram x y a t = record { came = Some t.bytes; gave = t.gave; out = t.out; acts = t.acts; sent = t.sent }
 
+-- a datagram that is nobody's leaves the member as it was
+pub nobodys_still : {R : Type 0} {G : Ghosts R} (s t : Replica R G) (bytes : Bytes) (out : List Datagram) →
+    Acts s t (Some bytes) out None → IsNobodys s bytes → t ≡ s
+nobodys_still s t bytes out (_, inl lost, e) u = lost.still
+nobodys_still s t bytes out (_, inr (inl passed), e) u = passed.still
+nobodys_still s t bytes out (_, inr (inr taken), e) u = absurd (u taken.sender (as_sent taken.message) taken.spelled)
+
+-- what is received as a message is somebody's
+pub done_is_somebodys : {R : Type 0} {G : Ghosts R} (s t : Replica R G) (bytes : Bytes) (old new : List Datagram) (r : Result Received NodeFault) →
+    Receives s t bytes old new r → r ≡ Ok received.Done → IsNobodys s bytes → ⊥
+done_is_somebodys s t bytes old new r (inl lost) e u = absurd (cc)
+done_is_somebodys s t bytes old new r (inr (inl passed)) e u = absurd (cc)
+done_is_somebodys s t bytes old new r (inr (inr taken)) e u = u taken.sender (as_sent taken.message) taken.spelled
+
+-- what is seen as datagrams are taken
+pub took_all : {R : Type 0} {G : Ghosts R} (n : ℕ) (x y : Stand G) (s t : Sight) → SawAll n x y s t → TookAll n x y
+took_all zero x y s t (a, e) = a
+took_all (suc n) x z s u (y, t, a, w) = (y, took_all n x y s t a, w.took)
+
 -- where none had come the same were taken
-pub took_same : {R : Type 0} {G : Ghosts R} (n : ℕ) (x y z : Stand G) → TookAll n x y → Same y z → TookAll n x z
-took_same zero x y z a s = same_then x y z a s
-took_same {R} {G} (suc n) x y z (w, a, t) s = (
+saw_same : {R : Type 0} {G : Ghosts R} (n : ℕ) (x y z : Stand G) (s t u : Sight) → SawAll n x y s t → Same y z → u ≡ t → SawAll n x z s u
+saw_same zero x y z s t u (a, e) b f = (same_then x y z a b, f ∙ e)
+saw_same {R} {G} (suc n) x y z s t u (w, v, a, d) b f = (
   w,
+  v,
   a,
   record {
-    bytes = t.bytes;
-    gave = subst (λ (u : Option (List Bytes)). Gives w.given (Some t.bytes) u) (sym s.given) t.gave;
-    out = t.out;
-    acts = subst (λ (u : Replica R G). Acts w.replica u (Some t.bytes) t.out None) (sym s.replica) t.acts;
-    sent = subst (λ (u : Option (List (ℕ × Bytes))). GrowsBy w.handed (handed_over t.out) u) (sym s.handed) t.sent;
+    took = record {
+      bytes = d.took.bytes;
+      gave = subst (λ (o : Option (List Bytes)). Gives w.given (Some d.took.bytes) o) (sym b.given) d.took.gave;
+      out = d.took.out;
+      acts = subst (λ (r : Replica R G). Acts w.replica r (Some d.took.bytes) d.took.out None) (sym b.replica) d.took.acts;
+      sent = subst (λ (o : Option (List (ℕ × Bytes))). GrowsBy w.handed (handed_over d.took.out) o) (sym b.handed) d.took.sent;
+    };
+    still = λ n. b.replica ∙ d.still n;
+    unseen = λ n. f ∙ d.unseen n;
   },
 )
 
 -- one datagram more, or none
-pub took_more : {R : Type 0} {G : Ghosts R} (n m : ℕ) (x y z : Stand G) (had : Bool) → had ≡ true → m ≡ suc n →
-    TookAll n x y → TookOne had y z → TookAll m x z
-took_more n m x y z true e is a t = subst (λ (k : ℕ). TookAll k x z) (sym is) (y, a, t)
-took_more n m x y z false e is a t = absurd (cc)
+pub saw_more : {R : Type 0} {G : Ghosts R} (n m : ℕ) (x y z : Stand G) (s t u : Sight) (had : Bool) → had ≡ true → m ≡ suc n →
+    SawAll n x y s t → SawOne had y z t u → SawAll m x z s u
+saw_more n m x y z s t u true e is a d = subst (λ (k : ℕ). SawAll k x z s u) (sym is) (y, t, a, d)
+saw_more n m x y z s t u false e is a d = absurd (cc)
 
-pub took_no_more : {R : Type 0} {G : Ghosts R} (n : ℕ) (x y z : Stand G) (had : Bool) → had ≡ false →
-    TookAll n x y → TookOne had y z → TookAll n x z
-took_no_more n x y z false e a s = took_same n x y z a s
-took_no_more n x y z true e a s = absurd (cc)
+pub saw_no_more : {R : Type 0} {G : Ghosts R} (n : ℕ) (x y z : Stand G) (s t u : Sight) (had : Bool) → had ≡ false →
+    SawAll n x y s t → SawOne had y z t u → SawAll n x z s u
+saw_no_more n x y z s t u false e a (b, f) = saw_same n x y z s t u a b f
+saw_no_more n x y z s t u true e a d = absurd (cc)
 
 -- and then the clock ticked if that was due
 pub then_still : {R : Type 0} {G : Ghosts R} (n : ℕ) (x y : Stand G) (is_due : Bool) → is_due ≡ false →

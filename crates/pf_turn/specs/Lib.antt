@@ -1,4 +1,5 @@
 pub mod Turns
+pub mod Progress
 pub mod Living
 pub mod Releases
 pub mod inner

@@ -1,17 +1,19 @@
 //! What a node does between two waits.
 
-ghost use Rattle.std.specs.Prelude.{◌≡◌, ◌≤◌, IfOk, IfSome, length, option_map, take};
+ghost use Rattle.std.specs.Prelude.{◌≡◌, ◌≤◌, [], IfOk, IfSome, Some, length, option_map, take};
 ghost use Rattle.px_replica.specs.Faults.{fault_of};
-ghost use Rattle.pf_node.specs.Nodes.{applied_of};
+ghost use Rattle.pf_node.specs.Nodes.{replica_of, applied_of};
 ghost use Rattle.px_transport.specs.Wires.{Gives};
-ghost use Rattle.pf_turn.specs.Turns.{Ticked, TookAll, TookThenTicked, Served, standing};
-ghost use Rattle.pf_turn.specs.inner.Turns.{TookOne};
+ghost use Rattle.pf_turn.specs.Progress.{IsNobodys, SawAll, SawThen, seen_in};
+ghost use Rattle.pf_turn.specs.Turns.{Acts, Ticked, TookThenTicked, Served, standing};
+ghost use Rattle.pf_turn.specs.inner.Turns.{SawOne};
 
 use crate::room::Room;
+use crate::sight::Sight;
 use crate::turning::{act, came, send_all};
 use pf_node::Node;
 use px_records::Records;
-use px_replica::NodeFault;
+use px_replica::{Datagram, NodeFault, Received};
 use px_transport::Wire;
 
 /// Takes a datagram that has come, which is written over the front of the bytes.
@@ -40,6 +42,29 @@ pub fn tick_now<R: Records, W: Wire>(
     result
 }
 
+/// What came is received, and what its message shows of its sender is noted. A datagram that spells no message for this
+/// member changes nothing of that.
+fn receive<R: Records>(
+    node: &mut Node<R>,
+    sight: &mut Sight,
+    bytes: &[u8],
+    out: &mut Vec<Datagram>,
+) -> Result<(), NodeFault>
+    requires { out.old.items ≡ [] }
+    ensures acts { Acts (replica_of node.old) (replica_of node.new) (Some bytes.now) out.new.items (fault_of result) }
+    ensures grows { applied_of node.old ≤ applied_of node.new }
+    ensures nobodys { IsNobodys (replica_of node.old) bytes.now → sight.new ≡ sight.old }
+{
+    match node.receive(bytes, out) {
+        Ok(Received::Done) => {
+            *sight = sight.after(bytes);
+            Ok(())
+        }
+        Ok(Received::Ignored(_)) => Ok(()),
+        Err(fault) => Err(fault),
+    }
+}
+
 /// One datagram that has come is taken: whether there was one.
 fn take_one<R: Records, W: Wire>(
     node: &mut Node<R>,
@@ -48,17 +73,16 @@ fn take_one<R: Records, W: Wire>(
 ) -> Result<bool, NodeFault>
     ensures served { Served (standing W.Wire node.old wire.old) (standing W.Wire node.new wire.new)
         (fault_of result) }
-    ensures took { IfOk result (λ had. TookOne had (standing W.Wire node.old wire.old)
-        (standing W.Wire node.new wire.new)) }
+    ensures saw { IfOk result (λ had. SawOne had (standing W.Wire node.old wire.old)
+        (standing W.Wire node.new wire.new) (seen_in room.old) (seen_in room.new)) }
     ensures grows { applied_of node.old ≤ applied_of node.new }
 {
     room.out.clear();
     let len = poll(wire, &mut room.bytes);
-    if len.is_none() {
+    let Some(bytes) = came(&room.bytes, len) else {
         return Ok(false);
-    }
-    room.sight = room.sight.after(&room.bytes, len);
-    let result = act(node, came(&room.bytes, len), &mut room.out);
+    };
+    let result = receive(node, &mut room.sight, bytes, &mut room.out);
     send_all(wire, room.out.as_slice());
     match result {
         Ok(()) => Ok(true),
@@ -66,7 +90,8 @@ fn take_one<R: Records, W: Wire>(
     }
 }
 
-/// Takes what has come, one datagram after the other, so many at most: how many there were.
+/// Takes what has come, one datagram after the other, so many at most: how many there were. What is seen of other
+/// members comes from those alone that spell a message for this one.
 pub(crate) fn drain<R: Records, W: Wire>(
     node: &mut Node<R>,
     wire: &mut W,
@@ -75,8 +100,8 @@ pub(crate) fn drain<R: Records, W: Wire>(
 ) -> Result<u32, NodeFault>
     ensures served { Served (standing W.Wire node.old wire.old) (standing W.Wire node.new wire.new)
         (fault_of result) }
-    ensures took { IfOk result (λ n. TookAll n (standing W.Wire node.old wire.old)
-        (standing W.Wire node.new wire.new)) }
+    ensures saw { IfOk result (λ n. SawAll n (standing W.Wire node.old wire.old)
+        (standing W.Wire node.new wire.new) (seen_in room.old) (seen_in room.new)) }
     ensures grows { applied_of node.old ≤ applied_of node.new }
 {
     for taken in 0..most {
@@ -108,6 +133,8 @@ pub fn serve<R: Records, W: Wire>(
         (fault_of result) }
     ensures took { IfOk result (λ n. TookThenTicked n is_due (standing W.Wire node.old wire.old)
         (standing W.Wire node.new wire.new)) }
+    ensures saw { IfOk result (λ n. SawThen n (standing W.Wire node.old wire.old)
+        (seen_in room.old) (seen_in room.new)) }
     ensures grows { applied_of node.old ≤ applied_of node.new }
 {
     let taken = match drain(node, wire, room, most) {

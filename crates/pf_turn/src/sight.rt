@@ -14,8 +14,8 @@ const NEAR_PLACE: usize = 13;
 /// Where all other kinds that have a position have it.
 const FAR_PLACE: usize = 21;
 
-/// What was seen of other members since the start, by kinds and positions of datagrams alone. It decides when the
-/// clock ticks and what is sent again, and nothing else.
+/// What was seen of other members since the start, by kinds and positions of datagrams that the member accepted. It
+/// decides when the clock ticks and what is sent again, and nothing else.
 #[derive(Clone, Copy, PartialEq, Eq)]
 pub(crate) struct Sight {
     /// A position below which some member has learned all, as far as is seen.
@@ -109,8 +109,8 @@ impl Sight {
         }
     }
 
-    /// With what a datagram tells, if a member sent it.
-    fn seeing(self, datagram: &[u8]) -> Sight {
+    /// With what an accepted datagram tells, if a member sent it.
+    pub(crate) fn after(self, datagram: &[u8]) -> Sight {
         match (datagram.get(FROM_PLACE), datagram.get(KIND_PLACE)) {
             (Some(&member), Some(&kind)) => {
                 if member < 15 {
@@ -120,17 +120,6 @@ impl Sight {
                 }
             }
             _ => self,
-        }
-    }
-
-    /// With what is told by the datagram at the front of the room, if one came.
-    pub(crate) fn after(self, room: &Vec<u8>, len: Option<usize>) -> Sight {
-        match len {
-            Some(len) => match room.get(..len) {
-                Some(datagram) => self.seeing(datagram),
-                None => self,
-            },
-            None => self,
         }
     }
 }
