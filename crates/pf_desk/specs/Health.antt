@@ -1,5 +1,5 @@
 -- How a node stands among the others.
-use Rattle.std.specs.Prelude.{ℕ, Bool, false, List, ◌/◌, ◌||◌, nat_lt, count_by, Option, Some, None}
+use Rattle.std.specs.Prelude.{ℕ, Bool, false, List, ◌/◌, ◌||◌, nat_lt, nat_le, count_by, Option, Some, None}
 use Rattle.std.specs.Prelude.{codes, if◌then◌else◌}
 use Rattle.std.specs.List.{list_any}
 use Rattle.px_records.specs.declared.records.Records.{Ghosts}
@@ -7,8 +7,10 @@ use Rattle.px_model.specs.Step.{front}
 use Rattle.pf_node.specs.Nodes.{learned_by, applied_of, membership_of, has_failed}
 use Rattle.pf_node.specs.declared.state.Node.{Node}
 use Rattle.pf_desk.specs.declared.tally.PeerTally.{PeerTally}
+use Rattle.pf_desk.specs.declared.tally.Tally.{Tally}
+use Rattle.pf_desk.specs.declared.health.TheConstants.{STUCK}
 use Rattle.pf_desk.specs.declared.health.Health.{Health}
-use Rattle.pf_desk.specs.declared.health.Health.TheVariants.{Works, Behind, Alone, Failed}
+use Rattle.pf_desk.specs.declared.health.Health.TheVariants.{Works, Behind, Alone, Stuck, Failed}
 use Rattle.pf_desk.specs.Answers.{AnswerValue}
 
 -- a datagram came in the last three seconds
@@ -20,28 +22,38 @@ is_recent (Some seconds) = nat_lt seconds 3
 abbrev pub counted : List PeerTally → ℕ
 counted peers = count_by (λ p. is_recent p.heard) peers
 
--- a member needs a position that isn't applied here
-abbrev pub is_needed : ℕ → List PeerTally → Bool
-is_needed applied peers = list_any (λ p. nat_lt applied p.need) peers
+-- a member showed that a position is learned which isn't applied here
+abbrev pub is_shown : ℕ → List PeerTally → Bool
+is_shown applied peers = list_any (λ p. nat_lt applied p.shown) peers
 
--- a fault of the store; fewer than a majority heard, this one counted; positions to be applied; else it works
-abbrev pub health_by : (failed few behind : Bool) → Health
-health_by failed few behind = if failed then Failed else if few then Alone else if behind then Behind else Works
+-- a fault of the store; commands wait and the front stands; fewer than a majority heard, this one counted; positions
+-- to be applied; else it works
+abbrev pub health_by : (failed stuck few behind : Bool) → Health
+health_by failed stuck few behind =
+    if failed then Failed else if stuck then Stuck else if few then Alone else if behind then Behind else Works
 
--- a node's health; unless its store failed, it is alone where fewer of the others are heard than half of the members,
--- rounded down
-abbrev pub health : {R : Type 0} {G : Ghosts R} → Node R G → List PeerTally → Health
-health n peers = health_by (has_failed n)
-    (nat_lt (counted peers) ((membership_of n).members / 2))
-    (nat_lt (applied_of n) (front (learned_by n)) || is_needed (applied_of n) peers)
+-- A node's health, by what was counted. Few are fewer of the others than half of the members, rounded down.
+abbrev pub health : {R : Type 0} {G : Ghosts R} → Node R G → Tally → Health
+health n t = health_by (has_failed n) (nat_le STUCK t.stood)
+    (nat_lt (counted t.peers.items) ((membership_of n).members / 2))
+    (nat_lt (applied_of n) (front (learned_by n)) || is_shown (applied_of n) t.peers.items)
 
 -- ---- what is answered
 
--- the word for it, a line
+-- the word for it
+abbrev pub health_word : Health → List ℕ
+health_word Works = codes "ok"
+health_word Behind = codes "behind"
+health_word Alone = codes "alone"
+health_word Stuck = codes "stuck"
+health_word Failed = codes "failed"
+
+-- the same as a line
 abbrev pub health_line : Health → List ℕ
 health_line Works = codes "ok\n"
 health_line Behind = codes "behind\n"
 health_line Alone = codes "alone\n"
+health_line Stuck = codes "stuck\n"
 health_line Failed = codes "failed\n"
 
 -- 503 of a failed one alone
@@ -49,6 +61,7 @@ abbrev pub health_code : Health → ℕ
 health_code Works = 200
 health_code Behind = 200
 health_code Alone = 200
+health_code Stuck = 200
 health_code Failed = 503
 
 -- 200 of one that works alone
@@ -56,6 +69,7 @@ abbrev pub ready_code : Health → ℕ
 ready_code Works = 200
 ready_code Behind = 503
 ready_code Alone = 503
+ready_code Stuck = 503
 ready_code Failed = 503
 
 -- what a watcher is answered that asks whether the node lives

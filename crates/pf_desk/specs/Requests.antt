@@ -41,7 +41,7 @@ pub record IsStatus {R : Type 0} {G : Ghosts R} (n : Node R G) (t : Tally) (json
     Type 0 where
   pub figures : Figures
   pub are : AreFigures n figures
-  pub answered : a ≡ shown (status_as json figures t)
+  pub answered : a ≡ shown (status_as json figures (health n t) t)
 
 -- what a read answers; of the numbers for Prometheus only that they are there
 abbrev pub IsRead : {R : Type 0} {G : Ghosts R} → Node R G → Option (ℕ × ℕ) → Tally → Read → AnswerValue → Type 0
@@ -51,8 +51,8 @@ IsRead n taken t (read.Standing origin number) a = a ≡ standing n taken origin
 IsRead n taken t (read.Log from) a = a ≡ log_answer n from
 IsRead n taken t (read.Entries from count) a = a ≡ entries_answer n from count
 IsRead n taken t (read.Status json) a = IsStatus n t json a
-IsRead n taken t read.Health a = a ≡ health_answer (health n t.peers.items)
-IsRead n taken t read.Ready a = a ≡ ready_answer (health n t.peers.items)
+IsRead n taken t read.Health a = a ≡ health_answer (health n t)
+IsRead n taken t read.Ready a = a ≡ ready_answer (health n t)
 IsRead n taken t read.Metrics a = a.code ≡ 200
 
 -- fewer positions are applied than the reader asks for

@@ -4,8 +4,10 @@ use Rattle.std.specs.List.{flat_map}
 use Rattle.clap.specs.Words.{Text}
 use Rattle.pf_scripts.specs.Lines.{line}
 use Rattle.pf_desk.specs.declared.figures.Figures.{Figures}
+use Rattle.pf_desk.specs.declared.health.Health.{Health}
 use Rattle.pf_desk.specs.declared.tally.PeerTally.{PeerTally}
 use Rattle.pf_desk.specs.declared.tally.Tally.{Tally}
+use Rattle.pf_desk.specs.Health.{health_word}
 
 -- a text and the number behind it
 abbrev pub field : Text × ℕ → List ℕ
@@ -42,6 +44,12 @@ front_line f =
     line (fields ((codes "front ", f.front) ∷ (codes " applied ", f.applied) ∷ (codes " round ", f.round)
     ∷ (codes " waiting ", f.waiting) ∷ (codes " left ", f.left) ∷ []))
 
+-- health WORD stood SECONDS outrun TIMES large BYTES
+abbrev pub standing_line : Health → Tally → List ℕ
+standing_line h t =
+    line ((codes "health " ++ health_word h)
+    ++ fields ((codes " stood ", t.stood) ∷ (codes " outrun ", t.outrun) ∷ (codes " large ", t.large) ∷ []))
+
 -- config anchors N rules N tables N addresses N
 abbrev pub config_line : Figures → List ℕ
 config_line f =
@@ -60,7 +68,7 @@ door_line t =
     line (fields ((codes "door seats ", t.seats) ∷ (codes " served ", t.served) ∷ (codes " refused ", t.refused) ∷ []))
 
 -- all of them, a line for each other member in their midst
-abbrev pub status_lines : Figures → Tally → List ℕ
-status_lines f t =
-    (((((node_line f t.up ++ front_line f) ++ config_line f) ++ flat_map peer_line t.peers.items) ++ wire_line t)
-    ++ store_line f.has_failed) ++ door_line t
+abbrev pub status_lines : Figures → Health → Tally → List ℕ
+status_lines f h t =
+    ((((((node_line f t.up ++ front_line f) ++ standing_line h t) ++ config_line f) ++ flat_map peer_line t.peers.items)
+    ++ wire_line t) ++ store_line f.has_failed) ++ door_line t

@@ -1,8 +1,10 @@
 -- A node's status as JSON (RFC 8259): the names of its lines.
 use Rattle.std.specs.Prelude.{ℕ, Bool, true, false, List, [], ◌∷◌, ◌++◌, Option, Some, None, codes}
 use Rattle.pf_desk.specs.declared.figures.Figures.{Figures}
+use Rattle.pf_desk.specs.declared.health.Health.{Health}
 use Rattle.pf_desk.specs.declared.tally.PeerTally.{PeerTally}
 use Rattle.pf_desk.specs.declared.tally.Tally.{Tally}
+use Rattle.pf_desk.specs.Health.{health_word}
 use Rattle.pf_desk.specs.Status.{field, fields, status_lines}
 
 -- never is null
@@ -40,18 +42,24 @@ wire_json t =
     fields ((codes "],\"unsent\":", t.unsent) ∷ (codes ",\"dropped\":", t.dropped) ∷ (codes ",\"ignored\":", t.ignored)
     ∷ (codes ",\"seats\":", t.seats) ∷ (codes ",\"served\":", t.served) ∷ (codes ",\"refused\":", t.refused) ∷ [])
 
+-- how the node stands among the others
+abbrev pub standing_json : Health → Tally → List ℕ
+standing_json h t =
+    (codes ",\"health\":\"" ++ health_word h)
+    ++ fields ((codes "\",\"stood\":", t.stood) ∷ (codes ",\"outrun\":", t.outrun) ∷ (codes ",\"large\":", t.large) ∷ [])
+
 -- the last field, and the end of the object and of the line
 abbrev pub store_json : Bool → List ℕ
 store_json true = codes ",\"store\":\"failed\"}\n"
 store_json false = codes ",\"store\":\"ok\"}\n"
 
 -- the whole object, a line
-abbrev pub status_json : Figures → Tally → List ℕ
-status_json f t =
-    ((((figures_json f t.up ++ config_json f) ++ codes ",\"peers\":[") ++ peers_json t.peers.items) ++ wire_json t)
-    ++ store_json f.has_failed
+abbrev pub status_json : Figures → Health → Tally → List ℕ
+status_json f h t =
+    (((((figures_json f t.up ++ config_json f) ++ codes ",\"peers\":[") ++ peers_json t.peers.items) ++ wire_json t)
+    ++ standing_json h t) ++ store_json f.has_failed
 
 -- the status as JSON, or in lines
-abbrev pub status_as : Bool → Figures → Tally → List ℕ
-status_as true f t = status_json f t
-status_as false f t = status_lines f t
+abbrev pub status_as : Bool → Figures → Health → Tally → List ℕ
+status_as true f h t = status_json f h t
+status_as false f h t = status_lines f h t

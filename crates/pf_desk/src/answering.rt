@@ -97,9 +97,9 @@ impl<R: Records> Desk<R> {
 
     /// How the node stands among the others.
     pub fn health(&self, tally: &Tally) -> Health
-        ensures { result ≡ health self.now.node tally.now.peers.items }
+        ensures { result ≡ health self.now.node tally.now }
     {
-        Health::of(&self.node, &tally.peers)
+        Health::of(&self.node, tally)
     }
 
     /// The node's status, as JSON or in lines.
@@ -107,10 +107,11 @@ impl<R: Records> Desk<R> {
         ensures { IfOk result (λ a. IsStatus self.now.node tally.now json (answer_value a)) }
     {
         let figures = Figures::of(&self.node)?;
+        let health = self.health(tally);
         if json {
-            status_json(self.alloc, &figures, tally)
+            status_json(self.alloc, &figures, health, tally)
         } else {
-            status(self.alloc, &figures, tally)
+            status(self.alloc, &figures, health, tally)
         }
     }
 
@@ -119,7 +120,7 @@ impl<R: Records> Desk<R> {
         ensures { IfOk result (λ a. a.code ≡ 200) }
     {
         let figures = Figures::of(&self.node)?;
-        metrics(self.alloc, &figures, tally)
+        metrics(self.alloc, &figures, self.health(tally), tally)
     }
 
     /// What a read answers. Nothing changes.

@@ -2,24 +2,29 @@
 
 ghost use Rattle.std.specs.Prelude.{◌≡◌, ◌≤◌, ◌+◌, IfOk, length, take};
 ghost use Rattle.pf_desk.specs.Answers.{answer_value};
-ghost use Rattle.pf_desk.specs.Health.{is_recent, is_needed, health_by, health_line, health_code, ready_code};
-ghost use Rattle.pf_desk.specs.Health.{counted, health, health_answer, ready_answer};
+ghost use Rattle.pf_desk.specs.Health.{is_recent, is_shown, health_by, health_word, health_line, health_code};
+ghost use Rattle.pf_desk.specs.Health.{ready_code, counted, health, health_answer, ready_answer};
 
 use crate::answer::Answer;
-use crate::tally::PeerTally;
+use crate::tally::{PeerTally, Tally};
 use pf_node::Node;
 use px_records::Records;
 use std::alloc::{AllocError, Global};
 
+/// For how many seconds commands may wait while the front stands, before that is said.
+pub const STUCK: u64 = 10;
+
 /// How a node stands among the others.
 #[derive(Clone, Copy, PartialEq, Eq)]
 pub enum Health {
-    /// It hears a majority, and has applied what it could.
+    /// It hears a majority, has applied what it could, and what waits is learned.
     Works,
     /// Positions are learned, here or elsewhere, that it hasn't applied.
     Behind,
     /// It hears fewer than a majority of the members, itself counted.
     Alone,
+    /// Commands have waited for ten seconds, here or at a member that proposes one, while the front stood.
+    Stuck,
     /// Its store failed.
     Failed,
 }
@@ -41,36 +46,53 @@ fn counted(peers: &[PeerTally]) -> usize
     peers.iter().filter(|p| is_recent(p.heard)).count()
 }
 
-/// Whether a member needs a position that isn't applied here.
-fn is_needed(applied: u32, peers: &[PeerTally]) -> bool
-    ensures { result ≡ is_needed applied peers.now }
+/// Whether a member showed, two seconds ago or earlier, that a position is learned which isn't applied here.
+fn is_shown(applied: u32, peers: &[PeerTally]) -> bool
+    ensures { result ≡ is_shown applied peers.now }
 {
-    peers.iter().any(|p| applied < p.need)
+    peers.iter().any(|p| applied < p.shown)
 }
 
 impl Health {
-    /// How a node stands among the others: failed where its store failed, else alone where fewer than a majority were
-    /// heard in the last three seconds, this one counted, else behind where not everything learned is applied, or a
-    /// member needs what isn't, else it works. A row for each member but this one has what was heard of it.
-    pub fn of<R: Records>(node: &Node<R>, peers: &[PeerTally]) -> Health
-        ensures { result ≡ health node.now peers.now }
+    /// How a node stands among the others: failed where its store failed, else stuck where commands have waited for ten
+    /// seconds while the front stood, else alone where fewer than a majority were heard in the last three seconds, this
+    /// one counted, else behind where not everything is applied that is learned here, or was learned two seconds ago as
+    /// a member shows, else it works. A row for each member but this one has what was heard of it.
+    pub fn of<R: Records>(node: &Node<R>, tally: &Tally) -> Health
+        ensures { result ≡ health node.now tally.now }
     {
         let applied = node.applied();
-        let heard = counted(peers);
+        let heard = counted(&tally.peers);
         let members = node.membership().members();
         if node.has_failed() {
             return Health::Failed;
         }
+        if STUCK <= tally.stood {
+            return Health::Stuck;
+        }
         if heard < (members / 2) as usize {
             return Health::Alone;
         }
-        if applied < node.front() || is_needed(applied, peers) {
+        if applied < node.front() || is_shown(applied, &tally.peers) {
             return Health::Behind;
         }
         Health::Works
     }
 
-    /// The word.
+    /// The word for it.
+    pub fn word(self) -> &'static str
+        ensures { result.now ≡ health_word self }
+    {
+        match self {
+            Health::Works => "ok",
+            Health::Behind => "behind",
+            Health::Alone => "alone",
+            Health::Stuck => "stuck",
+            Health::Failed => "failed",
+        }
+    }
+
+    /// The same, as a line.
     fn line(self) -> &'static str
         ensures { result.now ≡ health_line self }
     {
@@ -78,6 +100,7 @@ impl Health {
             Health::Works => "ok\n",
             Health::Behind => "behind\n",
             Health::Alone => "alone\n",
+            Health::Stuck => "stuck\n",
             Health::Failed => "failed\n",
         }
     }
@@ -87,7 +110,7 @@ impl Health {
         ensures { result ≡ health_code self }
     {
         match self {
-            Health::Works | Health::Behind | Health::Alone => 200,
+            Health::Works | Health::Behind | Health::Alone | Health::Stuck => 200,
             Health::Failed => 503,
         }
     }
@@ -98,7 +121,7 @@ impl Health {
     {
         match self {
             Health::Works => 200,
-            Health::Behind | Health::Alone | Health::Failed => 503,
+            Health::Behind | Health::Alone | Health::Stuck | Health::Failed => 503,
         }
     }
 

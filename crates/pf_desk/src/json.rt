@@ -3,10 +3,11 @@
 ghost use Rattle.std.specs.Prelude.{◌≡◌, ◌++◌, IfOk, OnOk, string_bytes};
 ghost use Rattle.pf_desk.specs.Answers.{answer_value, shown};
 ghost use Rattle.pf_desk.specs.StatusJson.{heard_json, peer_json, peers_json, figures_json, config_json, wire_json};
-ghost use Rattle.pf_desk.specs.StatusJson.{store_json, status_json};
+ghost use Rattle.pf_desk.specs.StatusJson.{standing_json, store_json, status_json};
 
 use crate::answer::Answer;
 use crate::figures::Figures;
+use crate::health::Health;
 use crate::status::push_fields;
 use crate::tally::{PeerTally, Tally};
 use std::alloc::{AllocError, Global};
@@ -108,6 +109,23 @@ fn push_wire(alloc: Global, out: &mut String, t: &Tally) -> Result<(), AllocErro
     )
 }
 
+/// How the node stands among the others.
+fn push_standing(alloc: Global, out: &mut String, h: Health, t: &Tally) -> Result<(), AllocError>
+    ensures { OnOk result (string_bytes out.new ≡ string_bytes out.old ++ standing_json h t.now) }
+{
+    out.push_str(",\"health\":\"")?;
+    out.push_str(h.word())?;
+    push_fields(
+        alloc,
+        out,
+        &[
+            ("\",\"stood\":", t.stood),
+            (",\"outrun\":", t.outrun),
+            (",\"large\":", t.large),
+        ],
+    )
+}
+
 /// How the store is.
 fn push_store(out: &mut String, has_failed: bool) -> Result<(), AllocError>
     ensures { OnOk result (string_bytes out.new ≡ string_bytes out.old ++ store_json has_failed) }
@@ -120,8 +138,13 @@ fn push_store(out: &mut String, has_failed: bool) -> Result<(), AllocError>
 }
 
 /// A node's status as JSON.
-pub(crate) fn status_json(alloc: Global, f: &Figures, t: &Tally) -> Result<Answer, AllocError>
-    ensures { IfOk result (λ a. answer_value a ≡ shown (status_json f.now t.now)) }
+pub(crate) fn status_json(
+    alloc: Global,
+    f: &Figures,
+    h: Health,
+    t: &Tally,
+) -> Result<Answer, AllocError>
+    ensures { IfOk result (λ a. answer_value a ≡ shown (status_json f.now h t.now)) }
 {
     let mut body = String::new(alloc);
     push_figures(alloc, &mut body, f, t.up)?;
@@ -129,6 +152,7 @@ pub(crate) fn status_json(alloc: Global, f: &Figures, t: &Tally) -> Result<Answe
     body.push_str(",\"peers\":[")?;
     push_peers(alloc, &mut body, &t.peers)?;
     push_wire(alloc, &mut body, t)?;
+    push_standing(alloc, &mut body, h, t)?;
     push_store(&mut body, f.has_failed)?;
     Ok(Answer { code: 200, body })
 }

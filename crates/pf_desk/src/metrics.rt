@@ -5,6 +5,7 @@ ghost use Rattle.pf_desk.specs.inner.Metrics.{heading, metric, labelled, sample}
 
 use crate::answer::Answer;
 use crate::figures::Figures;
+use crate::health::Health;
 use crate::tally::{PeerTally, Tally};
 use pf_scripts::{push_line, push_number};
 use std::alloc::{AllocError, Global};
@@ -100,6 +101,23 @@ fn push_node(alloc: Global, out: &mut String, f: &Figures) -> Result<(), AllocEr
     ];
     for (name, help, value) in rows {
         push_metric(alloc, out, "gauge", name, help, value)?;
+    }
+    Ok(())
+}
+
+/// How it stands among the others: 1 at its health, and 0 at each other.
+fn push_health(alloc: Global, out: &mut String, health: Health) -> Result<(), AllocError> {
+    let name = "pfx_health";
+    push_heading(out, "gauge", name, "1 at the health that the node has.")?;
+    for state in [
+        Health::Works,
+        Health::Behind,
+        Health::Alone,
+        Health::Stuck,
+        Health::Failed,
+    ] {
+        let value = u64::from(state == health);
+        push_sample(alloc, out, name, "state", state.word(), value)?;
     }
     Ok(())
 }
@@ -208,11 +226,17 @@ fn push_door(alloc: Global, out: &mut String, t: &Tally) -> Result<(), AllocErro
 }
 
 /// A node's numbers for Prometheus.
-pub(crate) fn metrics(alloc: Global, f: &Figures, t: &Tally) -> Result<Answer, AllocError>
+pub(crate) fn metrics(
+    alloc: Global,
+    f: &Figures,
+    health: Health,
+    t: &Tally,
+) -> Result<Answer, AllocError>
     ensures { IfOk result (λ a. a.code ≡ 200) }
 {
     let mut body = String::new(alloc);
     push_node(alloc, &mut body, f)?;
+    push_health(alloc, &mut body, health)?;
     push_config(alloc, &mut body, f)?;
     push_heard(alloc, &mut body, &t.peers)?;
     push_in(alloc, &mut body, &t.peers)?;

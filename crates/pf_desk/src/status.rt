@@ -5,10 +5,11 @@ ghost use Rattle.std.specs.List.{flat_map};
 ghost use Rattle.pf_scripts.specs.Lines.{line};
 ghost use Rattle.pf_desk.specs.Answers.{answer_value, shown};
 ghost use Rattle.pf_desk.specs.Status.{fields, heard, peer_line, store_line, node_line, front_line, config_line};
-ghost use Rattle.pf_desk.specs.Status.{wire_line, door_line, status_lines};
+ghost use Rattle.pf_desk.specs.Status.{standing_line, wire_line, door_line, status_lines};
 
 use crate::answer::Answer;
 use crate::figures::Figures;
+use crate::health::Health;
 use crate::tally::{PeerTally, Tally};
 use pf_scripts::push_number;
 use std::alloc::{AllocError, Global};
@@ -105,6 +106,23 @@ fn push_front(alloc: Global, out: &mut String, f: &Figures) -> Result<(), AllocE
     )
 }
 
+/// How it stands among the others.
+fn push_standing(alloc: Global, out: &mut String, h: Health, t: &Tally) -> Result<(), AllocError>
+    ensures { OnOk result (string_bytes out.new ≡ string_bytes out.old ++ standing_line h t.now) }
+{
+    out.push_str("health ")?;
+    out.push_str(h.word())?;
+    push_line(
+        alloc,
+        out,
+        &[
+            (" stood ", t.stood),
+            (" outrun ", t.outrun),
+            (" large ", t.large),
+        ],
+    )
+}
+
 /// How much its configuration has.
 fn push_config(alloc: Global, out: &mut String, f: &Figures) -> Result<(), AllocError>
     ensures { OnOk result (string_bytes out.new ≡ string_bytes out.old ++ config_line f.now) }
@@ -163,12 +181,18 @@ fn push_door(alloc: Global, out: &mut String, t: &Tally) -> Result<(), AllocErro
 }
 
 /// The lines of a node's status.
-pub(crate) fn status(alloc: Global, f: &Figures, t: &Tally) -> Result<Answer, AllocError>
-    ensures { IfOk result (λ a. answer_value a ≡ shown (status_lines f.now t.now)) }
+pub(crate) fn status(
+    alloc: Global,
+    f: &Figures,
+    h: Health,
+    t: &Tally,
+) -> Result<Answer, AllocError>
+    ensures { IfOk result (λ a. answer_value a ≡ shown (status_lines f.now h t.now)) }
 {
     let mut body = String::new(alloc);
     push_node(alloc, &mut body, f, t.up)?;
     push_front(alloc, &mut body, f)?;
+    push_standing(alloc, &mut body, h, t)?;
     push_config(alloc, &mut body, f)?;
     push_peers(alloc, &mut body, &t.peers)?;
     push_wire(alloc, &mut body, t)?;

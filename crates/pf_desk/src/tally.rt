@@ -11,8 +11,8 @@ pub struct PeerTally {
     pub datagrams_in: u64,
     /// How many were handed to the wire for it.
     pub datagrams_out: u64,
-    /// The greatest position that it said it needs, in the last three seconds, else 0.
-    pub need: u32,
+    /// A position below which some member had learned all two seconds ago, as messages of this one show.
+    pub shown: u32,
 }
 
 /// What the loop counted, by the clock that nobody sets.
@@ -22,6 +22,14 @@ pub struct Tally {
     pub up: u64,
     /// A row for each other member, by their numbers.
     pub peers: Vec<PeerTally>,
+    /// Whole seconds for which commands have waited, here or at a member that proposes one, while the front stood; 0
+    /// where none waits.
+    pub stood: u64,
+    /// How often a higher round refused one of this member's since the front moved last.
+    pub outrun: u64,
+    /// The bytes of the longest datagram that is longer than a packet and was sent since the front moved last; 0 where
+    /// none is.
+    pub large: u64,
     /// Datagrams that the system didn't take.
     pub unsent: u64,
     /// Datagrams with a wrong tag, or asks that came where there is a door.

@@ -22,6 +22,8 @@ pub(crate) struct Clerk<R: Records> {
     pub(crate) is_listening: bool,
     /// Whether what comes now came where figures alone are told, and nothing is changed.
     pub(crate) is_scraped: bool,
+    /// Whether what comes now came at the seat that is kept for `health` and `stop`.
+    pub(crate) is_spare: bool,
     pub(crate) alloc: Global,
 }
 
@@ -51,6 +53,15 @@ fn accepts_json(request: &http::Request<Bytes>) -> bool {
 /// Whether the path is one of figures.
 fn is_of_figures(path: &str) -> bool {
     matches!(path, "/metrics" | "/healthz" | "/readyz")
+}
+
+/// Whether the request is answered when all seats are taken.
+fn is_urgent(request: &Request) -> bool {
+    match request {
+        Request::Stop => true,
+        Request::Read { at: _, read } => matches!(read, Read::Health | Read::Ready),
+        Request::Change { .. } => false,
+    }
 }
 
 /// Whether a change is asked for.
@@ -222,7 +233,8 @@ impl<R: Records> Clerk<R> {
         }
     }
 
-    /// Handles a request that was understood: a change isn't asked while the node takes none in.
+    /// Handles a request that was understood: a change isn't asked while the node takes none in, and at the last seat
+    /// nothing is but `health` and `stop`.
     fn pass_on(&mut self, request: &Request, response: &mut Response) -> Result<(), AllocError>
         requires { IsBlank response.old }
         ensures handled { OnOk result (IsHandled self.old self.new response.new) }
@@ -230,6 +242,10 @@ impl<R: Records> Clerk<R> {
         ensures memory { OnErr result (self.new ≡ self.old) }
         ensures scraped { self.new.is_scraped ≡ self.old.is_scraped }
     {
+        if self.is_spare && !is_urgent(request) {
+            self.refuse(503, response);
+            return Ok(());
+        }
         if self.is_scraped {
             return self.look(request, response);
         }

@@ -4,26 +4,35 @@ ghost use Rattle.std.specs.Prelude.{◌≡◌};
 ghost use Rattle.pf_door.specs.inner.Runs.{AreAsked};
 
 use crate::clerk::Clerk;
+use crate::noting::say;
 use crate::seat::{Look, Seat};
 use crate::stream::{Listener, Stream};
 use mio::unix::SourceFd;
 use mio::{Events, Interest, Poll, Token};
+use pf_desk::Health;
 use px_records::Records;
 use std::alloc::{AllocError, Global};
 use std::fs::{self, Files};
 use std::hash::RandomState;
-use std::io;
+use std::io::{self, Eprint};
 use std::net::{Net, SocketAddr, TcpListener, TcpStream};
 use std::os::fd::RawFd;
 use std::os::unix::fs::FileTypeExt;
 use std::os::unix::net::{UnixListener, UnixStream};
-use std::time::Duration;
+use std::time::{Clock, Duration};
 use thiserror::Error;
 
-/// How many operators are served at a time, and how many who are told figures.
+/// How many operators are served at a time, and how many who are told figures. One more is let in, for `health` and
+/// `stop` alone: what a connection is for stands in its first request.
 const SEATS: usize = 8;
 
 const FIGURE_SEATS: usize = 4;
+
+/// For how long a seat is left alone, though others wait for one, if it moved no byte meanwhile, in microseconds.
+const SILENT: u64 = 1_000_000;
+
+/// For how many seconds after its start a node's health isn't said: it is alone until it hears others.
+const START: u64 = 3;
 
 /// How many events are looked at after a wait; more stay for the next.
 const EVENTS: usize = 16;
@@ -47,7 +56,7 @@ pub enum DoorFault {
 struct Entrance {
     listener: Listener,
     seats: Vec<Seat>,
-    /// How many seats there are at most.
+    /// How many seats there are at most, beside the one for `health` and `stop`.
     most: usize,
     /// Which seat is looked at next.
     next: usize,
@@ -66,6 +75,8 @@ pub struct Door {
     events: Events,
     /// Whether those who are told figures come first now.
     is_figures_first: bool,
+    /// The node's health as it was said last.
+    health: Health,
 }
 
 /// Takes away a socket that a node left which is gone: whether the path is free now.
@@ -114,7 +125,7 @@ impl Entrance {
         most: usize,
         is_scraped: bool,
     ) -> Result<Entrance, AllocError> {
-        let seats = Vec::with_capacity(alloc, most)?;
+        let seats = Vec::with_capacity(alloc, most.saturating_add(1))?;
         Ok(Entrance {
             listener,
             seats,
@@ -131,9 +142,41 @@ impl Entrance {
         self.seats.iter().any(|seat| seat.has_more())
     }
 
-    /// Gives a seat to whoever waits for one, if one is free. Whether one came.
+    /// The seat that has moved no byte for the longest time.
+    fn most_silent(&self) -> usize {
+        let mut place = 0;
+        let mut since = u64::MAX;
+        for i in 0..self.seats.len() {
+            if let Some(seat) = self.seats.get(i) {
+                if seat.moved() < since {
+                    since = seat.moved();
+                    place = i;
+                }
+            }
+        }
+        place
+    }
+
+    /// Closes the connection that is silent longest.
+    fn dismiss_silent(&mut self) {
+        let place = self.most_silent();
+        if place < self.seats.len() {
+            let _silent = self.seats.remove(place);
+        }
+    }
+
+    /// Whether a seat is free, or is silent and is to go for whoever comes.
+    fn has_room(&self, now: u64) -> bool {
+        self.seats.len() <= self.most
+            || match self.seats.get(self.most_silent()) {
+                Some(seat) => now > seat.moved().saturating_add(SILENT),
+                None => false,
+            }
+    }
+
+    /// Gives a seat to whoever waits for one, if one is free, or for the one that is silent longest. Whether one came.
     fn take_in(&mut self, poll: &Poll, now: u64) -> bool {
-        if self.seats.len() >= self.most {
+        if !self.has_room(now) {
             return false;
         }
         match self.listener.next() {
@@ -151,6 +194,9 @@ impl Entrance {
         let Ok(keys) = self.keys.clone() else {
             return;
         };
+        if self.seats.len() > self.most {
+            self.dismiss_silent();
+        }
         let seat = Seat::new(self.alloc, keys, stream, now);
         if watch(poll, seat.raw_fd()).is_ok() {
             let _seated = self.seats.push(seat);
@@ -181,6 +227,7 @@ impl Entrance {
         let Some(seat) = self.seats.get_mut(place) else {
             return Look::Quiet;
         };
+        clerk.is_spare = place >= self.most;
         let look = seat.look(clerk, now);
         if look == Look::Left {
             self.leave(place, clerk);
@@ -245,6 +292,7 @@ impl Door {
             poll,
             events,
             is_figures_first: false,
+            health: Health::Works,
         })
     }
 
@@ -270,6 +318,15 @@ impl Door {
         }
         let timeout = Duration::from_millis(u64::from(milliseconds));
         let _woken = self.poll.poll(&mut self.events, Some(timeout));
+    }
+
+    /// Says on standard error that the node's health has changed, if it has.
+    pub(crate) fn note<R: Records, RT: Clock + Eprint>(&mut self, rt: &RT, clerk: &Clerk<R>) {
+        let health = clerk.desk.health(&clerk.tally);
+        if health != self.health && clerk.tally.up >= START {
+            say(rt, clerk, self.health, health);
+            self.health = health;
+        }
     }
 
     /// Closes the door, and takes the socket away that stands at the path.

@@ -13,6 +13,7 @@
 mod clerk;
 mod door;
 pub mod laws;
+mod noting;
 mod running;
 mod seat;
 mod stream;

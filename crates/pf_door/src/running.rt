@@ -12,6 +12,7 @@ use pf_desk::{Desk, Tally};
 use pf_turn::{NodeFault, Pace, Room, Wire, finish, round};
 use px_records::Records;
 use std::alloc::Global;
+use std::io::Eprint;
 use std::time::{Clock, Instant};
 
 /// The time since a reading of the clock, in microseconds; none has passed where the clock can't be read.
@@ -25,7 +26,8 @@ fn microseconds<C: Clock>(clock: &C, start: Option<Instant>) -> u64 {
 }
 
 /// One round of the node, and at most one request of an operator. Answers for how many turns it counts.
-fn pass<R: Records, W: Wire>(
+fn pass<R: Records, W: Wire, RT: Clock + Eprint>(
+    rt: &RT,
     clerk: &mut Clerk<R>,
     wire: &mut TallyWire<W>,
     room: &mut Room,
@@ -36,12 +38,17 @@ fn pass<R: Records, W: Wire>(
     ensures { Opened (place W.Wire clerk.old.desk (below_of wire.old)) (place W.Wire clerk.new.desk (below_of wire.new))
         (fault_of result) }
 {
-    wire.begin(now);
+    wire.begin(
+        now,
+        clerk.desk.node.front(),
+        clerk.desk.node.waiting() > 0,
+    );
     let made = match round(&mut clerk.desk.node, wire, room, pace, now) {
         Ok(made) => made,
         Err(fault) => return Err(fault),
     };
     wire.tell(&mut clerk.tally, made);
+    door.note(rt, clerk);
     clerk.tally.seats = door.seats() as u64;
     clerk.is_listening = pace.is_listening(now);
     if !door.serve(clerk, now) {
@@ -51,13 +58,13 @@ fn pass<R: Records, W: Wire>(
 }
 
 /// Round after round, until so many turns are over, or an operator asked for the end and has the answer.
-fn passes<R: Records, W: Wire, C: Clock>(
+fn passes<R: Records, W: Wire, RT: Clock + Eprint>(
+    rt: &RT,
     clerk: &mut Clerk<R>,
     wire: &mut TallyWire<W>,
     room: &mut Room,
     door: &mut Door,
     pace: &mut Pace,
-    clock: &C,
     start: Option<Instant>,
     turns: u64,
 ) -> Result<(), NodeFault>
@@ -69,8 +76,8 @@ fn passes<R: Records, W: Wire, C: Clock>(
         if left == 0 || (clerk.desk.is_stopping && !door.has_more()) {
             return Ok(());
         }
-        let now = microseconds(clock, start);
-        match pass(clerk, wire, room, door, pace, now) {
+        let now = microseconds(rt, start);
+        match pass(rt, clerk, wire, room, door, pace, now) {
             Ok(used) => left = left.saturating_sub(u64::from(used)),
             Err(fault) => return Err(fault),
         }
@@ -94,21 +101,21 @@ fn work_off<R: Records, W: Wire, C: Clock>(
 }
 
 /// All rounds, and the work that waits in the end.
-fn pass_on<R: Records, W: Wire, C: Clock>(
+fn pass_on<R: Records, W: Wire, RT: Clock + Eprint>(
+    rt: &RT,
     clerk: &mut Clerk<R>,
     wire: &mut TallyWire<W>,
     room: &mut Room,
     door: &mut Door,
-    clock: &C,
     turns: u64,
 ) -> Result<(), NodeFault>
     ensures { Opened (place W.Wire clerk.old.desk (below_of wire.old)) (place W.Wire clerk.new.desk (below_of wire.new))
         (fault_of result) }
 {
     let mut pace = Pace::new(clerk.desk.node.membership().me());
-    let start = Instant::now(clock).ok();
-    match passes(clerk, wire, room, door, &mut pace, clock, start, turns) {
-        Ok(()) => work_off(clerk, wire, room, &mut pace, clock, start),
+    let start = Instant::now(rt).ok();
+    match passes(rt, clerk, wire, room, door, &mut pace, start, turns) {
+        Ok(()) => work_off(clerk, wire, room, &mut pace, rt, start),
         Err(fault) => Err(fault),
     }
 }
@@ -117,15 +124,16 @@ fn pass_on<R: Records, W: Wire, C: Clock>(
 /// It ends after so many turns, or once an operator asked for that; then it works off what waits ([`pf_turn::finish`]).
 /// The desk is given back. So it makes turns of the node and answers of the desk, one after another, and nothing else.
 ///
-/// What is counted goes on from the tally. The faults are those of the node's calls; one ends it.
-pub fn run_open<R: Records, W: Wire, C: Clock>(
+/// What is counted goes on from the tally. Each change of the node's health is a line on standard error. The faults are
+/// those of the node's calls; one ends it.
+pub fn run_open<R: Records, W: Wire, RT: Clock + Eprint>(
+    rt: &RT,
     alloc: Global,
     desk: Desk<R>,
     tally: Tally,
     wire: &mut TallyWire<W>,
     room: &mut Room,
     door: &mut Door,
-    clock: &C,
     turns: u64,
 ) -> (Result<(), NodeFault>, Desk<R>)
     ensures { Opened (place W.Wire desk (below_of wire.old)) (place W.Wire result.1 (below_of wire.new))
@@ -136,14 +144,16 @@ pub fn run_open<R: Records, W: Wire, C: Clock>(
         tally,
         is_listening: true,
         is_scraped: false,
+        is_spare: false,
         alloc,
     };
-    let ended = pass_on(&mut clerk, wire, room, door, clock, turns);
+    let ended = pass_on(rt, &mut clerk, wire, room, door, turns);
     let Clerk {
         desk,
         tally: _,
         is_listening: _,
         is_scraped: _,
+        is_spare: _,
         alloc: _,
     } = clerk;
     (ended, desk)

@@ -12,6 +12,9 @@ use std::os::fd::RawFd;
 /// How long a seat may move no byte, in microseconds.
 const QUIET: u64 = 30_000_000;
 
+/// How long a request may take to come, from its first byte on, or from the connection's beginning; in microseconds.
+const COMING: u64 = 10_000_000;
+
 /// How many times a seat is served at most.
 const MOST: u32 = 1_000;
 
@@ -25,6 +28,8 @@ pub(crate) struct Seat {
     connection: Connection,
     /// When it moved a byte last, in microseconds.
     moved: u64,
+    /// Since when a request has been coming, if one is.
+    began: Option<u64>,
     /// How many times it was given an answer.
     served: u32,
 }
@@ -57,8 +62,14 @@ impl Seat {
             stream,
             connection: Connection::new(alloc, keys, config),
             moved: now,
+            began: Some(now),
             served: 0,
         }
+    }
+
+    /// When it moved a byte last, in microseconds.
+    pub(crate) fn moved(&self) -> u64 {
+        self.moved
     }
 
     /// The descriptor of its stream.
@@ -117,9 +128,18 @@ impl Seat {
         }
     }
 
+    /// Whether a request has been coming for too long.
+    fn is_late(&self, now: u64) -> bool {
+        match self.began {
+            Some(began) => now > began.saturating_add(COMING),
+            None => false,
+        }
+    }
+
     /// Whether there is nothing more to be done here.
     fn is_over(&self, now: u64) -> bool {
         self.connection.is_done()
+            || self.is_late(now)
             || now > self.moved.saturating_add(QUIET)
             || (self.served >= MOST && !self.connection.wants_write())
     }
@@ -143,6 +163,7 @@ impl Seat {
         self.connection.advance(service);
         if !was_pending && self.connection.wants_write() {
             self.served = self.served.saturating_add(1);
+            self.began = None;
         }
     }
 
@@ -153,6 +174,9 @@ impl Seat {
         let Some(has_read) = self.read() else {
             return Look::Left;
         };
+        if has_read && self.began.is_none() {
+            self.began = Some(now);
+        }
         self.answer(service);
         let Some(has_written) = self.write() else {
             return Look::Left;

@@ -9,8 +9,14 @@ use px_transport::Wire;
 use px_wire::{Membership, Message, MessageView, decode};
 use std::alloc::{AllocError, Global};
 
-/// How long what a member said it lacks counts, in microseconds.
-const RECENT: u64 = 3_000_000;
+/// How long another member's proposal counts, in microseconds: it is made again after some 4 seconds at most.
+const PROPOSED: u64 = 6_000_000;
+
+/// How often what members show is kept to be compared later, in microseconds.
+const SAMPLED: u64 = 1_000_000;
+
+/// From how many bytes on a datagram doesn't fit a packet.
+const LARGE: usize = 1_401;
 
 /// What was counted of another member; times in microseconds.
 #[derive(Clone, Copy)]
@@ -20,9 +26,10 @@ struct Row {
     heard: Option<u64>,
     datagrams_in: u64,
     datagrams_out: u64,
-    /// The position that it said it lacks, and when it did.
-    need: u32,
-    needed: u64,
+    /// A position below which some member has learned all, as its messages show; and as they had shown when that was
+    /// looked at last, and the two times before.
+    shown: u32,
+    earlier: [u32; 3],
 }
 
 /// A wire that counts what goes over it: what is some member's by who sent it, what the wires below gave as an empty
@@ -38,13 +45,53 @@ pub struct TallyWire<W> {
     /// How many datagrams came in this round.
     came: u32,
     now: u64,
+    /// When what members showed was kept last.
+    sampled: u64,
+    /// The node's front after the last round.
+    front: u32,
+    /// Since when commands have waited and the front stood.
+    since: Option<u64>,
+    /// The position that another member proposed at last, and when.
+    proposed: Option<(u32, u64)>,
+    outrun: u64,
+    large: usize,
 }
 
-/// The position that a message says is lacking.
-fn need_in(message: &MessageView<'_>) -> Option<u32> {
+/// A position below which some member has learned all, as a message shows; 0 where it shows none. Who proposes at a
+/// position, or lacks it, has learned all below; and what is voted for is proposed.
+fn shown_in(message: &MessageView<'_>) -> u32 {
     match message {
-        Message::Need { position } => Some(*position),
+        Message::Prepare { position, .. } => *position,
+        Message::PrepareAll { position, .. } => *position,
+        Message::Accept { position, .. } => *position,
+        Message::Vote { position, .. } => *position,
+        Message::Need { position } => *position,
+        Message::Learned { position, .. } => position.saturating_add(1),
+        Message::Promise { .. } => 0,
+        Message::PromiseAll { .. } => 0,
+        Message::Nack { .. } => 0,
+        Message::Ask { .. } => 0,
+        Message::Asked { .. } => 0,
+        Message::AskRefused { .. } => 0,
+    }
+}
+
+/// The position at which the message's sender proposes a command, if it does.
+fn proposal_in(message: &MessageView<'_>) -> Option<u32> {
+    match message {
+        Message::Prepare { position, .. } => Some(*position),
+        Message::PrepareAll { position, .. } => Some(*position),
+        Message::Accept { position, .. } => Some(*position),
         _ => None,
+    }
+}
+
+/// Keeps what members have shown by now.
+fn sample(rows: &mut Vec<Row>) {
+    for i in 0..rows.len() {
+        if let Some(row) = rows.get_mut(i) {
+            row.sample();
+        }
     }
 }
 
@@ -58,8 +105,8 @@ fn first_rows(alloc: Global, m: Membership) -> Result<Vec<Row>, AllocError> {
                 heard: None,
                 datagrams_in: 0,
                 datagrams_out: 0,
-                need: 0,
-                needed: 0,
+                shown: 0,
+                earlier: [0; 3],
             })?;
         }
     }
@@ -69,7 +116,7 @@ fn first_rows(alloc: Global, m: Membership) -> Result<Vec<Row>, AllocError> {
 impl Row {
     /// What is told of the member, at this time.
     fn told(&self, now: u64) -> PeerTally {
-        let is_recent = now.saturating_sub(self.needed) < RECENT;
+        let [_, _, shown] = self.earlier;
         PeerTally {
             node: self.node,
             heard: match self.heard {
@@ -78,8 +125,14 @@ impl Row {
             },
             datagrams_in: self.datagrams_in,
             datagrams_out: self.datagrams_out,
-            need: if is_recent { self.need } else { 0 },
+            shown,
         }
+    }
+
+    /// Keeps what the member has shown by now.
+    fn sample(&mut self) {
+        let [last, before, _] = self.earlier;
+        self.earlier = [self.shown, last, before];
     }
 }
 
@@ -96,6 +149,12 @@ impl<W: Drop> TallyWire<W> {
             ignored: 0,
             came: 0,
             now: 0,
+            sampled: 0,
+            front: 0,
+            since: None,
+            proposed: None,
+            outrun: 0,
+            large: 0,
         })
     }
 }
@@ -110,6 +169,9 @@ impl<W> TallyWire<W> {
         Ok(Tally {
             up: 0,
             peers,
+            stood: 0,
+            outrun: 0,
+            large: 0,
             unsent: 0,
             dropped: 0,
             ignored: 0,
@@ -122,18 +184,57 @@ impl<W> TallyWire<W> {
         })
     }
 
-    /// A round begins, at this time in microseconds since the start.
-    pub(crate) fn begin(&mut self, now: u64)
+    /// A round begins, at this time in microseconds since the start, of a node with this front, at which commands wait
+    /// or don't.
+    pub(crate) fn begin(&mut self, now: u64, front: u32, is_waiting: bool)
         ensures below { below_of self.new ≡ below_of self.old }
     {
         self.now = now;
         self.came = 0;
+        if now >= self.sampled.saturating_add(SAMPLED) {
+            self.sampled = now;
+            sample(&mut self.rows);
+        }
+        self.stand(front, is_waiting);
+    }
+
+    /// Whether another member proposes a command at the node's front, or beyond it.
+    fn is_proposed(&self) -> bool {
+        match self.proposed {
+            Some((position, at)) => {
+                self.front <= position && self.now < at.saturating_add(PROPOSED)
+            }
+            None => false,
+        }
+    }
+
+    /// Notes the node's front, and whether commands wait.
+    fn stand(&mut self, front: u32, is_waiting: bool)
+        ensures below { below_of self.new ≡ below_of self.old }
+    {
+        if front != self.front {
+            self.front = front;
+            self.since = None;
+            self.outrun = 0;
+            self.large = 0;
+        }
+        if !is_waiting && !self.is_proposed() {
+            self.since = None;
+        } else if self.since.is_none() {
+            self.since = Some(self.now);
+        }
     }
 
     /// Tells what was counted, after a round that came to this. A turn that neither took a datagram nor is to be
     /// followed by a wait was a tick.
     pub(crate) fn tell(&self, tally: &mut Tally, made: Progress) {
         tally.up = self.now / 1_000_000;
+        tally.stood = match self.since {
+            Some(since) => self.now.saturating_sub(since) / 1_000_000,
+            None => 0,
+        };
+        tally.outrun = self.outrun;
+        tally.large = self.large as u64;
         tally.unsent = self.unsent;
         tally.dropped = self.dropped;
         tally.ignored = self.ignored;
@@ -153,8 +254,8 @@ impl<W> TallyWire<W> {
         self.rows.iter().position(|row| row.node == node)
     }
 
-    /// Counts a datagram of a member, with the position that it says is lacking.
-    fn count_from(&mut self, from: u8, need: Option<u32>)
+    /// Counts a datagram of a member, with the position that it shows.
+    fn count_from(&mut self, from: u8, shown: u32)
         ensures below { below_of self.new ≡ below_of self.old }
     {
         let Some(place) = self.row_of(from) else {
@@ -166,9 +267,21 @@ impl<W> TallyWire<W> {
         };
         row.heard = Some(now);
         row.datagrams_in = row.datagrams_in.saturating_add(1);
-        if let Some(position) = need {
-            row.need = position;
-            row.needed = now;
+        row.shown = row.shown.max(shown);
+    }
+
+    /// Notes what a member's message says of proposals: another's, or that this one's was refused by a higher round.
+    fn note(&mut self, from: u8, message: &MessageView<'_>)
+        ensures below { below_of self.new ≡ below_of self.old }
+    {
+        if from == self.m.me() {
+            return;
+        }
+        if let Some(position) = proposal_in(message) {
+            self.proposed = Some((position, self.now));
+        }
+        if matches!(message, Message::Nack { .. }) {
+            self.outrun = self.outrun.saturating_add(1);
         }
     }
 
@@ -182,13 +295,16 @@ impl<W> TallyWire<W> {
             return;
         }
         match decode(&self.m, datagram) {
-            Ok((from, message)) => self.count_from(from, need_in(&message)),
+            Ok((from, message)) => {
+                self.count_from(from, shown_in(&message));
+                self.note(from, &message);
+            }
             Err(_) => self.ignored = self.ignored.saturating_add(1),
         }
     }
 
-    /// Counts a datagram that was handed to the wire.
-    fn count_out(&mut self, to: u8, was_sent: bool)
+    /// Counts a datagram of so many bytes that was handed to the wire.
+    fn count_out(&mut self, to: u8, length: usize, was_sent: bool)
         ensures below { below_of self.new ≡ below_of self.old }
     {
         if !was_sent {
@@ -197,6 +313,9 @@ impl<W> TallyWire<W> {
         let Some(place) = self.row_of(to) else {
             return;
         };
+        if length >= LARGE {
+            self.large = self.large.max(length);
+        }
         if let Some(row) = self.rows.get_mut(place) {
             row.datagrams_out = row.datagrams_out.saturating_add(1);
         }
@@ -239,7 +358,7 @@ impl<W: Wire> Wire for TallyWire<W> {
 
     fn send(&mut self, to: u8, bytes: &[u8]) -> bool {
         let was_sent = self.inner.send(to, bytes);
-        self.count_out(to, was_sent);
+        self.count_out(to, bytes.len(), was_sent);
         was_sent
     }
 

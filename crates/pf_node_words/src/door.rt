@@ -84,7 +84,7 @@ fn served_by<R: Records, W: Wire + Drop>(
     let Ok(mut room) = Room::new(alloc) else {
         return (Outcome::Memory, desk);
     };
-    let (ended, desk) = run_open(alloc, desk, tally, wire, &mut room, door, rt, words.turns);
+    let (ended, desk) = run_open(rt, alloc, desk, tally, wire, &mut room, door, words.turns);
     (desk_outcome(ended, &desk), desk)
 }
 

@@ -62,18 +62,21 @@ fn tally(alloc: Global) -> io::Result<Tally> {
         heard: Some(2),
         datagrams_in: 88_123,
         datagrams_out: 88_140,
-        need: 0,
+        shown: 0,
     })?;
     peers.push(PeerTally {
         node: 2,
         heard: None,
         datagrams_in: 0,
         datagrams_out: 88_140,
-        need: 0,
+        shown: 0,
     })?;
     Ok(Tally {
         up: 86_412,
         peers,
+        stood: 0,
+        outrun: 0,
+        large: 0,
         unsent: 1,
         dropped: 4,
         ignored: 2,

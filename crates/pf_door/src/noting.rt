@@ -1,0 +1,65 @@
+//! Changes of a node's health, on standard error.
+
+use crate::clerk::Clerk;
+use httpdate::HttpDate;
+use pf_desk::Health;
+use px_records::Records;
+use std::io::Eprint;
+use std::time::{Clock, SystemTime};
+
+/// The present time; none where the clock can't be read, or tells a time past the year 9999.
+fn date_now<RT: Clock>(rt: &RT) -> Option<HttpDate> {
+    match SystemTime::now(rt) {
+        Ok(now) => HttpDate::try_from(now).ok(),
+        Err(_) => None,
+    }
+}
+
+/// A position below which some member has learned all, as the others have shown.
+fn shown<R: Records>(clerk: &Clerk<R>) -> u32 {
+    let mut most = 0u32;
+    for peer in &clerk.tally.peers {
+        most = most.max(peer.shown);
+    }
+    most
+}
+
+/// How many of the other members were heard in the last three seconds.
+fn heard<R: Records>(clerk: &Clerk<R>) -> usize {
+    clerk
+        .tally
+        .peers
+        .iter()
+        .filter(|p| matches!(p.heard, Some(0 | 1 | 2)))
+        .count()
+}
+
+/// Says on standard error that the node's health was one and is another, and what is known of why.
+pub(crate) fn say<R: Records, RT: Clock + Eprint>(
+    rt: &RT,
+    clerk: &Clerk<R>,
+    was: Health,
+    is: Health,
+) {
+    let node = &clerk.desk.node;
+    let tally = &clerk.tally;
+    let applied = node.applied();
+    if let Some(date) = date_now(rt) {
+        let _said = eprint!(rt; "{}: ", date);
+    }
+    let _said = eprintln!(rt;
+        "pfx: node {} was {} and is {}: front {} has stood for {} seconds, {} commands wait here, {} of {} other members \
+         are heard, {} positions behind, refused by a higher round {} times, {} bytes in a datagram that isn't answered",
+        node.membership().me(),
+        was.word(),
+        is.word(),
+        node.front(),
+        tally.stood,
+        node.waiting(),
+        heard(clerk),
+        tally.peers.len(),
+        shown(clerk).saturating_sub(applied),
+        tally.outrun,
+        tally.large
+    );
+}
