@@ -1,2 +1,3 @@
+pub mod Bounded
 pub mod Logged
 pub mod Places

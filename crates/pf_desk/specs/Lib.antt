@@ -1,4 +1,5 @@
 pub mod Answers
+pub mod Bounded
 pub mod Changing
 pub mod EntryLines
 pub mod Health

@@ -14,7 +14,8 @@ use Rattle.pf_desk.specs.declared.request.Read.TheVariants as read
 use Rattle.pf_desk.specs.declared.request.Request.{Request}
 use Rattle.pf_desk.specs.declared.request.Request.TheVariants as request
 use Rattle.pf_desk.specs.declared.tally.Tally.{Tally}
-use Rattle.pf_desk.specs.Answers.{AnswerValue, shown, listed, verdicts}
+use Rattle.pf_desk.specs.Answers.{AnswerValue, shown, listed}
+use Rattle.pf_desk.specs.Bounded.{verdicts_within}
 use Rattle.pf_desk.specs.Changing.{Changes, with_number, change_answer}
 use Rattle.pf_desk.specs.EntryLines.{entries_answer}
 use Rattle.pf_desk.specs.Health.{health, health_answer, ready_answer}
@@ -46,7 +47,7 @@ pub record IsStatus {R : Type 0} {G : Ghosts R} (n : Node R G) (t : Tally) (json
 -- what a read answers; of the numbers for Prometheus only that they are there
 abbrev pub IsRead : {R : Type 0} {G : Ghosts R} → Node R G → Option (ℕ × ℕ) → Tally → Read → AnswerValue → Type 0
 IsRead n taken t (read.List listing) a = a ≡ listed (config_of n) (words_of listing)
-IsRead n taken t (read.Test packets) a = a ≡ verdicts (config_of n) (map (λ p. p.now) packets.items)
+IsRead n taken t (read.Test packets) a = a ≡ verdicts_within (config_of n) (map (λ p. p.now) packets.items)
 IsRead n taken t (read.Standing origin number) a = a ≡ standing n taken origin number
 IsRead n taken t (read.Log from) a = a ≡ log_answer n from
 IsRead n taken t (read.Entries from count) a = a ≡ entries_answer n from count

@@ -3,7 +3,8 @@
 ghost use Rattle.std.specs.Prelude.{◌≡◌, IfOk, OnErr, OnOk, map, codes, nat_lt, true, false, None};
 ghost use Rattle.pf_node.specs.Nodes.{config_of, applied_of};
 ghost use Rattle.pf_scripts.specs.WordsRead.{change_in};
-ghost use Rattle.pf_desk.specs.Answers.{answer_value, listed, verdicts, shown};
+ghost use Rattle.pf_desk.specs.Answers.{answer_value, listed, shown};
+ghost use Rattle.pf_desk.specs.Bounded.{verdicts_within};
 ghost use Rattle.pf_desk.specs.Changing.{Changes, with_number};
 ghost use Rattle.pf_desk.specs.Health.{health};
 ghost use Rattle.pf_desk.specs.Listings.{words_of};
@@ -79,10 +80,11 @@ impl<R: Records> Desk<R> {
         list(self.alloc, self.node.config(), listing)
     }
 
-    /// A verdict line for each packet's text in turn, up to the first that is no packet: that is 30, and 400.
+    /// A verdict line for each packet's text in turn, up to the first that is no packet: that is 30, and 400. Where a
+    /// verdict may meet more than [`crate::MET_MAX`] rules none is computed: that is 88, and 400.
     pub fn test(&self, packets: &[&str]) -> Result<Answer, AllocError>
         ensures { IfOk result (λ a. answer_value a
-            ≡ verdicts (config_of self.now.node) (map (λ p. p.now) packets.now)) }
+            ≡ verdicts_within (config_of self.now.node) (map (λ p. p.now) packets.now)) }
     {
         test(self.alloc, self.node.config(), packets)
     }

@@ -13,6 +13,7 @@
 
 mod answer;
 mod answering;
+mod bounded;
 mod changing;
 mod desk;
 mod entries;
@@ -31,6 +32,7 @@ mod status;
 mod tally;
 mod target;
 
+pub use bounded::MET_MAX;
 pub use answer::{Answer, status_of};
 pub use changing::Changed;
 pub use desk::Desk;

@@ -2,8 +2,10 @@
 
 ghost use Rattle.std.specs.Prelude.{◌≡◌, ◌++◌, IfOk, map, option_map, string_bytes};
 ghost use Rattle.pf_desk.specs.Answers.{answer_value, verdicts, verdict_for};
+ghost use Rattle.pf_desk.specs.Bounded.{verdicts_within};
 
 use crate::answer::Answer;
+use crate::bounded::is_costly;
 use pf_config::Config;
 use pf_eval::{PacketFault, parse_packet, show_verdict, verdict};
 use pf_scripts::{push_line, push_refusal};
@@ -26,7 +28,7 @@ fn verdict_for(alloc: Global, config: &Config, packet: &str) -> Result<Option<St
 }
 
 /// A verdict line for each packet's text in turn, up to the first that is no packet, which is 30.
-pub(crate) fn test(alloc: Global, config: &Config, packets: &[&str]) -> Result<Answer, AllocError>
+fn verdicts(alloc: Global, config: &Config, packets: &[&str]) -> Result<Answer, AllocError>
     ensures { IfOk result (λ a. answer_value a ≡ verdicts config.now (map (λ p. p.now) packets.now)) }
 {
     let mut body = String::new(alloc);
@@ -40,4 +42,14 @@ pub(crate) fn test(alloc: Global, config: &Config, packets: &[&str]) -> Result<A
         }
     }
     Ok(Answer { code: 200, body })
+}
+
+/// The same, unless a verdict may meet more than [`crate::MET_MAX`] rules, which is 88.
+pub(crate) fn test(alloc: Global, config: &Config, packets: &[&str]) -> Result<Answer, AllocError>
+    ensures { IfOk result (λ a. answer_value a ≡ verdicts_within config.now (map (λ p. p.now) packets.now)) }
+{
+    if is_costly(config) {
+        return Answer::refused(alloc, 88, 0);
+    }
+    verdicts(alloc, config, packets)
 }

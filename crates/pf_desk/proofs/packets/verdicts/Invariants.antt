@@ -1,6 +1,6 @@
 use Rattle.std.proofs.Common.{◌≡◌, drop, map, string_bytes}
 use Rattle.pf_desk.specs.Answers.{behind, verdicts}
-use Rattle.pf_desk.proofs.packets.test.Given as goal
+use Rattle.pf_desk.proofs.packets.verdicts.Given as goal
 
 -- the lines so far, and those of the packets that are left
 abbrev pub invariant-loop-packet : goal.invariant-loop-packet
