@@ -1,3 +1,3 @@
-pub mod Bounded
+pub mod Budget
 pub mod Logged
 pub mod Places

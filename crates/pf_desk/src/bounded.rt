@@ -24,7 +24,7 @@ const NESTED: u8 = 9;
 
 /// What is left of so much, behind this rule; none if it isn't enough.
 #[cycle(bounded)]
-#[tactic(auto, using(crate::proofs::Bounded::no_rule))]
+#[tactic(auto, using(crate::proofs::Budget::no_rule))]
 fn left_behind(
     config: &Config,
     anchor: &Anchor,
@@ -74,7 +74,7 @@ fn left_within(
 
 /// The same behind these anchors.
 #[cycle(bounded)]
-#[tactic(auto, using(crate::proofs::Bounded::nothing_less, pf_eval::proofs::Anchors::kid_is))]
+#[tactic(auto, using(crate::proofs::Budget::nothing_less, pf_eval::proofs::Anchors::kid_is))]
 fn left_in_members(config: &Config, kids: &[Rc<Anchor>], depth: u8, left: u32) -> Option<u32>
     requires { AreAnchorsOf config.now (shared kids.now) }
     ensures { result ≡ minus left (met_members (most_met depth config.now) (paths_of (shared kids.now))) }
@@ -91,7 +91,7 @@ fn left_in_members(config: &Config, kids: &[Rc<Anchor>], depth: u8, left: u32) -
 
 /// The same behind an attached anchor.
 #[cycle(bounded)]
-#[tactic(auto, using(crate::proofs::Bounded::none_left, crate::proofs::Bounded::one_more, crate::proofs::Bounded::one_met))]
+#[tactic(auto, using(crate::proofs::Budget::none_left, crate::proofs::Budget::one_more, crate::proofs::Budget::one_met))]
 fn left_in_member(config: &Config, kid: &Anchor, depth: u8, left: u32) -> Option<u32>
     requires { IsAnchorOf config.now kid.now }
     ensures { result ≡ minus left (met_member (most_met depth config.now) kid.now.names) }
@@ -107,7 +107,7 @@ fn left_in_member(config: &Config, kid: &Anchor, depth: u8, left: u32) -> Option
 
 /// The same behind an anchor, all of it where its path is too deep.
 #[cycle(bounded)]
-#[tactic(auto, using(crate::proofs::Bounded::nothing_less))]
+#[tactic(auto, using(crate::proofs::Budget::nothing_less))]
 fn left_at(config: &Config, anchor: &Anchor, depth: u8, left: u32) -> Option<u32>
     requires { IsAnchorOf config.now anchor.now }
     ensures { result ≡ minus left (met_at (most_met depth config.now) anchor.now.names) }
@@ -121,7 +121,7 @@ fn left_at(config: &Config, anchor: &Anchor, depth: u8, left: u32) -> Option<u32
 
 /// The same behind an anchor's rules, where anchor rules nest less deep than this.
 #[cycle(bounded)]
-#[tactic(auto, using(crate::proofs::Bounded::some_rules))]
+#[tactic(auto, using(crate::proofs::Budget::some_rules))]
 fn left_after(config: &Config, anchor: &Anchor, depth: u8, left: u32) -> Option<u32>
     requires { IsAnchorOf config.now anchor.now }
     ensures { result ≡ minus left (most_met depth config.now anchor.now.names) }
@@ -142,7 +142,7 @@ fn left_after(config: &Config, anchor: &Anchor, depth: u8, left: u32) -> Option<
 }
 
 /// Whether a verdict may meet more rules than it may cost.
-#[tactic(auto, using(crate::proofs::Bounded::enough))]
+#[tactic(auto, using(crate::proofs::Budget::enough))]
 pub(crate) fn is_costly(config: &Config) -> bool
     ensures { result ≡ is_costly config.now }
 {
