@@ -1,14 +1,10 @@
 -- Turns one after the other.
 use Rattle.std.proofs.Common.{◌≡◌, ◌∙◌, ℕ, zero, suc, List, Option, Some, None, Bool, true, false, refl, sym, subst}
-use Rattle.std.proofs.Common.{absurd, Result, Ok, inl, inr}
-use Rattle.std.specs.Prelude.{option_map, take, is_some, not}
+use Rattle.std.proofs.Common.{inl, inr}
 use Rattle.px_model.specs.Spelling.{Bytes}
 use Rattle.px_records.specs.declared.records.Records.{Ghosts}
-use Rattle.px_replica.specs.Calls.{Receives}
 use Rattle.px_replica.specs.declared.datagram.Datagram.{Datagram}
 use Rattle.px_replica.specs.declared.fault.NodeFault.{NodeFault}
-use Rattle.px_replica.specs.declared.receiving.Received.{Received}
-use Rattle.px_replica.specs.declared.receiving.Received.TheVariants as received
 use Rattle.px_replica.specs.declared.state.Replica.{Replica}
 use Rattle.px_transport.specs.Wires.{GrowsBy, Gives}
 use Rattle.px_wire.specs.Members.{as_sent}
@@ -91,13 +87,6 @@ nobodys_still s t bytes out (_, inl lost, e) u = lost.still
 nobodys_still s t bytes out (_, inr (inl passed), e) u = passed.still
 nobodys_still s t bytes out (_, inr (inr taken), e) u = absurd (u taken.sender (as_sent taken.message) taken.spelled)
 
--- what is received as a message is somebody's
-pub done_is_somebodys : {R : Type 0} {G : Ghosts R} (s t : Replica R G) (bytes : Bytes) (old new : List Datagram) (r : Result Received NodeFault) →
-    Receives s t bytes old new r → r ≡ Ok received.Done → IsNobodys s bytes → ⊥
-done_is_somebodys s t bytes old new r (inl lost) e u = absurd (cc)
-done_is_somebodys s t bytes old new r (inr (inl passed)) e u = absurd (cc)
-done_is_somebodys s t bytes old new r (inr (inr taken)) e u = u taken.sender (as_sent taken.message) taken.spelled
-
 -- what is seen as datagrams are taken
 pub took_all : {R : Type 0} {G : Ghosts R} (n : ℕ) (x y : Stand G) (s t : Sight) → SawAll n x y s t → TookAll n x y
 took_all zero x y s t (a, e) = a
@@ -144,16 +133,3 @@ pub then_ticked : {R : Type 0} {G : Ghosts R} (n : ℕ) (x y z : Stand G) (is_du
     TookAll n x y → Ticked y z None → TookThenTicked n is_due x z
 then_ticked n x y z true e a t = (y, a, t)
 then_ticked n x y z false e a t = absurd (cc)
-
--- what came, where something did
-pub some_came : (bytes : List ℕ) (len : Option ℕ) (r : Bool) → is_some len ≡ not r → r ≡ false →
-    (came : Option (List ℕ)) → came ≡ option_map (λ n. take n bytes) len → (b : List ℕ) × (came ≡ Some b)
-some_came bytes None r e f came is = absurd (cc)
-some_came bytes (Some n) r e f came is = (take n bytes, is)
-
--- nothing came
-pub given_none : (old new : Option (List (List ℕ))) (room : List ℕ) (len : Option ℕ) → Gives old (option_map (λ n. take n room) len) new →
-    (r : Bool) → is_some len ≡ not r → r ≡ true → new ≡ old
-given_none old new room None g r e f = g
-given_none old new room (Some n) g true e f = absurd (cc)
-given_none old new room (Some n) g false e f = absurd (cc)

@@ -34,6 +34,7 @@ pub fn tick_now<R: Records, W: Wire>(
 ) -> Result<(), NodeFault>
     ensures ticked { Ticked (standing W.Wire node.old wire.old) (standing W.Wire node.new wire.new)
         (fault_of result) }
+    ensures unseen { seen_in room.new ≡ seen_in room.old }
     ensures grows { applied_of node.old ≤ applied_of node.new }
 {
     room.out.clear();
