@@ -44,11 +44,17 @@ pub(crate) fn say<R: Records, RT: Clock + Eprint>(
     let node = &clerk.desk.node;
     let tally = &clerk.tally;
     let applied = node.applied();
+    let level = if is == Health::Works {
+        "info"
+    } else {
+        "warning"
+    };
+    let _begun = eprint!(rt; "pfx: {}: ", level);
     if let Some(date) = date_now(rt) {
-        let _said = eprint!(rt; "{}: ", date);
+        let _dated = eprint!(rt; "{}: ", date);
     }
     let _said = eprintln!(rt;
-        "pfx: node {} was {} and is {}: front {} has stood for {} seconds, {} commands wait here, {} of {} other members \
+        "node {} was {} and is {}: front {} has stood for {} seconds, {} commands wait here, {} of {} other members \
          are heard, {} positions behind, refused by a higher round {} times, {} bytes in a datagram that isn't answered",
         node.membership().me(),
         was.word(),
