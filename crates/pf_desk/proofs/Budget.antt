@@ -135,3 +135,5 @@ met_out n a b h = ap (λ o. and_then o (λ k. minus k b)) h ∙ sym (both_less n
 
 -- what the code uses
 pub ruleset some_rules = (nothing_met, nothing_less, most_at)
+
+pub ruleset one_member = (none_left, one_more, one_met)

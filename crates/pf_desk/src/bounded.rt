@@ -91,7 +91,7 @@ fn left_in_members(config: &Config, kids: &[Rc<Anchor>], depth: u8, left: u32) -
 
 /// The same behind an attached anchor.
 #[cycle(bounded)]
-#[tactic(auto, using(crate::proofs::Budget::none_left, crate::proofs::Budget::one_more, crate::proofs::Budget::one_met))]
+#[tactic(auto, using(crate::proofs::Budget::one_member))]
 fn left_in_member(config: &Config, kid: &Anchor, depth: u8, left: u32) -> Option<u32>
     requires { IsAnchorOf config.now kid.now }
     ensures { result ≡ minus left (met_member (most_met depth config.now) kid.now.names) }
