@@ -55,13 +55,7 @@ fn left_behind(
 /// The same behind the anchor, or those directly attached to it.
 #[cycle(bounded)]
 #[tactic(auto, using(pf_eval::proofs::Anchors::own_kids, pf_eval::proofs::Anchors::kids_are))]
-fn left_within(
-    config: &Config,
-    base: &Anchor,
-    depth: u8,
-    children: bool,
-    left: u32,
-) -> Option<u32>
+fn left_within(config: &Config, base: &Anchor, depth: u8, children: bool, left: u32) -> Option<u32>
     requires { IsAnchorOf config.now base.now }
     ensures { result ≡ minus left (met_called (most_met depth config.now) config.now base.now.names children) }
 {

@@ -32,8 +32,8 @@ mod status;
 mod tally;
 mod target;
 
-pub use bounded::MET_MAX;
 pub use answer::{Answer, status_of};
+pub use bounded::MET_MAX;
 pub use changing::Changed;
 pub use desk::Desk;
 pub use entries::{ENTRIES_BYTES, ENTRIES_MAX};

@@ -181,12 +181,7 @@ fn push_door(alloc: Global, out: &mut String, t: &Tally) -> Result<(), AllocErro
 }
 
 /// The lines of a node's status.
-pub(crate) fn status(
-    alloc: Global,
-    f: &Figures,
-    h: Health,
-    t: &Tally,
-) -> Result<Answer, AllocError>
+pub(crate) fn status(alloc: Global, f: &Figures, h: Health, t: &Tally) -> Result<Answer, AllocError>
     ensures { IfOk result (λ a. answer_value a ≡ shown (status_lines f.now h t.now)) }
 {
     let mut body = String::new(alloc);

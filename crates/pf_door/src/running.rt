@@ -38,11 +38,7 @@ fn pass<R: Records, W: Wire, RT: Clock + Eprint>(
     ensures { Opened (place W.Wire clerk.old.desk (below_of wire.old)) (place W.Wire clerk.new.desk (below_of wire.new))
         (fault_of result) }
 {
-    wire.begin(
-        now,
-        clerk.desk.node.front(),
-        clerk.desk.node.waiting() > 0,
-    );
+    wire.begin(now, clerk.desk.node.front(), clerk.desk.node.waiting() > 0);
     let made = match round(&mut clerk.desk.node, wire, room, pace, now) {
         Ok(made) => made,
         Err(fault) => return Err(fault),

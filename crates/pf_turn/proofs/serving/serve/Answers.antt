@@ -25,5 +25,5 @@ pub returns-in-Ok-tick_now-clause-saw : goal.returns-in-Ok-tick_now-clause-saw
 returns-in-Ok-tick_now-clause-saw g c = (
   standing g.W.Wire c.drain.new.node c.drain.new.wire,
   subst (λ (t : Sight). SawAll c.in-Ok.taken (standing g.W.Wire c.args.node.now c.args.wire.now) (standing g.W.Wire c.drain.new.node c.drain.new.wire) (seen_in c.args.room.now) t)
-  (sym c.in-Ok-tick_now.ensures.unseen) c.in-Ok.ensures.saw,
+      (sym c.in-Ok-tick_now.ensures.unseen) c.in-Ok.ensures.saw,
 )

@@ -16,13 +16,16 @@ returns-in_default-clause-served g c = served_none _ _ (record {
 })
 
 pub returns-in_default-clause-saw : goal.returns-in_default-clause-saw
-returns-in_default-clause-saw g c = (record {
-  replica = refl;
-  given = subst (λ (o : Option _). Gives (g.W.Wire.given c.args.wire.now) (option_map (λ b. b.now) o) (g.W.Wire.given c.poll-len.new.wire)) c.in_default.is
-      (given_on (g.W.Wire.given c.args.wire.now) (g.W.Wire.given c.poll-len.new.wire) (g.W.Wire.given c.poll-len.new.wire)
-      c.poll-len.new.bytes.items c.deref.result.now c.poll-len.result _ c.poll-len.ensures.given c.came.ensures c.deref.ensures.value refl);
-  handed = c.poll-len.ensures.quiet;
-}, refl)
+returns-in_default-clause-saw g c = (
+  record {
+    replica = refl;
+    given = subst (λ (o : Option _). Gives (g.W.Wire.given c.args.wire.now) (option_map (λ b. b.now) o) (g.W.Wire.given c.poll-len.new.wire)) c.in_default.is
+        (given_on (g.W.Wire.given c.args.wire.now) (g.W.Wire.given c.poll-len.new.wire) (g.W.Wire.given c.poll-len.new.wire)
+        c.poll-len.new.bytes.items c.deref.result.now c.poll-len.result _ c.poll-len.ensures.given c.came.ensures c.deref.ensures.value refl);
+    handed = c.poll-len.ensures.quiet;
+  },
+  refl,
+)
 
 pub returns-in-Ok-clause-served : goal.returns-in-Ok-clause-served
 returns-in-Ok-clause-served g c = served_turn _ _ _ (record {
