@@ -216,6 +216,19 @@ impl<R: Records> Clerk<R> {
         self.turn_away(code, body, response);
     }
 
+    /// Asks nothing now: who asks is to ask again.
+    fn put_off(&mut self, response: &mut Response) -> Result<(), AllocError>
+        requires { IsBlank response.old }
+        ensures away { OnOk result (IsTurnedAway self.old.desk self.new.desk response.new) }
+        ensures still { self.new.desk ≡ self.old.desk }
+        ensures memory { OnErr result (self.new ≡ self.old) }
+        ensures scraped { self.new.is_scraped ≡ self.old.is_scraped }
+    {
+        let body = String::from_str(self.alloc, "waiting\n")?;
+        self.turn_away(503, body, response);
+        Ok(())
+    }
+
     /// Reads, where figures alone are told.
     fn look(&mut self, request: &Request, response: &mut Response) -> Result<(), AllocError>
         requires { IsBlank response.old }
@@ -243,16 +256,13 @@ impl<R: Records> Clerk<R> {
         ensures scraped { self.new.is_scraped ≡ self.old.is_scraped }
     {
         if self.is_spare && !is_urgent(request) {
-            self.refuse(503, response);
-            return Ok(());
+            return self.put_off(response);
         }
         if self.is_scraped {
             return self.look(request, response);
         }
         if self.is_listening && is_change(request) {
-            let body = String::from_str(self.alloc, "waiting\n")?;
-            self.turn_away(503, body, response);
-            return Ok(());
+            return self.put_off(response);
         }
         self.ask(request, response)
     }
