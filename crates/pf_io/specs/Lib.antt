@@ -1,2 +1,3 @@
 pub mod Status
 pub mod Written
+pub mod Shown
