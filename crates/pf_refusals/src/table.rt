@@ -14,7 +14,7 @@ const ASK_STAYS: &str = "Nothing is taken in, and the node goes on.";
 const STORE_STAYS: &str = "The node isn't started, and the store stays as it was.";
 
 /// Each refusal once, by number. `scripts/refusals` compares it with docs/LANGUAGE.md.
-pub const REFUSALS: [Explanation; 41] = [
+pub const REFUSALS: [Explanation; 43] = [
     Explanation {
         code: 1,
         name: "no number in an address",
@@ -207,11 +207,12 @@ pub const REFUSALS: [Explanation; 41] = [
     Explanation {
         code: 70,
         name: "store failed",
-        meaning: "a store that can't be opened or fails; another process has it open",
+        meaning: "a store that can't be opened or fails, or is no file; another process\n         \
+            has it open",
         after: "The change is made whole or not at all; the node sends nothing of it,\n         \
             and ends.",
-        remedy: "Make room, or mend the disk; see that one node alone uses the store;\n         \
-            start the node again on it.",
+        remedy: "Of a full disk, make room and start the node again on it; of a disk that\n         \
+            fails the record is lost. See that one node alone uses the store.",
     },
     Explanation {
         code: 71,
@@ -260,8 +261,8 @@ pub const REFUSALS: [Explanation; 41] = [
     Explanation {
         code: 83,
         name: "bad key file",
-        meaning: "a key's file: it can't be read, isn't 64 hexadecimal digits, or others\n         \
-            may read it",
+        meaning: "a key's file: it can't be read or made, isn't 64 hexadecimal digits, or\n         \
+            others may read it",
         after: "The node isn't started, and its store isn't looked at.",
         remedy: "Make a key by pfx key, and let its owner alone read the file (mode\n         \
             0600).",
@@ -337,5 +338,22 @@ pub const REFUSALS: [Explanation; 41] = [
         after: "No node is started.",
         remedy: "Look at the named line, which standard error says more of, and at the\n         \
             example in pfx-node(8).",
+    },
+    Explanation {
+        code: 93,
+        name: "no store",
+        meaning: "a node's store that isn't there, or has no byte: its settings come from a\n         \
+            file, and --new isn't given",
+        after: "No node is started, and no store is made.",
+        remedy: "Start a node that never ran once with --new. Where it ran its record is\n         \
+            lost: don't start it, and make a successor. See that all is mounted.",
+    },
+    Explanation {
+        code: 94,
+        name: "file is there",
+        meaning: "a file that is to be made and is there: a store with --new, a new key's",
+        after: "Nothing is made, and the file stays as it was.",
+        remedy: "Start a node on its store without --new; give a new key a name of its\n         \
+            own.",
     },
 ];
