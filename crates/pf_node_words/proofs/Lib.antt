@@ -1,3 +1,4 @@
 pub mod Writing
 mod Refusing
 mod Desks
+pub mod Stores

@@ -7,9 +7,9 @@ use Rattle.pf_io.specs.declared.status.Status.TheVariants as status
 use Rattle.pf_io.specs.Written.{line}
 use Rattle.pf_node_words.specs.declared.outcome.Outcome.{Outcome}
 use Rattle.pf_node_words.specs.declared.outcome.Outcome.TheVariants.{Front, Asked, Key, Refused, RefusedLine, NoAnswer}
-use Rattle.pf_node_words.specs.declared.outcome.Outcome.TheVariants.{Memory, Unread}
+use Rattle.pf_node_words.specs.declared.outcome.Outcome.TheVariants.{Sound, Made, Memory, Unread}
 
--- what a run writes of its outcome, a line; nothing where the words were not read
+-- what a run writes of its outcome, a line; nothing of a key that is in a file, and where the words were not read
 abbrev pub line_of : Outcome → List ℕ
 line_of (Front front applied) = line (codes "front " ++ decimal front ++ codes " applied " ++ decimal applied)
 line_of (Asked node number) = line (codes "asked " ++ decimal node ++ codes "." ++ decimal number)
@@ -17,7 +17,9 @@ line_of (Key key) = key_text key
 line_of (Refused code) = line (codes "refused " ++ decimal code)
 line_of (RefusedLine code at) = line (codes "refused " ++ decimal code ++ codes " line " ++ decimal at)
 line_of NoAnswer = line (codes "no answer")
+line_of Sound = line (codes "ok")
 line_of Memory = line (codes "memory")
+line_of Made = []
 line_of Unread = []
 
 -- how a run with this outcome ends
@@ -28,6 +30,8 @@ status_of (Key key) = status.Done
 status_of (Refused code) = status.Refused
 status_of (RefusedLine code at) = status.Refused
 status_of NoAnswer = status.Refused
+status_of Sound = status.Done
+status_of Made = status.Done
 status_of Memory = status.Memory
 status_of Unread = status.Failed
 

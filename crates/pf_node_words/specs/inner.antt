@@ -2,3 +2,4 @@
 pub mod Places
 pub mod Hearing
 pub mod Outcomes
+pub mod Stores

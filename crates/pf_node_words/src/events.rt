@@ -1,7 +1,9 @@
 //! What a node says on standard error of how it begins and ends.
 
+use crate::faults::say_why;
 use crate::node::NodeWords;
 use crate::outcome::Outcome;
+use pf_io::Shown;
 
 /// Says that a node begins, and with what.
 pub(crate) fn say_start(rt: &HostRuntime, words: NodeWords<'_, '_, '_>) {
@@ -13,7 +15,7 @@ pub(crate) fn say_start(rt: &HostRuntime, words: NodeWords<'_, '_, '_>) {
         words.me,
         words.members.len(),
         words.cluster,
-        words.store
+        Shown(words.store)
     );
 }
 
@@ -21,6 +23,7 @@ pub(crate) fn say_start(rt: &HostRuntime, words: NodeWords<'_, '_, '_>) {
 pub(crate) fn say_end(rt: &HostRuntime, words: NodeWords<'_, '_, '_>, outcome: Outcome) {
     match outcome {
         Outcome::Refused(code) => {
+            say_why(rt, words, code);
             let _said = eprintln!(rt;
                 "pfx: error: node {} ends, refused {code} (pfx explain {code})",
                 words.me

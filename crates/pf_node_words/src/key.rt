@@ -7,11 +7,18 @@ ghost use Rattle.pf_node_words.specs.inner.Places.{is_loopback, is_loopback_ip};
 
 use crate::node::NodeWords;
 use crate::outcome::Outcome;
+use crate::store::FILE_IS_THERE;
 use pf_addr::Addr;
+use pf_io::{Shown, make_private, open_regular};
 use pf_net::parse_address;
-use px_key::{KeyFault, new_key, read_key};
+use px_key::{KeyFault, key_text, new_key, read_key};
 use px_seal::group_key;
 use std::alloc::Global;
+use std::fs;
+use std::io::{self, ErrorKind, Write};
+
+/// A key's file that is none, or can't be read or made.
+const BAD_KEY: u8 = 83;
 
 /// The keys of a cluster's tags: the one that a node seals with, and another under which it hears too.
 #[derive(Clone, Copy)]
@@ -27,8 +34,15 @@ fn key_refused(rt: &HostRuntime, path: &str, fault: KeyFault) -> Outcome
     if fault == KeyFault::Memory {
         return Outcome::Memory;
     }
-    let _said = eprintln!(rt; "pfx: error: {path} has no key: {fault}");
-    Outcome::Refused(83)
+    match open_regular(rt, path) {
+        Ok(_opened) => {
+            let _said = eprintln!(rt; "pfx: error: key {}: {fault}", Shown(path));
+        }
+        Err(error) => {
+            let _said = eprintln!(rt; "pfx: error: key {}: {error}", Shown(path));
+        }
+    }
+    Outcome::Refused(BAD_KEY)
 }
 
 /// The key of the cluster's tags that the secret in a file makes.
@@ -106,14 +120,46 @@ pub(crate) fn warn_unsealed(rt: &HostRuntime, words: NodeWords<'_, '_, '_>) {
         return;
     }
     let _said = eprintln!(rt;
-        "pfx: warning: no key: whoever can send datagrams to {own} can change what this cluster learns (unless --unsealed)"
+        "pfx: warning: no key: whoever can send datagrams to {} can change what this cluster learns (unless --unsealed)",
+        Shown(*own)
     );
 }
 
-/// A new key, of the system's random source.
-pub(crate) fn key_outcome(rt: &HostRuntime) -> Outcome {
-    match new_key(rt) {
-        Ok(key) => Outcome::Key(key),
-        Err(_) => Outcome::Unread,
+/// Writes a key into a new file, which its owner alone may read.
+fn write_key(rt: &HostRuntime, path: &str, text: &str) -> io::Result<()> {
+    let mut file = make_private(rt, path)?;
+    let written = file.write_all(text.as_bytes());
+    if written.is_err() {
+        let _gone = fs::remove_file(rt, path);
+    }
+    written
+}
+
+/// What a new key comes to that is to be in a file: 94 where one is there, 83 where the system refuses it.
+fn kept(rt: &HostRuntime, alloc: Global, path: &str, key: &[u8; 32]) -> Outcome {
+    let Ok(text) = key_text(alloc, key) else {
+        return Outcome::Memory;
+    };
+    match write_key(rt, path, text.as_str()) {
+        Ok(()) => Outcome::Made,
+        Err(error) => {
+            let _said = eprintln!(rt; "pfx: error: key {}: {error}", Shown(path));
+            if error.kind() == ErrorKind::AlreadyExists {
+                Outcome::Refused(FILE_IS_THERE)
+            } else {
+                Outcome::Refused(BAD_KEY)
+            }
+        }
+    }
+}
+
+/// A new key, of the system's random source: written out, or in a file where one is named.
+pub(crate) fn key_outcome(rt: &HostRuntime, alloc: Global, file: Option<&str>) -> Outcome {
+    let Ok(key) = new_key(rt) else {
+        return Outcome::Unread;
+    };
+    match file {
+        Some(path) => kept(rt, alloc, path, &key),
+        None => Outcome::Key(key),
     }
 }

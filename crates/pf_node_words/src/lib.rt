@@ -5,18 +5,22 @@
 //! - [`run_net`]: the words, over any reader and writer.
 //!
 //! Within: `words` has the words as `clap` reads them, `settings` those of a node's file, `node`, `ask` and `key` what
-//! each comes to, `outcome` what is written, `events` what a node says.
+//! each comes to, and `check` what `node` with `--check`; `store` opens or makes a node's store; `outcome` has what is
+//! written, `events` and `faults` what a node says.
 #![tactic(auto)]
 
 mod ask;
+mod check;
 mod door;
 mod events;
+mod faults;
 mod hearing;
 mod key;
 mod node;
 mod outcome;
 mod running;
 mod settings;
+mod store;
 mod words;
 
 pub use pf_io::Status;

@@ -1,28 +1,30 @@
 //! The word `node`: a node over UDP.
 
-ghost use Rattle.std.specs.Prelude.{◌≡◌, ◌<◌, ◌≤◌, ◌⊎◌, ◌↔◌, Err, false, length, IfSome, OnErr, IsSome, IsTrue};
+ghost use Rattle.std.specs.Prelude.{◌≡◌, ◌≢◌, ◌<◌, ◌≤◌, ◌⊎◌, ◌↔◌, Err, false, length, IfSome, OnErr, IsSome, IsTrue};
 ghost use Rattle.std.specs.Prelude.{ℕ, Some, None, option_map, option_and_then};
 ghost use Rattle.toml.specs.Data.{as_str, get_member};
 ghost use Rattle.pf_node_file.specs.Files.{settings_of};
 ghost use Rattle.pf_node_file.specs.Settings.{number_of};
 ghost use Rattle.pf_node_words.specs.declared.outcome.Outcome.TheVariants.{Memory, Refused};
-ghost use Rattle.pf_node_words.specs.inner.Outcomes.{adopt_outcome, ComesTo, ComesOpenOr};
+ghost use Rattle.pf_node_words.specs.inner.Outcomes.{ComesTo, ComesOpenOr};
 ghost use Rattle.pf_node_words.specs.inner.Places.{is_count, has_place, turns_or_all, chosen};
 
 use crate::door::{DoorWords, run_with_door};
 use crate::events::{say_end, say_start};
+use crate::faults::say_place;
 use crate::hearing::HearingWire;
 use crate::key::{Keys, keys_for, warn_unsealed};
-use crate::outcome::{Outcome, ended_outcome};
+use crate::outcome::{Outcome, ended_outcome, ending_of};
+use crate::store::record_for;
 use clap::ArgMatches;
 use pf_member::{Membership, open_member, run_member};
 use pf_net::{BindFault, UdpWire};
 use pf_node_file::NodeFile;
 use px_records::Records;
 use px_seal::{MembersWire, SealedWire};
-use px_sql::{AdoptFault, Identity, SqlRecords};
+use px_sql::SqlRecords;
 use px_transport::{LoopbackWire, Wire};
-use sqlite::{Connection, Error, ErrorCode, File, FileStore};
+use sqlite::{File, FileStore};
 use std::alloc::Global;
 use std::net::SocketAddr;
 
@@ -37,6 +39,10 @@ pub(crate) struct NodeWords<'m, 'w, 'a> {
     pub(crate) cluster: u32,
     /// The file of its store.
     pub(crate) store: &'a str,
+    /// Whether settings come from a file, so that a store is made where that is asked for and not else.
+    pub(crate) is_from_file: bool,
+    /// Whether the store is to be made.
+    pub(crate) is_new: bool,
     pub(crate) turns: u64,
     /// The file of the cluster's key, if datagrams carry its tag, and that of another that is heard too.
     pub(crate) key: Option<&'a str>,
@@ -118,6 +124,8 @@ impl<'m, 'w, 'a> NodeWords<'m, 'w, 'a> {
             me,
             cluster,
             store,
+            is_from_file: matches.get_str("config").is_some(),
+            is_new: matches.get_flag("new"),
             turns: turns_or_all(matches.get_one::<u32>("turns")),
             key: text_or(matches.get_str("key"), file, "key"),
             other_key: text_or(matches.get_str("other-key"), file, "other-key"),
@@ -151,7 +159,7 @@ fn count(members: &[&str]) -> Option<u8>
 }
 
 /// The cluster, how many members it has, and which one this is; none where the number is none of theirs.
-fn membership(words: NodeWords<'_, '_, '_>) -> Option<Membership>
+pub(crate) fn membership(words: NodeWords<'_, '_, '_>) -> Option<Membership>
     ensures some { IfSome result (λ m. (m.cluster ≡ words.entry.cluster) × (m.me ≡ words.entry.me) ×
         (m.members ≡ length words.entry.members.now)) }
     ensures here { IfSome result (λ m. m.me < m.members) }
@@ -165,38 +173,6 @@ fn membership(words: NodeWords<'_, '_, '_>) -> Option<Membership>
         return None;
     }
     Membership::new(words.cluster, members, words.me)
-}
-
-/// The outcome of a store that isn't taken.
-fn adopt_outcome(fault: AdoptFault) -> Outcome
-    ensures { result ≡ adopt_outcome fault }
-{
-    match fault.code() {
-        Some(code) => Outcome::Refused(code),
-        None => Outcome::Memory,
-    }
-}
-
-/// The database in a file, which is made where there is none.
-fn open_file(rt: &HostRuntime, path: &str) -> Result<Connection<FileStore<File>>, Outcome>
-    ensures { OnErr result ((result ≡ Err Memory) ⊎ (result ≡ Err (Refused 70))) }
-{
-    match Connection::open(rt, path) {
-        Ok(conn) => Ok(conn),
-        Err(Error::SqliteFailure(ErrorCode::OutOfMemory)) => Err(Outcome::Memory),
-        Err(_) => Err(Outcome::Refused(70)),
-    }
-}
-
-/// Whom the store of a member belongs to.
-fn identity_of(m: Membership) -> Identity
-    ensures { result.members ≡ m.members }
-{
-    Identity {
-        cluster: m.cluster(),
-        members: m.members(),
-        node: m.me(),
-    }
 }
 
 /// The member's wire.
@@ -292,7 +268,7 @@ fn run_node<R: Records>(
 
 /// Where figures are told over TCP, if they are: 82 for what is no address at which this machine alone is heard, with a
 /// port.
-fn figures_at(words: NodeWords<'_, '_, '_>) -> Result<Option<SocketAddr>, Outcome>
+pub(crate) fn figures_at(words: NodeWords<'_, '_, '_>) -> Result<Option<SocketAddr>, Outcome>
     ensures { OnErr result (result ≡ Err (Refused 82)) }
 {
     let Some(text) = words.metrics else {
@@ -348,12 +324,53 @@ fn run_at_door<R: Records>(
     }
 }
 
-/// What `node` comes to: 40 of its numbers, 83, the store's refusals, 82, 84, and the first refusal of a turn, in this
-/// order. The store is closed, whatever came of it; what a node has committed stands also where closing fails.
+/// The run of a member, with a door or without.
+fn run_member_in<R: Records>(
+    rt: &HostRuntime,
+    alloc: Global,
+    words: NodeWords<'_, '_, '_>,
+    m: Membership,
+    records: R,
+    keys: Option<Keys>,
+) -> (Outcome, R)
+    requires members { R.members records ≡ m.members }
+    requires here { m.me < m.members }
+{
+    match words.door {
+        Some(path) => run_at_door(rt, alloc, words, path, m, records, keys),
+        None => run_node(rt, alloc, words, m, records, keys),
+    }
+}
+
+/// The run of a member over its record, which is closed, whatever came of it; what a node has committed stands also where
+/// closing fails. A node whose store failed ends with that (70, 72), whoever asked for the change.
+fn run_on(
+    rt: &HostRuntime,
+    alloc: Global,
+    words: NodeWords<'_, '_, '_>,
+    m: Membership,
+    records: SqlRecords<FileStore<File>>,
+    keys: Option<Keys>,
+) -> Outcome
+    requires members { ⟦<SqlRecords<FileStore<File>> as Records>⟧.members records ≡ m.members }
+    requires here { m.me < m.members }
+    ensures { result ≢ Refused 80 }
+{
+    say_start(rt, words);
+    let (outcome, records) = run_member_in(rt, alloc, words, m, records, keys);
+    let outcome = ending_of(outcome, records.failures());
+    say_end(rt, words, outcome);
+    let _closed = records.release().close();
+    outcome
+}
+
+/// What `node` comes to: 40 of its numbers, 83, 93, 94, the store's refusals, 82, 84, and the first refusal of a turn, in
+/// this order.
 pub(crate) fn node_outcome(rt: &HostRuntime, alloc: Global, words: NodeWords<'_, '_, '_>) -> Outcome
-    ensures { has_place words.entry.me (length words.entry.members.now) ≡ false → result ≡ Refused 40 }
+    ensures place { has_place words.entry.me (length words.entry.members.now) ≡ false → result ≡ Refused 40 }
 {
     let Some(m) = membership(words) else {
+        say_place(rt, words);
         return Outcome::Refused(40);
     };
     let keys = match keys_for(rt, alloc, words) {
@@ -361,20 +378,8 @@ pub(crate) fn node_outcome(rt: &HostRuntime, alloc: Global, words: NodeWords<'_,
         Err(outcome) => return outcome,
     };
     warn_unsealed(rt, words);
-    let conn = match open_file(rt, words.store) {
-        Ok(conn) => conn,
-        Err(outcome) => return outcome,
-    };
-    let records = match SqlRecords::adopt(alloc, conn, identity_of(m)) {
-        Ok(records) => records,
-        Err((fault, _)) => return adopt_outcome(fault),
-    };
-    say_start(rt, words);
-    let (outcome, records) = match words.door {
-        Some(path) => run_at_door(rt, alloc, words, path, m, records, keys),
-        None => run_node(rt, alloc, words, m, records, keys),
-    };
-    say_end(rt, words, outcome);
-    let _closed = records.release().close();
-    outcome
+    match record_for(rt, alloc, words, m) {
+        Ok(records) => run_on(rt, alloc, words, m, records, keys),
+        Err(outcome) => outcome,
+    }
 }

@@ -1,9 +1,9 @@
 //! What a run of `node`, `ask` or `key` comes to.
 
-ghost use Rattle.std.specs.Prelude.{◌≡◌, IfOk, string_bytes};
-ghost use Rattle.pf_node_words.specs.declared.outcome.Outcome.TheVariants.{Front, Asked, RefusedLine};
+ghost use Rattle.std.specs.Prelude.{◌≡◌, ◌≢◌, IfOk, string_bytes};
+ghost use Rattle.pf_node_words.specs.declared.outcome.Outcome.TheVariants.{Front, Asked, Refused, RefusedLine};
 ghost use Rattle.pf_node_words.specs.Outcomes.{line_of, status_of, Wrote};
-ghost use Rattle.pf_node_words.specs.inner.Outcomes.{outcome_of, answer_outcome, ended_outcome};
+ghost use Rattle.pf_node_words.specs.inner.Outcomes.{outcome_of, ending_of, answer_outcome, ended_outcome};
 
 use pf_io::{Status, out_of_memory};
 use pf_member::Ended;
@@ -28,6 +28,10 @@ pub(crate) enum Outcome {
     RefusedLine { code: u8, line: u64 },
     /// No answer came.
     NoAnswer,
+    /// A node could be started, as far as was looked.
+    Sound,
+    /// A key's file is made.
+    Made,
     /// Memory ran out.
     Memory,
     /// The input, or the system's random source, couldn't be read.
@@ -84,7 +88,9 @@ fn line_of(alloc: Global, outcome: Outcome) -> Result<String, AllocError>
         Outcome::Refused(code) => format!(in alloc; "refused {code}\n"),
         Outcome::RefusedLine { code, line } => refused_line(alloc, code, line),
         Outcome::NoAnswer => format!(in alloc; "no answer\n"),
+        Outcome::Sound => format!(in alloc; "ok\n"),
         Outcome::Memory => format!(in alloc; "memory\n"),
+        Outcome::Made => Ok(String::new(alloc)),
         Outcome::Unread => Ok(String::new(alloc)),
     }
 }
@@ -100,6 +106,8 @@ fn status_of(outcome: Outcome) -> Status
         Outcome::Refused(_) => Status::Refused,
         Outcome::RefusedLine { .. } => Status::Refused,
         Outcome::NoAnswer => Status::Refused,
+        Outcome::Sound => Status::Done,
+        Outcome::Made => Status::Done,
         Outcome::Memory => Status::Memory,
         Outcome::Unread => Status::Failed,
     }
@@ -131,6 +139,21 @@ pub(crate) fn fault_outcome(fault: NodeFault) -> Outcome
         NodeFault::Store => Outcome::Refused(70),
         NodeFault::BadStore => Outcome::Refused(72),
         NodeFault::Failed => Outcome::Refused(80),
+    }
+}
+
+/// What a run comes to whose store has so many failures: a node that had failed ends with what it failed of, 70 or 72.
+pub(crate) fn ending_of(outcome: Outcome, failures: u64) -> Outcome
+    ensures is { result ≡ ending_of outcome failures }
+    ensures why { result ≢ Refused 80 }
+{
+    match outcome {
+        Outcome::Refused(80) => if failures > 0 {
+            Outcome::Refused(70)
+        } else {
+            Outcome::Refused(72)
+        },
+        _ => outcome,
     }
 }
 

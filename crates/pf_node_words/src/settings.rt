@@ -1,12 +1,12 @@
 //! The word `node` with its file of settings.
 
+use crate::check::check_outcome;
 use crate::node::{NodeWords, node_outcome};
 use crate::outcome::Outcome;
 use clap::ArgMatches;
-use pf_io::{InputFault, read_all};
+use pf_io::{InputFault, Shown, open_regular, read_all};
 use pf_node_file::{FileFault, NodeFile};
 use std::alloc::Global;
-use std::fs;
 
 /// A file that can't be read.
 const UNREADABLE: u8 = 90;
@@ -16,13 +16,20 @@ const BAD_SETTINGS: u8 = 92;
 
 /// The bytes of a file.
 fn bytes_of(rt: &HostRuntime, alloc: Global, path: &str) -> Result<Vec<u8>, Outcome> {
-    let Ok(mut file) = fs::open(rt, path) else {
-        return Err(Outcome::Refused(UNREADABLE));
+    let mut file = match open_regular(rt, path) {
+        Ok(file) => file,
+        Err(error) => {
+            let _said = eprintln!(rt; "pfx: error: {}: {error} ({UNREADABLE})", Shown(path));
+            return Err(Outcome::Refused(UNREADABLE));
+        }
     };
     match read_all(alloc, &mut file) {
         Ok(bytes) => Ok(bytes),
         Err(InputFault::Memory) => Err(Outcome::Memory),
-        Err(InputFault::Failed | InputFault::TooLong) => Err(Outcome::Refused(UNREADABLE)),
+        Err(InputFault::Failed | InputFault::TooLong) => {
+            let _said = eprintln!(rt; "pfx: error: {}: a read failed ({UNREADABLE})", Shown(path));
+            Err(Outcome::Refused(UNREADABLE))
+        }
     }
 }
 
@@ -31,6 +38,7 @@ fn file_refused(rt: &HostRuntime, path: &str, fault: FileFault) -> Outcome {
     if fault == FileFault::Memory {
         return Outcome::Memory;
     }
+    let path = Shown(path);
     match fault.line() {
         Some(line) => {
             let _said = eprintln!(rt; "pfx: error: {path}:{line}: {fault} ({BAD_SETTINGS})");
@@ -58,12 +66,28 @@ fn settings_in(rt: &HostRuntime, alloc: Global, path: &str) -> Result<NodeFile, 
     }
 }
 
+/// Says what a setting is wanting.
+fn say_lack(rt: &HostRuntime, name: &str) {
+    let _said = eprintln!(rt; "pfx: error: {name} ({BAD_SETTINGS})");
+}
+
 /// What is refused where a setting is wanting that no option gives.
-fn lacking(rt: &HostRuntime) -> Outcome {
-    let _said = eprintln!(rt;
-        "pfx: error: me, cluster or store is neither in the words nor in their file, or other-key has no key, or metrics \
-         no door ({BAD_SETTINGS})"
-    );
+fn lacking(rt: &HostRuntime, matches: &ArgMatches<'_>, file: &NodeFile) -> Outcome {
+    if matches.get_one::<u32>("me").is_none() && file.number("me").is_none() {
+        say_lack(rt, "me is neither in the words nor in their file");
+    }
+    if matches.get_one::<u32>("cluster").is_none() && file.number("cluster").is_none() {
+        say_lack(rt, "cluster is neither in the words nor in their file");
+    }
+    if matches.get_str("store").is_none() && file.text("store").is_none() {
+        say_lack(rt, "store is neither in the words nor in their file");
+    }
+    Outcome::Refused(BAD_SETTINGS)
+}
+
+/// What is refused where a setting has not the one that it wants.
+fn halved(rt: &HostRuntime) -> Outcome {
+    say_lack(rt, "other-key has no key, or metrics no door");
     Outcome::Refused(BAD_SETTINGS)
 }
 
@@ -75,13 +99,16 @@ fn outcome_for<'g: 'f, 'f>(
     file: &'f NodeFile,
     members: &[&str],
 ) -> Outcome {
-    match NodeWords::of(matches, file, members) {
-        Some(words) => if words.is_whole() {
-            node_outcome(rt, alloc, words)
-        } else {
-            lacking(rt)
-        },
-        None => lacking(rt),
+    let Some(words) = NodeWords::of(matches, file, members) else {
+        return lacking(rt, matches, file);
+    };
+    if !words.is_whole() {
+        return halved(rt);
+    }
+    if matches.get_flag("check") {
+        check_outcome(rt, alloc, words)
+    } else {
+        node_outcome(rt, alloc, words)
     }
 }
 

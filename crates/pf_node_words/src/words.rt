@@ -16,7 +16,14 @@ const ME: &str = "The node's number, from 0 on";
 
 const CLUSTER: &str = "The cluster's number, 0 to 4294967295";
 
-const STORE: &str = "The file of its record, which is made where there is none";
+const STORE: &str =
+    "The file of its record; where there is none it is made, with settings of a file only if --new is given";
+
+const NEW: &str =
+    "Makes the store of a node that never ran, and is refused where one is: once, on each machine";
+
+const CHECK: &str =
+    "Says what is wrong with settings, keys, addresses and store, and starts, makes and changes nothing";
 
 const TURNS: &str =
     "How many turns; in each it takes one datagram, or a wait of 100 ms ends and it ticks. Without it the node runs
@@ -62,11 +69,15 @@ const NODE_BELOW: &str =
     "In the end it writes front F applied A: how many positions are learned without a gap, and applied. A refusal is
 refused CODE: 40 words, 83 no key in its file, or others may read it, 70 the store failed, 71 it is of another cluster
 or member, 72 a bad row, 73 another format, 82 its address is taken, or that of --metrics is none of this machine
-alone, 84 its door is taken, 90 its file of settings can't be read, 92 (with the line) that file is wrong. With a key or
-a door asks by UDP aren't heard.";
+alone, 84 its door is taken, 90 its file of settings can't be read, 92 (with the line) that file is wrong, 93 its store isn't
+there, 94 with --new it is. Standard error says which file or address, and what the system said. --check writes ok, or
+the first refusal. With a key or a door asks by UDP aren't heard.";
 
 const KEY_BELOW: &str =
-    "It writes 64 hexadecimal digits, as pfx node --key takes them: (umask 077; pfx key > FILE)";
+    "It writes 64 hexadecimal digits, as pfx node --key takes them, into FILE, which is made and its owner alone may read,
+or without one to standard output. A refusal is refused CODE: 94 the file is there, 83 it can't be made.";
+
+const KEY_FILE: &str = "The file that is made";
 
 const ASK_BELOW: &str =
     "It writes asked NODE.NUMBER, no answer, or refused CODE; a node refuses with 60 (64 wait) or 62 (no number left).
@@ -259,6 +270,8 @@ fn node_options<'a>(alloc: Global, node: Command<'a>) -> Result<Command<'a>, All
     let command = with_answer(alloc, command)?;
     let command = with_door(alloc, command)?;
     let command = with_keys(alloc, command)?;
+    let command = with_flag(alloc, command, "new", NEW)?;
+    let command = with_flag(alloc, command, "check", CHECK)?;
     with_flag(alloc, command, "quiet", QUIET)
 }
 
@@ -275,7 +288,7 @@ fn with_members<'a>(alloc: Global, command: Command<'a>) -> Result<Command<'a>, 
 }
 
 /// `node [--config FILE] --me N --cluster C --store FILE [--turns T] [--answer learned] [--door PATH [--metrics ADDR]]
-/// [--key FILE [--other-key FILE]] [--unsealed] [--quiet] ADDR..`
+/// [--key FILE [--other-key FILE]] [--unsealed] [--new] [--check] [--quiet] ADDR..`
 fn node_command<'a>(alloc: Global) -> Result<Command<'a>, AllocError>
     ensures local { IfOk result (λ c. (out-Command c).has_globals ≡ false) }
 {
@@ -312,11 +325,15 @@ fn ask_command<'a>(alloc: Global) -> Result<Command<'a>, AllocError>
     pfctl_args(alloc, command)
 }
 
-/// `key`
-fn key_command<'a>(alloc: Global) -> Command<'a> {
-    Command::new(alloc, "key")
+/// `key [FILE]`
+fn key_command<'a>(alloc: Global) -> Result<Command<'a>, AllocError> {
+    let file = Arg::new(alloc, "file")
+        .action(ArgAction::Set)
+        .help(KEY_FILE);
+    let key = Command::new(alloc, "key")
         .about("Makes a new key of a cluster, of the system's random source")
-        .after_help(KEY_BELOW)
+        .after_help(KEY_BELOW);
+    with(key, file)
 }
 
 /// Adds a word that may not be had, for want of memory.
@@ -337,6 +354,6 @@ fn with_word<'a>(
 pub(crate) fn command<'a>(alloc: Global) -> Result<Command<'a>, AllocError> {
     let command = with_word(Command::new(alloc, "pfx"), node_command(alloc))?;
     let command = with_word(command, ask_command(alloc))?;
-    let command = with_word(command, Ok(key_command(alloc)))?;
+    let command = with_word(command, key_command(alloc))?;
     Ok(command.subcommand_required(true))
 }

@@ -8,7 +8,7 @@ pub enum KeyFault {
     /// A growth was refused.
     #[error("out of memory")]
     Memory,
-    /// The file isn't there, or a read failed.
+    /// The file isn't there, is no regular file, or a read failed.
     #[error("it can't be read")]
     Unread,
     /// Others than the file's owner may read, write or run it.

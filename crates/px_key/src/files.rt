@@ -19,9 +19,20 @@ fn is_private(mode: u32) -> bool
     mode & OTHERS == 0
 }
 
-/// The key in a file: `Unread` where it isn't there or can't be read, `Open` where others than its owner may do
-/// anything with it, as ssh has it of a private key, and `NoKey` where its text is none.
+/// Whether a regular file is there. A pipe would be waited for.
+fn is_file<F: Files>(files: &F, path: &str) -> bool {
+    match fs::metadata(files, path) {
+        Ok(found) => found.is_file(),
+        Err(_) => false,
+    }
+}
+
+/// The key in a file: `Unread` where it isn't there, is no regular file or can't be read, `Open` where others than its
+/// owner may do anything with it, as ssh has it of a private key, and `NoKey` where its text is none.
 pub fn read_key<F: Files>(files: &F, alloc: Global, path: &str) -> Result<[u8; 32], KeyFault> {
+    if !is_file(files, path) {
+        return Err(KeyFault::Unread);
+    }
     let Ok(mut file) = fs::open(files, path) else {
         return Err(KeyFault::Unread);
     };

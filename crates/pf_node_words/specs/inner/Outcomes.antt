@@ -1,5 +1,5 @@
 -- What only code and proofs use beside `Outcomes`.
-use Rattle.std.specs.Prelude.{◌≡◌, ◌⊎◌, ℕ, Option, Some, None}
+use Rattle.std.specs.Prelude.{◌≡◌, ◌⊎◌, ◌==◌, ℕ, Bool, false, nat_lt, Option, Some, None}
 use Rattle.px_model.specs.Step.{front}
 use Rattle.px_records.specs.declared.records.Records.{Ghosts}
 use Rattle.px_wire.specs.declared.membership.Membership.{Membership}
@@ -19,7 +19,12 @@ use Rattle.pf_net.specs.declared.answer.AskAnswer.{AskAnswer}
 use Rattle.pf_net.specs.declared.answer.AskAnswer.TheVariants as answer
 use Rattle.pf_node_words.specs.declared.outcome.Outcome.{Outcome}
 use Rattle.pf_node_words.specs.declared.outcome.Outcome.TheVariants.{Front, Asked, Refused, NoAnswer}
-use Rattle.pf_node_words.specs.declared.outcome.Outcome.TheVariants.{Memory}
+use Rattle.pf_node_words.specs.declared.outcome.Outcome.TheVariants.{Memory, Sound}
+
+-- whether it is this refusal
+abbrev pub is_refused : ℕ → Outcome → Bool
+is_refused code (Refused other) = other == code
+is_refused code outcome = false
 
 -- the refusals that a fault of a node is shown as
 abbrev pub outcome_of : NodeFault → Outcome
@@ -31,6 +36,16 @@ outcome_of fault.PositionsSpent = Refused 62
 outcome_of fault.Store = Refused 70
 outcome_of fault.BadStore = Refused 72
 outcome_of fault.Failed = Refused 80
+
+-- What a run is shown as whose store has so many failures: a member that had failed ends with what it failed of, 70 where
+-- a call on the store failed and 72 where a row was bad.
+abbrev pub ending_of : Outcome → (failures : ℕ) → Outcome
+ending_of outcome n = if is_refused 80 outcome then (if nat_lt 0 n then Refused 70 else Refused 72) else outcome
+
+-- the first of two that is no Sound
+abbrev pub first_of : Outcome → Outcome → Outcome
+first_of Sound other = other
+first_of one other = one
 
 -- what a member's run is shown as, where its wire may be missing
 abbrev pub ended_outcome : (without : Outcome) → Ended → Outcome

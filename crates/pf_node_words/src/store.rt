@@ -1,0 +1,199 @@
+//! A node's store: opened where it is, and made where it may be.
+
+ghost use Rattle.std.specs.Prelude.{◌≡◌, ◌⊎◌, Err, true, false, IfOk, IfErr, OnErr};
+ghost use Rattle.pf_node_words.specs.declared.outcome.Outcome.TheVariants.{Memory, Refused};
+ghost use Rattle.pf_node_words.specs.inner.Outcomes.{adopt_outcome};
+ghost use Rattle.pf_node_words.specs.inner.Stores.{opening_of, IsStoreless};
+
+use crate::faults::{say_closed, say_judged, say_storeless};
+use crate::node::NodeWords;
+use crate::outcome::Outcome;
+use pf_io::make_private;
+use pf_member::Membership;
+use px_records::Records;
+use px_sql::{AdoptFault, Identity, SqlRecords};
+use sqlite::{Alter, Connection, Error, ErrorCode, File, FileStore};
+use std::alloc::{AllocError, Global};
+use std::fs;
+use std::io::ErrorKind;
+
+/// A store that isn't there.
+const NO_STORE: u8 = 93;
+
+/// A file that is to be made and is there.
+pub(crate) const FILE_IS_THERE: u8 = 94;
+
+/// What stands where a store is named.
+#[derive(Clone, Copy, PartialEq, Eq)]
+pub(crate) enum Found {
+    /// Nothing.
+    Nothing,
+    /// A file without a byte, and without a log of writes.
+    Empty,
+    /// A file with bytes.
+    Store,
+    /// What is no file, or the system doesn't say.
+    Other,
+}
+
+/// What becomes of it.
+#[derive(Clone, Copy, PartialEq, Eq)]
+pub(crate) enum Opening {
+    /// It is opened.
+    Opens,
+    /// A store is made.
+    Makes,
+    /// The number of the refusal.
+    Refuses(u8),
+}
+
+/// What becomes of what stands there. Where settings come from a file a store is made with `--new` alone (93), which
+/// wants none there (94).
+pub(crate) fn opening_of(is_from_file: bool, is_new: bool, found: Found) -> Opening
+    ensures { result ≡ opening_of is_from_file is_new found }
+{
+    match (found, is_from_file, is_new) {
+        (Found::Nothing | Found::Empty, true, false) => Opening::Refuses(NO_STORE),
+        (Found::Nothing, _, _) => Opening::Makes,
+        (Found::Empty, _, _) => Opening::Opens,
+        (Found::Store, _, true) => Opening::Refuses(FILE_IS_THERE),
+        (Found::Store, _, false) => Opening::Opens,
+        (Found::Other, _, _) => Opening::Refuses(70),
+    }
+}
+
+/// Whether a file has no byte, or isn't there.
+fn is_empty(rt: &HostRuntime, path: &str) -> bool {
+    match fs::metadata(rt, path) {
+        Ok(found) => found.len() == 0,
+        Err(_) => true,
+    }
+}
+
+/// What stands at a path.
+pub(crate) fn found_at(rt: &HostRuntime, alloc: Global, path: &str) -> Result<Found, AllocError> {
+    match fs::metadata(rt, path) {
+        Ok(found) => {
+            if !found.is_file() {
+                return Ok(Found::Other);
+            }
+            let log = format!(in alloc; "{path}-wal")?;
+            if found.len() == 0 && is_empty(rt, log.as_str()) {
+                Ok(Found::Empty)
+            } else {
+                Ok(Found::Store)
+            }
+        }
+        Err(error) => if error.kind() == ErrorKind::NotFound {
+            Ok(Found::Nothing)
+        } else {
+            Ok(Found::Other)
+        },
+    }
+}
+
+/// The outcome of a store that isn't taken.
+fn adopt_outcome(fault: AdoptFault) -> Outcome
+    ensures { result ≡ adopt_outcome fault }
+{
+    match fault.code() {
+        Some(code) => Outcome::Refused(code),
+        None => Outcome::Memory,
+    }
+}
+
+/// What a store comes to that isn't taken; why is said on standard error.
+pub(crate) fn untaken<S: Alter>(
+    rt: &HostRuntime,
+    path: &str,
+    m: Membership,
+    fault: AdoptFault,
+    conn: &mut Connection<S>,
+) -> Outcome
+    ensures { result ≡ adopt_outcome fault }
+{
+    say_judged(rt, path, m, fault, conn);
+    adopt_outcome(fault)
+}
+
+/// Whom the store of a member belongs to.
+pub(crate) fn identity_of(m: Membership) -> Identity
+    ensures { result.members ≡ m.members }
+{
+    Identity {
+        cluster: m.cluster(),
+        members: m.members(),
+        node: m.me(),
+    }
+}
+
+/// The database in a file.
+fn open_file(rt: &HostRuntime, path: &str) -> Result<Connection<FileStore<File>>, Outcome>
+    ensures { OnErr result ((result ≡ Err Memory) ⊎ (result ≡ Err (Refused 70))) }
+{
+    match Connection::open(rt, path) {
+        Ok(conn) => Ok(conn),
+        Err(Error::SqliteFailure(ErrorCode::OutOfMemory)) => Err(Outcome::Memory),
+        Err(error) => {
+            say_closed(rt, path, &error);
+            Err(Outcome::Refused(70))
+        }
+    }
+}
+
+/// The database in a file that isn't there yet, which its owner alone may read.
+fn make_file(rt: &HostRuntime, path: &str) -> Result<Connection<FileStore<File>>, Outcome>
+    ensures { OnErr result ((result ≡ Err Memory) ⊎ (result ≡ Err (Refused 70))) }
+{
+    match make_private(rt, path) {
+        Ok(_made) => open_file(rt, path),
+        Err(error) => {
+            say_closed(rt, path, &error);
+            Err(Outcome::Refused(70))
+        }
+    }
+}
+
+/// The database where a store is named, by what becomes of what stands there.
+fn open_store(
+    rt: &HostRuntime,
+    words: NodeWords<'_, '_, '_>,
+    found: Found,
+) -> Result<Connection<FileStore<File>>, Outcome>
+    ensures { IfErr result (IsStoreless words.entry.is_from_file words.entry.is_new) }
+{
+    match opening_of(words.is_from_file, words.is_new, found) {
+        Opening::Opens => open_file(rt, words.store),
+        Opening::Makes => make_file(rt, words.store),
+        Opening::Refuses(code) => {
+            say_storeless(rt, words.store, code);
+            Err(Outcome::Refused(code))
+        }
+    }
+}
+
+/// The record of a member in the store that its words name: 93, 94, 70, 73, 72 and 71, in this order.
+pub(crate) fn record_for(
+    rt: &HostRuntime,
+    alloc: Global,
+    words: NodeWords<'_, '_, '_>,
+    m: Membership,
+) -> Result<SqlRecords<FileStore<File>>, Outcome>
+    ensures members { IfOk result (λ r. ⟦<SqlRecords<FileStore<File>> as Records>⟧.members r ≡ m.members) }
+    ensures refused { IfErr result (IsStoreless words.entry.is_from_file words.entry.is_new) }
+{
+    let Ok(found) = found_at(rt, alloc, words.store) else {
+        return Err(Outcome::Memory);
+    };
+    let conn = match open_store(rt, words, found) {
+        Ok(conn) => conn,
+        Err(outcome) => return Err(outcome),
+    };
+    match SqlRecords::adopt(alloc, conn, identity_of(m)) {
+        Ok(records) => Ok(records),
+        Err((fault, conn)) => {
+            let mut conn = conn;
+            Err(untaken(rt, words.store, m, fault, &mut conn))
+        }
+    }
+}
