@@ -12,12 +12,12 @@ use mio::{Events, Interest, Poll, Token};
 use pf_desk::Health;
 use px_records::Records;
 use std::alloc::{AllocError, Global};
-use std::fs::{self, Files};
+use std::fs::{self, DirBuilder, Files, Permissions};
 use std::hash::RandomState;
-use std::io::{self, Eprint};
+use std::io::{self, Eprint, ErrorKind};
 use std::net::{Net, SocketAddr, TcpListener, TcpStream};
 use std::os::fd::RawFd;
-use std::os::unix::fs::FileTypeExt;
+use std::os::unix::fs::{DirBuilderExt, FileTypeExt, PermissionsExt};
 use std::os::unix::net::{UnixListener, UnixStream};
 use std::time::{Clock, Duration};
 use thiserror::Error;
@@ -36,6 +36,11 @@ const START: u64 = 3;
 
 /// How many events are looked at after a wait; more stay for the next.
 const EVENTS: usize = 16;
+
+/// The mode of the folder in which the socket is made, and that of the socket.
+const ROOM_MODE: u32 = 0o700;
+
+const SOCKET_MODE: u32 = 0o660;
 
 /// Why there is no door.
 #[derive(Clone, Copy, Debug, PartialEq, Eq, Error)]
@@ -90,11 +95,50 @@ fn free<RT: Files + Net>(rt: &RT, path: &str) -> bool {
     }
 }
 
-/// The listening socket at the path, which doesn't wait.
-fn listen<RT: Files + Net>(rt: &RT, path: &str) -> io::Result<Listener> {
-    let listener = UnixListener::bind(rt, path)?;
+/// A socket at `inner`, in the folder `room`, to which its owner and its group may connect, is put at the path, where
+/// nothing may be.
+fn bind_at<RT: Files + Net>(
+    rt: &RT,
+    room: &str,
+    inner: &str,
+    path: &str,
+) -> io::Result<UnixListener> {
+    fs::set_permissions(rt, room, Permissions::from_mode(ROOM_MODE))?;
+    let listener = UnixListener::bind(rt, inner)?;
     listener.set_nonblocking(true)?;
-    Ok(Listener::Local(listener))
+    fs::set_permissions(rt, inner, Permissions::from_mode(SOCKET_MODE))?;
+    fs::hard_link(rt, inner, path)?;
+    Ok(listener)
+}
+
+/// Whether a folder is there, and no link to one.
+fn is_folder<RT: Files>(rt: &RT, path: &str) -> bool {
+    match fs::symlink_metadata(rt, path) {
+        Ok(found) => found.is_dir(),
+        Err(_) => false,
+    }
+}
+
+/// Takes the folder away in which a socket was made, and the socket's name there.
+fn leave_room<RT: Files>(rt: &RT, room: &str, inner: &str) {
+    let _gone = fs::remove_file(rt, inner);
+    let _gone = fs::remove_dir(rt, room);
+}
+
+/// The listening socket at the path, which doesn't wait. Whatever the umask is, its owner and its group may connect, and
+/// nobody before that is so: it is made in a folder of its own, `PATH.d`, where only its owner comes.
+fn listen<RT: Files + Net>(rt: &RT, alloc: Global, path: &str) -> io::Result<Listener> {
+    let room = format!(in alloc; "{path}.d")?;
+    let inner = format!(in alloc; "{path}.d/s")?;
+    let (room, inner) = (room.as_str(), inner.as_str());
+    // a node that was killed meanwhile left one
+    if is_folder(rt, room) {
+        leave_room(rt, room, inner);
+    }
+    DirBuilder::new().mode(ROOM_MODE).create(rt, room)?;
+    let listener = bind_at(rt, room, inner, path);
+    leave_room(rt, room, inner);
+    Ok(Listener::Local(listener?))
 }
 
 /// The listening socket at the address, which doesn't wait.
@@ -377,6 +421,15 @@ impl Door {
     }
 }
 
+/// What a refusal of the system comes to.
+fn fault_of(error: &io::Error) -> DoorFault {
+    if error.kind() == ErrorKind::OutOfMemory {
+        DoorFault::Memory
+    } else {
+        DoorFault::NoDoor
+    }
+}
+
 /// The entrance at a path.
 fn open_path<RT: Files + Net>(
     rt: &RT,
@@ -388,8 +441,9 @@ fn open_path<RT: Files + Net>(
     if !free(rt, path) {
         return Err(DoorFault::NoDoor);
     }
-    let Ok(listener) = listen(rt, path) else {
-        return Err(DoorFault::NoDoor);
+    let listener = match listen(rt, alloc, path) {
+        Ok(listener) => listener,
+        Err(error) => return Err(fault_of(&error)),
     };
     if watch(poll, listener.raw_fd()).is_err() {
         let _gone = fs::remove_file(rt, path);
