@@ -6,7 +6,7 @@ use crate::words::command;
 use clap::ArgMatches;
 use pf_desk::{ENTRIES_BYTES, ENTRIES_MAX};
 use pf_follow::{Kernel, Mirror, TakeFault};
-use pf_io::{Status, misused};
+use pf_io::{Shown, Status, knock, misused};
 use pf_kernel::machine_in;
 use pf_kernel_words::read_file;
 use pf_visit::{VisitFault, pause, read_at};
@@ -61,15 +61,28 @@ fn ask_on(
     Ok(Asked::All)
 }
 
-/// Says that there is no answer, unless that was said last.
-fn say_nothing<E: Write>(errors: &mut E, fault: VisitFault, said: &mut Option<VisitFault>) {
-    if *said != Some(fault) {
-        *said = Some(fault);
-        let line = match fault {
-            VisitFault::BadAnswer => "pfx: refused 86, asked again\n",
-            _ => "pfx: refused 85, asked again\n",
-        };
-        let _said = errors.write_all(line.as_bytes());
+/// Says that there is no answer, and what the system says of a control socket at which nobody answers, unless that was
+/// said last.
+fn say_nothing<E: Write>(
+    rt: &HostRuntime,
+    door: &str,
+    errors: &mut E,
+    fault: VisitFault,
+    said: &mut Option<VisitFault>,
+) {
+    if *said == Some(fault) {
+        return;
+    }
+    *said = Some(fault);
+    let line = match fault {
+        VisitFault::BadAnswer => "pfx: refused 86, asked again\n",
+        _ => "pfx: refused 85, asked again\n",
+    };
+    let _said = errors.write_all(line.as_bytes());
+    if fault == VisitFault::NoDoor {
+        if let Err(error) = knock(rt, door) {
+            let _said = writeln!(errors, "pfx: {}: {error}", Shown(door));
+        }
     }
 }
 
@@ -98,7 +111,7 @@ fn follow<W: Write, E: Write>(
             }
             Asked::Another => return Err(WriteFault::Another),
             Asked::Nothing(fault) => {
-                say_nothing(errors, fault, &mut said);
+                say_nothing(rt, door, errors, fault, &mut said);
                 pause(rt, PAUSE);
             }
         }

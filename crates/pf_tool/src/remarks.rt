@@ -1,5 +1,6 @@
 //! Words for people: what is refused, and which rules decide.
 
+use pf_io::Shown;
 use pf_refusals::{Explanation, NO_PACKET, Remark, explanation};
 use std::alloc::{AllocError, Global};
 
@@ -78,8 +79,9 @@ impl<'t> Remarks<'t> {
             Some(row) => row.name,
             None => "refused",
         };
+        let source = format!(in self.alloc; "{}", Shown(source))?;
         let remark = Remark {
-            source,
+            source: source.as_str(),
             line,
             name,
             code,

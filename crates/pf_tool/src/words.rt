@@ -12,7 +12,7 @@ use clap::{Arg, ArgAction, Command};
 use std::alloc::{AllocError, Global};
 
 /// What help says below its options.
-const WORDS_BELOW: &str = "pfx WORD --help says more of a word.
+const WORDS_BELOW: &str = "pfx WORD --help says more of a word, pfx --version which program this is.
 
 Status: 0 done; 1 refused, out of memory (memory is written), a failed read or write, or more than 16777216 bytes of
 input; 2 words that aren't understood.";

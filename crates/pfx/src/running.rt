@@ -1,5 +1,7 @@
 //! One command line, run by the crate of its subcommand.
 
+use crate::telling::{Heard, tell};
+use crate::version::write_version;
 use pf_follow_words::run_follow;
 use pf_io::Status;
 use pf_kernel_words::{asks_nft, run_nft};
@@ -29,9 +31,46 @@ fn has_door<S: AsStr>(arguments: &[S]) -> bool {
     false
 }
 
-/// Does what the arguments ask for, the program's name first; `is_terminal` says whether `errors` is a terminal. All
-/// subcommands but `batch`.
-pub(crate) fn run_line<S: AsStr, R: Read, W: Write, E: Write>(
+/// Whether help is asked for, and of neither way to ask a node alone.
+fn asks_help<S: AsStr>(arguments: &[S]) -> bool {
+    let mut is_help = false;
+    for argument in arguments {
+        let argument = argument.as_str();
+        if argument.starts_with("--to") {
+            return false;
+        }
+        is_help = is_help || argument == "--help" || argument == "-h";
+    }
+    is_help
+}
+
+/// Writes the help of `ask`: of the control socket's form, then of the one over UDP.
+fn help_ask<S: AsStr, R: Read, W: Write>(
+    rt: &HostRuntime,
+    arguments: &[S],
+    reader: &mut R,
+    writer: &mut W,
+) -> Status {
+    let status = run_visit(rt, rt.alloc(), arguments, reader, writer);
+    if status != Status::Usage {
+        return status;
+    }
+    match writer.write_all(b"\nWhere a node has neither control socket nor key, over UDP:\n\n") {
+        Ok(()) => run_net(rt, rt.alloc(), arguments, reader, writer),
+        Err(_) => Status::Failed,
+    }
+}
+
+/// Writes which program this is.
+fn tell_version<W: Write>(writer: &mut W) -> Status {
+    match write_version(writer) {
+        Ok(()) => Status::Done,
+        Err(_) => Status::Failed,
+    }
+}
+
+/// Does what the arguments ask for, as the crate of their subcommand has it.
+fn run_plain<S: AsStr, R: Read, W: Write, E: Write>(
     rt: &HostRuntime,
     arguments: &[S],
     reader: &mut R,
@@ -41,6 +80,10 @@ pub(crate) fn run_line<S: AsStr, R: Read, W: Write, E: Write>(
 ) -> Status {
     let alloc = rt.alloc();
     match subcommand_of(arguments) {
+        "--version" | "-V" => tell_version(writer),
+        "ask" if asks_help(arguments) && !has_door(arguments) => {
+            help_ask(rt, arguments, reader, writer)
+        }
         "ask" if has_door(arguments) => run_visit(rt, alloc, arguments, reader, writer),
         "node" | "ask" | "key" => run_net(rt, alloc, arguments, reader, writer),
         "show" => run_show(rt, alloc, arguments, writer),
@@ -55,5 +98,38 @@ pub(crate) fn run_line<S: AsStr, R: Read, W: Write, E: Write>(
             errors,
             is_terminal,
         ),
+    }
+}
+
+/// The same on a terminal, where it is told what a refusal means.
+fn run_told<S: AsStr, R: Read, W: Write, E: Write>(
+    rt: &HostRuntime,
+    arguments: &[S],
+    reader: &mut R,
+    writer: &mut W,
+    errors: &mut E,
+) -> Status {
+    let mut heard = Heard::new(writer);
+    let status = run_plain(rt, arguments, reader, &mut heard, errors, true);
+    match heard.refusal {
+        Some(code) if status == Status::Refused => tell(rt, arguments, code, errors),
+        _ => {}
+    }
+    status
+}
+
+/// Does what the arguments ask for, the program's name first; `is_terminal` says whether `errors` is a terminal. All
+/// subcommands but `batch`.
+pub(crate) fn run_line<S: AsStr, R: Read, W: Write, E: Write>(
+    rt: &HostRuntime,
+    arguments: &[S],
+    reader: &mut R,
+    writer: &mut W,
+    errors: &mut E,
+    is_terminal: bool,
+) -> Status {
+    match subcommand_of(arguments) {
+        "ask" | "show" if is_terminal => run_told(rt, arguments, reader, writer, errors),
+        _ => run_plain(rt, arguments, reader, writer, errors, is_terminal),
     }
 }
