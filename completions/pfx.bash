@@ -31,7 +31,7 @@ _pfx() {
     test) options="-f --file --packets -q --quiet -v --verbose" ;;
     ctl) options="-v --verbose" ;;
     node)
-        options="--config --me --cluster --store --turns --answer --door --metrics --key --other-key --unsealed --quiet" ;;
+        options="--config --me --cluster --store --turns --answer --door --metrics --key --other-key --unsealed --new --check --quiet" ;;
     ask)
         options="--wait -a -f -n -F -t -T -s"
         [[ $seen == *" --to "* ]] || options+=" --door --at --unchecked --script --from"
@@ -42,8 +42,9 @@ _pfx() {
         words="test log" ;;
     follow) options="--door --nft --interfaces --pf --turns" ;;
     batch) [[ $current == -* ]] || { COMPREPLY=($(compgen -f -- "$current")); return; } ;;
-    help) words="check test ctl lab explain help" ;;
-    lab | explain | key) ;;
+    help) words="check test ctl lab explain node ask key show follow batch help" ;;
+    key) [[ $current == -* ]] || { COMPREPLY=($(compgen -f -- "$current")); return; } ;;
+    lab | explain) ;;
     *) return ;;
     esac
     [[ $word == help ]] || options+=" -h --help"

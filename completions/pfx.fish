@@ -33,6 +33,8 @@ complete -c pfx -n "$node" -l metrics -x -d 'A TCP address of this machine alone
 complete -c pfx -n "$node" -l key -r -F -d 'A file with the key of the cluster'
 complete -c pfx -n "$node" -l other-key -r -F -d 'A file with a second key that is heard too'
 complete -c pfx -n "$node" -l unsealed -d 'Something below seals datagrams'
+complete -c pfx -n "$node" -l new -d 'Make the store of a node that never ran'
+complete -c pfx -n "$node" -l check -d 'Say what is wrong, and start nothing'
 complete -c pfx -n "$node" -l quiet -d 'Say warnings and errors alone'
 
 set -l ask '__fish_seen_subcommand_from ask'
