@@ -3,17 +3,21 @@
 ghost use Rattle.std.specs.Prelude.{◌≡◌};
 ghost use Rattle.pf_node_words.specs.inner.Outcomes.{first_of};
 
-use crate::faults::{owner_of, say_closed, say_place, say_storeless, say_unknown};
+use crate::faults::{owner_of, say_closed, say_figures, say_place, say_storeless, say_unknown};
 use crate::key::keys_for;
 use crate::node::{NodeWords, figures_at, membership};
 use crate::outcome::Outcome;
 use crate::store::{Opening, found_at, identity_of, opening_of, untaken};
-use pf_io::Shown;
+use pf_io::{Shown, open_regular};
 use pf_member::Membership;
 use px_sql::{AdoptFault, SqlRecords};
 use sqlite::{Connection, Error, ErrorCode, File, FileStore};
 use std::alloc::Global;
 use std::fs;
+use std::io::Read;
+
+/// How a database begins.
+const HEAD: &[u8] = b"SQLite format 3\0";
 
 /// The first of two outcomes that is no `Sound`.
 fn first_of(one: Outcome, other: Outcome) -> Outcome
@@ -80,6 +84,15 @@ fn judged(
     }
 }
 
+/// Whether a file begins as a database does.
+fn is_database(rt: &HostRuntime, path: &str) -> bool {
+    let Ok(mut file) = open_regular(rt, path) else {
+        return false;
+    };
+    let mut head = [0u8; 16];
+    file.read_exact(&mut head).is_ok() && head.as_slice() == HEAD
+}
+
 /// What is refused of a store that stands there; nothing of one that a node has open, nor of one without its log of
 /// writes, which an opening makes.
 fn looked_at(
@@ -91,6 +104,10 @@ fn looked_at(
     let Ok(log) = format!(in alloc; "{}-wal", words.store) else {
         return Outcome::Memory;
     };
+    if !is_database(rt, words.store) {
+        say_closed(rt, words.store, &"it is no database");
+        return Outcome::Refused(70);
+    }
     if !fs::exists(rt, log.as_str()).unwrap_or(false) {
         let _said = eprintln!(rt;
             "pfx: info: store {}: no log of writes is beside it, so it isn't looked at",
@@ -143,8 +160,7 @@ fn of_addresses(rt: &HostRuntime, words: NodeWords<'_, '_, '_>) -> Outcome {
     match figures_at(words) {
         Ok(_) => Outcome::Sound,
         Err(outcome) => {
-            let figures = Shown(words.metrics.unwrap_or(""));
-            let _said = eprintln!(rt; "pfx: error: {figures}: no port of this machine alone");
+            say_figures(rt, words.metrics.unwrap_or(""));
             outcome
         }
     }

@@ -8,7 +8,7 @@ use sqlite::{Alter, Connection};
 use std::fmt::Display;
 use std::fs::{self, OpenOptions};
 use std::io::{self, Error, ErrorKind};
-use std::net::{ToSocketAddrs, UdpSocket};
+use std::net::{TcpListener, ToSocketAddrs, UdpSocket};
 
 /// Why a node can't read and write a file, as the system says it; none where it can.
 fn why_closed(rt: &HostRuntime, path: &str) -> io::Result<()> {
@@ -107,22 +107,36 @@ pub(crate) fn say_unknown(rt: &HostRuntime, words: NodeWords<'_, '_, '_>) -> boo
     are_known
 }
 
-/// Says why there is no socket.
-fn say_unbound(rt: &HostRuntime, words: NodeWords<'_, '_, '_>) {
-    if !say_unknown(rt, words) {
-        return;
-    }
-    let Some(own) = words.members.get(usize::from(words.me)) else {
-        return;
-    };
-    match UdpSocket::bind(rt, *own) {
+/// Says why a port of figures isn't had.
+pub(crate) fn say_figures(rt: &HostRuntime, figures: &str) {
+    match TcpListener::bind(rt, figures) {
         Ok(_bound) => {
             let _said = eprintln!(rt;
-                "pfx: error: of the addresses one has no port, or one is of another family than the first"
+                "pfx: error: figures {}: no port of this machine alone",
+                Shown(figures)
             );
         }
         Err(error) => {
-            let _said = eprintln!(rt; "pfx: error: address {}: {error}", Shown(*own));
+            let _said = eprintln!(rt; "pfx: error: figures {}: {error}", Shown(figures));
+        }
+    }
+}
+
+/// Says why there is no socket: of the members', or, where these can be had, of figures.
+fn say_unbound(rt: &HostRuntime, words: NodeWords<'_, '_, '_>) {
+    let Some(own) = words.members.get(usize::from(words.me)) else {
+        return;
+    };
+    if let Err(error) = UdpSocket::bind(rt, *own) {
+        let _said = eprintln!(rt; "pfx: error: address {}: {error}", Shown(*own));
+        return;
+    }
+    match words.metrics {
+        Some(figures) => say_figures(rt, figures),
+        None => {
+            let _said = eprintln!(rt;
+                "pfx: error: of the addresses one has no port, or is of another family than the first"
+            );
         }
     }
 }
@@ -134,12 +148,9 @@ pub(crate) fn say_why(rt: &HostRuntime, words: NodeWords<'_, '_, '_>, code: u8) 
         72 => {
             let _said = eprintln!(rt; "pfx: error: store {}: a bad row", Shown(words.store));
         }
-        82 => {
-            if let Some(figures) = words.metrics {
-                let _said = eprintln!(rt; "pfx: info: figures are told at {}", Shown(figures));
-            }
+        82 => if say_unknown(rt, words) {
             say_unbound(rt, words);
-        }
+        },
         84 => {
             if let Some(door) = words.door {
                 let _said = eprintln!(rt;
