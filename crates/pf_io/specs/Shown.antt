@@ -1,5 +1,5 @@
 -- A text of others as people see it.
-use Rattle.std.specs.Prelude.{if◌then◌else◌, ℕ, List, ◌++◌, codes}
+use Rattle.std.specs.Prelude.{if◌then◌else◌, ℕ, false, List, ◌++◌, codes}
 use Rattle.std.specs.List.{flat_map}
 use Rattle.std.specs.Char.{encode_utf8, is_control}
 use Rattle.std.specs.Fmt.{digits}

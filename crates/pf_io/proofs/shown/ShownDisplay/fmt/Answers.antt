@@ -1,10 +1,9 @@
 -- one character more
-use Rattle.std.proofs.Common.{◌≡◌, ℕ, List, ◌++◌, ap, sym, ◌∙◌, rules, append_assoc, append-nil}
+use Rattle.std.proofs.Common.{◌≡◌, List, [], ◌++◌, ◌∙◌, rules, append_assoc, append-nil}
 use Rattle.std.proofs.Output.{has_written_append, has_written_of_eq}
 use Rattle.std.proofs.lemmas.Str.{IsUtf8-past_char, chars_past_char}
 use Rattle.std.proofs.StrCases.{chars_of_empty}
-use Rattle.std.specs.Str.Iter.{chars_rest}
-use Rattle.pf_io.specs.Shown.{shown, shown_char}
+use Rattle.pf_io.specs.Shown.{shown_char}
 use Rattle.pf_io.proofs.shown.ShownDisplay.fmt.Goals as goal
 
 pub loop-c-init : goal.loop-c-init
