@@ -1,5 +1,5 @@
 -- one character more
-use Rattle.std.proofs.Common.{◌≡◌, List, [], ◌++◌, ◌∙◌, rules, append_assoc, append-nil}
+use Rattle.std.proofs.Common.{[], ◌++◌, ◌∙◌, rules, append_assoc, append-nil}
 use Rattle.std.proofs.Output.{has_written_append, has_written_of_eq}
 use Rattle.std.proofs.lemmas.Str.{IsUtf8-past_char, chars_past_char}
 use Rattle.std.proofs.StrCases.{chars_of_empty}

@@ -1,5 +1,5 @@
 -- what is written is what is shown of the characters so far
-use Rattle.std.proofs.Common.{◌≡◌, List, ◌++◌, IsUtf8}
+use Rattle.std.proofs.Common.{◌≡◌, ℕ, List, ◌++◌, IsUtf8}
 use Rattle.std.specs.Fmt.{HasWritten, IsPlainFormatter}
 use Rattle.std.specs.Str.Iter.{chars_rest}
 use Rattle.pf_io.specs.Shown.{shown}
