@@ -15,11 +15,11 @@ use Rattle.pf_node_words.specs.inner.Stores.{opening_of, IsStoreless}
 pub by_opening : (file new : Bool) (f : Found) (code : ℕ) → opening_of file new f ≡ Refuses code →
     IsStoreless file new (Refused code)
 by_opening true false found.Nothing code is = record { missing = λ e. (refl, refl); there = λ e. absurd (cc) }
+by_opening false false found.Nothing code is = absurd (cc)
+by_opening file true found.Nothing code is = absurd (cc)
 by_opening true false found.Empty code is = record { missing = λ e. (refl, refl); there = λ e. absurd (cc) }
-by_opening true true found.Nothing code is = absurd (cc)
-by_opening true true found.Empty code is = absurd (cc)
-by_opening false new found.Nothing code is = absurd (cc)
-by_opening false new found.Empty code is = absurd (cc)
+by_opening false false found.Empty code is = absurd (cc)
+by_opening file true found.Empty code is = absurd (cc)
 by_opening file true found.Store code is = record { missing = λ e. absurd (cc); there = λ e. refl }
 by_opening file false found.Store code is = absurd (cc)
 by_opening file new found.Other code is = record { missing = λ e. absurd (cc); there = λ e. absurd (cc) }

@@ -1,6 +1,6 @@
 //! A node's store: opened where it is, and made where it may be.
 
-ghost use Rattle.std.specs.Prelude.{◌≡◌, ◌⊎◌, Err, true, false, IfOk, IfErr, OnErr};
+ghost use Rattle.std.specs.Prelude.{◌≡◌, ◌⊎◌, Err, IfOk, IfErr, OnErr};
 ghost use Rattle.pf_node_words.specs.declared.outcome.Outcome.TheVariants.{Memory, Refused};
 ghost use Rattle.pf_node_words.specs.inner.Outcomes.{adopt_outcome};
 ghost use Rattle.pf_node_words.specs.inner.Stores.{opening_of, IsStoreless};
@@ -52,13 +52,23 @@ pub(crate) enum Opening {
 pub(crate) fn opening_of(is_from_file: bool, is_new: bool, found: Found) -> Opening
     ensures { result ≡ opening_of is_from_file is_new found }
 {
-    match (found, is_from_file, is_new) {
-        (Found::Nothing | Found::Empty, true, false) => Opening::Refuses(NO_STORE),
-        (Found::Nothing, _, _) => Opening::Makes,
-        (Found::Empty, _, _) => Opening::Opens,
-        (Found::Store, _, true) => Opening::Refuses(FILE_IS_THERE),
-        (Found::Store, _, false) => Opening::Opens,
-        (Found::Other, _, _) => Opening::Refuses(70),
+    match found {
+        Found::Nothing => if is_new || !is_from_file {
+            Opening::Makes
+        } else {
+            Opening::Refuses(NO_STORE)
+        },
+        Found::Empty => if is_new || !is_from_file {
+            Opening::Opens
+        } else {
+            Opening::Refuses(NO_STORE)
+        },
+        Found::Store => if is_new {
+            Opening::Refuses(FILE_IS_THERE)
+        } else {
+            Opening::Opens
+        },
+        Found::Other => Opening::Refuses(70),
     }
 }
 

@@ -1,5 +1,5 @@
 -- Whether a node's store is opened or made.
-use Rattle.std.specs.Prelude.{◌≡◌, Bool, true, false}
+use Rattle.std.specs.Prelude.{◌≡◌, if◌then◌else◌, Bool, true, false}
 use Rattle.pf_node_words.specs.declared.outcome.Outcome.{Outcome}
 use Rattle.pf_node_words.specs.declared.outcome.Outcome.TheVariants.{Refused}
 use Rattle.pf_node_words.specs.declared.store.Found.{Found}
@@ -10,14 +10,9 @@ use Rattle.pf_node_words.specs.declared.store.Opening.TheVariants.{Opens, Makes,
 -- What becomes of what stands there. With settings of a file a store is made where --new is given, and only there; then
 -- nothing may be there before. An empty file is no store.
 abbrev pub opening_of : (is_from_file is_new : Bool) → Found → Opening
-opening_of true false found.Nothing = Refuses 93
-opening_of true true found.Nothing = Makes
-opening_of false new found.Nothing = Makes
-opening_of true false found.Empty = Refuses 93
-opening_of true true found.Empty = Opens
-opening_of false new found.Empty = Opens
-opening_of file true found.Store = Refuses 94
-opening_of file false found.Store = Opens
+opening_of file new found.Nothing = if new then Makes else (if file then Refuses 93 else Makes)
+opening_of file new found.Empty = if new then Opens else (if file then Refuses 93 else Opens)
+opening_of file new found.Store = if new then Refuses 94 else Opens
 opening_of file new found.Other = Refuses 70
 
 -- What keeps a node from its store: 93 only where settings come from a file and none is to be made, 94 only where one is.
