@@ -38,8 +38,7 @@ pub(crate) fn say_storeless(rt: &HostRuntime, path: &str, code: u8) {
     match code {
         93 => {
             let _said = eprintln!(rt;
-                "pfx: error: store {path} isn't there: a node that never ran is started once with --new; where it ran its \
-                 record is lost, and it isn't started again"
+                "pfx: error: store {path} isn't there: --new makes one, for a node that never ran; else it is lost"
             );
         }
         94 => {

@@ -1,6 +1,6 @@
 //! A node's store: opened where it is, and made where it may be.
 
-ghost use Rattle.std.specs.Prelude.{◌≡◌, ◌⊎◌, Err, IfOk, IfErr, OnErr};
+ghost use Rattle.std.specs.Prelude.{◌≡◌, ◌⊎◌, ℕ, Err, IfOk, IfErr, OnErr};
 ghost use Rattle.pf_node_words.specs.declared.outcome.Outcome.TheVariants.{Memory, Refused};
 ghost use Rattle.pf_node_words.specs.inner.Outcomes.{adopt_outcome};
 ghost use Rattle.pf_node_words.specs.inner.Stores.{opening_of, IsStoreless};
@@ -170,7 +170,9 @@ fn open_store(
     words: NodeWords<'_, '_, '_>,
     found: Found,
 ) -> Result<Connection<FileStore<File>>, Outcome>
-    ensures { IfErr result (IsStoreless words.entry.is_from_file words.entry.is_new) }
+    ensures refused { IfErr result (IsStoreless words.entry.is_from_file words.entry.is_new) }
+    ensures is { (code : ℕ) → opening_of words.entry.is_from_file words.entry.is_new found ≡ Opening.Refuses code →
+        result ≡ Err (Refused code) }
 {
     match opening_of(words.is_from_file, words.is_new, found) {
         Opening::Opens => open_file(rt, words.store),
