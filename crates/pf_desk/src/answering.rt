@@ -10,6 +10,7 @@ ghost use Rattle.pf_desk.specs.Health.{health};
 ghost use Rattle.pf_desk.specs.Listings.{words_of};
 ghost use Rattle.pf_desk.specs.Requests.{IsStatus, IsRead, IsReadIf, IsChange, Answers};
 ghost use Rattle.pf_desk.specs.Standing.{standing};
+ghost use Rattle.pf_desk.specs.StatusJson.{status_as};
 
 use crate::answer::Answer;
 use crate::changing::{Changed, change_node};
@@ -41,6 +42,23 @@ fn with_number(taken: Option<(u64, u64)>, changed: Changed) -> Option<(u64, u64)
             Some((first, _)) => Some((first, number)),
             None => Some((number, number)),
         },
+    }
+}
+
+/// A node's status, as JSON or in lines.
+fn status_as(
+    alloc: Global,
+    json: bool,
+    figures: &Figures,
+    health: Health,
+    tally: &Tally,
+) -> Result<Answer, AllocError>
+    ensures { IfOk result (λ a. answer_value a ≡ shown (status_as json figures.now health tally.now)) }
+{
+    if json {
+        status_json(alloc, figures, health, tally)
+    } else {
+        status(alloc, figures, health, tally)
     }
 }
 
@@ -109,12 +127,7 @@ impl<R: Records> Desk<R> {
         ensures { IfOk result (λ a. IsStatus self.now.node tally.now json (answer_value a)) }
     {
         let figures = Figures::of(&self.node)?;
-        let health = self.health(tally);
-        if json {
-            status_json(self.alloc, &figures, health, tally)
-        } else {
-            status(self.alloc, &figures, health, tally)
-        }
+        status_as(self.alloc, json, &figures, self.health(tally), tally)
     }
 
     /// The node's numbers for Prometheus.
