@@ -165,6 +165,7 @@ fn make_file(rt: &HostRuntime, path: &str) -> Result<Connection<FileStore<File>>
 }
 
 /// The database where a store is named, by what becomes of what stands there.
+#[tactic(auto, using(crate::proofs::Stores::by_opening, crate::proofs::Stores::by_file))]
 fn open_store(
     rt: &HostRuntime,
     words: NodeWords<'_, '_, '_>,
@@ -185,6 +186,7 @@ fn open_store(
 }
 
 /// The record of a member in the store that its words name: 93, 94, 70, 73, 72 and 71, in this order.
+#[tactic(auto, using(crate::proofs::Stores::by_memory))]
 pub(crate) fn record_for(
     rt: &HostRuntime,
     alloc: Global,
