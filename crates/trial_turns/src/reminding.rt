@@ -2,9 +2,8 @@
 
 ghost use Rattle.std.specs.Prelude.{None};
 
-use crate::members::{ask, member};
-use pf_node::{Command, Node};
-use pf_ruleset::Path;
+use crate::members::member;
+use pf_node::Node;
 use pf_turn::{Pace, Room, round, run};
 use px_records::MemoryRecords;
 use px_transport::{LoopbackWire, MemoryWire, Wire};
@@ -64,22 +63,25 @@ fn giving(alloc: Global, datagram: &[u8]) -> Result<LoopbackWire<NotingWire>, Fa
     Ok(LoopbackWire::new(alloc, wire, 0))
 }
 
-/// The only member of a group learns three commands.
+/// Member 0 of 15 is told three commands.
 fn learn_three(rt: &HostRuntime, node: &mut Node<MemoryRecords>) -> Result<(), Fail> {
     let alloc = rt.alloc();
-    for _ in 0..3 {
-        let path = Path::main(alloc);
-        ask(node, Command::FlushTables { path })?;
+    let mut coming = Vec::new(alloc);
+    for position in 0..3u8 {
+        coming.push(Vec::from_slice(alloc, &learned(position))?)?;
     }
-    let mut wire = LoopbackWire::new(alloc, MemoryWire::new(alloc, Vec::new(alloc)), 0);
+    let mut wire = LoopbackWire::new(alloc, MemoryWire::new(alloc, coming), 0);
     let mut room = Room::new(alloc)?;
     run(node, &mut wire, &mut room, rt, 1)?;
+    if node.applied() < 3 {
+        return Err(Fail::new("not told"));
+    }
     Ok(())
 }
 
 /// Who is to be sent again what was sent to it, where such a node is given the datagram in one of two rounds.
 fn reminded(rt: &HostRuntime, datagram: &[u8]) -> Result<(u32, Option<(u8, u32)>), Fail> {
-    let mut node = member(rt.alloc(), 1, 0)?;
+    let mut node = member(rt.alloc(), 15, 0)?;
     let done = reminds(rt, &mut node, datagram);
     drop(node);
     done
@@ -105,17 +107,25 @@ fn reminds(
     Ok((calls, last))
 }
 
+/// A flush of main's tables that is learned at the position, from member 1 for member 0.
+const fn learned(position: u8) -> [u8; 33] {
+    [
+        0x50, 0x46, 0x58, 0x52, 1, 0, 0, 0, 7, 15, 1, 0, 7, 0, 0, 0, position, 0, 0, 0, 12, 1, 1, 0,
+        0, 0, 0, 0, 0, 0, position, 3, 0,
+    ]
+}
+
 /// A need of the position, from this member for member 0.
 const fn need(from: u8, position: u8) -> [u8; 17] {
     [
-        0x50, 0x46, 0x58, 0x52, 1, 0, 0, 0, 7, 1, from, 0, 6, 0, 0, 0, position,
+        0x50, 0x46, 0x58, 0x52, 1, 0, 0, 0, 7, 15, from, 0, 6, 0, 0, 0, position,
     ]
 }
 
 /// A request for promises at the position and all above, from member 2 for member 0.
 const fn prepare_all(position: u8) -> [u8; 25] {
     [
-        0x50, 0x46, 0x58, 0x52, 1, 0, 0, 0, 7, 1, 2, 0, 11, 0, 0, 0, 0, 0, 0, 1, 2, 0, 0, 0,
+        0x50, 0x46, 0x58, 0x52, 1, 0, 0, 0, 7, 15, 2, 0, 11, 0, 0, 0, 0, 0, 0, 1, 2, 0, 0, 0,
         position,
     ]
 }
