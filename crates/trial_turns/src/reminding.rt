@@ -110,8 +110,8 @@ fn reminds(
 /// A flush of main's tables that is learned at the position, from member 1 for member 0.
 const fn learned(position: u8) -> [u8; 33] {
     [
-        0x50, 0x46, 0x58, 0x52, 1, 0, 0, 0, 7, 15, 1, 0, 7, 0, 0, 0, position, 0, 0, 0, 12, 1, 1, 0,
-        0, 0, 0, 0, 0, 0, position, 3, 0,
+        0x50, 0x46, 0x58, 0x52, 1, 0, 0, 0, 7, 15, 1, 0, 7, 0, 0, 0, position, 0, 0, 0, 12, 1, 1,
+        0, 0, 0, 0, 0, 0, 0, position, 3, 0,
     ]
 }
 
