@@ -13,7 +13,7 @@ use Rattle.pf_addr.specs.Order.{bits_of}
 use Rattle.pf_eval.specs.PacketTexts.{same_family}
 use Rattle.pf_eval.specs.Matching.{of_family, if_there}
 use Rattle.pf_nft.specs.Subset.{Source, Destination, Decision}
-use Rattle.pf_nft.specs.Guard.{Member, HookPacket, is_home, is_end, has_family, is_members, is_neighbour, is_too_big, says_too_big, says_neighbour, GuardMatch, AtMember, AtHome, OfUdp, IsLater, IsTooBig, IsNeighbour, guard_holds, family_rules, link_rules, guard_of, is_passed, let_through, at_hook, GuardPasses}
+use Rattle.pf_nft.specs.Guard.{Member, HookPacket, is_home, is_end, has_family, is_members, is_neighbour, is_too_big, says_too_big, says_neighbour, GuardMatch, AtMember, AtHome, OfUdp, IsLater, IsTooBig, IsNeighbour, guard_holds, family_rules, link_rules, guard_of, is_passed, let_through, GuardPasses}
 
 -- ---- tests
 
