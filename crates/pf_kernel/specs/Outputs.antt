@@ -10,7 +10,7 @@ use Rattle.pf_config.specs.Map.{Configuration}
 use Rattle.pf_config.specs.Changes.{load_ruleset}
 use Rattle.pf_config.specs.Codes as config
 use Rattle.pf_nft.specs.Rendering.{Machine}
-use Rattle.pf_nft.specs.Guard.{Member}
+use Rattle.pf_nft.specs.declared.guard.Member.{Member}
 use Rattle.pf_nft.specs.declared.rendering.RenderFault.{RenderFault}
 use Rattle.pf_nft.specs.Refusing.{fault_code}
 use Rattle.pf_nft_text.specs.Loading.{rendered_lines}

@@ -4,7 +4,7 @@ use Rattle.std.specs.List.{list_any}
 use Rattle.std.specs.Io.KnownBytes.{Appends}
 use Rattle.pf_io.specs.Written.{line}
 use Rattle.pf_kernel.specs.Outputs.{output}
-use Rattle.pf_nft.specs.Guard.{Member}
+use Rattle.pf_nft.specs.declared.guard.Member.{Member}
 use Rattle.pf_io.specs.declared.status.Status.{Status}
 use Rattle.pf_io.specs.declared.status.Status.TheVariants as status
 

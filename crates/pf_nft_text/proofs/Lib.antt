@@ -1,3 +1,3 @@
 pub mod Parting
 pub mod Keeping
-pub mod Members
+pub mod Guarded

@@ -4,7 +4,7 @@ use Rattle.pf_ruleset.specs.declared.parts.Direction.TheVariants.{In, Out}
 use Rattle.pf_config.specs.Map.{Configuration}
 use Rattle.pf_nft.specs.Subset.{NftRuleset}
 use Rattle.pf_nft.specs.Rendering.{Machine}
-use Rattle.pf_nft.specs.Guard.{Member}
+use Rattle.pf_nft.specs.declared.guard.Member.{Member}
 use Rattle.pf_nft.specs.declared.rendering.RenderFault.{RenderFault}
 use Rattle.pf_nft.specs.Refusing.{render}
 use Rattle.pf_nft_text.specs.Texts.{lines}

@@ -23,7 +23,8 @@ use Rattle.pf_nft.specs.Subset.{SetName, NamedSet, Where, From, InSet}
 use Rattle.pf_nft.specs.Subset.{Match, OnInterface, OfFamily, OfProtocol, AtAddress, AtPort, WithFlags, OfType}
 use Rattle.pf_nft.specs.Subset.{ChainName, Base, At, Note, Unknown, Skip, Default, Spot, OfMembers}
 use Rattle.pf_nft.specs.Subset.{Statement, Ends, Jump, NftRule, Chain, NftRuleset}
-use Rattle.pf_nft.specs.Guard.{Member, GuardMatch, AtMember, AtHome, OfUdp, IsLater, IsTooBig, IsNeighbour}
+use Rattle.pf_nft.specs.declared.guard.Member.{Member}
+use Rattle.pf_nft.specs.Guard.{GuardMatch, AtMember, AtHome, OfUdp, IsLater, IsTooBig, IsNeighbour}
 use Rattle.pf_nft.specs.Guard.{GuardRule, guard_of}
 
 -- ---- names

@@ -273,7 +273,7 @@ pub(crate) struct MembersText<'m> {
 impl fmt::Display for MembersText<'_> {
     ghost output = { λ x. Some (members_text x.position x.members.now) };
 
-    #[tactic(auto, using(crate::proofs::Members::members_some), unfolding(crate::specs::Texts::members_text))]
+    #[tactic(auto, using(crate::proofs::Guarded::members_some), unfolding(crate::specs::Texts::members_text))]
     fn fmt<W: fmt::Write>(&self, f: &mut fmt::Formatter<W>) -> fmt::Result {
         if self.members.is_empty() {
             return Ok(());
@@ -302,7 +302,7 @@ pub(crate) struct MembersJump<'m> {
 impl fmt::Display for MembersJump<'_> {
     ghost output = { λ x. Some (members_jump x.position x.members.now) };
 
-    #[tactic(auto, using(crate::proofs::Members::jump_some), unfolding(crate::specs::Texts::members_jump))]
+    #[tactic(auto, using(crate::proofs::Guarded::jump_some), unfolding(crate::specs::Texts::members_jump))]
     fn fmt<W: fmt::Write>(&self, f: &mut fmt::Formatter<W>) -> fmt::Result {
         if self.members.is_empty() {
             return Ok(());
@@ -322,7 +322,7 @@ pub(crate) struct MembersGone<'m> {
 impl fmt::Display for MembersGone<'_> {
     ghost output = { λ x. Some (members_gone x.position x.members.now) };
 
-    #[tactic(auto, using(crate::proofs::Members::gone_some), unfolding(crate::specs::Texts::members_gone))]
+    #[tactic(auto, using(crate::proofs::Guarded::gone_some), unfolding(crate::specs::Texts::members_gone))]
     fn fmt<W: fmt::Write>(&self, f: &mut fmt::Formatter<W>) -> fmt::Result {
         if self.members.is_empty() {
             return Ok(());

@@ -5,7 +5,8 @@ use Rattle.std.specs.List.{flat_map}
 use Rattle.std.proofs.lemmas.Grind.{flat_map-append}
 use Rattle.std.proofs.lemmas.List.{append_assoc}
 use Rattle.pf_addr.specs.declared.addr.Family.TheVariants.{Inet, Inet6}
-use Rattle.pf_nft.specs.Guard.{Member, family_rules, link_rules}
+use Rattle.pf_nft.specs.declared.guard.Member.{Member}
+use Rattle.pf_nft.specs.Guard.{family_rules, link_rules}
 use Rattle.pf_nft_text.specs.Texts.{generation, guard_rule_text, members_text, members_jump, members_gone}
 
 three : {X A : Type 0} (f : X → List A) (a b c : List X) (end : List A) →
