@@ -1,9 +1,10 @@
 //! The members' guard.
 
-ghost use Rattle.std.specs.Prelude.{◌≡◌, Some, map};
+ghost use Rattle.std.specs.Prelude.{◌≡◌, Some, [], ◌∷◌};
 ghost use Rattle.std.specs.List.{flat_map};
 ghost use Rattle.pf_eval.specs.Matching.{of_family};
-ghost use Rattle.pf_nft.specs.Guard.{has_family, AtMember, AtHome, family_rules, link_rules};
+ghost use Rattle.pf_nft.specs.declared.subset.Side.TheVariants.{Source, Destination};
+ghost use Rattle.pf_nft.specs.Guard.{has_family, AtMember, AtHome, OfUdp, IsLater, IsTooBig, family_rules, link_rules};
 ghost use Rattle.pf_nft_text.specs.Texts.{member_text, home_text, udp_text, later_text, too_big_text};
 ghost use Rattle.pf_nft_text.specs.Texts.{guard_match_text, guard_rule_text, members_text, members_jump, members_gone};
 
@@ -195,7 +196,88 @@ impl fmt::Display for AtHomeText<'_> {
     }
 }
 
-/// The members' datagrams in a family, their later fragments, and that one was too big, if some member is of it.
+/// The rule for the members' datagrams in a family.
+#[derive(Clone, Copy)]
+struct DatagramText<'m> {
+    family: Family,
+    members: &'m [Member],
+}
+
+impl fmt::Display for DatagramText<'_> {
+    ghost output = { λ x. Some (guard_rule_text (AtMember Source x.family x.members.now
+        ∷ AtMember Destination x.family x.members.now ∷ [])) };
+
+    #[tactic(auto, using(crate::proofs::Guarded::two_parts))]
+    fn fmt<W: fmt::Write>(&self, f: &mut fmt::Formatter<W>) -> fmt::Result {
+        let from = AtMemberText {
+            side: Side::Source,
+            family: self.family,
+            members: self.members,
+        };
+        let to = AtMemberText {
+            side: Side::Destination,
+            family: self.family,
+            members: self.members,
+        };
+        write!(f, "{from}{to}counter accept comment \"members\"; ")
+    }
+}
+
+/// The rule for their later fragments.
+#[derive(Clone, Copy)]
+struct FragmentText<'m> {
+    family: Family,
+    members: &'m [Member],
+}
+
+impl fmt::Display for FragmentText<'_> {
+    ghost output = { λ x. Some (guard_rule_text (IsLater x.family ∷ OfUdp
+        ∷ AtHome Source x.family x.members.now ∷ AtHome Destination x.family x.members.now ∷ [])) };
+
+    #[tactic(auto, using(crate::proofs::Guarded::fragment_parts))]
+    fn fmt<W: fmt::Write>(&self, f: &mut fmt::Formatter<W>) -> fmt::Result {
+        let later = later_text(self.family);
+        let from = AtHomeText {
+            side: Side::Source,
+            family: self.family,
+            members: self.members,
+        };
+        let to = AtHomeText {
+            side: Side::Destination,
+            family: self.family,
+            members: self.members,
+        };
+        write!(
+            f,
+            "{later}meta l4proto 17 {from}{to}counter accept comment \"members\"; "
+        )
+    }
+}
+
+/// The rule for what says that one was too big.
+#[derive(Clone, Copy)]
+struct TooBigText<'m> {
+    family: Family,
+    members: &'m [Member],
+}
+
+impl fmt::Display for TooBigText<'_> {
+    ghost output = { λ x. Some (guard_rule_text (IsTooBig x.family
+        ∷ AtHome Destination x.family x.members.now ∷ [])) };
+
+    #[tactic(auto, using(crate::proofs::Guarded::too_big_parts))]
+    fn fmt<W: fmt::Write>(&self, f: &mut fmt::Formatter<W>) -> fmt::Result {
+        let what = too_big_text(self.family);
+        let to = AtHomeText {
+            side: Side::Destination,
+            family: self.family,
+            members: self.members,
+        };
+        write!(f, "{what}{to}counter accept comment \"members\"; ")
+    }
+}
+
+/// These three rules, if some member is of the family.
 #[derive(Clone, Copy)]
 struct FamilyText<'m> {
     family: Family,
@@ -205,44 +287,17 @@ struct FamilyText<'m> {
 impl fmt::Display for FamilyText<'_> {
     ghost output = { λ x. Some (flat_map guard_rule_text (family_rules x.family x.members.now)) };
 
-    #[tactic(auto, unfolding(crate::specs::Texts::guard_match_text, crate::specs::Texts::guard_rule_text))]
+    #[tactic(auto, using(crate::proofs::Guarded::family_some))]
     fn fmt<W: fmt::Write>(&self, f: &mut fmt::Formatter<W>) -> fmt::Result {
         let family = self.family;
         let members = self.members;
         if !has_family(family, members) {
             return Ok(());
         }
-        let from = AtMemberText {
-            side: Side::Source,
-            family,
-            members,
-        };
-        let to = AtMemberText {
-            side: Side::Destination,
-            family,
-            members,
-        };
-        let later = later_text(family);
-        let too_big = too_big_text(family);
-        let source = AtHomeText {
-            side: Side::Source,
-            family,
-            members,
-        };
-        let destination = AtHomeText {
-            side: Side::Destination,
-            family,
-            members,
-        };
-        write!(f, "{from}{to}counter accept comment \"members\"; ")?;
-        write!(
-            f,
-            "{later}meta l4proto 17 {source}{destination}counter accept comment \"members\"; "
-        )?;
-        write!(
-            f,
-            "{too_big}{destination}counter accept comment \"members\"; "
-        )
+        let datagram = DatagramText { family, members };
+        let fragment = FragmentText { family, members };
+        let too_big = TooBigText { family, members };
+        write!(f, "{datagram}{fragment}{too_big}")
     }
 }
 
