@@ -140,8 +140,9 @@ fn answer<R: Read, W: Write>(
     }
 }
 
-/// What the words `check --nft --interfaces FILE [--members ADDRESS:PORT..]` ask for, the program's name first, with the input and the output
-/// that are lent: the text's rules as three lines for nft(8), or a refusal. Other words are refused.
+/// What the words `check --nft --interfaces FILE [--members ADDRESS:PORT..]` ask for, the program's name first, with
+/// the input and the output that are lent: the text's rules as three lines for nft(8), or a refusal. Other words are
+/// refused.
 pub fn run_nft<S: AsStr, R: Read, W: Write>(
     rt: &HostRuntime,
     alloc: Global,

@@ -298,8 +298,8 @@ pub fn lines<'r, 'c>(
     format!(in alloc; "{sets}{rules}{gone}")
 }
 
-/// A configuration, on a machine with these interfaces, behind the guard of these members, as three lines for nft(8), or
-/// why there are none. Of no members there is no guard.
+/// A configuration, on a machine with these interfaces, behind the guard of these members, as three lines for nft(8),
+/// or why there are none. Of no members there is no guard.
 #[tactic(auto, unfolding(crate::specs::Loading::rendered_lines))]
 pub fn rendered_lines(
     alloc: Global,
