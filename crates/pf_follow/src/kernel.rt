@@ -4,7 +4,7 @@ ghost use Rattle.std.specs.Prelude.{◌≡◌, [], ◌≤◌, ◌==◌, ◌↔�
 ghost use Rattle.std.specs.List.{prefix_len};
 ghost use Rattle.pf_kernel.specs.Outputs.{config_output};
 ghost use Rattle.pf_kernel.specs.Seen.{written};
-ghost use Rattle.pf_follow.specs.Stepping.{line_end, two_lines, end_line, IsSameAs, IsStep};
+ghost use Rattle.pf_follow.specs.Stepping.{line_end, two_lines, end_line, end_of, IsSameAs, IsStep};
 
 use pf_config::Config;
 use pf_kernel::{Member, Written, config_output};
@@ -122,6 +122,22 @@ impl Kernel {
         }
     }
 
+    /// The line that ends what was handed out last; nothing where that has the names of this position.
+    fn end_of(&self, position: u32) -> &[u8]
+        ensures { result.now ≡ end_of position self.now.last }
+    {
+        match &self.last {
+            Some(last) => {
+                if last.position == position {
+                    return &[];
+                }
+                let (_, end) = cut_end(last.text.as_bytes());
+                end
+            }
+            None => &[],
+        }
+    }
+
     /// What is to be loaded of the configuration after so many entries: nothing where it would be rendered under the
     /// names of what was handed out last as that was; else its first two lines, and the last line of what was handed
     /// out last, unless it has the same names. Where it can't be rendered, what was handed out last stands.
@@ -146,12 +162,7 @@ impl Kernel {
         }
         let (front, _) = cut_end(written.text.as_bytes());
         let mut lines = Vec::from_slice(alloc, front)?;
-        if let Some(last) = &self.last {
-            if last.position != position {
-                let (_, end) = cut_end(last.text.as_bytes());
-                lines.extend_from_slice(end)?;
-            }
-        }
+        lines.extend_from_slice(self.end_of(position))?;
         self.last = Some(Loaded {
             position,
             text: written.text,

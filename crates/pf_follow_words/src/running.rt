@@ -24,7 +24,7 @@ const AGAIN: u64 = 20;
 
 /// What is risked without the guard.
 const NO_GUARD: &[u8] =
-    b"pfx: no member guard: rules that don't pass the members' own datagrams cut this node off, and no command can mend them\n";
+    b"pfx: no member guard: rules that drop the members' own datagrams cut this node off, and no command mends them\n";
 
 /// What asking once came to.
 #[derive(Clone, Copy, PartialEq, Eq)]

@@ -24,11 +24,10 @@ const TURNS: &str = "How often the door is asked; without an end if it isn't sai
 const BELOW: &str =
     "Once the node has applied a command, and each time that what it applies changes the rules, they are
 written whole. With --nft: the sets of the position, all rules in place of those before, and the end of the sets and
-chains of the position written before. In front stands the members' guard: what members send each other from and to their
-addresses and ports passes whatever the rules say, with later fragments, and for IPv6 neighbour discovery and packet
-too big. A door where nobody answers is asked again. Refusals are said on standard
-error: 87 and 88 as for check --nft, what was written before stands; 89 the file of interfaces, 40 words that don't go
-together, and it ends.";
+chains of the position written before. In front stands the members' guard: what members send each other from and to
+their addresses and ports passes whatever the rules say, with later fragments, and for IPv6 neighbour discovery and
+packet too big. A door where nobody answers is asked again. Refusals are said on standard error: 87 and 88 as for
+check --nft, what was written before stands; 89 the file of interfaces, 40 words that don't go together, and it ends.";
 
 /// An option with a value.
 fn valued<'a>(alloc: Global, name: &'a str, help: &'a str) -> Arg<'a>
