@@ -25,7 +25,7 @@ _pfx() {
     esac
     case $word in
     check)
-        options="--nft --interfaces --position"
+        options="--nft --interfaces --members --position"
         [[ $seen == *" --nft "* || $seen == *" --interfaces "* ]] || options+=" --anchor -q --quiet -v --verbose"
         [[ $current == -* ]] || { COMPREPLY=($(compgen -f -- "$current")); return; } ;;
     test) options="-f --file --packets -q --quiet -v --verbose" ;;
@@ -40,7 +40,7 @@ _pfx() {
     show)
         options="--store --nft --interfaces --pf --script --from --count -a -f -n -F -t -T -s"
         words="test log" ;;
-    follow) options="--door --nft --interfaces --pf --turns" ;;
+    follow) options="--door --nft --interfaces --no-member-guard --pf --turns" ;;
     batch) [[ $current == -* ]] || { COMPREPLY=($(compgen -f -- "$current")); return; } ;;
     help) words="check test ctl lab explain node ask key show follow batch help" ;;
     key) [[ $current == -* ]] || { COMPREPLY=($(compgen -f -- "$current")); return; } ;;

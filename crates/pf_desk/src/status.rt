@@ -5,7 +5,7 @@ ghost use Rattle.std.specs.List.{flat_map};
 ghost use Rattle.pf_scripts.specs.Lines.{line};
 ghost use Rattle.pf_desk.specs.Answers.{answer_value, shown};
 ghost use Rattle.pf_desk.specs.Status.{fields, heard, peer_line, store_line, node_line, front_line, config_line};
-ghost use Rattle.pf_desk.specs.Status.{standing_line, wire_line, door_line, status_lines};
+ghost use Rattle.pf_desk.specs.Status.{standing_line, wire_line, door_line, members_line, status_lines};
 
 use crate::answer::Answer;
 use crate::figures::Figures;
@@ -180,6 +180,15 @@ fn push_door(alloc: Global, out: &mut String, t: &Tally) -> Result<(), AllocErro
     )
 }
 
+/// Where the members listen.
+fn push_members(out: &mut String, t: &Tally) -> Result<(), AllocError>
+    ensures { OnOk result (string_bytes out.new ≡ string_bytes out.old ++ members_line t.now) }
+{
+    out.push_str("members ")?;
+    out.push_str(t.members.as_str())?;
+    out.push('\n')
+}
+
 /// The lines of a node's status.
 pub(crate) fn status(alloc: Global, f: &Figures, h: Health, t: &Tally) -> Result<Answer, AllocError>
     ensures { IfOk result (λ a. answer_value a ≡ shown (status_lines f.now h t.now)) }
@@ -193,5 +202,6 @@ pub(crate) fn status(alloc: Global, f: &Figures, h: Health, t: &Tally) -> Result
     push_wire(alloc, &mut body, t)?;
     push_store(&mut body, f.has_failed)?;
     push_door(alloc, &mut body, t)?;
+    push_members(&mut body, t)?;
     Ok(Answer { code: 200, body })
 }

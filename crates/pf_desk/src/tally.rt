@@ -30,6 +30,8 @@ pub struct Tally {
     /// The bytes of the longest datagram that is longer than a packet and was sent since the front moved last; 0 where
     /// none is.
     pub large: u64,
+    /// Where each member listens, by their numbers, with a blank between two.
+    pub members: String,
     /// Datagrams that the system didn't take.
     pub unsent: u64,
     /// Datagrams with a wrong tag, or asks that came where there is a door.

@@ -160,8 +160,8 @@ impl<W: Drop> TallyWire<W> {
 }
 
 impl<W> TallyWire<W> {
-    /// What is counted as a node starts: a row for each other member, and nothing that came.
-    pub fn first_tally(&self, alloc: Global) -> Result<Tally, AllocError> {
+    /// What is counted as a node starts: a row for each other member, and nothing that came. The members listen there.
+    pub fn first_tally(&self, alloc: Global, members: &str) -> Result<Tally, AllocError> {
         let mut peers = Vec::new(alloc);
         for row in &self.rows {
             peers.push(row.told(0))?;
@@ -172,6 +172,7 @@ impl<W> TallyWire<W> {
             stood: 0,
             outrun: 0,
             large: 0,
+            members: String::from_str(alloc, members)?,
             unsent: 0,
             dropped: 0,
             ignored: 0,

@@ -4,6 +4,7 @@ use Rattle.std.specs.Prelude.{length, take, drop, not, nat_lt, if◌then◌else�
 use Rattle.std.specs.List.{prefix_len}
 use Rattle.pf_config.specs.Map.{Configuration}
 use Rattle.pf_kernel.specs.Outputs.{Written, config_output}
+use Rattle.pf_nft.specs.declared.guard.Member.{Member}
 use Rattle.pf_follow.specs.declared.kernel.Loaded.{Loaded}
 use Rattle.pf_follow.specs.declared.kernel.Step.{Step}
 use Rattle.pf_follow.specs.declared.kernel.Step.TheVariants as step
@@ -25,27 +26,28 @@ two_lines text = take (two_ends text) text
 abbrev pub end_line : List ℕ → List ℕ
 end_line text = drop (two_ends text) text
 
--- the line that ends what was handed out
-abbrev pub end_of : Option Loaded → List ℕ
-end_of None = []
-end_of (Some l) = end_line (string_bytes l.text)
+-- the line that ends what was handed out; under the names of this position it doesn't end, since they are used on
+abbrev pub end_of : (position : ℕ) → Option Loaded → List ℕ
+end_of position None = []
+end_of position (Some l) = if l.position == position then [] else end_line (string_bytes l.text)
 
 -- a text that is no refusal
 abbrev pub shown : List ℕ → Written
 shown text = record { text = text; refused = false }
 
--- under the names of what was handed out, a configuration would be that
-abbrev pub IsSameAs : (file : List ℕ) → Option Loaded → Configuration → Type 0
-IsSameAs file last c =
-    MatchOption last ⊥ (λ l. config_output (Some file) l.position c ≡ shown (string_bytes l.text))
+-- under the names of what was handed out, a configuration behind the guard of these members would be that
+abbrev pub IsSameAs : (file : List ℕ) → List Member → Option Loaded → Configuration → Type 0
+IsSameAs file ms last c =
+    MatchOption last ⊥ (λ l. config_output (Some file) ms l.position c ≡ shown (string_bytes l.text))
 
--- what comes of a configuration after what was handed out before
-abbrev pub IsStep : (file : List ℕ) → (old new : Option Loaded) → Configuration → (position : ℕ) → Step → Type 0
-IsStep file old new c position step.Same =
-    (new ≡ old) × IsSameAs file old c
-IsStep file old new c position (step.Refused line) =
-    (new ≡ old) × (config_output (Some file) position c ≡ record { text = string_bytes line; refused = true })
-IsStep file old new c position (step.Lines lines) =
-    (IsSameAs file old c → ⊥) × MatchOption new ⊥ (λ l. (l.position ≡ position)
-    × (config_output (Some file) position c ≡ shown (string_bytes l.text))
-    × (lines.items ≡ two_lines (string_bytes l.text) ++ end_of old))
+-- what comes of a configuration, behind the guard of these members, after what was handed out before
+abbrev pub IsStep : (file : List ℕ) → List Member → (old new : Option Loaded) → Configuration → (position : ℕ) →
+    Step → Type 0
+IsStep file ms old new c position step.Same =
+    (new ≡ old) × IsSameAs file ms old c
+IsStep file ms old new c position (step.Refused line) =
+    (new ≡ old) × (config_output (Some file) ms position c ≡ record { text = string_bytes line; refused = true })
+IsStep file ms old new c position (step.Lines lines) =
+    (IsSameAs file ms old c → ⊥) × MatchOption new ⊥ (λ l. (l.position ≡ position)
+    × (config_output (Some file) ms position c ≡ shown (string_bytes l.text))
+    × (lines.items ≡ two_lines (string_bytes l.text) ++ end_of position old))

@@ -1,13 +1,13 @@
 //! What nft(8) is to load, one position after the other.
 
-ghost use Rattle.std.specs.Prelude.{◌≡◌, ◌≤◌, ◌==◌, ◌↔◌, IfOk, OnErr, IsTrue, Some, None, length, not};
+ghost use Rattle.std.specs.Prelude.{◌≡◌, [], ◌≤◌, ◌==◌, ◌↔◌, IfOk, OnErr, IsTrue, Some, None, length, not};
 ghost use Rattle.std.specs.List.{prefix_len};
 ghost use Rattle.pf_kernel.specs.Outputs.{config_output};
 ghost use Rattle.pf_kernel.specs.Seen.{written};
-ghost use Rattle.pf_follow.specs.Stepping.{line_end, two_lines, end_line, IsSameAs, IsStep};
+ghost use Rattle.pf_follow.specs.Stepping.{line_end, two_lines, end_line, end_of, IsSameAs, IsStep};
 
 use pf_config::Config;
-use pf_kernel::{Written, config_output};
+use pf_kernel::{Member, Written, config_output};
 use std::alloc::{AllocError, Global};
 
 /// What was handed out last.
@@ -24,6 +24,8 @@ struct Loaded {
 pub struct Kernel {
     /// The file that lists the interfaces.
     interfaces: Vec<u8>,
+    /// Whose datagrams pass whatever the rules say.
+    members: Vec<Member>,
     /// What was handed out last.
     last: Option<Loaded>,
 }
@@ -68,27 +70,48 @@ fn cut_end(text: &[u8]) -> (&[u8], &[u8])
 }
 
 impl Kernel {
-    /// Nothing was handed out yet.
-    pub fn new(interfaces: Vec<u8>) -> Kernel
+    /// Nothing was handed out yet, and no members are known.
+    pub fn new(alloc: Global, interfaces: Vec<u8>) -> Kernel
         ensures interfaces { result.interfaces ≡ interfaces }
+        ensures members { result.members.items ≡ [] }
         ensures last { result.last ≡ None }
     {
         Kernel {
             interfaces,
+            members: Vec::new(alloc),
             last: None,
         }
     }
 
+    /// From now on what these members send each other passes whatever the rules say. Answers whether that is new.
+    pub fn set_members(&mut self, members: Vec<Member>) -> bool
+        ensures members { self.new.members ≡ members }
+        ensures interfaces { self.new.interfaces ≡ self.old.interfaces }
+        ensures last { self.new.last ≡ self.old.last }
+    {
+        let is_new = self.members.as_slice() != members.as_slice();
+        self.members = members;
+        is_new
+    }
+
     /// What is rendered under names of a position.
     fn rendered(&self, alloc: Global, config: &Config, position: u32) -> Result<Written, AllocError>
-        ensures { IfOk result (λ w. written w ≡ config_output (Some self.now.interfaces.items) position config.now) }
+        ensures { IfOk result (λ w. written w ≡ config_output (Some self.now.interfaces.items) self.now.members.items
+            position config.now) }
     {
-        config_output(alloc, Some(self.interfaces.as_slice()), config, position)
+        config_output(
+            alloc,
+            Some(self.interfaces.as_slice()),
+            config,
+            self.members.as_slice(),
+            position,
+        )
     }
 
     /// Whether this is what was handed out last, but for the names.
     fn is_same(&self, alloc: Global, config: &Config) -> Result<bool, AllocError>
-        ensures { IfOk result (λ same. IsTrue same ↔ IsSameAs self.now.interfaces.items self.now.last config.now) }
+        ensures { IfOk result (λ same. IsTrue same ↔ IsSameAs self.now.interfaces.items self.now.members.items
+            self.now.last config.now) }
     {
         match &self.last {
             Some(last) => {
@@ -99,18 +122,35 @@ impl Kernel {
         }
     }
 
+    /// The line that ends what was handed out last; nothing where that has the names of this position.
+    fn end_of(&self, position: u32) -> &[u8]
+        ensures { result.now ≡ end_of position self.now.last }
+    {
+        match &self.last {
+            Some(last) => {
+                if last.position == position {
+                    return &[];
+                }
+                let (_, end) = cut_end(last.text.as_bytes());
+                end
+            }
+            None => &[],
+        }
+    }
+
     /// What is to be loaded of the configuration after so many entries: nothing where it would be rendered under the
     /// names of what was handed out last as that was; else its first two lines, and the last line of what was handed
-    /// out last. Where it can't be rendered, what was handed out last stands.
+    /// out last, unless it has the same names. Where it can't be rendered, what was handed out last stands.
     pub fn step(
         &mut self,
         alloc: Global,
         config: &Config,
         position: u32,
     ) -> Result<Step, AllocError>
-        ensures steps { IfOk result (λ s. IsStep self.old.interfaces.items self.old.last self.new.last config.now
-            position s) }
+        ensures steps { IfOk result (λ s. IsStep self.old.interfaces.items self.old.members.items self.old.last
+            self.new.last config.now position s) }
         ensures interfaces { self.new.interfaces ≡ self.old.interfaces }
+        ensures members { self.new.members ≡ self.old.members }
         ensures memory { OnErr result (self.new ≡ self.old) }
     {
         if self.is_same(alloc, config)? {
@@ -122,10 +162,7 @@ impl Kernel {
         }
         let (front, _) = cut_end(written.text.as_bytes());
         let mut lines = Vec::from_slice(alloc, front)?;
-        if let Some(last) = &self.last {
-            let (_, end) = cut_end(last.text.as_bytes());
-            lines.extend_from_slice(end)?;
-        }
+        lines.extend_from_slice(self.end_of(position))?;
         self.last = Some(Loaded {
             position,
             text: written.text,

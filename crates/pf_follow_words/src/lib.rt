@@ -5,10 +5,11 @@
 //! - [`run_follow`]: the word, over any writers.
 //!
 //! Within: `words` has the word as `clap` reads it, `running` the loop, `outlets` where it is written, `files` the
-//! texts for pfctl(8).
+//! texts for pfctl(8), `members` where a node's members listen.
 #![tactic(auto)]
 
 mod files;
+mod members;
 mod outlets;
 mod running;
 mod words;

@@ -2,6 +2,7 @@
 
 use crate::files::TextFiles;
 use pf_follow::{Kernel, Mirror, Step};
+use pf_kernel::Member;
 use std::alloc::{AllocError, Global};
 use std::io::Write;
 
@@ -12,6 +13,10 @@ pub(crate) struct Outlets {
     pub(crate) kernel: Option<Kernel>,
     /// Texts for pfctl(8).
     pub(crate) files: Option<TextFiles>,
+    /// Whether the lines for nft(8) have the members' guard, so that the node is asked where its members listen.
+    pub(crate) is_guarded: bool,
+    /// Whether something was to be written already.
+    pub(crate) has_begun: bool,
     /// Whether a file couldn't be written, so that what stands there is of an earlier configuration.
     pub(crate) is_behind: bool,
 }
@@ -70,11 +75,25 @@ fn write_kernel<W: Write, E: Write>(
 
 impl Outlets {
     /// Before anything is written.
-    pub(crate) fn new(kernel: Option<Kernel>, files: Option<TextFiles>) -> Outlets {
+    pub(crate) fn new(
+        kernel: Option<Kernel>,
+        files: Option<TextFiles>,
+        is_guarded: bool,
+    ) -> Outlets {
         Outlets {
             kernel,
             files,
+            is_guarded,
+            has_begun: false,
             is_behind: false,
+        }
+    }
+
+    /// Takes in where the members listen, and answers whether what was written has another guard.
+    pub(crate) fn set_members(&mut self, members: Vec<Member>) -> bool {
+        match &mut self.kernel {
+            Some(kernel) => kernel.set_members(members) && self.has_begun,
+            None => false,
         }
     }
 
@@ -88,6 +107,7 @@ impl Outlets {
         writer: &mut W,
         errors: &mut E,
     ) -> Result<(), WriteFault> {
+        self.has_begun = true;
         if let Some(files) = &mut self.files {
             let is_behind = !files.write(rt, alloc, &mirror.config)?;
             if is_behind && !self.is_behind {

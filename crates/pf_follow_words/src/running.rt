@@ -1,6 +1,7 @@
 //! A run of `follow`.
 
 use crate::files::TextFiles;
+use crate::members::members_told;
 use crate::outlets::{Outlets, WriteFault};
 use crate::words::command;
 use clap::ArgMatches;
@@ -17,8 +18,13 @@ use std::io::Write;
 /// How long it waits between two asks, but for entries that weren't all, in milliseconds.
 const PAUSE: u64 = 50;
 
-/// After how many asks a file is tried again that couldn't be written.
+/// After how many asks a file is tried again that couldn't be written, and the node is asked again where its members
+/// listen.
 const AGAIN: u64 = 20;
+
+/// What is risked without the guard.
+const NO_GUARD: &[u8] =
+    b"pfx: no member guard: rules that drop the members' own datagrams cut this node off, and no command mends them\n";
 
 /// What asking once came to.
 #[derive(Clone, Copy, PartialEq, Eq)]
@@ -59,6 +65,50 @@ fn ask_on(
         return Ok(Asked::More);
     }
     Ok(Asked::All)
+}
+
+/// Asks where the members listen, and answers whether what was written has another guard.
+fn ask_members(
+    rt: &HostRuntime,
+    alloc: Global,
+    door: &str,
+    outlets: &mut Outlets,
+) -> Result<Result<bool, VisitFault>, AllocError> {
+    let reply = match read_at(rt, alloc, door, String::from_str(alloc, "/v1/status")?) {
+        Ok(reply) => reply,
+        Err(VisitFault::Memory) => return Err(AllocError),
+        Err(fault) => return Ok(Err(fault)),
+    };
+    match members_told(alloc, reply.body.as_slice())? {
+        Some(members) => Ok(Ok(outlets.set_members(members))),
+        None => Ok(Err(VisitFault::BadAnswer)),
+    }
+}
+
+/// Writes what is new, once all that is applied was taken: the rules where they moved, and all where the members listen
+/// elsewhere. Answers why nothing was written, where the members aren't known.
+fn write_on<W: Write, E: Write>(
+    rt: &HostRuntime,
+    alloc: Global,
+    door: &str,
+    is_again: bool,
+    mirror: &mut Mirror,
+    outlets: &mut Outlets,
+    writer: &mut W,
+    errors: &mut E,
+) -> Result<Option<VisitFault>, WriteFault> {
+    let mut is_wanted = mirror.is_moved || (outlets.is_behind && is_again);
+    if outlets.is_guarded && (mirror.is_moved || is_again) {
+        match ask_members(rt, alloc, door, outlets)? {
+            Ok(is_new) => is_wanted = is_wanted || is_new,
+            Err(fault) => return Ok(Some(fault)),
+        }
+    }
+    if is_wanted {
+        mirror.is_moved = false;
+        outlets.write(rt, alloc, mirror, writer, errors)?;
+    }
+    Ok(None)
 }
 
 /// Says that there is no answer, and what the system says of a control socket at which nobody answers, unless that was
@@ -102,10 +152,10 @@ fn follow<W: Write, E: Write>(
         match ask_on(rt, alloc, door, &mut mirror)? {
             Asked::More => said = None,
             Asked::All => {
-                said = None;
-                if mirror.is_moved || (outlets.is_behind && turn % AGAIN == 0) {
-                    mirror.is_moved = false;
-                    outlets.write(rt, alloc, &mirror, writer, errors)?;
+                let again = turn % AGAIN == 0;
+                match write_on(rt, alloc, door, again, &mut mirror, outlets, writer, errors)? {
+                    None => said = None,
+                    Some(fault) => say_nothing(rt, door, errors, fault, &mut said),
                 }
                 pause(rt, PAUSE);
             }
@@ -152,13 +202,13 @@ fn kernel_for(rt: &HostRuntime, alloc: Global, file: &str) -> Result<Option<Kern
         return Ok(None);
     };
     match machine_in(alloc, text.as_slice())? {
-        Some(_) => Ok(Some(Kernel::new(text))),
+        Some(_) => Ok(Some(Kernel::new(alloc, text))),
         None => Ok(None),
     }
 }
 
-/// Where the words want it written. 40 where they want it nowhere, or `--nft` and `--interfaces` aren't both there; 89
-/// where the file lists no interfaces.
+/// Where the words want it written. 40 where they want it nowhere, `--nft` and `--interfaces` aren't both there, or
+/// `--no-member-guard` is without them; 89 where the file lists no interfaces.
 fn outlets_for(
     rt: &HostRuntime,
     alloc: Global,
@@ -168,16 +218,17 @@ fn outlets_for(
         Some(folder) => Some(TextFiles::new(alloc, folder)?),
         None => None,
     };
+    let is_guarded = !matches.get_flag("no-member-guard");
     match (matches.get_flag("nft"), matches.get_str("interfaces")) {
         (true, Some(file)) => match kernel_for(rt, alloc, file)? {
-            Some(kernel) => Ok(Ok(Outlets::new(Some(kernel), files))),
+            Some(kernel) => Ok(Ok(Outlets::new(Some(kernel), files, is_guarded))),
             None => Ok(Err(89)),
         },
         (false, None) => {
-            if files.is_none() {
+            if files.is_none() || !is_guarded {
                 return Ok(Err(40));
             }
-            Ok(Ok(Outlets::new(None, files)))
+            Ok(Ok(Outlets::new(None, files, false)))
         }
         _ => Ok(Err(40)),
     }
@@ -200,6 +251,9 @@ fn followed<W: Write, E: Write>(
         Ok(Err(code)) => return refused(alloc, code, errors),
         Err(_) => return memory(errors),
     };
+    if outlets.kernel.is_some() && !outlets.is_guarded {
+        let _said = errors.write_all(NO_GUARD);
+    }
     match follow(rt, alloc, door, turns, &mut outlets, writer, errors) {
         Ok(()) => Status::Done,
         Err(WriteFault::Closed) => Status::Failed,

@@ -13,6 +13,9 @@ const NFT: &str = "Lines for nft(8) on standard output, a transaction each";
 const INTERFACES: &str =
     "With --nft: the machine's interfaces, a line each: its name, then its groups";
 
+const NO_GUARD: &str =
+    "With --nft: rules may drop what the members send each other, which cuts the node off from its cluster";
+
 const PF: &str =
     "A folder for texts for pfctl(8): main.conf, and anchor+NAME+NAME.conf for each path";
 
@@ -21,9 +24,10 @@ const TURNS: &str = "How often the door is asked; without an end if it isn't sai
 const BELOW: &str =
     "Once the node has applied a command, and each time that what it applies changes the rules, they are
 written whole. With --nft: the sets of the position, all rules in place of those before, and the end of the sets and
-chains of the position written before. A door where nobody answers is asked again. Refusals are said on standard
-error: 87 and 88 as for check --nft, what was written before stands; 89 the file of interfaces, 40 words that don't go
-together, and it ends.";
+chains of the position written before. In front stands the members' guard: what members send each other from and to
+their addresses and ports passes whatever the rules say, with later fragments, and for IPv6 neighbour discovery and
+packet too big. A door where nobody answers is asked again. Refusals are said on standard error: 87 and 88 as for
+check --nft, what was written before stands; 89 the file of interfaces, 40 words that don't go together, and it ends.";
 
 /// An option with a value.
 fn valued<'a>(alloc: Global, name: &'a str, help: &'a str) -> Arg<'a>
@@ -44,7 +48,7 @@ fn with<'a>(command: Command<'a>, arg: Arg<'a>) -> Result<Command<'a>, AllocErro
     command.arg(arg)
 }
 
-/// `follow --door PATH [--nft --interfaces FILE] [--pf DIR] [--turns T]`
+/// `follow --door PATH [--nft --interfaces FILE [--no-member-guard]] [--pf DIR] [--turns T]`
 fn follow_command<'a>(alloc: Global) -> Result<Command<'a>, AllocError>
     ensures local { IfOk result (λ c. (out-Command c).has_globals ≡ false) }
 {
@@ -55,9 +59,14 @@ fn follow_command<'a>(alloc: Global) -> Result<Command<'a>, AllocError>
         .long("nft")
         .action(ArgAction::SetTrue)
         .help(NFT);
+    let no_guard = Arg::new(alloc, "no-member-guard")
+        .long("no-member-guard")
+        .action(ArgAction::SetTrue)
+        .help(NO_GUARD);
     let command = with(follow, valued(alloc, "door", DOOR).required(true))?;
     let command = with(command, nft)?;
     let command = with(command, valued(alloc, "interfaces", INTERFACES))?;
+    let command = with(command, no_guard)?;
     let command = with(command, valued(alloc, "pf", PF))?;
     with(
         command,

@@ -10,6 +10,7 @@ use Rattle.pf_config.specs.Map.{Configuration}
 use Rattle.pf_config.specs.Changes.{load_ruleset}
 use Rattle.pf_config.specs.Codes as config
 use Rattle.pf_nft.specs.Rendering.{Machine}
+use Rattle.pf_nft.specs.declared.guard.Member.{Member}
 use Rattle.pf_nft.specs.declared.rendering.RenderFault.{RenderFault}
 use Rattle.pf_nft.specs.Refusing.{fault_code}
 use Rattle.pf_nft_text.specs.Loading.{rendered_lines}
@@ -39,40 +40,42 @@ written_lines (Ok text) = record { text = text; refused = false }
 written_lines (Err fault) = refused (fault_code fault)
 
 -- the lines for the configuration that a load gives, or the refusal of the load or of the rendering
-abbrev pub rendered_of : Machine → ℕ → Result Configuration ConfigFault → Written
-rendered_of m position (Ok c) = written_lines (rendered_lines c m position)
-rendered_of m position (Err fault) = refused (config.fault_code fault)
+abbrev pub rendered_of : Machine → List Member → ℕ → Result Configuration ConfigFault → Written
+rendered_of m ms position (Ok c) = written_lines (rendered_lines c m ms position)
+rendered_of m ms position (Err fault) = refused (config.fault_code fault)
 
 -- nothing is loaded
 abbrev pub nothing_loaded : Configuration
 nothing_loaded = record { skip = []; anchors = [] }
 
 -- the text's ruleset, loaded as the main one
-abbrev pub loaded_of : Machine → ℕ → Result RulesetValue Refusal → Written
-loaded_of m position (Err refusal) = refused_at (cause_code refusal.cause) refusal.line
-loaded_of m position (Ok rules) = rendered_of m position (load_ruleset nothing_loaded [] rules)
+abbrev pub loaded_of : Machine → List Member → ℕ → Result RulesetValue Refusal → Written
+loaded_of m ms position (Err refusal) = refused_at (cause_code refusal.cause) refusal.line
+loaded_of m ms position (Ok rules) = rendered_of m ms position (load_ruleset nothing_loaded [] rules)
 
 -- for a machine, if the list of its interfaces is one
-abbrev pub output_for : Option Machine → ℕ → List ℕ → Written
-output_for None position input = refused (Some 89)
-output_for (Some m) position input = loaded_of m position (reading Main Two input)
+abbrev pub output_for : Option Machine → List Member → ℕ → List ℕ → Written
+output_for None ms position input = refused (Some 89)
+output_for (Some m) ms position input = loaded_of m ms position (reading Main Two input)
 
 -- the machine that a file of interfaces lists, none where it can't be read or some line isn't as it should be
 abbrev pub machine_of_file : Option (List ℕ) → Option Machine
 machine_of_file None = None
 machine_of_file (Some text) = machine_in text
 
--- over this file of interfaces, none where it can't be read, and this input
-unfoldable pub output : Option (List ℕ) → ℕ → List ℕ → Written
-output file position input = output_for (machine_of_file file) position input
+-- over this file of interfaces, none where it can't be read, behind the guard of these members, none where one of them
+-- isn't spelled as an address and a port, and over this input
+unfoldable pub output : Option (List ℕ) → Option (List Member) → ℕ → List ℕ → Written
+output file None position input = refused (Some 40)
+output file (Some ms) position input = output_for (machine_of_file file) ms position input
 
 -- ---- a configuration that stands
 
 -- for a machine, if the list of its interfaces is one
-abbrev pub config_for : Option Machine → ℕ → Configuration → Written
-config_for None position c = refused (Some 89)
-config_for (Some m) position c = written_lines (rendered_lines c m position)
+abbrev pub config_for : Option Machine → List Member → ℕ → Configuration → Written
+config_for None ms position c = refused (Some 89)
+config_for (Some m) ms position c = written_lines (rendered_lines c m ms position)
 
--- over this file of interfaces, none where it can't be read
-unfoldable pub config_output : Option (List ℕ) → ℕ → Configuration → Written
-config_output file position c = config_for (machine_of_file file) position c
+-- over this file of interfaces, none where it can't be read, behind the guard of these members
+unfoldable pub config_output : Option (List ℕ) → List Member → ℕ → Configuration → Written
+config_output file ms position c = config_for (machine_of_file file) ms position c

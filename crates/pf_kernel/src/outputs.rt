@@ -15,7 +15,7 @@ ghost use Rattle.pf_nft_text.specs.Loading.{rendered_lines};
 use crate::machines::machine_in;
 use pf_config::Config;
 use pf_grammar::{ParseFault, Place, Profile, parse};
-use pf_nft::MachineInterface;
+use pf_nft::{MachineInterface, Member};
 use pf_nft_text::rendered_lines;
 use pf_ruleset::{Path, Ruleset};
 use std::alloc::{AllocError, Global};
@@ -56,12 +56,13 @@ fn written_lines(
     alloc: Global,
     config: &Config,
     machine: &[MachineInterface],
+    members: &[Member],
     position: u32,
 ) -> Result<Written, AllocError>
     ensures { IfOk result (λ w. written w
-        ≡ written_lines (rendered_lines config.now (machine_of machine.now) position)) }
+        ≡ written_lines (rendered_lines config.now (machine_of machine.now) members.now position)) }
 {
-    match rendered_lines(alloc, config, machine, position) {
+    match rendered_lines(alloc, config, machine, members, position) {
         Ok(text) => Ok(Written {
             text,
             refused: false,
@@ -78,14 +79,15 @@ fn rendered_of(
     alloc: Global,
     rules: Ruleset,
     machine: &[MachineInterface],
+    members: &[Member],
     position: u32,
 ) -> Result<Written, AllocError>
-    ensures { IfOk result (λ w. written w ≡ rendered_of (machine_of machine.now) position
+    ensures { IfOk result (λ w. written w ≡ rendered_of (machine_of machine.now) members.now position
         (load_ruleset nothing_loaded [] (ruleset_of rules))) }
 {
     let mut config = Config::new(alloc)?;
     match config.load(&Path::main(alloc), rules) {
-        Ok(()) => written_lines(alloc, &config, machine, position),
+        Ok(()) => written_lines(alloc, &config, machine, members, position),
         Err(fault) => match fault.code() {
             Some(code) => refused(alloc, code),
             None => Err(AllocError),
@@ -97,13 +99,15 @@ fn rendered_of(
 fn loaded_of(
     alloc: Global,
     machine: &[MachineInterface],
+    members: &[Member],
     position: u32,
     input: &[u8],
 ) -> Result<Written, AllocError>
-    ensures { IfOk result (λ w. written w ≡ loaded_of (machine_of machine.now) position (reading Main Two input.now)) }
+    ensures { IfOk result (λ w. written w ≡ loaded_of (machine_of machine.now) members.now position
+        (reading Main Two input.now)) }
 {
     match parse(alloc, input, Place::Main, Profile::Two) {
-        Ok(rules) => rendered_of(alloc, rules, machine, position),
+        Ok(rules) => rendered_of(alloc, rules, machine, members, position),
         Err(ParseFault::Memory) => Err(AllocError),
         Err(ParseFault::Refused(refusal)) => {
             refused_at(alloc, refusal.cause.code(), refusal.line)
@@ -112,43 +116,50 @@ fn loaded_of(
 }
 
 /// What `check --nft` writes over a file of interfaces, none where it can't be read, and this input: the three lines
-/// of the text's rules on that machine, under names of that position, or a refusal. `refused 89`: the file doesn't list
-/// interfaces.
+/// of the text's rules on that machine, behind the guard of these members, under names of that position, or a refusal.
+/// `refused 40`: there are no such members. `refused 89`: the file doesn't list interfaces.
 #[tactic(auto, unfolding(crate::specs::Outputs::output))]
 pub fn nft_output(
     alloc: Global,
     file: Option<&[u8]>,
+    members: Option<&[Member]>,
     position: u32,
     input: &[u8],
 ) -> Result<Written, AllocError>
-    ensures { IfOk result (λ w. written w ≡ output (option_map (λ t. t.now) file.entry) position input.now) }
+    ensures { IfOk result (λ w. written w ≡ output (option_map (λ t. t.now) file.entry)
+        (option_map (λ ms. ms.now) members.entry) position input.now) }
 {
+    let Some(members) = members else {
+        return refused(alloc, 40);
+    };
     let Some(text) = file else {
         return refused(alloc, 89);
     };
     match machine_in(alloc, text)? {
-        Some(machine) => loaded_of(alloc, &machine, position, input),
+        Some(machine) => loaded_of(alloc, &machine, members, position, input),
         None => refused(alloc, 89),
     }
 }
 
 /// What `show --nft` writes of a configuration over a file of interfaces, none where it can't be read: the three lines
-/// of the configuration on that machine, under names of that position, or a refusal. `refused 89`: the file doesn't
-/// list interfaces.
+/// of the configuration on that machine, behind the guard of these members, under names of that position, or a refusal.
+/// `refused 89`: the file doesn't list interfaces.
 #[tactic(auto, unfolding(crate::specs::Outputs::config_output))]
 pub fn config_output(
     alloc: Global,
     file: Option<&[u8]>,
     config: &Config,
+    members: &[Member],
     position: u32,
 ) -> Result<Written, AllocError>
-    ensures { IfOk result (λ w. written w ≡ config_output (option_map (λ t. t.now) file.entry) position config.now) }
+    ensures { IfOk result (λ w. written w ≡ config_output (option_map (λ t. t.now) file.entry) members.now
+        position config.now) }
 {
     let Some(text) = file else {
         return refused(alloc, 89);
     };
     match machine_in(alloc, text)? {
-        Some(machine) => written_lines(alloc, config, &machine, position),
+        Some(machine) => written_lines(alloc, config, &machine, members, position),
         None => refused(alloc, 89),
     }
 }

@@ -4,6 +4,7 @@ use Rattle.std.specs.List.{list_any}
 use Rattle.std.specs.Io.KnownBytes.{Appends}
 use Rattle.pf_io.specs.Written.{line}
 use Rattle.pf_kernel.specs.Outputs.{output}
+use Rattle.pf_nft.specs.declared.guard.Member.{Member}
 use Rattle.pf_io.specs.declared.status.Status.{Status}
 use Rattle.pf_io.specs.declared.status.Status.TheVariants as status
 
@@ -13,17 +14,20 @@ asks_nft [] = false
 asks_nft (name ∷ []) = false
 asks_nft (name ∷ word ∷ words) = bytes_eq word (codes "check") && list_any (λ w. bytes_eq w (codes "--nft")) words
 
--- What a run that ended so has written, of this file of interfaces, this position and this input. Where memory ran out
--- it wrote that alone; of a read or a write that failed, and of words that aren't understood, nothing is said.
-abbrev pub Wrote : Option (List ℕ) → ℕ → Status → Option (List ℕ) → Option (List ℕ) → Option (List ℕ) → Type 0
-Wrote file position status.Done input old new = IfSome input (λ bytes.
-    ((output file position bytes).refused ≡ false) × Appends old new (output file position bytes).text)
-Wrote file position status.Refused input old new = IfSome input (λ bytes.
-    ((output file position bytes).refused ≡ true) × Appends old new (output file position bytes).text)
-Wrote file position status.Usage input old new = Unit {0}
-Wrote file position status.Memory input old new = Appends old new (line (codes "memory"))
-Wrote file position status.Failed input old new = Unit {0}
+-- What a run that ended so has written, of this file of interfaces, these members, this position and this input. Where
+-- memory ran out it wrote that alone; of a read or a write that failed, and of words that aren't understood, nothing is
+-- said.
+abbrev pub Wrote : Option (List ℕ) → Option (List Member) → ℕ → Status → Option (List ℕ) → Option (List ℕ) →
+    Option (List ℕ) → Type 0
+Wrote file ms position status.Done input old new = IfSome input (λ bytes.
+    ((output file ms position bytes).refused ≡ false) × Appends old new (output file ms position bytes).text)
+Wrote file ms position status.Refused input old new = IfSome input (λ bytes.
+    ((output file ms position bytes).refused ≡ true) × Appends old new (output file ms position bytes).text)
+Wrote file ms position status.Usage input old new = Unit {0}
+Wrote file ms position status.Memory input old new = Appends old new (line (codes "memory"))
+Wrote file ms position status.Failed input old new = Unit {0}
 
--- the same of what some file and some position come to
+-- the same of what some file, some members and some position come to
 abbrev pub Ran : Status → Option (List ℕ) → Option (List ℕ) → Option (List ℕ) → Type 0
-Ran ending input old new = (file : Option (List ℕ)) × (position : ℕ) × Wrote file position ending input old new
+Ran ending input old new = (file : Option (List ℕ)) × (ms : Option (List Member)) × (position : ℕ) ×
+    Wrote file ms position ending input old new

@@ -3,7 +3,7 @@
 //! # Organization
 //!
 //! - [`run_nft`]: the words, over any reader and writer; [`asks_nft`] tells whether words are such.
-//! - [`read_file`]: a file of interfaces.
+//! - [`read_file`]: a file of interfaces; [`members_in`]: members from texts.
 //!
 //! Within: `words` has the words as `clap` reads them.
 #![tactic(auto)]
@@ -11,4 +11,4 @@
 mod running;
 mod words;
 
-pub use running::{asks_nft, read_file, run_nft};
+pub use running::{asks_nft, members_in, read_file, run_nft};

@@ -1,11 +1,12 @@
 -- The address of a member: an IP address, a colon, and a port.
 use Rattle.std.specs.Prelude.{◌≡◌, ◌⊎◌, ℕ, Bool, false, not, ◌==◌, ◌&&◌, ◌||◌, ◌+◌, List, [], ◌∷◌, length, take, drop}
-use Rattle.std.specs.Prelude.{Option, Some, None, Result, Ok, Err, if◌then◌else◌, slice_index}
+use Rattle.std.specs.Prelude.{Option, Some, None, Result, Ok, Err, if◌then◌else◌, slice_index, codes, decimal, ◌++◌}
 use Rattle.std.specs.List.{prefix_len, list_all}
 use Rattle.std.specs.Char.{is_ascii_alphabetic, is_ascii_alphanumeric}
 use Rattle.pf_addr.specs.declared.addr.Addr.{Addr}
 use Rattle.pf_addr.specs.declared.addr.Addr.TheVariants.{V4, V6}
 use Rattle.pf_addr.specs.declared.fault.AddrFault.{AddrFault}
+use Rattle.pf_addr.specs.Shown.{shown_addr}
 use Rattle.pf_addr.specs.Spelling.{addr_of}
 use Rattle.pf_words.specs.Words.{number_of}
 use Rattle.pf_net.specs.declared.address.Address.{Address}
@@ -56,6 +57,15 @@ six_of text =
 -- an IPv6 address stands in brackets
 unfoldable pub address_of : List ℕ → Option Address
 address_of text = if slice_index text 0 == 91 then six_of (drop 1 text) else four_of text
+
+-- how an IP address is shown where a colon follows
+abbrev pub shown_ip : Addr → List ℕ
+shown_ip (V4 bits) = shown_addr (V4 bits)
+shown_ip (V6 bits) = codes "[" ++ (shown_addr (V6 bits) ++ codes "]")
+
+-- an address as it is shown: IP address, colon, port
+abbrev pub shown_address : Address → List ℕ
+shown_address a = shown_ip a.ip ++ (codes ":" ++ decimal a.port)
 
 -- ---- host names
 

@@ -1,14 +1,15 @@
 //! The address of a member.
 
-ghost use Rattle.std.specs.Prelude.{◌≡◌};
+ghost use Rattle.std.specs.Prelude.{◌≡◌, Some};
 ghost use Rattle.std.specs.List.{prefix_len};
 ghost use Rattle.pf_addr.specs.Spelling.{addr_of};
 ghost use Rattle.pf_words.specs.Words.{number_of};
 ghost use Rattle.pf_net.specs.Addresses.{address_of, four_of, six_of, four_in, six_in, joined};
-ghost use Rattle.pf_net.specs.Addresses.{is_no_colon, is_no_bracket};
+ghost use Rattle.pf_net.specs.Addresses.{is_no_colon, is_no_bracket, shown_address};
 
 use pf_addr::{Addr, parse_bytes};
 use pf_words::parse_decimal;
+use std::fmt;
 use std::net::{IpAddr, Ipv4Addr, Ipv6Addr, SocketAddr};
 
 /// Where a member listens.
@@ -18,6 +19,19 @@ pub struct Address {
     pub ip: Addr,
     /// 1 to 65535.
     pub port: u16,
+}
+
+impl fmt::Display for Address {
+    ghost output = { λ a. Some (shown_address a) };
+
+    fn fmt<W: fmt::Write>(&self, f: &mut fmt::Formatter<W>) -> fmt::Result {
+        let ip = self.ip;
+        let port = self.port;
+        match ip {
+            Addr::V4(_) => write!(f, "{ip}:{port}"),
+            Addr::V6(_) => write!(f, "[{ip}]:{port}"),
+        }
+    }
 }
 
 /// How many bytes stand before the first colon.

@@ -205,6 +205,13 @@ impl<R: Net + Clock + Copy> UdpWire<R> {
 }
 
 impl<C> UdpWire<C> {
+    /// Where each member listens, as it was found when the wire was made.
+    pub fn peers(&self) -> &[Address]
+        ensures { result.now ≡ peers_of self.now }
+    {
+        self.peers.as_slice()
+    }
+
     /// The socket's descriptor, for whoever waits for several.
     pub fn raw_fd(&self) -> RawFd {
         self.socket.as_raw_fd()

@@ -8,3 +8,4 @@ pub mod Depths
 pub mod Targeted
 pub mod Spanning
 pub mod Refused
+pub mod Guarded

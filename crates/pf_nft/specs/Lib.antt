@@ -4,6 +4,7 @@ pub mod Evaluation
 pub mod Alternatives
 pub mod Rendering
 pub mod Deciding
+pub mod Guard
 pub mod Refusing
 pub mod Seen
 pub mod inner

@@ -78,6 +78,8 @@ pub data Note : Type 0 where
   Skip : Note
   -- one that no rule matches
   Default : Note
+  -- one that the members' guard lets through
+  OfMembers : Note
   -- path@index
   Spot : (path : Path) (index : ℕ) → Note
 

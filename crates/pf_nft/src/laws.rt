@@ -1,6 +1,6 @@
 //! Laws over the definitions.
 
-ghost use Rattle.std.specs.Prelude.{List, Some, ℕ, false, ◌≡◌, ◌≤◌};
+ghost use Rattle.std.specs.Prelude.{List, Option, Some, ℕ, false, ◌≡◌, ◌≤◌};
 ghost use Rattle.std.specs.List.{list_any};
 ghost use Rattle.pf_addr.specs.declared.addr.Family.{Family};
 ghost use Rattle.pf_ruleset.specs.declared.ruleset.TableEntry.{TableEntry};
@@ -8,10 +8,11 @@ ghost use Rattle.pf_table.specs.Tables.{in_table};
 ghost use Rattle.pf_config.specs.Map.{Configuration};
 ghost use Rattle.pf_eval.specs.Packets.{PacketValue};
 ghost use Rattle.pf_eval.specs.Verdicts.{judgement};
-ghost use Rattle.pf_nft.specs.Subset.{Base};
+ghost use Rattle.pf_nft.specs.Subset.{Base, Decision};
 ghost use Rattle.pf_nft.specs.Evaluation.{run};
 ghost use Rattle.pf_nft.specs.Rendering.{Machine, rendered, decision_of};
 ghost use Rattle.pf_nft.specs.Deciding.{IsPacketOn, some_leads_back};
+ghost use Rattle.pf_nft.specs.Guard.{Member, HookPacket, GuardPasses};
 ghost use Rattle.pf_nft.specs.Cuts.{is_within, address, top, elements};
 
 /// The intervals of a table's set hold an address exactly where the table does: its most specific entry decides.
@@ -27,4 +28,10 @@ pub fn rendered_as_judged()
     ensures { (c : Configuration) (m : Machine) (k : PacketValue) (depth : ℕ) → some_leads_back c ≡ false →
         IsPacketOn m k → 10 ≤ depth →
         run depth (rendered c m k.direction) k Base ≡ Some (decision_of (judgement c k)) }
+{}
+
+/// Whatever stands behind the members' guard, it accepts the members' packets, and of every other packet it is decided
+/// as without it.
+pub fn guard_passes_members()
+    ensures { (ms : List Member) (behind : HookPacket → Option Decision) → GuardPasses ms behind }
 {}

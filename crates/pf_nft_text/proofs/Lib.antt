@@ -1,2 +1,3 @@
 pub mod Parting
 pub mod Keeping
+pub mod Guarded

@@ -13,6 +13,7 @@ use Rattle.pf_ruleset.specs.Names.{Name}
 use Rattle.pf_config.specs.Map.{Path}
 use Rattle.pf_nft.specs.Cuts.{address, top}
 use Rattle.pf_nft.specs.Evaluation.{is_set, is_chain}
+use Rattle.pf_eval.specs.Matching.{of_family}
 use Rattle.pf_nft.specs.declared.subset.Interval.{Interval}
 use Rattle.pf_nft.specs.declared.subset.Side.{Side}
 use Rattle.pf_nft.specs.declared.subset.Side.TheVariants.{Source, Destination}
@@ -20,8 +21,11 @@ use Rattle.pf_nft.specs.declared.subset.Outcome.{Outcome}
 use Rattle.pf_nft.specs.declared.subset.Outcome.TheVariants.{Accept, Drop, Reject}
 use Rattle.pf_nft.specs.Subset.{SetName, NamedSet, Where, From, InSet}
 use Rattle.pf_nft.specs.Subset.{Match, OnInterface, OfFamily, OfProtocol, AtAddress, AtPort, WithFlags, OfType}
-use Rattle.pf_nft.specs.Subset.{ChainName, Base, At, Note, Unknown, Skip, Default, Spot, Statement, Ends, Jump}
-use Rattle.pf_nft.specs.Subset.{NftRule, Chain, NftRuleset}
+use Rattle.pf_nft.specs.Subset.{ChainName, Base, At, Note, Unknown, Skip, Default, Spot, OfMembers}
+use Rattle.pf_nft.specs.Subset.{Statement, Ends, Jump, NftRule, Chain, NftRuleset}
+use Rattle.pf_nft.specs.declared.guard.Member.{Member}
+use Rattle.pf_nft.specs.Guard.{GuardMatch, AtMember, AtHome, OfUdp, IsLater, IsTooBig, IsNeighbour}
+use Rattle.pf_nft.specs.Guard.{GuardRule, guard_of}
 
 -- ---- names
 
@@ -140,6 +144,7 @@ abbrev pub note_text : Note → List ℕ
 note_text Unknown = codes "unknown"
 note_text Skip = codes "skip"
 note_text Default = codes "default"
+note_text OfMembers = codes "members"
 note_text (Spot path index) = path_text path ++ (codes "@" ++ decimal index)
 
 -- how an outcome is written; reject goes to the position's chain that answers
@@ -167,6 +172,7 @@ abbrev pub note_first : Note → Bool
 note_first Unknown = true
 note_first Skip = true
 note_first Default = false
+note_first OfMembers = false
 note_first (Spot path index) = false
 
 -- the statement decides, and for the interface alone: it is unknown or skipped
@@ -222,6 +228,66 @@ set_text position r s =
     codes "set " ++ (set_label position r s.name ++ (codes " { " ++ (type_text s.name.family
     ++ (elements_text s.name.family s.elements ++ codes "}; "))))
 
+-- ---- the members' guard
+
+-- address . port, and a comma: of a member of the family
+abbrev pub member_text : Family → Member → List ℕ
+member_text f m =
+    if of_family m.address f then shown_addr m.address ++ (codes " . " ++ (decimal m.port ++ codes ", ")) else []
+
+-- address, and a comma: of a member of the family
+abbrev pub home_text : Family → Member → List ℕ
+home_text f m = if of_family m.address f then shown_addr m.address ++ codes ", " else []
+
+-- the word for the port of an end, of UDP
+abbrev pub udp_text : Side → List ℕ
+udp_text Source = codes ". udp sport "
+udp_text Destination = codes ". udp dport "
+
+-- the words for a later fragment (RFC 791, 3.1; RFC 8200, 4.5)
+abbrev pub later_text : Family → List ℕ
+later_text Inet = codes "ip frag-off & 0x1fff != 0 "
+later_text Inet6 = codes "frag frag-off != 0 "
+
+-- the words for what says that a packet was too big
+abbrev pub too_big_text : Family → List ℕ
+too_big_text Inet = codes "icmp type destination-unreachable icmp code frag-needed "
+too_big_text Inet6 = codes "icmpv6 type packet-too-big "
+
+-- how a match of the guard is written (nft(8), PAYLOAD EXPRESSIONS, EXTENSION HEADER EXPRESSIONS)
+unfoldable pub guard_match_text : GuardMatch → List ℕ
+guard_match_text (AtMember side f ms) =
+    family_text f ++ (address_text side ++ (udp_text side ++ (codes "{ " ++ (flat_map (member_text f) ms
+    ++ codes "} "))))
+guard_match_text (AtHome side f ms) =
+    family_text f ++ (address_text side ++ (codes "{ " ++ (flat_map (home_text f) ms ++ codes "} ")))
+guard_match_text OfUdp = codes "meta l4proto 17 "
+guard_match_text (IsLater f) = later_text f
+guard_match_text (IsTooBig f) = too_big_text f
+guard_match_text IsNeighbour = codes "icmpv6 type { nd-neighbor-solicit, nd-neighbor-advert } ip6 hoplimit 255 "
+
+-- a rule of the guard: its matches, a counter, accept
+unfoldable pub guard_rule_text : GuardRule → List ℕ
+guard_rule_text matches = flat_map guard_match_text matches ++ codes "counter accept comment \"members\"; "
+
+-- the chain of the members' guard; none where no members are known
+unfoldable pub members_text : ℕ → List Member → List ℕ
+members_text position [] = []
+members_text position (m ∷ ms) =
+    codes "chain " ++ (generation position ++ (codes "members { " ++ (flat_map guard_rule_text (guard_of (m ∷ ms))
+    ++ codes "}; ")))
+
+-- a jump to it, if it is there
+unfoldable pub members_jump : ℕ → List Member → List ℕ
+members_jump position [] = []
+members_jump position (m ∷ ms) = codes "jump " ++ (generation position ++ codes "members; ")
+
+-- its end, if it is there
+unfoldable pub members_gone : ℕ → List Member → List ℕ
+members_gone position [] = []
+members_gone position (m ∷ ms) =
+    codes "delete chain inet reltzuma " ++ (generation position ++ codes "members; ")
+
 -- ---- the three transactions
 
 -- the chains at the hooks, which stay
@@ -248,7 +314,7 @@ headers_text =
     ++ (codes "meta nfproto ipv4 meta l4proto 1 icmp checksum 0-65535 return; "
     ++ codes "meta nfproto ipv4 meta l4proto 1 counter drop; "))
 
--- the guard: a chain that drops later fragments, and headers of TCP, UDP or ICMP that are cut short
+-- a chain that drops later fragments, and headers of TCP, UDP or ICMP that are cut short
 abbrev pub guard_text : ℕ → List ℕ
 guard_text position =
     codes "chain " ++ (generation position ++ (codes "guard { " ++ (fragments_text ++ (headers_text ++ codes "}; "))))
@@ -259,26 +325,26 @@ refuse_text position =
     codes "chain " ++ (generation position ++ (codes "refuse { meta l4proto 6 counter reject with tcp reset; "
     ++ codes "counter reject with icmpx port-unreachable; }; "))
 
--- a hook goes to the first chain, and tells the position
-abbrev pub hook_text : List ℕ → ℕ → List ℕ → List ℕ
-hook_text name position label =
-    codes "chain " ++ (name ++ (codes " { jump " ++ (label ++ (codes " comment \"applied " ++ (decimal position
-    ++ codes "\"; }; ")))))
+-- a hook goes to the members' guard, if there is one, and then to the ruleset's first chain, and tells the position
+abbrev pub hook_text : List ℕ → ℕ → List Member → List ℕ → List ℕ
+hook_text name position ms label =
+    codes "chain " ++ (name ++ (codes " { " ++ (members_jump position ms ++ (codes "jump " ++ (label
+    ++ (codes " comment \"applied " ++ (decimal position ++ codes "\"; }; ")))))))
 
 -- the three hooks
-abbrev pub hooks_filled : ℕ → NftRuleset → NftRuleset → List ℕ
-hooks_filled position inward outward =
-    hook_text (codes "in") position (chain_label position In inward Base)
-    ++ (hook_text (codes "out_l") position (chain_label position Out outward Base)
-    ++ hook_text (codes "out_f") position (chain_label position Out outward Base))
+abbrev pub hooks_filled : ℕ → List Member → NftRuleset → NftRuleset → List ℕ
+hooks_filled position ms inward outward =
+    hook_text (codes "in") position ms (chain_label position In inward Base)
+    ++ (hook_text (codes "out_l") position ms (chain_label position Out outward Base)
+    ++ hook_text (codes "out_f") position ms (chain_label position Out outward Base))
 
 -- all rules go, and those of this position come
-unfoldable pub rules_line : ℕ → Bool → NftRuleset → NftRuleset → List ℕ
-rules_line position keeps inward outward =
-    codes "flush table inet reltzuma; table inet reltzuma { " ++ (guard_text position ++ (refuse_text position
-    ++ (flat_map (chain_text position keeps In inward) inward.chains
+unfoldable pub rules_line : ℕ → Bool → List Member → NftRuleset → NftRuleset → List ℕ
+rules_line position keeps ms inward outward =
+    codes "flush table inet reltzuma; table inet reltzuma { " ++ (members_text position ms ++ (guard_text position
+    ++ (refuse_text position ++ (flat_map (chain_text position keeps In inward) inward.chains
     ++ (flat_map (chain_text position keeps Out outward) outward.chains
-    ++ (hooks_filled position inward outward ++ codes "}\n")))))
+    ++ (hooks_filled position ms inward outward ++ codes "}\n"))))))
 
 -- a chain of this position is deleted
 unfoldable pub chain_gone : ℕ → Direction → NftRuleset → Chain → List ℕ
@@ -295,12 +361,14 @@ fixed_gone position =
     ++ (generation position ++ codes "refuse; ")))
 
 -- the chains and sets of this position go: once another position's rules have come
-unfoldable pub gone_line : ℕ → NftRuleset → NftRuleset → List ℕ
-gone_line position inward outward =
+unfoldable pub gone_line : ℕ → List Member → NftRuleset → NftRuleset → List ℕ
+gone_line position ms inward outward =
     flat_map (chain_gone position In inward) inward.chains ++ (flat_map (chain_gone position Out outward) outward.chains
-    ++ (fixed_gone position ++ (flat_map (set_gone position inward) inward.sets ++ codes "\n")))
+    ++ (fixed_gone position ++ (members_gone position ms ++ (flat_map (set_gone position inward) inward.sets
+    ++ codes "\n"))))
 
 -- the three lines
-unfoldable pub lines : ℕ → Bool → NftRuleset → NftRuleset → List ℕ
-lines position keeps inward outward =
-    sets_line position inward ++ (rules_line position keeps inward outward ++ gone_line position inward outward)
+unfoldable pub lines : ℕ → Bool → List Member → NftRuleset → NftRuleset → List ℕ
+lines position keeps ms inward outward =
+    sets_line position inward
+    ++ (rules_line position keeps ms inward outward ++ gone_line position ms inward outward)

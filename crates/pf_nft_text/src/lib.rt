@@ -11,6 +11,7 @@ mod flags;
 mod labels;
 mod loading;
 mod matching;
+mod members;
 mod numbers;
 mod rule_lines;
 mod set_lines;

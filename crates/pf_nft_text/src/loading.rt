@@ -10,10 +10,11 @@ ghost use Rattle.pf_nft_text.specs.Loading.{rendered_lines};
 
 use crate::chain_lines::{ChainTexts, ChainsGone};
 use crate::labels::{ChainLabel, Generation, Whole};
+use crate::members::{MembersGone, MembersJump, MembersText};
 use crate::set_lines::{SetTexts, SetsGone};
 use crate::states::some_keep_state;
 use pf_config::Config;
-use pf_nft::{ChainName, MachineInterface, NftRuleset, RenderFault, render};
+use pf_nft::{ChainName, MachineInterface, Member, NftRuleset, RenderFault, render};
 use pf_ruleset::Direction;
 use std::alloc::{AllocError, Global};
 use std::fmt::{self, Display};
@@ -94,15 +95,16 @@ impl fmt::Display for RefuseText {
     }
 }
 
-/// A hook's chain, which goes to the ruleset's first one.
+/// A hook's chain, which goes to the members' guard, if there is one, and then to the ruleset's first chain.
 #[derive(Clone, Copy)]
 struct HookText<'a, 'r, 'c> {
     name: &'a str,
+    members: &'r [Member],
     whole: Whole<'r, 'c>,
 }
 
 impl fmt::Display for HookText<'_, '_, '_> {
-    ghost output = { λ x. Some (hook_text x.name.now x.whole.position
+    ghost output = { λ x. Some (hook_text x.name.now x.whole.position x.members.now
         (chain_label x.whole.position x.whole.direction (ruleset_of x.whole.parts.now) Base)) };
 
     fn fmt<W: fmt::Write>(&self, f: &mut fmt::Formatter<W>) -> fmt::Result {
@@ -112,18 +114,23 @@ impl fmt::Display for HookText<'_, '_, '_> {
         };
         let name = self.name;
         let position = self.whole.position;
+        let guard = MembersJump {
+            position,
+            members: self.members,
+        };
         write!(
             f,
-            "chain {name} {{ jump {label} comment \"applied {position}\"; }}; "
+            "chain {name} {{ {guard}jump {label} comment \"applied {position}\"; }}; "
         )
     }
 }
 
-/// Two rulesets of a position, one a direction, and whether a rule keeps state.
+/// Two rulesets of a position, one a direction, whether a rule keeps state, and the members.
 #[derive(Clone, Copy)]
 struct Both<'r, 'c> {
     position: u32,
     keeps: bool,
+    members: &'r [Member],
     inward: &'r NftRuleset<'c>,
     outward: &'r NftRuleset<'c>,
 }
@@ -131,29 +138,33 @@ struct Both<'r, 'c> {
 /// The three hooks.
 #[derive(Clone, Copy)]
 struct HooksFilled<'r, 'c> {
+    members: &'r [Member],
     inward: Whole<'r, 'c>,
     outward: Whole<'r, 'c>,
 }
 
 impl fmt::Display for HooksFilled<'_, '_> {
-    ghost output = { λ x. Some (hook_text (codes "in") x.inward.position
+    ghost output = { λ x. Some (hook_text (codes "in") x.inward.position x.members.now
         (chain_label x.inward.position x.inward.direction (ruleset_of x.inward.parts.now) Base)
-        ++ (hook_text (codes "out_l") x.outward.position
+        ++ (hook_text (codes "out_l") x.outward.position x.members.now
         (chain_label x.outward.position x.outward.direction (ruleset_of x.outward.parts.now) Base)
-        ++ hook_text (codes "out_f") x.outward.position
+        ++ hook_text (codes "out_f") x.outward.position x.members.now
         (chain_label x.outward.position x.outward.direction (ruleset_of x.outward.parts.now) Base))) };
 
     fn fmt<W: fmt::Write>(&self, f: &mut fmt::Formatter<W>) -> fmt::Result {
         let inward = HookText {
             name: "in",
+            members: self.members,
             whole: self.inward,
         };
         let local = HookText {
             name: "out_l",
+            members: self.members,
             whole: self.outward,
         };
         let forwarded = HookText {
             name: "out_f",
+            members: self.members,
             whole: self.outward,
         };
         write!(f, "{inward}{local}{forwarded}")
@@ -165,7 +176,7 @@ impl fmt::Display for HooksFilled<'_, '_> {
 struct RulesLine<'r, 'c>(Both<'r, 'c>);
 
 impl fmt::Display for RulesLine<'_, '_> {
-    ghost output = { λ x. Some (rules_line x.0.position x.0.keeps (ruleset_of x.0.inward.now)
+    ghost output = { λ x. Some (rules_line x.0.position x.0.keeps x.0.members.now (ruleset_of x.0.inward.now)
         (ruleset_of x.0.outward.now)) };
 
     #[tactic(auto, unfolding(crate::specs::Texts::rules_line))]
@@ -181,6 +192,10 @@ impl fmt::Display for RulesLine<'_, '_> {
             direction: Direction::Out,
             parts: self.0.outward,
         };
+        let members = MembersText {
+            position: self.0.position,
+            members: self.0.members,
+        };
         let guard = GuardText(self.0.position);
         let refuse = RefuseText(self.0.position);
         let first = ChainTexts {
@@ -191,9 +206,13 @@ impl fmt::Display for RulesLine<'_, '_> {
             whole: outward,
             keeps,
         };
-        let hooks = HooksFilled { inward, outward };
+        let hooks = HooksFilled {
+            members: self.0.members,
+            inward,
+            outward,
+        };
         f.write_str("flush table inet reltzuma; table inet reltzuma { ")?;
-        write!(f, "{guard}{refuse}{first}{second}{hooks}}}\n")
+        write!(f, "{members}{guard}{refuse}{first}{second}{hooks}}}\n")
     }
 }
 
@@ -218,7 +237,8 @@ impl fmt::Display for FixedGone {
 struct GoneLine<'r, 'c>(Both<'r, 'c>);
 
 impl fmt::Display for GoneLine<'_, '_> {
-    ghost output = { λ x. Some (gone_line x.0.position (ruleset_of x.0.inward.now) (ruleset_of x.0.outward.now)) };
+    ghost output = { λ x. Some (gone_line x.0.position x.0.members.now (ruleset_of x.0.inward.now)
+        (ruleset_of x.0.outward.now)) };
 
     #[tactic(auto, unfolding(crate::specs::Texts::gone_line))]
     fn fmt<W: fmt::Write>(&self, f: &mut fmt::Formatter<W>) -> fmt::Result {
@@ -235,29 +255,36 @@ impl fmt::Display for GoneLine<'_, '_> {
         let first = ChainsGone(inward);
         let second = ChainsGone(outward);
         let fixed = FixedGone(self.0.position);
+        let members = MembersGone {
+            position: self.0.position,
+            members: self.0.members,
+        };
         let sets = SetsGone(inward);
-        write!(f, "{first}{second}{fixed}{sets}\n")
+        write!(f, "{first}{second}{fixed}{members}{sets}\n")
     }
 }
 
 /// The rulesets of a position, one a direction, as three lines for nft(8), a transaction each: the sets, to which
 /// nothing refers yet; all rules in place of those before; and, for later, the end of this position's sets and chains,
 /// once another position's rules have come. A position's names are its own: no two contents are loaded under one
-/// position. Where a rule keeps state, what belongs to a connection passes. A growth that is refused is the error.
+/// position. Where a rule keeps state, what belongs to a connection passes. Before all else at the hooks stands the
+/// guard of these members, if there are any. A growth that is refused is the error.
 #[tactic(auto, unfolding(crate::specs::Texts::lines))]
 pub fn lines<'r, 'c>(
     alloc: Global,
     position: u32,
     keeps: bool,
+    members: &'r [Member],
     inward: &'r NftRuleset<'c>,
     outward: &'r NftRuleset<'c>,
 ) -> Result<String, AllocError>
     ensures { IfOk result (λ text. string_bytes text
-        ≡ lines position keeps (ruleset_of inward.now) (ruleset_of outward.now)) }
+        ≡ lines position keeps members.now (ruleset_of inward.now) (ruleset_of outward.now)) }
 {
     let both = Both {
         position,
         keeps,
+        members,
         inward,
         outward,
     };
@@ -271,18 +298,21 @@ pub fn lines<'r, 'c>(
     format!(in alloc; "{sets}{rules}{gone}")
 }
 
-/// A configuration, on a machine with these interfaces, as three lines for nft(8), or why there are none.
+/// A configuration, on a machine with these interfaces, behind the guard of these members, as three lines for nft(8),
+/// or why there are none. Of no members there is no guard.
 #[tactic(auto, unfolding(crate::specs::Loading::rendered_lines))]
 pub fn rendered_lines(
     alloc: Global,
     config: &Config,
     machine: &[MachineInterface],
+    members: &[Member],
     position: u32,
 ) -> Result<String, RenderFault>
-    ensures { Renders string_bytes result (rendered_lines config.now (machine_of machine.now) position) }
+    ensures { Renders string_bytes result (rendered_lines config.now (machine_of machine.now) members.now
+        position) }
 {
     let keeps = some_keep_state(config, &config.paths()?);
     let inward = render(alloc, config, machine, Direction::In)?;
     let outward = render(alloc, config, machine, Direction::Out)?;
-    Ok(lines(alloc, position, keeps, &inward, &outward)?)
+    Ok(lines(alloc, position, keeps, members, &inward, &outward)?)
 }

@@ -84,7 +84,7 @@ fn interface_text(direction: Direction) -> &'static str
 }
 
 /// What asks for an address of the family.
-fn family_text(family: Family) -> &'static str
+pub(crate) fn family_text(family: Family) -> &'static str
     ensures { result.now ≡ family_text family }
 {
     match family {
@@ -94,7 +94,7 @@ fn family_text(family: Family) -> &'static str
 }
 
 /// Which address is asked for.
-fn address_text(side: Side) -> &'static str
+pub(crate) fn address_text(side: Side) -> &'static str
     ensures { result.now ≡ address_text side }
 {
     match side {

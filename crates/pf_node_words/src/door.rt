@@ -26,6 +26,8 @@ pub(crate) struct DoorWords<'a> {
     pub(crate) path: &'a str,
     /// Where figures are told over TCP, if they are.
     pub(crate) figures: Option<SocketAddr>,
+    /// Where each member listens, by their numbers, with a blank between two.
+    pub(crate) members: &'a str,
     /// The descriptor of the members' socket.
     pub(crate) fd: RawFd,
     pub(crate) turns: u64,
@@ -78,7 +80,7 @@ fn served_by<R: Records, W: Wire + Drop>(
 ) -> (Outcome, Desk<R>)
     ensures { DeskComesTo desk result.1 result.0 }
 {
-    let Ok(tally) = wire.first_tally(alloc) else {
+    let Ok(tally) = wire.first_tally(alloc, words.members) else {
         return (Outcome::Memory, desk);
     };
     let Ok(mut room) = Room::new(alloc) else {

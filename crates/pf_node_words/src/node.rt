@@ -18,14 +18,14 @@ use crate::outcome::{Outcome, ended_outcome, ending_of};
 use crate::store::record_for;
 use clap::ArgMatches;
 use pf_member::{Membership, open_member, run_member};
-use pf_net::{BindFault, UdpWire};
+use pf_net::{Address, BindFault, UdpWire};
 use pf_node_file::NodeFile;
 use px_records::Records;
 use px_seal::{MembersWire, SealedWire};
 use px_sql::SqlRecords;
 use px_transport::{LoopbackWire, Wire};
 use sqlite::{File, FileStore};
-use std::alloc::Global;
+use std::alloc::{AllocError, Global};
 use std::net::SocketAddr;
 
 /// How long a turn waits for a datagram, in milliseconds.
@@ -286,6 +286,19 @@ pub(crate) fn figures_at(words: NodeWords<'_, '_, '_>) -> Result<Option<SocketAd
     }
 }
 
+/// Addresses with a blank between two.
+fn addresses_text(alloc: Global, addresses: &[Address]) -> Result<String, AllocError> {
+    let mut text = String::new(alloc);
+    for address in addresses {
+        if !text.is_empty() {
+            text.push(' ')?;
+        }
+        let one = address.to_string(alloc)?;
+        text.push_str(one.as_str())?;
+    }
+    Ok(text)
+}
+
 /// The run of a member with its door open, over a socket. What is asked by datagrams isn't heard.
 fn run_at_door<R: Records>(
     rt: &HostRuntime,
@@ -308,9 +321,13 @@ fn run_at_door<R: Records>(
         Ok(figures) => figures,
         Err(outcome) => return (outcome, records),
     };
+    let Ok(members) = addresses_text(alloc, wire.peers()) else {
+        return (Outcome::Memory, records);
+    };
     let words = DoorWords {
         path,
         figures,
+        members: members.as_str(),
         fd: wire.raw_fd(),
         turns: words.turns,
         is_quiet: words.is_quiet,

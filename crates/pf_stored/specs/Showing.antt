@@ -19,7 +19,7 @@ abbrev pub Shows : Log Bytes → (k kept : ℕ) → Configuration → Wanted →
 Shows log k kept c (wanted.Words words) s = shown_value s ≡ listed c (map (λ w. w.now) words.now)
 Shows log k kept c (wanted.Packets packets) s = shown_value s ≡ verdicts c (map (λ p. p.now) packets.now)
 Shows log k kept c (wanted.Log from count) s = shown_value s ≡ log_shown log k kept from count
-Shows log k kept c (wanted.Nft file) s = shown_value s ≡ of_kernel (config_output (option_map (λ t. t.now) file) k c)
+Shows log k kept c (wanted.Nft file) s = shown_value s ≡ of_kernel (config_output (option_map (λ t. t.now) file) [] k c)
 Shows log k kept c wanted.Texts s = s.refused ≡ false
 Shows log k kept c wanted.Script s = s.refused ≡ false → Gives s.bytes.items c
 Shows log k kept c wanted.Figures s = shown_value s ≡ figures k

@@ -1,6 +1,6 @@
 //! What is shown of a record.
 
-ghost use Rattle.std.specs.Prelude.{◌≡◌, ◌<◌, false, IfOk, option_map};
+ghost use Rattle.std.specs.Prelude.{◌≡◌, ◌<◌, [], false, IfOk, option_map};
 ghost use Rattle.px_model.specs.Step.{front};
 ghost use Rattle.pf_node.specs.Nodes.{learned_by, applied_of, kept_of, config_of};
 ghost use Rattle.pf_kernel.specs.Outputs.{config_output};
@@ -20,7 +20,7 @@ use px_records::Records;
 use px_replica::{Membership, NodeFault};
 use std::alloc::{AllocError, Global};
 
-/// The configuration as what nft(8) loads.
+/// The configuration as what nft(8) loads; a store knows no addresses of members, so there is no guard.
 fn show_nft(
     alloc: Global,
     file: Option<&[u8]>,
@@ -28,9 +28,9 @@ fn show_nft(
     position: u32,
 ) -> Result<Shown, AllocError>
     ensures { IfOk result (λ s. shown_value s
-        ≡ of_kernel (config_output (option_map (λ t. t.now) file.entry) position config.now)) }
+        ≡ of_kernel (config_output (option_map (λ t. t.now) file.entry) [] position config.now)) }
 {
-    let written = config_output(alloc, file, config, position)?;
+    let written = config_output(alloc, file, config, &[], position)?;
     as_shown(alloc, written.text.as_str(), written.refused)
 }
 

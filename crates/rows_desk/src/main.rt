@@ -77,6 +77,7 @@ fn tally(alloc: Global) -> io::Result<Tally> {
         stood: 0,
         outrun: 0,
         large: 0,
+        members: String::from_str(alloc, "192.0.2.1:4711 192.0.2.2:4711 [2001:db8::3]:4711")?,
         unsent: 1,
         dropped: 4,
         ignored: 2,

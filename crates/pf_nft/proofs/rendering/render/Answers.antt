@@ -8,6 +8,8 @@ use Rattle.pf_nft.specs.Refusing.{is_costly}
 use Rattle.pf_nft.specs.Deciding.{leads_back, some_leads_back}
 use Rattle.pf_nft.specs.Seen.{machine_of}
 use Rattle.pf_nft.proofs.Depths.{rendered_decides}
+use Rattle.pf_nft.proofs.Guarded.{guard_passes}
+use Rattle.pf_nft.specs.Guard.{HookPacket}
 use Rattle.pf_nft.proofs.Refused.{refused_back, refused_costly}
 use Rattle.pf_nft.proofs.rendering.render.Goals as goal
 
@@ -38,3 +40,6 @@ returns-clause-judged c =
     λ k way on.
     ap (λ r. run 10 r k Base) (c.in_ok-whole.ensures ∙ ap (rendered c.args.config.now (machine_of c.args.machine.now)) (sym way))
     ∙ rendered_decides c.args.config.now (machine_of c.args.machine.now) k 10 e on (lit≤ tt)
+
+pub returns-clause-guarded : goal.returns-clause-guarded
+returns-clause-guarded c = λ ms. guard_passes ms (λ (h : HookPacket). run 10 _ h.packet Base)
