@@ -28,7 +28,8 @@ const SEATS: usize = 8;
 
 const FIGURE_SEATS: usize = 4;
 
-/// For how long a seat is left alone, though others wait for one, if it moved no byte meanwhile, in microseconds.
+/// For how long a seat is left alone, though others wait for one, whose request isn't whole meanwhile, or that moved no
+/// byte, in microseconds.
 const SILENT: u64 = 1_000_000;
 
 /// For how many seconds after its start a node's health isn't said: it is alone until it hears others.
@@ -186,14 +187,14 @@ impl Entrance {
         self.seats.iter().any(|seat| seat.has_more())
     }
 
-    /// The seat that has moved no byte for the longest time.
+    /// The seat whose request has been coming for the longest time, or that has moved no byte for so long.
     fn most_silent(&self) -> usize {
         let mut place = 0;
         let mut since = u64::MAX;
         for i in 0..self.seats.len() {
             if let Some(seat) = self.seats.get(i) {
-                if seat.moved() < since {
-                    since = seat.moved();
+                if seat.idle_since() < since {
+                    since = seat.idle_since();
                     place = i;
                 }
             }
@@ -213,7 +214,7 @@ impl Entrance {
     fn has_room(&self, now: u64) -> bool {
         self.seats.len() <= self.most
             || match self.seats.get(self.most_silent()) {
-                Some(seat) => now > seat.moved().saturating_add(SILENT),
+                Some(seat) => now > seat.idle_since().saturating_add(SILENT),
                 None => false,
             }
     }

@@ -67,9 +67,10 @@ impl Seat {
         }
     }
 
-    /// When it moved a byte last, in microseconds.
-    pub(crate) fn moved(&self) -> u64 {
-        self.moved
+    /// Since when it has done nothing for whoever asks, in microseconds: since a request has been coming, or else since
+    /// it moved a byte last.
+    pub(crate) fn idle_since(&self) -> u64 {
+        self.began.unwrap_or(self.moved)
     }
 
     /// The descriptor of its stream.
