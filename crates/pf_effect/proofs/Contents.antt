@@ -17,7 +17,9 @@ use Rattle.pf_config.specs.Map.{Configuration, AnchorValue, Path, path_eq, ancho
 use Rattle.pf_config.specs.Changes.{is_empty, is_nothing, is_path_before, anchors_before, anchors_behind, with_anchor, with_tables, with_table, tables_before, tables_behind, unless_full, set_table, set_filled, filled, fill, drain, with_contents, new_table, entries_in, add, replace, delete, flush_table}
 use Rattle.pf_config.proofs.PathFronts.{path_decides}
 use Rattle.pf_config.proofs.Treed.{path_itself, same_bytes, before_other, bytes_same, never}
+use Rattle.pf_effect.proofs.Counting.{all_new}
 use Rattle.pf_effect.specs.Effect.{contents_at}
+use Rattle.pf_effect.specs.inner.Answers.{Counts}
 
 -- ---- a look-up goes past what isn't looked for
 
@@ -123,3 +125,7 @@ delete_holds c new p name list h = drain_holds c new p name (table_at c p name) 
 pub flush_holds : (c new : Configuration) (p : Path) (name : Name) → flush_table c p name ≡ Ok new → contents_at new p name ≡ []
 unfolding flush_table
 flush_holds c new p name h = drain_holds c new p name (table_at c p name) (λ entries. []) h
+
+-- what a list counts where there was nothing
+pub counts_new : (es : List TableEntry) (n : ℕ) → n ≡ length es → Counts (record { added = n; removed = 0 }) [] es
+counts_new es n h = (h ∙ sym (all_new es), refl)
