@@ -1,4 +1,4 @@
-use Rattle.std.proofs.Common.{◌≡◌, ◌+◌, ◌≤◌, List, rules, length, sym, subst}
+use Rattle.std.proofs.Common.{◌≡◌, ◌+◌, ◌≤◌, false, is_ok, List, rules, length, sym, subst}
 use Rattle.pf_ruleset.specs.declared.ruleset.TableEntry.{TableEntry}
 use Rattle.pf_table.specs.Contents.{edited}
 use Rattle.pf_table.proofs.OneEdit.{part_at, own_key, edits, edited_at, same_at, few_edited}
@@ -34,7 +34,8 @@ returns-in_err-edit_part-clause-entries c =
     let key = c.requires.place.own p c.index_mut-part.ensures.value in
     let e = rw c.in_err-edit_part.was at c.edit_part.ensures.entries in
     let one = same_at items c.args.at p q c.requires.parts c.requires.place.within c.index_mut-part.ensures.value c.edit_part.ensures.family c.edit_part.ensures.len e in
-    one.1
+    let failed : is_ok c.from_residual.result ≡ false = search rules in
+    rw failed one.1
 
 pub returns-clause-parts : goal.returns-clause-parts
 returns-clause-parts c =
