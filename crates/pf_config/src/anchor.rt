@@ -484,7 +484,7 @@ pub(crate) fn change_table(
     name: &TableName,
     change: TableChange,
 ) -> Result<bool, AllocError>
-    ensures changed { MatchResult result (λ done. TreeChangesIf done change name.now rest.now anchor.old anchor.new)
+    ensures changed { MatchResult result (λ done. TreeChangesIf done change.entry name.now rest.now anchor.old anchor.new)
         (λ e. anchor.new ≡ anchor.old) }
     ensures length { length anchor.new.anchors ≡ length anchor.old.anchors }
 {
@@ -510,7 +510,7 @@ fn change_kid(
     change: TableChange,
 ) -> Result<bool, AllocError>
     requires { AreInOrder (shared kids.old.items) }
-    ensures { MatchResult result (λ done. KidChangesIf done change name.now first.now more.now (shared kids.old.items)
+    ensures { MatchResult result (λ done. KidChangesIf done change.entry name.now first.now more.now (shared kids.old.items)
         (shared kids.new.items)) (λ e. shared kids.new.items ≡ shared kids.old.items) }
 {
     let at = count_before(kids, first);

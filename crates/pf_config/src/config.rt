@@ -346,7 +346,7 @@ impl Config {
         name: &TableName,
         change: TableChange,
     ) -> Result<bool, AllocError>
-        ensures { MatchResult result (λ done. SetsIf done (changed change (table_at self.old path.now name.now))
+        ensures { MatchResult result (λ done. SetsIf done (changed change.entry (table_at self.old path.now name.now))
             path.now name.now self.old self.new) (λ e. self.new ≡ self.old) }
     {
         change_table(self.alloc, &mut self.main, path, name, change)

@@ -110,7 +110,7 @@ pub(crate) fn change_among(
 ) -> Result<bool, AllocError>
     requires { AreOrdered tables.old.items }
     ensures ordered { AreOrdered tables.new.items }
-    ensures changed { MatchResult result (λ done. ChangesIf done (changed change (named name.now tables.old.items))
+    ensures changed { MatchResult result (λ done. ChangesIf done (changed change.entry (named name.now tables.old.items))
         name.now tables.old.items tables.new.items) (λ e. tables.new.items ≡ tables.old.items) }
 {
     match change {

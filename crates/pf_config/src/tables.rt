@@ -66,7 +66,7 @@ impl Tables {
         name: &TableName,
         change: TableChange,
     ) -> Result<bool, AllocError>
-        ensures { MatchResult result (λ done. ChangesIf done (changed change (named name.now self.old)) name.now
+        ensures { MatchResult result (λ done. ChangesIf done (changed change.entry (named name.now self.old)) name.now
             self.old self.new) (λ e. self.new ≡ self.old) }
     {
         let Some(all) = Rc::get_mut(&mut self.all) else {
