@@ -1,9 +1,8 @@
 -- From a change of the configuration to the effect of a command.
-use Rattle.std.proofs.Common.{◌≡◌, ℕ, List, [], ◌∷◌, map, Option, Some, None, Result, Ok, Err, refl, sym, ap, ap₂, ◌∙◌}
-use Rattle.pf_ruleset.specs.declared.ruleset.TableEntry as rust
+use Rattle.std.proofs.Common.{◌≡◌, ℕ, List, [], ◌∷◌, Result, Ok, Err, length, ◌-◌, refl, sym, ap, ap₂, ◌∙◌, arith}
 use Rattle.pf_ruleset.specs.declared.ruleset.TableEntry.{TableEntry}
 use Rattle.pf_ruleset.specs.Names.{Name}
-use Rattle.pf_table.specs.Contents.{with_entries, contents_of, without_entries, count_without}
+use Rattle.pf_table.specs.Contents.{with_entries, contents_of, without_entries}
 use Rattle.pf_config.specs.declared.fault.ConfigFault.{ConfigFault}
 use Rattle.pf_config.specs.declared.fault.ConfigFault.TheVariants as fault
 use Rattle.pf_config.specs.Map.{Configuration, Path}
@@ -15,6 +14,7 @@ use Rattle.pf_effect.specs.declared.fault.ApplyFault.TheVariants as answer
 use Rattle.pf_effect.specs.Effect.{Effect, RefusedCommand, refused_change, uncounted, counted, contents_at, entries_of, changed}
 use Rattle.pf_effect.specs.Answers.{Applies, Leaves}
 use Rattle.pf_effect.specs.inner.Answers.{answer_of, fault_of_change, Counts}
+use Rattle.pf_effect.proofs.Counting.{all_came, none_gone, all_gone, none_came, all_new}
 use Rattle.pf_effect.proofs.Contents.{add_holds, replace_holds, delete_holds, flush_holds}
 
 -- the entries of a list are these again
@@ -42,21 +42,31 @@ counted_applies (Err e) n old new p name r h c = refused_applies (counted old p 
 counts_moved : (n : Applied) (old new entries : List TableEntry) → Counts n old entries → new ≡ entries → Counts n old new
 counts_moved n old new entries c e = rw e c
 
-pub add_applies : {A : Type 0} (changed : Result A ConfigFault) (n : Applied) (old new : Configuration) (p : Path) (name : Name) (list : List TableEntry) → Changes changed old new (add old p name list) → Counts n (contents_at old p name) (with_entries (contents_at old p name) list) → Applies (answer_of changed n) old new (counted old p name (add old p name list))
-add_applies changed n old new p name list h c =
-    counted_applies changed n old new p name (add old p name list) h (λ e. counts_moved n (contents_at old p name) (contents_at new p name) (with_entries (contents_at old p name) list) c (add_holds old new p name list e))
+pub add_applies : {A : Type 0} (changed : Result A ConfigFault) (n : Applied) (old new : Configuration) (p : Path) (name : Name) (list : List TableEntry) → Changes changed old new (add old p name list) → n.added ≡ length (contents_at new p name) - length (contents_at old p name) → n.removed ≡ 0 → Applies (answer_of changed n) old new (counted old p name (add old p name list))
+add_applies changed n old new p name list h a b =
+    counted_applies changed n old new p name (add old p name list) h (λ e.
+    let was = contents_at old p name in
+    let is : contents_at new p name ≡ with_entries was list = add_holds old new p name list e in
+    let long : length (contents_at new p name) ≡ length (with_entries was list) = ap length is in
+    let came = all_came was list in
+    counts_moved n was (contents_at new p name) (with_entries was list) (omega (arith, came, long, a), b ∙ sym (none_gone was list)) is)
 
-pub delete_applies : {A : Type 0} (changed : Result A ConfigFault) (n : Applied) (old new : Configuration) (p : Path) (name : Name) (list : List TableEntry) → Changes changed old new (delete old p name list) → Counts n (contents_at old p name) (without_entries (contents_at old p name) list) → Applies (answer_of changed n) old new (counted old p name (delete old p name list))
-delete_applies changed n old new p name list h c =
-    counted_applies changed n old new p name (delete old p name list) h (λ e. counts_moved n (contents_at old p name) (contents_at new p name) (without_entries (contents_at old p name) list) c (delete_holds old new p name list e))
+pub delete_applies : {A : Type 0} (changed : Result A ConfigFault) (n : Applied) (old new : Configuration) (p : Path) (name : Name) (list : List TableEntry) → Changes changed old new (delete old p name list) → n.added ≡ 0 → n.removed ≡ length (contents_at old p name) - length (contents_at new p name) → Applies (answer_of changed n) old new (counted old p name (delete old p name list))
+delete_applies changed n old new p name list h a b =
+    counted_applies changed n old new p name (delete old p name list) h (λ e.
+    let was = contents_at old p name in
+    let is : contents_at new p name ≡ without_entries was list = delete_holds old new p name list e in
+    let long : length (contents_at new p name) ≡ length (without_entries was list) = ap length is in
+    let gone = all_gone was list in
+    counts_moved n was (contents_at new p name) (without_entries was list) (a ∙ sym (none_came was list), omega (arith, gone, long, b)) is)
 
 pub replace_applies : {A : Type 0} (changed : Result A ConfigFault) (n : Applied) (old new : Configuration) (p : Path) (name : Name) (list : List TableEntry) → Changes changed old new (replace old p name list) → Counts n (contents_at old p name) (contents_of list) → Applies (answer_of changed n) old new (counted old p name (replace old p name list))
 replace_applies changed n old new p name list h c =
     counted_applies changed n old new p name (replace old p name list) h (λ e. counts_moved n (contents_at old p name) (contents_at new p name) (contents_of list) c (replace_holds old new p name list e))
 
-pub flush_applies : {A : Type 0} (changed : Result A ConfigFault) (n : Applied) (old new : Configuration) (p : Path) (name : Name) → Changes changed old new (flush_table old p name) → Counts n (contents_at old p name) [] → Applies (answer_of changed n) old new (counted old p name (flush_table old p name))
-flush_applies changed n old new p name h c =
-    counted_applies changed n old new p name (flush_table old p name) h (λ e. counts_moved n (contents_at old p name) (contents_at new p name) [] c (flush_holds old new p name e))
+pub flush_applies : {A : Type 0} (changed : Result A ConfigFault) (n : Applied) (old new : Configuration) (p : Path) (name : Name) → Changes changed old new (flush_table old p name) → n.added ≡ 0 → n.removed ≡ length (contents_at old p name) → Applies (answer_of changed n) old new (counted old p name (flush_table old p name))
+flush_applies changed n old new p name h a b =
+    counted_applies changed n old new p name (flush_table old p name) h (λ e. counts_moved n (contents_at old p name) (contents_at new p name) [] (a, b ∙ sym (all_new (contents_at old p name))) (flush_holds old new p name e))
 
 -- ---- the configuration after a command
 

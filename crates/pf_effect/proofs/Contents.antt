@@ -1,23 +1,22 @@
 -- What a table holds after a change of it.
-use Rattle.std.proofs.Common.{◌≡◌, ℕ, Bool, true, false, ◌&&◌, cond, List, [], ◌∷◌, ◌++◌, Option, Some, None, Result, Ok, Err, refl, sym, ap, ◌∙◌, subst, unwrap_or, append_assoc}
+use Rattle.std.proofs.Common.{◌≡◌, ℕ, Bool, true, false, ◌&&◌, cond, List, [], ◌∷◌, ◌++◌, Option, Some, None, Ok, Err, refl, sym, ap, ◌∙◌, subst, unwrap_or, append_assoc}
 use Rattle.std.specs.Prelude.{if◌then◌else◌, filter, find, nat_lt, length}
 use Rattle.std.specs.Str.{bytes_eq}
 use Rattle.std.specs.Map.{lookup}
-use Rattle.std.specs.Ordering.{is_lt, nat_cmp}
-use Rattle.std.specs.Cmp.Lexicographic.{slice_cmp}
+use Rattle.std.specs.Ordering.{is_lt}
 use Rattle.std.proofs.lemmas.Cmp.{nat_list_cmp_total, lists_total, tied_itself}
 use Rattle.pf_ruleset.specs.declared.ruleset.TableEntry.{TableEntry}
 use Rattle.pf_ruleset.specs.Names.{Name, is_before}
-use Rattle.pf_ruleset.specs.Items.{AnyRule}
 use Rattle.pf_table.specs.Tables.{TableValue}
 use Rattle.pf_table.specs.Contents.{with_entries, contents_of, without_entries}
-use Rattle.pf_config.specs.declared.fault.ConfigFault.{ConfigFault}
-use Rattle.pf_config.specs.declared.fault.ConfigFault.TheVariants.{NoTable, ConstTable, TableFull, AnchorsFull}
+use Rattle.pf_config.specs.declared.fault.ConfigFault.TheVariants.{ConstTable, TableFull, AnchorsFull}
 use Rattle.pf_config.specs.Map.{Configuration, AnchorValue, Path, path_eq, anchor_at, tables_in, tables_at, table_at, named, rules_in}
-use Rattle.pf_config.specs.Changes.{is_empty, is_nothing, is_path_before, anchors_before, anchors_behind, with_anchor, with_tables, with_table, tables_before, tables_behind, unless_full, set_table, set_filled, filled, fill, drain, with_contents, new_table, entries_in, add, replace, delete, flush_table}
+use Rattle.pf_config.specs.Changes.{is_empty, is_path_before, anchors_before, anchors_behind, with_anchor, with_tables, with_table, tables_before, tables_behind, set_table, set_filled, fill, drain, with_contents, new_table, entries_in, add, replace, delete, flush_table}
 use Rattle.pf_config.proofs.PathFronts.{path_decides}
-use Rattle.pf_config.proofs.Treed.{path_itself, same_bytes, before_other, bytes_same, never}
+use Rattle.pf_config.proofs.Treed.{path_itself, same_bytes, before_other}
+use Rattle.pf_effect.proofs.Counting.{all_new}
 use Rattle.pf_effect.specs.Effect.{contents_at}
+use Rattle.pf_effect.specs.inner.Answers.{Counts}
 
 -- ---- a look-up goes past what isn't looked for
 
@@ -123,3 +122,7 @@ delete_holds c new p name list h = drain_holds c new p name (table_at c p name) 
 pub flush_holds : (c new : Configuration) (p : Path) (name : Name) → flush_table c p name ≡ Ok new → contents_at new p name ≡ []
 unfolding flush_table
 flush_holds c new p name h = drain_holds c new p name (table_at c p name) (λ entries. []) h
+
+-- what a list counts where there was nothing
+pub counts_new : (es : List TableEntry) (n : ℕ) → n ≡ length es → Counts (record { added = n; removed = 0 }) [] es
+counts_new es n h = (h ∙ sym (all_new es), refl)

@@ -1,3 +1,4 @@
+pub mod Counting
 pub mod Contents
 pub mod Applying
 pub mod Log

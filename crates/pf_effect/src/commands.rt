@@ -9,7 +9,7 @@ ghost use Rattle.pf_effect.specs.Effect.{effect, entries_of, place_at, loaded, c
 ghost use Rattle.pf_effect.specs.Answers.{Applies, Leaves};
 ghost use Rattle.pf_effect.specs.inner.Answers.{answer_of};
 
-use crate::counts::{added, deleted, emptied, replaced};
+use crate::counts::{entry_count, replaced};
 use crate::fault::ApplyFault;
 use pf_config::{Config, ConfigFault};
 use pf_entry::{Addresses, CommandView, addresses_owned, path_owned, table_owned};
@@ -76,7 +76,6 @@ fn load_text(
 /// Puts entries into a table.
 #[tactic(auto, using(crate::proofs::Applying::add_applies))]
 fn add(
-    alloc: Global,
     config: &mut Config,
     path: &[Name],
     name: &TableName,
@@ -85,14 +84,15 @@ fn add(
     ensures { Applies result config.old config.new
         (counted config.old path.now name.now (change.add config.old path.now name.now list.now)) }
 {
-    let counts = added(alloc, config, path, name, list)?;
-    answered(config.add(path, name, list), counts)
+    let before = entry_count(config, path, name);
+    let changed = config.add(path, name, list);
+    let added = entry_count(config, path, name).saturating_sub(before);
+    answered(changed, Applied { added, removed: 0 })
 }
 
 /// Takes entries out of a table.
 #[tactic(auto, using(crate::proofs::Applying::delete_applies))]
 fn delete(
-    alloc: Global,
     config: &mut Config,
     path: &[Name],
     name: &TableName,
@@ -101,8 +101,10 @@ fn delete(
     ensures { Applies result config.old config.new
         (counted config.old path.now name.now (change.delete config.old path.now name.now list.now)) }
 {
-    let counts = deleted(alloc, config, path, name, list)?;
-    answered(config.delete(path, name, list), counts)
+    let before = entry_count(config, path, name);
+    let changed = config.delete(path, name, list);
+    let removed = before.saturating_sub(entry_count(config, path, name));
+    answered(changed, Applied { added: 0, removed })
 }
 
 /// Makes a list the contents of a table.
@@ -123,17 +125,15 @@ fn replace(
 
 /// Empties a table.
 #[tactic(auto, using(crate::proofs::Applying::flush_applies))]
-fn flush_table(
-    alloc: Global,
-    config: &mut Config,
-    path: &[Name],
-    name: &TableName,
-) -> Result<Applied, ApplyFault>
+fn flush_table(config: &mut Config, path: &[Name], name: &TableName) -> Result<Applied, ApplyFault>
     ensures { Applies result config.old config.new
         (counted config.old path.now name.now (change.flush_table config.old path.now name.now)) }
 {
-    let counts = emptied(alloc, config, path, name)?;
-    answered(config.flush_table(path, name), counts)
+    let removed = entry_count(config, path, name);
+    answered(
+        config.flush_table(path, name),
+        Applied { added: 0, removed },
+    )
 }
 
 /// The entries of a list that an entry spells.
@@ -207,7 +207,7 @@ fn apply_case(
             let path = path_owned(alloc, path)?;
             let table = table_owned(alloc, table)?;
             let list = entries_owned(alloc, addresses)?;
-            add(alloc, config, path.names(), &table, &list)
+            add(config, path.names(), &table, &list)
         }
         CommandView::Delete {
             path,
@@ -217,7 +217,7 @@ fn apply_case(
             let path = path_owned(alloc, path)?;
             let table = table_owned(alloc, table)?;
             let list = entries_owned(alloc, addresses)?;
-            delete(alloc, config, path.names(), &table, &list)
+            delete(config, path.names(), &table, &list)
         }
         CommandView::Replace {
             path,
@@ -232,7 +232,7 @@ fn apply_case(
         CommandView::FlushTable { path, table } => {
             let path = path_owned(alloc, path)?;
             let table = table_owned(alloc, table)?;
-            flush_table(alloc, config, path.names(), &table)
+            flush_table(config, path.names(), &table)
         }
     }
 }
