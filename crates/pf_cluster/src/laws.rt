@@ -48,8 +48,8 @@ pub fn equally_applied_nodes_are_equal<R: Records, Q: Records>()
     ensures { EquallyApplied R.Records Q.Records }
 {}
 
-/// What a member lived is a stretch of its life, which leads to where it stands in the end; and what it lived up to a stop
-/// there is one, whatever that leaves.
+/// What a member lived is a stretch of its life, which leads to where it stands in the end; and what it lived up to a
+/// stop there is one, whatever that leaves.
 pub fn lives_are_stretches<R: Records>()
     ensures { LivesAreStretches R.Records }
 {}
@@ -59,9 +59,9 @@ pub fn openings_are_stretches()
     ensures { OpeningsAreStretches }
 {}
 
-/// What befell members in stretches, one of one member after another, is a history where each lived from an empty record
-/// on, and their wires gave no datagram but those that some wire had been handed for that member before, repeated, late
-/// and in whatever order, and asks from outside. It leaves each member as it stands.
+/// What befell members in stretches, one of one member after another, is a history where each lived from an empty
+/// record on, and their wires gave no datagram but those that some wire had been handed for that member before,
+/// repeated, late and in whatever order, and asks from outside. It leaves each member as it stands.
 pub fn wires_are_histories()
     ensures { WiresAreHistories }
 {}
@@ -89,8 +89,8 @@ pub fn lives_go<R: Records>()
     ensures { LivesGo R.Records }
 {}
 
-/// Runs of members over wires that tell what they gave and were handed, one after another, are such stretches, and their
-/// network is such a network where it is one by the lists that the wires tell.
+/// Runs of members over wires that tell what they gave and were handed, one after another, are such stretches, and
+/// their network is such a network where it is one by the lists that the wires tell.
 pub fn runs_are_stretches<R: Records>()
     ensures { RunsAreStretches R.Records }
 {}

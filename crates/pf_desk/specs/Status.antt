@@ -1,5 +1,6 @@
 -- The lines of a node's status.
-use Rattle.std.specs.Prelude.{ℕ, Bool, true, false, List, [], ◌∷◌, ◌++◌, Option, Some, None, codes, decimal, string_bytes}
+use Rattle.std.specs.Prelude.{ℕ, Bool, true, false, List, [], ◌∷◌, ◌++◌, Option, Some, None}
+use Rattle.std.specs.Prelude.{codes, decimal, string_bytes}
 use Rattle.std.specs.List.{flat_map}
 use Rattle.clap.specs.Words.{Text}
 use Rattle.pf_scripts.specs.Lines.{line}
@@ -74,5 +75,5 @@ members_line t = (codes "members " ++ string_bytes t.members) ++ codes "\n"
 -- all of them, a line for each other member in their midst
 abbrev pub status_lines : Figures → Health → Tally → List ℕ
 status_lines f h t =
-    (((((((node_line f t.up ++ front_line f) ++ standing_line h t) ++ config_line f) ++ flat_map peer_line t.peers.items)
-    ++ wire_line t) ++ store_line f.has_failed) ++ door_line t) ++ members_line t
+    (((((((node_line f t.up ++ front_line f) ++ standing_line h t) ++ config_line f)
+    ++ flat_map peer_line t.peers.items) ++ wire_line t) ++ store_line f.has_failed) ++ door_line t) ++ members_line t

@@ -46,7 +46,8 @@ wire_json t =
 abbrev pub standing_json : Health → Tally → List ℕ
 standing_json h t =
     (codes ",\"health\":\"" ++ health_word h)
-    ++ fields ((codes "\",\"stood\":", t.stood) ∷ (codes ",\"outrun\":", t.outrun) ∷ (codes ",\"large\":", t.large) ∷ [])
+    ++ fields ((codes "\",\"stood\":", t.stood) ∷ (codes ",\"outrun\":", t.outrun)
+    ∷ (codes ",\"large\":", t.large) ∷ [])
 
 -- the last field, and the end of the object and of the line
 abbrev pub store_json : Bool → List ℕ

@@ -10,8 +10,9 @@ use Rattle.pf_turn.specs.Living.{Living}
 use Rattle.pf_member.specs.Lives.{Told, Life, LivedOver}
 use Rattle.pf_door.specs.Runs.{Place, stand_of, Opened}
 
--- Whatever turns a node makes and whatever its desk is asked between them, over a record that is honest as they end, are
--- steps of the model that befell the node: a change that is taken in is one ask, all else that is asked does nothing.
+-- Whatever turns a node makes and whatever its desk is asked between them, over a record that is honest as they end,
+-- are steps of the model that befell the node: a change that is taken in is one ask, all else that is asked does
+-- nothing.
 abbrev pub OpeningsAreLived : {R : Type 0} → Ghosts R → Type 0
 OpeningsAreLived G =
     (x z : Place G) (answered : Option NodeFault) → G.is_honest (records_of (stand_of z).replica) →

@@ -182,7 +182,8 @@ impl<R: Records> Clerk<R> {
     /// Asks the desk.
     fn ask(&mut self, request: &Request, response: &mut Response) -> Result<(), AllocError>
         requires { IsBlank response.old }
-        ensures answered { OnOk result (IsAnswered self.old.desk self.new.desk self.old.tally request.now response.new) }
+        ensures answered { OnOk result
+            (IsAnswered self.old.desk self.new.desk self.old.tally request.now response.new) }
         ensures memory { OnErr result (self.new ≡ self.old) }
         ensures scraped { self.new.is_scraped ≡ self.old.is_scraped }
     {

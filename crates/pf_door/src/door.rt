@@ -126,8 +126,8 @@ fn leave_room<RT: Files>(rt: &RT, room: &str, inner: &str) {
     let _gone = fs::remove_dir(rt, room);
 }
 
-/// The listening socket at the path, which doesn't wait. Whatever the umask is, its owner and its group may connect, and
-/// nobody before that is so: it is made in a folder of its own, `PATH.d`, where only its owner comes.
+/// The listening socket at the path, which doesn't wait. Whatever the umask is, its owner and its group may connect,
+/// and nobody before that is so: it is made in a folder of its own, `PATH.d`, where only its owner comes.
 fn listen<RT: Files + Net>(rt: &RT, alloc: Global, path: &str) -> io::Result<Listener> {
     let room = format!(in alloc; "{path}.d")?;
     let inner = format!(in alloc; "{path}.d/s")?;

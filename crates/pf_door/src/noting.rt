@@ -54,8 +54,9 @@ pub(crate) fn say<R: Records, RT: Clock + Eprint>(
         let _dated = eprint!(rt; "{}: ", date);
     }
     let _said = eprintln!(rt;
-        "node {} was {} and is {}: front {} has stood for {} seconds, {} commands wait here, {} of {} other members \
-         are heard, {} positions behind, refused by a higher round {} times, {} bytes in a datagram that isn't answered",
+        "node {} was {} and is {}: front {} has stood for {} seconds, {} commands wait here, {} of {} other \
+         members are heard, {} positions behind, refused by a higher round {} times, {} bytes in a datagram that isn't \
+         answered",
         node.membership().me(),
         was.word(),
         is.word(),

@@ -71,7 +71,8 @@ fn is_written(files: &[TextFile], name: &str, text: &str) -> bool {
     files.iter().any(|old| old.is_put && old.name.as_str() == name && old.text.as_str() == text)
 }
 
-/// Writes a file that isn't there: what is under this path is taken away first, a link too, whose target stays as it is.
+/// Writes a file that isn't there: what is under this path is taken away first, a link too, whose target stays as it
+/// is.
 fn write_new(rt: &HostRuntime, path: &str, text: &str) -> io::Result<()> {
     let _gone = fs::remove_file(rt, path);
     let mut file = OpenOptions::new()

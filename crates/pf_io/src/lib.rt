@@ -4,8 +4,8 @@
 //!
 //! - [`Status`]: how a run ends, and the exit status.
 //! - [`read_all`]: the whole input, up to a limit.
-//! - [`open_regular`], [`make_private`]: a file that isn't waited for, and one that its owner alone may read; [`knock`]:
-//!   why nobody answers at a socket.
+//! - [`open_regular`], [`make_private`]: a file that isn't waited for, and one that its owner alone may read;
+//!   [`knock`]: why nobody answers at a socket.
 //! - [`Shown`]: a text of others for people.
 //! - [`misused`], [`out_of_memory`]: what is written of words that aren't understood, and of want of memory.
 #![tactic(auto)]

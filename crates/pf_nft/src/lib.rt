@@ -6,8 +6,8 @@
 //! - [`MachineInterface`]: an interface of the machine for which it is written, with its groups.
 //! - [`render`]: the ruleset of a configuration, or why there is none.
 //! - [`Member`]: a member of the cluster, for the guard that stands before the ruleset.
-//! - [`rendered_as_judged`], [`sets_hold_tables`], [`guard_passes_members`]: what the ruleset of a configuration decides,
-//!   what its sets hold, and what the guard lets through.
+//! - [`rendered_as_judged`], [`sets_hold_tables`], [`guard_passes_members`]: what the ruleset of a configuration
+//!   decides, what its sets hold, and what the guard lets through.
 #![tactic(auto)]
 
 mod alternative;

@@ -162,8 +162,8 @@ fn is_costly(whole: &NftRuleset<'_>) -> bool
 }
 
 /// The ruleset of nftables for packets of a direction, on a machine with these interfaces. What it decides of a packet
-/// on one of them is the configuration's verdict, with the deciding rule; behind the members' guard it decides so of all
-/// packets but the members'. Refused is a rule that leads back to its own anchor, and anchors that multiply beyond
+/// on one of them is the configuration's verdict, with the deciding rule; behind the members' guard it decides so of
+/// all packets but the members'. Refused is a rule that leads back to its own anchor, and anchors that multiply beyond
 /// `ASKED_MAX` rules a packet; nothing is rendered then.
 #[tactic(auto, unfolding(crate::specs::Refusing::render))]
 pub fn render<'c>(

@@ -64,7 +64,8 @@ fn adopted(
     }
 }
 
-/// What is refused of a store that is open. Of one of an older format, which a node brings to 3, it is asked whose it is.
+/// What is refused of a store that is open. Of one of an older format, which a node brings to 3, it is asked whose it
+/// is.
 fn judged(
     rt: &HostRuntime,
     alloc: Global,

@@ -1,4 +1,5 @@
-//! What a node says on standard error of why it isn't started, or ends: which file or address, and what the system said.
+//! What a node says on standard error of why it isn't started, or ends: which file or address, and what the system
+//! said.
 
 use crate::node::NodeWords;
 use pf_io::Shown;

@@ -120,7 +120,8 @@ pub(crate) fn warn_unsealed(rt: &HostRuntime, words: NodeWords<'_, '_, '_>) {
         return;
     }
     let _said = eprintln!(rt;
-        "pfx: warning: no key: whoever can send datagrams to {} can change what this cluster learns (unless --unsealed)",
+        "pfx: warning: no key: whoever can send datagrams to {} can change what this cluster learns (unless \
+         --unsealed)",
         Shown(*own)
     );
 }

@@ -359,8 +359,8 @@ fn run_member_in<R: Records>(
     }
 }
 
-/// The run of a member over its record, which is closed, whatever came of it; what a node has committed stands also where
-/// closing fails. A node whose store failed ends with that (70, 72), whoever asked for the change.
+/// The run of a member over its record, which is closed, whatever came of it; what a node has committed stands also
+/// where closing fails. A node whose store failed ends with that (70, 72), whoever asked for the change.
 fn run_on(
     rt: &HostRuntime,
     alloc: Global,
@@ -381,8 +381,8 @@ fn run_on(
     outcome
 }
 
-/// What `node` comes to: 40 of its numbers, 83, 93, 94, the store's refusals, 82, 84, and the first refusal of a turn, in
-/// this order.
+/// What `node` comes to: 40 of its numbers, 83, 93, 94, the store's refusals, 82, 84, and the first refusal of a turn,
+/// in this order.
 pub(crate) fn node_outcome(rt: &HostRuntime, alloc: Global, words: NodeWords<'_, '_, '_>) -> Outcome
     ensures place { has_place words.entry.me (length words.entry.members.now) ≡ false → result ≡ Refused 40 }
 {

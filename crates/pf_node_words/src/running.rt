@@ -40,10 +40,10 @@ fn outcome_of<R: Read>(
 /// What the words `node`, `ask` and `key` ask for, the program's name first, with the input and the output that are
 /// lent.
 ///
-/// `node` makes turns of a node over UDP, and writes `front F applied A`, or `refused CODE`; with `--check` it makes none,
-/// and writes `ok` where nothing is to be refused. `ask` asks a node to take a command of pfctl's words in, and writes
-/// `asked N.NUMBER`, `refused CODE` or `no answer`. `key` writes a new key's 64 digits, into a file where one is named.
-/// Other words are refused. What is said to people beside that goes to standard error.
+/// `node` makes turns of a node over UDP, and writes `front F applied A`, or `refused CODE`; with `--check` it makes
+/// none, and writes `ok` where nothing is to be refused. `ask` asks a node to take a command of pfctl's words in, and
+/// writes `asked N.NUMBER`, `refused CODE` or `no answer`. `key` writes a new key's 64 digits, into a file where one is
+/// named. Other words are refused. What is said to people beside that goes to standard error.
 pub fn run_net<S: AsStr, R: Read, W: Write>(
     rt: &HostRuntime,
     alloc: Global,

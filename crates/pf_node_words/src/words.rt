@@ -10,7 +10,7 @@ use std::alloc::{AllocError, Global};
 
 /// What help says of each option, and below them.
 const CONFIG: &str =
-    "A file of settings in TOML, by these options' names, and members for the addresses; an option given here goes first";
+    "A file of settings in TOML, by these options' names, and members for the addresses; options given here go first";
 
 const ME: &str = "The node's number, from 0 on";
 
@@ -30,7 +30,7 @@ const TURNS: &str =
 until it is ended";
 
 const KEY: &str =
-    "A file with the cluster's key, 64 hexadecimal digits, which its owner alone may read; datagrams then carry its tag";
+    "A file with the cluster's key, 64 hexadecimal digits, that its owner alone may read; datagrams then carry its tag";
 
 const OTHER_KEY: &str =
     "A file with a second key that is heard too, while the cluster's key is changed";
@@ -69,13 +69,13 @@ const NODE_BELOW: &str =
     "In the end it writes front F applied A: how many positions are learned without a gap, and applied. A refusal is
 refused CODE: 40 words, 83 no key in its file, or others may read it, 70 the store failed, 71 it is of another cluster
 or member, 72 a bad row, 73 another format, 82 its address is taken, or that of --metrics is none of this machine
-alone, 84 its door is taken, 90 its file of settings can't be read, 92 (with the line) that file is wrong, 93 its store isn't
-there, 94 with --new it is. Standard error says which file or address, and what the system said. --check writes ok, or
-the first refusal. With a key or a door asks by UDP aren't heard.";
+alone, 84 its door is taken, 90 its file of settings can't be read, 92 (with the line) that file is wrong, 93 its
+store isn't there, 94 with --new it is. Standard error says which file or address, and what the system said. --check
+writes ok, or the first refusal. With a key or a door asks by UDP aren't heard.";
 
 const KEY_BELOW: &str =
-    "It writes 64 hexadecimal digits, as pfx node --key takes them, into FILE, which is made and its owner alone may read,
-or without one to standard output. A refusal is refused CODE: 94 the file is there, 83 it can't be made.";
+    "It writes 64 hexadecimal digits, as pfx node --key takes them, into FILE, which is made and its owner alone may
+read, or without one to standard output. A refusal is refused CODE: 94 the file is there, 83 it can't be made.";
 
 const KEY_FILE: &str = "The file that is made";
 

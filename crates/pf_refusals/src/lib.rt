@@ -3,8 +3,8 @@
 //! # Organization
 //!
 //! - [`REFUSALS`]: the table, which has each refusal that the program answers once, by its number.
-//! - [`explanation`], [`named`]: what a table says of a number, and of a number's digits; [`explain_all`]: all that it says.
-//!   An [`Explanation`] is shown as its paragraph.
+//! - [`explanation`], [`named`]: what a table says of a number, and of a number's digits; [`explain_all`]: all that it
+//!   says. An [`Explanation`] is shown as its paragraph.
 //! - [`Remark`]: one line for people about a refusal that came.
 //! - The numbers that have names: [`NO_PACKET`], [`WAITING_FULL`], [`ROUNDS_SPENT`], [`POSITIONS_SPENT`],
 //!   [`UNREADABLE`], [`NO_SCRIPT`].

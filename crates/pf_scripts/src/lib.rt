@@ -3,8 +3,8 @@
 //! # Organization
 //!
 //! - [`ctl`]: what a script of pfctl's words and packets prints.
-//! - [`read_words`]: what a line of pfctl's words comes to where nothing is changed; [`read_change`]: the change that it
-//!   asks for.
+//! - [`read_words`]: what a line of pfctl's words comes to where nothing is changed; [`read_change`]: the change that
+//!   it asks for.
 //! - For scripts of other kinds: [`cut_line`] and [`words_in`] cut; [`takes_text`] and [`Waiting`] are of the text
 //!   behind a line of pfctl's words, [`matches_in`], [`file_in`] and [`is_standard`] of those words; [`push_line`],
 //!   [`push_number`], [`push_counts`], [`push_refusal`] and [`test_packet`] print.

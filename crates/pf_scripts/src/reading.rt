@@ -10,8 +10,10 @@ ghost use Rattle.pf_effect.specs.Effect.{place_at};
 ghost use Rattle.pf_command.specs.Asked.{given_in, asked};
 ghost use Rattle.pf_command.specs.Answers.{action_value};
 ghost use Rattle.pf_scripts.specs.Ctl.{pfctl};
-ghost use Rattle.pf_scripts.specs.Listings.{rules_listed, tables_listed, anchors_listed, entries_listed, matches_listed};
-ghost use Rattle.pf_scripts.specs.WordsRead.{WordsValue, Shows, checked, of_table, looked, rows_read, words_read, IsOfLine};
+ghost use Rattle.pf_scripts.specs.Listings.{rules_listed, tables_listed, anchors_listed};
+ghost use Rattle.pf_scripts.specs.Listings.{entries_listed, matches_listed};
+ghost use Rattle.pf_scripts.specs.WordsRead.{WordsValue, Shows, checked, of_table, looked};
+ghost use Rattle.pf_scripts.specs.WordsRead.{rows_read, words_read, IsOfLine};
 ghost use Rattle.pf_scripts.specs.WordsRead.{change_asked, change_of_rows, change_in, words_value, IsChangeIn};
 
 use crate::acting::place_at;

@@ -6,10 +6,10 @@
 //! - [`read_at`], [`pause`]: one read at a door with its [`Reply`], and the time between two.
 //! - [`change_line`]: the line of a change that is sent, and [`laws`]: it is read as the arguments that it was made of.
 //!
-//! Within: `words` has the arguments as `clap` reads them, `call` what is sent for them, `checking` what they are refused
-//! for before that, `exchange` one request and its answer over the socket, `visiting` how often it is asked, `showing`
-//! an answer for a terminal, `script` reads the changes of a script, `scripting` asks them, and `telling` has what people
-//! are told on standard error.
+//! Within: `words` has the arguments as `clap` reads them, `call` what is sent for them, `checking` what they are
+//! refused for before that, `exchange` one request and its answer over the socket, `visiting` how often it is asked,
+//! `showing` an answer for a terminal, `script` reads the changes of a script, `scripting` asks them, and `telling` has
+//! what people are told on standard error.
 #![tactic(auto)]
 
 mod call;

@@ -55,8 +55,8 @@ fn text_for<R: Read>(
     }
 }
 
-/// What pfctl's arguments are refused for before a node is asked; of a change nothing where they say that it isn't looked
-/// at.
+/// What pfctl's arguments are refused for before a node is asked; of a change nothing where they say that it isn't
+/// looked at.
 fn checked(
     alloc: Global,
     matches: &ArgMatches<'_>,
@@ -229,11 +229,11 @@ fn run_script<R: Read, W: Write>(
     }
 }
 
-/// What the subcommand `ask` with `--door` asks for, the program's name first: a request at a node's control socket, whose
-/// answer is written; with `--script` each change of a script, one after the other. Arguments of a change that are refused
-/// wherever they are asked (40, 24, 1 to 3, 41), and a text that the grammar refuses, are refused before the node is asked,
-/// unless `--unchecked` is among them. An argument with a control character is refused (40) in any case. 85 where nobody
-/// answers at the socket, 86 where the answer is cut short or none.
+/// What the subcommand `ask` with `--door` asks for, the program's name first: a request at a node's control socket,
+/// whose answer is written; with `--script` each change of a script, one after the other. Arguments of a change that
+/// are refused wherever they are asked (40, 24, 1 to 3, 41), and a text that the grammar refuses, are refused before
+/// the node is asked, unless `--unchecked` is among them. An argument with a control character is refused (40) in any
+/// case. 85 where nobody answers at the socket, 86 where the answer is cut short or none.
 ///
 /// The status is 1 where a change was refused or its outcome isn't known in time, where not all addresses of `-T test`
 /// match, and of every refusal.

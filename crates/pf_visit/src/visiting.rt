@@ -177,9 +177,9 @@ fn synced(alloc: Global, reply: Reply) -> Result<Reply, AllocError> {
 }
 
 /// Asks, and waits for the given number of seconds in all: for a node that isn't so far yet, and for what comes of a
-/// command that was taken in, whose position is asked for again where no answer comes; it is `waiting` where none came in
-/// time. No command is asked twice that may have been taken in. With 0 seconds it is asked once, and the answer is waited
-/// for 10 seconds at most.
+/// command that was taken in, whose position is asked for again where no answer comes; it is `waiting` where none came
+/// in time. No command is asked twice that may have been taken in. With 0 seconds it is asked once, and the answer is
+/// waited for 10 seconds at most.
 pub(crate) fn visit<RT: Net + Clock>(
     rt: &RT,
     alloc: Global,

@@ -2,7 +2,8 @@
 //!
 //! # Organization
 //!
-//! - [`read_key`]: the key in a file that its owner alone may read; [`key_from`]: the same over any reader. [`KeyFault`].
+//! - [`read_key`]: the key in a file that its owner alone may read; [`key_from`]: the same over any reader.
+//!   [`KeyFault`].
 //! - [`new_key`]: a new one, of a source of random bytes; [`key_text`]: what a file has of it.
 //! - [`laws`]: what is written is read.
 #![tactic(auto)]

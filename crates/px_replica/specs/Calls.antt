@@ -17,7 +17,8 @@ use Rattle.px_wire.specs.declared.fault.WireFault.{WireFault}
 use Rattle.px_wire.specs.Message.{group, DatagramBytes}
 use Rattle.px_wire.specs.Members.{as_sent, Passing}
 use Rattle.px_wire.specs.Sent.{is_command}
-use Rattle.px_replica.specs.Faults.{fault_of, IsRefusedBy, IsOfStore, IsOfTheStore, IsReceiveFault, IsOpenFault, SomeFails}
+use Rattle.px_replica.specs.Faults.{fault_of, IsRefusedBy, IsOfStore, IsOfTheStore, IsReceiveFault, IsOpenFault}
+use Rattle.px_replica.specs.Faults.{SomeFails}
 use Rattle.px_replica.specs.Made.{answer, Makes, LeavesOne}
 use Rattle.px_replica.specs.Replicas.{records_of, learned_by, membership_of, has_failed, state_in, IsUnspelled}
 use Rattle.px_replica.specs.Seen.{IsSound}

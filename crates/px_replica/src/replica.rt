@@ -1,6 +1,7 @@
 //! The calls of a member with its record.
 
-ghost use Rattle.std.specs.Prelude.{◌≡◌, ◌≢◌, ◌<◌, ◌≤◌, true, false, Err, IfErr, IfOk, OnErr, [], option_map, length, is_some};
+ghost use Rattle.std.specs.Prelude.{◌≡◌, ◌≢◌, ◌<◌, ◌≤◌, true, false, Err, IfErr, IfOk, OnErr, []};
+ghost use Rattle.std.specs.Prelude.{option_map, length, is_some};
 ghost use Rattle.px_model.specs.Node.Input.{Asks, Ticks};
 ghost use Rattle.px_model.specs.Step.{front, nothing_volatile, positions};
 ghost use Rattle.px_model.specs.Entries.{entry_of, view_of};

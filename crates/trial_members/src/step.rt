@@ -3,15 +3,15 @@
 //! A line of a run is a word and numbers:
 //!
 //! - `ask MEMBER COMMAND`, `tick MEMBER`, `deliver MESSAGE ..`: it happens, and what is sent goes onto the bus.
-//! - To the first member comes `promiseall SENDER`, for its first round with nothing accepted, `accept`, of its own first
-//!   round, `prepare BALLOT` of member 1, `vote SENDER POSITION` for that round, `need SENDER POSITION`, or `outside`, an
-//!   ask of whoever is no member.
-//! - `numbers ROUND NUMBER`, `promised BALLOT`: put into the first member's record, as by hand. `remember` starts it anew
-//!   with an entry learned at the first position, `forget` in place.
+//! - To the first member comes `promiseall SENDER`, for its first round with nothing accepted, `accept`, of its own
+//!   first round, `prepare BALLOT` of member 1, `vote SENDER POSITION` for that round, `need SENDER POSITION`, or
+//!   `outside`, an ask of whoever is no member.
+//! - `numbers ROUND NUMBER`, `promised BALLOT`: put into the first member's record, as by hand. `remember` starts it
+//!   anew with an entry learned at the first position, `forget` in place.
 //! - `sent MANY`, `line MESSAGE TEXT`, `front MEMBER POSITION`, `learned MEMBER POSITION ORIGIN NUMBER LENGTH`,
 //!   `unlearned MEMBER POSITION`, `meta ROUND NUMBER` and `unaccepted`, of the first member's record: it must be so.
-//! - `refused CODE`: the first member refuses a tick so. `asked CODE TIMES`: it answers so many askings so, 0 takes them
-//!   in.
+//! - `refused CODE`: the first member refuses a tick so. `asked CODE TIMES`: it answers so many askings so, 0 takes
+//!   them in.
 use crate::bus::Bus;
 use crate::member::{Member, asked, entry, spelling};
 use px_core::{Core, CoreFault, Sends};

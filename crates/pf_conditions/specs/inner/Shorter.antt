@@ -9,7 +9,8 @@ use Rattle.pf_words.specs.declared.profile.Profile.{Profile}
 use Rattle.pf_tokens.specs.declared.symbol.Symbol.TheVariants as mark
 use Rattle.pf_tokens.specs.Tokens.{Token}
 use Rattle.pf_tokens.specs.Productions.{Read, ◌>>=◌, begins, begins_symbol, symbol_at, word_at, name_at}
-use Rattle.pf_tokens.specs.inner.Shorter.{bind_some, some_is, begins_shorter, symbol_shorter, word_shorter, name_shorter}
+use Rattle.pf_tokens.specs.inner.Shorter.{bind_some, some_is, begins_shorter, symbol_shorter}
+use Rattle.pf_tokens.specs.inner.Shorter.{word_shorter, name_shorter}
 use Rattle.pf_tokens.specs.inner.Shorter.{symbol_no_longer}
 use Rattle.pf_ruleset.specs.declared.parts.Interface.{Interface}
 use Rattle.pf_ruleset.specs.declared.parts.Addresses.{Addresses}

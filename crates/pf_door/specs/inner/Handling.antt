@@ -16,8 +16,8 @@ abbrev pub Says : Response → AnswerValue → Type 0
 Says r a = ((r.status ≡ a.code) × (r.body.items ≡ a.body)) ⊎ ((r.status ≡ 503) × (r.body.items ≡ []))
 
 -- the desk answered the request, over what was counted, and the response says that answer
-pub record IsAnswered {R : Type 0} {G : Ghosts R} (s t : Desk R G) (counted : Tally) (request : Request) (r : Response) :
-    Type 0 where
+pub record IsAnswered {R : Type 0} {G : Ghosts R} (s t : Desk R G) (counted : Tally) (request : Request)
+    (r : Response) : Type 0 where
   pub answer : AnswerValue
   pub answers : Answers s t counted request answer
   pub says : Says r answer

@@ -37,8 +37,8 @@ outcome_of fault.Store = Refused 70
 outcome_of fault.BadStore = Refused 72
 outcome_of fault.Failed = Refused 80
 
--- What a run is shown as whose store has so many failures: a member that had failed ends with what it failed of, 70 where
--- a call on the store failed and 72 where a row was bad.
+-- What a run is shown as whose store has so many failures: a member that had failed ends with what it failed of, 70
+-- where a call on the store failed and 72 where a row was bad.
 abbrev pub ending_of : Outcome → (failures : ℕ) → Outcome
 ending_of outcome n = if is_refused 80 outcome then (if nat_lt 0 n then Refused 70 else Refused 72) else outcome
 
@@ -78,7 +78,8 @@ DeskComesTo s t outcome =
     × ShowsDesk (front (learned_by t.node)) (applied_of t.node) answered outcome
 
 -- a run over a record with its door open, and what it is shown as
-pub record OpenLife {R : Type 0} (G : Ghosts R) (m : Membership) (given : R) (outcome : Outcome) (back : R) : Type 0 where
+pub record OpenLife {R : Type 0} (G : Ghosts R) (m : Membership) (given : R) (outcome : Outcome) (back : R) :
+    Type 0 where
   pub begin : Told
   pub end : Told
   pub answered : Option NodeFault

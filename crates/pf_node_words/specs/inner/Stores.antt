@@ -15,7 +15,8 @@ opening_of file new found.Empty = if new then Opens else (if file then Refuses 9
 opening_of file new found.Store = if new then Refuses 94 else Opens
 opening_of file new found.Other = Refuses 70
 
--- What keeps a node from its store: 93 only where settings come from a file and none is to be made, 94 only where one is.
+-- What keeps a node from its store: 93 only where settings come from a file and none is to be made, 94 only where one
+-- is.
 pub record IsStoreless (is_from_file is_new : Bool) (outcome : Outcome) : Type 0 where
   pub missing : outcome ≡ Refused 93 → (is_from_file ≡ true) × (is_new ≡ false)
   pub there : outcome ≡ Refused 94 → is_new ≡ true
