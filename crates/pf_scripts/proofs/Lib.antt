@@ -1,5 +1,5 @@
 pub mod LinesCut
-pub mod Placing
+pub mod Merging
 pub mod Listed
 pub mod Acted
 pub mod Rows

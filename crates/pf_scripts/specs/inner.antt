@@ -1,3 +1,3 @@
 -- What only code and proofs use: no contract of a public function needs it.
-pub mod Orders
+pub mod Merges
 pub mod Seen
