@@ -70,11 +70,30 @@ both_less n a b = elim (cases_lt n a) [
       ])
 ]
 
-pub enough : (n cost : ℕ) (o : Option ℕ) → o ≡ minus n cost → is_none o ≡ nat_lt n cost
-enough n cost o h = ap is_none h ∙ (elim (cases_lt n cost) [
-  | inl less ↦ (let a : nat_le cost n ≡ false = lt-leb cost n less in let b : nat_lt n cost ≡ true = lt-ltb n cost less in rw (a, b) refl)
-  | inr more ↦ (let a : nat_le cost n ≡ true = le-leb cost n more in let b : nat_lt n cost ≡ false = le-ltb n cost more in rw (a, b) refl)
-])
+-- what a budget has less is what was met
+pub met : (n m cost : ℕ) → Some m ≡ minus n cost → Some (n - m) ≡ within n cost
+met n m cost h = elim (cases_lt n cost) [
+  | inl less ↦ (let a : nat_le cost n ≡ false = lt-leb cost n less in let k : Some m ≡ None = h ∙ ap (λ q. if q then Some (n - cost) else None) a in cc)
+  | inr more ↦
+      (let a : nat_le cost n ≡ true = le-leb cost n more in
+      let k : Some m ≡ Some (n - cost) = h ∙ ap (λ q. if q then Some (n - cost) else None) a in
+      let e : m ≡ n - cost = cc in
+      let d : n - m ≡ cost = omega (arith, e, more) in
+      rw (a, d) refl)
+]
+
+pub met_none : (n cost : ℕ) → None ≡ minus n cost → None ≡ within n cost
+met_none n cost h = elim (nat_le cost n) as (λ q. None ≡ (if q then Some (n - cost) else None) → None ≡ (if q then Some cost else None)) [ true ↦ λ k. cc | false ↦ λ k. refl ] h
+
+-- how many fit where not even one does, and where what one meets is known
+pub none_fits : (n cost : ℕ) → None ≡ within n cost → 0 ≡ n / max cost 1
+none_fits n cost h = elim (cases_lt n cost) [
+  | inl less ↦ (let m : n < max cost 1 = omega (arith, less) in sym (div-small n (max cost 1) m))
+  | inr more ↦ (let a : nat_le cost n ≡ true = le-leb cost n more in let k : None ≡ Some cost = h ∙ ap (λ q. if q then Some cost else None) a in cc)
+]
+
+pub some_fit : (n cost m : ℕ) → Some m ≡ within n cost → m ≡ cost
+some_fit n cost m h = elim (nat_le cost n) as (λ q. Some m ≡ (if q then Some cost else None) → m ≡ cost) [ true ↦ λ k. cc | false ↦ λ k. cc ] h
 
 -- ---- rules
 

@@ -1,5 +1,5 @@
--- The bound of a verdict that an operator asks a running node for.
-use Rattle.std.specs.Prelude.{ℕ, zero, suc, ◌+◌, ◌++◌, Bool, List, [], ◌∷◌, length, map, nat_le, nat_lt}
+-- The bound of the verdicts that an operator asks a running node for.
+use Rattle.std.specs.Prelude.{ℕ, zero, suc, ◌+◌, ◌/◌, ◌==◌, ◌++◌, List, [], ◌∷◌, length, take, map, max, nat_le}
 use Rattle.std.specs.Prelude.{if◌then◌else◌}
 use Rattle.clap.specs.Words.{Text}
 use Rattle.pf_ruleset.specs.Names.{begins_below}
@@ -46,10 +46,11 @@ unfoldable pub most_met : (depth : ℕ) → Configuration → Path → ℕ
 most_met zero c p = 0
 most_met (suc depth) c p = met_in (met_target (most_met depth c) c p) (rules_at c p)
 
--- from main on; main's rules nest at most 9 deep
-abbrev pub is_costly : Configuration → Bool
-is_costly c = nat_lt MET_MAX (most_met 9 c [])
+-- how many verdicts meet at most MET_MAX rules together; main's rules nest at most 9 deep
+abbrev pub fitting : Configuration → ℕ
+fitting c = MET_MAX / max (most_met 9 c []) 1
 
--- a line for each packet's text in turn, unless a verdict may meet more than MET_MAX rules
+-- a line for each packet's text in turn, as far as they fit: the others are to be asked again, and it is 88 where not
+-- even one fits
 abbrev pub verdicts_within : Configuration → List Text → AnswerValue
-verdicts_within c packets = if is_costly c then refused 88 0 else verdicts c packets
+verdicts_within c packets = if fitting c == 0 then refused 88 0 else verdicts c (take (fitting c) packets)

@@ -98,8 +98,8 @@ impl<R: Records> Desk<R> {
         list(self.alloc, self.node.config(), listing)
     }
 
-    /// A verdict line for each packet's text in turn, up to the first that is no packet: that is 30, and 400. Where a
-    /// verdict may meet more than [`crate::MET_MAX`] rules none is computed: that is 88, and 400.
+    /// A verdict line for each packet's text in turn, up to the first that is no packet: that is 30, and 400. It ends
+    /// before the verdicts may meet more than [`crate::MET_MAX`] rules together; where one may, that is 88, and 400.
     pub fn test(&self, packets: &[&str]) -> Result<Answer, AllocError>
         ensures { IfOk result (λ a. answer_value a
             ≡ verdicts_within (config_of self.now.node) (map (λ p. p.now) packets.now)) }

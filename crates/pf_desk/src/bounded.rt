@@ -1,19 +1,19 @@
-//! How many rules a verdict may meet.
+//! How many rules verdicts may meet.
 
-ghost use Rattle.std.specs.Prelude.{◌≡◌, length};
+ghost use Rattle.std.specs.Prelude.{◌≡◌};
 ghost use Rattle.pf_ruleset.specs.Seen.{rule_of};
 ghost use Rattle.pf_config.specs.Trees.{paths_of, shared};
 ghost use Rattle.pf_eval.specs.inner.TwoWalks.{IsAnchorOf, AreAnchorsOf};
 ghost use Rattle.pf_desk.specs.Bounded.{met_by, met_at, met_member, met_members, met_called, met_target};
-ghost use Rattle.pf_desk.specs.Bounded.{most_met, is_costly};
-ghost use Rattle.pf_desk.specs.inner.Left.{minus};
+ghost use Rattle.pf_desk.specs.Bounded.{most_met, fitting};
+ghost use Rattle.pf_desk.specs.inner.Left.{minus, within};
 
 use pf_config::{Anchor, Config};
 use pf_ruleset::Item;
 use std::rc::Rc;
 
-/// How many rules, and anchors attached to another, a verdict may meet at most that an operator asks a running node
-/// for: it is one piece of work, during which the node does nothing else.
+/// How many rules, and anchors attached to another, the verdicts that one request asks a running node for may meet at
+/// most: they are one piece of work, during which the node does nothing else.
 pub const MET_MAX: u32 = 100_000;
 
 /// How deep a path may be.
@@ -135,13 +135,27 @@ fn left_after(config: &Config, anchor: &Anchor, depth: u8, left: u32) -> Option<
     Some(now)
 }
 
-/// Whether a verdict may meet more rules than it may cost.
-#[tactic(auto, using(crate::proofs::Budget::enough))]
-pub(crate) fn is_costly(config: &Config) -> bool
-    ensures { result ≡ is_costly config.now }
+/// How many rules a verdict may meet, none where they are more than verdicts may.
+#[tactic(auto, using(crate::proofs::Budget::met, crate::proofs::Budget::nothing_there))]
+fn met(config: &Config) -> Option<u32>
+    ensures { result ≡ within MET_MAX (most_met 9 config.now []) }
 {
     match config.anchor(&[]) {
-        Some(main) => left_after(config, main, NESTED, MET_MAX).is_none(),
-        None => false,
+        Some(main) => {
+            let left = left_after(config, main, NESTED, MET_MAX)?;
+            Some(MET_MAX - left)
+        }
+        None => Some(0),
+    }
+}
+
+/// For how many packets one request is answered: none where a verdict may meet more rules than verdicts may.
+#[tactic(auto, using(crate::proofs::Budget::none_fits))]
+pub(crate) fn fitting(config: &Config) -> u32
+    ensures { result ≡ fitting config.now }
+{
+    match met(config) {
+        Some(met) => MET_MAX / met.max(1),
+        None => 0,
     }
 }

@@ -5,7 +5,7 @@ ghost use Rattle.pf_desk.specs.Answers.{answer_value, verdicts, verdict_for};
 ghost use Rattle.pf_desk.specs.Bounded.{verdicts_within};
 
 use crate::answer::Answer;
-use crate::bounded::is_costly;
+use crate::bounded::fitting;
 use pf_config::Config;
 use pf_eval::{PacketFault, parse_packet, show_verdict, verdict};
 use pf_scripts::{push_line, push_refusal};
@@ -44,12 +44,17 @@ fn verdicts(alloc: Global, config: &Config, packets: &[&str]) -> Result<Answer, 
     Ok(Answer { code: 200, body })
 }
 
-/// The same, unless a verdict may meet more than [`crate::MET_MAX`] rules, which is 88.
+/// The same of as many packets as meet at most [`crate::MET_MAX`] rules together: 88 where one may meet more.
+#[tactic(auto, using(crate::proofs::Budget::front_texts, crate::proofs::Budget::all_texts))]
 pub(crate) fn test(alloc: Global, config: &Config, packets: &[&str]) -> Result<Answer, AllocError>
     ensures { IfOk result (λ a. answer_value a ≡ verdicts_within config.now (map (λ p. p.now) packets.now)) }
 {
-    if is_costly(config) {
+    let fitting = fitting(config) as usize;
+    if fitting == 0 {
         return Answer::refused(alloc, 88, 0);
     }
-    verdicts(alloc, config, packets)
+    match packets.get(..fitting) {
+        Some(front) => verdicts(alloc, config, front),
+        None => verdicts(alloc, config, packets),
+    }
 }

@@ -4,6 +4,7 @@ ghost use Rattle.std.specs.Prelude.{◌≡◌, ◌≤◌, [], true, IfOk, OnErr,
 ghost use Rattle.http_server.specs.Response.{IsBlank};
 ghost use Rattle.pf_desk.specs.Answers.{answer_value};
 ghost use Rattle.pf_door.specs.inner.Handling.{Says, IsAnswered, IsTurnedAway, IsHandled};
+ghost use Rattle.pf_door.specs.inner.Handling.{is_urgent, is_change, passes_on};
 
 use bytes::{BufMut, Bytes};
 use http::{HeaderName, HeaderValue, StatusCode};
@@ -24,6 +25,8 @@ pub(crate) struct Clerk<R: Records> {
     pub(crate) is_scraped: bool,
     /// Whether what comes now came at the seat that is kept for `health` and `stop`.
     pub(crate) is_spare: bool,
+    /// How many requests were answered, those for figures too.
+    pub(crate) answered: u64,
     pub(crate) alloc: Global,
 }
 
@@ -56,7 +59,9 @@ fn is_of_figures(path: &str) -> bool {
 }
 
 /// Whether the request is answered when all seats are taken.
-fn is_urgent(request: &Request) -> bool {
+fn is_urgent(request: &Request) -> bool
+    ensures { result ≡ is_urgent request.now }
+{
     match request {
         Request::Stop => true,
         Request::Read { at: _, read } => matches!(read, Read::Health | Read::Ready),
@@ -65,7 +70,9 @@ fn is_urgent(request: &Request) -> bool {
 }
 
 /// Whether a change is asked for.
-fn is_change(request: &Request) -> bool {
+fn is_change(request: &Request) -> bool
+    ensures { result ≡ is_change request.now }
+{
     match request {
         Request::Change { .. } => true,
         Request::Read { .. } | Request::Stop => false,
@@ -167,6 +174,7 @@ impl<R: Records> Clerk<R> {
         ensures desk { self.new.desk ≡ self.old.desk }
         ensures scraped { self.new.is_scraped ≡ self.old.is_scraped }
     {
+        self.answered = self.answered.wrapping_add(1);
         if self.is_scraped {
             return;
         }
@@ -252,6 +260,8 @@ impl<R: Records> Clerk<R> {
     fn pass_on(&mut self, request: &Request, response: &mut Response) -> Result<(), AllocError>
         requires { IsBlank response.old }
         ensures handled { OnOk result (IsHandled self.old self.new response.new) }
+        ensures answered { passes_on self.old request.now ≡ true → OnOk result
+            (IsAnswered self.old.desk self.new.desk self.old.tally request.now response.new) }
         ensures still { self.old.is_scraped ≡ true → self.new.desk ≡ self.old.desk }
         ensures memory { OnErr result (self.new ≡ self.old) }
         ensures scraped { self.new.is_scraped ≡ self.old.is_scraped }

@@ -261,6 +261,28 @@ impl Entrance {
         }
     }
 
+    /// Does what can be done at once at a seat: one read, one answer, one write. The seat beyond the others is left
+    /// behind its first answer, so that it is there for whoever asks next.
+    fn look_at<R: Records>(&mut self, place: usize, clerk: &mut Clerk<R>, now: u64) -> Look
+        ensures { AreAsked clerk.old.desk clerk.new.desk }
+    {
+        let Some(seat) = self.seats.get_mut(place) else {
+            return Look::Quiet;
+        };
+        clerk.is_spare = place >= self.most;
+        let answered = clerk.answered;
+        let Some(has_moved) = seat.answer(clerk, now) else {
+            return Look::Left;
+        };
+        if clerk.answered != answered {
+            seat.note_answer();
+        }
+        if place >= self.most && seat.is_served() {
+            return Look::Left;
+        }
+        seat.looked(has_moved, now)
+    }
+
     /// Looks at the next seat.
     fn look<R: Records>(&mut self, clerk: &mut Clerk<R>, now: u64) -> Look
         ensures { AreAsked clerk.old.desk clerk.new.desk }
@@ -269,11 +291,7 @@ impl Entrance {
             self.next = 0;
         }
         let place = self.next;
-        let Some(seat) = self.seats.get_mut(place) else {
-            return Look::Quiet;
-        };
-        clerk.is_spare = place >= self.most;
-        let look = seat.look(clerk, now);
+        let look = self.look_at(place, clerk, now);
         if look == Look::Left {
             self.leave(place, clerk);
         } else {

@@ -141,6 +141,7 @@ pub fn run_open<R: Records, W: Wire, RT: Clock + Eprint>(
         is_listening: true,
         is_scraped: false,
         is_spare: false,
+        answered: 0,
         alloc,
     };
     let ended = pass_on(rt, &mut clerk, wire, room, door, turns);
@@ -150,6 +151,7 @@ pub fn run_open<R: Records, W: Wire, RT: Clock + Eprint>(
         is_listening: _,
         is_scraped: _,
         is_spare: _,
+        answered: _,
         alloc: _,
     } = clerk;
     (ended, desk)

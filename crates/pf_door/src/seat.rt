@@ -146,7 +146,7 @@ impl Seat {
     }
 
     /// What became of the seat, where bytes were moved or not.
-    fn looked(&mut self, has_moved: bool, now: u64) -> Look {
+    pub(crate) fn looked(&mut self, has_moved: bool, now: u64) -> Look {
         if has_moved {
             self.moved = now;
         }
@@ -156,32 +156,28 @@ impl Seat {
         if has_moved { Look::Busy } else { Look::Quiet }
     }
 
-    /// Has the service answer what came, one request at most.
-    fn answer<S: Service>(&mut self, service: &mut S)
+    /// Has the service answer what came, one request at most, and writes once: whether bytes were moved, and none where
+    /// the seat is left.
+    pub(crate) fn answer<S: Service>(&mut self, service: &mut S, now: u64) -> Option<bool>
         ensures { Handles S.answers service.old service.new }
     {
-        let was_pending = self.connection.wants_write();
-        self.connection.advance(service);
-        if !was_pending && self.connection.wants_write() {
-            self.served = self.served.saturating_add(1);
-            self.began = None;
-        }
-    }
-
-    /// Does what can be done at once: one read, one answer, one write.
-    pub(crate) fn look<S: Service>(&mut self, service: &mut S, now: u64) -> Look
-        ensures { Handles S.answers service.old service.new }
-    {
-        let Some(has_read) = self.read() else {
-            return Look::Left;
-        };
+        let has_read = self.read()?;
         if has_read && self.began.is_none() {
             self.began = Some(now);
         }
-        self.answer(service);
-        let Some(has_written) = self.write() else {
-            return Look::Left;
-        };
-        self.looked(has_read || has_written, now)
+        self.connection.advance(service);
+        let has_written = self.write()?;
+        Some(has_read || has_written)
+    }
+
+    /// A request was answered.
+    pub(crate) fn note_answer(&mut self) {
+        self.served = self.served.saturating_add(1);
+        self.began = None;
+    }
+
+    /// Whether it has an answer, and all of it was sent.
+    pub(crate) fn is_served(&self) -> bool {
+        self.served > 0 && !self.connection.wants_write()
     }
 }

@@ -1,7 +1,10 @@
 //! A wire that counts what goes over it.
 
-ghost use Rattle.std.specs.Prelude.{◌≡◌, ◌≤◌, IfSome, length};
+ghost use Rattle.std.specs.Prelude.{◌≡◌, ◌≤◌, ◌==◌, ◌||◌, ◌×◌, false, not, IfOk, IfSome, length, string_bytes};
+ghost use Rattle.px_wire.specs.Seen.{message_of};
 ghost use Rattle.pf_door.specs.Wiring.{below_of};
+ghost use Rattle.pf_door.specs.inner.Watching.{shown_in, proposal_in, proposed_then, is_proposed, stood_since};
+ghost use Rattle.pf_door.specs.inner.Watching.{seconds_since};
 
 use pf_desk::{PeerTally, Tally};
 use pf_turn::Progress;
@@ -10,7 +13,7 @@ use px_wire::{Membership, Message, MessageView, decode};
 use std::alloc::{AllocError, Global};
 
 /// How long another member's proposal counts, in microseconds: it is made again after some 4 seconds at most.
-const PROPOSED: u64 = 6_000_000;
+pub const PROPOSED: u64 = 6_000_000;
 
 /// How often what members show is kept to be compared later, in microseconds.
 const SAMPLED: u64 = 1_000_000;
@@ -59,7 +62,9 @@ pub struct TallyWire<W> {
 
 /// A position below which some member has learned all, as a message shows; 0 where it shows none. Who proposes at a
 /// position, or lacks it, has learned all below; and what is voted for is proposed.
-fn shown_in(message: &MessageView<'_>) -> u32 {
+fn shown_in(message: &MessageView<'_>) -> u32
+    ensures { result ≡ shown_in (message_of message.now) }
+{
     match message {
         Message::Prepare { position, .. } => *position,
         Message::PrepareAll { position, .. } => *position,
@@ -77,12 +82,71 @@ fn shown_in(message: &MessageView<'_>) -> u32 {
 }
 
 /// The position at which the message's sender proposes a command, if it does.
-fn proposal_in(message: &MessageView<'_>) -> Option<u32> {
+fn proposal_in(message: &MessageView<'_>) -> Option<u32>
+    ensures { result ≡ proposal_in (message_of message.now) }
+{
     match message {
         Message::Prepare { position, .. } => Some(*position),
         Message::PrepareAll { position, .. } => Some(*position),
         Message::Accept { position, .. } => Some(*position),
         _ => None,
+    }
+}
+
+/// The proposal at the front or beyond it that is known, with one that comes now.
+fn proposed_then(
+    front: u32,
+    now: u64,
+    proposal: Option<u32>,
+    was: Option<(u32, u64)>,
+) -> Option<(u32, u64)>
+    ensures { result ≡ proposed_then front now proposal was }
+{
+    match proposal {
+        Some(position) => {
+            if front <= position {
+                Some((position, now))
+            } else {
+                was
+            }
+        }
+        None => was,
+    }
+}
+
+/// Whether another member proposes a command at the front or beyond it.
+fn is_proposed(front: u32, now: u64, proposed: Option<(u32, u64)>) -> bool
+    ensures { result ≡ is_proposed front now proposed }
+{
+    match proposed {
+        Some((position, at)) => front <= position && now.saturating_sub(at) < PROPOSED,
+        None => false,
+    }
+}
+
+/// Since when commands have waited while the front stood.
+fn stood_since(has_moved: bool, waits: bool, since: Option<u64>, now: u64) -> Option<u64>
+    ensures { result ≡ stood_since has_moved waits since now }
+{
+    if !waits {
+        return None;
+    }
+    if has_moved {
+        return Some(now);
+    }
+    match since {
+        Some(since) => Some(since),
+        None => Some(now),
+    }
+}
+
+/// How many whole seconds have passed since then.
+fn seconds_since(since: Option<u64>, now: u64) -> u64
+    ensures { result ≡ seconds_since since now }
+{
+    match since {
+        Some(since) => now.saturating_sub(since) / 1_000_000,
+        None => 0,
     }
 }
 
@@ -120,7 +184,7 @@ impl Row {
         PeerTally {
             node: self.node,
             heard: match self.heard {
-                Some(last) => Some(now.saturating_sub(last) / 1_000_000),
+                Some(_) => Some(seconds_since(self.heard, now)),
                 None => None,
             },
             datagrams_in: self.datagrams_in,
@@ -161,7 +225,9 @@ impl<W: Drop> TallyWire<W> {
 
 impl<W> TallyWire<W> {
     /// What is counted as a node starts: a row for each other member, and nothing that came. The members listen there.
-    pub fn first_tally(&self, alloc: Global, members: &str) -> Result<Tally, AllocError> {
+    pub fn first_tally(&self, alloc: Global, members: &str) -> Result<Tally, AllocError>
+        ensures { IfOk result (λ t. (t.stood ≡ 0) × (string_bytes t.members ≡ members.now)) }
+    {
         let mut peers = Vec::new(alloc);
         for row in &self.rows {
             peers.push(row.told(0))?;
@@ -199,41 +265,32 @@ impl<W> TallyWire<W> {
         self.stand(front, is_waiting);
     }
 
-    /// Whether another member proposes a command at the node's front, or beyond it.
-    fn is_proposed(&self) -> bool {
-        match self.proposed {
-            Some((position, at)) => {
-                self.front <= position && self.now < at.saturating_add(PROPOSED)
-            }
-            None => false,
-        }
-    }
-
     /// Notes the node's front, and whether commands wait.
     fn stand(&mut self, front: u32, is_waiting: bool)
         ensures below { below_of self.new ≡ below_of self.old }
+        ensures front { self.new.front ≡ front }
+        ensures since { self.new.since ≡ stood_since (not (front == self.old.front))
+            (is_waiting || is_proposed front self.old.now self.old.proposed) self.old.since self.old.now }
     {
-        if front != self.front {
+        let has_moved = front != self.front;
+        if has_moved {
             self.front = front;
-            self.since = None;
             self.outrun = 0;
             self.large = 0;
         }
-        if !is_waiting && !self.is_proposed() {
-            self.since = None;
-        } else if self.since.is_none() {
-            self.since = Some(self.now);
-        }
+        let waits = is_waiting || is_proposed(front, self.now, self.proposed);
+        self.since = stood_since(has_moved, waits, self.since, self.now);
     }
 
     /// Tells what was counted, after a round that came to this. A turn that neither took a datagram nor is to be
     /// followed by a wait was a tick.
-    pub(crate) fn tell(&self, tally: &mut Tally, made: Progress) {
+    pub(crate) fn tell(&self, tally: &mut Tally, made: Progress)
+        ensures stood { tally.new.stood ≡ seconds_since self.now.since self.now.now }
+        ensures outrun { tally.new.outrun ≡ self.now.outrun }
+        ensures large { tally.new.large ≡ self.now.large }
+    {
         tally.up = self.now / 1_000_000;
-        tally.stood = match self.since {
-            Some(since) => self.now.saturating_sub(since) / 1_000_000,
-            None => 0,
-        };
+        tally.stood = seconds_since(self.since, self.now);
         tally.outrun = self.outrun;
         tally.large = self.large as u64;
         tally.unsent = self.unsent;
@@ -274,13 +331,13 @@ impl<W> TallyWire<W> {
     /// Notes what a member's message says of proposals: another's, or that this one's was refused by a higher round.
     fn note(&mut self, from: u8, message: &MessageView<'_>)
         ensures below { below_of self.new ≡ below_of self.old }
+        ensures proposed { (from == self.old.m.me) ≡ false → self.new.proposed ≡ proposed_then self.old.front
+            self.old.now (proposal_in (message_of message.now)) self.old.proposed }
     {
         if from == self.m.me() {
             return;
         }
-        if let Some(position) = proposal_in(message) {
-            self.proposed = Some((position, self.now));
-        }
+        self.proposed = proposed_then(self.front, self.now, proposal_in(message), self.proposed);
         if matches!(message, Message::Nack { .. }) {
             self.outrun = self.outrun.saturating_add(1);
         }

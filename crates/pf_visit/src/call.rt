@@ -14,6 +14,8 @@ pub(crate) enum Kind {
     List,
     /// To look addresses up in a table.
     TableTest,
+    /// To read verdicts, of which the node answers as many as it computes at once.
+    Test,
     /// To learn the position of a command that changes nothing.
     Sync,
     /// To change the configuration.
@@ -45,6 +47,17 @@ impl Call {
     /// A request without a body.
     pub(crate) fn get(alloc: Global, target: String, kind: Kind) -> Call {
         Call::new("GET", target, Vec::new(alloc), kind)
+    }
+
+    /// The same with another body.
+    pub(crate) fn with_body(&self, alloc: Global, body: &[u8]) -> Result<Call, AllocError> {
+        Ok(Call {
+            method: self.method,
+            target: String::from_str(alloc, self.target.as_str())?,
+            body: Vec::from_slice(alloc, body)?,
+            kind: self.kind,
+            is_repeatable: self.is_repeatable,
+        })
     }
 
     /// A change, of pfctl's arguments and the text of `-f`; none where an argument can't be sent as one.
@@ -198,7 +211,7 @@ fn own_call(
         ["test", packets @ ..] => {
             let target = target_in(alloc, "/v1/test", matches, at)?;
             let body = lines_of(alloc, packets)?;
-            return Ok(Some(Call::new("POST", target, body, Kind::Read)));
+            return Ok(Some(Call::new("POST", target, body, Kind::Test)));
         }
         _ => return Ok(None),
     };

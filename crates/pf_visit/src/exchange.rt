@@ -35,12 +35,14 @@ impl From<AllocError> for VisitFault {
     }
 }
 
-/// An answer: HTTP's status and the body, and how many positions the node knows the commands of.
+/// An answer: HTTP's status and the body, how many positions the node knows the commands of, and how many it has
+/// applied.
 #[derive(Drop)]
 pub struct Reply {
     pub code: u16,
     pub body: Vec<u8>,
     pub front: Option<u32>,
+    pub applied: Option<u32>,
 }
 
 /// The request's bytes.
@@ -133,9 +135,9 @@ fn has_length(bytes: &[u8], fields: &[HeaderSpan], len: usize) -> bool {
     }
 }
 
-/// The front that the answer's fields tell.
-fn front_in(bytes: &[u8], fields: &[HeaderSpan]) -> Option<u32> {
-    field_of(bytes, fields, b"pfx-front")?.parse::<u32>().ok()
+/// The number in a field of the answer.
+fn number_in(bytes: &[u8], fields: &[HeaderSpan], name: &[u8]) -> Option<u32> {
+    field_of(bytes, fields, name)?.parse::<u32>().ok()
 }
 
 /// The answer that the bytes are.
@@ -156,7 +158,8 @@ fn reply_in(alloc: Global, bytes: &[u8]) -> Result<Reply, VisitFault> {
     Ok(Reply {
         code: head.code,
         body: Vec::from_slice(alloc, body)?,
-        front: front_in(bytes, fields),
+        front: number_in(bytes, fields, b"pfx-front"),
+        applied: number_in(bytes, fields, b"pfx-applied"),
     })
 }
 

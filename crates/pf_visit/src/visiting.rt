@@ -16,6 +16,9 @@ const AT_ONCE: u64 = 16;
 /// How long it is waited between two requests after these, in milliseconds.
 const PAUSE: u64 = 5;
 
+/// How many times verdicts are asked for that a node doesn't answer at once, until all are of one position.
+const BEGINNINGS: u32 = 3;
+
 /// What a node answers whose time has not come yet.
 const WAITING: &[u8] = b"waiting\n";
 
@@ -55,6 +58,7 @@ fn printable(alloc: Global, reply: Reply) -> Result<Reply, VisitFault> {
             code: reply.code,
             body: Vec::from_slice(alloc, text.as_bytes())?,
             front: reply.front,
+            applied: reply.applied,
         }),
         None => Err(VisitFault::BadAnswer),
     }
@@ -88,6 +92,69 @@ fn ask_on<RT: Net + Clock>(
         }
         if ask >= AT_ONCE {
             pause(rt, PAUSE);
+        }
+    }
+    Err(VisitFault::BadAnswer)
+}
+
+/// How many lines the text has.
+fn line_count(text: &[u8]) -> usize {
+    text.iter().filter(|byte| **byte == b'\n').count()
+}
+
+/// What is behind so many lines.
+fn behind_lines(text: &[u8], count: usize) -> &[u8] {
+    let mut left = count;
+    for i in 0..text.len() {
+        if left == 0 {
+            return &text[i..];
+        }
+        if text[i] == b'\n' {
+            left -= 1;
+        }
+    }
+    &[]
+}
+
+/// Asks for the verdicts behind those that an answer has, as many at a time as the node answers at once; none where it
+/// has applied another position meanwhile, so that they would be verdicts of several configurations.
+fn ask_verdicts<RT: Net + Clock>(
+    rt: &RT,
+    alloc: Global,
+    door: &str,
+    call: &Call,
+    deadline: Deadline,
+    is_once: bool,
+) -> Result<Option<Reply>, VisitFault> {
+    let mut all = ask_on(rt, alloc, door, call, deadline, is_once)?;
+    for _answer in 0..call.body.len() {
+        let rest = behind_lines(call.body.as_slice(), line_count(all.body.as_slice()));
+        if all.code != 200 || rest.is_empty() {
+            return Ok(Some(all));
+        }
+        let others = call.with_body(alloc, rest)?;
+        let next = ask_on(rt, alloc, door, &others, deadline, is_once)?;
+        if next.applied != all.applied {
+            return Ok(None);
+        }
+        all.body.extend_from_slice(next.body.as_slice())?;
+        all.code = next.code;
+    }
+    Err(VisitFault::BadAnswer)
+}
+
+/// The verdicts of one position: they are asked for anew where the node has applied another one meanwhile.
+fn verdicts<RT: Net + Clock>(
+    rt: &RT,
+    alloc: Global,
+    door: &str,
+    call: &Call,
+    deadline: Deadline,
+    is_once: bool,
+) -> Result<Reply, VisitFault> {
+    for _beginning in 0..BEGINNINGS {
+        if let Some(reply) = ask_verdicts(rt, alloc, door, call, deadline, is_once)? {
+            return Ok(reply);
         }
     }
     Err(VisitFault::BadAnswer)
@@ -135,6 +202,7 @@ fn joined(taken: Reply, reply: Reply) -> Result<Reply, AllocError> {
         code: code_of(&reply),
         body,
         front: reply.front,
+        applied: reply.applied,
     })
 }
 
@@ -154,6 +222,7 @@ fn waiting(alloc: Global) -> Result<Reply, AllocError> {
         code: 503,
         body: Vec::from_slice(alloc, WAITING)?,
         front: None,
+        applied: None,
     })
 }
 
@@ -166,11 +235,13 @@ fn synced(alloc: Global, reply: Reply) -> Result<Reply, AllocError> {
                 code: reply.code,
                 body: Vec::from_slice(alloc, line.as_bytes())?,
                 front: reply.front,
+                applied: reply.applied,
             })
         }
         None => Ok(Reply {
             code: code_of(&reply),
             front: reply.front,
+            applied: reply.applied,
             body: reply.body,
         }),
     }
@@ -179,7 +250,8 @@ fn synced(alloc: Global, reply: Reply) -> Result<Reply, AllocError> {
 /// Asks, and waits for the given number of seconds in all: for a node that isn't so far yet, and for what comes of a
 /// command that was taken in, whose position is asked for again where no answer comes; it is `waiting` where none came
 /// in time. No command is asked twice that may have been taken in. With 0 seconds it is asked once, and the answer is
-/// waited for 10 seconds at most.
+/// waited for 10 seconds at most. Verdicts of many packets are asked for in as many requests as the node wants; they are
+/// of one position, or there is no answer.
 pub(crate) fn visit<RT: Net + Clock>(
     rt: &RT,
     alloc: Global,
@@ -188,6 +260,9 @@ pub(crate) fn visit<RT: Net + Clock>(
     seconds: u32,
 ) -> Result<Reply, VisitFault> {
     let deadline = Deadline::new(rt, if seconds == 0 { PATIENCE } else { seconds })?;
+    if call.kind == Kind::Test {
+        return verdicts(rt, alloc, door, call, deadline, seconds == 0);
+    }
     let taken = ask_on(rt, alloc, door, call, deadline, seconds == 0)?;
     let is_command = call.kind == Kind::Change || call.kind == Kind::Sync;
     if !is_command || seconds == 0 {

@@ -8,3 +8,7 @@ minus left cost = if nat_le cost left then Some (left - cost) else None
 abbrev pub and_then : Option ℕ → (ℕ → Option ℕ) → Option ℕ
 and_then None f = None
 and_then (Some n) f = f n
+
+-- a cost, if it is within a budget
+abbrev pub within : (budget cost : ℕ) → Option ℕ
+within budget cost = if nat_le cost budget then Some cost else None

@@ -1,11 +1,14 @@
 -- What becomes of a request that came as HTTP.
-use Rattle.std.specs.Prelude.{◌≡◌, ◌⊎◌, ◌≤◌, ℕ, List, []}
+use Rattle.std.specs.Prelude.{◌≡◌, ◌⊎◌, ◌≤◌, ◌&&◌, ◌||◌, ℕ, Bool, true, false, not, List, []}
 use Rattle.http.specs.declared.request.Request as http
 use Rattle.http_server.specs.Exchange.{Call, Chain}
 use Rattle.http_server.specs.declared.response.Response.{Response}
 use Rattle.px_records.specs.declared.records.Records.{Ghosts}
 use Rattle.pf_desk.specs.declared.desk.Desk.{Desk}
+use Rattle.pf_desk.specs.declared.request.Read.{Read}
+use Rattle.pf_desk.specs.declared.request.Read.TheVariants as read
 use Rattle.pf_desk.specs.declared.request.Request.{Request}
+use Rattle.pf_desk.specs.declared.request.Request.TheVariants as request
 use Rattle.pf_desk.specs.declared.tally.Tally.{Tally}
 use Rattle.pf_desk.specs.Answers.{AnswerValue}
 use Rattle.pf_desk.specs.Requests.{Answers}
@@ -26,6 +29,30 @@ pub record IsAnswered {R : Type 0} {G : Ghosts R} (s t : Desk R G) (counted : Ta
 pub record IsTurnedAway {R : Type 0} {G : Ghosts R} (s t : Desk R G) (r : Response) : Type 0 where
   pub still : t ≡ s
   pub refuses : 400 ≤ r.status
+
+-- ---- who is answered
+
+abbrev pub is_of_health : Read → Bool
+is_of_health read.Health = true
+is_of_health read.Ready = true
+is_of_health other = false
+
+-- what is answered also where all seats are taken
+abbrev pub is_urgent : Request → Bool
+is_urgent (request.Change words text) = false
+is_urgent (request.Read at r) = is_of_health r
+is_urgent request.Stop = true
+
+abbrev pub is_change : Request → Bool
+is_change (request.Change words text) = true
+is_change (request.Read at r) = false
+is_change request.Stop = false
+
+-- Of what comes over the control socket that is asked at the desk which is urgent, where all seats are taken, and
+-- which is no change, while the node takes none in; all else is asked in any case.
+abbrev pub passes_on : {R : Type 0} {G : Ghosts R} → Clerk R G → Request → Bool
+passes_on c request =
+    not c.is_scraped && (not c.is_spare || is_urgent request) && not (c.is_listening && is_change request)
 
 -- one request was asked at the desk, or none
 abbrev pub IsHandled : {R : Type 0} {G : Ghosts R} → (c d : Clerk R G) → Response → Type 0
