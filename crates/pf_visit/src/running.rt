@@ -64,7 +64,7 @@ fn checked(
     text: &[u8],
 ) -> Result<Option<Refused>, AllocError> {
     match call.kind {
-        Kind::Read | Kind::Sync => Ok(None),
+        Kind::Read | Kind::Test | Kind::Sync => Ok(None),
         Kind::Change if matches.get_flag("unchecked") => Ok(None),
         Kind::List | Kind::TableTest | Kind::Change => refused_args(alloc, matches, text),
     }
@@ -89,7 +89,7 @@ fn is_done(call: &Call, reply: &Reply) -> bool {
     let body = reply.body.as_slice();
     reply.code < 300
         && match call.kind {
-            Kind::Read | Kind::List => true,
+            Kind::Read | Kind::List | Kind::Test => true,
             Kind::TableTest => all_match(body),
             Kind::Sync | Kind::Change => !outcome_behind(body).starts_with(b"refused"),
         }
