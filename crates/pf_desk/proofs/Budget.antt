@@ -1,7 +1,8 @@
 -- How many rules a verdict may meet.
-use Rattle.std.proofs.Common.{◌≡◌, ℕ, zero, suc, ◌+◌, ◌-◌, ◌++◌, Bool, true, false, List, [], ◌∷◌, Option, Some, None, refl, sym, ap, ◌∙◌, arith, inl, inr, rules}
-use Rattle.std.specs.Prelude.{nat_lt, nat_le, is_none, length, map, if◌then◌else◌}
-use Rattle.std.proofs.lemmas.Bool.{cases_lt, lt-ltb, le-ltb, le-leb, lt-leb}
+use Rattle.std.proofs.Common.{◌≡◌, ℕ, zero, suc, ◌+◌, ◌-◌, ◌<◌, ◌/◌, max, ◌++◌, Bool, true, false, List, [], ◌∷◌, Option, Some, None, refl, sym, ap, ◌∙◌, arith, inl, inr, rules}
+use Rattle.std.specs.Prelude.{nat_le, length, map, if◌then◌else◌}
+use Rattle.std.proofs.Math.Nat.{div-eq_of_lt}
+use Rattle.std.proofs.lemmas.Bool.{cases_lt, le-leb, lt-leb}
 use Rattle.pf_ruleset.specs.Names.{Name, begins_below}
 use Rattle.pf_ruleset.specs.Items.{AnyRule, FilterRule, AnchorRule, Heading, Target, rule_in}
 use Rattle.pf_ruleset.specs.Seen.{rule_of, heading_of, items_of, with_block}
@@ -14,8 +15,8 @@ use Rattle.pf_config.specs.Map.{Configuration, Path, rules_at, kids, followed_by
 use Rattle.pf_config.specs.Trees.{AnchorTree, anchor_in, tree_at, last_name}
 use Rattle.pf_eval.specs.inner.TwoWalks.{IsAnchorOf}
 use Rattle.pf_eval.proofs.Anchors.{below_names, no_rules_below, no_kids_below}
-use Rattle.pf_desk.specs.Bounded.{met_by, met_in, met_at, met_member, met_members, met_called, met_target, most_met, is_costly}
-use Rattle.pf_desk.specs.inner.Left.{minus, and_then}
+use Rattle.pf_desk.specs.Bounded.{met_by, met_in, met_at, met_member, met_members, met_called, met_target, most_met}
+use Rattle.pf_desk.specs.inner.Left.{minus, and_then, within}
 
 -- ---- a budget
 
@@ -88,7 +89,7 @@ met_none n cost h = elim (nat_le cost n) as (λ q. None ≡ (if q then Some (n -
 -- how many fit where not even one does, and where what one meets is known
 pub none_fits : (n cost : ℕ) → None ≡ within n cost → 0 ≡ n / max cost 1
 none_fits n cost h = elim (cases_lt n cost) [
-  | inl less ↦ (let m : n < max cost 1 = omega (arith, less) in sym (div-small n (max cost 1) m))
+  | inl less ↦ (let m : n < max cost 1 = omega (arith, less) in sym (div-eq_of_lt m))
   | inr more ↦ (let a : nat_le cost n ≡ true = le-leb cost n more in let k : None ≡ Some cost = h ∙ ap (λ q. if q then Some cost else None) a in cc)
 ]
 

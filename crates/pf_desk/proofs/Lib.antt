@@ -1,3 +1,4 @@
 pub mod Budget
 pub mod Logged
+pub mod Met
 pub mod Places

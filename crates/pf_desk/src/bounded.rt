@@ -136,7 +136,7 @@ fn left_after(config: &Config, anchor: &Anchor, depth: u8, left: u32) -> Option<
 }
 
 /// How many rules a verdict may meet, none where they are more than verdicts may.
-#[tactic(auto, using(crate::proofs::Budget::met, crate::proofs::Budget::nothing_there))]
+#[tactic(auto, using(crate::proofs::Budget::met, crate::proofs::Budget::met_none))]
 fn met(config: &Config) -> Option<u32>
     ensures { result ≡ within MET_MAX (most_met 9 config.now []) }
 {
@@ -150,7 +150,7 @@ fn met(config: &Config) -> Option<u32>
 }
 
 /// For how many packets one request is answered: none where a verdict may meet more rules than verdicts may.
-#[tactic(auto, using(crate::proofs::Budget::none_fits))]
+#[tactic(auto, using(crate::proofs::Budget::none_fits, crate::proofs::Budget::some_fit))]
 pub(crate) fn fitting(config: &Config) -> u32
     ensures { result ≡ fitting config.now }
 {

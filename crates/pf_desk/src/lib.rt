@@ -6,6 +6,7 @@
 //!   its first `applied` positions; a change is one ask of the node, or a refusal with nothing changed.
 //! - [`request_in`]: what HTTP's method, target and body ask for, a [`Request`].
 //! - [`Answer`]: HTTP's status and the body.
+//! - [`laws`]: what a verdict meets is bounded.
 //! - `specs/Answers` says what is answered, `specs/Changing` what a change does.
 //!
 //! Nothing here knows of sockets: who calls moves the bytes, and hands in what it counted ([`Tally`]).
@@ -20,6 +21,7 @@ mod entries;
 mod figures;
 mod health;
 mod json;
+pub mod laws;
 mod listing;
 mod log;
 mod metrics;
