@@ -1,6 +1,6 @@
 -- How many rules a verdict may meet.
 use Rattle.std.proofs.Common.{◌≡◌, ℕ, zero, suc, ◌+◌, ◌-◌, ◌<◌, ◌/◌, max, ◌++◌, Bool, true, false, List, [], ◌∷◌, Option, Some, None, refl, sym, ap, ◌∙◌, arith, inl, inr, rules}
-use Rattle.std.specs.Prelude.{nat_le, length, map, if◌then◌else◌}
+use Rattle.std.specs.Prelude.{nat_le, length, map, option_and_then, if◌then◌else◌}
 use Rattle.std.proofs.Math.Nat.{div-eq_of_lt}
 use Rattle.std.proofs.lemmas.Bool.{cases_lt, le-leb, lt-leb}
 use Rattle.pf_ruleset.specs.Names.{Name, begins_below}
@@ -16,7 +16,7 @@ use Rattle.pf_config.specs.Trees.{AnchorTree, anchor_in, tree_at, last_name}
 use Rattle.pf_eval.specs.inner.TwoWalks.{IsAnchorOf}
 use Rattle.pf_eval.proofs.Anchors.{below_names, no_rules_below, no_kids_below}
 use Rattle.pf_desk.specs.Bounded.{met_by, met_in, met_at, met_member, met_members, met_called, met_target, most_met}
-use Rattle.pf_desk.specs.inner.Left.{minus, and_then, within}
+use Rattle.pf_desk.specs.inner.Left.{minus, within}
 
 -- ---- a budget
 
@@ -50,7 +50,7 @@ no_rule n within (FilterRule r) h = none_left n 0 h
 no_rule n within (AnchorRule a) h = none_left n (within a.target) h
 
 -- one cost, and then another
-pub both_less : (n a b : ℕ) → minus n (a + b) ≡ and_then (minus n a) (λ m. minus m b)
+pub both_less : (n a b : ℕ) → minus n (a + b) ≡ option_and_then (λ m. minus m b) (minus n a)
 both_less n a b = elim (cases_lt n a) [
   | inl less ↦
       (let x : nat_le a n ≡ false = lt-leb a n less in
@@ -148,10 +148,10 @@ met_below depth c t u r children h e = ap (λ q. met_called (most_met depth c) c
 
 -- one, and then another
 pub met_then : (n m a b : ℕ) → Some m ≡ minus n a → minus m b ≡ minus n (a + b)
-met_then n m a b h = ap (λ o. and_then o (λ k. minus k b)) h ∙ sym (both_less n a b)
+met_then n m a b h = ap (option_and_then (λ k. minus k b)) h ∙ sym (both_less n a b)
 
 pub met_out : (n a b : ℕ) → None ≡ minus n a → None ≡ minus n (a + b)
-met_out n a b h = ap (λ o. and_then o (λ k. minus k b)) h ∙ sym (both_less n a b)
+met_out n a b h = ap (option_and_then (λ k. minus k b)) h ∙ sym (both_less n a b)
 
 -- what the code uses
 pub ruleset some_rules = (nothing_met, nothing_less, most_at)

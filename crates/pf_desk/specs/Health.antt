@@ -11,6 +11,7 @@ use Rattle.pf_desk.specs.declared.tally.Tally.{Tally}
 use Rattle.pf_desk.specs.declared.health.TheConstants.{STUCK}
 use Rattle.pf_desk.specs.declared.health.Health.{Health}
 use Rattle.pf_desk.specs.declared.health.Health.TheVariants.{Works, Behind, Alone, Stuck, Failed}
+use Rattle.pf_scripts.specs.Lines.{line}
 use Rattle.pf_desk.specs.Answers.{AnswerValue}
 
 -- a datagram came in the last three seconds
@@ -48,14 +49,6 @@ health_word Alone = codes "alone"
 health_word Stuck = codes "stuck"
 health_word Failed = codes "failed"
 
--- the same as a line
-abbrev pub health_line : Health → List ℕ
-health_line Works = codes "ok\n"
-health_line Behind = codes "behind\n"
-health_line Alone = codes "alone\n"
-health_line Stuck = codes "stuck\n"
-health_line Failed = codes "failed\n"
-
 -- 503 of a failed one alone
 abbrev pub health_code : Health → ℕ
 health_code Works = 200
@@ -74,8 +67,8 @@ ready_code Failed = 503
 
 -- what a watcher is answered that asks whether the node lives
 abbrev pub health_answer : Health → AnswerValue
-health_answer h = record { code = health_code h; body = health_line h }
+health_answer h = record { code = health_code h; body = line (health_word h) }
 
 -- what a watcher is answered that asks whether the node keeps up
 abbrev pub ready_answer : Health → AnswerValue
-ready_answer h = record { code = ready_code h; body = health_line h }
+ready_answer h = record { code = ready_code h; body = line (health_word h) }

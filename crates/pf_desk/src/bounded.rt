@@ -14,7 +14,7 @@ use std::rc::Rc;
 
 /// How many rules, and anchors attached to another, the verdicts that one request asks a running node for may meet at
 /// most: they are one piece of work, during which the node does nothing else.
-pub const MET_MAX: u32 = 100_000;
+pub const MET_MAX: u32 = 10_000;
 
 /// How deep a path may be.
 const DEEPEST: usize = 8;

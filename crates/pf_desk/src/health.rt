@@ -2,12 +2,13 @@
 
 ghost use Rattle.std.specs.Prelude.{◌≡◌, ◌≤◌, ◌+◌, IfOk, length, take};
 ghost use Rattle.pf_desk.specs.Answers.{answer_value};
-ghost use Rattle.pf_desk.specs.Health.{is_recent, is_shown, health_by, health_word, health_line, health_code};
+ghost use Rattle.pf_desk.specs.Health.{is_recent, is_shown, health_by, health_word, health_code};
 ghost use Rattle.pf_desk.specs.Health.{ready_code, counted, health, health_answer, ready_answer};
 
 use crate::answer::Answer;
 use crate::tally::{PeerTally, Tally};
 use pf_node::Node;
+use pf_scripts::push_line;
 use px_records::Records;
 use std::alloc::{AllocError, Global};
 
@@ -39,8 +40,8 @@ fn is_recent(heard: Option<u64>) -> bool
     }
 }
 
-/// How many of the rows are of members that were heard.
-fn counted(peers: &[PeerTally]) -> usize
+/// How many of the rows are of members that were heard in the last three seconds.
+pub fn counted(peers: &[PeerTally]) -> usize
     ensures { result ≡ counted peers.now }
 {
     peers.iter().filter(|p| is_recent(p.heard)).count()
@@ -92,19 +93,6 @@ impl Health {
         }
     }
 
-    /// The same, as a line.
-    fn line(self) -> &'static str
-        ensures { result.now ≡ health_line self }
-    {
-        match self {
-            Health::Works => "ok\n",
-            Health::Behind => "behind\n",
-            Health::Alone => "alone\n",
-            Health::Stuck => "stuck\n",
-            Health::Failed => "failed\n",
-        }
-    }
-
     /// 503 of a failed one alone.
     fn health_code(self) -> u16
         ensures { result ≡ health_code self }
@@ -129,7 +117,8 @@ impl Health {
     pub(crate) fn health_answer(self, alloc: Global) -> Result<Answer, AllocError>
         ensures { IfOk result (λ a. answer_value a ≡ health_answer self) }
     {
-        let body = String::from_str(alloc, self.line())?;
+        let mut body = String::new(alloc);
+        push_line(&mut body, self.word())?;
         Ok(Answer {
             code: self.health_code(),
             body,
@@ -140,7 +129,8 @@ impl Health {
     pub(crate) fn ready_answer(self, alloc: Global) -> Result<Answer, AllocError>
         ensures { IfOk result (λ a. answer_value a ≡ ready_answer self) }
     {
-        let body = String::from_str(alloc, self.line())?;
+        let mut body = String::new(alloc);
+        push_line(&mut body, self.word())?;
         Ok(Answer {
             code: self.ready_code(),
             body,

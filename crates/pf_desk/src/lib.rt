@@ -40,7 +40,7 @@ pub use changing::Changed;
 pub use desk::Desk;
 pub use entries::{ENTRIES_BYTES, ENTRIES_MAX};
 pub use figures::Figures;
-pub use health::{Health, STUCK};
+pub use health::{Health, STUCK, counted};
 pub use pf_node::Node;
 pub use request::{Listing, Read, Request, Routed};
 pub use routing::request_in;

@@ -8,7 +8,7 @@
 //! - [`run_open`]: a node runs, and its desk answers between two rounds. [`laws`] says that this is a life of the
 //!   model.
 //!
-//! Whoever may open the socket's file may ask: the folder that it lies in is the lock.
+//! Whoever may open the socket's file may ask: its mode, 0660, and the folder that it lies in say who.
 #![tactic(auto)]
 
 mod clerk;

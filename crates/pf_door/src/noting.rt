@@ -2,7 +2,7 @@
 
 use crate::clerk::Clerk;
 use httpdate::HttpDate;
-use pf_desk::Health;
+use pf_desk::{Health, counted};
 use px_records::Records;
 use std::io::Eprint;
 use std::time::{Clock, SystemTime};
@@ -22,16 +22,6 @@ fn shown<R: Records>(clerk: &Clerk<R>) -> u32 {
         most = most.max(peer.shown);
     }
     most
-}
-
-/// How many of the other members were heard in the last three seconds.
-fn heard<R: Records>(clerk: &Clerk<R>) -> usize {
-    clerk
-        .tally
-        .peers
-        .iter()
-        .filter(|p| matches!(p.heard, Some(0 | 1 | 2)))
-        .count()
 }
 
 /// Says on standard error that the node's health was one and is another, and what is known of why.
@@ -55,17 +45,17 @@ pub(crate) fn say<R: Records, RT: Clock + Eprint>(
     }
     let _said = eprintln!(rt;
         "node {} was {} and is {}: front {} has stood for {} seconds, {} commands wait here, {} of {} other \
-         members are heard, {} positions behind, refused by a higher round {} times, {} bytes in a datagram that isn't \
-         answered",
+         members are heard, {} positions behind, refused by a higher round {} times, the longest datagram sent since \
+         is {} bytes",
         node.membership().me(),
         was.word(),
         is.word(),
         node.front(),
         tally.stood,
         node.waiting(),
-        heard(clerk),
+        counted(&tally.peers),
         tally.peers.len(),
-        shown(clerk).saturating_sub(applied),
+        shown(clerk).max(node.front()).saturating_sub(applied),
         tally.outrun,
         tally.large
     );

@@ -5,10 +5,6 @@ use Rattle.std.specs.Prelude.{ℕ, ◌-◌, Option, Some, None, nat_le, if◌the
 abbrev pub minus : ℕ → ℕ → Option ℕ
 minus left cost = if nat_le cost left then Some (left - cost) else None
 
-abbrev pub and_then : Option ℕ → (ℕ → Option ℕ) → Option ℕ
-and_then None f = None
-and_then (Some n) f = f n
-
 -- a cost, if it is within a budget
 abbrev pub within : (budget cost : ℕ) → Option ℕ
 within budget cost = if nat_le cost budget then Some cost else None
