@@ -12,8 +12,13 @@ use Rattle.pf_addr.specs.Blocks.{family_of}
 use Rattle.pf_addr.specs.Order.{bits_of}
 use Rattle.pf_eval.specs.PacketTexts.{same_family}
 use Rattle.pf_eval.specs.Matching.{of_family, if_there}
-use Rattle.pf_nft.specs.Subset.{Source, Destination, Decision}
-use Rattle.pf_nft.specs.Guard.{Member, HookPacket, is_home, is_end, has_family, is_members, is_neighbour, is_too_big, says_too_big, says_neighbour, GuardMatch, AtMember, AtHome, OfUdp, IsLater, IsTooBig, IsNeighbour, guard_holds, family_rules, link_rules, guard_of, is_passed, let_through, GuardPasses}
+use Rattle.pf_config.specs.Map.{Configuration, or_else}
+use Rattle.pf_ruleset.specs.declared.parts.Direction.{Direction}
+use Rattle.pf_nft.specs.Subset.{Source, Destination, Decision, Base, NftRuleset}
+use Rattle.pf_nft.specs.Evaluation.{run}
+use Rattle.pf_nft.specs.Rendering.{Machine}
+use Rattle.pf_nft.specs.Deciding.{DecidesAs, DecidesBehindGuard}
+use Rattle.pf_nft.specs.Guard.{Member, HookPacket, is_home, is_end, has_family, is_members, is_neighbour, says_too_big, says_neighbour, GuardMatch, AtMember, AtHome, OfUdp, IsLater, IsTooBig, IsNeighbour, guard_holds, family_rules, link_rules, guard_of, is_passed, let_through, at_hook, hook_of, GuardPasses}
 
 -- ---- tests
 
@@ -205,3 +210,26 @@ passes_members ms h =
 
 pub guard_passes : (ms : List Member) (behind : HookPacket → Option Decision) → GuardPasses ms behind
 guard_passes ms behind = λ h. ap (λ v. if v then Some let_through else behind h) (passes_members ms h)
+
+-- ---- at a hook
+
+or_none : {T : Type 0} (d : Option T) → or_else d None ≡ d
+or_none None = refl
+or_none (Some x) = refl
+
+at_both : (ms : List Member) (r : NftRuleset) (h : HookPacket) →
+    at_hook (hook_of ms) r h ≡ (if is_passed (guard_of ms) h then Some let_through else run 10 r h.packet Base)
+at_both [] r h = or_none (run 10 r h.packet Base)
+at_both (m ∷ ms) r h = ap (λ v. if is_passed (guard_of (m ∷ ms)) h then Some let_through else v) (or_none (run 10 r h.packet Base))
+
+at_each : (ms : List Member) (r : NftRuleset) (h : HookPacket) (b : Bool) → is_members ms h ≡ b →
+    at_hook (hook_of ms) r h ≡ (if b then Some let_through else run 10 r h.packet Base)
+at_each ms r h b e = at_both ms r h ∙ ap (λ v. if v then Some let_through else run 10 r h.packet Base) (passes_members ms h ∙ e)
+
+pub decides_behind : (c : Configuration) (m : Machine) (d : Direction) (ms : List Member) (r : NftRuleset) →
+    DecidesAs c m d r → DecidesBehindGuard c m d ms r
+decides_behind c m d ms r decides = record {
+  members = λ h e. at_each ms r h true e;
+  others = λ h e. at_each ms r h false e;
+  judged = λ h e way on. at_each ms r h false e ∙ decides h.packet way on;
+}

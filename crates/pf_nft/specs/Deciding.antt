@@ -1,5 +1,5 @@
 -- What the rendered ruleset is promised to decide.
-use Rattle.std.specs.Prelude.{◌≡◌, ◌==◌, ◌&&◌, Bool, true, false, Some, nat_le, not}
+use Rattle.std.specs.Prelude.{◌≡◌, ◌==◌, ◌&&◌, Bool, true, false, List, Some, nat_le, not}
 use Rattle.std.specs.List.{list_any}
 use Rattle.pf_addr.specs.Blocks.{FitsAddr}
 use Rattle.pf_ruleset.specs.Items.{AnyRule, FilterRule, AnchorRule}
@@ -13,6 +13,7 @@ use Rattle.pf_ruleset.specs.declared.parts.Direction.{Direction}
 use Rattle.pf_nft.specs.Subset.{Base, NftRuleset}
 use Rattle.pf_nft.specs.Evaluation.{run}
 use Rattle.pf_nft.specs.Rendering.{Machine, groups_in, decision_of}
+use Rattle.pf_nft.specs.Guard.{Member, HookPacket, is_members, let_through, at_hook, hook_of}
 
 -- a packet on an interface of the machine, which has that interface's groups, and whose parts go together: both ends
 -- are of one family; ports are there for TCP and UDP and for no other, and are numbers of 16 bits; a type is there for
@@ -43,3 +44,13 @@ some_leads_back c = list_any (λ p. list_any leads_back (rules_at c p)) (paths_i
 abbrev pub DecidesAs : Configuration → Machine → Direction → NftRuleset → Type 0
 DecidesAs c m d r = (k : PacketValue) → k.direction ≡ d → IsPacketOn m k →
     run 10 r k Base ≡ Some (decision_of (judgement c k))
+
+-- At a hook with the guard of these members in front of the ruleset: their packets are accepted; of each other packet
+-- it is decided as by the ruleset alone; and if it is one of the direction on the machine, this is the configuration's
+-- verdict, with the deciding rule.
+pub record DecidesBehindGuard (c : Configuration) (m : Machine) (d : Direction) (ms : List Member) (r : NftRuleset) :
+    Type 0 where
+  pub members : (h : HookPacket) → is_members ms h ≡ true → at_hook (hook_of ms) r h ≡ Some let_through
+  pub others : (h : HookPacket) → is_members ms h ≡ false → at_hook (hook_of ms) r h ≡ run 10 r h.packet Base
+  pub judged : (h : HookPacket) → is_members ms h ≡ false → h.packet.direction ≡ d → IsPacketOn m h.packet →
+      at_hook (hook_of ms) r h ≡ Some (decision_of (judgement c h.packet))

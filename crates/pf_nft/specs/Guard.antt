@@ -1,6 +1,6 @@
 -- The members' guard: rules that stand at the hooks before all others, so that whatever is loaded the members of the
 -- cluster hear each other (nft(8)).
-use Rattle.std.specs.Prelude.{◌≡◌, ℕ, ◌==◌, ◌&&◌, ◌||◌, Bool, List, [], ◌∷◌, ◌++◌, Option, Some, if◌then◌else◌}
+use Rattle.std.specs.Prelude.{◌≡◌, ℕ, ◌==◌, ◌&&◌, ◌||◌, Bool, List, [], ◌∷◌, ◌++◌, Option, Some, None, if◌then◌else◌}
 use Rattle.std.specs.List.{list_any, list_all}
 use Rattle.pf_addr.specs.declared.addr.Addr.{Addr}
 use Rattle.pf_addr.specs.declared.addr.Family.{Family}
@@ -10,7 +10,8 @@ use Rattle.pf_addr.specs.Order.{bits_of}
 use Rattle.pf_eval.specs.Packets.{PacketValue}
 use Rattle.pf_eval.specs.PacketTexts.{same_family}
 use Rattle.pf_eval.specs.Matching.{of_family, if_there}
-use Rattle.pf_nft.specs.Subset.{Side, Source, Destination, Accept, OfMembers, Decision, Base, NftRuleset}
+use Rattle.pf_config.specs.Map.{or_else}
+use Rattle.pf_nft.specs.Subset.{Side, Source, Destination, Accept, OfMembers, Decision, ChainName, Base, NftRuleset}
 use Rattle.pf_nft.specs.Evaluation.{address_at, port_at, run}
 -- the address at which a member listens, and its UDP port
 pub use Rattle.pf_nft.specs.declared.guard.Member.{Member}
@@ -141,16 +142,31 @@ is_passed guard h = list_any (list_all (guard_holds h)) guard
 abbrev pub let_through : Decision
 let_through = record { outcome = Accept; note = OfMembers }
 
--- what a hook decides whose chain has the guard, and then what decides so
-abbrev pub at_hook : List GuardRule → (HookPacket → Option Decision) → HookPacket → Option Decision
-at_hook guard behind h = if is_passed guard h then Some let_through else behind h
+-- a jump to a chain of such rules, and then what decides behind it
+abbrev pub behind_guard : List GuardRule → (HookPacket → Option Decision) → HookPacket → Option Decision
+behind_guard guard behind h = if is_passed guard h then Some let_through else behind h
+
+-- where the chain at a hook jumps to
+pub data HookJump : Type 0 where
+  -- to a chain of the guard's rules
+  ToGuard : (guard : List GuardRule) → HookJump
+  -- to a chain of the ruleset
+  ToChain : (chain : ChainName) → HookJump
+
+-- what the chain at a hook decides whose rules are these jumps to the guard and into a ruleset: the first that decides
+-- does
+abbrev pub at_hook : List HookJump → NftRuleset → HookPacket → Option Decision
+at_hook [] r h = None
+at_hook (ToGuard guard ∷ jumps) r h = behind_guard guard (at_hook jumps r) h
+at_hook (ToChain chain ∷ jumps) r h = or_else (run 10 r h.packet chain) (at_hook jumps r h)
+
+-- the chain at a hook: the guard of the members, if there are any, and then the ruleset's first chain
+abbrev pub hook_of : List Member → List HookJump
+hook_of [] = ToChain Base ∷ []
+hook_of (m ∷ ms) = ToGuard (guard_of (m ∷ ms)) ∷ ToChain Base ∷ []
 
 -- Whatever stands behind the guard of these members: their packets are accepted, and of every other packet it is
 -- decided as without the guard.
 abbrev pub GuardPasses : List Member → (HookPacket → Option Decision) → Type 0
 GuardPasses ms behind = (h : HookPacket) →
-    at_hook (guard_of ms) behind h ≡ (if is_members ms h then Some let_through else behind h)
-
--- the same of a ruleset behind the guard, whoever the members are
-abbrev pub GuardsMembers : NftRuleset → Type 0
-GuardsMembers r = (ms : List Member) → GuardPasses ms (λ h. run 10 r h.packet Base)
+    behind_guard (guard_of ms) behind h ≡ (if is_members ms h then Some let_through else behind h)

@@ -1,12 +1,12 @@
 //! A whole ruleset, or why there is none.
 
-ghost use Rattle.std.specs.Prelude.{◌≡◌, ◌++◌, IfOk, OnOk, map, Some};
+ghost use Rattle.std.specs.Prelude.{◌≡◌, ◌++◌, IfOk, List, OnOk, map, Some};
 ghost use Rattle.std.specs.List.{list_any};
 ghost use Rattle.pf_ruleset.specs.Seen.{rule_of};
 ghost use Rattle.pf_config.specs.Map.{rules_at, paths_in};
 ghost use Rattle.pf_nft.specs.Rendering.{rendered, chains_of, sets_of, forward_chain, backward_chain};
-ghost use Rattle.pf_nft.specs.Deciding.{DecidesAs, leads_back, some_leads_back};
-ghost use Rattle.pf_nft.specs.Guard.{GuardsMembers};
+ghost use Rattle.pf_nft.specs.Deciding.{DecidesAs, DecidesBehindGuard, leads_back, some_leads_back};
+ghost use Rattle.pf_nft.specs.Guard.{Member};
 ghost use Rattle.pf_nft.specs.Refusing.{Renders, render, is_costly, fault_code};
 ghost use Rattle.pf_nft.specs.declared.rendering.RenderFault.TheVariants.{Memory};
 ghost use Rattle.pf_nft.specs.Seen.{chain_of, named_set_of, ruleset_of, machine_of};
@@ -162,9 +162,9 @@ fn is_costly(whole: &NftRuleset<'_>) -> bool
 }
 
 /// The ruleset of nftables for packets of a direction, on a machine with these interfaces. What it decides of a packet
-/// on one of them is the configuration's verdict, with the deciding rule; behind the members' guard it decides so of
-/// all packets but the members'. Refused is a rule that leads back to its own anchor, and anchors that multiply beyond
-/// `ASKED_MAX` rules a packet; nothing is rendered then.
+/// on one of them is the configuration's verdict, with the deciding rule; at a hook with the guard of any members in
+/// front of it theirs are accepted, and of every other packet it decides so. Refused is a rule that leads back to its
+/// own anchor, and anchors that multiply beyond `ASKED_MAX` rules a packet; nothing is rendered then.
 #[tactic(auto, unfolding(crate::specs::Refusing::render))]
 pub fn render<'c>(
     alloc: Global,
@@ -174,7 +174,8 @@ pub fn render<'c>(
 ) -> Result<NftRuleset<'c>, RenderFault>
     ensures whole { Renders ruleset_of result (render config.now (machine_of machine.now) direction) }
     ensures judged { IfOk result (λ r. DecidesAs config.now (machine_of machine.now) direction (ruleset_of r)) }
-    ensures guarded { IfOk result (λ r. GuardsMembers (ruleset_of r)) }
+    ensures guarded { IfOk result (λ r. (ms : List Member) →
+        DecidesBehindGuard config.now (machine_of machine.now) direction ms (ruleset_of r)) }
 {
     let paths = config.paths()?;
     if some_leads_back(config, &paths) {

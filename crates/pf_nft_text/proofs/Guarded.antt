@@ -4,12 +4,19 @@ use Rattle.std.specs.Prelude.{codes, if◌then◌else◌}
 use Rattle.std.specs.List.{flat_map}
 use Rattle.std.proofs.lemmas.Grind.{flat_map-append}
 use Rattle.std.proofs.lemmas.List.{append_assoc, append-nil}
+use Rattle.pf_addr.specs.declared.addr.Addr.{Addr}
+use Rattle.pf_addr.specs.declared.addr.Addr.TheVariants.{V4, V6}
+use Rattle.pf_addr.specs.Blocks.{family_of}
+use Rattle.pf_eval.specs.Matching.{of_family}
+use Rattle.pf_nft.specs.Subset.{family_eq}
 use Rattle.pf_addr.specs.declared.addr.Family.TheVariants.{Inet, Inet6}
 use Rattle.pf_nft.specs.declared.guard.Member.{Member}
 use Rattle.pf_addr.specs.declared.addr.Family.{Family}
 use Rattle.pf_nft.specs.declared.subset.Side.TheVariants.{Source, Destination}
-use Rattle.pf_nft.specs.Guard.{has_family, AtMember, AtHome, OfUdp, IsLater, IsTooBig, GuardMatch, GuardRule, family_rules, link_rules}
-use Rattle.pf_nft_text.specs.Texts.{generation, later_text, too_big_text, guard_match_text, guard_rule_text, members_text, members_jump, members_gone}
+use Rattle.pf_ruleset.specs.declared.parts.Direction.{Direction}
+use Rattle.pf_nft.specs.Subset.{NftRuleset, Base}
+use Rattle.pf_nft.specs.Guard.{ToChain, hook_of, has_family, AtMember, AtHome, OfUdp, IsLater, IsTooBig, GuardMatch, GuardRule, family_rules, link_rules}
+use Rattle.pf_nft_text.specs.Texts.{generation, later_text, too_big_text, guard_match_text, guard_rule_text, members_text, jump_text, members_gone}
 
 -- the rules of a family, if some member is of it
 abbrev some_rules : Family → List Member → Bool → List GuardRule
@@ -17,6 +24,13 @@ some_rules f ms b =
     if b then (AtMember Source f ms ∷ AtMember Destination f ms ∷ [])
     ∷ (IsLater f ∷ OfUdp ∷ AtHome Source f ms ∷ AtHome Destination f ms ∷ [])
     ∷ (IsTooBig f ∷ AtHome Destination f ms ∷ []) ∷ [] else []
+
+-- an address is of its family and of no other
+pub of_its_family : (a : Addr) (f : Family) → family_eq (family_of a) f ≡ of_family a f
+of_its_family (V4 bits) Inet = refl
+of_its_family (V4 bits) Inet6 = refl
+of_its_family (V6 bits) Inet = refl
+of_its_family (V6 bits) Inet6 = refl
 
 pub two_parts : (a b : GuardMatch) → guard_match_text a ++ (guard_match_text b ++ codes "counter accept comment \"members\"; ") ≡ guard_rule_text (a ∷ b ∷ [])
 unfolding guard_rule_text
@@ -57,10 +71,19 @@ members_some position [] h = absurd (h refl)
 members_some position (m ∷ ms) h = ap (λ v. codes "chain " ++ (generation position ++ (codes "members { " ++ v)))
     (three guard_rule_text (family_rules Inet (m ∷ ms)) (family_rules Inet6 (m ∷ ms)) (link_rules (m ∷ ms)) (codes "}; "))
 
-pub jump_some : (position : ℕ) (ms : List Member) → (ms ≡ [] → ⊥) → codes "jump " ++ (generation position ++ codes "members; ") ≡ members_jump position ms
-unfolding members_jump
-jump_some position [] h = absurd (h refl)
-jump_some position (m ∷ ms) h = refl
+-- the jumps of a hook where there are no members, and where there are
+
+pub jumps_none : (position : ℕ) (d : Direction) (r : NftRuleset) (ms : List Member) → ms ≡ [] →
+    jump_text position d r (ToChain Base) ≡ flat_map (jump_text position d r) (hook_of ms)
+jumps_none position d r [] h = sym (append-nil (jump_text position d r (ToChain Base)))
+jumps_none position d r (m ∷ ms) h = absurd cc
+
+pub jumps_some : (position : ℕ) (d : Direction) (r : NftRuleset) (ms : List Member) → (ms ≡ [] → ⊥) →
+    codes "jump " ++ (generation position ++ (codes "members; " ++ jump_text position d r (ToChain Base)))
+    ≡ flat_map (jump_text position d r) (hook_of ms)
+unfolding jump_text
+jumps_some position d r [] h = absurd (h refl)
+jumps_some position d r (m ∷ ms) h = simp (append_assoc, append-nil)
 
 pub gone_some : (position : ℕ) (ms : List Member) → (ms ≡ [] → ⊥) → codes "delete chain inet reltzuma " ++ (generation position ++ codes "members; ") ≡ members_gone position ms
 unfolding members_gone

@@ -25,7 +25,7 @@ use Rattle.pf_nft.specs.Subset.{ChainName, Base, At, Note, Unknown, Skip, Defaul
 use Rattle.pf_nft.specs.Subset.{Statement, Ends, Jump, NftRule, Chain, NftRuleset}
 use Rattle.pf_nft.specs.declared.guard.Member.{Member}
 use Rattle.pf_nft.specs.Guard.{GuardMatch, AtMember, AtHome, OfUdp, IsLater, IsTooBig, IsNeighbour}
-use Rattle.pf_nft.specs.Guard.{GuardRule, guard_of}
+use Rattle.pf_nft.specs.Guard.{GuardRule, guard_of, HookJump, ToGuard, ToChain, hook_of}
 
 -- ---- names
 
@@ -230,14 +230,14 @@ set_text position r s =
 
 -- ---- the members' guard
 
--- address . port, and a comma: of a member of the family
-abbrev pub member_text : Family → Member → List ℕ
-member_text f m =
-    if of_family m.address f then shown_addr m.address ++ (codes " . " ++ (decimal m.port ++ codes ", ")) else []
+-- what stands behind an address: its port, where ports are asked too, and a comma
+abbrev pub end_text : (ports : Bool) → ℕ → List ℕ
+end_text true port = codes " . " ++ (decimal port ++ codes ", ")
+end_text false port = codes ", "
 
--- address, and a comma: of a member of the family
-abbrev pub home_text : Family → Member → List ℕ
-home_text f m = if of_family m.address f then shown_addr m.address ++ codes ", " else []
+-- the address of a member of the family, and its end
+abbrev pub member_text : (ports : Bool) → Family → Member → List ℕ
+member_text ports f m = if of_family m.address f then shown_addr m.address ++ end_text ports m.port else []
 
 -- the word for the port of an end, of UDP
 abbrev pub udp_text : Side → List ℕ
@@ -257,10 +257,10 @@ too_big_text Inet6 = codes "icmpv6 type packet-too-big "
 -- how a match of the guard is written (nft(8), PAYLOAD EXPRESSIONS, EXTENSION HEADER EXPRESSIONS)
 unfoldable pub guard_match_text : GuardMatch → List ℕ
 guard_match_text (AtMember side f ms) =
-    family_text f ++ (address_text side ++ (udp_text side ++ (codes "{ " ++ (flat_map (member_text f) ms
+    family_text f ++ (address_text side ++ (udp_text side ++ (codes "{ " ++ (flat_map (member_text true f) ms
     ++ codes "} "))))
 guard_match_text (AtHome side f ms) =
-    family_text f ++ (address_text side ++ (codes "{ " ++ (flat_map (home_text f) ms ++ codes "} ")))
+    family_text f ++ (address_text side ++ (codes "{ " ++ (flat_map (member_text false f) ms ++ codes "} ")))
 guard_match_text OfUdp = codes "meta l4proto 17 "
 guard_match_text (IsLater f) = later_text f
 guard_match_text (IsTooBig f) = too_big_text f
@@ -276,11 +276,6 @@ members_text position [] = []
 members_text position (m ∷ ms) =
     codes "chain " ++ (generation position ++ (codes "members { " ++ (flat_map guard_rule_text (guard_of (m ∷ ms))
     ++ codes "}; ")))
-
--- a jump to it, if it is there
-unfoldable pub members_jump : ℕ → List Member → List ℕ
-members_jump position [] = []
-members_jump position (m ∷ ms) = codes "jump " ++ (generation position ++ codes "members; ")
 
 -- its end, if it is there
 unfoldable pub members_gone : ℕ → List Member → List ℕ
@@ -325,18 +320,24 @@ refuse_text position =
     codes "chain " ++ (generation position ++ (codes "refuse { meta l4proto 6 counter reject with tcp reset; "
     ++ codes "counter reject with icmpx port-unreachable; }; "))
 
--- a hook goes to the members' guard, if there is one, and then to the ruleset's first chain, and tells the position
-abbrev pub hook_text : List ℕ → ℕ → List Member → List ℕ → List ℕ
-hook_text name position ms label =
-    codes "chain " ++ (name ++ (codes " { " ++ (members_jump position ms ++ (codes "jump " ++ (label
-    ++ (codes " comment \"applied " ++ (decimal position ++ codes "\"; }; ")))))))
+-- a jump of a hook: to the chain of the members' guard, or to a chain of the ruleset, which tells the position
+unfoldable pub jump_text : ℕ → Direction → NftRuleset → HookJump → List ℕ
+jump_text position d r (ToGuard guard) = codes "jump " ++ (generation position ++ codes "members; ")
+jump_text position d r (ToChain chain) =
+    codes "jump " ++ (chain_label position d r chain ++ (codes " comment \"applied " ++ (decimal position
+    ++ codes "\"; ")))
 
--- the three hooks
+-- a hook's chain with its jumps, in order
+abbrev pub hook_text : List ℕ → ℕ → Direction → NftRuleset → List HookJump → List ℕ
+hook_text name position d r jumps =
+    codes "chain " ++ (name ++ (codes " { " ++ (flat_map (jump_text position d r) jumps ++ codes "}; ")))
+
+-- the three hooks: the members' guard, if there are members, and then the ruleset's first chain
 abbrev pub hooks_filled : ℕ → List Member → NftRuleset → NftRuleset → List ℕ
 hooks_filled position ms inward outward =
-    hook_text (codes "in") position ms (chain_label position In inward Base)
-    ++ (hook_text (codes "out_l") position ms (chain_label position Out outward Base)
-    ++ hook_text (codes "out_f") position ms (chain_label position Out outward Base))
+    hook_text (codes "in") position In inward (hook_of ms)
+    ++ (hook_text (codes "out_l") position Out outward (hook_of ms)
+    ++ hook_text (codes "out_f") position Out outward (hook_of ms))
 
 -- all rules go, and those of this position come
 unfoldable pub rules_line : ℕ → Bool → List Member → NftRuleset → NftRuleset → List ℕ

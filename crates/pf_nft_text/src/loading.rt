@@ -1,16 +1,18 @@
 //! The three transactions.
 
 ghost use Rattle.std.specs.Prelude.{◌≡◌, ◌++◌, Some, IfOk, codes, string_bytes};
+ghost use Rattle.std.specs.List.{flat_map};
 ghost use Rattle.pf_nft.specs.Subset.{Base};
+ghost use Rattle.pf_nft.specs.Guard.{ToChain, hook_of};
 ghost use Rattle.pf_nft.specs.Refusing.{Renders};
 ghost use Rattle.pf_nft.specs.Seen.{machine_of, ruleset_of};
-ghost use Rattle.pf_nft_text.specs.Texts.{fragments_text, headers_text, guard_text, refuse_text, hook_text};
-ghost use Rattle.pf_nft_text.specs.Texts.{chain_label, sets_line, rules_line, fixed_gone, gone_line, lines};
+ghost use Rattle.pf_nft_text.specs.Texts.{fragments_text, headers_text, guard_text, refuse_text, jump_text, hook_text};
+ghost use Rattle.pf_nft_text.specs.Texts.{sets_line, rules_line, fixed_gone, gone_line, lines};
 ghost use Rattle.pf_nft_text.specs.Loading.{rendered_lines};
 
 use crate::chain_lines::{ChainTexts, ChainsGone};
 use crate::labels::{ChainLabel, Generation, Whole};
-use crate::members::{MembersGone, MembersJump, MembersText};
+use crate::members::{MembersGone, MembersText};
 use crate::set_lines::{SetTexts, SetsGone};
 use crate::states::some_keep_state;
 use pf_config::Config;
@@ -95,7 +97,47 @@ impl fmt::Display for RefuseText {
     }
 }
 
-/// A hook's chain, which goes to the members' guard, if there is one, and then to the ruleset's first chain.
+/// The jump to the ruleset's first chain, which tells the position.
+#[derive(Clone, Copy)]
+struct RulesetJump<'r, 'c>(Whole<'r, 'c>);
+
+impl fmt::Display for RulesetJump<'_, '_> {
+    ghost output = { λ x. Some (jump_text x.0.position x.0.direction (ruleset_of x.0.parts.now) (ToChain Base)) };
+
+    #[tactic(auto, unfolding(crate::specs::Texts::jump_text))]
+    fn fmt<W: fmt::Write>(&self, f: &mut fmt::Formatter<W>) -> fmt::Result {
+        let label = ChainLabel {
+            whole: self.0,
+            name: ChainName::Base,
+        };
+        let position = self.0.position;
+        write!(f, "jump {label} comment \"applied {position}\"; ")
+    }
+}
+
+/// The jumps of a hook: to the members' guard, if there are members, and then to the ruleset's first chain.
+#[derive(Clone, Copy)]
+struct HookJumps<'r, 'c> {
+    members: &'r [Member],
+    whole: Whole<'r, 'c>,
+}
+
+impl fmt::Display for HookJumps<'_, '_> {
+    ghost output = { λ x. Some (flat_map (jump_text x.whole.position x.whole.direction (ruleset_of x.whole.parts.now))
+        (hook_of x.members.now)) };
+
+    #[tactic(auto, using(crate::proofs::Guarded::jumps_none, crate::proofs::Guarded::jumps_some))]
+    fn fmt<W: fmt::Write>(&self, f: &mut fmt::Formatter<W>) -> fmt::Result {
+        let rules = RulesetJump(self.whole);
+        if self.members.is_empty() {
+            return rules.fmt(f);
+        }
+        let generation = Generation(self.whole.position);
+        write!(f, "jump {generation}members; {rules}")
+    }
+}
+
+/// A hook's chain.
 #[derive(Clone, Copy)]
 struct HookText<'a, 'r, 'c> {
     name: &'a str,
@@ -104,24 +146,16 @@ struct HookText<'a, 'r, 'c> {
 }
 
 impl fmt::Display for HookText<'_, '_, '_> {
-    ghost output = { λ x. Some (hook_text x.name.now x.whole.position x.members.now
-        (chain_label x.whole.position x.whole.direction (ruleset_of x.whole.parts.now) Base)) };
+    ghost output = { λ x. Some (hook_text x.name.now x.whole.position x.whole.direction (ruleset_of x.whole.parts.now)
+        (hook_of x.members.now)) };
 
     fn fmt<W: fmt::Write>(&self, f: &mut fmt::Formatter<W>) -> fmt::Result {
-        let label = ChainLabel {
-            whole: self.whole,
-            name: ChainName::Base,
-        };
         let name = self.name;
-        let position = self.whole.position;
-        let guard = MembersJump {
-            position,
+        let jumps = HookJumps {
             members: self.members,
+            whole: self.whole,
         };
-        write!(
-            f,
-            "chain {name} {{ {guard}jump {label} comment \"applied {position}\"; }}; "
-        )
+        write!(f, "chain {name} {{ {jumps}}}; ")
     }
 }
 
@@ -144,12 +178,12 @@ struct HooksFilled<'r, 'c> {
 }
 
 impl fmt::Display for HooksFilled<'_, '_> {
-    ghost output = { λ x. Some (hook_text (codes "in") x.inward.position x.members.now
-        (chain_label x.inward.position x.inward.direction (ruleset_of x.inward.parts.now) Base)
-        ++ (hook_text (codes "out_l") x.outward.position x.members.now
-        (chain_label x.outward.position x.outward.direction (ruleset_of x.outward.parts.now) Base)
-        ++ hook_text (codes "out_f") x.outward.position x.members.now
-        (chain_label x.outward.position x.outward.direction (ruleset_of x.outward.parts.now) Base))) };
+    ghost output = { λ x. Some (hook_text (codes "in") x.inward.position x.inward.direction
+        (ruleset_of x.inward.parts.now) (hook_of x.members.now)
+        ++ (hook_text (codes "out_l") x.outward.position x.outward.direction (ruleset_of x.outward.parts.now)
+        (hook_of x.members.now)
+        ++ hook_text (codes "out_f") x.outward.position x.outward.direction (ruleset_of x.outward.parts.now)
+        (hook_of x.members.now))) };
 
     fn fmt<W: fmt::Write>(&self, f: &mut fmt::Formatter<W>) -> fmt::Result {
         let inward = HookText {
@@ -266,9 +300,10 @@ impl fmt::Display for GoneLine<'_, '_> {
 
 /// The rulesets of a position, one a direction, as three lines for nft(8), a transaction each: the sets, to which
 /// nothing refers yet; all rules in place of those before; and, for later, the end of this position's sets and chains,
-/// once another position's rules have come. A position's names are its own: no two contents are loaded under one
-/// position. Where a rule keeps state, what belongs to a connection passes. Before all else at the hooks stands the
-/// guard of these members, if there are any. A growth that is refused is the error.
+/// once another position's rules have come. A position's names are its own: no two rulesets are loaded under one
+/// position; behind another members' guard its sets are the same. Where a rule keeps state, what belongs to a
+/// connection passes. Before all else at the hooks stands the guard of these members, if there are any. A growth that
+/// is refused is the error.
 #[tactic(auto, unfolding(crate::specs::Texts::lines))]
 pub fn lines<'r, 'c>(
     alloc: Global,

@@ -5,8 +5,8 @@ ghost use Rattle.std.specs.List.{flat_map};
 ghost use Rattle.pf_eval.specs.Matching.{of_family};
 ghost use Rattle.pf_nft.specs.declared.subset.Side.TheVariants.{Source, Destination};
 ghost use Rattle.pf_nft.specs.Guard.{has_family, AtMember, AtHome, OfUdp, IsLater, IsTooBig, family_rules, link_rules};
-ghost use Rattle.pf_nft_text.specs.Texts.{member_text, home_text, udp_text, later_text, too_big_text};
-ghost use Rattle.pf_nft_text.specs.Texts.{guard_match_text, guard_rule_text, members_text, members_jump, members_gone};
+ghost use Rattle.pf_nft_text.specs.Texts.{member_text, udp_text, later_text, too_big_text};
+ghost use Rattle.pf_nft_text.specs.Texts.{guard_match_text, guard_rule_text, members_text, members_gone};
 
 use crate::labels::Generation;
 use crate::matching::{address_text, family_text};
@@ -15,13 +15,11 @@ use pf_nft::{Member, Side};
 use std::fmt::{self, Display};
 
 /// Whether the address is of the family.
+#[tactic(auto, using(crate::proofs::Guarded::of_its_family))]
 fn of_family(address: Addr, family: Family) -> bool
     ensures { result ≡ of_family address family }
 {
-    match (address, family) {
-        (Addr::V4(_), Family::Inet) | (Addr::V6(_), Family::Inet6) => true,
-        (Addr::V4(_), Family::Inet6) | (Addr::V6(_), Family::Inet) => false,
-    }
+    address.family() == family
 }
 
 /// Whether some member has an address of the family.
@@ -36,80 +34,45 @@ fn has_family(family: Family, members: &[Member]) -> bool
     false
 }
 
-/// Where a member listens, if its address is of the family.
+/// Where a member listens, if its address is of the family: the address, and its port where ports are asked too.
 #[derive(Clone, Copy)]
 struct MemberText {
+    has_port: bool,
     family: Family,
     member: Member,
 }
 
 impl fmt::Display for MemberText {
-    ghost output = { λ x. Some (member_text x.family x.member) };
+    ghost output = { λ x. Some (member_text x.has_port x.family x.member) };
 
     fn fmt<W: fmt::Write>(&self, f: &mut fmt::Formatter<W>) -> fmt::Result {
-        if of_family(self.member.address, self.family) {
-            let address = self.member.address;
-            let port = self.member.port;
+        if !of_family(self.member.address, self.family) {
+            return Ok(());
+        }
+        let address = self.member.address;
+        let port = self.member.port;
+        if self.has_port {
             return write!(f, "{address} . {port}, ");
         }
-        Ok(())
+        write!(f, "{address}, ")
     }
 }
 
-/// A member's address, if it is of the family.
-#[derive(Clone, Copy)]
-struct HomeText {
-    family: Family,
-    member: Member,
-}
-
-impl fmt::Display for HomeText {
-    ghost output = { λ x. Some (home_text x.family x.member) };
-
-    fn fmt<W: fmt::Write>(&self, f: &mut fmt::Formatter<W>) -> fmt::Result {
-        if of_family(self.member.address, self.family) {
-            let address = self.member.address;
-            return write!(f, "{address}, ");
-        }
-        Ok(())
-    }
-}
-
-/// Where the members of a family listen.
+/// The same of all members.
 #[derive(Clone, Copy)]
 struct MemberTexts<'m> {
+    has_port: bool,
     family: Family,
     members: &'m [Member],
 }
 
 impl fmt::Display for MemberTexts<'_> {
-    ghost output = { λ x. Some (flat_map (member_text x.family) x.members.now) };
+    ghost output = { λ x. Some (flat_map (member_text x.has_port x.family) x.members.now) };
 
     fn fmt<W: fmt::Write>(&self, f: &mut fmt::Formatter<W>) -> fmt::Result {
         for member in self.members {
             MemberText {
-                family: self.family,
-                member: *member,
-            }
-            .fmt(f)?;
-        }
-        Ok(())
-    }
-}
-
-/// The addresses of the members of a family.
-#[derive(Clone, Copy)]
-struct HomeTexts<'m> {
-    family: Family,
-    members: &'m [Member],
-}
-
-impl fmt::Display for HomeTexts<'_> {
-    ghost output = { λ x. Some (flat_map (home_text x.family) x.members.now) };
-
-    fn fmt<W: fmt::Write>(&self, f: &mut fmt::Formatter<W>) -> fmt::Result {
-        for member in self.members {
-            HomeText {
+                has_port: self.has_port,
                 family: self.family,
                 member: *member,
             }
@@ -166,6 +129,7 @@ impl fmt::Display for AtMemberText<'_> {
         let end = address_text(self.side);
         let port = udp_text(self.side);
         let all = MemberTexts {
+            has_port: true,
             family: self.family,
             members: self.members,
         };
@@ -188,7 +152,8 @@ impl fmt::Display for AtHomeText<'_> {
     fn fmt<W: fmt::Write>(&self, f: &mut fmt::Formatter<W>) -> fmt::Result {
         let what = family_text(self.family);
         let end = address_text(self.side);
-        let all = HomeTexts {
+        let all = MemberTexts {
+            has_port: false,
             family: self.family,
             members: self.members,
         };
@@ -344,26 +309,6 @@ impl fmt::Display for MembersText<'_> {
         };
         let link = LinkText(self.members);
         write!(f, "chain {generation}members {{ {four}{six}{link}}}; ")
-    }
-}
-
-/// The jump to the guard, if there are members.
-#[derive(Clone, Copy)]
-pub(crate) struct MembersJump<'m> {
-    pub(crate) position: u32,
-    pub(crate) members: &'m [Member],
-}
-
-impl fmt::Display for MembersJump<'_> {
-    ghost output = { λ x. Some (members_jump x.position x.members.now) };
-
-    #[tactic(auto, using(crate::proofs::Guarded::jump_some), unfolding(crate::specs::Texts::members_jump))]
-    fn fmt<W: fmt::Write>(&self, f: &mut fmt::Formatter<W>) -> fmt::Result {
-        if self.members.is_empty() {
-            return Ok(());
-        }
-        let generation = Generation(self.position);
-        write!(f, "jump {generation}members; ")
     }
 }
 

@@ -8,8 +8,7 @@ use Rattle.pf_nft.specs.Refusing.{is_costly}
 use Rattle.pf_nft.specs.Deciding.{leads_back, some_leads_back}
 use Rattle.pf_nft.specs.Seen.{machine_of}
 use Rattle.pf_nft.proofs.Depths.{rendered_decides}
-use Rattle.pf_nft.proofs.Guarded.{guard_passes}
-use Rattle.pf_nft.specs.Guard.{HookPacket}
+use Rattle.pf_nft.proofs.Guarded.{decides_behind}
 use Rattle.pf_nft.proofs.Refused.{refused_back, refused_costly}
 use Rattle.pf_nft.proofs.rendering.render.Goals as goal
 
@@ -42,4 +41,11 @@ returns-clause-judged c =
     ∙ rendered_decides c.args.config.now (machine_of c.args.machine.now) k 10 e on (lit≤ tt)
 
 pub returns-clause-guarded : goal.returns-clause-guarded
-returns-clause-guarded c = λ ms. guard_passes ms (λ (h : HookPacket). run 10 _ h.packet Base)
+returns-clause-guarded c =
+    let f : Path → Bool = λ p. list_any leads_back (rules_at c.args.config.now p) in
+    let e : some_leads_back c.args.config.now ≡ false =
+    ap (list_any f) (sym c.in_ok-paths.ensures) ∙ ap (λ ps. list_any f (map (λ p. p.now) ps)) (sym c.deref.ensures.value)
+    ∙ sym c.some_leads_back.ensures ∙ c.if-some_leads_back.false in
+    λ ms. decides_behind c.args.config.now (machine_of c.args.machine.now) c.args.direction ms _ (λ k way on.
+    ap (λ r. run 10 r k Base) (c.in_ok-whole.ensures ∙ ap (rendered c.args.config.now (machine_of c.args.machine.now)) (sym way))
+    ∙ rendered_decides c.args.config.now (machine_of c.args.machine.now) k 10 e on (lit≤ tt))

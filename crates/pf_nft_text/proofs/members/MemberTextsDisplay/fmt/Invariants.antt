@@ -7,4 +7,4 @@ use Rattle.pf_nft_text.proofs.members.MemberTextsDisplay.fmt.Given as goal
 -- what is written so far are those so far
 abbrev pub invariant-loop-member : goal.invariant-loop-member
 invariant-loop-member g l =
-    IsPlainFormatter l.fn.f → HasWritten g.W.Write.write_str_gives l.fn.f (flat_map (member_text l.self.family) (take l.member-index l.self.members.now)) l.f
+    IsPlainFormatter l.fn.f → HasWritten g.W.Write.write_str_gives l.fn.f (flat_map (member_text l.self.has_port l.self.family) (take l.member-index l.self.members.now)) l.f
