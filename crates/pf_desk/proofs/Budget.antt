@@ -1,7 +1,8 @@
 -- How many rules a verdict may meet.
-use Rattle.std.proofs.Common.{◌≡◌, ℕ, zero, suc, ◌+◌, ◌-◌, ◌<◌, ◌/◌, max, ◌++◌, Bool, true, false, List, [], ◌∷◌, Option, Some, None, refl, sym, ap, ◌∙◌, arith, inl, inr, rules}
+use Rattle.std.proofs.Common.{◌≡◌, ℕ, zero, suc, ◌+◌, ◌-◌, ◌<◌, ◌/◌, max, take, Bor, ◌++◌, Bool, true, false, List, [], ◌∷◌, Option, Some, None, refl, sym, ap, ◌∙◌, arith, inl, inr, rules}
 use Rattle.std.specs.Prelude.{nat_le, length, map, option_and_then, if◌then◌else◌}
 use Rattle.std.proofs.Math.Nat.{div-eq_of_lt}
+use Rattle.std.proofs.lemmas.List.{take-map}
 use Rattle.std.proofs.lemmas.Bool.{cases_lt, le-leb, lt-leb}
 use Rattle.pf_ruleset.specs.Names.{Name, begins_below}
 use Rattle.pf_ruleset.specs.Items.{AnyRule, FilterRule, AnchorRule, Heading, Target, rule_in}
@@ -157,3 +158,7 @@ met_out n a b h = ap (option_and_then (λ k. minus k b)) h ∙ sym (both_less n 
 pub ruleset some_rules = (nothing_met, nothing_less, most_at)
 
 pub ruleset one_member = (none_left, one_more, one_met)
+
+-- the first texts
+pub texts_taken : (n : ℕ) (ps : List (Bor (List ℕ))) → map (λ p. p.now) (take n ps) ≡ take n (map (λ p. p.now) ps)
+texts_taken n ps = sym (take-map (λ p. p.now) n ps)

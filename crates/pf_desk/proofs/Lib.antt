@@ -1,4 +1,4 @@
 pub mod Budget
 pub mod Logged
-pub mod Met
+pub mod HitsCounted
 pub mod Places

@@ -1,5 +1,5 @@
 -- The bound of the verdicts that an operator asks a running node for.
-use Rattle.std.specs.Prelude.{ℕ, zero, suc, ◌+◌, ◌/◌, ◌==◌, ◌++◌, List, [], ◌∷◌, length, take, map, max, nat_le}
+use Rattle.std.specs.Prelude.{ℕ, zero, suc, ◌+◌, ◌/◌, ◌==◌, ◌++◌, Bool, List, [], ◌∷◌, length, take, map, max, nat_le}
 use Rattle.std.specs.Prelude.{if◌then◌else◌}
 use Rattle.clap.specs.Words.{Text}
 use Rattle.pf_ruleset.specs.Names.{begins_below}

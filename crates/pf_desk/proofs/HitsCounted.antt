@@ -22,15 +22,20 @@ marked_long : (q : Bool) (hs : List Hit) → length (marked q hs) ≡ length hs
 marked_long true hs = stop_long hs
 marked_long false hs = refl
 
-Within : (Target → List Hit) → (Target → ℕ) → Type 0
+abbrev Within : (Target → List Hit) → (Target → ℕ) → Type 0
 Within within meets = (t : Target) → length (within t) ≤ meets t
 
+if_long : (q : Bool) (hs : List Hit) → length (if q then hs else []) ≤ length hs
+if_long true hs = omega arith
+if_long false hs = omega arith
+
 rule_met : (tables : Tables) (within : Target → List Hit) (meets : Target → ℕ) → Within within meets → (k : PacketValue) (p : Path) (i : ℕ) (r : AnyRule) → length (rule_hits tables within k p i r) ≤ met_by meets r
-rule_met tables within meets h k p i (FilterRule r) = elim (matches tables r.conditions k) as (λ q. length (if q then record { spot = record { path = p; index = i; action = r.action }; stops = r.quick } ∷ [] else []) ≤ 1) [ true ↦ omega arith | false ↦ omega arith ]
+rule_met tables within meets h k p i (FilterRule r) = if_long (matches tables r.conditions k) (record { spot = record { path = p; index = i; action = r.action }; stops = r.quick } ∷ [])
 rule_met tables within meets h k p i (AnchorRule a) =
     let own = h a.target in
     let long = marked_long a.quick (within a.target) in
-    elim (matches tables a.conditions k) as (λ q. length (if q then marked a.quick (within a.target) else []) ≤ 1 + meets a.target) [ true ↦ omega (arith, own, long) | false ↦ omega arith ]
+    let more = if_long (matches tables a.conditions k) (marked a.quick (within a.target)) in
+    omega (arith, own, long, more)
 
 rules_met : (tables : Tables) (within : Target → List Hit) (meets : Target → ℕ) → Within within meets → (k : PacketValue) (p : Path) (i : ℕ) (rs : List AnyRule) → length (hits_with tables within k p i rs) ≤ met_in meets rs
 rules_met tables within meets h k p i [] = omega arith
@@ -42,7 +47,7 @@ rules_met tables within meets h k p i (r ∷ rs) =
 
 -- ---- anchors
 
-At : (Path → List Hit) → (Path → ℕ) → Type 0
+abbrev At : (Path → List Hit) → (Path → ℕ) → Type 0
 At at meets = (p : Path) → length (at p) ≤ meets p
 
 deep_met : (at : Path → List Hit) (meets : Path → ℕ) → At at meets → (q : Path) → length (not_too_deep at q) ≤ met_at meets q
