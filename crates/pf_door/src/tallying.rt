@@ -1,6 +1,6 @@
 //! A wire that counts what goes over it.
 
-ghost use Rattle.std.specs.Prelude.{◌≡◌, ◌≤◌, ◌==◌, ◌||◌, ◌×◌, false, not, IfOk, IfSome, length, string_bytes};
+ghost use Rattle.std.specs.Prelude.{◌≡◌, ◌≤◌, ◌==◌, ◌||◌, false, not, IfOk, IfSome, length, string_bytes};
 ghost use Rattle.px_wire.specs.Seen.{message_of};
 ghost use Rattle.pf_door.specs.Wiring.{below_of};
 ghost use Rattle.pf_door.specs.inner.Watching.{shown_in, proposal_in, proposed_then, is_proposed, stood_since};
