@@ -1,16 +1,19 @@
 -- Turns one after the other.
-use Rattle.std.proofs.Common.{◌≡◌, ◌∙◌, ℕ, zero, suc, List, Option, Some, None, Bool, true, false, refl, sym, subst}
-use Rattle.std.proofs.Common.{inl, inr}
+use Rattle.std.proofs.Common.{◌≡◌, ◌∙◌, ℕ, zero, suc, List, [], Option, Some, None, Bool, true, false, refl, sym, subst}
+use Rattle.std.proofs.Common.{Result, Ok, Err, inl, inr}
+use Rattle.std.specs.Prelude.{IfOk}
+use Rattle.px_model.specs.Node.Input.{Ticks}
 use Rattle.px_model.specs.Spelling.{Bytes}
 use Rattle.px_records.specs.declared.records.Records.{Ghosts}
+use Rattle.px_replica.specs.Calls.{Call}
 use Rattle.px_replica.specs.declared.datagram.Datagram.{Datagram}
 use Rattle.px_replica.specs.declared.fault.NodeFault.{NodeFault}
 use Rattle.px_replica.specs.declared.state.Replica.{Replica}
 use Rattle.px_transport.specs.Wires.{GrowsBy, Gives}
 use Rattle.px_wire.specs.Members.{as_sent}
-use Rattle.pf_turn.specs.Turns.{Acts, Stand, Turned, Ticked, Took, TookAll, TookThenTicked, Same, Turns, Ends, Served}
+use Rattle.pf_turn.specs.Turns.{Acts, Stand, Turned, Ticked, TickedIf, Took, TookAll, TookThenTicked, Same, Turns, Ends, Served}
 use Rattle.pf_turn.specs.Turns.{handed_over}
-use Rattle.pf_turn.specs.Progress.{IsNobodys, SawAll}
+use Rattle.pf_turn.specs.Progress.{IsNobodys, SawAll, SawThen, looked}
 use Rattle.pf_turn.specs.inner.Turns.{SawOne}
 use Rattle.pf_turn.specs.declared.sight.Sight.{Sight}
 
@@ -109,6 +112,7 @@ saw_same {R} {G} (suc n) x y z s t u (w, v, a, d) b f = (
     };
     still = λ n. b.replica ∙ d.still n;
     unseen = λ n. f ∙ d.unseen n;
+    shown = λ k m n. f ∙ d.shown k m n;
   },
 )
 
@@ -123,13 +127,40 @@ pub saw_no_more : {R : Type 0} {G : Ghosts R} (n : ℕ) (x y z : Stand G) (s t u
 saw_no_more n x y z s t u false e a (b, f) = saw_same n x y z s t u a b f
 saw_no_more n x y z s t u true e a d = absurd (cc)
 
--- and then the clock ticked if that was due
-pub then_still : {R : Type 0} {G : Ghosts R} (n : ℕ) (x y : Stand G) (is_due : Bool) → is_due ≡ false →
-    TookAll n x y → TookThenTicked n is_due x y
-then_still n x y false e a = (y, a, same_all y)
-then_still n x y true e a = absurd (cc)
+-- ---- what the wire is told besides
 
-pub then_ticked : {R : Type 0} {G : Ghosts R} (n : ℕ) (x y z : Stand G) (is_due : Bool) → is_due ≡ true →
-    TookAll n x y → Ticked y z None → TookThenTicked n is_due x z
-then_ticked n x y z true e a t = (y, a, t)
-then_ticked n x y z false e a t = absurd (cc)
+-- nothing is done first
+took_from : {R : Type 0} {G : Ghosts R} (n : ℕ) (x y z : Stand G) → Same x y → TookAll n y z → TookAll n x z
+took_from zero x y z s a = same_then x y z s a
+took_from (suc n) x y z s (w, a, d) = (w, took_from n x y w s a, d)
+
+saw_from : {R : Type 0} {G : Ghosts R} (n : ℕ) (x y z : Stand G) (s t : Sight) → Same x y → SawAll n y z s t → SawAll n x z s t
+saw_from zero x y z s t b (a, e) = (same_then x y z b a, e)
+saw_from (suc n) x y z s u b (w, t, a, d) = (w, t, saw_from n x y w s t b a, d)
+
+ticked_from : {R : Type 0} {G : Ghosts R} (is_due : Bool) (x y z : Stand G) → Same x y → TickedIf is_due y z → TickedIf is_due x z
+ticked_from {R} {G} true x y z s d = record {
+  given = d.given ∙ s.given;
+  out = d.out;
+  call = subst (λ (u : Replica R G). Call u z.replica Ticks [] d.out None) s.replica d.call;
+  sent = subst (λ (u : Option (List (ℕ × Bytes))). GrowsBy u (handed_over d.out) z.handed) s.handed d.sent;
+}
+ticked_from false x y z s d = same_then x y z s d
+
+-- datagrams are taken, and then the clock ticks if that is due
+then_ticked : {R : Type 0} {G : Ghosts R} (n : ℕ) (is_due : Bool) (w x y z v : Stand G) (s t : Sight) →
+    Same w x → SawAll n x y s t → Same y z → TickedIf is_due z v → TookThenTicked n is_due w v
+then_ticked n is_due w x y z v s t a b c d = (y, took_from n w x y a (took_all n x y s t b), ticked_from is_due y z v c d)
+
+-- what a round that ended well did
+pub round_took : {P E R : Type 0} {G : Ghosts R} (r : Result P E) (n : ℕ) (w x y z v : Stand G) (s t : Sight) →
+    Same w x → SawAll n x y s t → Same y z → IfOk r (λ p. (d : Bool) × TickedIf d z v) →
+    IfOk r (λ p. (k : ℕ) × (d : Bool) × TookThenTicked k d w v)
+round_took (Ok p) n w x y z v s t a b c (d, e) = (n, d, then_ticked n d w x y z v s t a b c e)
+round_took (Err e) n w x y z v s t a b c d = tt
+
+pub round_saw : {P E R : Type 0} {G : Ghosts R} (r : Result P E) (n : ℕ) (w x y : Stand G) (s t u : Sight) →
+    Same w x → SawAll n x y s t → u ≡ looked t →
+    IfOk r (λ p. (k : ℕ) × (v : Sight) × SawThen k w s v × (u ≡ looked v))
+round_saw (Ok p) n w x y s t u a b c = (n, t, (y, saw_from n w x y s t a b), c)
+round_saw (Err e) n w x y s t u a b c = tt

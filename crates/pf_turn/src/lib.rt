@@ -5,7 +5,7 @@
 //! - [`turn`]: one datagram is taken, or the clock ticks, and what is to be sent is sent.
 //! - [`run`]: a node runs, for so many turns: what comes is taken as it comes, and the clock ticks when [`Pace`] says
 //!   so. [`round`] is what it does between two looks at the clock.
-//! - [`serve`]: what has come is taken, and the clock ticks if that is due: so many turns, one after the other.
+//! - [`tick_now`]: the clock ticks.
 //! - [`Room`]: the room that one turn after another uses.
 //! - [`own_number`]: which answer may go that waits until its command is learned.
 //! - `specs/Turns` says what a turn makes, and what several in a row do; [`laws`] that they are steps of the model.
@@ -25,5 +25,5 @@ pub use px_replica::{Datagram, NodeFault};
 pub use px_transport::{FaultyWire, MemoryWire, Wire};
 pub use room::Room;
 pub use running::{Progress, finish, own_number, round, run};
-pub use serving::{serve, tick_now};
+pub use serving::tick_now;
 pub use turning::turn;

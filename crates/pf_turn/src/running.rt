@@ -1,10 +1,12 @@
 //! A node that runs.
 
-ghost use Rattle.std.specs.Prelude.{◌≡◌, ◌≤◌};
+ghost use Rattle.std.specs.Prelude.{◌≡◌, ◌≤◌, ℕ, Bool, IfOk, true};
 ghost use Rattle.px_replica.specs.Faults.{fault_of};
 ghost use Rattle.pf_node.specs.Nodes.{applied_of, learned_by, membership_of};
 ghost use Rattle.pf_turn.specs.Releases.{number_taken};
-ghost use Rattle.pf_turn.specs.Turns.{Served, standing};
+ghost use Rattle.pf_turn.specs.Progress.{SawThen, looked, seen_in};
+ghost use Rattle.pf_turn.specs.Turns.{Served, TickedIf, TookThenTicked, standing};
+ghost use Rattle.pf_turn.specs.declared.sight.Sight.{Sight};
 
 use crate::pace::{Beat, Pace, View, microseconds};
 use crate::room::Room;
@@ -26,7 +28,10 @@ const MEMBERS: u8 = 15;
 const LAST_ROUNDS: u32 = 3_000;
 
 /// What the pace is decided by.
-fn view_of<R: Records>(node: &Node<R>, room: &Room, was: u32) -> View {
+fn view_of<R: Records>(node: &Node<R>, room: &Room, was: u32) -> View
+    ensures reached { result.reached ≡ (seen_in room.now).reached }
+    ensures told { result.is_told ≡ true → (seen_in room.now).is_told ≡ true }
+{
     View {
         waiting: node.waiting(),
         is_attempting: node.is_attempting(),
@@ -87,6 +92,9 @@ fn tick_if<R: Records, W: Wire>(
 ) -> Result<Progress, NodeFault>
     ensures served { Served (standing W.Wire node.old wire.old) (standing W.Wire node.new wire.new)
         (fault_of result) }
+    ensures ticked { IfOk result (λ p. (is_due : Bool) × TickedIf is_due (standing W.Wire node.old wire.old)
+        (standing W.Wire node.new wire.new)) }
+    ensures unseen { seen_in room.new ≡ seen_in room.old }
     ensures grows { applied_of node.old ≤ applied_of node.new }
 {
     match beat {
@@ -105,7 +113,9 @@ fn tick_if<R: Records, W: Wire>(
 }
 
 /// What the clock does, by what has come.
-fn beat(pace: &mut Pace, room: &mut Room, now: u64, view: View) -> Beat {
+fn beat(pace: &mut Pace, room: &mut Room, now: u64, view: View) -> Beat
+    ensures looked { seen_in room.new ≡ looked (seen_in room.old) }
+{
     let beat = pace.beat(now, view);
     if room.sight.is_accepting {
         pace.sent(now);
@@ -154,6 +164,10 @@ pub fn round<R: Records, W: Wire>(
 ) -> Result<Progress, NodeFault>
     ensures served { Served (standing W.Wire node.old wire.old) (standing W.Wire node.new wire.new)
         (fault_of result) }
+    ensures took { IfOk result (λ p. (n : ℕ) × (is_due : Bool) × TookThenTicked n is_due
+        (standing W.Wire node.old wire.old) (standing W.Wire node.new wire.new)) }
+    ensures saw { IfOk result (λ p. (n : ℕ) × (t : Sight) × SawThen n (standing W.Wire node.old wire.old)
+        (seen_in room.old) t × (seen_in room.new ≡ looked t)) }
     ensures grows { applied_of node.old ≤ applied_of node.new }
 {
     let was = node.front();

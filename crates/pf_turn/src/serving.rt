@@ -1,11 +1,12 @@
 //! What a node does between two waits.
 
-ghost use Rattle.std.specs.Prelude.{◌≡◌, ◌≤◌, [], IfOk, IfSome, Some, length, option_map, take};
+ghost use Rattle.std.specs.Prelude.{◌≡◌, ◌≤◌, [], ℕ, IfOk, IfSome, None, Some, length, option_map, take};
 ghost use Rattle.px_replica.specs.Faults.{fault_of};
-ghost use Rattle.pf_node.specs.Nodes.{replica_of, applied_of};
+ghost use Rattle.px_wire.specs.Message.{Message};
+ghost use Rattle.pf_node.specs.Nodes.{replica_of, applied_of, membership_of};
 ghost use Rattle.px_transport.specs.Wires.{Gives};
-ghost use Rattle.pf_turn.specs.Progress.{IsNobodys, SawAll, SawThen, seen_in};
-ghost use Rattle.pf_turn.specs.Turns.{Acts, Ticked, TookThenTicked, Served, standing};
+ghost use Rattle.pf_turn.specs.Progress.{IsFrom, IsNobodys, SawAll, seen_in, shown_by};
+ghost use Rattle.pf_turn.specs.Turns.{Acts, Ticked, Served, standing};
 ghost use Rattle.pf_turn.specs.inner.Turns.{SawOne};
 
 use crate::room::Room;
@@ -55,10 +56,14 @@ fn receive<R: Records>(
     ensures acts { Acts (replica_of node.old) (replica_of node.new) (Some bytes.now) out.new.items (fault_of result) }
     ensures grows { applied_of node.old ≤ applied_of node.new }
     ensures nobodys { IsNobodys (replica_of node.old) bytes.now → sight.new ≡ sight.old }
+    ensures shown { fault_of result ≡ None → (from : ℕ) (message : Message) →
+        IsFrom (replica_of node.old) from message bytes.now →
+        sight.new ≡ shown_by (membership_of node.old).me from message sight.old }
 {
+    let m = node.membership();
     match node.receive(bytes, out) {
         Ok(Received::Done) => {
-            *sight = sight.after(bytes);
+            *sight = sight.after(&m, bytes);
             Ok(())
         }
         Ok(Received::Ignored(_)) => Ok(()),
@@ -116,37 +121,4 @@ pub(crate) fn drain<R: Records, W: Wire>(
         }
     }
     Ok(most)
-}
-
-/// What a node does between two waits: it takes what has come, so many datagrams at most, and then its clock ticks if
-/// that is due. These are turns of the node and nothing else, in whatever order the network and the clock ask for them.
-/// Answers how many datagrams there were.
-///
-/// The faults are those of [`Node::receive`] and [`Node::tick`]; after one nothing is to be sent.
-pub fn serve<R: Records, W: Wire>(
-    node: &mut Node<R>,
-    wire: &mut W,
-    room: &mut Room,
-    most: u32,
-    is_due: bool,
-) -> Result<u32, NodeFault>
-    ensures served { Served (standing W.Wire node.old wire.old) (standing W.Wire node.new wire.new)
-        (fault_of result) }
-    ensures took { IfOk result (λ n. TookThenTicked n is_due (standing W.Wire node.old wire.old)
-        (standing W.Wire node.new wire.new)) }
-    ensures saw { IfOk result (λ n. SawThen n (standing W.Wire node.old wire.old)
-        (seen_in room.old) (seen_in room.new)) }
-    ensures grows { applied_of node.old ≤ applied_of node.new }
-{
-    let taken = match drain(node, wire, room, most) {
-        Ok(taken) => taken,
-        Err(fault) => return Err(fault),
-    };
-    if !is_due {
-        return Ok(taken);
-    }
-    match tick_now(node, wire, room) {
-        Ok(()) => Ok(taken),
-        Err(fault) => Err(fault),
-    }
 }

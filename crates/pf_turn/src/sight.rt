@@ -1,21 +1,17 @@
-//! What datagrams tell of how far other members have come.
+//! What messages tell of how far other members have come.
 
-/// Where a datagram has its sender's number, and behind that the number of whom it is for.
-const FROM_PLACE: usize = 10;
+ghost use Rattle.std.specs.Prelude.{◌≡◌, ◌<◌, ℕ};
+ghost use Rattle.px_wire.specs.Message as datagrams;
+ghost use Rattle.px_wire.specs.Message.{group, DatagramBytes};
+ghost use Rattle.px_wire.specs.Members.{Comes};
+ghost use Rattle.px_wire.specs.Seen.{message_of};
+ghost use Rattle.px_replica.specs.Replicas.{IsUnspelled};
+ghost use Rattle.pf_turn.specs.Progress.{shown_by, looked, reaching, lacking, told, accepting};
 
-const TO_PLACE: usize = 11;
+use px_wire::{Membership, Message, MessageView, decode};
 
-/// Where a datagram has its kind.
-const KIND_PLACE: usize = 12;
-
-/// Where kinds 6 and 7, of what is lacking and of what is told, have their position.
-const NEAR_PLACE: usize = 13;
-
-/// Where all other kinds that have a position have it.
-const FAR_PLACE: usize = 21;
-
-/// What was seen of other members since the start, by kinds and positions of datagrams that the member accepted. It
-/// decides when the clock ticks and what is sent again, and nothing else.
+/// What was seen of other members since the start, by the messages that came to this one. It decides when the clock
+/// ticks and what is sent again, and nothing else.
 #[derive(Clone, Copy, PartialEq, Eq)]
 pub(crate) struct Sight {
     /// A position below which some member has learned all, as far as is seen.
@@ -27,14 +23,6 @@ pub(crate) struct Sight {
     /// For each member that has told since the last look how far it is: one more than the position from which on it is
     /// to be told what it lacks; 0 for the others.
     lacking: [u32; 15],
-}
-
-/// The four bytes at a place as a number, the highest first; 0 where they aren't all there.
-fn number_at(datagram: &[u8], place: usize) -> u32 {
-    match datagram.get(place..place.saturating_add(4)) {
-        Some([a, b, c, d]) => u32::from_be_bytes([*a, *b, *c, *d]),
-        _ => 0,
-    }
 }
 
 impl Sight {
@@ -49,10 +37,14 @@ impl Sight {
     }
 
     /// What has come is looked at.
-    pub(crate) fn looked(self) -> Sight {
+    pub(crate) fn looked(self) -> Sight
+        ensures { result ≡ looked self }
+    {
         Sight {
             reached: self.reached,
-            ..Sight::new()
+            is_told: false,
+            is_accepting: false,
+            lacking: [0; 15],
         }
     }
 
@@ -71,55 +63,80 @@ impl Sight {
     }
 
     /// This member lacks the positions from this one on.
-    fn lacking(mut self, member: u8, position: u32) -> Sight {
-        if let Some(next) = self.lacking.get_mut(usize::from(member)) {
-            *next = position.saturating_add(1);
-        }
-        self
+    fn lacking(self, member: u8, position: u32) -> Sight
+        requires member { member < 15 }
+        requires position { position < 4294967295 }
+        ensures { result ≡ lacking member position self }
+    {
+        let mut lacking = self.lacking;
+        lacking[usize::from(member)] = position + 1;
+        Sight { lacking, ..self }
     }
 
     /// A member has learned all below this position.
-    fn reaching(self, position: u32) -> Sight {
+    fn reaching(self, position: u32) -> Sight
+        ensures { result ≡ reaching position self }
+    {
         Sight {
             reached: self.reached.max(position),
             ..self
         }
     }
 
-    /// With what a datagram of this member tells: who proposes or votes at a position, or lacks it, has learned all
-    /// below; who tells an entry has learned it too. A need is answered with its own entry.
-    fn with(self, member: u8, kind: u8, datagram: &[u8]) -> Sight {
-        let (near, far) = (
-            number_at(datagram, NEAR_PLACE),
-            number_at(datagram, FAR_PLACE),
-        );
-        match kind {
-            1 | 11 => self.reaching(far).lacking(member, far),
-            3 => Sight {
-                is_accepting: self.is_accepting || datagram.get(TO_PLACE) != Some(&member),
-                ..self.reaching(far)
-            },
-            4 => self.reaching(far),
-            6 => self.reaching(near).lacking(member, near.saturating_add(1)),
-            7 => Sight {
-                is_told: true,
-                ..self.reaching(near.saturating_add(1))
-            },
-            _ => self,
+    /// An entry came that this member had asked for.
+    fn told(self) -> Sight
+        ensures { result ≡ told self }
+    {
+        Sight {
+            is_told: true,
+            ..self
         }
     }
 
-    /// With what an accepted datagram tells, if a member sent it.
-    pub(crate) fn after(self, datagram: &[u8]) -> Sight {
-        match (datagram.get(FROM_PLACE), datagram.get(KIND_PLACE)) {
-            (Some(&member), Some(&kind)) => {
-                if member < 15 {
-                    self.with(member, kind, datagram)
-                } else {
-                    self
-                }
-            }
-            _ => self,
+    /// An accept request came, which counts where another member sent it.
+    fn accepting(self, is_others: bool) -> Sight
+        ensures { result ≡ accepting is_others self }
+    {
+        Sight {
+            is_accepting: self.is_accepting || is_others,
+            ..self
+        }
+    }
+
+    /// With what this message of a member shows: who proposes or votes at a position, or lacks it, has learned all
+    /// below; who tells an entry has learned it too. A need is answered with its own entry.
+    fn with(self, m: &Membership, from: u8, message: &MessageView<'_>) -> Sight
+        requires { Comes m.now from message.now }
+        ensures { result ≡ shown_by m.now.me from (message_of message.now) self }
+    {
+        match message {
+            Message::Prepare { position, .. } => self.reaching(*position).lacking(from, *position),
+            Message::PrepareAll { position, .. } => self
+                .reaching(*position)
+                .lacking(from, *position),
+            Message::Accept { position, .. } => self.reaching(*position).accepting(from != m.me()),
+            Message::Vote { position, .. } => self.reaching(*position),
+            Message::Need { position } => self.reaching(*position).lacking(from, *position + 1),
+            Message::Learned { position, .. } => self.reaching(*position + 1).told(),
+            Message::Promise { .. } => self,
+            Message::PromiseAll { .. } => self,
+            Message::Nack { .. } => self,
+            Message::Ask { .. } => self,
+            Message::Asked { .. } => self,
+            Message::AskRefused { .. } => self,
+        }
+    }
+
+    /// With what the message of a datagram shows; as it was where that spells none for this member.
+    pub(crate) fn after(self, m: &Membership, datagram: &[u8]) -> Sight
+        ensures nobodys { IsUnspelled (group m.now) m.now.me datagram.now → result ≡ self }
+        ensures shown { (from : ℕ) (message : datagrams.Message) →
+            DatagramBytes (group m.now) from m.now.me message datagram.now →
+            result ≡ shown_by m.now.me from message self }
+    {
+        match decode(m, datagram) {
+            Ok((from, message)) => self.with(m, from, &message),
+            Err(_) => self,
         }
     }
 }

@@ -1,1 +1,3 @@
 pub mod Sending
+pub mod Answers
+pub mod Outcomes

@@ -1,6 +1,10 @@
 //! What is sent at a door for an operator's words.
 
-use crate::sending::change_line;
+ghost use Rattle.std.specs.Prelude.{◌≡◌, IfOk, Ok, None, false, true, map, option_map};
+ghost use Rattle.std.specs.List.{list_any};
+ghost use Rattle.pf_visit.specs.Sending.{has_control, change_body};
+
+use crate::sending::{change_body, has_control, have_control, lines_of};
 use clap::ArgMatches;
 use percent_encoding::{NON_ALPHANUMERIC, utf8_percent_encode};
 use std::alloc::{AllocError, Global};
@@ -34,7 +38,10 @@ pub(crate) struct Call {
 }
 
 impl Call {
-    fn new(method: &'static str, target: String, body: Vec<u8>, kind: Kind) -> Call {
+    fn new(method: &'static str, target: String, body: Vec<u8>, kind: Kind) -> Call
+        ensures body { result.body ≡ body }
+        ensures kind { result.kind ≡ kind }
+    {
         Call {
             method,
             target,
@@ -65,13 +72,13 @@ impl Call {
         alloc: Global,
         args: &[&str],
         text: &[u8],
-    ) -> Result<Option<Call>, AllocError> {
-        let Some(line) = change_line(alloc, args)? else {
+    ) -> Result<Option<Call>, AllocError>
+        ensures body { IfOk result (λ c. option_map (λ call. call.body.items) c
+            ≡ change_body (map (λ a. a.now) args.now) text.now) }
+    {
+        let Some(body) = change_body(alloc, args, text)? else {
             return Ok(None);
         };
-        let mut body = Vec::from_slice(alloc, line.as_bytes())?;
-        body.push(b'\n')?;
-        body.extend_from_slice(text)?;
         let target = String::from_str(alloc, "/v1/changes")?;
         Ok(Some(Call::new("POST", target, body, Kind::Change)))
     }
@@ -104,16 +111,6 @@ fn target_in(
         add_parameter(&mut target, "at", number.as_str())?;
     }
     Ok(target)
-}
-
-/// Each word in a line of its own.
-fn lines_of(alloc: Global, words: &[&str]) -> Result<Vec<u8>, AllocError> {
-    let mut body = Vec::new(alloc);
-    for word in words {
-        body.extend_from_slice(word.as_bytes())?;
-        body.push(b'\n')?;
-    }
-    Ok(body)
 }
 
 /// The options of pfctl that have a value and are sent, with the names under which `clap` has them.
@@ -158,7 +155,9 @@ fn listing(
     matches: &ArgMatches<'_>,
     rest: &[&str],
     at: u32,
-) -> Result<Option<Call>, AllocError> {
+) -> Result<Option<Call>, AllocError>
+    requires { list_any has_control (map (λ w. w.now) rest.now) ≡ false }
+{
     let path = match (matches.get_str("show"), matches.get_str("change")) {
         (Some("rules"), _) => "/v1/rules",
         (Some("Tables"), _) => "/v1/tables",
@@ -195,7 +194,9 @@ fn own_call(
     matches: &ArgMatches<'_>,
     rest: &[&str],
     at: u32,
-) -> Result<Option<Call>, AllocError> {
+) -> Result<Option<Call>, AllocError>
+    requires { list_any has_control (map (λ w. w.now) rest.now) ≡ false }
+{
     let target = match rest {
         ["status"] => target_in(alloc, "/v1/status", matches, at)?,
         ["health"] => target_in(alloc, "/readyz", matches, 0)?,
@@ -218,18 +219,12 @@ fn own_call(
     Ok(Some(Call::get(alloc, target, Kind::Read)))
 }
 
-/// Whether an argument has a control character.
-fn has_control(arg: &str) -> bool {
-    arg.as_bytes().iter().any(|b| *b < b' ' || *b == 127)
-}
-
-/// Whether an argument that is sent has a control character.
-fn have_control(matches: &ArgMatches<'_>, rest: &[&str]) -> bool {
-    rest.iter().any(|arg| has_control(arg))
-        || OPTIONS.iter().any(|(_, id)| match matches.get_str(id) {
-            Some(value) => has_control(value),
-            None => false,
-        })
+/// Whether the value of an option that is sent has a control character.
+fn options_have_control(matches: &ArgMatches<'_>) -> bool {
+    OPTIONS.iter().any(|(_, id)| match matches.get_str(id) {
+        Some(value) => has_control(value),
+        None => false,
+    })
 }
 
 /// Whether the arguments have an option of pfctl's.
@@ -240,17 +235,17 @@ fn has_option(matches: &ArgMatches<'_>) -> bool {
         || matches.get_flag("check")
 }
 
-/// What is sent for the arguments, with the text that `-f` names: a listing, a subcommand of the node itself where the
-/// arguments have no option of pfctl's, else a change. None where an argument has a control character, or one of a
-/// change can't be sent as one argument: that is refused with 40.
-pub(crate) fn call_in(
+/// What is sent for arguments of which `rest` belong to no option, none where one has a control character.
+fn call_with(
     alloc: Global,
     matches: &ArgMatches<'_>,
+    rest: &[&str],
     text: &[u8],
     at: u32,
-) -> Result<Option<Call>, AllocError> {
-    let rest = or_none(matches.get_strs("address"));
-    if have_control(matches, rest) {
+) -> Result<Option<Call>, AllocError>
+    ensures control { list_any has_control (map (λ w. w.now) rest.now) ≡ true → result ≡ Ok None }
+{
+    if have_control(rest) || options_have_control(matches) {
         return Ok(None);
     }
     if let Some(call) = listing(alloc, matches, rest, at)? {
@@ -263,4 +258,17 @@ pub(crate) fn call_in(
     }
     let args = change_args(alloc, matches, rest)?;
     Call::change(alloc, args.as_slice(), text)
+}
+
+/// What is sent for the arguments, with the text that `-f` names: a listing, a subcommand of the node itself where the
+/// arguments have no option of pfctl's, else a change. None where an argument has a control character, or one of a
+/// change can't be sent as one argument: that is refused with 40.
+pub(crate) fn call_in(
+    alloc: Global,
+    matches: &ArgMatches<'_>,
+    text: &[u8],
+    at: u32,
+) -> Result<Option<Call>, AllocError> {
+    let rest = or_none(matches.get_strs("address"));
+    call_with(alloc, matches, rest, text, at)
 }

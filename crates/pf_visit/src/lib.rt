@@ -8,14 +8,17 @@
 //!
 //! Within: `words` has the arguments as `clap` reads them, `call` what is sent for them, `checking` what they are
 //! refused for before that, `exchange` one request and its answer over the socket, `visiting` how often it is asked,
+//! `answers` whether an answer says that what was asked for was done, `outcome` what a run writes and how it ends,
 //! `showing` an answer for a terminal, `script` reads the changes of a script, `scripting` asks them, and `telling` has
 //! what people are told on standard error.
 #![tactic(auto)]
 
+mod answers;
 mod call;
 mod checking;
 mod exchange;
 pub mod laws;
+mod outcome;
 mod running;
 mod script;
 mod scripting;

@@ -2,33 +2,19 @@
 
 use crate::call::{Call, Kind, call_in};
 use crate::checking::{Refused, refused_args};
-use crate::exchange::{Reply, VisitFault};
+use crate::exchange::VisitFault;
+use crate::outcome::{Outcome, refused, write_outcome};
 use crate::script::refused_script;
 use crate::scripting::{Errand, ask_script};
 use crate::telling::tell_left;
-use crate::visiting::{outcome_behind, visit};
+use crate::visiting::visit;
 use crate::words::command;
 use clap::ArgMatches;
 use pf_io::{InputFault, Status, misused, out_of_memory, read_all};
-use pf_scripts::push_refusal;
 use std::alloc::{AllocError, Global};
 use std::convert::AsStr;
 use std::fs;
 use std::io::{Read, Write};
-
-/// What a run comes to.
-enum Outcome {
-    /// An answer, and whether it says that what was asked for was done.
-    Reply(Reply, bool),
-    Refused(Refused),
-    Memory,
-    Unread,
-}
-
-/// A refusal without a line.
-fn refused(code: u8) -> Outcome {
-    Outcome::Refused(Refused { code, line: 0 })
-}
 
 /// The text that an option names: of the input for `-`, else of a file; none without it. A file that can't be read is
 /// 40.
@@ -70,31 +56,6 @@ fn checked(
     }
 }
 
-/// Whether all addresses of a test are in the table, as `2 of 3 match` says.
-fn all_match(body: &[u8]) -> bool {
-    let Ok(text) = std::str::from_utf8(body) else {
-        return false;
-    };
-    match text.split_once(" of ") {
-        Some((some, rest)) => match rest.split_once(' ') {
-            Some((all, _)) => some == all,
-            None => false,
-        },
-        None => false,
-    }
-}
-
-/// Whether an answer says that what was asked for was done.
-fn is_done(call: &Call, reply: &Reply) -> bool {
-    let body = reply.body.as_slice();
-    reply.code < 300
-        && match call.kind {
-            Kind::Read | Kind::List | Kind::Test => true,
-            Kind::TableTest => all_match(body),
-            Kind::Sync | Kind::Change => !outcome_behind(body).starts_with(b"refused"),
-        }
-}
-
 /// What the words come to.
 fn outcome_of<R: Read>(
     rt: &HostRuntime,
@@ -129,46 +90,11 @@ fn outcome_of<R: Read>(
             if call.kind == Kind::Change || call.kind == Kind::Sync {
                 tell_left(rt, reply.front);
             }
-            let is_done = is_done(&call, &reply);
-            Outcome::Reply(reply, is_done)
+            Outcome::Answered(call.kind, reply)
         }
         Err(VisitFault::Memory) => Outcome::Memory,
         Err(VisitFault::NoDoor) => refused(85),
         Err(VisitFault::BadAnswer) => refused(86),
-    }
-}
-
-/// The line of a refusal.
-fn refusal_line(alloc: Global, refused: Refused) -> Result<String, AllocError> {
-    let mut line = String::new(alloc);
-    push_refusal(alloc, &mut line, refused.code, refused.line)?;
-    Ok(line)
-}
-
-/// Writes what a run comes to.
-fn write_outcome<W: Write>(alloc: Global, outcome: Outcome, writer: &mut W) -> Status {
-    match outcome {
-        Outcome::Reply(reply, is_done) => {
-            if writer.write_all(reply.body.as_slice()).is_err() {
-                return Status::Failed;
-            }
-            if is_done {
-                Status::Done
-            } else {
-                Status::Refused
-            }
-        }
-        Outcome::Refused(refused) => {
-            let Ok(line) = refusal_line(alloc, refused) else {
-                return out_of_memory(writer);
-            };
-            match writer.write_all(line.as_bytes()) {
-                Ok(()) => Status::Refused,
-                Err(_) => Status::Failed,
-            }
-        }
-        Outcome::Memory => out_of_memory(writer),
-        Outcome::Unread => Status::Failed,
     }
 }
 

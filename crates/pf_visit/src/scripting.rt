@@ -1,9 +1,10 @@
 //! A script's changes are asked at a door, one after the other.
 
+use crate::answers::outcome_behind;
 use crate::exchange::VisitFault;
 use crate::script::{Change, Left, ScriptFault, next_change};
 use crate::telling::{tell_left, tell_line};
-use crate::visiting::{outcome_behind, visit};
+use crate::visiting::visit;
 use pf_io::{Status, out_of_memory};
 use std::alloc::{AllocError, Global};
 use std::io::Write;

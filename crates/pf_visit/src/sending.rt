@@ -1,13 +1,34 @@
-//! The line of a change.
+//! The line of a change, and the words of other requests.
 
-ghost use Rattle.std.specs.Prelude.{◌≡◌, IfOk, map, option_map, string_bytes};
-ghost use Rattle.std.specs.List.{list_all};
-ghost use Rattle.pf_visit.specs.Sending.{is_graphic, is_plain, change_line};
+ghost use Rattle.std.specs.Prelude.{◌≡◌, IfOk, false, map, option_map, string_bytes};
+ghost use Rattle.std.specs.List.{list_all, list_any};
+ghost use Rattle.pf_visit.specs.Sending.{has_control, is_graphic, is_plain, change_line, change_body, lines_of};
 
 use pf_scripts::spaced;
 use std::alloc::{AllocError, Global};
 
-/// Whether a byte is neither a blank nor a control character.
+/// Whether a text has a control character: U+0000 to U+001F, U+007F to U+009F.
+pub(crate) fn has_control(text: &str) -> bool
+    ensures { result ≡ has_control text.now }
+{
+    text.chars().any(|c| c.is_control())
+}
+
+/// Whether one of the texts has one.
+pub(crate) fn have_control(texts: &[&str]) -> bool
+    ensures { result ≡ list_any has_control (map (λ t. t.now) texts.now) }
+{
+    let mut left = texts;
+    while let [first, rest @ ..] = left {
+        if has_control(first) {
+            return true;
+        }
+        left = rest;
+    }
+    false
+}
+
+/// Whether a byte is neither a blank nor an ASCII control character.
 fn is_graphic(b: u8) -> bool
     ensures { result ≡ is_graphic b }
 {
@@ -22,12 +43,12 @@ fn are_graphic(bytes: &[u8]) -> bool
 }
 
 /// Whether an argument is one word of a line: it isn't empty, and has neither blanks nor control characters.
-fn is_plain(arg: &[u8]) -> bool
+fn is_plain(arg: &str) -> bool
     ensures { result ≡ is_plain arg.now }
 {
-    match arg {
+    match arg.as_bytes() {
         [] => false,
-        [_, ..] => are_graphic(arg),
+        [_, ..] => are_graphic(arg.as_bytes()) && !has_control(arg),
     }
 }
 
@@ -37,7 +58,7 @@ fn are_plain(args: &[&str]) -> bool
 {
     let mut left = args;
     while let [first, rest @ ..] = left {
-        if !is_plain(first.as_bytes()) {
+        if !is_plain(first) {
             return false;
         }
         left = rest;
@@ -55,4 +76,36 @@ pub fn change_line(alloc: Global, args: &[&str]) -> Result<Option<String>, Alloc
     } else {
         Ok(None)
     }
+}
+
+/// What is sent of a change: its line, and behind it the text.
+pub(crate) fn change_body(
+    alloc: Global,
+    args: &[&str],
+    text: &[u8],
+) -> Result<Option<Vec<u8>>, AllocError>
+    ensures { IfOk result (λ body. option_map (λ b. b.items) body ≡ change_body (map (λ a. a.now) args.now) text.now) }
+{
+    let Some(line) = change_line(alloc, args)? else {
+        return Ok(None);
+    };
+    let mut body = Vec::from_slice(alloc, line.as_bytes())?;
+    body.push(b'\n')?;
+    body.extend_from_slice(text)?;
+    Ok(Some(body))
+}
+
+/// Each word in a line of its own. A node reads these lines as the words, since no word has a control character.
+pub(crate) fn lines_of(alloc: Global, words: &[&str]) -> Result<Vec<u8>, AllocError>
+    requires { list_any has_control (map (λ w. w.now) words.now) ≡ false }
+    ensures { IfOk result (λ body. body.items ≡ lines_of (map (λ w. w.now) words.now)) }
+{
+    let mut body = Vec::new(alloc);
+    let mut left = words;
+    while let [first, rest @ ..] = left {
+        body.extend_from_slice(first.as_bytes())?;
+        body.push(b'\n')?;
+        left = rest;
+    }
+    Ok(body)
 }

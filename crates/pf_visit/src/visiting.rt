@@ -180,11 +180,6 @@ fn behind<'a>(body: &'a [u8], begin: &[u8]) -> &'a [u8] {
     &[]
 }
 
-/// What came of a command, behind the line that it was taken in.
-pub(crate) fn outcome_behind(body: &[u8]) -> &[u8] {
-    behind(body, ASKED)
-}
-
 /// HTTP's status of what came of a command: 503 where it is waited for still.
 fn code_of(reply: &Reply) -> u16 {
     if reply.body.as_slice() == WAITING {

@@ -1,6 +1,6 @@
 -- what came, what the wire is told, and the clock
 use Rattle.std.proofs.Common.{◌∙◌, refl}
-use Rattle.pf_turn.proofs.Chains.{served_none, served_then}
+use Rattle.pf_turn.proofs.Chains.{served_none, served_then, round_took, round_saw}
 use Rattle.pf_turn.proofs.running.round.Goals as goal
 
 pub returns-in-Err-clause-served : goal.returns-in-Err-clause-served
@@ -22,3 +22,23 @@ returns-clause-served g c =
       given = c.defer_asks-2.ensures.given ∙ (c.repeat_if.ensures.given ∙ (c.remind.ensures.given ∙ c.release.ensures.given));
       handed = c.defer_asks-2.ensures.quiet ∙ (c.repeat_if.ensures.quiet ∙ (c.remind.ensures.quiet ∙ c.release.ensures.quiet));
     })) c.tick_if.ensures.served))
+
+pub returns-clause-took : goal.returns-clause-took
+returns-clause-took g c =
+    round_took c.tick_if.result c.in-Ok.taken _ _ _ _ _ _ _ (record {
+      replica = refl;
+      given = c.defer_asks.ensures.given;
+      handed = c.defer_asks.ensures.quiet;
+    }) c.in-Ok.ensures.saw (record {
+      replica = refl;
+      given = c.defer_asks-2.ensures.given ∙ (c.repeat_if.ensures.given ∙ (c.remind.ensures.given ∙ c.release.ensures.given));
+      handed = c.defer_asks-2.ensures.quiet ∙ (c.repeat_if.ensures.quiet ∙ (c.remind.ensures.quiet ∙ c.release.ensures.quiet));
+    }) c.tick_if.ensures.ticked
+
+pub returns-clause-saw : goal.returns-clause-saw
+returns-clause-saw g c =
+    round_saw c.tick_if.result c.in-Ok.taken _ _ _ _ _ _ (record {
+      replica = refl;
+      given = c.defer_asks.ensures.given;
+      handed = c.defer_asks.ensures.quiet;
+    }) c.in-Ok.ensures.saw (c.tick_if.ensures.unseen ∙ c.beat-beat.ensures.looked)

@@ -65,4 +65,5 @@ returns-in-Ok-clause-saw g c = record {
   };
   still = λ n. nobodys_still _ _ _ _ c.in-Ok.ensures.acts n;
   unseen = c.in-Ok.ensures.nobodys;
+  shown = c.in-Ok.ensures.shown refl;
 }
