@@ -27,7 +27,6 @@ Wrote file ms position status.Usage input old new = Unit {0}
 Wrote file ms position status.Memory input old new = Appends old new (line (codes "memory"))
 Wrote file ms position status.Failed input old new = Unit {0}
 
--- the same of what some file, some members and some position come to
-abbrev pub Ran : Status → Option (List ℕ) → Option (List ℕ) → Option (List ℕ) → Type 0
-Ran ending input old new = (file : Option (List ℕ)) × (ms : Option (List Member)) × (position : ℕ) ×
-    Wrote file ms position ending input old new
+-- the same of these members, for some file of interfaces and some position
+abbrev pub Ran : Option (List Member) → Status → Option (List ℕ) → Option (List ℕ) → Option (List ℕ) → Type 0
+Ran ms ending input old new = (file : Option (List ℕ)) × (position : ℕ) × Wrote file ms position ending input old new

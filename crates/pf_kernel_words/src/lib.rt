@@ -8,7 +8,9 @@
 //! Within: `words` has the words as `clap` reads them.
 #![tactic(auto)]
 
+mod members;
 mod running;
 mod words;
 
-pub use running::{asks_nft, members_in, read_file, run_nft};
+pub use members::{MEMBERS_MAX, members_in};
+pub use running::{asks_nft, read_file, run_nft};

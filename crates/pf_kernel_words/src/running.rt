@@ -1,14 +1,16 @@
 //! A run of `check --nft`.
 
-ghost use Rattle.std.specs.Prelude.{◌≡◌, map, option_map, bytes_eq, codes};
+ghost use Rattle.std.specs.Prelude.{◌≡◌, [], IfOk, map, option_map, unwrap_or, bytes_eq, codes};
 ghost use Rattle.std.specs.List.{list_any};
+ghost use Rattle.clap.specs.Words.{found_of, rows_of, all_of, subcommand_rows_of};
+ghost use Rattle.pf_kernel_words.specs.Words.{named_in, members_named};
 ghost use Rattle.pf_kernel_words.specs.Running.{asks_nft, Wrote, Ran};
 
+use crate::members::members_in;
 use crate::words::command;
 use clap::ArgMatches;
 use pf_io::{InputFault, Status, misused, out_of_memory, read_all};
 use pf_kernel::{Member, nft_output};
-use pf_net::parse_address;
 use std::alloc::{AllocError, Global};
 use std::convert::AsStr;
 use std::fs;
@@ -36,9 +38,6 @@ pub fn asks_nft<S: AsStr>(words: &[S]) -> bool
     }
 }
 
-/// How many members a cluster has at most.
-const MEMBERS_MAX: usize = 15;
-
 /// What the words say: the file of interfaces, and the position.
 #[derive(Clone, Copy)]
 struct NftWords<'a> {
@@ -64,33 +63,47 @@ fn words_of<'a>(matches: &ArgMatches<'a>) -> Option<NftWords<'a>> {
     })
 }
 
-/// The members that these texts are, none where one of them isn't spelled as an address and a port, or where there are
-/// more than 15.
-pub fn members_in(alloc: Global, texts: &[&str]) -> Result<Option<Vec<Member>>, AllocError> {
-    if texts.len() > MEMBERS_MAX {
-        return Ok(None);
+/// The words, none where there are none.
+fn or_none<'m, 'a>(words: Option<&'m [&'a str]>) -> &'m [&'a str]
+    ensures { map (λ w. w.now) result.now
+        ≡ unwrap_or (option_map (λ s. map (λ w. w.now) s.now) words.entry) [] }
+{
+    match words {
+        Some(words) => words,
+        None => &[],
     }
-    let mut members = Vec::new(alloc);
-    for text in texts {
-        let Some(address) = parse_address(text) else {
-            return Ok(None);
-        };
-        members.push(Member {
-            address: address.ip,
-            port: address.port,
-        })?;
-    }
-    Ok(Some(members))
+}
+
+/// The texts behind `--members`.
+fn member_texts<'m, 'a>(inner: &'m ArgMatches<'a>) -> &'m [&'a str]
+    ensures { map (λ w. w.now) result.now
+        ≡ unwrap_or (all_of (codes "members") (rows_of (found_of inner.now))) [] }
+{
+    or_none(inner.get_strs("members"))
 }
 
 /// The members that the words name, none where they are no members of a cluster.
-fn members_of(alloc: Global, matches: &ArgMatches<'_>) -> Result<Option<Vec<Member>>, AllocError> {
-    let Some(inner) = matches.subcommand_matches("check") else {
-        return Ok(None);
-    };
-    match inner.get_strs("members") {
-        Some(texts) => members_in(alloc, texts),
-        None => Ok(Some(Vec::new(alloc))),
+fn members_of(alloc: Global, matches: &ArgMatches<'_>) -> Result<Option<Vec<Member>>, AllocError>
+    ensures { IfOk result (λ o. option_map (λ v. v.items) o ≡ named_in (subcommand_rows_of matches.now)) }
+{
+    match matches.subcommand() {
+        Some((word, inner)) => {
+            if word == "check" {
+                return members_in(alloc, member_texts(inner));
+            }
+            Ok(None)
+        }
+        None => Ok(None),
+    }
+}
+
+/// The members, as they are lent.
+fn lent(members: &Option<Vec<Member>>) -> Option<&[Member]>
+    ensures { option_map (λ ms. ms.now) result ≡ option_map (λ v. v.items) members.now }
+{
+    match members {
+        Some(members) => Some(members.as_slice()),
+        None => None,
     }
 }
 
@@ -141,8 +154,8 @@ fn answer<R: Read, W: Write>(
 }
 
 /// What the words `check --nft --interfaces FILE [--members ADDRESS:PORT..]` ask for, the program's name first, with
-/// the input and the output that are lent: the text's rules as three lines for nft(8), or a refusal. Other words are
-/// refused.
+/// the input and the output that are lent: the text's rules behind the guard of these members as three lines for
+/// nft(8), or a refusal. Other words are refused.
 pub fn run_nft<S: AsStr, R: Read, W: Write>(
     rt: &HostRuntime,
     alloc: Global,
@@ -150,7 +163,8 @@ pub fn run_nft<S: AsStr, R: Read, W: Write>(
     reader: &mut R,
     writer: &mut W,
 ) -> Status
-    ensures { Ran result (R.remaining reader.old) (W.contents writer.old) (W.contents writer.new) }
+    ensures { Ran (members_named (map S.text words.now)) result (R.remaining reader.old) (W.contents writer.old)
+        (W.contents writer.new) }
 {
     let Ok(command) = command(alloc) else {
         return out_of_memory(writer);
@@ -165,10 +179,10 @@ pub fn run_nft<S: AsStr, R: Read, W: Write>(
     let Ok(members) = members_of(alloc, &matches) else {
         return out_of_memory(writer);
     };
-    let members = members.as_ref().map(|ms| ms.as_slice());
+    let named = lent(&members);
     match read_file(rt, alloc, said.interfaces) {
-        Ok(Some(text)) => answer(alloc, Some(&text), members, said.position, reader, writer),
-        Ok(None) => answer(alloc, None, members, said.position, reader, writer),
+        Ok(Some(text)) => answer(alloc, Some(&text), named, said.position, reader, writer),
+        Ok(None) => answer(alloc, None, named, said.position, reader, writer),
         Err(_) => out_of_memory(writer),
     }
 }
