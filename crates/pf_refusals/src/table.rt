@@ -301,8 +301,9 @@ pub const REFUSALS: [Explanation; 43] = [
     Explanation {
         code: 88,
         name: "too many rules a packet",
-        meaning: "rules for nftables: a packet may be asked of more than 100,000 rules",
-        after: "Nothing is rendered.",
+        meaning: "rules by which a packet may be asked of more than 100,000 rules: they\n         \
+            aren't rendered for nftables, and a running node computes no verdict",
+        after: "Nothing is rendered or computed.",
         remedy: "Let fewer anchor rules name one anchor, or nest them less deep.",
     },
     Explanation {

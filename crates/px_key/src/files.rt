@@ -4,8 +4,9 @@ ghost use Rattle.std.specs.Prelude.{◌≡◌, ◌==◌, bit_and};
 
 use crate::fault::KeyFault;
 use crate::reading::key_from;
+use pf_io::open_regular;
 use std::alloc::Global;
-use std::fs::{self, OpenFile};
+use std::fs::OpenFile;
 use std::os::unix::fs::PermissionsExt;
 use std::rt::Files;
 
@@ -19,21 +20,10 @@ fn is_private(mode: u32) -> bool
     mode & OTHERS == 0
 }
 
-/// Whether a regular file is there. A pipe would be waited for.
-fn is_file<F: Files>(files: &F, path: &str) -> bool {
-    match fs::metadata(files, path) {
-        Ok(found) => found.is_file(),
-        Err(_) => false,
-    }
-}
-
 /// The key in a file: `Unread` where it isn't there, is no regular file or can't be read, `Open` where others than its
 /// owner may do anything with it, as ssh has it of a private key, and `NoKey` where its text is none.
 pub fn read_key<F: Files>(files: &F, alloc: Global, path: &str) -> Result<[u8; 32], KeyFault> {
-    if !is_file(files, path) {
-        return Err(KeyFault::Unread);
-    }
-    let Ok(mut file) = fs::open(files, path) else {
+    let Ok(mut file) = open_regular(files, path) else {
         return Err(KeyFault::Unread);
     };
     let Ok(about) = file.metadata() else {
