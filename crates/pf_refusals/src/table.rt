@@ -301,8 +301,9 @@ pub const REFUSALS: [Explanation; 43] = [
     Explanation {
         code: 88,
         name: "too many rules a packet",
-        meaning: "rules by which a packet may be asked of more than 100,000 rules: they\n         \
-            aren't rendered for nftables, and a running node computes no verdict",
+        meaning: "rules by which a packet may be asked of too many rules: of more than\n         \
+            100,000 they aren't rendered for nftables, of more than 10,000 a\n         \
+            running node computes no verdict",
         after: "Nothing is rendered or computed.",
         remedy: "Let fewer anchor rules name one anchor, or nest them less deep.",
     },
