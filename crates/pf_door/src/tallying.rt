@@ -285,9 +285,9 @@ impl<W> TallyWire<W> {
     /// Tells what was counted, after a round that came to this. A turn that neither took a datagram nor is to be
     /// followed by a wait was a tick.
     pub(crate) fn tell(&self, tally: &mut Tally, made: Progress)
-        ensures stood { tally.new.stood ≡ seconds_since self.now.since self.now.now }
-        ensures outrun { tally.new.outrun ≡ self.now.outrun }
-        ensures large { tally.new.large ≡ self.now.large }
+        ensures stood { tally.new.stood ≡ seconds_since self.entry.since self.entry.now }
+        ensures outrun { tally.new.outrun ≡ self.entry.outrun }
+        ensures large { tally.new.large ≡ self.entry.large }
     {
         tally.up = self.now / 1_000_000;
         tally.stood = seconds_since(self.since, self.now);
