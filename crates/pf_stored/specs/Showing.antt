@@ -1,5 +1,5 @@
 -- What is shown of a record.
-use Rattle.std.specs.Prelude.{◌≡◌, ℕ, false, map, Some, option_map}
+use Rattle.std.specs.Prelude.{◌≡◌, ℕ, false, [], map, Some, option_map}
 use Rattle.px_model.specs.Node.{Log}
 use Rattle.px_model.specs.Step.{front}
 use Rattle.px_model.specs.Spelling.{Bytes}

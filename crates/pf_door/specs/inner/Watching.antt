@@ -1,11 +1,11 @@
 -- What is told of how a node stands, from what came over its wire.
-use Rattle.std.specs.Prelude.{ℕ, ◌+◌, ◌-◌, ◌/◌, ◌==◌, ◌&&◌, Bool, true, false, Option, Some, None, max, nat_le, nat_lt}
+use Rattle.std.specs.Prelude.{ℕ, ◌+◌, ◌-◌, ◌/◌, ◌==◌, ◌&&◌, Bool, true, false, Option, Some, None, min, nat_le, nat_lt}
 use Rattle.std.specs.Prelude.{if◌then◌else◌}
 use Rattle.px_wire.specs.Message.{Message, prepare, promise, accept, vote, nack, need, learned, ask, asked}
 use Rattle.px_wire.specs.Message.{ask_refused, prepare_all, promise_all}
 use Rattle.pf_door.specs.declared.tallying.TheConstants.{PROPOSED}
 
--- a position below which some member has learned all, as a message shows: who proposes at a position, or lacks it, has
+-- a position below which some member has learned all, as a message shows (32 bits): who proposes at a position, or lacks it, has
 -- learned all below, and what is voted for is proposed
 abbrev pub shown_in : Message → ℕ
 shown_in (prepare ballot p) = p
@@ -13,7 +13,7 @@ shown_in (prepare_all ballot p) = p
 shown_in (accept ballot p entry) = p
 shown_in (vote ballot p entry) = p
 shown_in (need p) = p
-shown_in (learned p entry) = p + 1
+shown_in (learned p entry) = min (p + 1) 4294967295
 shown_in (promise ballot p accepted) = 0
 shown_in (promise_all ballot p top accepted) = 0
 shown_in (nack ballot p promised) = 0
