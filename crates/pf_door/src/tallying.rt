@@ -282,12 +282,21 @@ impl<W> TallyWire<W> {
         self.since = stood_since(has_moved, waits, self.since, self.now);
     }
 
+    /// Tells what was counted of the other members.
+    fn tell_peers(&self, peers: &mut Vec<PeerTally>) {
+        for i in 0..self.rows.len() {
+            if let (Some(peer), Some(row)) = (peers.get_mut(i), self.rows.get(i)) {
+                *peer = row.told(self.now);
+            }
+        }
+    }
+
     /// Tells what was counted, after a round that came to this. A turn that neither took a datagram nor is to be
     /// followed by a wait was a tick.
     pub(crate) fn tell(&self, tally: &mut Tally, made: Progress)
-        ensures stood { tally.new.stood ≡ seconds_since self.entry.since self.entry.now }
-        ensures outrun { tally.new.outrun ≡ self.entry.outrun }
-        ensures large { tally.new.large ≡ self.entry.large }
+        ensures stood { tally.new.stood ≡ seconds_since self.entry.now.since self.entry.now.now }
+        ensures outrun { tally.new.outrun ≡ self.entry.now.outrun }
+        ensures large { tally.new.large ≡ self.entry.now.large }
     {
         tally.up = self.now / 1_000_000;
         tally.stood = seconds_since(self.since, self.now);
@@ -300,11 +309,7 @@ impl<W> TallyWire<W> {
         if made.wait == 0 && made.turns > self.came {
             tally.ticks = tally.ticks.saturating_add(1);
         }
-        for i in 0..self.rows.len() {
-            if let (Some(peer), Some(row)) = (tally.peers.get_mut(i), self.rows.get(i)) {
-                *peer = row.told(self.now);
-            }
-        }
+        self.tell_peers(&mut tally.peers);
     }
 
     /// The place of a member's row.

@@ -5,8 +5,8 @@ use Rattle.px_wire.specs.Message.{Message, prepare, promise, accept, vote, nack,
 use Rattle.px_wire.specs.Message.{ask_refused, prepare_all, promise_all}
 use Rattle.pf_door.specs.declared.tallying.TheConstants.{PROPOSED}
 
--- a position below which some member has learned all, as a message shows (32 bits): who proposes at a position, or lacks it, has
--- learned all below, and what is voted for is proposed
+-- a position below which some member has learned all, as a message shows, in 32 bits: who proposes at a position, or
+-- lacks it, has learned all below, and what is voted for is proposed
 abbrev pub shown_in : Message → ℕ
 shown_in (prepare ballot p) = p
 shown_in (prepare_all ballot p) = p
