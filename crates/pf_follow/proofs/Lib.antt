@@ -1,3 +1,4 @@
 mod Ends
 mod Texts
 pub mod Following
+pub mod Same

@@ -1,6 +1,6 @@
 //! What nft(8) is to load, one position after the other.
 
-ghost use Rattle.std.specs.Prelude.{◌≡◌, [], ◌≤◌, ◌==◌, ◌↔◌, IfOk, OnErr, IsTrue, Some, None, length, not};
+ghost use Rattle.std.specs.Prelude.{◌≡◌, [], ◌≤◌, ◌==◌, ◌↔◌, IfOk, OnErr, IsTrue, Some, None, false, length, not};
 ghost use Rattle.std.specs.List.{prefix_len};
 ghost use Rattle.pf_kernel.specs.Outputs.{config_output};
 ghost use Rattle.pf_kernel.specs.Seen.{written};
@@ -83,8 +83,10 @@ impl Kernel {
         }
     }
 
-    /// From now on what these members send each other passes whatever the rules say. Answers whether that is new.
+    /// From now on what these members send each other passes whatever the rules say. Answers whether they are others
+    /// than those before.
     pub fn set_members(&mut self, members: Vec<Member>) -> bool
+        ensures same { result ≡ false ↔ self.old.members.items ≡ members.items }
         ensures members { self.new.members ≡ members }
         ensures interfaces { self.new.interfaces ≡ self.old.interfaces }
         ensures last { self.new.last ≡ self.old.last }
