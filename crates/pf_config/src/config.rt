@@ -12,13 +12,14 @@ ghost use Rattle.pf_config.specs.inner.Changes.{FailsWith};
 ghost use Rattle.pf_config.specs.Changes.{add, replace, delete, flush_table, set_table, filled, new_table};
 ghost use Rattle.pf_config.specs.Changes.{load_ruleset};
 ghost use Rattle.pf_ruleset.specs.Rulesets.{ruleset_of};
+ghost use Rattle.pf_config.specs.inner.TableChanges.{changed, commanded, GivesIf, SetsIf};
 ghost use Rattle.pf_config.specs.inner.Texts.{definition_of};
 ghost use Rattle.pf_config.specs.Ordered.{AreOrdered};
 ghost use Rattle.pf_config.specs.SkippedNames.{is_listed};
 ghost use Rattle.pf_config.specs.Trees.{anchor_in};
 ghost use Rattle.pf_config.specs.declared.config.TheConstants.{RULES_MAX, ANCHORS_MAX};
 
-use crate::anchor::Anchor;
+use crate::anchor::{Anchor, change_table};
 use crate::blocks::blocks_in;
 use crate::changed::{placed, tidied, with_tables};
 use crate::depths::go_too_deep;
@@ -27,10 +28,11 @@ use crate::loading::{any_too_deep, is_too_deep, loaded};
 use crate::paths::copied_path;
 use crate::placing::Placing;
 use crate::skipped::Skipped;
+use crate::table_change::TableChange;
 use crate::tables::{Tables, named, names_of, with_table};
 use crate::walk::descend;
 use pf_ruleset::{InterfaceName, Item, Name, Path, Ruleset, TableDef, TableEntry, TableName};
-use pf_table::Table;
+use pf_table::{Edit, Table};
 use std::alloc::{AllocError, Global};
 use std::marker::Model;
 use std::rc::Rc;
@@ -42,7 +44,7 @@ const ANCHORS_MAX: usize = 1024;
 pub const RULES_MAX: usize = 1024;
 
 /// How many entries a table has at most.
-const ENTRIES_MAX: usize = 4096;
+pub(crate) const ENTRIES_MAX: usize = 4096;
 
 /// Anchors with their rules and tables, and the interfaces that are skipped.
 #[derive(Drop)]
@@ -53,14 +55,14 @@ pub struct Config {
 }
 
 impl Model for Config {
-    ghost use Rattle.std.specs.Prelude.{◌≡◌, []};
+    ghost use Rattle.std.specs.Prelude.{◌≡◌, ◌≤◌, [], length};
     ghost use Rattle.pf_config.specs.Map.{Configuration};
 
     ghost Value = { Configuration };
 
     ghost view = { λ c. record { skip = c.skip; anchors = c.main.anchors } };
 
-    ghost invariant = { λ c. c.main.names ≡ [] };
+    ghost invariant = { λ c. (c.main.names ≡ []) × (length c.main.anchors ≤ 1024) };
 }
 
 impl Config {
@@ -260,6 +262,9 @@ impl Config {
     ) -> Result<(), ConfigFault>
         ensures { Changes result self.old self.new (add self.old path.now name.now list.now) }
     {
+        if self.edit_one(path, name, list, Edit::Insert)? {
+            return Ok(());
+        }
         let table = added(self.alloc, self.table(path, name.as_str()), list)?;
         self.set_table(path, name, &table)
     }
@@ -288,6 +293,9 @@ impl Config {
     ) -> Result<(), ConfigFault>
         ensures { Changes result self.old self.new (delete self.old path.now name.now list.now) }
     {
+        if self.edit_one(path, name, list, Edit::Remove)? {
+            return Ok(());
+        }
         let Some(old) = self.table(path, name.as_str()) else {
             return Err(ConfigFault::NoTable);
         };
@@ -313,7 +321,38 @@ impl Config {
         self.set_table(path, name, &table)
     }
 
-    /// Puts a table in its place.
+    /// Adds or deletes the one entry of a list in place. False, and nothing is changed, where the list has more, or
+    /// that can't be done.
+    fn edit_one(
+        &mut self,
+        path: &[Name],
+        name: &TableName,
+        list: &[TableEntry],
+        edit: Edit,
+    ) -> Result<bool, AllocError>
+        ensures { MatchResult result (λ done. GivesIf done (commanded edit self.old path.now name.now list.now) self.old
+            self.new) (λ e. self.new ≡ self.old) }
+    {
+        match list {
+            [entry] => self.change_table(path, name, TableChange::Entry(entry, edit)),
+            _ => Ok(false),
+        }
+    }
+
+    /// Changes a table in place. False, and nothing is changed, where that can't be done.
+    fn change_table(
+        &mut self,
+        path: &[Name],
+        name: &TableName,
+        change: TableChange,
+    ) -> Result<bool, AllocError>
+        ensures { MatchResult result (λ done. SetsIf done (changed change (table_at self.old path.now name.now))
+            path.now name.now self.old self.new) (λ e. self.new ≡ self.old) }
+    {
+        change_table(self.alloc, &mut self.main, path, name, change)
+    }
+
+    /// Puts a table under its name, in place where that can be done.
     fn set_table(
         &mut self,
         path: &[Name],
@@ -322,6 +361,9 @@ impl Config {
     ) -> Result<(), ConfigFault>
         ensures { Changes result self.old self.new (set_table self.old path.now name.now table.now) }
     {
+        if self.change_table(path, name, TableChange::Whole(table))? {
+            return Ok(());
+        }
         let tables = with_table(self.alloc, self.tables(path), name, table)?;
         let next = with_tables(self.alloc, &self.main, path, tables)?;
         if !has_room(&next) {

@@ -57,7 +57,7 @@ count_without entries other = length (unlisted entries other)
 
 -- ---- one entry
 
--- the entries once one of them is edited
+-- the entries after an edit: one is added, unless its prefix is there, or removed, if it is there with its sign
 abbrev pub edited : Edit → TableEntry → List TableEntry → List TableEntry
 edited Insert e entries = put_entry entries e
 edited Remove e entries = unlisted entries (e ∷ [])

@@ -1,4 +1,4 @@
-//! One entry comes in or goes out in its place: whole, or not at all.
+//! One entry is added or removed in place: wholly, or not at all.
 
 ghost use Rattle.std.specs.Prelude.{◌≡◌, true, is_ok, if◌then◌else◌, IfOk, IfSome, slice_get};
 ghost use Rattle.pf_addr.specs.Blocks.{IsBlock};
@@ -15,16 +15,16 @@ use pf_ruleset::TableEntry;
 use std::alloc::AllocError;
 use std::rc::Rc;
 
-/// What happens to an entry of a table.
+/// A change of one entry of a table.
 #[derive(Clone, Copy)]
 pub enum Edit {
-    /// It comes in, unless its prefix is there.
+    /// The entry is added, unless its prefix is in the table.
     Insert,
-    /// It goes, if it is there with its sign.
+    /// The entry is removed, if it is in the table with its sign.
     Remove,
 }
 
-/// Puts an entry into the part of its family and length, unless its prefix is there.
+/// Adds an entry to the part of its family and length, unless its prefix is there.
 fn put(part: &mut Part, entry: &TableEntry) -> Result<(), AllocError>
     requires part { IsPart part.old }
     requires own { is_of part.old.v6 part.old.len entry.now ≡ true }
@@ -39,7 +39,7 @@ fn put(part: &mut Part, entry: &TableEntry) -> Result<(), AllocError>
     }
 }
 
-/// Whether the entry at that place has the sign.
+/// Whether the entry at that index has the sign.
 fn has_sign(entries: &[TableEntry], at: usize, negated: bool) -> bool
     ensures { IfSome (slice_get entries.now at) (λ e. result ≡ bool_eq e.negated negated) }
 {
@@ -49,7 +49,7 @@ fn has_sign(entries: &[TableEntry], at: usize, negated: bool) -> bool
     }
 }
 
-/// Takes an entry out of the part of its family and length, if it is there with its sign.
+/// Removes an entry from the part of its family and length, if it is there with its sign.
 fn take(part: &mut Part, entry: &TableEntry)
     requires part { IsPart part.old }
     requires own { is_of part.old.v6 part.old.len entry.now ≡ true }
@@ -86,7 +86,7 @@ fn edit_part(part: &mut Part, entry: &TableEntry, edit: Edit) -> Result<(), Allo
 }
 
 #[tactic(auto, using(crate::proofs::OneEdit::place_here))]
-/// The place of the entries of that family and length, if there are some.
+/// The index of the part of that family and length, if there are entries in it.
 fn place_of(parts: &[Part], v6: bool, len: u8) -> Option<usize>
     ensures { IfSome result (λ at. IsPlace parts.now at v6 len) }
 {
@@ -100,7 +100,7 @@ fn place_of(parts: &[Part], v6: bool, len: u8) -> Option<usize>
     None
 }
 
-/// Edits the entries of one place. Answers how many they were, and how many they are.
+/// Edits the part with that index, and returns how many entries it had and has.
 fn edit_at(
     parts: &mut Vec<Part>,
     at: usize,
@@ -122,8 +122,8 @@ fn edit_at(
     Ok((before, after))
 }
 
-/// Edits the entries of the entry's family and length, and answers how many they were, and how many they are. None, and
-/// nothing is changed, where there are none or somebody else holds the parts too.
+/// Edits the part of the entry's family and length, and returns how many entries it had and has. None, and nothing is
+/// changed, where it has no entries, or the parts are shared.
 pub(crate) fn edit_in_place(
     parts: &mut Rc<Vec<Part>>,
     entry: &TableEntry,

@@ -32,7 +32,7 @@ pub(crate) fn keys_of(alloc: Global, entries: &[TableEntry]) -> Result<Vec<u128>
 }
 
 #[tactic(auto, using(crate::proofs::OneEdit::undone, crate::proofs::OneEdit::keys_insert, crate::proofs::OneEdit::keys_long))]
-/// Puts an entry and its number at a place: both, or neither where memory runs out.
+/// Inserts an entry and its number at an index: both, or neither where memory runs out.
 pub(crate) fn insert_at(
     entries: &mut Vec<TableEntry>,
     keys: &mut Vec<u128>,
@@ -54,7 +54,7 @@ pub(crate) fn insert_at(
 }
 
 #[tactic(auto, using(crate::proofs::OneEdit::keys_remove, crate::proofs::OneEdit::keys_long))]
-/// Removes the entry and the number at a place.
+/// Removes the entry and the number at an index.
 pub(crate) fn remove_at(entries: &mut Vec<TableEntry>, keys: &mut Vec<u128>, at: usize)
     requires place { at < length entries.old.items }
     requires keyed { keys.old.items ≡ map key_of entries.old.items }

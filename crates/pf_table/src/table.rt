@@ -134,8 +134,8 @@ impl Table {
         Table::made(alloc, self.persist(), self.is_const(), &entries)
     }
 
-    /// Edits one entry in its place. False, and nothing is changed, where that can't be: the entries are shared, or none
-    /// of them is of its family and length. An error changes nothing.
+    /// Adds or removes one entry in place. False, and nothing is changed, where that can't be done: the entries are
+    /// shared, or none of them is of its family and length. An error changes nothing.
     pub fn edit(&mut self, entry: &TableEntry, edit: Edit) -> Result<bool, AllocError>
         ensures done { IfOk result (λ done. self.new ≡ (if done then record {
           persist = self.old.persist;

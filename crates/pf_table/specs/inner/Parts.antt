@@ -14,17 +14,17 @@ abbrev pub IsPart : Part → Type 0
 IsPart p = (list_all (is_of p.v6 p.len) p.entries.items ≡ true) × (p.len ≤ (if p.v6 then 128 else 32)) ×
     IsOrdered p.entries.items × AreBlocks p.entries.items
 
--- the part at this place is of that family and length, and has entries
+-- the part with this index is of that family and length, and has entries
 pub record IsPlace (parts : List Part) (at : ℕ) (v6 : Bool) (len : ℕ) : Type 0 where
   pub within : at < length parts
   pub own : (p : Part) → p ≡ get_or parts at p → (p.v6 ≡ v6) × (p.len ≡ len) × (1 ≤ length p.entries.items)
 
--- so many of the old entries are so many of the new ones; one has come at most
+-- the lengths of the lists differ as these counts of a part's entries do; the part has at most one more than before
 abbrev pub HasMoved : ℕ → ℕ → List TableEntry → List TableEntry → Type 0
 HasMoved before after old new = (length new + before ≡ length old + after) × (before ≤ length old) ×
     (after ≤ before + 1)
 
--- the entries once one of them is edited, unless that can't be in its place
+-- the entries after an edit, or as they were where it wasn't made
 abbrev pub edited_if : {N E : Type 0} → Result (Option N) E → Edit → TableEntry → List TableEntry → List TableEntry
 edited_if (Ok (Some n)) edit e entries = edited edit e entries
 edited_if (Ok None) edit e entries = entries
