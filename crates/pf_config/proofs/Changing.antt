@@ -39,7 +39,7 @@ and_false false c h = refl
 one_long : (p : Path) (rules : List AnyRule) (tables : List (Name × TableValue)) → (is_empty rules && is_empty tables) ≡ false → length (own_entry p rules tables) ≡ 1
 one_long p rules tables h = rw h refl
 
-abbrev tree_with : Path → List AnchorValue → AnchorTree
+abbrev pub tree_with : Path → List AnchorValue → AnchorTree
 tree_with q es = record { names = q; anchors = es }
 
 -- the anchor once its own tables are changed
@@ -195,7 +195,7 @@ own_same : (o : Option AnchorTree) → own_of o ≡ own_at o
 own_same None = refl
 own_same (Some k) = refl
 
-abbrev config_with : List Name → List AnchorValue → Configuration
+abbrev pub config_with : List Name → List AnchorValue → Configuration
 config_with skip es = record { skip = skip; anchors = es }
 
 main_changes_if : (change : TableChange) (name : Name) (done : Bool) (path : Path) (skip : List Name) (t new : AnchorTree) → t.names ≡ [] → length t.anchors ≤ 1024 → length new.anchors ≡ length t.anchors → TreeChangesIf done change name path t new → (new.names ≡ []) × SetsIf done (changed change (named name (tables_at (record { skip = skip; anchors = t.anchors }) path))) path name (record { skip = skip; anchors = t.anchors }) (record { skip = skip; anchors = new.anchors })

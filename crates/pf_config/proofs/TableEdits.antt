@@ -89,6 +89,18 @@ kept [] at t v w g c = absurd (omega (arith, w))
 kept (u ∷ ts) zero t v w g c = ap (λ (x : TableValue). (t.0, x) ∷ ts) c ∙ ap (λ (x : Name × TableValue). x ∷ ts) g
 kept (u ∷ ts) (suc at) t v w g c = ap (λ (us : List (Name × TableValue)). u ∷ us) (kept ts at t v (omega (arith, w)) g c)
 
+-- a table takes the place of the one of its name
+pub put_there : (ts : List (Name × TableValue)) (n : Name) (at : ℕ) (t : Name × TableValue) (own v : TableValue) → AreOrdered ts → StandsAt ts n at → t ≡ get_or ts at t → own ≡ v → AreOrdered (set ts at (t.0, own)) × (set ts at (t.0, own) ≡ with_table ts n v)
+put_there ts n at t own v s b g e =
+    let put = replaced ts n own at t s b.within g (b.is t g) ∙ ap (with_table ts n) e in
+    (subst AreOrdered (sym put) (ordered_with ts n v s), put)
+
+-- a table comes where there is none of its name
+pub put_new : (ts : List (Name × TableValue)) (n key : Name) (at : ℕ) (own v : TableValue) → AreOrdered ts → BelongsAt ts n at → key ≡ n → own ≡ v → AreOrdered (insert ts at (key, own)) × (insert ts at (key, own) ≡ with_table ts n v)
+put_new ts n key at own v s b k e =
+    let put = ap (λ (m : Name). insert ts at (m, own)) k ∙ inserted ts n own at b ∙ ap (with_table ts n) e in
+    (subst AreOrdered (sym put) (ordered_with ts n v s), put)
+
 -- an entry of the table of a name is edited
 pub edit_among : {X : Type 0} (res : Result Bool X) (edit : Edit) (e : TableEntry) (ts : List (Name × TableValue)) (n : Name) (at : ℕ) (t : Name × TableValue) (v : TableValue) → AreOrdered ts → StandsAt ts n at → t ≡ get_or ts at t → MatchResult res (λ done. IsTableIf done (edited_table edit e t.1) t.1 v) (λ x. v ≡ t.1) →
     AreOrdered (set ts at (t.0, v)) × MatchResult res (λ done. ChangesIf done (edited_in edit e (named n ts)) n ts (set ts at (t.0, v))) (λ x. set ts at (t.0, v) ≡ ts)

@@ -24,9 +24,7 @@ use crate::below::{
 };
 use crate::candidate_list::CandidateList;
 use crate::order::{Order, order_of};
-use crate::own::{
-    are_apart, has_entry, is_own_unnamed, is_unnamed_below, own_room, push_own_path,
-};
+use crate::own::{are_apart, has_entry, is_own_unnamed, is_unnamed_below, own_room, push_own_path};
 use crate::own_rules::OwnRules;
 use crate::paths::copied_path;
 use crate::referred::Referred;

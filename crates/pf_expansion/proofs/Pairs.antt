@@ -1,4 +1,4 @@
--- How many conditions the lists come to.
+-- How many conditions the lists give.
 use Rattle.std.proofs.Common.{◌≡◌, ℕ, ◌+◌, ◌*◌, ◌-◌, ◌^◌, ◌<◌, ◌≤◌, Bool, true, false, cond, List, [], ◌∷◌, ◌++◌, Option, Some, None, length, map, min, nat_lt, is_some, refl, sym, subst, ap, ◌∙◌, arith, length-append, inl, inr}
 use Rattle.std.specs.Prelude.{if◌then◌else◌}
 use Rattle.std.specs.List.{flat_map}

@@ -1,4 +1,4 @@
-//! How many conditions the lists of a rule come to, told without making them.
+//! How many conditions the lists of a rule give, counted without making them.
 
 ghost use Rattle.std.specs.Prelude.{◌≡◌, ◌^◌, ◌-◌, false, length, min};
 ghost use Rattle.pf_ruleset.specs.declared.parts.FlagTest.{FlagTest};
@@ -38,7 +38,7 @@ fn is_of_one(text: &WrittenConditions, source: &Host, destination: &Host) -> boo
     with_family(text.common.family, hosts).is_some()
 }
 
-/// How many destinations there are that are of one family with a source.
+/// How many of the destinations are of one family with a source.
 fn destinations(text: &WrittenConditions, source: &Host) -> usize
     ensures { result ≡ count_hosts (is_of_one (conditions_of text.now) source.now)
         (conditions_of text.now).common.destination.hosts.items }
@@ -64,7 +64,7 @@ fn pairs(text: &WrittenConditions) -> usize
     count
 }
 
-/// How many conditions the lists come to, the greatest number of the type where they are more.
+/// How many conditions the lists give, the greatest number of the type where they are more.
 #[tactic(auto, using(crate::proofs::Products::capped))]
 fn capped_count(text: &WrittenConditions) -> usize
     ensures { result ≡ min (all_of (conditions_of text.now)) (2 ^ 64 - 1) }
@@ -77,7 +77,7 @@ fn capped_count(text: &WrittenConditions) -> usize
         .saturating_mul(count_of(&text.common.interfaces))
 }
 
-/// How many conditions the lists come to, where they don't have too many combinations.
+/// How many conditions the lists give, where they don't have too many combinations.
 pub(crate) fn count_combined(text: &WrittenConditions) -> usize
     requires { is_too_wide (conditions_of text.now) ≡ false }
     ensures { (test : FlagTest) → result ≡ length (combined test (conditions_of text.now)) }

@@ -213,7 +213,7 @@ pub(crate) fn bad_types(text: &WrittenConditions) -> bool
 
 /// The conditions of all combinations behind so many rules, or the lowest cause that refuses them, where a name is
 /// reserved or not.
-#[tactic(auto, unfolding(crate::specs::Causes::has_no_combination, crate::specs::Causes::has_too_many))]
+#[tactic(auto, using(crate::proofs::Capped::empty_is), unfolding(crate::specs::Causes::has_no_combination, crate::specs::Causes::has_too_many))]
 pub(crate) fn judge_conditions(
     alloc: Global,
     test: FlagTest,

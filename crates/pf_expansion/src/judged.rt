@@ -72,7 +72,7 @@ impl Judged {
     }
 }
 
-/// How many rules conditions come to, where they aren't refused for their width.
+/// How many rules the conditions give, where they aren't refused for their width.
 #[tactic(auto, unfolding(crate::specs::Blocks::rule_count))]
 fn rule_count(text: &WrittenConditions) -> usize
     ensures { (test : FlagTest) → result ≡ rule_count test (conditions_of text.now) }

@@ -350,10 +350,13 @@ far_before v l a x e i n k h =
     let own = of_means v l a i in
     elim (less_means a.prefix x.prefix h) [
       | inl g ↦ lex a.prefix e.prefix (inl (subst (λ z. version a.prefix.base < z) k.0 g))
-      | inr g ↦ lex a.prefix e.prefix (inr (g.0 ∙ k.0, elim (cases_lt a.prefix.len e.prefix.len) [
-        | inl y ↦ y
-        | inr y ↦ (let le = g.1 in let same_len = k.1 in let d : x.prefix.len ≡ a.prefix.len = omega (arith, le, same_len, y) in let t : is_of v l x ≡ true = of_from v l x (sym g.0 ∙ own.0) (d ∙ own.1) in let bad : true ≡ false = sym t ∙ n in cc)
-      ]))
+      | inr g ↦ lex a.prefix e.prefix (inr (
+        g.0 ∙ k.0,
+        elim (cases_lt a.prefix.len e.prefix.len) [
+          | inl y ↦ y
+          | inr y ↦ (let le = g.1 in let same_len = k.1 in let d : x.prefix.len ≡ a.prefix.len = omega (arith, le, same_len, y) in let t : is_of v l x ≡ true = of_from v l x (sym g.0 ∙ own.0) (d ∙ own.1) in let bad : true ≡ false = sym t ∙ n in cc)
+        ],
+      ))
     ]
 
 far_behind : (v : Bool) (l : ℕ) (b x e : TableEntry) → is_of v l x ≡ true → is_of v l b ≡ false → Alike x e → is_lt (prefix_cmp x.prefix b.prefix) ≡ true → is_lt (prefix_cmp e.prefix b.prefix) ≡ true
@@ -361,10 +364,13 @@ far_behind v l b x e i n k h =
     let own = of_means v l x i in
     elim (less_means x.prefix b.prefix h) [
       | inl g ↦ lex e.prefix b.prefix (inl (subst (λ z. z < version b.prefix.base) k.0 g))
-      | inr g ↦ lex e.prefix b.prefix (inr (sym k.0 ∙ g.0, elim (cases_lt e.prefix.len b.prefix.len) [
-        | inl y ↦ y
-        | inr y ↦ (let le = g.1 in let same_len = k.1 in let d : b.prefix.len ≡ x.prefix.len = omega (arith, le, same_len, y) in let t : is_of v l b ≡ true = of_from v l b (sym g.0 ∙ own.0) (d ∙ own.1) in let bad : true ≡ false = sym t ∙ n in cc)
-      ]))
+      | inr g ↦ lex e.prefix b.prefix (inr (
+        sym k.0 ∙ g.0,
+        elim (cases_lt e.prefix.len b.prefix.len) [
+          | inl y ↦ y
+          | inr y ↦ (let le = g.1 in let same_len = k.1 in let d : b.prefix.len ≡ x.prefix.len = omega (arith, le, same_len, y) in let t : is_of v l b ≡ true = of_from v l b (sym g.0 ∙ own.0) (d ∙ own.1) in let bad : true ≡ false = sym t ∙ n in cc)
+        ],
+      ))
     ]
 
 not_false : (b : Bool) → not b ≡ true → b ≡ false
