@@ -5,6 +5,9 @@ use Rattle.std.specs.declared.cmp.Ordering.TheVariants.{Less}
 use Rattle.std.specs.Ordering.{is_lt, nat_cmp}
 use Rattle.std.specs.Cmp.Lexicographic.{slice_cmp}
 use Rattle.std.proofs.lemmas.Cmp.{tied_itself}
+use Rattle.pf_ruleset.specs.Items.{AnyRule}
+use Rattle.pf_ruleset.specs.Names.{Name}
+use Rattle.pf_table.specs.Tables.{TableValue}
 use Rattle.pf_config.specs.Map.{AnchorValue, Path, path_eq, anchor_at, rules_in, tables_in, name_after}
 use Rattle.pf_config.specs.Changes.{is_nothing, unless_nothing, is_path_before, anchors_before, anchors_behind, with_anchor, with_tables, without_unnamed, is_some_unnamed, used_alone, tidied_of, tidied, placed}
 use Rattle.pf_config.proofs.Treed.{is_less, path_same}
@@ -65,15 +68,21 @@ no_tables_left : (p : Path) (o : Option AnchorValue) → length (unless_nothing 
 no_tables_left p None = omega arith
 no_tables_left p (Some a) = at_most_one (record { path = p; rules = a.rules; tables = [] })
 
-pub tables_few : (p : Path) (es : List AnchorValue) → length (with_tables p [] es) ≤ length es
-tables_few p es = length_with (record { path = p; rules = rules_in (anchor_at p es); tables = [] }) es (no_tables_left p (anchor_at p es))
+without_tables : (p : Path) (es : List AnchorValue) → length (with_tables p [] es) ≤ length es
+without_tables p es = length_with (record { path = p; rules = rules_in (anchor_at p es); tables = [] }) es (no_tables_left p (anchor_at p es))
 
-pub rules_few : (p : Path) (es : List AnchorValue) → length (tidied (placed es (record { path = p; rules = [] }))) ≤ length es
+pub tables_few : (p : Path) (tables : List (Name × TableValue)) (es : List AnchorValue) → tables ≡ [] → length (with_tables p tables es) ≤ length es
+tables_few p tables es h = subst (λ (ts : List (Name × TableValue)). length (with_tables p ts es) ≤ length es) (sym h) (without_tables p es)
+
+without_rules : (p : Path) (es : List AnchorValue) → length (tidied (placed es (record { path = p; rules = [] }))) ≤ length es
 unfolding tidied without_unnamed
-rules_few p es =
+without_rules p es =
     let named = without_unnamed p es in
     let left = placed es (record { path = p; rules = [] }) in
     let l = length_with (record { path = p; rules = []; tables = tables_in (anchor_at p named) }) named (no_rules_left p (anchor_at p named)) in
     let m = length_filter (λ (a : AnchorValue). not (is_some_unnamed (name_after p a.path))) es in
     let n = length_tidied left left in
     omega (arith, l, m, n)
+
+pub rules_few : (p : Path) (rules : List AnyRule) (es : List AnchorValue) → rules ≡ [] → length (tidied (placed es (record { path = p; rules = rules }))) ≤ length es
+rules_few p rules es h = subst (λ (rs : List AnyRule). length (tidied (placed es (record { path = p; rules = rs }))) ≤ length es) (sym h) (without_rules p es)

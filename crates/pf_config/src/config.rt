@@ -159,7 +159,7 @@ impl Config {
     }
 
     /// Removes all tables of a path.
-    #[tactic(auto, unfolding(crate::specs::Changes::flush_tables))]
+    #[tactic(auto, using(crate::proofs::Few::tables_few), unfolding(crate::specs::Changes::flush_tables))]
     pub fn flush_tables(&mut self, path: &[Name]) -> Result<(), ConfigFault>
         ensures { Changes result self.old self.new (Ok (flush_tables self.old path.now)) }
     {
@@ -228,7 +228,7 @@ impl Config {
     }
 
     /// Removes the rules of a path, its unnamed blocks, and the tables that no rule refers to any more.
-    #[tactic(auto, unfolding(crate::specs::Changes::flush_rules))]
+    #[tactic(auto, using(crate::proofs::Few::rules_few), unfolding(crate::specs::Changes::flush_rules))]
     pub fn flush_rules(&mut self, path: &[Name]) -> Result<(), ConfigFault>
         ensures { Changes result self.old self.new (Ok (flush_rules self.old path.now)) }
     {
@@ -240,7 +240,7 @@ impl Config {
     }
 
     /// Removes what `flush_rules` does, and then all tables of the path.
-    #[tactic(auto, unfolding(crate::specs::Changes::flush_rules, crate::specs::Changes::flush_tables))]
+    #[tactic(auto, using(crate::proofs::Few::rules_few, crate::proofs::Few::tables_few), unfolding(crate::specs::Changes::flush_rules, crate::specs::Changes::flush_tables))]
     pub fn flush_all(&mut self, path: &[Name]) -> Result<(), ConfigFault>
         ensures { Changes result self.old self.new (Ok (flush_all self.old path.now)) }
     {
