@@ -1,12 +1,11 @@
 -- How many conditions the lists give.
-use Rattle.std.proofs.Common.{◌≡◌, ℕ, ◌+◌, ◌*◌, ◌-◌, ◌^◌, ◌<◌, ◌≤◌, Bool, true, false, cond, List, [], ◌∷◌, ◌++◌, Option, Some, None, length, map, min, nat_lt, is_some, refl, sym, subst, ap, ◌∙◌, arith, length-append, inl, inr}
+use Rattle.std.proofs.Common.{◌≡◌, ℕ, ◌+◌, ◌*◌, ◌-◌, ◌^◌, ◌≤◌, Bool, true, false, List, [], ◌∷◌, Option, Some, None, length, map, min, nat_lt, is_some, refl, sym, subst, ap, ◌∙◌, arith, length-append, inl, inr}
 use Rattle.std.specs.Prelude.{if◌then◌else◌}
 use Rattle.std.specs.List.{flat_map}
 use Rattle.std.proofs.Math.Nat.{mul_assoc, mul-suc, suc-mul, add-mul}
 use Rattle.std.proofs.lemmas.List.{length-map}
 use Rattle.std.proofs.lemmas.Bool.{cases_lt, lt-ltb}
 use Rattle.pf_addr.specs.declared.addr.Family.{Family}
-use Rattle.pf_addr.specs.declared.addr.Family.TheVariants.{Inet}
 use Rattle.pf_tokens.specs.Lists.{Elements}
 use Rattle.pf_ruleset.specs.declared.parts.FlagTest.{FlagTest}
 use Rattle.pf_ruleset.specs.declared.parts.Host.{Host}
