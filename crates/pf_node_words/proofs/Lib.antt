@@ -1,4 +1,1 @@
-pub mod Writing
-mod Refusing
-mod Desks
-pub mod Stores
+mod Endings
