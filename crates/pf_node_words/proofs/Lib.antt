@@ -1,1 +1,5 @@
-mod Endings
+pub mod Writing
+mod Refusing
+mod Desks
+pub mod Stores
+pub mod Endings
