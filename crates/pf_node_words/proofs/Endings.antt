@@ -97,7 +97,7 @@ pub of_run : {R : Type 0} (G : Ghosts R) (m : Membership) (given back : R) (o : 
     ComesTo G m given o back ⊎ ComesOpenOr G m given o back → (file new : Bool) → IsStoreless file new o
 of_run G m given back o (inl (w, v, how, without, runs, is, none)) =
     as_is o (ended_outcome without how) is (of_ended without how (without_wire without none))
-of_run G m given back o (inr (inl open)) = opened G m given back o open
+of_run G m given back o (inr (inl opens)) = opened G m given back o opens
 of_run G m given back o (inr (inr (d, same))) = doorless o d
 
 -- what it failed of
