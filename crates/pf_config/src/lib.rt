@@ -32,7 +32,7 @@ mod placing;
 mod referred;
 mod sieve;
 mod skipped;
-mod table_change;
+mod table_index;
 mod tables;
 mod unused;
 mod walk;

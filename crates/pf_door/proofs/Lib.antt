@@ -1,4 +1,2 @@
 pub mod Asking
-pub mod Going
-mod Lives
-mod Opening
+mod Asked

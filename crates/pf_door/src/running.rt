@@ -1,151 +1,108 @@
 //! A node that runs with its door open.
 
-ghost use Rattle.std.specs.Prelude.{◌≡◌};
+ghost use Rattle.std.specs.Prelude.{◌≡◌, ◌≤◌};
 ghost use Rattle.px_replica.specs.Faults.{fault_of};
-ghost use Rattle.pf_door.specs.Runs.{Opened, place};
+ghost use Rattle.pf_node.specs.Nodes.{applied_of};
+ghost use Rattle.pf_turn.specs.Hosting.{Hosted};
+ghost use Rattle.pf_turn.specs.Turns.{standing};
 ghost use Rattle.pf_door.specs.Wiring.{below_of};
 
 use crate::clerk::Clerk;
 use crate::door::Door;
 use crate::tallying::TallyWire;
 use pf_desk::{Desk, Tally};
-use pf_turn::{NodeFault, Pace, Room, Timer, Wire, finish, round};
+use pf_turn::{Host, Node, NodeFault, Pace, Progress, Room, Timer, Wire, round, run};
 use px_records::Records;
 use std::alloc::Global;
 use std::io::Eprint;
-use std::time::{Clock, Instant};
+use std::time::Clock;
 
-/// The time since a reading of the clock, in microseconds; none has passed where the clock can't be read.
-fn microseconds<C: Clock>(clock: &C, start: Option<Instant>) -> u64 {
-    match (start, Instant::now(clock)) {
-        (Some(start), Ok(now)) => {
-            u64::try_from(now.duration_since(start).as_micros()).unwrap_or(u64::MAX)
-        }
-        _ => 0,
-    }
+/// A node with its door open: between two rounds its desk answers at most one request at each door.
+#[derive(Drop)]
+pub(crate) struct OpenNode<RT, R: Records> {
+    rt: RT,
+    clerk: Clerk<R>,
+    door: Door,
 }
 
-/// One round of the node, and at most one request of an operator. Answers for how many turns it counts.
-fn pass<R: Records, W: Wire, RT: Clock + Eprint>(
-    rt: &RT,
-    clerk: &mut Clerk<R>,
-    wire: &mut TallyWire<W>,
-    room: &mut Room,
-    door: &mut Door,
-    pace: &mut Pace,
-    now: u64,
-) -> Result<u32, NodeFault>
-    ensures { Opened (place W.Wire clerk.old.desk (below_of wire.old)) (place W.Wire clerk.new.desk (below_of wire.new))
-        (fault_of result) }
-{
-    wire.begin(now, clerk.desk.node.front(), clerk.desk.node.waiting() > 0);
-    let made = match round(&mut clerk.desk.node, wire, room, pace, now) {
-        Ok(made) => made,
-        Err(fault) => return Err(fault),
-    };
-    wire.count_taken(room.heads());
-    wire.tell(&mut clerk.tally, made);
-    door.note(rt, clerk);
-    clerk.tally.seats = door.seats() as u64;
-    clerk.is_listening = pace.is_listening(now);
-    if !door.serve(clerk, now) {
-        door.wait(made.wait);
-    }
-    Ok(made.turns)
-}
+impl<RT: Clock + Eprint, R: Records, W: Wire> Host<TallyWire<W>> for OpenNode<RT, R> {
+    type Kept = R;
 
-/// Round after round, until so many turns are over, or an operator asked for the end and has the answer.
-fn passes<R: Records, W: Wire, RT: Clock + Eprint>(
-    rt: &RT,
-    clerk: &mut Clerk<R>,
-    wire: &mut TallyWire<W>,
-    room: &mut Room,
-    door: &mut Door,
-    pace: &mut Pace,
-    start: Option<Instant>,
-    turns: u64,
-) -> Result<(), NodeFault>
-    ensures { Opened (place W.Wire clerk.old.desk (below_of wire.old)) (place W.Wire clerk.new.desk (below_of wire.new))
-        (fault_of result) }
-{
-    let mut left = turns;
-    for _round in 0..turns {
-        if left == 0 || (clerk.desk.is_stopping && !door.has_more()) {
-            return Ok(());
-        }
-        let now = microseconds(rt, start);
-        match pass(rt, clerk, wire, room, door, pace, now) {
-            Ok(used) => left = left.saturating_sub(u64::from(used)),
+    ghost node = { λ o. o.clerk.desk.node };
+
+    ghost asks_nothing = { ⊥ };
+
+    fn node(&self) -> &Node<R> {
+        &self.clerk.desk.node
+    }
+
+    fn round<T: Timer>(
+        &mut self,
+        wire: &mut TallyWire<W>,
+        room: &mut Room,
+        timer: &mut T,
+        now: u64,
+    ) -> Result<Progress, NodeFault> {
+        let clerk = &mut self.clerk;
+        wire.begin(now, clerk.desk.node.front(), clerk.desk.node.waiting() > 0);
+        let made = match round(&mut clerk.desk.node, wire, room, timer, now) {
+            Ok(made) => made,
             Err(fault) => return Err(fault),
-        }
+        };
+        wire.tell(&mut clerk.tally, made);
+        clerk.tally.seats = self.door.seats() as u64;
+        clerk.is_listening = timer.is_listening(now);
+        Ok(made)
     }
-    Ok(())
-}
 
-/// What waits at the node is worked off before it ends; no operator is answered meanwhile.
-fn work_off<R: Records, W: Wire, C: Clock>(
-    clerk: &mut Clerk<R>,
-    wire: &mut TallyWire<W>,
-    room: &mut Room,
-    pace: &mut Pace,
-    clock: &C,
-    start: Option<Instant>,
-) -> Result<(), NodeFault>
-    ensures { Opened (place W.Wire clerk.old.desk (below_of wire.old)) (place W.Wire clerk.new.desk (below_of wire.new))
-        (fault_of result) }
-{
-    finish(&mut clerk.desk.node, wire, room, pace, clock, start)
-}
+    fn serve(&mut self, now: u64) -> bool {
+        self.door.note(&self.rt, &self.clerk);
+        self.door.serve(&mut self.clerk, now)
+    }
 
-/// All rounds, and the work that waits in the end.
-fn pass_on<R: Records, W: Wire, RT: Clock + Eprint>(
-    rt: &RT,
-    clerk: &mut Clerk<R>,
-    wire: &mut TallyWire<W>,
-    room: &mut Room,
-    door: &mut Door,
-    turns: u64,
-) -> Result<(), NodeFault>
-    ensures { Opened (place W.Wire clerk.old.desk (below_of wire.old)) (place W.Wire clerk.new.desk (below_of wire.new))
-        (fault_of result) }
-{
-    let mut pace = Pace::new(clerk.desk.node.membership().me());
-    let start = Instant::now(rt).ok();
-    match passes(rt, clerk, wire, room, door, &mut pace, start, turns) {
-        Ok(()) => work_off(clerk, wire, room, &mut pace, rt, start),
-        Err(fault) => Err(fault),
+    fn wait(&mut self, _wire: &mut TallyWire<W>, milliseconds: u32) {
+        self.door.wait(milliseconds);
+    }
+
+    fn is_ending(&self) -> bool {
+        self.clerk.desk.is_stopping && !self.door.has_more()
     }
 }
 
-/// A node runs as [`pf_turn::run`] has it, and between two rounds its desk answers at most one request of an operator.
-/// It ends after so many turns, or once an operator asked for that; then it works off what waits ([`pf_turn::finish`]).
-/// The desk is given back. So it makes turns of the node and answers of the desk, one after another, and nothing else.
+/// A node runs ([`pf_turn::run`]), and between two rounds its desk answers at most one request at each door. It ends
+/// after so many turns, or once an operator asked for that and has the answer. The desk and the door are given back.
 ///
 /// What is counted goes on from the tally. Each change of the node's health is a line on standard error. The faults are
 /// those of the node's calls; one ends it.
-pub fn run_open<R: Records, W: Wire, RT: Clock + Eprint>(
+pub fn run_open<R: Records, W: Wire, RT: Clock + Eprint + Copy>(
     rt: &RT,
     alloc: Global,
     desk: Desk<R>,
     tally: Tally,
     wire: &mut TallyWire<W>,
     room: &mut Room,
-    door: &mut Door,
+    door: Door,
     turns: u64,
-) -> (Result<(), NodeFault>, Desk<R>)
-    ensures { Opened (place W.Wire desk (below_of wire.old)) (place W.Wire result.1 (below_of wire.new))
+) -> (Result<(), NodeFault>, Desk<R>, Door)
+    ensures { Hosted (standing W.Wire desk.node (below_of wire.old)) (standing W.Wire result.1.node (below_of wire.new))
         (fault_of result.0) }
 {
-    let mut clerk = Clerk {
-        desk,
-        tally,
-        is_listening: true,
-        is_scraped: false,
-        is_spare: false,
-        answered: 0,
-        alloc,
+    let mut pace = Pace::new(desk.node.membership().me());
+    let mut open = OpenNode {
+        rt: *rt,
+        clerk: Clerk {
+            desk,
+            tally,
+            is_listening: true,
+            is_scraped: false,
+            is_spare: false,
+            answered: 0,
+            alloc,
+        },
+        door,
     };
-    let ended = pass_on(rt, &mut clerk, wire, room, door, turns);
+    let ended = run(&mut open, wire, room, &mut pace, rt, turns);
+    let OpenNode { rt: _, clerk, door } = open;
     let Clerk {
         desk,
         tally: _,
@@ -155,5 +112,5 @@ pub fn run_open<R: Records, W: Wire, RT: Clock + Eprint>(
         answered: _,
         alloc: _,
     } = clerk;
-    (ended, desk)
+    (ended, desk, door)
 }

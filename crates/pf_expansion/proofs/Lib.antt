@@ -11,4 +11,3 @@ mod Pushed
 mod Stepping
 mod Twice
 mod Walking
-pub mod Pairs

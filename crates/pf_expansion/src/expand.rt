@@ -38,7 +38,7 @@ fn addresses_family(set: &Addresses) -> Option<Family>
 }
 
 /// The family of a host, also of a negated one.
-pub(crate) fn host_family(host: &Host) -> Option<Family>
+fn host_family(host: &Host) -> Option<Family>
     ensures { result ≡ host_family host.now }
 {
     match host {
@@ -59,10 +59,7 @@ fn type_family(icmp_type: Option<WrittenType>) -> Option<Family>
 }
 
 /// The family of this one and of others, none where two occur.
-pub(crate) fn with_family(
-    one: Option<Family>,
-    others: Option<Option<Family>>,
-) -> Option<Option<Family>>
+fn with_family(one: Option<Family>, others: Option<Option<Family>>) -> Option<Option<Family>>
     ensures { result ≡ with_family one others }
 {
     match (one, others) {

@@ -16,7 +16,6 @@ mod block_names;
 mod block_paths;
 mod blocks;
 mod cause;
-mod counts;
 mod defined_tables;
 mod expand;
 mod judge;

@@ -5,7 +5,7 @@ ghost use Rattle.pf_member.specs.Lives.{Serves, Runs, Told, told_by};
 
 use crate::ended::Ended;
 use pf_node::{Membership, Node};
-use pf_turn::{Room, run};
+use pf_turn::{Pace, Room, run};
 use px_records::Records;
 use px_replica::NodeFault;
 use px_transport::Wire;
@@ -25,7 +25,8 @@ fn served<R: Records, W: Wire, C: Clock>(
     let Ok(mut room) = Room::new(alloc) else {
         return Ended::Fault(NodeFault::Memory);
     };
-    match run(node, wire, &mut room, clock, turns) {
+    let mut pace = Pace::new(node.membership().me());
+    match run(node, wire, &mut room, &mut pace, clock, turns) {
         Ok(()) => Ended::Front {
             front: node.front(),
             applied: node.applied(),

@@ -1,5 +1,5 @@
 -- What a run at a desk comes to.
-use Rattle.std.proofs.Common.{◌≡◌, None, refl, inr, false}
+use Rattle.std.proofs.Common.{◌≡◌, None, refl, subst, inr, false}
 use Rattle.px_model.specs.Node.{Record}
 use Rattle.px_model.specs.Spelling.{Bytes}
 use Rattle.px_model.specs.World.{started}
@@ -8,9 +8,9 @@ use Rattle.px_wire.specs.declared.membership.Membership.{Membership}
 use Rattle.pf_desk.specs.declared.desk.Desk.{Desk}
 use Rattle.pf_node.specs.Nodes.{records_of, membership_of, has_failed, state_in}
 use Rattle.pf_node.specs.declared.state.Node.{Node}
-use Rattle.pf_member.specs.Lives.{Told}
-use Rattle.pf_door.specs.Lives.{desk_at}
-use Rattle.pf_door.proofs.Going.{opened_none}
+use Rattle.pf_turn.specs.Hosting.{Hosted}
+use Rattle.pf_turn.proofs.Hosting.{hosted_none}
+use Rattle.pf_member.specs.Lives.{Told, stands}
 use Rattle.pf_node_words.specs.declared.outcome.Outcome.{Outcome}
 use Rattle.pf_node_words.specs.inner.Outcomes.{IsDoorless, DeskComesTo, OpenLife}
 
@@ -18,7 +18,7 @@ use Rattle.pf_node_words.specs.inner.Outcomes.{IsDoorless, DeskComesTo, OpenLife
 pub untouched : {R : Type 0} {G : Ghosts R} (d : Desk R G) (outcome : Outcome) → IsDoorless outcome → DeskComesTo d d outcome
 untouched {R} {G} d outcome doorless =
     let none : Told = record { given = None; handed = None } in
-    (none, none, None, opened_none (desk_at d none) (desk_at d none) refl, inr doorless)
+    (none, none, None, hosted_none (stands d.node none) (stands d.node none) refl, inr doorless)
 
 -- and then its record was given back
 pub given_back : {R : Type 0} (G : Ghosts R) (m : Membership) (given back : R) (n : Node R G) (d e : Desk R G) (outcome : Outcome) →
@@ -26,7 +26,7 @@ pub given_back : {R : Type 0} (G : Ghosts R) (m : Membership) (given back : R) (
     (G.is_honest (records_of n) → state_in n ≡ started (G.stored given)) →
     (G.is_honest (records_of n) → (left : Record Bytes) → G.may_leave (records_of n) left → G.may_leave given left) →
     d.node ≡ n → DeskComesTo d e outcome → back ≡ records_of e.node → OpenLife G m given outcome back
-given_back G m given back n d e outcome membership works was starts stop begins c closed = record {
+given_back {R} G m given back n d e outcome membership works was starts stop begins c closed = record {
   begin = c.0;
   end = c.1;
   answered = c.2;
@@ -38,7 +38,7 @@ given_back G m given back n d e outcome membership works was starts stop begins 
     was = was;
     starts = starts;
     stop = stop;
-    went = record { from = d; to = e; begins = begins; ends = refl; opened = c.3 };
+    went = subst (λ (x : Node R G). Hosted (stands x c.0) (stands e.node c.1) c.2) begins c.3;
     closed = closed;
   };
   shows = c.4;

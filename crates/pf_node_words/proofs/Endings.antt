@@ -151,8 +151,7 @@ of_check file new place key other store addresses p k q s a =
 
 pub none_of : {X : Type 0} (m : Option X) (b : Bool) → IsSome m ↔ IsTrue b → b ≡ false → m ≡ None
 none_of None b h e = refl
-none_of (Some x) b h e =
-    let t : IsTrue b = h.0 refl in absurd (let f : IsTrue false = subst (λ (q : Bool). IsTrue q) e t in cc)
+none_of (Some x) b h e = let t : IsTrue b = h.0 tt in absurd (subst (λ (q : Bool). IsTrue q) e t)
 
 -- the numbers are the first that is asked
 pub place_first : (place keys store addresses : Outcome) → place ≡ Refused 40 → checked place keys store addresses ≡ Refused 40

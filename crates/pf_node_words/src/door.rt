@@ -76,18 +76,18 @@ fn served_by<R: Records, W: Wire + Drop>(
     words: DoorWords<'_>,
     desk: Desk<R>,
     wire: &mut TallyWire<W>,
-    door: &mut Door,
-) -> (Outcome, Desk<R>)
+    door: Door,
+) -> (Outcome, Desk<R>, Door)
     ensures { DeskComesTo desk result.1 result.0 }
 {
     let Ok(tally) = wire.first_tally(alloc, words.members) else {
-        return (Outcome::Memory, desk);
+        return (Outcome::Memory, desk, door);
     };
     let Ok(mut room) = Room::new(alloc) else {
-        return (Outcome::Memory, desk);
+        return (Outcome::Memory, desk, door);
     };
-    let (ended, desk) = run_open(rt, alloc, desk, tally, wire, &mut room, door, words.turns);
-    (desk_outcome(ended, &desk), desk)
+    let (ended, desk, door) = run_open(rt, alloc, desk, tally, wire, &mut room, door, words.turns);
+    (desk_outcome(ended, &desk), desk, door)
 }
 
 /// The same over a wire that isn't counted yet.
@@ -98,8 +98,8 @@ fn served_over<R: Records, W: Wire + Drop>(
     desk: Desk<R>,
     wire: W,
     m: Membership,
-    door: &mut Door,
-) -> (Outcome, Desk<R>)
+    door: Door,
+) -> (Outcome, Desk<R>, Door)
     ensures { DeskComesTo desk result.1 result.0 }
 {
     match TallyWire::new(alloc, wire, m) {
@@ -107,7 +107,7 @@ fn served_over<R: Records, W: Wire + Drop>(
             let mut wire = wire;
             served_by(rt, alloc, words, desk, &mut wire, door)
         }
-        Err(_) => (Outcome::Memory, desk),
+        Err(_) => (Outcome::Memory, desk, door),
     }
 }
 
@@ -121,13 +121,13 @@ fn served<R: Records, W: Wire + Drop>(
 ) -> (Outcome, Desk<R>)
     ensures { DeskComesTo desk result.1 result.0 }
 {
-    let mut door = match open_door(rt, alloc, words) {
+    let door = match open_door(rt, alloc, words) {
         Ok(door) => door,
         Err(outcome) => return (outcome, desk),
     };
     let m = desk.node.membership();
     let wire = LoopbackWire::new(alloc, HearingWire::new(rt, wire, m, words.is_quiet), m.me());
-    let (outcome, desk) = served_over(rt, alloc, words, desk, wire, m, &mut door);
+    let (outcome, desk, door) = served_over(rt, alloc, words, desk, wire, m, door);
     door.close(rt, words.path);
     (outcome, desk)
 }

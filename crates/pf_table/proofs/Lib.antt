@@ -4,4 +4,3 @@ pub mod Longest
 pub mod Deciding
 pub mod Parting
 pub mod Keyed
-pub mod OneEdit

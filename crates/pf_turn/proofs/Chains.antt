@@ -1,7 +1,7 @@
 -- Turns one after the other.
 use Rattle.std.proofs.Common.{◌≡◌, ◌∙◌, ℕ, zero, suc, List, [], Option, Some, None, Bool, true, false, refl, sym, subst}
 use Rattle.std.proofs.Common.{Result, Ok, Err, inl, inr}
-use Rattle.std.specs.Prelude.{IfOk, ◌∷◌}
+use Rattle.std.specs.Prelude.{IfOk}
 use Rattle.px_model.specs.Node.Input.{Ticks}
 use Rattle.px_model.specs.Spelling.{Bytes}
 use Rattle.px_records.specs.declared.records.Records.{Ghosts}
@@ -14,7 +14,7 @@ use Rattle.px_wire.specs.Members.{as_sent}
 use Rattle.pf_turn.specs.Turns.{Acts, Stand, Turned, Ticked, TickedIf, Took, TookAll, TookThenTicked, Same, Turns, Ends, Served}
 use Rattle.pf_turn.specs.Turns.{handed_over}
 use Rattle.pf_turn.specs.Progress.{IsNobodys, SawAll, looked}
-use Rattle.pf_turn.specs.Timing.{Told, SawThenLooked, looks, sends_if, view_of}
+use Rattle.pf_turn.specs.Timing.{Told, SawThenLooked, looks, view_of}
 use Rattle.pf_turn.proofs.Traffic.{grows_then}
 use Rattle.px_model.specs.Step.{front}
 use Rattle.px_replica.specs.Replicas.{learned_by}
@@ -163,13 +163,6 @@ pub round_took : {P E R : Type 0} {G : Ghosts R} (r : Result P E) (n : ℕ) (w x
     IfOk r (λ p. (k : ℕ) × (d : Bool) × TookThenTicked k d w v)
 round_took (Ok p) n w x y z v s t a b c (d, e) = (n, d, then_ticked n d w x y z v s t a b c e)
 round_took (Err e) n w x y z v s t a b c d = tt
-
--- what a timer is told at a look
-pub looked_so : (a b c : Option (List Told)) (now : ℕ) (v : View) (t : Sight) (q : Bool) → t.is_accepting ≡ q → Grows a (Told.Looks now v) b →
-    GrowsBy b (sends_if q now) c → GrowsBy a (looks now v t) c
-looked_so a b c now v t q e g h =
-    grows_then a b c (Told.Looks now v ∷ []) (sends_if t.is_accepting now) g
-    (subst (λ (p : Bool). GrowsBy b (sends_if p now) c) (sym e) h)
 
 -- what is seen in it, and what the timer is told
 pub round_saw : {P E R : Type 0} {G : Ghosts R} (r : Result P E) (n now was : ℕ) (w x y : Stand G) (s t u : Sight) (v : View)

@@ -1,6 +1,6 @@
--- What a node's timer is told in a round: the time, how the node is, and what was seen of others, all as the datagrams
+-- What a node's timer is told in a round: the time, how the node stands, and what was seen of others, all as the datagrams
 -- that were taken left them. So one that is nobody's changes nothing of it.
-use Rattle.std.specs.Prelude.{◌≡◌, ℕ, ◌==◌, ◌&&◌, Bool, true, false, not, List, [], ◌∷◌, ◌++◌, Option, is_some, length}
+use Rattle.std.specs.Prelude.{◌≡◌, ℕ, ◌==◌, ◌&&◌, not, List, [], ◌∷◌, ◌++◌, Option, is_some, length, if◌then◌else◌}
 use Rattle.px_model.specs.Step.{front}
 use Rattle.px_records.specs.declared.records.Records.{Ghosts}
 use Rattle.px_transport.specs.Wires.{GrowsBy}
@@ -33,22 +33,17 @@ view_of s was t = record {
   reached = t.reached;
 }
 
--- that votes were sent, if they were
-abbrev pub sends_if : Bool → (now : ℕ) → List Told
-sends_if true now = Told.Sends now ∷ []
-sends_if false now = []
-
 -- what it is told at a look
 abbrev pub looks : (now : ℕ) → View → Sight → List Told
-looks now v t = Told.Looks now v ∷ sends_if t.is_accepting now
+looks now v t = Told.Looks now v ∷ (if t.is_accepting then Told.Sends now ∷ [] else [])
 
--- n datagrams were taken, one after the other; then the timer was told what they left to see, and nothing else; and
+-- So many datagrams were taken, one after the other; then the timer was told what they left to see, and nothing else; and
 -- what was seen was looked at.
 pub record SawThenLooked {R : Type 0} {G : Ghosts R} (n now : ℕ) (x : Stand G) (s u : Sight)
-    (before after : Option (List Told)) : Type 0 where
+    (told told' : Option (List Told)) : Type 0 where
   pub then : Stand G
   pub seen : Sight
   pub saw : SawAll n x then s seen
   pub looked : u ≡ looked seen
-  pub told : GrowsBy before (looks now (view_of then.replica (front (learned_by x.replica)) seen) seen ++
-      (Told.Repeats now ∷ [])) after
+  pub told : GrowsBy told (looks now (view_of then.replica (front (learned_by x.replica)) seen) seen ++
+      (Told.Repeats now ∷ [])) told'

@@ -9,7 +9,6 @@ ghost use Rattle.pf_turn.specs.Progress.{looked, seen_in};
 ghost use Rattle.pf_turn.specs.Timing.{SawThenLooked, looks, view_of};
 ghost use Rattle.pf_turn.specs.Turns.{Served, TickedIf, TookThenTicked, standing};
 
-use crate::pace::{Pace, microseconds};
 use crate::room::Room;
 use crate::serving::{drain, tick_now};
 use crate::sight::Sight;
@@ -18,16 +17,12 @@ use pf_node::Node;
 use px_records::Records;
 use px_replica::NodeFault;
 use px_transport::Wire;
-use std::time::{Clock, Instant};
 
 /// How many datagrams are taken before it is looked whether the clock is to tick.
 const MOST: u32 = 64;
 
 /// How many members there are at most.
 const MEMBERS: u8 = 15;
-
-/// How many rounds a node makes at most to work off what waits when it ends.
-const LAST_ROUNDS: u32 = 3_000;
 
 /// What is seen of the node, whose front was there before.
 fn view_of<R: Records>(node: &Node<R>, room: &Room, was: u32) -> View
@@ -186,92 +181,4 @@ pub fn round<R: Records, W: Wire, T: Timer>(
     repeat_if(wire, timer.repeats(now), node.front());
     wire.defer_asks(timer.is_listening(now));
     tick_if(node, wire, room, beat, taken)
-}
-
-/// Rounds until so many turns are over, and the waits between them.
-fn rounds<R: Records, W: Wire, T: Timer, C: Clock>(
-    node: &mut Node<R>,
-    wire: &mut W,
-    room: &mut Room,
-    timer: &mut T,
-    clock: &C,
-    start: Option<Instant>,
-    turns: u64,
-) -> Result<(), NodeFault>
-    ensures served { Served (standing W.Wire node.old wire.old) (standing W.Wire node.new wire.new)
-        (fault_of result) }
-    ensures grows { applied_of node.old ≤ applied_of node.new }
-{
-    let mut left = turns;
-    for _round in 0..turns {
-        if left == 0 {
-            return Ok(());
-        }
-        match round(node, wire, room, timer, microseconds(clock, start)) {
-            Ok(made) => {
-                wire.wait(made.wait);
-                left = left.saturating_sub(u64::from(made.turns));
-            }
-            Err(fault) => return Err(fault),
-        }
-    }
-    Ok(())
-}
-
-/// Works off what waits to be proposed, before the node ends: rounds until nothing waits, 3,000 at most, of which one
-/// with a wait counts for its milliseconds. These are turns of the node and nothing else. What is asked from outside
-/// meanwhile is kept back, where the wire can do that.
-///
-/// `start` is when the node started by this clock. The faults are those of [`Node::receive`] and [`Node::tick`].
-pub fn finish<R: Records, W: Wire, T: Timer, C: Clock>(
-    node: &mut Node<R>,
-    wire: &mut W,
-    room: &mut Room,
-    timer: &mut T,
-    clock: &C,
-    start: Option<Instant>,
-) -> Result<(), NodeFault>
-    ensures served { Served (standing W.Wire node.old wire.old) (standing W.Wire node.new wire.new)
-        (fault_of result) }
-    ensures grows { applied_of node.old ≤ applied_of node.new }
-{
-    timer.end();
-    let mut left = LAST_ROUNDS;
-    for _round in 0..LAST_ROUNDS {
-        if left == 0 || node.waiting() == 0 {
-            return Ok(());
-        }
-        match round(node, wire, room, timer, microseconds(clock, start)) {
-            Ok(made) => {
-                wire.wait(made.wait);
-                left = left.saturating_sub(made.wait.max(1));
-            }
-            Err(fault) => return Err(fault),
-        }
-    }
-    Ok(())
-}
-
-/// A node runs: it takes what comes as it comes, and its clock ticks when its pace says so ([`Pace`]), until so many
-/// turns are over, where each datagram counts for one, and each tick and each wait, of a tenth of a second at most.
-/// Then it works off what waits ([`finish`]).
-///
-/// The faults are those of [`Node::receive`] and [`Node::tick`]; one ends it.
-pub fn run<R: Records, W: Wire, C: Clock>(
-    node: &mut Node<R>,
-    wire: &mut W,
-    room: &mut Room,
-    clock: &C,
-    turns: u64,
-) -> Result<(), NodeFault>
-    ensures served { Served (standing W.Wire node.old wire.old) (standing W.Wire node.new wire.new)
-        (fault_of result) }
-    ensures grows { applied_of node.old ≤ applied_of node.new }
-{
-    let mut pace = Pace::new(node.membership().me());
-    let start = Instant::now(clock).ok();
-    match rounds(node, wire, room, &mut pace, clock, start, turns) {
-        Ok(()) => finish(node, wire, room, &mut pace, clock, start),
-        Err(fault) => Err(fault),
-    }
 }

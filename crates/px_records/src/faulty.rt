@@ -98,8 +98,7 @@ impl<R: Records> Records for FaultyRecords<R> {
         ensures fits { IfOk result (λ m. MetaFits (R.members (inner_of self.old)) (meta_of m)) }
         ensures bad { result ≡ Err StoreFault.BadStore → ⊥ }
         ensures read { IsReadBelow R.is_honest R.stored R.may_leave R.failed R.is_good self.old self.new }
-        ensures keeps { R.is_honest (inner_of self.old) → R.is_trusted (inner_of self.new) →
-            R.is_honest (inner_of self.new) }
+        ensures keeps { R.is_honest (inner_of self.old) → R.is_trusted (inner_of self.new) → R.is_honest (inner_of self.new) }
         ensures counts { (result ≡ Err StoreFault.Failed) ↔ (0 < failed_in R.failed self.new) }
         ensures later { 0 < failed_in R.failed self.old → self.new ≡ self.old }
         ensures same { R.members (inner_of self.new) ≡ R.members (inner_of self.old) }
@@ -119,8 +118,7 @@ impl<R: Records> Records for FaultyRecords<R> {
         ensures bad { R.is_honest (inner_of self.new) → result ≡ Err StoreFault.BadStore →
             R.is_good (inner_of self.old) (SlotAt position) → ⊥ }
         ensures read { IsReadBelow R.is_honest R.stored R.may_leave R.failed R.is_good self.old self.new }
-        ensures keeps { R.is_honest (inner_of self.old) → R.is_trusted (inner_of self.new) →
-            R.is_honest (inner_of self.new) }
+        ensures keeps { R.is_honest (inner_of self.old) → R.is_trusted (inner_of self.new) → R.is_honest (inner_of self.new) }
         ensures counts { (result ≡ Err StoreFault.Failed) ↔ (0 < failed_in R.failed self.new) }
         ensures later { 0 < failed_in R.failed self.old → self.new ≡ self.old }
         ensures same { R.members (inner_of self.new) ≡ R.members (inner_of self.old) }
@@ -142,8 +140,7 @@ impl<R: Records> Records for FaultyRecords<R> {
         ensures named { R.is_honest (inner_of self.new) →
             IfOk result (λ t. NamesGood (R.is_good (inner_of self.new)) SlotAt t) }
         ensures read { IsReadBelow R.is_honest R.stored R.may_leave R.failed R.is_good self.old self.new }
-        ensures keeps { R.is_honest (inner_of self.old) → R.is_trusted (inner_of self.new) →
-            R.is_honest (inner_of self.new) }
+        ensures keeps { R.is_honest (inner_of self.old) → R.is_trusted (inner_of self.new) → R.is_honest (inner_of self.new) }
         ensures counts { (result ≡ Err StoreFault.Failed) ↔ (0 < failed_in R.failed self.new) }
         ensures later { 0 < failed_in R.failed self.old → self.new ≡ self.old }
         ensures same { R.members (inner_of self.new) ≡ R.members (inner_of self.old) }
@@ -160,13 +157,11 @@ impl<R: Records> Records for FaultyRecords<R> {
             IfOk result (λ e. learned_of e ≡ (R.stored (inner_of self.new)).learned position) }
         ensures fits { IfOk result (λ e.
             IfSome e (λ x. EntryFits AnyCommand (R.members (inner_of self.old)) (entry_of x))) }
-        ensures good { R.is_honest (inner_of self.new) →
-            OnOk result (R.is_good (inner_of self.new) (EntryAt position)) }
+        ensures good { R.is_honest (inner_of self.new) → OnOk result (R.is_good (inner_of self.new) (EntryAt position)) }
         ensures bad { R.is_honest (inner_of self.new) → result ≡ Err StoreFault.BadStore →
             R.is_good (inner_of self.old) (EntryAt position) → ⊥ }
         ensures read { IsReadBelow R.is_honest R.stored R.may_leave R.failed R.is_good self.old self.new }
-        ensures keeps { R.is_honest (inner_of self.old) → R.is_trusted (inner_of self.new) →
-            R.is_honest (inner_of self.new) }
+        ensures keeps { R.is_honest (inner_of self.old) → R.is_trusted (inner_of self.new) → R.is_honest (inner_of self.new) }
         ensures counts { (result ≡ Err StoreFault.Failed) ↔ (0 < failed_in R.failed self.new) }
         ensures later { 0 < failed_in R.failed self.old → self.new ≡ self.old }
         ensures same { R.members (inner_of self.new) ≡ R.members (inner_of self.old) }
@@ -188,8 +183,7 @@ impl<R: Records> Records for FaultyRecords<R> {
         ensures named { R.is_honest (inner_of self.new) →
             IfOk result (λ end. NamesGood (R.is_good (inner_of self.new)) EntryAt end) }
         ensures read { IsReadBelow R.is_honest R.stored R.may_leave R.failed R.is_good self.old self.new }
-        ensures keeps { R.is_honest (inner_of self.old) → R.is_trusted (inner_of self.new) →
-            R.is_honest (inner_of self.new) }
+        ensures keeps { R.is_honest (inner_of self.old) → R.is_trusted (inner_of self.new) → R.is_honest (inner_of self.new) }
         ensures counts { (result ≡ Err StoreFault.Failed) ↔ (0 < failed_in R.failed self.new) }
         ensures later { 0 < failed_in R.failed self.old → self.new ≡ self.old }
         ensures same { R.members (inner_of self.new) ≡ R.members (inner_of self.old) }
@@ -219,8 +213,7 @@ impl<R: Records> Records for FaultyRecords<R> {
             (has_failed_of self.new ≡ false) × (result ≡ Err StoreFault.Failed → R.may_fail (inner_of self.old)) }
         ensures when { when_of self.new ≡ when_of self.old }
         ensures was { R.is_honest (inner_of self.new) → R.is_honest (inner_of self.old) }
-        ensures keeps { R.is_honest (inner_of self.old) → R.is_trusted (inner_of self.new) →
-            R.is_honest (inner_of self.new) }
+        ensures keeps { R.is_honest (inner_of self.old) → R.is_trusted (inner_of self.new) → R.is_honest (inner_of self.new) }
         ensures ok { R.is_honest (inner_of self.new) → OnOk result
             (R.stored (inner_of self.new) ≡ committed (Some (change_of change.now)) (R.stored (inner_of self.old))) }
         ensures memory { R.is_honest (inner_of self.new) → result ≡ Err StoreFault.Memory →

@@ -15,5 +15,3 @@ mod Highest
 mod Makes
 mod Adopts
 pub mod Judged
-mod Owned
-mod Nodes

@@ -23,7 +23,6 @@ mod making;
 mod opening;
 mod reading;
 mod sql;
-mod tables;
 mod taking;
 mod writing;
 

@@ -11,8 +11,6 @@ mod datagrams;
 #[cfg(test)]
 mod entries;
 #[cfg(test)]
-mod heads;
-#[cfg(test)]
 mod kinds;
 #[cfg(test)]
 mod largest;

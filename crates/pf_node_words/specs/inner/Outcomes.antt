@@ -10,9 +10,8 @@ use Rattle.px_sql.specs.declared.fault.AdoptFault.TheVariants as adopt
 use Rattle.px_replica.specs.Calls.{OpenRefused}
 use Rattle.pf_node.specs.Nodes.{learned_by, applied_of}
 use Rattle.pf_desk.specs.declared.desk.Desk.{Desk}
-use Rattle.pf_door.specs.Lives.{desk_at, ServesDesk}
-use Rattle.pf_door.specs.Runs.{Opened}
-use Rattle.pf_member.specs.Lives.{Told, Runs, Life}
+use Rattle.pf_turn.specs.Hosting.{Hosted}
+use Rattle.pf_member.specs.Lives.{Told, Runs, Life, stands}
 use Rattle.pf_member.specs.declared.ended.Ended.{Ended}
 use Rattle.pf_member.specs.declared.ended.Ended.TheVariants as ended
 use Rattle.pf_net.specs.declared.answer.AskAnswer.{AskAnswer}
@@ -79,7 +78,7 @@ ShowsDesk n applied (Some e) outcome = outcome ≡ outcome_of e
 -- turns of a desk's node were made and requests answered, and nothing else
 abbrev pub DeskComesTo : {R : Type 0} {G : Ghosts R} → (s t : Desk R G) → Outcome → Type 0
 DeskComesTo s t outcome =
-    (w : Told) × (v : Told) × (answered : Option NodeFault) × Opened (desk_at s w) (desk_at t v) answered
+    (w : Told) × (v : Told) × (answered : Option NodeFault) × Hosted (stands s.node w) (stands t.node v) answered
     × ShowsDesk (front (learned_by t.node)) (applied_of t.node) answered outcome
 
 -- a run over a record with its door open, and what it is shown as
@@ -88,7 +87,7 @@ pub record OpenLife {R : Type 0} (G : Ghosts R) (m : Membership) (given : R) (ou
   pub begin : Told
   pub end : Told
   pub answered : Option NodeFault
-  pub life : Life G (λ s t. ServesDesk s t begin end answered) m given back
+  pub life : Life G (λ s t. Hosted (stands s begin) (stands t end) answered) m given back
   pub shows : ShowsDesk (front (learned_by life.done)) (applied_of life.done) answered outcome
 
 -- What a node's run with its door open comes to: the record isn't opened, or it is, turns of the member are made and

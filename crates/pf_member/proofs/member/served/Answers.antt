@@ -13,6 +13,6 @@ returns-in_default g c = still c.args.node.now (told_by g.W.Wire c.args.wire.now
 pub returns-in-Ok-run : goal.returns-in-Ok-run
 returns-in-Ok-run g c = record {
   answered = None;
-  served = c.in-Ok-run.ensures.served;
+  served = c.in-Ok-run.ensures.turns tt;
   told = inl (ap (λ (n : ℕ). Front n c.applied.result) c.front.ensures.front ∙ ap (λ (n : ℕ). Front (front (learned_by c.run.new.node)) n) c.applied.ensures.applied);
 }

@@ -7,8 +7,7 @@ use Rattle.pf_node_words.proofs.Endings.{of_check, none_of, place_first}
 use Rattle.pf_node_words.proofs.check.check_outcome.Goals as goal
 
 pub returns-clause-place : goal.returns-clause-place
-returns-clause-place c = λ e. c.checked.ensures ∙ place_first c.of_place-place.result c.first_of.result c.of_store-store.result c.of_addresses-addresses.result
-    (c.of_place-place.ensures.none (none_of _ _ c.membership-m.ensures.none e))
+returns-clause-place c = λ e. c.checked.ensures ∙ place_first _ _ _ _ (c.of_place-place.ensures.none (none_of _ _ c.membership-m.ensures.none e))
 
 pub returns-clause-store : goal.returns-clause-store
 returns-clause-store c =

@@ -41,5 +41,5 @@ returns-clause-saw g c =
       replica = refl;
       given = c.defer_asks.ensures.given;
       handed = c.defer_asks.ensures.quiet;
-    }) c.in-Ok.ensures.saw (c.tick_if.ensures.unseen ∙ c.beat-beat.ensures.looked) c.front-was.ensures.front c.view_of-view.ensures
+    }) c.in-Ok.ensures.saw (c.tick_if.ensures.unseen ∙ c.beat-beat.ensures.looked) c.front.ensures.front c.view_of.ensures
     c.beat-beat.ensures.told c.repeats.ensures.told

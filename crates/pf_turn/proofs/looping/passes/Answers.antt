@@ -1,0 +1,26 @@
+-- one round more
+use Rattle.std.proofs.Common.{arith, refl}
+use Rattle.pf_turn.proofs.Chains.{served_none, served_then, same_all}
+use Rattle.pf_turn.proofs.Hosting.{hosted_none, hosted_then}
+use Rattle.pf_turn.proofs.looping.passes.Goals as goal
+
+pub loop-round-init : goal.loop-round-init
+loop-round-init g c = record {
+  hosted = hosted_none _ _ refl;
+  turns = λ nothing. served_none _ _ (same_all _);
+  grows = omega arith;
+}
+
+pub loop-round-preserved : goal.loop-round-preserved
+loop-round-preserved g c = record {
+  hosted = hosted_then _ _ _ _ c.loop-round.invariant.hosted c.in-Ok.ensures.hosted;
+  turns = λ nothing. served_then _ _ _ _ (c.loop-round.invariant.turns nothing) (c.in-Ok.ensures.turns nothing);
+  grows = omega (arith, c.loop-round.invariant.grows, c.pass.ensures.grows);
+}
+
+pub returns-in-Err-clause-hosted : goal.returns-in-Err-clause-hosted
+returns-in-Err-clause-hosted g c = hosted_then _ _ _ _ c.loop-round.invariant.hosted c.in-Err.ensures.hosted
+
+pub returns-in-Err-clause-turns : goal.returns-in-Err-clause-turns
+returns-in-Err-clause-turns g c nothing =
+    served_then _ _ _ _ (c.loop-round.invariant.turns nothing) (c.in-Err.ensures.turns nothing)

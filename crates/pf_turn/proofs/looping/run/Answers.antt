@@ -1,0 +1,10 @@
+-- the rounds, and what waited
+use Rattle.pf_turn.proofs.Chains.{served_then}
+use Rattle.pf_turn.proofs.Hosting.{hosted_then, hosted_served}
+use Rattle.pf_turn.proofs.looping.run.Goals as goal
+
+pub returns-in-Ok-clause-hosted : goal.returns-in-Ok-clause-hosted
+returns-in-Ok-clause-hosted g c = hosted_then _ _ _ _ c.in-Ok.ensures.hosted (hosted_served _ _ _ c.finish.ensures.served)
+
+pub returns-in-Ok-clause-turns : goal.returns-in-Ok-clause-turns
+returns-in-Ok-clause-turns g c nothing = served_then _ _ _ _ (c.in-Ok.ensures.turns nothing) c.finish.ensures.served
