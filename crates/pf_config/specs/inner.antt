@@ -6,6 +6,6 @@ pub mod RisingNames
 pub mod Texts
 pub mod TreeFalls
 pub mod Changes
-pub mod Ordered
 pub mod PathTexts
 pub mod Trees
+pub mod TableChanges

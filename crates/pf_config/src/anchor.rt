@@ -1,6 +1,6 @@
 //! An anchor, with all that stands below it.
 
-ghost use Rattle.std.specs.Prelude.{◌≡◌, ◌≤◌, ◌&&◌, ◌++◌, [], IfOk, OnOk, map};
+ghost use Rattle.std.specs.Prelude.{◌≡◌, ◌≤◌, ◌&&◌, ◌++◌, [], IfOk, OnOk, MatchResult, map};
 ghost use Rattle.std.specs.Prelude.{fold, length};
 ghost use Rattle.std.specs.List.{list_any};
 ghost use Rattle.std.specs.Option.{option_copied};
@@ -13,23 +13,25 @@ ghost use Rattle.pf_config.specs.Trees.{shared, child_at, last_name, paths_of, A
 ghost use Rattle.pf_config.specs.inner.Trees.{any_unnamed, any_sheds, is_named, placed_in, room_after};
 ghost use Rattle.pf_config.specs.Ordered.{AreOrdered};
 ghost use Rattle.pf_config.specs.Orders.{stops_of, others_of};
+ghost use Rattle.pf_config.specs.inner.KidOrder.{AreInOrder};
+ghost use Rattle.pf_config.specs.inner.TableChanges.{TreeChangesIf, KidChangesIf};
 ghost use Rattle.pf_config.specs.inner.Referring.{Gains, KnowsAll};
 ghost use Rattle.pf_config.specs.declared.config.TheConstants.{RULES_MAX};
 
 use crate::below::{
     any_unnamed, count_before, kid_named, last_name, owned_or_empty, push_some, put_kid,
-    shared_kids, take_named,
+    shared_kids, stands_at, take_named,
 };
 use crate::candidate_list::CandidateList;
 use crate::order::{Order, order_of};
-use crate::own::{are_apart, is_own_unnamed, is_unnamed_below, own_room, push_own_path};
+use crate::own::{are_apart, has_entry, is_own_unnamed, is_unnamed_below, own_room, push_own_path};
 use crate::own_rules::OwnRules;
 use crate::paths::copied_path;
 use crate::referred::Referred;
 use crate::tables::{Tables, named};
 use crate::unused::{any_unused, items_refer, used_tables};
-use pf_ruleset::{Item, Name, TableName};
-use pf_table::Table;
+use pf_ruleset::{Item, Name, TableEntry, TableName};
+use pf_table::{Edit, Table};
 use std::alloc::{AllocError, Global};
 use std::cmp::Ordering;
 use std::marker::Model;
@@ -469,4 +471,54 @@ pub(crate) fn with_entry(
             })
         }
     }
+}
+
+/// Edits an entry of a table of the anchor at a path below this one in place. False, and nothing is changed, where that
+/// can't be done: there is no such anchor, it has neither rules nor tables, or what would change is shared.
+#[cycle(changes)]
+pub(crate) fn change_table(
+    anchor: &mut Anchor,
+    rest: &[Name],
+    name: &TableName,
+    entry: &TableEntry,
+    edit: Edit,
+) -> Result<bool, AllocError>
+    ensures changed { MatchResult result (λ done. TreeChangesIf done edit entry.now name.now rest.now anchor.old
+        anchor.new) (λ e. anchor.new ≡ anchor.old) }
+    ensures length { length anchor.new.anchors ≡ length anchor.old.anchors }
+{
+    match rest {
+        [] => {
+            if !has_entry(&anchor.items, anchor.tables.list()) {
+                return Ok(false);
+            }
+            anchor.tables.edit(name, entry, edit)
+        }
+        [first, more @ ..] => change_kid(&mut anchor.kids, first, more, name, entry, edit),
+    }
+}
+
+/// The same of the one of that name among the anchors directly below.
+#[cycle(changes)]
+fn change_kid(
+    kids: &mut Vec<Rc<Anchor>>,
+    first: &Name,
+    more: &[Name],
+    name: &TableName,
+    entry: &TableEntry,
+    edit: Edit,
+) -> Result<bool, AllocError>
+    requires { AreInOrder (shared kids.old.items) }
+    ensures { MatchResult result (λ done. KidChangesIf done edit entry.now name.now first.now more.now
+        (shared kids.old.items) (shared kids.new.items)) (λ e. shared kids.new.items ≡ shared kids.old.items) }
+{
+    let at = count_before(kids, first);
+    if !stands_at(kids, at, first) {
+        return Ok(false);
+    }
+    let held = &mut kids[at];
+    let Some(kid) = Rc::get_mut(held) else {
+        return Ok(false);
+    };
+    change_table(kid, more, name, entry, edit)
 }

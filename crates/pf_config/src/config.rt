@@ -12,13 +12,14 @@ ghost use Rattle.pf_config.specs.inner.Changes.{FailsWith};
 ghost use Rattle.pf_config.specs.Changes.{add, replace, delete, flush_table, set_table, filled, new_table};
 ghost use Rattle.pf_config.specs.Changes.{load_ruleset};
 ghost use Rattle.pf_ruleset.specs.Rulesets.{ruleset_of};
+ghost use Rattle.pf_config.specs.inner.TableChanges.{commanded, GivesIf};
 ghost use Rattle.pf_config.specs.inner.Texts.{definition_of};
 ghost use Rattle.pf_config.specs.Ordered.{AreOrdered};
 ghost use Rattle.pf_config.specs.SkippedNames.{is_listed};
 ghost use Rattle.pf_config.specs.Trees.{anchor_in};
 ghost use Rattle.pf_config.specs.declared.config.TheConstants.{RULES_MAX, ANCHORS_MAX};
 
-use crate::anchor::Anchor;
+use crate::anchor::{Anchor, change_table};
 use crate::blocks::blocks_in;
 use crate::changed::{placed, tidied, with_tables};
 use crate::depths::go_too_deep;
@@ -30,7 +31,7 @@ use crate::skipped::Skipped;
 use crate::tables::{Tables, named, names_of, with_table};
 use crate::walk::descend;
 use pf_ruleset::{InterfaceName, Item, Name, Path, Ruleset, TableDef, TableEntry, TableName};
-use pf_table::Table;
+use pf_table::{Edit, Table};
 use std::alloc::{AllocError, Global};
 use std::marker::Model;
 use std::rc::Rc;
@@ -42,7 +43,7 @@ const ANCHORS_MAX: usize = 1024;
 pub const RULES_MAX: usize = 1024;
 
 /// How many entries a table has at most.
-const ENTRIES_MAX: usize = 4096;
+pub(crate) const ENTRIES_MAX: usize = 4096;
 
 /// Anchors with their rules and tables, and the interfaces that are skipped.
 #[derive(Drop)]
@@ -53,14 +54,14 @@ pub struct Config {
 }
 
 impl Model for Config {
-    ghost use Rattle.std.specs.Prelude.{◌≡◌, []};
+    ghost use Rattle.std.specs.Prelude.{◌≡◌, ◌≤◌, [], length};
     ghost use Rattle.pf_config.specs.Map.{Configuration};
 
     ghost Value = { Configuration };
 
     ghost view = { λ c. record { skip = c.skip; anchors = c.main.anchors } };
 
-    ghost invariant = { λ c. c.main.names ≡ [] };
+    ghost invariant = { λ c. (c.main.names ≡ []) × (length c.main.anchors ≤ 1024) };
 }
 
 impl Config {
@@ -157,7 +158,7 @@ impl Config {
     }
 
     /// Removes all tables of a path.
-    #[tactic(auto, unfolding(crate::specs::Changes::flush_tables))]
+    #[tactic(auto, using(crate::proofs::Few::tables_few), unfolding(crate::specs::Changes::flush_tables))]
     pub fn flush_tables(&mut self, path: &[Name]) -> Result<(), ConfigFault>
         ensures { Changes result self.old self.new (Ok (flush_tables self.old path.now)) }
     {
@@ -226,7 +227,7 @@ impl Config {
     }
 
     /// Removes the rules of a path, its unnamed blocks, and the tables that no rule refers to any more.
-    #[tactic(auto, unfolding(crate::specs::Changes::flush_rules))]
+    #[tactic(auto, using(crate::proofs::Few::rules_few), unfolding(crate::specs::Changes::flush_rules))]
     pub fn flush_rules(&mut self, path: &[Name]) -> Result<(), ConfigFault>
         ensures { Changes result self.old self.new (Ok (flush_rules self.old path.now)) }
     {
@@ -238,7 +239,7 @@ impl Config {
     }
 
     /// Removes what `flush_rules` does, and then all tables of the path.
-    #[tactic(auto, unfolding(crate::specs::Changes::flush_rules, crate::specs::Changes::flush_tables))]
+    #[tactic(auto, using(crate::proofs::Few::rules_few, crate::proofs::Few::tables_few), unfolding(crate::specs::Changes::flush_rules, crate::specs::Changes::flush_tables))]
     pub fn flush_all(&mut self, path: &[Name]) -> Result<(), ConfigFault>
         ensures { Changes result self.old self.new (Ok (flush_all self.old path.now)) }
     {
@@ -260,6 +261,9 @@ impl Config {
     ) -> Result<(), ConfigFault>
         ensures { Changes result self.old self.new (add self.old path.now name.now list.now) }
     {
+        if self.edit_one(path, name, list, Edit::Insert)? {
+            return Ok(());
+        }
         let table = added(self.alloc, self.table(path, name.as_str()), list)?;
         self.set_table(path, name, &table)
     }
@@ -288,6 +292,9 @@ impl Config {
     ) -> Result<(), ConfigFault>
         ensures { Changes result self.old self.new (delete self.old path.now name.now list.now) }
     {
+        if self.edit_one(path, name, list, Edit::Remove)? {
+            return Ok(());
+        }
         let Some(old) = self.table(path, name.as_str()) else {
             return Err(ConfigFault::NoTable);
         };
@@ -311,6 +318,24 @@ impl Config {
         }
         let table = Table::new(self.alloc, old.persist(), false)?;
         self.set_table(path, name, &table)
+    }
+
+    /// Adds or deletes the one entry of a list in place. False, and nothing is changed, where the list has more, or
+    /// that can't be done.
+    fn edit_one(
+        &mut self,
+        path: &[Name],
+        name: &TableName,
+        list: &[TableEntry],
+        edit: Edit,
+    ) -> Result<bool, AllocError>
+        ensures { MatchResult result (λ done. GivesIf done (commanded edit self.old path.now name.now list.now) self.old
+            self.new) (λ e. self.new ≡ self.old) }
+    {
+        match list {
+            [entry] => change_table(&mut self.main, path, name, entry, edit),
+            _ => Ok(false),
+        }
     }
 
     /// Puts a table in its place.

@@ -32,7 +32,7 @@ mod placing;
 mod referred;
 mod sieve;
 mod skipped;
-mod table_index;
+mod table_change;
 mod tables;
 mod unused;
 mod walk;

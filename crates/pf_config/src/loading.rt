@@ -3,6 +3,7 @@
 ghost use Rattle.std.specs.Prelude.{◌≡◌, [], IfOk, fold, map};
 ghost use Rattle.std.specs.List.{list_any};
 ghost use Rattle.pf_config.specs.Changes.{placed, defined, defined_table, is_too_deep, loaded, without_unnamed};
+ghost use Rattle.pf_config.specs.Ordered.{AreOrdered};
 ghost use Rattle.pf_config.specs.inner.Texts.{definition_of};
 ghost use Rattle.pf_config.specs.inner.Trees.{with_text};
 
@@ -11,9 +12,9 @@ use crate::changed::{cut, placed, tables_at, tidied};
 use crate::depths::DEEPEST;
 use crate::own_rules::OwnRules;
 use crate::placing::Placing;
-use crate::table_index::TableIndex;
-use crate::tables::Tables;
-use pf_ruleset::TableDef;
+use crate::table_change::put_among;
+use crate::tables::{Tables, copied_tables, named};
+use pf_ruleset::{TableDef, TableName};
 use pf_table::Table;
 use std::alloc::{AllocError, Global};
 
@@ -54,13 +55,14 @@ fn with_blocks(alloc: Global, main: Anchor, blocks: &[Placing]) -> Result<Anchor
 fn defined_table(
     alloc: Global,
     definition: &TableDef,
-    tables: &TableIndex,
+    tables: &[(TableName, Table)],
 ) -> Result<Table, AllocError>
+    requires { AreOrdered tables.now }
     ensures { IfOk result (λ t. t ≡ defined_table tables.now (definition_of definition.now)) }
 {
     match &definition.entries {
         Some(list) => Table::of(alloc, definition.persist, definition.is_const, list),
-        None => match tables.named(&definition.name) {
+        None => match named(tables, definition.name.as_str()) {
             Some(table) => table.flagged(definition.persist, definition.is_const),
             None => Table::new(alloc, definition.persist, definition.is_const),
         },
@@ -78,12 +80,12 @@ fn with_definitions(
     if definitions.is_empty() {
         return Ok(tables);
     }
-    let mut next = TableIndex::of(alloc, &tables)?;
+    let mut next = copied_tables(alloc, tables.list())?;
     for definition in definitions {
         let table = defined_table(alloc, definition, &next)?;
-        next.put(alloc, &definition.name, table)?;
+        put_among(alloc, &mut next, &definition.name, table)?;
     }
-    next.into_tables(alloc)
+    Tables::of(alloc, next)
 }
 
 /// The map with a text's rules at its path, and its definitions among the tables there.

@@ -1,9 +1,9 @@
 //! An anchor's own entry: the rules and tables at its path.
 
-ghost use Rattle.std.specs.Prelude.{◌≡◌, ◌++◌, OnOk, map};
+ghost use Rattle.std.specs.Prelude.{◌≡◌, ◌&&◌, ◌++◌, OnOk, map, not};
 ghost use Rattle.pf_ruleset.specs.Seen.{rule_of};
 ghost use Rattle.pf_config.specs.Map.{name_after, paths_in};
-ghost use Rattle.pf_config.specs.Changes.{is_some_unnamed};
+ghost use Rattle.pf_config.specs.Changes.{is_empty, is_some_unnamed};
 ghost use Rattle.pf_config.specs.Trees.{own_entry};
 ghost use Rattle.pf_config.specs.inner.Trees.{any_unnamed, are_apart, room_after, own_count};
 
@@ -28,6 +28,14 @@ pub(crate) fn push_own_path<'c>(
     }
     paths.push(names)?;
     Ok(())
+}
+
+/// Whether there are rules or tables at the anchor's path.
+#[tactic(auto, using(crate::proofs::Treed::empty_len, crate::proofs::Treed::empty_map))]
+pub(crate) fn has_entry(items: &[Item], tables: &[(TableName, Table)]) -> bool
+    ensures { result ≡ not (is_empty (map rule_of items.now) && is_empty tables.now) }
+{
+    !(items.is_empty() && tables.is_empty())
 }
 
 /// The room that is left once the anchor's own entry has its place.

@@ -1,15 +1,16 @@
 //! The tables of an anchor.
 
-ghost use Rattle.std.specs.Prelude.{◌≡◌, ◌++◌, [], IfOk, OnOk, map};
+ghost use Rattle.std.specs.Prelude.{◌≡◌, [], IfOk, MatchResult, map};
 ghost use Rattle.std.specs.Option.{option_copied};
 ghost use Rattle.pf_config.specs.Map.{named};
-ghost use Rattle.pf_config.specs.Changes.{tables_before, tables_behind, with_table};
+ghost use Rattle.pf_config.specs.Changes.{with_table};
+ghost use Rattle.pf_config.specs.inner.TableChanges.{edited_in, ChangesIf};
 ghost use Rattle.pf_config.specs.Ordered.{AreOrdered};
 
-use pf_ruleset::TableName;
-use pf_table::Table;
+use crate::table_change::{edit_among, place_of, put_among};
+use pf_ruleset::{TableEntry, TableName};
+use pf_table::{Edit, Table};
 use std::alloc::{AllocError, Global};
-use std::cmp::Ordering;
 use std::marker::Model;
 use std::rc::Rc;
 
@@ -57,6 +58,23 @@ impl Tables {
         &self.all
     }
 
+    /// Edits an entry of the table of that name in place. False, and nothing is changed, where the tables are shared,
+    /// or that can't be done.
+    pub(crate) fn edit(
+        &mut self,
+        name: &TableName,
+        entry: &TableEntry,
+        edit: Edit,
+    ) -> Result<bool, AllocError>
+        ensures { MatchResult result (λ done. ChangesIf done (edited_in edit entry.now (named name.now self.old))
+            name.now self.old self.new) (λ e. self.new ≡ self.old) }
+    {
+        let Some(all) = Rc::get_mut(&mut self.all) else {
+            return Ok(false);
+        };
+        edit_among(all, name, entry, edit)
+    }
+
     /// The same once more.
     pub(crate) fn copied(&self) -> Result<Tables, AllocError>
         ensures { IfOk result (λ t. t ≡ self.now) }
@@ -66,24 +84,15 @@ impl Tables {
     }
 }
 
-/// The table of that name, which is looked for by halves.
+/// The table of that name.
 pub(crate) fn named<'c>(tables: &'c [(TableName, Table)], name: &str) -> Option<&'c Table>
     requires { AreOrdered tables.now }
     ensures { option_copied result ≡ named name.now tables.now }
 {
-    let mut left = tables;
-    while !left.is_empty() {
-        let (front, back) = left.split_at(left.len() / 2);
-        let [middle, behind @ ..] = back else {
-            return None;
-        };
-        match middle.0.as_bytes().cmp(name.as_bytes()) {
-            Ordering::Equal => return Some(&middle.1),
-            Ordering::Less => left = behind,
-            Ordering::Greater => left = front,
-        }
+    match place_of(tables, name.as_bytes()) {
+        Ok(at) => Some(&tables[at].1),
+        Err(_) => None,
     }
-    None
 }
 
 /// The names of the tables.
@@ -107,46 +116,23 @@ pub(crate) fn copied_table(table: &Table) -> Result<Table, AllocError>
     table.flagged(table.persist(), table.is_const())
 }
 
-/// Appends the tables before the name.
-fn tables_before(
+/// The tables once more, each of which shares its entries.
+pub(crate) fn copied_tables(
     alloc: Global,
-    next: &mut Vec<(TableName, Table)>,
     tables: &[(TableName, Table)],
-    name: &TableName,
-) -> Result<(), AllocError>
-    ensures { OnOk result (next.new.items ≡ next.old.items ++ tables_before name.now tables.now) }
+) -> Result<Vec<(TableName, Table)>, AllocError>
+    ensures { IfOk result (λ v. v.items ≡ tables.now) }
 {
+    let mut next = Vec::new(alloc);
     for entry in tables {
-        if entry.0.is_before(name) {
-            let own = entry.0.copied(alloc)?;
-            let table = copied_table(&entry.1)?;
-            next.push((own, table))?;
-        }
+        let own = entry.0.copied(alloc)?;
+        let table = copied_table(&entry.1)?;
+        next.push((own, table))?;
     }
-    Ok(())
-}
-
-/// Appends the tables behind the name.
-fn tables_behind(
-    alloc: Global,
-    next: &mut Vec<(TableName, Table)>,
-    tables: &[(TableName, Table)],
-    name: &TableName,
-) -> Result<(), AllocError>
-    ensures { OnOk result (next.new.items ≡ next.old.items ++ tables_behind name.now tables.now) }
-{
-    for entry in tables {
-        if name.is_before(&entry.0) {
-            let own = entry.0.copied(alloc)?;
-            let table = copied_table(&entry.1)?;
-            next.push((own, table))?;
-        }
-    }
-    Ok(())
+    Ok(next)
 }
 
 /// The tables with this one under its name.
-#[tactic(auto, using(crate::proofs::Ordered::ordered_with))]
 pub(crate) fn with_table(
     alloc: Global,
     tables: &[(TableName, Table)],
@@ -156,11 +142,8 @@ pub(crate) fn with_table(
     requires { AreOrdered tables.now }
     ensures { IfOk result (λ t. t ≡ with_table tables.now name.now table.now) }
 {
-    let mut next = Vec::new(alloc);
-    tables_before(alloc, &mut next, tables, name)?;
-    let own = name.copied(alloc)?;
-    let copy = copied_table(table)?;
-    next.push((own, copy))?;
-    tables_behind(alloc, &mut next, tables, name)?;
+    let mut next = copied_tables(alloc, tables)?;
+    let own = copied_table(table)?;
+    put_among(alloc, &mut next, name, own)?;
     Tables::of(alloc, next)
 }

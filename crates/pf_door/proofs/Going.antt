@@ -39,6 +39,11 @@ ran_over {R} {W} {G} H s t v u w a e served taken stopping = record {
   stopping = stopping;
 }
 
+-- a wire that stands on the same one below
+pub on_wire : {R W : Type 0} {G : Ghosts R} (H : wires.Ghosts W) (x : Place G) (d : Desk R G) (u v : W) (a : Option NodeFault) → v ≡ u →
+    Opened x (place H d u) a → Opened x (place H d v) a
+on_wire {R} {W} {G} H x d u v a e o = subst (λ (w : W). Opened x (place H d w) a) (sym e) o
+
 -- requests alone, with a wire that stays as it is
 asked_steps : {R : Type 0} {G : Ghosts R} (n : ℕ) (s t : Desk R G) (g : Option (List Bytes)) (h : Option (List (ℕ × Bytes))) →
     Asks n s t → Steps n (record { desk = s; given = g; handed = h }) (record { desk = t; given = g; handed = h })

@@ -9,7 +9,7 @@ use crate::clerk::Clerk;
 use crate::door::Door;
 use crate::tallying::TallyWire;
 use pf_desk::{Desk, Tally};
-use pf_turn::{NodeFault, Pace, Room, Wire, finish, round};
+use pf_turn::{NodeFault, Pace, Room, Timer, Wire, finish, round};
 use px_records::Records;
 use std::alloc::Global;
 use std::io::Eprint;
@@ -43,6 +43,7 @@ fn pass<R: Records, W: Wire, RT: Clock + Eprint>(
         Ok(made) => made,
         Err(fault) => return Err(fault),
     };
+    wire.count_taken(room.heads());
     wire.tell(&mut clerk.tally, made);
     door.note(rt, clerk);
     clerk.tally.seats = door.seats() as u64;

@@ -1,15 +1,14 @@
 //! A wire that counts what goes over it.
 
 ghost use Rattle.std.specs.Prelude.{◌≡◌, ◌≤◌, ◌==◌, ◌||◌, false, not, IfOk, IfSome, length, string_bytes};
-ghost use Rattle.px_wire.specs.Seen.{message_of};
 ghost use Rattle.pf_door.specs.Wiring.{below_of};
-ghost use Rattle.pf_door.specs.inner.Watching.{shown_in, proposal_in, proposed_then, is_proposed, stood_since};
-ghost use Rattle.pf_door.specs.inner.Watching.{seconds_since};
+ghost use Rattle.pf_door.specs.inner.Watching.{proposal_in, proposed_by, proposed_after, proposed_then};
+ghost use Rattle.pf_door.specs.inner.Watching.{is_proposed, stood_since, seconds_since};
 
 use pf_desk::{PeerTally, Tally};
 use pf_turn::Progress;
 use px_transport::Wire;
-use px_wire::{Membership, Message, MessageView, decode};
+use px_wire::{Head, Kind, Membership};
 use std::alloc::{AllocError, Global};
 
 /// How long another member's proposal counts, in microseconds: it is made again after some 4 seconds at most.
@@ -35,18 +34,18 @@ struct Row {
     earlier: [u32; 3],
 }
 
-/// A wire that counts what goes over it: what is some member's by who sent it, what the wires below gave as an empty
-/// datagram as dropped, and all else as ignored.
+/// A wire that counts what goes over it: what the wires below gave as an empty datagram as dropped, what the node took
+/// by who sent it, of which it is shown the heads, and all else that came as ignored.
 #[derive(Drop)]
 pub struct TallyWire<W> {
     inner: W,
-    m: Membership,
     rows: Vec<Row>,
     unsent: u64,
     dropped: u64,
     ignored: u64,
-    /// How many datagrams came in this round.
+    /// How many datagrams came in this round, and how many of them weren't empty.
     came: u32,
+    whole: u64,
     now: u64,
     /// When what members showed was kept last.
     sampled: u64,
@@ -60,36 +59,21 @@ pub struct TallyWire<W> {
     large: usize,
 }
 
-/// A position below which some member has learned all, as a message shows; 0 where it shows none. Who proposes at a
-/// position, or lacks it, has learned all below; and what is voted for is proposed.
-fn shown_in(message: &MessageView<'_>) -> u32
-    ensures { result ≡ shown_in (message_of message.now) }
+/// The position at which the sender of a message with this head proposes a command, if it does.
+fn proposal_in(head: &Head) -> Option<u32>
+    ensures { result ≡ proposal_in head.now }
 {
-    match message {
-        Message::Prepare { position, .. } => *position,
-        Message::PrepareAll { position, .. } => *position,
-        Message::Accept { position, .. } => *position,
-        Message::Vote { position, .. } => *position,
-        Message::Need { position } => *position,
-        Message::Learned { position, .. } => position.saturating_add(1),
-        Message::Promise { .. } => 0,
-        Message::PromiseAll { .. } => 0,
-        Message::Nack { .. } => 0,
-        Message::Ask { .. } => 0,
-        Message::Asked { .. } => 0,
-        Message::AskRefused { .. } => 0,
-    }
-}
-
-/// The position at which the message's sender proposes a command, if it does.
-fn proposal_in(message: &MessageView<'_>) -> Option<u32>
-    ensures { result ≡ proposal_in (message_of message.now) }
-{
-    match message {
-        Message::Prepare { position, .. } => Some(*position),
-        Message::PrepareAll { position, .. } => Some(*position),
-        Message::Accept { position, .. } => Some(*position),
-        _ => None,
+    match head.kind {
+        Kind::Prepare | Kind::PrepareAll | Kind::Accept => head.position,
+        Kind::Vote
+        | Kind::Need
+        | Kind::Learned
+        | Kind::Promise
+        | Kind::PromiseAll
+        | Kind::Nack
+        | Kind::Ask
+        | Kind::Asked
+        | Kind::AskRefused => None,
     }
 }
 
@@ -206,12 +190,12 @@ impl<W: Drop> TallyWire<W> {
         let rows = first_rows(alloc, m)?;
         Ok(TallyWire {
             inner,
-            m,
             rows,
             unsent: 0,
             dropped: 0,
             ignored: 0,
             came: 0,
+            whole: 0,
             now: 0,
             sampled: 0,
             front: 0,
@@ -258,6 +242,7 @@ impl<W> TallyWire<W> {
     {
         self.now = now;
         self.came = 0;
+        self.whole = 0;
         if now >= self.sampled.saturating_add(SAMPLED) {
             self.sampled = now;
             sample(&mut self.rows);
@@ -320,6 +305,8 @@ impl<W> TallyWire<W> {
     /// Counts a datagram of a member, with the position that it shows.
     fn count_from(&mut self, from: u8, shown: u32)
         ensures below { below_of self.new ≡ below_of self.old }
+        ensures round { (self.new.front ≡ self.old.front) × (self.new.now ≡ self.old.now) }
+        ensures proposed { self.new.proposed ≡ self.old.proposed }
     {
         let Some(place) = self.row_of(from) else {
             return;
@@ -334,18 +321,31 @@ impl<W> TallyWire<W> {
     }
 
     /// Notes what a member's message says of proposals: another's, or that this one's was refused by a higher round.
-    fn note(&mut self, from: u8, message: &MessageView<'_>)
+    fn note(&mut self, head: &Head)
         ensures below { below_of self.new ≡ below_of self.old }
-        ensures proposed { (from == self.old.m.me) ≡ false → self.new.proposed ≡ proposed_then self.old.front
-            self.old.now (proposal_in (message_of message.now)) self.old.proposed }
+        ensures round { (self.new.front ≡ self.old.front) × (self.new.now ≡ self.old.now) }
+        ensures proposed { self.new.proposed ≡ proposed_by self.old.front self.old.now head.now self.old.proposed }
     {
-        if from == self.m.me() {
+        if head.from == head.to {
             return;
         }
-        self.proposed = proposed_then(self.front, self.now, proposal_in(message), self.proposed);
-        if matches!(message, Message::Nack { .. }) {
+        self.proposed = proposed_then(self.front, self.now, proposal_in(head), self.proposed);
+        if head.kind == Kind::Nack {
             self.outrun = self.outrun.saturating_add(1);
         }
+    }
+
+    /// Counts what came in this round, of which the node took the messages with these heads, and ignored the rest.
+    pub(crate) fn count_taken(&mut self, heads: &[Head])
+        ensures below { below_of self.new ≡ below_of self.old }
+        ensures proposed { self.new.proposed ≡ proposed_after self.old.front self.old.now heads.now self.old.proposed }
+    {
+        for head in heads {
+            self.count_from(head.from, head.learned_below());
+            self.note(head);
+        }
+        let ignored = self.whole.saturating_sub(heads.len() as u64);
+        self.ignored = self.ignored.saturating_add(ignored);
     }
 
     /// Counts a datagram that came.
@@ -355,14 +355,8 @@ impl<W> TallyWire<W> {
         self.came = self.came.saturating_add(1);
         if datagram.is_empty() {
             self.dropped = self.dropped.saturating_add(1);
-            return;
-        }
-        match decode(&self.m, datagram) {
-            Ok((from, message)) => {
-                self.count_from(from, shown_in(&message));
-                self.note(from, &message);
-            }
-            Err(_) => self.ignored = self.ignored.saturating_add(1),
+        } else {
+            self.whole = self.whole.saturating_add(1);
         }
     }
 

@@ -13,7 +13,7 @@ twice_capped n = omega arith
 not_none : (n : ℕ) → (suc n == 0) ≡ false
 not_none n = grind (arith, nat_tests)
 
-empty_is : {X : Type 0} (xs : List X) → is_empty xs ≡ (length xs == 0)
+pub empty_is : {X : Type 0} (xs : List X) → is_empty xs ≡ (length xs == 0)
 empty_is [] = refl
 empty_is (x ∷ xs) = sym (not_none (length xs))
 

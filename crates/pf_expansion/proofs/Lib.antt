@@ -11,3 +11,4 @@ mod Pushed
 mod Stepping
 mod Twice
 mod Walking
+pub mod Pairs

@@ -152,7 +152,7 @@ fn block_cause(
 ) -> Result<Option<Cause>, AllocError>
     ensures { IfOk result (λ cause. cause ≡ lowest (block_causes (items_of before.now) (item_text_of item.now))) }
 {
-    let judged = item_judged(alloc, item)?;
+    let judged = item_judged(item);
     if judged.ports {
         return Ok(Some(Cause::Ports));
     }

@@ -38,7 +38,7 @@ fn addresses_family(set: &Addresses) -> Option<Family>
 }
 
 /// The family of a host, also of a negated one.
-fn host_family(host: &Host) -> Option<Family>
+pub(crate) fn host_family(host: &Host) -> Option<Family>
     ensures { result ≡ host_family host.now }
 {
     match host {
@@ -59,7 +59,10 @@ fn type_family(icmp_type: Option<WrittenType>) -> Option<Family>
 }
 
 /// The family of this one and of others, none where two occur.
-fn with_family(one: Option<Family>, others: Option<Option<Family>>) -> Option<Option<Family>>
+pub(crate) fn with_family(
+    one: Option<Family>,
+    others: Option<Option<Family>>,
+) -> Option<Option<Family>>
     ensures { result ≡ with_family one others }
 {
     match (one, others) {

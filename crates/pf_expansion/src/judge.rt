@@ -6,12 +6,13 @@ ghost use Rattle.std.specs.List.{list_any, list_all};
 ghost use Rattle.pf_expansion.specs.Causes.{is_bad_port, has_ports, is_bad_type, is_icmp, any_listed, all_listed};
 ghost use Rattle.pf_expansion.specs.Causes.{is_deep, is_deep_list, says_ports, bad_ports, is_too_wide, has_deep_list};
 ghost use Rattle.pf_expansion.specs.Causes.{bad_types, lowest, condition_causes};
-ghost use Rattle.pf_expansion.specs.Expansion.{count_of, combinations, combined};
+ghost use Rattle.pf_expansion.specs.Expansion.{combinations, combined};
 ghost use Rattle.pf_conditions.specs.Seen.{list_of, conditions_of};
 ghost use Rattle.pf_tokens.specs.Lists.{elements_of};
 ghost use Rattle.pf_expansion.specs.declared.judge.TheConstants.{MOST_RULES};
 
 use crate::cause::Cause;
+use crate::counts::{count_combined, count_of};
 use crate::expand::combined;
 use pf_conditions::{Protocol, WrittenConditions, WrittenPort, WrittenType};
 use pf_ruleset::{Conditions, FlagTest};
@@ -99,16 +100,6 @@ pub(crate) fn bad_ports(text: &WrittenConditions) -> bool
     has_bad_port(&text.common.source.ports)
         || has_bad_port(&text.common.destination.ports)
         || (says_ports(text) && !all_have_ports(&text.common.protocols))
-}
-
-/// How many elements are to be combined: one where there is no list.
-fn count_of<E: Drop>(list: &Option<Listed<E>>) -> usize
-    ensures { result ≡ count_of (list_of list.now) }
-{
-    match list {
-        Some(list) => list.items.len(),
-        None => 1,
-    }
 }
 
 /// How many combinations there are, the greatest number of the type where they are more.
@@ -222,7 +213,7 @@ pub(crate) fn bad_types(text: &WrittenConditions) -> bool
 
 /// The conditions of all combinations behind so many rules, or the lowest cause that refuses them, where a name is
 /// reserved or not.
-#[tactic(auto, unfolding(crate::specs::Causes::has_no_combination, crate::specs::Causes::has_too_many))]
+#[tactic(auto, using(crate::proofs::Capped::empty_is), unfolding(crate::specs::Causes::has_no_combination, crate::specs::Causes::has_too_many))]
 pub(crate) fn judge_conditions(
     alloc: Global,
     test: FlagTest,
@@ -249,18 +240,19 @@ pub(crate) fn judge_conditions(
             Cause::TooMany
         }));
     }
-    let found = combined(alloc, test, text)?;
-    if found.is_empty() {
+    let count = count_combined(text);
+    if count == 0 {
         return Ok(Err(Cause::NoCombination));
     }
     if reserved {
         return Ok(Err(Cause::Reserved));
     }
-    if has_deep_list(text) || before.saturating_add(found.len()) > MOST_RULES {
+    if has_deep_list(text) || before.saturating_add(count) > MOST_RULES {
         return Ok(Err(Cause::TooMany));
     }
     if bad_types(text) {
         return Ok(Err(Cause::IcmpType));
     }
+    let found = combined(alloc, test, text)?;
     Ok(Ok(found))
 }

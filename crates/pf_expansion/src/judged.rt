@@ -1,18 +1,16 @@
 //! What is wrong with rules, at every depth of their blocks.
 
-ghost use Rattle.std.specs.Prelude.{◌≡◌, IfOk};
+ghost use Rattle.std.specs.Prelude.{◌≡◌};
+ghost use Rattle.pf_ruleset.specs.declared.parts.FlagTest.{FlagTest};
 ghost use Rattle.pf_conditions.specs.Seen.{conditions_of};
 ghost use Rattle.pf_statements.specs.Seen.{item_text_of, item_texts_of};
 ghost use Rattle.pf_expansion.specs.Blocks.{both, conditions_judged, item_judged, block_judged, nothing_wrong};
 ghost use Rattle.pf_expansion.specs.Blocks.{rule_count, ruleset_judged};
 
-use crate::expand::combined;
+use crate::counts::count_combined;
 use crate::judge::{bad_ports, bad_types, has_deep_list, is_too_wide};
-use crate::rules::{rule_flags, tested_flags};
 use pf_conditions::WrittenConditions;
-use pf_ruleset::FlagTest;
 use pf_statements::WrittenItem;
-use std::alloc::{AllocError, Global};
 
 /// One rule more than a ruleset may have.
 const TOO_MANY_RULES: usize = 1_025;
@@ -74,66 +72,55 @@ impl Judged {
     }
 }
 
-/// How many rules conditions come to, where they aren't refused for their width.
+/// How many rules the conditions give, where they aren't refused for their width.
 #[tactic(auto, unfolding(crate::specs::Blocks::rule_count))]
-fn rule_count(alloc: Global, test: FlagTest, text: &WrittenConditions) -> Result<usize, AllocError>
-    ensures { IfOk result (λ n. n ≡ rule_count test (conditions_of text.now)) }
+fn rule_count(text: &WrittenConditions) -> usize
+    ensures { (test : FlagTest) → result ≡ rule_count test (conditions_of text.now) }
 {
     if is_too_wide(text) {
-        return Ok(0);
+        return 0;
     }
-    let found = combined(alloc, test, text)?;
-    Ok(found.len())
+    count_combined(text)
 }
 
-/// What is wrong with the conditions of a rule.
+/// What is wrong with the conditions of a rule, whatever is asked of the flags.
 #[tactic(auto, unfolding(crate::specs::Blocks::conditions_judged), using(crate::proofs::Capped::none_counted))]
-fn conditions_judged(
-    alloc: Global,
-    test: FlagTest,
-    text: &WrittenConditions,
-) -> Result<Judged, AllocError>
-    ensures { IfOk result (λ j. j ≡ conditions_judged test (conditions_of text.now)) }
+fn conditions_judged(text: &WrittenConditions) -> Judged
+    ensures { (test : FlagTest) → result ≡ conditions_judged test (conditions_of text.now) }
 {
-    let rules = rule_count(alloc, test, text)?;
-    Ok(Judged {
+    let rules = rule_count(text);
+    Judged {
         ports: bad_ports(text),
         combination: !is_too_wide(text) && rules == 0,
         many: is_too_wide(text) || has_deep_list(text),
         types: bad_types(text),
         rules,
-    })
+    }
 }
 
 /// What is wrong with a rule, or with one in its block.
 #[cycle(judged)]
-pub(crate) fn item_judged(alloc: Global, item: &WrittenItem) -> Result<Judged, AllocError>
-    ensures { IfOk result (λ j. j ≡ item_judged (item_text_of item.now)) }
+pub(crate) fn item_judged(item: &WrittenItem) -> Judged
+    ensures { result ≡ item_judged (item_text_of item.now) }
 {
     match item {
-        WrittenItem::Rule(rule) => conditions_judged(alloc, rule_flags(rule), &rule.conditions),
-        WrittenItem::Anchor(anchor) => {
-            let test = tested_flags(false, anchor.conditions.flags);
-            conditions_judged(alloc, test, &anchor.conditions)
-        }
+        WrittenItem::Rule(rule) => conditions_judged(&rule.conditions),
+        WrittenItem::Anchor(anchor) => conditions_judged(&anchor.conditions),
         WrittenItem::Block(heading, items) => {
-            let test = tested_flags(false, heading.conditions.flags);
-            let own = conditions_judged(alloc, test, &heading.conditions)?;
-            let within = items_judged(alloc, items)?;
-            Ok(own.and(within.of_ruleset()))
+            let own = conditions_judged(&heading.conditions);
+            own.and(items_judged(items).of_ruleset())
         }
     }
 }
 
 /// What is wrong with the rules of a block.
 #[cycle(judged)]
-fn items_judged(alloc: Global, items: &[WrittenItem]) -> Result<Judged, AllocError>
-    ensures { IfOk result (λ j. j ≡ block_judged nothing_wrong (item_texts_of items.now)) }
+fn items_judged(items: &[WrittenItem]) -> Judged
+    ensures { result ≡ block_judged nothing_wrong (item_texts_of items.now) }
 {
     let mut judged = Judged::nothing();
     for item in items {
-        let one = item_judged(alloc, item)?;
-        judged = judged.and(one);
+        judged = judged.and(item_judged(item));
     }
-    Ok(judged)
+    judged
 }

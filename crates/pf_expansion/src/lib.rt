@@ -16,6 +16,7 @@ mod block_names;
 mod block_paths;
 mod blocks;
 mod cause;
+mod counts;
 mod defined_tables;
 mod expand;
 mod judge;

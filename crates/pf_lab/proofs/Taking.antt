@@ -106,6 +106,18 @@ received_unmoved x y bytes old new e works honest sound never (inr (inl passed))
 received_unmoved x y bytes old new e works honest sound never (inr (inr taken)) =
     call_unmoved x y (Comes taken.sender taken.message) old new e works honest sound never taken.call
 
+-- a record that can be told stays one where a datagram is done or passed over
+pub received_sound : {R : Type 0} {G : Ghosts R} (x y : Replica R G) (bytes : List ℕ) (old new : List Datagram) (r : Received) →
+    has_failed x ≡ false → G.is_honest (records_of y) → IsSound (membership_of x).members (replicas.state_in x).stored →
+    Receives x y bytes old new (Ok r) → IsSound (membership_of y).members (replicas.state_in y).stored
+received_sound x y bytes old new r works honest sound (inl lost) =
+    let is : true ≡ false = sym lost.failed ∙ works in absurd (cc)
+received_sound {R} {G} x y bytes old new r works honest sound (inr (inl passed)) =
+    subst (λ (z : Replica R G). IsSound (membership_of z).members (replicas.state_in z).stored) (sym passed.still) sound
+received_sound x y bytes old new r works honest sound (inr (inr taken)) =
+    subst (λ (m : Membership). IsSound m.members (replicas.state_in y).stored) (sym taken.call.membership)
+    (taken.call.sound honest sound refl)
+
 -- ---- one of the members
 
 state_up : (y : Seat) → y.is_up ≡ true → state_of y ≡ state_in y.node

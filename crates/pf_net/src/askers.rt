@@ -2,19 +2,13 @@
 
 ghost use Rattle.std.specs.Prelude.{◌≡◌, ◌≤◌, ◌<◌, length, IfSome};
 
+use px_wire::Head;
 use std::alloc::{AllocError, Global};
 use std::collections::VecDeque;
 use std::net::SocketAddr;
 
 /// How many asks, and how many answers, are kept at most.
 const MOST_KEPT: usize = 64;
-
-/// Where a datagram has its kind, the kind of an answer that a command was taken in, and where that has its number.
-const KIND_PLACE: usize = 12;
-
-const ASKED: u8 = 9;
-
-const NUMBER_PLACE: usize = 21;
 
 /// An answer that waits until its command is learned.
 #[derive(Drop)]
@@ -32,19 +26,6 @@ pub(crate) struct Askers {
     asks: VecDeque<(SocketAddr, Vec<u8>)>,
     is_holding: bool,
     answers: Vec<Answer>,
-}
-
-/// The number of an answer that a command was taken in; none of another datagram.
-fn number_in(datagram: &[u8]) -> Option<u64> {
-    if datagram.get(KIND_PLACE) != Some(&ASKED) {
-        return None;
-    }
-    match datagram.get(NUMBER_PLACE..NUMBER_PLACE + 8) {
-        Some([a, b, c, d, e, f, g, h]) => {
-            Some(u64::from_be_bytes([*a, *b, *c, *d, *e, *f, *g, *h]))
-        }
-        _ => None,
-    }
 }
 
 /// Writes the bytes over the front, as many as there is room for: how many.
@@ -126,13 +107,13 @@ impl Askers {
         Ok(())
     }
 
-    /// Keeps an answer until its command is learned, if that is to be; beyond 64 the first is lost, and where memory is
-    /// wanting this one. Whether it is not to be sent now.
-    pub(crate) fn hold(&mut self, to: SocketAddr, bytes: &[u8]) -> bool {
+    /// Keeps an answer that a command was taken in until that is learned, if that is to be; beyond 64 the first is
+    /// lost, and where memory is wanting this one. Whether it is not to be sent now.
+    pub(crate) fn hold(&mut self, to: SocketAddr, head: Option<Head>, bytes: &[u8]) -> bool {
         if !self.is_holding {
             return false;
         }
-        let Some(number) = number_in(bytes) else {
+        let Some(number) = head.and_then(|head| head.number) else {
             return false;
         };
         if self.answers.len() >= MOST_KEPT {

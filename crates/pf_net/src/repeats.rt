@@ -2,7 +2,7 @@
 
 ghost use Rattle.std.specs.Prelude.{◌≤◌, length, IfSome};
 
-use crate::datagram::{is_accept, is_vote, place_of};
+use px_wire::{Head, Kind};
 use std::alloc::{AllocError, Global};
 
 /// How many datagrams are kept at most: an accept request and a vote for each of 15 members.
@@ -16,6 +16,31 @@ const MEMBERS: usize = 15;
 /// on Linux, for 30 s: at 139 bytes a millisecond that would be full.
 const LARGE_RATE: u64 = 131;
 
+/// An accept request or a vote that was sent.
+#[derive(Drop)]
+struct Kept {
+    to: u8,
+    kind: Kind,
+    bytes: Vec<u8>,
+}
+
+/// The ballot and the position of an accept request or a vote; none of another datagram.
+pub(crate) fn proposal_of(head: &Head) -> Option<(u64, u32)> {
+    match head.kind {
+        Kind::Accept | Kind::Vote => head.ballot.zip(head.position),
+        Kind::Prepare
+        | Kind::Promise
+        | Kind::Nack
+        | Kind::Need
+        | Kind::Learned
+        | Kind::Ask
+        | Kind::Asked
+        | Kind::AskRefused
+        | Kind::PrepareAll
+        | Kind::PromiseAll => None,
+    }
+}
+
 /// The accept requests and votes of one ballot at one position that were sent last, with for whom; and the accept
 /// request that was given last.
 #[derive(Drop)]
@@ -23,7 +48,7 @@ pub(crate) struct Repeats {
     alloc: Global,
     ballot: u64,
     position: u32,
-    kept: Vec<(u8, Vec<u8>)>,
+    kept: Vec<Kept>,
     /// The accept request that was given last; empty where there is none, or memory was wanting.
     accept: Vec<u8>,
     /// For each member, before when nothing longer than a packet goes to it again, in microseconds.
@@ -46,16 +71,20 @@ impl Repeats {
         }
     }
 
-    fn push(&mut self, to: u8, bytes: &[u8]) -> Result<(), AllocError> {
+    fn push(&mut self, to: u8, kind: Kind, bytes: &[u8]) -> Result<(), AllocError> {
         let copy = Vec::from_slice(self.alloc, bytes)?;
-        self.kept.push((to, copy))?;
+        self.kept.push(Kept {
+            to,
+            kind,
+            bytes: copy,
+        })?;
         Ok(())
     }
 
     /// Keeps a datagram that was sent, if it is an accept request or a vote; what is of another ballot or position is
     /// let go. Where memory is wanting it isn't kept.
-    pub(crate) fn keep(&mut self, to: u8, bytes: &[u8]) {
-        let Some((ballot, position)) = place_of(bytes) else {
+    pub(crate) fn keep(&mut self, to: u8, head: &Head, bytes: &[u8]) {
+        let Some((ballot, position)) = proposal_of(head) else {
             return;
         };
         if position < self.position {
@@ -67,7 +96,7 @@ impl Repeats {
             self.position = position;
         }
         if self.kept.len() < MOST_KEPT {
-            let _kept = self.push(to, bytes);
+            let _kept = self.push(to, head.kind, bytes);
         }
     }
 
@@ -85,14 +114,14 @@ impl Repeats {
     /// The datagram with this number, and for whom it is.
     pub(crate) fn get(&self, i: usize) -> Option<(u8, &[u8])> {
         match self.kept.get(i) {
-            Some((to, bytes)) => Some((*to, bytes.as_slice())),
+            Some(kept) => Some((kept.to, kept.bytes.as_slice())),
             None => None,
         }
     }
 
     /// Remembers a datagram that is given, if it is an accept request. Where memory is wanting none is remembered.
-    pub(crate) fn came(&mut self, datagram: &[u8]) {
-        if is_accept(datagram) {
+    pub(crate) fn came(&mut self, head: &Head, datagram: &[u8]) {
+        if head.kind == Kind::Accept {
             self.accept.clear();
             let _kept = self.accept.extend_from_slice(datagram);
         }
@@ -100,20 +129,15 @@ impl Repeats {
 
     /// The number of the vote that answers this accept request of a member, if it is the one that was given last, byte
     /// for byte, and its vote is kept.
-    pub(crate) fn vote_for(&self, member: u8, accept: &[u8]) -> Option<usize> {
+    pub(crate) fn vote_for(&self, member: u8, head: &Head, accept: &[u8]) -> Option<usize> {
         if self.accept.as_slice() != accept
-            || place_of(accept) != Some((self.ballot, self.position))
+            || proposal_of(head) != Some((self.ballot, self.position))
         {
             return None;
         }
-        for i in 0..self.kept.len() {
-            if let Some((to, bytes)) = self.get(i) {
-                if to == member && is_vote(bytes) {
-                    return Some(i);
-                }
-            }
-        }
-        None
+        self.kept
+            .iter()
+            .position(|kept| kept.to == member && kept.kind == Kind::Vote)
     }
 
     /// Whether a datagram longer than a packet may go to this member again, at this time in microseconds.

@@ -1,6 +1,8 @@
 //! The votes that a member sent, for those who lack them later.
 
-use crate::datagram::{PACKET, is_vote, place_of};
+use crate::datagram::PACKET;
+use crate::repeats::proposal_of;
+use px_wire::{Head, Kind};
 use std::alloc::{AllocError, Global};
 use std::collections::VecDeque;
 
@@ -211,11 +213,11 @@ impl Trail {
     /// Keeps a datagram that was sent to a member, if it is a vote that fits into a packet and isn't of a lower
     /// position than the last; of its position what is of another ballot is let go. Where memory is wanting it isn't
     /// kept.
-    pub(crate) fn keep(&mut self, to: u8, bytes: &[u8]) {
-        if !is_vote(bytes) || bytes.len() > PACKET {
+    pub(crate) fn keep(&mut self, to: u8, head: &Head, bytes: &[u8]) {
+        if head.kind != Kind::Vote || bytes.len() > PACKET {
             return;
         }
-        let Some((ballot, position)) = place_of(bytes) else {
+        let Some((ballot, position)) = proposal_of(head) else {
             return;
         };
         if let Some(last) = self.votes.back() {

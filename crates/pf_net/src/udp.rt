@@ -1,29 +1,27 @@
 //! Datagrams over a UDP socket.
 
 ghost use Rattle.std.specs.Prelude.{◌≡◌, ◌⊎◌, ◌<◌, ◌≤◌, ◌==◌, Some, None, Err, false, IfOk, IfSome, OnErr, IsTrue};
-ghost use Rattle.std.specs.Prelude.{map, length, slice_index};
+ghost use Rattle.std.specs.Prelude.{map, length};
 ghost use Rattle.px_transport.specs.Wires.{one_more};
 ghost use Rattle.pf_net.specs.declared.udp.BindFault.TheVariants.{Memory};
 ghost use Rattle.pf_net.specs.Addresses.{AreFound};
-ghost use Rattle.pf_net.specs.Members.{peers_of, me_of, strangers_of, Drops};
+ghost use Rattle.pf_net.specs.Members.{peers_of, me_of, strangers_of, is_asking, Drops};
 
 use crate::address::Address;
 use crate::askers::Askers;
-use crate::datagram::is_large;
+use crate::datagram::PACKET;
 use crate::host::find;
-use crate::repeats::Repeats;
+use crate::repeats::{Repeats, proposal_of};
 use crate::trail::Trail;
 use pf_entry::ASKER;
 use px_transport::Wire;
+use px_wire::Head;
 use std::alloc::{AllocError, AllocFailed, Global};
 use std::io::ErrorKind;
 use std::net::{IpAddr, Ipv4Addr, Net, SocketAddr, UdpSocket};
 use std::os::fd::{AsRawFd, RawFd};
 use std::time::{Clock, Duration, Instant};
 use thiserror::Error;
-
-/// Where a datagram has its sender's number.
-const FROM_PLACE: usize = 10;
 
 /// How many accept requests that came again are answered in a row before none is said to have come.
 const MOST_ANSWERED: u32 = 64;
@@ -66,9 +64,9 @@ impl<T: Drop> From<AllocFailed<T>> for BindFault {
 /// between two receives no more than a 64th of the wait counts, so that slow turns alone end none before 64 datagrams.
 ///
 /// A datagram that comes from elsewhere than a member's address is given as an empty one, which is nobody's, and is
-/// counted, unless its sender's number is 255, of one who asks. While asks are deferred, 64 of them are kept for
-/// later, and an empty datagram is given in place of each. With [`UdpWire::answer_learned`] an answer that a command
-/// was taken in is sent once that is learned.
+/// counted, unless it has a head ([`Head::read`]) whose sender is 255, one who asks. While asks are deferred, 64 of
+/// them are kept for later, and an empty datagram is given in place of each. With [`UdpWire::answer_learned`] an answer
+/// that a command was taken in is sent once that is learned.
 ///
 /// The accept requests and votes that were sent last are kept, those of one ballot at one position, and sent again by
 /// [`Wire::repeat`]; those longer than a packet no faster than 131 bytes a millisecond to each member, since their
@@ -143,11 +141,19 @@ fn reading<C: Clock>(clock: &C, me: u8) -> Option<Instant> {
     }
 }
 
-/// Whether a datagram is of one who asks and is no member, by the sender's number in it.
-fn is_asking(datagram: &[u8]) -> bool
-    ensures { result ≡ (slice_index datagram.now 10 == 255) }
+/// Whether a datagram is of one who asks and is no member, by its head.
+fn is_asking(head: Option<Head>) -> bool
+    ensures { result ≡ is_asking head }
 {
-    datagram.len() > FROM_PLACE && datagram[FROM_PLACE] == ASKER
+    match head {
+        Some(head) => head.from == ASKER,
+        None => false,
+    }
+}
+
+/// Whether a datagram is an accept request or a vote, and longer than a packet.
+fn is_large(head: &Head, datagram: &[u8]) -> bool {
+    datagram.len() > PACKET && proposal_of(head).is_some()
 }
 
 impl<R: Net + Clock + Copy> UdpWire<R> {
@@ -297,14 +303,14 @@ impl<C> UdpWire<C> {
 
     /// What is given of a datagram: all its bytes, or none of an ask that is deferred, and of a stranger's, which is
     /// counted.
-    fn admit(&mut self, from: SocketAddr, datagram: &[u8]) -> usize
+    fn admit(&mut self, from: SocketAddr, head: Option<Head>, datagram: &[u8]) -> usize
         ensures failures { self.new.failures ≡ self.old.failures }
         ensures fits { result ≤ length datagram.now }
         ensures given { (strangers_of self.new ≡ strangers_of self.old) ⊎
-            (result ≡ 0) × ((slice_index datagram.now 10 == 255) ≡ false) ×
+            (result ≡ 0) × (is_asking head ≡ false) ×
             (strangers_of self.new ≡ one_more (strangers_of self.old)) }
     {
-        if is_asking(datagram) {
+        if is_asking(head) {
             return self.admit_ask(from, datagram);
         }
         if self.peers.as_slice().contains(&Address::of_socket(from)) {
@@ -416,7 +422,7 @@ impl<C: Clock> UdpWire<C> {
         let Some((to, bytes)) = self.repeats.get(i) else {
             return false;
         };
-        if !is_large(bytes) {
+        if bytes.len() <= PACKET {
             return self.sent_bytes(to, bytes);
         }
         if !self.repeats.is_large_due(to, now) {
@@ -437,13 +443,13 @@ impl<C: Clock> UdpWire<C> {
     }
 
     /// Keeps what was sent to a member, if that may be lost.
-    fn keep(&mut self, to: u8, bytes: &[u8])
+    fn keep(&mut self, to: u8, head: &Head, bytes: &[u8])
         ensures failures { self.new.failures ≡ self.old.failures }
         ensures strangers { self.new.strangers ≡ self.old.strangers }
     {
-        self.repeats.keep(to, bytes);
-        self.trail.keep(to, bytes);
-        if is_large(bytes) {
+        self.repeats.keep(to, head, bytes);
+        self.trail.keep(to, head, bytes);
+        if is_large(head, bytes) {
             let now = self.microseconds();
             self.repeats.sent_large(to, bytes.len(), now);
         }
@@ -451,17 +457,17 @@ impl<C: Clock> UdpWire<C> {
 
     /// Whether the datagram is the accept request that was given last, and is the member's whose number and address it
     /// has, and its vote is kept: then that is sent again.
-    fn answers_again(&mut self, from: SocketAddr, datagram: &[u8]) -> bool
+    fn answers_again(&mut self, from: SocketAddr, head: Option<Head>, datagram: &[u8]) -> bool
         ensures failures { self.old.failures ≤ self.new.failures }
         ensures strangers { self.new.strangers ≡ self.old.strangers }
     {
-        let Some(member) = datagram.get(FROM_PLACE) else {
+        let Some(head) = head else {
             return false;
         };
-        if self.peers.get(usize::from(*member)) != Some(&Address::of_socket(from)) {
+        if self.peers.get(usize::from(head.from)) != Some(&Address::of_socket(from)) {
             return false;
         }
-        let Some(i) = self.repeats.vote_for(*member, datagram) else {
+        let Some(i) = self.repeats.vote_for(head.from, &head, datagram) else {
             return false;
         };
         let now = self.microseconds();
@@ -472,14 +478,16 @@ impl<C: Clock> UdpWire<C> {
     }
 
     /// What is given of a datagram that came: what is admitted of it.
-    fn take_in(&mut self, from: SocketAddr, datagram: &[u8]) -> usize
+    fn take_in(&mut self, from: SocketAddr, head: Option<Head>, datagram: &[u8]) -> usize
         ensures failures { self.new.failures ≡ self.old.failures }
         ensures fits { result ≤ length datagram.now }
         ensures dropped { Drops (strangers_of self.old) (Some result) (strangers_of self.new) }
     {
-        let n = self.admit(from, datagram);
-        if n > 0 {
-            self.repeats.came(datagram);
+        let n = self.admit(from, head, datagram);
+        if let Some(head) = head {
+            if n > 0 {
+                self.repeats.came(&head, datagram);
+            }
         }
         n
     }
@@ -531,7 +539,7 @@ impl<C: Clock> Wire for UdpWire<C> {
             Ok((n, from)) => {
                 self.since = self.now();
                 self.pass(began, self.since, self.wait);
-                Some(self.take_in(from, &into[..n]))
+                Some(self.take_in(from, Head::read(&into[..n]), &into[..n]))
             }
             Err(error) => {
                 self.met(error.kind());
@@ -558,8 +566,9 @@ impl<C: Clock> Wire for UdpWire<C> {
             let Some((n, from)) = self.come(into) else {
                 return None;
             };
-            if !self.answers_again(from, &into[..n]) {
-                return Some(self.take_in(from, &into[..n]));
+            let head = Head::read(&into[..n]);
+            if !self.answers_again(from, head, &into[..n]) {
+                return Some(self.take_in(from, head, &into[..n]));
             }
         }
         None
@@ -579,16 +588,19 @@ impl<C: Clock> Wire for UdpWire<C> {
     }
 
     fn send(&mut self, to: u8, bytes: &[u8]) -> bool {
+        let head = Head::read(bytes);
         let sent = match self.address(to) {
-            Some(there) => (to == ASKER && self.askers.hold(there, bytes))
+            Some(there) => (to == ASKER && self.askers.hold(there, head, bytes))
                 || self.sent_to(bytes, there),
             None => false,
         };
         if !sent {
             self.failures = self.failures.saturating_add(1);
         }
-        if to != ASKER {
-            self.keep(to, bytes);
+        if let Some(head) = head {
+            if to != ASKER {
+                self.keep(to, &head, bytes);
+            }
         }
         sent
     }

@@ -12,8 +12,6 @@ mod fault;
 mod file;
 mod kinds;
 mod lines;
-#[cfg(test)]
-mod tests;
 
 pub use fault::FileFault;
 pub use file::NodeFile;

@@ -51,15 +51,12 @@ pub(crate) fn say_storeless(rt: &HostRuntime, path: &str, code: u8) {
     }
 }
 
-/// Whose a store is: its cluster, how many members that has, and the node; none where it doesn't say.
-pub(crate) fn owner_of<S: Alter>(conn: &mut Connection<S>) -> Option<(u32, u32, u32)> {
-    let Ok(row) = conn.query_row("SELECT cluster, members, node FROM meta", &[]) else {
-        return None;
-    };
-    match (row.get::<u32>(0), row.get::<u32>(1), row.get::<u32>(2)) {
-        (Ok(cluster), Ok(members), Ok(node)) => Some((cluster, members, node)),
-        _ => None,
-    }
+/// Whose a store is: its cluster, how many members that has, and the node.
+pub(crate) fn owner_of<S: Alter>(
+    conn: &mut Connection<S>,
+) -> Result<(u32, u32, u32), sqlite::Error> {
+    let row = conn.query_row("SELECT cluster, members, node FROM meta", &[])?;
+    Ok((row.get::<u32>(0)?, row.get::<u32>(1)?, row.get::<u32>(2)?))
 }
 
 /// Says why a store isn't taken.
@@ -72,7 +69,7 @@ pub(crate) fn say_judged<S: Alter>(
 ) {
     let path = Shown(path);
     if fault == AdoptFault::WrongNode {
-        if let Some((cluster, members, node)) = owner_of(conn) {
+        if let Ok((cluster, members, node)) = owner_of(conn) {
             let _said = eprintln!(rt;
                 "pfx: error: store {path} is of node {node} of {members}, cluster {cluster}; this is node {} of {}, \
                  cluster {}",

@@ -46,7 +46,7 @@ fn key_refused(rt: &HostRuntime, path: &str, fault: KeyFault) -> Outcome
 }
 
 /// The key of the cluster's tags that the secret in a file makes.
-fn key_in(
+pub(crate) fn key_in(
     rt: &HostRuntime,
     alloc: Global,
     words: NodeWords<'_, '_, '_>,

@@ -1,12 +1,13 @@
 //! The word `node`: a node over UDP.
 
 ghost use Rattle.std.specs.Prelude.{◌≡◌, ◌≢◌, ◌<◌, ◌≤◌, ◌⊎◌, ◌↔◌, Err, false, length, IfSome, OnErr, IsSome, IsTrue};
-ghost use Rattle.std.specs.Prelude.{ℕ, Some, None, option_map, option_and_then};
+ghost use Rattle.std.specs.Prelude.{ℕ, Bool, Some, None, option_map, option_and_then};
 ghost use Rattle.toml.specs.Data.{as_str, get_member};
 ghost use Rattle.pf_node_file.specs.Files.{settings_of};
 ghost use Rattle.pf_node_file.specs.Settings.{number_of};
 ghost use Rattle.pf_node_words.specs.declared.outcome.Outcome.TheVariants.{Memory, Refused};
 ghost use Rattle.pf_node_words.specs.inner.Outcomes.{ComesTo, ComesOpenOr};
+ghost use Rattle.pf_node_words.specs.inner.Stores.{IsStoreless};
 ghost use Rattle.pf_node_words.specs.inner.Places.{is_count, has_place, turns_or_all, chosen};
 
 use crate::door::{DoorWords, run_with_door};
@@ -352,6 +353,7 @@ fn run_member_in<R: Records>(
 ) -> (Outcome, R)
     requires members { R.members records ≡ m.members }
     requires here { m.me < m.members }
+    ensures { ComesTo R.Records m records result.0 result.1 ⊎ ComesOpenOr R.Records m records result.0 result.1 }
 {
     match words.door {
         Some(path) => run_at_door(rt, alloc, words, path, m, records, keys),
@@ -371,7 +373,8 @@ fn run_on(
 ) -> Outcome
     requires members { ⟦<SqlRecords<FileStore<File>> as Records>⟧.members records ≡ m.members }
     requires here { m.me < m.members }
-    ensures { result ≢ Refused 80 }
+    ensures why { result ≢ Refused 80 }
+    ensures store { (file new : Bool) → IsStoreless file new result }
 {
     say_start(rt, words);
     let (outcome, records) = run_member_in(rt, alloc, words, m, records, keys);
@@ -385,6 +388,8 @@ fn run_on(
 /// in this order.
 pub(crate) fn node_outcome(rt: &HostRuntime, alloc: Global, words: NodeWords<'_, '_, '_>) -> Outcome
     ensures place { has_place words.entry.me (length words.entry.members.now) ≡ false → result ≡ Refused 40 }
+    ensures ending { result ≢ Refused 80 }
+    ensures store { IsStoreless words.entry.is_from_file words.entry.is_new result }
 {
     let Some(m) = membership(words) else {
         say_place(rt, words);

@@ -1,9 +1,10 @@
 //! A node's store: opened where it is, and made where it may be.
 
-ghost use Rattle.std.specs.Prelude.{◌≡◌, ◌⊎◌, ℕ, Err, IfOk, IfErr, OnErr};
+ghost use Rattle.std.specs.Prelude.{◌≡◌, ◌≢◌, ◌⊎◌, Err, IfOk, IfErr, OnErr, true, false};
 ghost use Rattle.pf_node_words.specs.declared.outcome.Outcome.TheVariants.{Memory, Refused};
+ghost use Rattle.pf_node_words.specs.declared.store.TheConstants.{NO_STORE, FILE_IS_THERE};
 ghost use Rattle.pf_node_words.specs.inner.Outcomes.{adopt_outcome};
-ghost use Rattle.pf_node_words.specs.inner.Stores.{opening_of, IsStoreless};
+ghost use Rattle.pf_node_words.specs.inner.Stores.{IsOpening, IsStoreless};
 
 use crate::faults::{say_closed, say_judged, say_storeless};
 use crate::node::NodeWords;
@@ -49,8 +50,9 @@ pub(crate) enum Opening {
 
 /// What becomes of what stands there. Where settings come from a file a store is made with `--new` alone (93), which
 /// wants none there (94).
+#[tactic(auto, using(crate::proofs::Stores::is_opening))]
 pub(crate) fn opening_of(is_from_file: bool, is_new: bool, found: Found) -> Opening
-    ensures { result ≡ opening_of is_from_file is_new found }
+    ensures { IsOpening is_from_file is_new found result }
 {
     match found {
         Found::Nothing => if is_new || !is_from_file {
@@ -137,17 +139,26 @@ pub(crate) fn identity_of(m: Membership) -> Identity
     }
 }
 
+/// The outcome of a database that the system or its own code doesn't open or read; why is said on standard error.
+pub(crate) fn failed_outcome(rt: &HostRuntime, path: &str, error: Error) -> Outcome
+    ensures { (result ≡ Memory) ⊎ (result ≡ Refused 70) }
+{
+    match error {
+        Error::SqliteFailure(ErrorCode::OutOfMemory) => Outcome::Memory,
+        _ => {
+            say_closed(rt, path, &error);
+            Outcome::Refused(70)
+        }
+    }
+}
+
 /// The database in a file.
 fn open_file(rt: &HostRuntime, path: &str) -> Result<Connection<FileStore<File>>, Outcome>
     ensures { OnErr result ((result ≡ Err Memory) ⊎ (result ≡ Err (Refused 70))) }
 {
     match Connection::open(rt, path) {
         Ok(conn) => Ok(conn),
-        Err(Error::SqliteFailure(ErrorCode::OutOfMemory)) => Err(Outcome::Memory),
-        Err(error) => {
-            say_closed(rt, path, &error);
-            Err(Outcome::Refused(70))
-        }
+        Err(error) => Err(failed_outcome(rt, path, error)),
     }
 }
 
@@ -172,8 +183,10 @@ fn open_store(
     found: Found,
 ) -> Result<Connection<FileStore<File>>, Outcome>
     ensures refused { IfErr result (IsStoreless words.entry.is_from_file words.entry.is_new) }
-    ensures is { (code : ℕ) → opening_of words.entry.is_from_file words.entry.is_new found ≡ Opening.Refuses code →
-        result ≡ Err (Refused code) }
+    ensures lost { words.entry.is_from_file ≡ true → words.entry.is_new ≡ false →
+        (found ≡ Found.Nothing) ⊎ (found ≡ Found.Empty) → result ≡ Err (Refused NO_STORE) }
+    ensures held { words.entry.is_new ≡ true → found ≡ Found.Store → result ≡ Err (Refused FILE_IS_THERE) }
+    ensures unfailed { OnErr result (result ≢ Err (Refused 80)) }
 {
     match opening_of(words.is_from_file, words.is_new, found) {
         Opening::Opens => open_file(rt, words.store),
@@ -195,6 +208,7 @@ pub(crate) fn record_for(
 ) -> Result<SqlRecords<FileStore<File>>, Outcome>
     ensures members { IfOk result (λ r. ⟦<SqlRecords<FileStore<File>> as Records>⟧.members r ≡ m.members) }
     ensures refused { IfErr result (IsStoreless words.entry.is_from_file words.entry.is_new) }
+    ensures unfailed { OnErr result (result ≢ Err (Refused 80)) }
 {
     let Ok(found) = found_at(rt, alloc, words.store) else {
         return Err(Outcome::Memory);

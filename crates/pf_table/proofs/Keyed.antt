@@ -22,7 +22,7 @@ use Rattle.pf_table.specs.inner.Keys.{key_of}
 use Rattle.pf_table.proofs.Lookups.{above, both_true}
 use Rattle.pf_table.proofs.Parting.{version_of, of_means}
 
-equal : (n : ℕ) → nat_cmp n n ≡ Equal
+pub equal : (n : ℕ) → nat_cmp n n ≡ Equal
 equal n = grind (arith, nat_tests)
 
 less : (x y : ℕ) → is_lt (nat_cmp x y) ≡ true → x < y
@@ -38,7 +38,7 @@ third : (a b c d : ℕ) (o : Ordering) → a ≡ b → c ≡ d → ordering_then
 third a b c d o h k = rw (ap (λ z. nat_cmp a z) (sym h) ∙ equal a, ap (λ z. nat_cmp c z) (sym k) ∙ equal c) refl
 
 -- prefixes of one family and length stand in the order of their numbers
-by_bits : (p q : Block) → version p.base ≡ version q.base → p.len ≡ q.len → prefix_cmp p q ≡ nat_cmp (bits_of p.base) (bits_of q.base)
+pub by_bits : (p q : Block) → version p.base ≡ version q.base → p.len ≡ q.len → prefix_cmp p q ≡ nat_cmp (bits_of p.base) (bits_of q.base)
 unfolding prefix_cmp
 by_bits p q v l = third (version p.base) (version q.base) p.len q.len (nat_cmp (bits_of p.base) (bits_of q.base)) v l
 

@@ -4,3 +4,4 @@ pub mod Longest
 pub mod Deciding
 pub mod Parting
 pub mod Keyed
+pub mod OneEdit

@@ -46,7 +46,7 @@ less_first a b c d o h = elim (cases_lt a b) [
     equal : (n : ℕ) → nat_cmp n n ≡ Equal
     equal n = grind (arith, nat_tests)
 
-less_means : (p q : Block) → is_lt (prefix_cmp p q) ≡ true → (version p.base < version q.base) ⊎ ((version p.base ≡ version q.base) × (p.len ≤ q.len))
+pub less_means : (p q : Block) → is_lt (prefix_cmp p q) ≡ true → (version p.base < version q.base) ⊎ ((version p.base ≡ version q.base) × (p.len ≤ q.len))
 unfolding prefix_cmp
 less_means p q h = less_first (version p.base) (version q.base) p.len q.len (nat_cmp (bits_of p.base) (bits_of q.base)) h
 
@@ -65,13 +65,13 @@ v6_from false (V6 x) h = absurd (omega (arith, h))
 pub of_means : (v : Bool) (l : ℕ) (e : TableEntry) → is_of v l e ≡ true → (version e.prefix.base ≡ version_of v) × (e.prefix.len ≡ l)
 of_means v l e h = let both = both_true (bool_eq v (is_v6 e.prefix.base)) (e.prefix.len == l) h in (version_same v e.prefix.base both.0, eqb-true e.prefix.len l both.1)
 
-of_from : (v : Bool) (l : ℕ) (e : TableEntry) → version e.prefix.base ≡ version_of v → e.prefix.len ≡ l → is_of v l e ≡ true
+pub of_from : (v : Bool) (l : ℕ) (e : TableEntry) → version e.prefix.base ≡ version_of v → e.prefix.len ≡ l → is_of v l e ≡ true
 of_from v l e h k = rw (v6_from v e.prefix.base h, k) (same_number l)
   where
     same_number : (n : ℕ) → (n == n) ≡ true
     same_number n = grind (arith, nat_tests)
 
-not_of : (v : Bool) (l : ℕ) (g : TableEntry) → (version g.prefix.base ≡ version_of v → g.prefix.len ≡ l → ⊥) → is_of v l g ≡ false
+pub not_of : (v : Bool) (l : ℕ) (g : TableEntry) → (version g.prefix.base ≡ version_of v → g.prefix.len ≡ l → ⊥) → is_of v l g ≡ false
 not_of v l g h = (elim (is_of v l g) as (λ b. is_of v l g ≡ b → b ≡ false) [ true ↦ λ t. let m = of_means v l g t in absurd (h m.0 m.1) | false ↦ λ t. refl ]) refl
 
 -- once an entry is of another family or length, so are all behind it
@@ -115,7 +115,7 @@ uniform t (e ∷ es) =
       | false ↦ λ h. refl
     ]) refl
 
-own_is : (e : TableEntry) → is_of (is_v6 e.prefix.base) e.prefix.len e ≡ true
+pub own_is : (e : TableEntry) → is_of (is_v6 e.prefix.base) e.prefix.len e ≡ true
 own_is e = of_from (is_v6 e.prefix.base) e.prefix.len e (here e.prefix.base) refl
   where
     here : (a : Addr) → version a ≡ version_of (is_v6 a)
@@ -137,7 +137,7 @@ parts_more (q ∷ ps) p back a u n l =
     let e : joined (ps ++ p ∷ []) ++ back ≡ joined ps ++ (p.entries.items ++ back) = ap (λ r. r ++ back) (joined_last ps p) ∙ append_assoc (joined ps) p.entries.items back in
     (a.0, subst (λ r. list_all (λ g. not (is_of q.v6 q.len g)) r ≡ true) (sym e) a.1, a.2, parts_more ps p back a.3 u n l)
 
-blocks_append : (es fs : List TableEntry) → AreBlocks es → AreBlocks fs → AreBlocks (es ++ fs)
+pub blocks_append : (es fs : List TableEntry) → AreBlocks es → AreBlocks fs → AreBlocks (es ++ fs)
 blocks_append [] fs b d = d
 blocks_append (e ∷ es) fs b d = (b.0, blocks_append es fs b.1 d)
 
@@ -192,11 +192,11 @@ shorter e (x ∷ rest) n f =
 
 -- ---- one part of them
 
-filter_all : (t : TableEntry → Bool) (es : List TableEntry) → list_all t es ≡ true → filter t es ≡ es
+pub filter_all : (t : TableEntry → Bool) (es : List TableEntry) → list_all t es ≡ true → filter t es ≡ es
 filter_all t [] h = refl
 filter_all t (e ∷ es) h = let both = both_true (t e) (list_all t es) h in rw both.0 (ap (λ (r : List TableEntry). e ∷ r) (filter_all t es both.1))
 
-filter_none : (t : TableEntry → Bool) (es : List TableEntry) → list_all (λ e. not (t e)) es ≡ true → filter t es ≡ []
+pub filter_none : (t : TableEntry → Bool) (es : List TableEntry) → list_all (λ e. not (t e)) es ≡ true → filter t es ≡ []
 filter_none t [] h = refl
 filter_none t (e ∷ es) h =
     let both = both_true (not (t e)) (list_all (λ e. not (t e)) es) h in
@@ -206,7 +206,7 @@ filter_none t (e ∷ es) h =
     turned_round true h = cc
     turned_round false h = refl
 
-bools_same : (a b : Bool) → bool_eq a b ≡ true → a ≡ b
+pub bools_same : (a b : Bool) → bool_eq a b ≡ true → a ≡ b
 bools_same true true h = refl
 bools_same true false h = cc
 bools_same false true h = cc

@@ -6,6 +6,8 @@ use Rattle.std.specs.Ordering.{is_lt, is_eq}
 use Rattle.pf_addr.specs.Blocks.{Block}
 use Rattle.pf_ruleset.specs.declared.ruleset.TableEntry.{TableEntry}
 use Rattle.pf_addr.specs.Order.{prefix_cmp}
+use Rattle.pf_table.specs.declared.edits.Edit.{Edit}
+use Rattle.pf_table.specs.declared.edits.Edit.TheVariants.{Insert, Remove}
 use Rattle.pf_table.specs.Tables.{bool_eq}
 
 -- the entry has this prefix, negated or not
@@ -52,3 +54,10 @@ without_entries entries less = unlisted entries (contents_of less)
 -- how many entries, with their signs, the first has that the second lacks
 abbrev pub count_without : List TableEntry → List TableEntry → ℕ
 count_without entries other = length (unlisted entries other)
+
+-- ---- one entry
+
+-- the entries after an edit: one is added, unless its prefix is there, or removed, if it is there with its sign
+abbrev pub edited : Edit → TableEntry → List TableEntry → List TableEntry
+edited Insert e entries = put_entry entries e
+edited Remove e entries = unlisted entries (e ∷ [])

@@ -1,9 +1,9 @@
 //! Entries are kept apart by family and length.
 
-ghost use Rattle.std.specs.Prelude.{◌≡◌, IfOk, take};
+ghost use Rattle.std.specs.Prelude.{◌≡◌, ◌==◌, ◌&&◌, IfOk, take};
 ghost use Rattle.std.specs.List.{prefix_len};
 ghost use Rattle.pf_addr.specs.Blocks.{IsBlock};
-ghost use Rattle.pf_table.specs.Tables.{is_of, is_v6};
+ghost use Rattle.pf_table.specs.Tables.{is_of, is_v6, bool_eq};
 ghost use Rattle.pf_table.specs.Parts.{joined, IsOrdered, AreBlocks, AreParts};
 
 use crate::keys::keys_of;
@@ -20,6 +20,13 @@ pub(crate) fn is_v6(addr: Addr) -> bool
         Addr::V4(_) => false,
         Addr::V6(_) => true,
     }
+}
+
+/// Whether the part is of that family and length.
+pub(crate) fn is_key(part: &Part, v6: bool, len: u8) -> bool
+    ensures { result ≡ (bool_eq part.now.v6 v6 && (part.now.len == len)) }
+{
+    part.v6 == v6 && part.len == len
 }
 
 /// Whether the entry is of that family and length.

@@ -1,14 +1,16 @@
 //! Tables of addresses.
 
-ghost use Rattle.std.specs.Prelude.{◌≡◌, ◌==◌, ◌&&◌, IfOk, [], length, filter};
-ghost use Rattle.pf_table.specs.Tables.{in_table, is_of, bool_eq};
-ghost use Rattle.pf_table.specs.Contents.{with_entries, contents_of, without_entries, count_without};
+ghost use Rattle.std.specs.Prelude.{◌≡◌, IfOk, OnErr, [], length, filter};
+ghost use Rattle.std.specs.Prelude.{if◌then◌else◌};
+ghost use Rattle.pf_table.specs.Tables.{in_table, is_of};
+ghost use Rattle.pf_table.specs.Contents.{with_entries, contents_of, without_entries, count_without, edited};
 ghost use Rattle.pf_table.specs.Parts.{joined, IsOrdered, AreParts};
 
 use crate::contents::{contents_of, count_without, with_entries, without_entries};
 use crate::decided::decides;
+use crate::edits::{Edit, edit_in_place};
 use crate::part::Part;
-use crate::parted::{gathered, parted};
+use crate::parted::{gathered, is_key, parted};
 use pf_addr::Addr;
 use pf_ruleset::TableEntry;
 use std::alloc::{AllocError, Global};
@@ -132,6 +134,28 @@ impl Table {
         Table::made(alloc, self.persist(), self.is_const(), &entries)
     }
 
+    /// Adds or removes one entry in place. False, and nothing is changed, where that can't be done: the entries are
+    /// shared, or none of them is of its family and length. An error changes nothing.
+    pub fn edit(&mut self, entry: &TableEntry, edit: Edit) -> Result<bool, AllocError>
+        ensures done { IfOk result (λ done. self.new ≡ (if done then record {
+          persist = self.old.persist;
+          is_const = self.old.is_const;
+          entries = edited edit entry.now self.old.entries;
+        } else self.old)) }
+        ensures same { OnErr result (self.new ≡ self.old) }
+    {
+        if self.entry_count == usize::MAX {
+            return Ok(false);
+        }
+        match edit_in_place(&mut self.parts, entry, edit)? {
+            None => Ok(false),
+            Some((before, after)) => {
+                self.entry_count = self.entry_count - before + after;
+                Ok(true)
+            }
+        }
+    }
+
     /// How many entries, with their signs, this table has and the other lacks.
     pub fn count_without(&self, alloc: Global, other: &Table) -> Result<usize, AllocError>
         ensures { IfOk result (λ n. n ≡ count_without self.now.entries other.now.entries) }
@@ -180,13 +204,6 @@ impl Table {
             Some(entry) => !entry.negated,
         }
     }
-}
-
-/// Whether the part is of that family and length.
-fn is_key(part: &Part, v6: bool, len: u8) -> bool
-    ensures { result ≡ (bool_eq part.now.v6 v6 && (part.now.len == len)) }
-{
-    part.v6 == v6 && part.len == len
 }
 
 /// The entries of that family and length.

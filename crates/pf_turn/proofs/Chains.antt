@@ -1,7 +1,7 @@
 -- Turns one after the other.
 use Rattle.std.proofs.Common.{◌≡◌, ◌∙◌, ℕ, zero, suc, List, [], Option, Some, None, Bool, true, false, refl, sym, subst}
 use Rattle.std.proofs.Common.{Result, Ok, Err, inl, inr}
-use Rattle.std.specs.Prelude.{IfOk}
+use Rattle.std.specs.Prelude.{IfOk, ◌∷◌}
 use Rattle.px_model.specs.Node.Input.{Ticks}
 use Rattle.px_model.specs.Spelling.{Bytes}
 use Rattle.px_records.specs.declared.records.Records.{Ghosts}
@@ -9,13 +9,18 @@ use Rattle.px_replica.specs.Calls.{Call}
 use Rattle.px_replica.specs.declared.datagram.Datagram.{Datagram}
 use Rattle.px_replica.specs.declared.fault.NodeFault.{NodeFault}
 use Rattle.px_replica.specs.declared.state.Replica.{Replica}
-use Rattle.px_transport.specs.Wires.{GrowsBy, Gives}
+use Rattle.px_transport.specs.Wires.{GrowsBy, Grows, Gives}
 use Rattle.px_wire.specs.Members.{as_sent}
 use Rattle.pf_turn.specs.Turns.{Acts, Stand, Turned, Ticked, TickedIf, Took, TookAll, TookThenTicked, Same, Turns, Ends, Served}
 use Rattle.pf_turn.specs.Turns.{handed_over}
-use Rattle.pf_turn.specs.Progress.{IsNobodys, SawAll, SawThen, looked}
+use Rattle.pf_turn.specs.Progress.{IsNobodys, SawAll, looked}
+use Rattle.pf_turn.specs.Timing.{Told, SawThenLooked, looks, sends_if, view_of}
+use Rattle.pf_turn.proofs.Traffic.{grows_then}
+use Rattle.px_model.specs.Step.{front}
+use Rattle.px_replica.specs.Replicas.{learned_by}
 use Rattle.pf_turn.specs.inner.Turns.{SawOne}
 use Rattle.pf_turn.specs.declared.sight.Sight.{Sight}
+use Rattle.pf_turn.specs.declared.timer.View.{View}
 
 pub same_then : {R : Type 0} {G : Ghosts R} (x y z : Stand G) → Same x y → Same y z → Same x z
 same_then x y z s t = record {
@@ -159,8 +164,29 @@ pub round_took : {P E R : Type 0} {G : Ghosts R} (r : Result P E) (n : ℕ) (w x
 round_took (Ok p) n w x y z v s t a b c (d, e) = (n, d, then_ticked n d w x y z v s t a b c e)
 round_took (Err e) n w x y z v s t a b c d = tt
 
-pub round_saw : {P E R : Type 0} {G : Ghosts R} (r : Result P E) (n : ℕ) (w x y : Stand G) (s t u : Sight) →
-    Same w x → SawAll n x y s t → u ≡ looked t →
-    IfOk r (λ p. (k : ℕ) × (v : Sight) × SawThen k w s v × (u ≡ looked v))
-round_saw (Ok p) n w x y s t u a b c = (n, t, (y, saw_from n w x y s t a b), c)
-round_saw (Err e) n w x y s t u a b c = tt
+-- what a timer is told at a look
+pub looked_so : (a b c : Option (List Told)) (now : ℕ) (v : View) (t : Sight) (q : Bool) → t.is_accepting ≡ q → Grows a (Told.Looks now v) b →
+    GrowsBy b (sends_if q now) c → GrowsBy a (looks now v t) c
+looked_so a b c now v t q e g h =
+    grows_then a b c (Told.Looks now v ∷ []) (sends_if t.is_accepting now) g
+    (subst (λ (p : Bool). GrowsBy b (sends_if p now) c) (sym e) h)
+
+-- what is seen in it, and what the timer is told
+pub round_saw : {P E R : Type 0} {G : Ghosts R} (r : Result P E) (n now was : ℕ) (w x y : Stand G) (s t u : Sight) (v : View)
+    (a b c : Option (List Told)) → Same w x → SawAll n x y s t → u ≡ looked t → was ≡ front (learned_by w.replica) →
+    v ≡ view_of y.replica was t → GrowsBy a (looks now v t) b → Grows b (Told.Repeats now) c →
+    IfOk r (λ p. (k : ℕ) × SawThenLooked k now w s u a c)
+round_saw (Ok p) n now was w x y s t u v a b c same saw e f g d h = (
+  n,
+  record {
+    then = y;
+    seen = t;
+    saw = saw_from n w x y s t same saw;
+    looked = e;
+    told =
+        grows_then a b c _ _
+        (subst (λ (q : ℕ). GrowsBy a (looks now (view_of y.replica q t) t) b) f (subst (λ (q : View). GrowsBy a (looks now q t) b) g d))
+        h;
+  },
+)
+round_saw (Err e) n now was w x y s t u v a b c same saw f g h d i = tt

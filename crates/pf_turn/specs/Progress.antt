@@ -1,12 +1,14 @@
 -- What is seen of the other members' progress. The pace is given the time, how the node stands, and this; so a datagram
 -- that is nobody's changes nothing of it.
 use Rattle.std.specs.Prelude.{◌≡◌, ℕ, zero, suc, ◌+◌, ◌==◌, ◌||◌, Bool, true, false}
-use Rattle.std.specs.Prelude.{None, not, max, replicate, slice_set}
+use Rattle.std.specs.Prelude.{List, Option, Some, None, not, min, max, replicate, slice_set}
 use Rattle.px_model.specs.Spelling.{Bytes}
 use Rattle.px_records.specs.declared.records.Records.{Ghosts}
 use Rattle.px_wire.specs.Message.{Message, group, DatagramBytes}
-use Rattle.px_wire.specs.Message.{prepare, promise, accept, vote, nack, need, learned, ask, asked}
-use Rattle.px_wire.specs.Message.{ask_refused, prepare_all, promise_all}
+use Rattle.px_wire.specs.Heads.{head_of, learned_below}
+use Rattle.px_wire.specs.declared.head.Head.{Head}
+use Rattle.px_wire.specs.declared.kind.Kind.{Kind}
+use Rattle.px_wire.specs.declared.kind.Kind.TheVariants as kinds
 use Rattle.px_replica.specs.Replicas.{membership_of, IsUnspelled}
 use Rattle.px_replica.specs.declared.state.Replica.{Replica}
 use Rattle.pf_turn.specs.Turns.{Stand, Took, Same}
@@ -26,6 +28,10 @@ IsFrom s from message bytes = DatagramBytes (group (membership_of s)) from (memb
 abbrev pub seen_in : Room → Sight
 seen_in room = room.sight
 
+-- the heads of the messages that were taken last
+abbrev pub heads_in : Room → List Head
+heads_in room = room.heads.items
+
 -- ---- what a message shows of its sender
 
 -- it has learned all below this position
@@ -37,13 +43,13 @@ reaching p s = record {
   lacking = s.lacking;
 }
 
--- it lacks the positions from this one on
-abbrev pub lacking : (from position : ℕ) → Sight → Sight
-lacking from p s = record {
+-- it lacks the positions from one less than this on
+abbrev pub lacking : (from next : ℕ) → Sight → Sight
+lacking from next s = record {
   reached = s.reached;
   is_told = s.is_told;
   is_accepting = s.is_accepting;
-  lacking = slice_set s.lacking from (p + 1);
+  lacking = slice_set s.lacking from next;
 }
 
 -- an entry came that this member had asked for
@@ -59,21 +65,34 @@ accepting o s = record {
   lacking = s.lacking;
 }
 
--- What is seen once this message has come: who proposes or votes at a position, or lacks it, has learned all below; who
--- tells an entry has learned it too. A need is answered with its own entry.
-abbrev pub shown_by : (me from : ℕ) → Message → Sight → Sight
-shown_by me from (prepare b p) s = lacking from p (reaching p s)
-shown_by me from (prepare_all b p) s = lacking from p (reaching p s)
-shown_by me from (accept b p e) s = accepting (not (from == me)) (reaching p s)
-shown_by me from (vote b p e) s = reaching p s
-shown_by me from (need p) s = lacking from (p + 1) (reaching p s)
-shown_by me from (learned p e) s = told (reaching (p + 1) s)
-shown_by me from (promise b p a) s = s
-shown_by me from (promise_all b p top a) s = s
-shown_by me from (nack b p q) s = s
-shown_by me from (ask e) s = s
-shown_by me from (asked t k) s = s
-shown_by me from (ask_refused t c) s = s
+-- what a message about this position shows beside how far its sender is, in 32 bits: whoever asks for promises lacks
+-- the position, and whoever needs its entry is answered with that and lacks the next one
+abbrev pub noted_by : Kind → (from to position : ℕ) → Sight → Sight
+noted_by kinds.Prepare from to p s = lacking from (min (p + 1) 4294967295) s
+noted_by kinds.PrepareAll from to p s = lacking from (min (p + 1) 4294967295) s
+noted_by kinds.Need from to p s = lacking from (min (p + 2) 4294967295) s
+noted_by kinds.Accept from to p s = accepting (not (from == to)) s
+noted_by kinds.Learned from to p s = told s
+noted_by kinds.Vote from to p s = s
+noted_by kinds.Promise from to p s = s
+noted_by kinds.PromiseAll from to p s = s
+noted_by kinds.Nack from to p s = s
+noted_by kinds.Ask from to p s = s
+noted_by kinds.Asked from to p s = s
+noted_by kinds.AskRefused from to p s = s
+
+-- the same of a message with this head
+abbrev pub noted : Head → (position : ℕ) → Sight → Sight
+noted h p s = noted_by h.kind h.from h.to p s
+
+-- the same, if it is about a position
+abbrev pub noted_if : Head → (position : Option ℕ) → Sight → Sight
+noted_if h None s = s
+noted_if h (Some p) s = noted h p s
+
+-- what is seen once a message with this head has come: how far its sender is, and what it shows besides
+abbrev pub shown_by : Head → Sight → Sight
+shown_by h s = noted_if h h.position (reaching (learned_below h) s)
 
 -- what was seen, once it was looked at: how far others are stays
 abbrev pub looked : Sight → Sight
@@ -88,13 +107,9 @@ pub record Saw {R : Type 0} {G : Ghosts R} (x y : Stand G) (s t : Sight) : Type 
   pub still : IsNobodys x.replica took.bytes → y.replica ≡ x.replica
   pub unseen : IsNobodys x.replica took.bytes → t ≡ s
   pub shown : (from : ℕ) (message : Message) → IsFrom x.replica from message took.bytes →
-      t ≡ shown_by (membership_of x.replica).me from message s
+      t ≡ shown_by (head_of from (membership_of x.replica).me message) s
 
 -- so many datagrams were taken, one after the other
 abbrev pub SawAll : {R : Type 0} {G : Ghosts R} → (datagrams : ℕ) → (x y : Stand G) → (s t : Sight) → Type 0
 SawAll zero x y s t = Same x y × (t ≡ s)
 SawAll {G = G} (suc n) x z s u = (y : Stand G) × (t : Sight) × SawAll n x y s t × Saw y z t u
-
--- so many were taken, and nothing was seen besides, whatever the node does behind that
-abbrev pub SawThen : {R : Type 0} {G : Ghosts R} → (datagrams : ℕ) → (x : Stand G) → (s t : Sight) → Type 0
-SawThen {G = G} n x s t = (y : Stand G) × SawAll n x y s t

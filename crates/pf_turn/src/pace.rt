@@ -1,5 +1,8 @@
 //! When a node's clock ticks.
 
+ghost use Rattle.std.specs.Prelude.{None};
+
+use crate::timer::{Beat, Timer, View};
 use std::time::{Clock, Instant};
 
 /// How long a round trip is taken to be before one was measured, in microseconds.
@@ -40,32 +43,6 @@ const SLOWER: u32 = 16;
 
 /// The longest wait, in milliseconds.
 const LONGEST_WAIT: u64 = 100;
-
-/// What is seen of a node when it is to be decided whether its clock ticks.
-#[derive(Clone, Copy, PartialEq, Eq)]
-pub struct View {
-    /// How many commands wait to be proposed.
-    pub waiting: usize,
-    /// Whether an attempt is under way.
-    pub is_attempting: bool,
-    /// Whether a majority has promised: then what an attempt waits for is votes.
-    pub is_leading: bool,
-    /// The least position not learned.
-    pub front: u32,
-    /// Whether an entry that was asked for has come since the last look.
-    pub is_told: bool,
-    /// A position below which another member has learned all, as far as is seen.
-    pub reached: u32,
-}
-
-/// What a node does next.
-#[derive(Clone, Copy, PartialEq, Eq)]
-pub enum Beat {
-    /// Its clock ticks.
-    Tick,
-    /// It waits for a datagram, so many milliseconds at most, 1 to 100.
-    Wait(u32),
-}
 
 /// When a node's clock ticks: at once where commands wait and no attempt is under way; anew where an attempt isn't
 /// answered in four round trips and some more, a time that doubles with each loss; after a pause that grows where
@@ -145,46 +122,11 @@ impl Pace {
         }
     }
 
-    /// What the node does next, at this time in microseconds.
-    pub fn beat(&mut self, now: u64, view: View) -> Beat {
-        self.look(now, view);
-        self.compare(now, view);
-        let due = self.due(now, view);
-        if now >= due {
-            self.tick(now, view);
-            return Beat::Tick;
-        }
-        let left = due.min(self.next_repeat()).saturating_sub(now);
-        let milliseconds = left / 1_000 + 1;
-        Beat::Wait(milliseconds.min(LONGEST_WAIT) as u32)
-    }
-
-    /// Votes for what another proposes were sent, which may be lost.
-    pub fn sent(&mut self, now: u64) {
-        self.repeated = now;
-        self.repeats = 0;
-        self.is_timed = false;
-    }
-
     /// The accept requests of an attempt were sent.
     fn accept(&mut self, now: u64) {
         self.sent(now);
         self.accepting = now;
         self.is_timed = true;
-    }
-
-    /// Whether the accept requests and votes that were sent of the front's position are sent again now, since they may
-    /// be lost: one and a half times as long after they were sent as an answer takes, and 5 ms more, and then again and
-    /// again, in pauses that grow, 64 times at most. It is asked after [`Pace::beat`], at the same time.
-    pub fn repeats(&mut self, now: u64) -> bool {
-        if now < self.next_repeat() {
-            return false;
-        }
-        self.repeated = now;
-        self.repeats = self.repeats.saturating_add(1);
-        self.answer = self.answer.saturating_add(self.answer / 32).min(TRIPS.1);
-        self.is_timed = false;
-        true
     }
 
     /// When what was sent is sent again.
@@ -204,18 +146,6 @@ impl Pace {
     fn forget(&mut self) {
         self.repeats = REPEATS;
         self.is_timed = false;
-    }
-
-    /// From now on the node takes no command in.
-    pub fn end(&mut self) {
-        self.is_ending = true;
-    }
-
-    /// Whether the node listens, and takes no command in: at its start, while it lacks entries that others have and is
-    /// being told them, and when it ends.
-    pub fn is_listening(&self, now: u64) -> bool {
-        let is_told = self.is_behind && now < self.moved.saturating_add(BEHIND);
-        now < START || is_told || self.is_ending
     }
 
     /// What came of the attempt.
@@ -382,6 +312,49 @@ impl Pace {
             self.is_timed = false;
         }
         self.asks = now.saturating_add(IDLE);
+    }
+}
+
+impl Timer for Pace {
+    ghost told = { λ p. None };
+
+    fn beat(&mut self, now: u64, view: View) -> Beat {
+        self.look(now, view);
+        self.compare(now, view);
+        let due = self.due(now, view);
+        if now >= due {
+            self.tick(now, view);
+            return Beat::Tick;
+        }
+        let left = due.min(self.next_repeat()).saturating_sub(now);
+        let milliseconds = left / 1_000 + 1;
+        Beat::Wait(milliseconds.min(LONGEST_WAIT) as u32)
+    }
+
+    fn sent(&mut self, now: u64) {
+        self.repeated = now;
+        self.repeats = 0;
+        self.is_timed = false;
+    }
+
+    fn repeats(&mut self, now: u64) -> bool {
+        if now < self.next_repeat() {
+            return false;
+        }
+        self.repeated = now;
+        self.repeats = self.repeats.saturating_add(1);
+        self.answer = self.answer.saturating_add(self.answer / 32).min(TRIPS.1);
+        self.is_timed = false;
+        true
+    }
+
+    fn end(&mut self) {
+        self.is_ending = true;
+    }
+
+    fn is_listening(&self, now: u64) -> bool {
+        let is_told = self.is_behind && now < self.moved.saturating_add(BEHIND);
+        now < START || is_told || self.is_ending
     }
 }
 

@@ -1,17 +1,19 @@
 //! A node that runs.
 
-ghost use Rattle.std.specs.Prelude.{◌≡◌, ◌≤◌, ℕ, Bool, IfOk, true};
+ghost use Rattle.std.specs.Prelude.{◌≡◌, ◌≤◌, ℕ, Bool, IfOk};
 ghost use Rattle.px_replica.specs.Faults.{fault_of};
-ghost use Rattle.pf_node.specs.Nodes.{applied_of, learned_by, membership_of};
+ghost use Rattle.px_transport.specs.Wires.{GrowsBy};
+ghost use Rattle.pf_node.specs.Nodes.{applied_of, learned_by, membership_of, replica_of};
 ghost use Rattle.pf_turn.specs.Releases.{number_taken};
-ghost use Rattle.pf_turn.specs.Progress.{SawThen, looked, seen_in};
+ghost use Rattle.pf_turn.specs.Progress.{looked, seen_in};
+ghost use Rattle.pf_turn.specs.Timing.{SawThenLooked, looks, view_of};
 ghost use Rattle.pf_turn.specs.Turns.{Served, TickedIf, TookThenTicked, standing};
-ghost use Rattle.pf_turn.specs.declared.sight.Sight.{Sight};
 
-use crate::pace::{Beat, Pace, View, microseconds};
+use crate::pace::{Pace, microseconds};
 use crate::room::Room;
 use crate::serving::{drain, tick_now};
 use crate::sight::Sight;
+use crate::timer::{Beat, Timer, View};
 use pf_node::Node;
 use px_records::Records;
 use px_replica::NodeFault;
@@ -27,10 +29,9 @@ const MEMBERS: u8 = 15;
 /// How many rounds a node makes at most to work off what waits when it ends.
 const LAST_ROUNDS: u32 = 3_000;
 
-/// What the pace is decided by.
+/// What is seen of the node, whose front was there before.
 fn view_of<R: Records>(node: &Node<R>, room: &Room, was: u32) -> View
-    ensures reached { result.reached ≡ (seen_in room.now).reached }
-    ensures told { result.is_told ≡ true → (seen_in room.now).is_told ≡ true }
+    ensures { result ≡ view_of (replica_of node.now) was (seen_in room.now) }
 {
     View {
         waiting: node.waiting(),
@@ -113,12 +114,13 @@ fn tick_if<R: Records, W: Wire>(
 }
 
 /// What the clock does, by what has come.
-fn beat(pace: &mut Pace, room: &mut Room, now: u64, view: View) -> Beat
+fn beat<T: Timer>(timer: &mut T, room: &mut Room, now: u64, view: View) -> Beat
     ensures looked { seen_in room.new ≡ looked (seen_in room.old) }
+    ensures told { GrowsBy (T.told timer.old) (looks now view (seen_in room.old)) (T.told timer.new) }
 {
-    let beat = pace.beat(now, view);
+    let beat = timer.beat(now, view);
     if room.sight.is_accepting {
-        pace.sent(now);
+        timer.sent(now);
     }
     room.sight = room.sight.looked();
     beat
@@ -146,7 +148,8 @@ fn remind<W: Wire>(wire: &mut W, sight: &Sight, front: u32)
     }
 }
 
-/// What has come is taken, 64 datagrams at most; then the clock ticks where the pace says so. These are turns of the
+/// What has come is taken, 64 datagrams at most; then the clock ticks where the timer says so, which is told of it what
+/// those datagrams left to see and nothing else. These are turns of the
 /// node and nothing else. Answers how long may be waited before the next round.
 ///
 /// At its start, while the node lacks entries that others have, and when it ends, the wire is asked to keep back what
@@ -155,23 +158,23 @@ fn remind<W: Wire>(wire: &mut W, sight: &Sight, front: u32)
 ///
 /// `now` is the time in microseconds since the node started, which never goes back. The faults are those of
 /// [`Node::receive`] and [`Node::tick`]; after one nothing is to be sent.
-pub fn round<R: Records, W: Wire>(
+pub fn round<R: Records, W: Wire, T: Timer>(
     node: &mut Node<R>,
     wire: &mut W,
     room: &mut Room,
-    pace: &mut Pace,
+    timer: &mut T,
     now: u64,
 ) -> Result<Progress, NodeFault>
     ensures served { Served (standing W.Wire node.old wire.old) (standing W.Wire node.new wire.new)
         (fault_of result) }
     ensures took { IfOk result (λ p. (n : ℕ) × (is_due : Bool) × TookThenTicked n is_due
         (standing W.Wire node.old wire.old) (standing W.Wire node.new wire.new)) }
-    ensures saw { IfOk result (λ p. (n : ℕ) × (t : Sight) × SawThen n (standing W.Wire node.old wire.old)
-        (seen_in room.old) t × (seen_in room.new ≡ looked t)) }
+    ensures saw { IfOk result (λ p. (n : ℕ) × SawThenLooked n now (standing W.Wire node.old wire.old)
+        (seen_in room.old) (seen_in room.new) (T.told timer.old) (T.told timer.new)) }
     ensures grows { applied_of node.old ≤ applied_of node.new }
 {
     let was = node.front();
-    wire.defer_asks(pace.is_listening(now));
+    wire.defer_asks(timer.is_listening(now));
     let taken = match drain(node, wire, room, MOST) {
         Ok(taken) => taken,
         Err(fault) => return Err(fault),
@@ -179,18 +182,18 @@ pub fn round<R: Records, W: Wire>(
     release(node, wire, was);
     remind(wire, &room.sight, node.front());
     let view = view_of(node, room, was);
-    let beat = beat(pace, room, now, view);
-    repeat_if(wire, pace.repeats(now), node.front());
-    wire.defer_asks(pace.is_listening(now));
+    let beat = beat(timer, room, now, view);
+    repeat_if(wire, timer.repeats(now), node.front());
+    wire.defer_asks(timer.is_listening(now));
     tick_if(node, wire, room, beat, taken)
 }
 
 /// Rounds until so many turns are over, and the waits between them.
-fn rounds<R: Records, W: Wire, C: Clock>(
+fn rounds<R: Records, W: Wire, T: Timer, C: Clock>(
     node: &mut Node<R>,
     wire: &mut W,
     room: &mut Room,
-    pace: &mut Pace,
+    timer: &mut T,
     clock: &C,
     start: Option<Instant>,
     turns: u64,
@@ -204,7 +207,7 @@ fn rounds<R: Records, W: Wire, C: Clock>(
         if left == 0 {
             return Ok(());
         }
-        match round(node, wire, room, pace, microseconds(clock, start)) {
+        match round(node, wire, room, timer, microseconds(clock, start)) {
             Ok(made) => {
                 wire.wait(made.wait);
                 left = left.saturating_sub(u64::from(made.turns));
@@ -220,11 +223,11 @@ fn rounds<R: Records, W: Wire, C: Clock>(
 /// meanwhile is kept back, where the wire can do that.
 ///
 /// `start` is when the node started by this clock. The faults are those of [`Node::receive`] and [`Node::tick`].
-pub fn finish<R: Records, W: Wire, C: Clock>(
+pub fn finish<R: Records, W: Wire, T: Timer, C: Clock>(
     node: &mut Node<R>,
     wire: &mut W,
     room: &mut Room,
-    pace: &mut Pace,
+    timer: &mut T,
     clock: &C,
     start: Option<Instant>,
 ) -> Result<(), NodeFault>
@@ -232,13 +235,13 @@ pub fn finish<R: Records, W: Wire, C: Clock>(
         (fault_of result) }
     ensures grows { applied_of node.old ≤ applied_of node.new }
 {
-    pace.end();
+    timer.end();
     let mut left = LAST_ROUNDS;
     for _round in 0..LAST_ROUNDS {
         if left == 0 || node.waiting() == 0 {
             return Ok(());
         }
-        match round(node, wire, room, pace, microseconds(clock, start)) {
+        match round(node, wire, room, timer, microseconds(clock, start)) {
             Ok(made) => {
                 wire.wait(made.wait);
                 left = left.saturating_sub(made.wait.max(1));

@@ -1,11 +1,13 @@
 //! What a node does between two waits.
 
-ghost use Rattle.std.specs.Prelude.{◌≡◌, ◌≤◌, [], ℕ, IfOk, IfSome, None, Some, length, option_map, take};
+ghost use Rattle.std.specs.Prelude.{◌≡◌, ◌≤◌, ◌<◌, ◌++◌, [], ◌∷◌, ℕ, IfOk, IfSome, None, Some, length};
+ghost use Rattle.std.specs.Prelude.{option_map, take, vec_len, vec_capacity};
 ghost use Rattle.px_replica.specs.Faults.{fault_of};
-ghost use Rattle.px_wire.specs.Message.{Message};
+ghost use Rattle.px_wire.specs.Message.{Group, Message, DatagramBytes};
+ghost use Rattle.px_wire.specs.Heads.{head_of};
 ghost use Rattle.pf_node.specs.Nodes.{replica_of, applied_of, membership_of};
 ghost use Rattle.px_transport.specs.Wires.{Gives};
-ghost use Rattle.pf_turn.specs.Progress.{IsFrom, IsNobodys, SawAll, seen_in, shown_by};
+ghost use Rattle.pf_turn.specs.Progress.{IsFrom, heads_in, IsNobodys, SawAll, seen_in, shown_by};
 ghost use Rattle.pf_turn.specs.Turns.{Acts, Ticked, Served, standing};
 ghost use Rattle.pf_turn.specs.inner.Turns.{SawOne};
 
@@ -16,6 +18,17 @@ use pf_node::Node;
 use px_records::Records;
 use px_replica::{Datagram, NodeFault, Received};
 use px_transport::Wire;
+use px_wire::Head;
+
+impl Room {
+    /// The heads of the messages that the node took in its last [`round`](crate::round), in order, for whoever counts
+    /// them. A datagram that it ignored has none here, and neither has one for whose head memory was wanting.
+    pub fn heads(&self) -> &[Head]
+        ensures { result.now ≡ heads_in self.now }
+    {
+        self.heads.as_slice()
+    }
+}
 
 /// Takes a datagram that has come, which is written over the front of the bytes.
 fn poll<W: Wire>(wire: &mut W, bytes: &mut Vec<u8>) -> Option<usize>
@@ -44,11 +57,27 @@ pub fn tick_now<R: Records, W: Wire>(
     result
 }
 
+/// What was taken is noted by its head: what that shows of its sender, and the head itself, where there is memory.
+fn note(sight: &mut Sight, heads: &mut Vec<Head>, bytes: &[u8])
+    ensures shown { (g : Group) (from to : ℕ) (message : Message) → DatagramBytes g from to message bytes.now →
+        sight.new ≡ shown_by (head_of from to message) sight.old }
+    ensures heard { vec_len heads.old < vec_capacity heads.old →
+        (g : Group) (from to : ℕ) (message : Message) → DatagramBytes g from to message bytes.now →
+        heads.new.items ≡ heads.old.items ++ head_of from to message ∷ [] }
+{
+    let Some(head) = Head::read(bytes) else {
+        return;
+    };
+    *sight = sight.after(&head);
+    let _kept = heads.push(head);
+}
+
 /// What came is received, and what its message shows of its sender is noted. A datagram that spells no message for this
 /// member changes nothing of that.
 fn receive<R: Records>(
     node: &mut Node<R>,
     sight: &mut Sight,
+    heads: &mut Vec<Head>,
     bytes: &[u8],
     out: &mut Vec<Datagram>,
 ) -> Result<(), NodeFault>
@@ -56,14 +85,17 @@ fn receive<R: Records>(
     ensures acts { Acts (replica_of node.old) (replica_of node.new) (Some bytes.now) out.new.items (fault_of result) }
     ensures grows { applied_of node.old ≤ applied_of node.new }
     ensures nobodys { IsNobodys (replica_of node.old) bytes.now → sight.new ≡ sight.old }
+    ensures unheard { IsNobodys (replica_of node.old) bytes.now → heads.new.items ≡ heads.old.items }
     ensures shown { fault_of result ≡ None → (from : ℕ) (message : Message) →
         IsFrom (replica_of node.old) from message bytes.now →
-        sight.new ≡ shown_by (membership_of node.old).me from message sight.old }
+        sight.new ≡ shown_by (head_of from (membership_of node.old).me message) sight.old }
+    ensures heard { fault_of result ≡ None → vec_len heads.old < vec_capacity heads.old →
+        (from : ℕ) (message : Message) → IsFrom (replica_of node.old) from message bytes.now →
+        heads.new.items ≡ heads.old.items ++ head_of from (membership_of node.old).me message ∷ [] }
 {
-    let m = node.membership();
     match node.receive(bytes, out) {
         Ok(Received::Done) => {
-            *sight = sight.after(&m, bytes);
+            note(sight, heads, bytes);
             Ok(())
         }
         Ok(Received::Ignored(_)) => Ok(()),
@@ -88,7 +120,7 @@ fn take_one<R: Records, W: Wire>(
     let Some(bytes) = came(&room.bytes, len) else {
         return Ok(false);
     };
-    let result = receive(node, &mut room.sight, bytes, &mut room.out);
+    let result = receive(node, &mut room.sight, &mut room.heads, bytes, &mut room.out);
     send_all(wire, room.out.as_slice());
     match result {
         Ok(()) => Ok(true),
@@ -97,7 +129,7 @@ fn take_one<R: Records, W: Wire>(
 }
 
 /// Takes what has come, one datagram after the other, so many at most: how many there were. What is seen of other
-/// members comes from those alone that spell a message for this one.
+/// members comes from those alone that spell a message for this one. Their heads are kept until the next such call.
 pub(crate) fn drain<R: Records, W: Wire>(
     node: &mut Node<R>,
     wire: &mut W,
@@ -110,6 +142,7 @@ pub(crate) fn drain<R: Records, W: Wire>(
         (standing W.Wire node.new wire.new) (seen_in room.old) (seen_in room.new)) }
     ensures grows { applied_of node.old ≤ applied_of node.new }
 {
+    room.heads.clear();
     for taken in 0..most {
         match take_one(node, wire, room) {
             Ok(had) => {

@@ -1,14 +1,9 @@
 //! What messages tell of how far other members have come.
 
-ghost use Rattle.std.specs.Prelude.{◌≡◌, ◌<◌, ℕ};
-ghost use Rattle.px_wire.specs.Message as datagrams;
-ghost use Rattle.px_wire.specs.Message.{group, DatagramBytes};
-ghost use Rattle.px_wire.specs.Members.{Comes};
-ghost use Rattle.px_wire.specs.Seen.{message_of};
-ghost use Rattle.px_replica.specs.Replicas.{IsUnspelled};
-ghost use Rattle.pf_turn.specs.Progress.{shown_by, looked, reaching, lacking, told, accepting};
+ghost use Rattle.std.specs.Prelude.{◌≡◌, ◌==◌, not};
+ghost use Rattle.pf_turn.specs.Progress.{shown_by, noted, looked, reaching, lacking, told, accepting};
 
-use px_wire::{Membership, Message, MessageView, decode};
+use px_wire::{Head, Kind};
 
 /// What was seen of other members since the start, by the messages that came to this one. It decides when the clock
 /// ticks and what is sent again, and nothing else.
@@ -62,14 +57,16 @@ impl Sight {
         }
     }
 
-    /// This member lacks the positions from this one on.
-    fn lacking(self, member: u8, position: u32) -> Sight
-        requires member { member < 15 }
-        requires position { position < 4294967295 }
-        ensures { result ≡ lacking member position self }
+    /// This member lacks the positions from one less than this on.
+    fn lacking(self, member: u8, next: u32) -> Sight
+        ensures { result ≡ lacking member next self }
     {
+        let place = usize::from(member);
+        if place >= 15 {
+            return self;
+        }
         let mut lacking = self.lacking;
-        lacking[usize::from(member)] = position + 1;
+        lacking[place] = next;
         Sight { lacking, ..self }
     }
 
@@ -103,40 +100,36 @@ impl Sight {
         }
     }
 
-    /// With what this message of a member shows: who proposes or votes at a position, or lacks it, has learned all
-    /// below; who tells an entry has learned it too. A need is answered with its own entry.
-    fn with(self, m: &Membership, from: u8, message: &MessageView<'_>) -> Sight
-        requires { Comes m.now from message.now }
-        ensures { result ≡ shown_by m.now.me from (message_of message.now) self }
+    /// With what a message about this position shows beside how far its sender is. A need is answered with its own
+    /// entry.
+    fn noting(self, head: &Head, position: u32) -> Sight
+        ensures { result ≡ noted head.now position self }
     {
-        match message {
-            Message::Prepare { position, .. } => self.reaching(*position).lacking(from, *position),
-            Message::PrepareAll { position, .. } => self
-                .reaching(*position)
-                .lacking(from, *position),
-            Message::Accept { position, .. } => self.reaching(*position).accepting(from != m.me()),
-            Message::Vote { position, .. } => self.reaching(*position),
-            Message::Need { position } => self.reaching(*position).lacking(from, *position + 1),
-            Message::Learned { position, .. } => self.reaching(*position + 1).told(),
-            Message::Promise { .. } => self,
-            Message::PromiseAll { .. } => self,
-            Message::Nack { .. } => self,
-            Message::Ask { .. } => self,
-            Message::Asked { .. } => self,
-            Message::AskRefused { .. } => self,
+        match head.kind {
+            Kind::Prepare | Kind::PrepareAll => {
+                self.lacking(head.from, position.saturating_add(1))
+            }
+            Kind::Need => self.lacking(head.from, position.saturating_add(2)),
+            Kind::Accept => self.accepting(head.from != head.to),
+            Kind::Learned => self.told(),
+            Kind::Vote
+            | Kind::Promise
+            | Kind::PromiseAll
+            | Kind::Nack
+            | Kind::Ask
+            | Kind::Asked
+            | Kind::AskRefused => self,
         }
     }
 
-    /// With what the message of a datagram shows; as it was where that spells none for this member.
-    pub(crate) fn after(self, m: &Membership, datagram: &[u8]) -> Sight
-        ensures nobodys { IsUnspelled (group m.now) m.now.me datagram.now → result ≡ self }
-        ensures shown { (from : ℕ) (message : datagrams.Message) →
-            DatagramBytes (group m.now) from m.now.me message datagram.now →
-            result ≡ shown_by m.now.me from message self }
+    /// With what a message with this head shows of its sender.
+    pub(crate) fn after(self, head: &Head) -> Sight
+        ensures { result ≡ shown_by head.now self }
     {
-        match decode(m, datagram) {
-            Ok((from, message)) => self.with(m, from, &message),
-            Err(_) => self,
+        let seen = self.reaching(head.learned_below());
+        match head.position {
+            Some(position) => seen.noting(head, position),
+            None => seen,
         }
     }
 }

@@ -1,6 +1,9 @@
 -- A keeper with one commit that fails.
-use Rattle.std.specs.Prelude.{◌≡◌, ℕ, Bool, true, false, if◌then◌else◌}
+use Rattle.std.specs.Prelude.{◌≡◌, ◌≢◌, ℕ, Bool, true, false, if◌then◌else◌}
 use Rattle.std.proofs.Math.Nat.{suc-ne-zero}
+use Rattle.px_model.specs.Node.{Record}
+use Rattle.px_model.specs.Spelling.{Bytes}
+use Rattle.px_records.specs.Records.{Place, IsRead}
 use Rattle.px_records.specs.declared.faulty.FaultyRecords.{FaultyRecords}
 use Rattle.px_records.specs.declared.faulty.When.{When}
 
@@ -16,9 +19,37 @@ left_of f = f.left
 abbrev pub when_of : {R : Type 0} → FaultyRecords R → When
 when_of f = f.when
 
+-- whether that one has failed
+abbrev pub has_failed_of : {R : Type 0} → FaultyRecords R → Bool
+has_failed_of f = f.has_failed
+
 -- its own failure, else those of the record
 abbrev pub failures_of : (has_failed : Bool) → (inside : ℕ) → ℕ
 failures_of has_failed inside = if has_failed then 1 else inside
+
+-- how many calls have failed, by what the record says
+abbrev pub failed_in : {R : Type 0} → (failed : R → ℕ) → FaultyRecords R → ℕ
+failed_in failed f = failures_of f.has_failed (failed f.inner)
+
+-- no call has failed, and the next commit is the one that fails
+abbrev pub IsDue : {R : Type 0} → (failed : R → ℕ) → FaultyRecords R → Type 0
+IsDue failed f = (failed_in failed f ≡ 0) × (f.left ≡ 1)
+
+-- no call has failed, and the next commit isn't the one that fails
+abbrev pub IsSpared : {R : Type 0} → (failed : R → ℕ) → FaultyRecords R → Type 0
+IsSpared failed f = (failed_in failed f ≡ 0) × (f.left ≢ 1)
+
+-- which commit fails, how, and whether it has, is as it was
+abbrev pub FailsAlike : {R : Type 0} → (old new : FaultyRecords R) → Type 0
+FailsAlike old new = (new.left ≡ old.left) × (new.when ≡ old.when) × (new.has_failed ≡ old.has_failed)
+
+-- a call that reads, in the words of the record that it keeps
+abbrev pub IsReadBelow : {R : Type 0} → (honest : R → Type 0) → (stored : R → Record Bytes) →
+    (may_leave : R → Record Bytes → Type 0) → (failed : R → ℕ) → (good : R → Place → Type 0) →
+    (old new : FaultyRecords R) → Type 0
+IsReadBelow honest stored may_leave failed good =
+    IsRead (λ f. honest (inner_of f)) (λ f. stored (inner_of f)) (λ f. may_leave (inner_of f)) (failed_in failed)
+    (λ f. good (inner_of f))
 
 -- where none has failed, nor has the record
 pub none_inside : (has_failed : Bool) (inside : ℕ) → failures_of has_failed inside ≡ 0 → inside ≡ 0

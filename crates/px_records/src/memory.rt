@@ -148,6 +148,8 @@ fn greater(a: u32, b: u32) -> u32
 impl Records for MemoryRecords {
     ghost is_honest = { λ r. Unit {0} };
 
+    ghost is_trusted = { λ r. Unit {0} };
+
     ghost stored = { λ r. record_of r.meta r.slots r.learned };
 
     ghost members = { λ r. r.members };

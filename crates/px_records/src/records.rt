@@ -31,12 +31,17 @@ pub enum StoreFault {
 /// What a node keeps over a restart: a round, a number, a floor, and for each position a slot and the learned entry.
 ///
 /// The record is total: where a row is bad it has some reading, and the call that reads the row answers `BadStore`.
-/// What is said of values holds while the keeper is honest: it returns what was written and nobody else writes.
+/// What is said of values holds while the keeper is honest: it returns what was written and nobody else writes. No call
+/// makes it dishonest: it stays honest while what it rests on can be trusted.
 ///
 /// Source: Paxos Made Simple, 2.5.
 pub trait Records {
     // What is said of the record holds. It is asked as the call ends, and was then true before.
     ghost is_honest: { Self → Type 0 };
+
+    // What the keeper rests on and can't answer for, as a disk, has returned what was written. A call leaves an honest
+    // keeper honest wherever this holds as it ends.
+    ghost is_trusted: { Self → Type 0 };
 
     // The record as it stands, while no call has failed.
     ghost stored: { Self → Record Bytes };
@@ -66,6 +71,7 @@ pub trait Records {
         ensures fits { IfOk result (λ m. MetaFits (members self.old) (meta_of m)) }
         ensures bad { result ≡ Err StoreFault.BadStore → ⊥ }
         ensures read { IsRead is_honest stored may_leave failed is_good self.old self.new }
+        ensures keeps { is_honest self.old → is_trusted self.new → is_honest self.new }
         ensures counts { (result ≡ Err StoreFault.Failed) ↔ (0 < failed self.new) }
         ensures why { result ≡ Err StoreFault.Failed → may_fail self.old }
         ensures later { 0 < failed self.old → self.new ≡ self.old }
@@ -79,6 +85,7 @@ pub trait Records {
         ensures bad { is_honest self.new → result ≡ Err StoreFault.BadStore →
             is_good self.old (SlotAt position) → ⊥ }
         ensures read { IsRead is_honest stored may_leave failed is_good self.old self.new }
+        ensures keeps { is_honest self.old → is_trusted self.new → is_honest self.new }
         ensures counts { (result ≡ Err StoreFault.Failed) ↔ (0 < failed self.new) }
         ensures why { IsStoresFault result → may_fail self.old }
         ensures later { 0 < failed self.old → self.new ≡ self.old }
@@ -93,6 +100,7 @@ pub trait Records {
         ensures within { IfOk result (λ t. t ≤ positions) }
         ensures named { is_honest self.new → IfOk result (λ t. NamesGood (is_good self.new) SlotAt t) }
         ensures read { IsRead is_honest stored may_leave failed is_good self.old self.new }
+        ensures keeps { is_honest self.old → is_trusted self.new → is_honest self.new }
         ensures counts { (result ≡ Err StoreFault.Failed) ↔ (0 < failed self.new) }
         ensures why { IsStoresFault result → may_fail self.old }
         ensures later { 0 < failed self.old → self.new ≡ self.old }
@@ -106,6 +114,7 @@ pub trait Records {
         ensures bad { is_honest self.new → result ≡ Err StoreFault.BadStore →
             is_good self.old (EntryAt position) → ⊥ }
         ensures read { IsRead is_honest stored may_leave failed is_good self.old self.new }
+        ensures keeps { is_honest self.old → is_trusted self.new → is_honest self.new }
         ensures counts { (result ≡ Err StoreFault.Failed) ↔ (0 < failed self.new) }
         ensures why { IsStoresFault result → may_fail self.old }
         ensures later { 0 < failed self.old → self.new ≡ self.old }
@@ -120,6 +129,7 @@ pub trait Records {
         ensures within { IfOk result (λ end. end ≤ positions) }
         ensures named { is_honest self.new → IfOk result (λ end. NamesGood (is_good self.new) EntryAt end) }
         ensures read { IsRead is_honest stored may_leave failed is_good self.old self.new }
+        ensures keeps { is_honest self.old → is_trusted self.new → is_honest self.new }
         ensures counts { (result ≡ Err StoreFault.Failed) ↔ (0 < failed self.new) }
         ensures why { IsStoresFault result → may_fail self.old }
         ensures later { 0 < failed self.old → self.new ≡ self.old }
@@ -131,6 +141,7 @@ pub trait Records {
         requires fits { ChangeFits AnyCommand (members self.old) (change_of change.now) }
         requires rises { is_honest self.old → Rises (change_of change.now) (stored self.old) }
         ensures was { is_honest self.new → is_honest self.old }
+        ensures keeps { is_honest self.old → is_trusted self.new → is_honest self.new }
         ensures ok { is_honest self.new →
             OnOk result (stored self.new ≡ committed (Some (change_of change.now)) (stored self.old)) }
         ensures memory { is_honest self.new → result ≡ Err StoreFault.Memory → stored self.new ≡

@@ -14,6 +14,7 @@ use Rattle.px_records.specs.declared.records.Records.{Ghosts}
 use Rattle.px_records.specs.Records.Place.{SlotAt, EntryAt, LastSlot, LastEntry}
 use Rattle.px_core.specs.declared.limits.TheConstants.{MEMBERS}
 use Rattle.px_wire.specs.declared.fault.WireFault.{WireFault}
+use Rattle.px_wire.specs.Fields.{WireFaultAt}
 use Rattle.px_wire.specs.Message.{group, DatagramBytes}
 use Rattle.px_wire.specs.Members.{as_sent, Passing}
 use Rattle.px_wire.specs.Sent.{is_command}
@@ -103,12 +104,13 @@ pub record IsLost {R : Type 0} {G : Ghosts R} (s t : Replica R G) (old new : Lis
   pub still : t ≡ s
   pub silent : new ≡ old
 
--- nobody's datagram is passed over: nothing changes, and nothing is sent
+-- nobody's datagram is passed over, and its first fault is told: nothing changes, and nothing is sent
 pub record IsPassedOver {R : Type 0} {G : Ghosts R} (s t : Replica R G) (bytes : Bytes) (old new : List Datagram)
     (result : Result Received NodeFault) : Type 0 where
   pub works : has_failed s ≡ false
   pub unspelled : IsUnspelled (group (membership_of s)) (membership_of s).me bytes
   pub fault : WireFault
+  pub told : WireFaultAt (membership_of s) bytes fault.code fault.offset
   pub answered : result ≡ Ok (received.Ignored fault)
   pub still : t ≡ s
   pub silent : new ≡ old

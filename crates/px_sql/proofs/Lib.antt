@@ -15,3 +15,5 @@ mod Highest
 mod Makes
 mod Adopts
 pub mod Judged
+mod Owned
+mod Nodes

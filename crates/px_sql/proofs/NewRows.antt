@@ -2,7 +2,6 @@
 use Rattle.std.proofs.Common.{◌≡◌, ◌⊎◌, inl, inr, ℕ, List, true, false, Ok, Err, Result, OnOk, refl, sym, subst, ◌∙◌}
 use Rattle.sqlite.specs.Term.{Term}
 use Rattle.sqlite.specs.Effect.{Database}
-use Rattle.sqlite.specs.Schema.{Schema}
 use Rattle.sqlite.specs.Tree.{Trees}
 use Rattle.sqlite.specs.State.{State, HasCleanDisk, Executes, Survives, CommitsBy}
 use Rattle.sqlite.specs.declared.error.Error.{Error}
@@ -101,21 +100,21 @@ told_memory (Ok x) e = absurd cc
 told_memory (Err Memory) e = refl
 told_memory (Err Failed) e = absurd cc
 
-row_kept : (o : Schema) (members f : ℕ) (id : Identity) (r : NewRow) (bytes : Bytes) (old : State) (db : Trees) → Replaces r (stored_of o members f old) → IsPut id r bytes old.committed.trees db
+row_kept : (members f : ℕ) (id : Identity) (r : NewRow) (bytes : Bytes) (old : State) (db : Trees) → Replaces r (stored_of members f old) → IsPut id r bytes old.committed.trees db
     → record_in db ≡ with_row r bytes (record_in old.committed.trees)
-row_kept o members f id (Meta round number) bytes old db good h = meta_kept old.committed.trees db id.cluster id.members id.node round number h
-row_kept o members f id (Slot p promised ballot) bytes old db good h = slot_kept old.committed.trees db p promised ballot bytes (slot_keyed members p _ good) h
-row_kept o members f id (Floor ballot) bytes old db good h = floor_kept old.committed.trees db ballot h
-row_kept o members f id (Learned p) bytes old db good h = learned_kept old.committed.trees db p bytes (learned_keyed members p _ good) h
+row_kept members f id (Meta round number) bytes old db good h = meta_kept old.committed.trees db id.cluster id.members id.node round number h
+row_kept members f id (Slot p promised ballot) bytes old db good h = slot_kept old.committed.trees db p promised ballot bytes (slot_keyed members p _ good) h
+row_kept members f id (Floor ballot) bytes old db good h = floor_kept old.committed.trees db ballot h
+row_kept members f id (Learned p) bytes old db good h = learned_kept old.committed.trees db p bytes (learned_keyed members p _ good) h
 
-pub changed : (o : Schema) (members f g : ℕ) (id : Identity) (r : NewRow) (bytes : Bytes) (answer : Result (Unit {0}) Trouble) (old new : State) → Replaces r (stored_of o members f old) → Wrote id r bytes answer old new
-    → Changed (with_row r bytes (record_in old.committed.trees)) (told_of answer) (stored_of o members f old) (stored_of o members g new)
-changed o members f g id r bytes answer old new good w = record {
-  ok = told_ok answer (IsPut id r bytes old.committed.trees new.committed.trees × IsSettled new) _ (λ h. row_kept o members f id r bytes old new.committed.trees good h.0) w.ok;
-  memory = λ is. all_kept o members f g old new (w.memory (told_memory answer is)).committed;
+pub changed : (members f g : ℕ) (id : Identity) (r : NewRow) (bytes : Bytes) (answer : Result (Unit {0}) Trouble) (old new : State) → Replaces r (stored_of members f old) → Wrote id r bytes answer old new
+    → Changed (with_row r bytes (record_in old.committed.trees)) (told_of answer) (stored_of members f old) (stored_of members g new)
+changed members f g id r bytes answer old new good w = record {
+  ok = told_ok answer (IsPut id r bytes old.committed.trees new.committed.trees × IsSettled new) _ (λ h. row_kept members f id r bytes old new.committed.trees good h.0) w.ok;
+  memory = λ is. all_kept members f g old new (w.memory (told_memory answer is)).committed;
   stop = λ d left. elim (w.stop left.0 left.1) [
     | inl was ↦ inl (left.0, was, left.2)
-    | inr made ↦ inr (left.2 ∙ row_kept o members f id r bytes old left.0 good made)
+    | inr made ↦ inr (left.2 ∙ row_kept members f id r bytes old left.0 good made)
   ];
 }
 

@@ -8,7 +8,6 @@ use Rattle.sqlite.specs.State.{State, HasCleanDisk, Survives, Shown, FailsToQuer
 use Rattle.sqlite.specs.Listing.{understood}
 use Rattle.sqlite.specs.declared.error.Error.{Error}
 use Rattle.sqlite.proofs.Callers.{IsPlain, never_commits}
-use Rattle.sqlite.specs.Schema.{Schema}
 use Rattle.sqlite.specs.Tree.{Trees}
 use Rattle.px_model.specs.declared.record.Meta as kept
 use Rattle.px_sql.specs.Tables.{schema_3}
@@ -134,9 +133,9 @@ second_has Three = refl
 
 -- ---- what the keeper sees of it
 
-pub only_read : (o : Schema) (members f g : ℕ) (old new : State) → (HasCleanDisk new → HasCleanDisk old) → (HasCleanDisk new → o ≡ schema_3 → (g ≡ 0 → IsStill old new) × LeavesOld old new)
-    → OnlyReads (stored_of o members f old) (stored_of o members g new)
-only_read o members f g old new was h = reads o members f g old new was (λ honest none. ((h honest.0 honest.1).0 none).committed) (λ honest. (h honest.0 honest.1).1)
+pub only_read : (members f g : ℕ) (old new : State) → (HasCleanDisk new → HasCleanDisk old) → (HasCleanDisk new → (g ≡ 0 → IsStill old new) × LeavesOld old new)
+    → OnlyReads (stored_of members f old) (stored_of members g new)
+only_read members f g old new was h = reads members f g old new was (λ honest none. ((h honest).0 none).committed) (λ honest. (h honest).1)
 
 pub read_ready : (id : Identity) (m : kept.Meta) (old new : State) → old.now.schema ≡ schema_3 → IsMeta id m old.committed.trees → IsStill old new
     → (new.now.schema ≡ schema_3) × ((new.in_transaction ≡ false) × ((new.is_open ≡ true) × IsMeta id m new.committed.trees))

@@ -9,8 +9,6 @@ use Rattle.sqlite.specs.declared.types.Value.TheVariants.{Null, Int, Real, Text,
 use Rattle.sqlite_value.specs.Order.{Row, column}
 use Rattle.sqlite.specs.Effect.{Database}
 use Rattle.sqlite.specs.Tree.{Trees}
-use Rattle.sqlite.specs.Schema.{Schema}
-use Rattle.px_sql.specs.Tables.{schema_3}
 use Rattle.sqlite.specs.State.{State, HasCleanDisk}
 use Rattle.px_sql.specs.Seen.{seen, is_key, are_slot_rows, are_learned_rows, meta_columns, meta_row, floor_columns}
 use Rattle.px_sql.specs.Seen.{number_at, record_in}
@@ -44,19 +42,19 @@ learned_keyed members p (r ∷ x ∷ more) good = absurd cc
 
 -- ---- a call that only reads
 
-pub keeps : (o : Schema) (members f g : ℕ) (old new : State) → new.committed ≡ old.committed → Keeps (stored_of o members f old) (stored_of o members g new)
-keeps o members f g old new same =
+pub keeps : (members f g : ℕ) (old new : State) → new.committed ≡ old.committed → Keeps (stored_of members f old) (stored_of members g new)
+keeps members f g old new same =
     let e : new.committed.trees ≡ old.committed.trees = ap (λ (d : Database). d.trees) same in record {
       same = ap (λ (t : Trees). record_in t) e;
       rows = λ x good. subst (λ (t : Trees). is_good members t x) (sym e) good;
       back = λ x good. subst (λ (t : Trees). is_good members t x) e good;
     }
 
-pub reads : (o : Schema) (members f g : ℕ) (old new : State) → (HasCleanDisk new → HasCleanDisk old) → (HasCleanDisk new × (o ≡ schema_3) → g ≡ 0 → new.committed ≡ old.committed) → (HasCleanDisk new × (o ≡ schema_3) → LeavesOld old new)
-    → OnlyReads (stored_of o members f old) (stored_of o members g new)
-reads o members f g old new was same leaves = record {
-  was = λ honest. (was honest.0, honest.1);
-  keeps = λ honest none. keeps o members f g old new (same honest none);
+pub reads : (members f g : ℕ) (old new : State) → (HasCleanDisk new → HasCleanDisk old) → (HasCleanDisk new → g ≡ 0 → new.committed ≡ old.committed) → (HasCleanDisk new → LeavesOld old new)
+    → OnlyReads (stored_of members f old) (stored_of members g new)
+reads members f g old new was same leaves = record {
+  was = was;
+  keeps = λ honest none. keeps members f g old new (same honest none);
   leaves = λ honest r left. (left.0, leaves honest left.0 left.1, left.2);
 }
 

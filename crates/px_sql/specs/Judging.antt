@@ -1,6 +1,6 @@
 -- Which stores are refused, and with what: first the format is asked for, then rows that no node writes, then the
 -- owner.
-use Rattle.std.specs.Prelude.{ℕ, ◌^◌, Bool, true, false, ◌&&◌, ◌||◌, List, [], ◌∷◌, Option, Some}
+use Rattle.std.specs.Prelude.{◌≡◌, ℕ, ◌^◌, Bool, true, false, ◌&&◌, ◌||◌, List, [], ◌∷◌, Option, Some}
 use Rattle.std.specs.Prelude.{None}
 use Rattle.std.specs.Prelude.{nat_eq, nat_le, nat_lt, not, if◌then◌else◌}
 use Rattle.sqlite_value.specs.Order.{Row, column}
@@ -8,6 +8,7 @@ use Rattle.sqlite.specs.Tree.{Trees}
 use Rattle.px_sql.specs.Seen.{is_number, number_in, is_key, is_ballot, seen, meta_columns, floor_columns}
 use Rattle.px_sql.specs.Formats.{trees_at, number_of}
 use Rattle.px_sql.specs.declared.formats.Format.{Format}
+use Rattle.px_sql.specs.declared.formats.Format.TheVariants.{Three}
 use Rattle.px_sql.specs.declared.calls.Identity.{Identity}
 use Rattle.px_sql.specs.declared.fault.AdoptFault.{AdoptFault}
 use Rattle.px_sql.specs.declared.fault.AdoptFault.TheVariants.{StoreVersion, BadStore, WrongNode}
@@ -76,3 +77,8 @@ refusal_of format i (r ∷ x ∷ more) floor has_more = Some BadStore
 abbrev pub refusal : Format → Identity → Trees → Option AdoptFault
 refusal f i db = refusal_of (number_of f) i (seen meta_columns (db 0) 1) (seen floor_columns (trees_at f db 2) 1)
     (has_rows (db 1) || has_rows (trees_at f db 3))
+
+-- the rows of a store of format 3 that is this node's
+pub record IsOwn (i : Identity) (db : Trees) : Type 0 where
+  pub row : has_rows (seen meta_columns (db 0) 1) ≡ true
+  pub taken : refusal Three i db ≡ None

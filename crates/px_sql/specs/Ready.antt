@@ -2,13 +2,11 @@
 use Rattle.std.specs.Prelude.{◌≡◌, ℕ, List, true}
 use Rattle.sqlite_value.specs.Order.{Row}
 use Rattle.sqlite.specs.Tree.{Trees}
-use Rattle.sqlite.specs.Schema.{Schema}
 use Rattle.sqlite.specs.State.{State, HasCleanDisk}
 use Rattle.px_model.specs.Node.{Record}
 use Rattle.px_model.specs.Spelling.{Bytes}
 use Rattle.px_records.specs.Records.{Place}
 use Rattle.px_records.specs.Records.Place.{SlotAt, EntryAt, LastSlot, LastEntry}
-use Rattle.px_sql.specs.Tables.{schema_3}
 use Rattle.px_sql.specs.Seen.{seen, slot_columns, learned_columns}
 use Rattle.px_sql.specs.Seen.{record_in, are_slot_rows, are_learned_rows, has_ballot, any_row, IsLastGood}
 use Rattle.px_sql.specs.Store.{Stored}
@@ -28,18 +26,15 @@ is_good members db (EntryAt p) = IsEntryGood members (db 3) p
 is_good members db LastSlot = IsLastGood has_ballot (IsSlotGood members (db 1)) (db 1)
 is_good members db LastEntry = IsLastGood any_row (IsEntryGood members (db 3)) (db 3)
 
--- what is said of values holds where the disk keeps what was written and the tables that were found are the four
-abbrev pub IsHonest : Schema → State → Type 0
-IsHonest opened s = HasCleanDisk s × (opened ≡ schema_3)
-
 -- a record that the next open may find
 abbrev pub MayLeave : State → Record Bytes → Type 0
 MayLeave s found = (db : Trees) × s.may_leave db × (found ≡ record_in db)
 
--- what a connection shows of a record, where these tables were found and so many calls have failed
-abbrev pub stored_of : (opened : Schema) (members failures : ℕ) → State → Stored
-stored_of opened members failures s = record {
-  is_honest = IsHonest opened s;
+-- what a connection shows of a record, where so many calls have failed: what is said of values holds where the disk
+-- returned what was written
+abbrev pub stored_of : (members failures : ℕ) → State → Stored
+stored_of members failures s = record {
+  is_honest = HasCleanDisk s;
   kept = record_in s.committed.trees;
   is_good = is_good members s.committed.trees;
   may_leave = MayLeave s;

@@ -14,7 +14,7 @@ use Rattle.sqlite.specs.Kind.TheVariants.{Integer, Blob}
 -- ---- the tables
 
 -- a strict column of this name and kind, without NULL where not_null
-abbrev column_of : List ℕ → Kind → (not_null : Bool) → Column
+abbrev pub column_of : List ℕ → Kind → (not_null : Bool) → Column
 column_of name kind not_null = record {
   name = name;
   kind = kind;
@@ -25,19 +25,19 @@ column_of name kind not_null = record {
 }
 
 -- the column that is the table's key
-abbrev key_column : List ℕ → Column
+abbrev pub key_column : List ℕ → Column
 key_column name = column_of name Integer false
 
 -- a column of integers without NULL
-abbrev number_column : List ℕ → Column
+abbrev pub number_column : List ℕ → Column
 number_column name = column_of name Integer true
 
 -- a column of blobs without NULL
-abbrev bytes_column : List ℕ → Column
+abbrev pub bytes_column : List ℕ → Column
 bytes_column name = column_of name Blob true
 
 -- a table whose key is its first column, with its number among the tables, its columns and its checks
-abbrev sheet : List ℕ → ℕ → List Column → List Term → Table
+abbrev pub sheet : List ℕ → ℕ → List Column → List Term → Table
 sheet name tree columns checks = record {
   name = name;
   tree = tree;
@@ -53,9 +53,13 @@ sheet name tree columns checks = record {
   is_counted = false;
 }
 
+-- the row's key is 1
+abbrev pub key_is_one : Term
+key_is_one = op2 (Compare Eq Binary) (col 1 0) (lit (Int (pos 1)))
+
 -- there is one row, whose key is 1
-abbrev only_row : List Term
-only_row = op2 (Compare Eq Binary) (col 1 0) (lit (Int (pos 1))) ∷ []
+abbrev pub only_row : List Term
+only_row = key_is_one ∷ []
 
 -- the row for the whole node: id, format, cluster, members, node, round, number
 abbrev pub meta : Table

@@ -11,7 +11,7 @@ use Rattle.px_sql.specs.declared.keeper.SqlRecords.{SqlRecords}
 
 -- what the connection shows
 abbrev pub view_of : {S : Type 0} → (g : Ghosts S) → SqlRecords S g → Stored
-view_of g r = stored_of r.opened r.identity.members r.failures (state g r.conn)
+view_of g r = stored_of r.identity.members r.failures (state g r.conn)
 
 -- the connection that it keeps
 abbrev pub connection_of : {S : Type 0} {g : Ghosts S} → SqlRecords S g → Held S

@@ -1,23 +1,22 @@
 //! Taking a store: what it holds is judged, and brought to format 3.
-ghost use Rattle.std.specs.Prelude.{◌≡◌, ◌⊎◌, false, length, OnOk};
-ghost use Rattle.std.specs.Prelude.{IfErr};
-ghost use Rattle.std.specs.Prelude.{Some, None};
+ghost use Rattle.std.specs.Prelude.{◌≡◌, ◌⊎◌, false, OnOk, Err, IfErr, Some, None};
 ghost use Rattle.sqlite.specs.Held.{state};
 ghost use Rattle.sqlite.specs.State.{HasCleanDisk};
 ghost use Rattle.px_model.specs.World.{nothing_stored};
-ghost use Rattle.px_sql.specs.Tables.{no_schema};
+ghost use Rattle.px_sql.specs.Tables.{no_schema, schema_3};
 ghost use Rattle.px_sql.specs.inner.Effect.{LeavesOld};
 ghost use Rattle.px_sql.specs.Formats.{record_at};
 ghost use Rattle.px_sql.specs.Adopting.{Began, IsKnown, IsVerdict, IsSame};
 ghost use Rattle.px_sql.specs.inner.Adopting.{IsRefused, Shows};
 ghost use Rattle.px_sql.specs.Adopting.{IsMade, IsBrought, LeavesOr};
-ghost use Rattle.px_sql.specs.Judging.{refusal};
+ghost use Rattle.px_sql.specs.Judging.{refusal, IsOwn};
 
 use crate::calls::{Identity, Trouble, cause_of};
 use crate::fault::AdoptFault;
 use crate::finding::{judge, read_store};
-use crate::formats::{Format, format_with};
+use crate::formats::Format;
 use crate::making::{make_anew, make_rest};
+use crate::tables::{format_in, has_none};
 use sqlite::{Alter, Connection, Error};
 
 fn fault_of<S: Alter>(conn: &mut Connection<S>, error: Error) -> AdoptFault
@@ -85,22 +84,23 @@ fn bring_at<S: Alter>(
     }
 }
 
-/// How many tables there are.
-fn tables_in<S: Alter>(conn: &Connection<S>) -> usize
-    ensures { result ≡ length (state S.Store conn.now).now.schema.tables }
-{
-    conn.schema().tables.len()
-}
-
 /// Brings a store to format 3, where it is this node's. A store that is refused with 71, 72 or 73 isn't written to.
 pub(crate) fn bring<S: Alter>(
     conn: &mut Connection<S>,
     identity: Identity,
 ) -> Result<(), AdoptFault>
-    ensures refused { HasCleanDisk (state S.Store conn.new) → IsKnown (state S.Store conn.old).now.schema →
-        (state S.Store conn.old).in_transaction ≡ false →
-        IsRefused result → IsSame (state S.Store conn.old) (state S.Store conn.new) }
+    ensures refused { HasCleanDisk (state S.Store conn.new) → IsRefused result →
+        IsSame (state S.Store conn.old) (state S.Store conn.new) }
     ensures clean { HasCleanDisk (state S.Store conn.new) → HasCleanDisk (state S.Store conn.old) }
+    ensures known { OnOk result (IsKnown (state S.Store conn.old).now.schema ×
+        ((state S.Store conn.old).in_transaction ≡ false)) }
+    ensures unknown { (IsKnown (state S.Store conn.old).now.schema → ⊥) →
+        (state S.Store conn.old).in_transaction ≡ false →
+        (result ≡ Err AdoptFault.StoreVersion) × (conn.new ≡ conn.old) }
+    ensures tables { HasCleanDisk (state S.Store conn.new) →
+        OnOk result ((state S.Store conn.new).now.schema ≡ schema_3) }
+    ensures unfound { HasCleanDisk (state S.Store conn.new) → IsOwn identity (state S.Store conn.old).now.trees →
+        IfErr result (λ e. IsVerdict e → e ≡ AdoptFault.StoreVersion) }
     ensures empty { HasCleanDisk (state S.Store conn.new) → (state S.Store conn.old).now.schema ≡ no_schema →
         (state S.Store conn.old).in_transaction ≡ false → OnOk result (Shows nothing_stored
         (state S.Store conn.new)) }
@@ -118,11 +118,14 @@ pub(crate) fn bring<S: Alter>(
     ensures judged { HasCleanDisk (state S.Store conn.new) → (f : Format) → Began f (state S.Store conn.old) →
         IfErr result (λ e. IsVerdict e → refusal f identity (state S.Store conn.old).now.trees ≡ Some e) }
 {
-    let tables = tables_in(conn);
-    if tables == 0 {
+    if !conn.is_autocommit() {
+        return Err(AdoptFault::Failed);
+    }
+    if has_none(conn.schema()) {
         return bring_none(conn, identity);
     }
-    match format_with(tables) {
+    let found = format_in(conn.schema());
+    match found {
         Some(format) => bring_at(conn, identity, format),
         None => Err(AdoptFault::StoreVersion),
     }

@@ -1,6 +1,6 @@
 //! The formats of a store.
-ghost use Rattle.std.specs.Prelude.{◌≡◌, ◌<◌, Some, None, IfSome};
-ghost use Rattle.px_sql.specs.Formats.{tables_in, number_of, has_table};
+ghost use Rattle.std.specs.Prelude.{◌≡◌};
+ghost use Rattle.px_sql.specs.Formats.{number_of, has_table};
 
 /// A format that a store may have. Each has the tables of the one before and one more.
 #[derive(Clone, Copy)]
@@ -30,17 +30,5 @@ impl Format {
         ensures { result ≡ has_table table self }
     {
         table <= self.number()
-    }
-}
-
-/// The format that has so many tables.
-pub(crate) fn format_with(tables: usize) -> Option<Format>
-    ensures value { (f : Format) → tables ≡ tables_in f → result ≡ Some f }
-{
-    match tables {
-        2 => Some(Format::One),
-        3 => Some(Format::Two),
-        4 => Some(Format::Three),
-        _ => None,
     }
 }

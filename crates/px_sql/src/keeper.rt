@@ -5,20 +5,17 @@ ghost use Rattle.px_sql.specs.inner.Ready.{IsReady, IsReady-prop, AreBounded, Ar
 use crate::calls::Identity;
 use px_model::Meta;
 use sqlite::{Alter, Connection};
-use sqlite_schema::schema::Schema;
 use std::alloc::Global;
 
 /// The record in a database.
 #[derive(Drop)]
 pub struct SqlRecords<S: Alter> {
     pub(crate) conn: Connection<S>,
-    /// The tables as they were found when the store was opened.
-    pub(crate) opened: Schema,
     pub(crate) identity: Identity,
     pub(crate) meta: Meta,
     pub(crate) failures: u64,
     pub(crate) alloc: Global,
     ghost bounds: { AreBounded identity meta } by { AreBounded-prop identity meta },
-    ghost ready: { IsReady failures opened identity meta
-        (state S.Store conn) } by { IsReady-prop failures opened identity meta (state S.Store conn) },
+    ghost ready: { IsReady failures identity meta (state S.Store conn) } by { IsReady-prop failures identity meta
+        (state S.Store conn) },
 }

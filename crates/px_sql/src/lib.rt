@@ -23,6 +23,7 @@ mod making;
 mod opening;
 mod reading;
 mod sql;
+mod tables;
 mod taking;
 mod writing;
 

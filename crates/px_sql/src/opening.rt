@@ -1,4 +1,4 @@
-//! What a store of format 3 shows as it is opened.
+//! The numbers that a store of format 3 shows as it is opened.
 ghost use Rattle.std.specs.Prelude.{◌≡◌, ◌<◌, ◌≤◌, ◌^◌, ◌⊎◌, Err, IfOk, OnOk, OnErr, true};
 ghost use Rattle.std.specs.Prelude.{[], ◌∷◌};
 ghost use Rattle.sqlite.specs.Held.{state};
@@ -18,15 +18,6 @@ use crate::formats::Format;
 use crate::reading::{Numbers, ReadFault, floor_in_rows, meta_in_rows};
 use px_model::Meta;
 use sqlite::{Alter, Connection};
-use sqlite_schema::schema::Schema;
-use std::alloc::Global;
-
-/// What a store of format 3 shows as it is opened: its tables, and the numbers of its rows.
-#[derive(Drop)]
-pub(crate) struct Opened {
-    pub(crate) tables: Schema,
-    pub(crate) meta: Meta,
-}
 
 fn meta_of<S: Alter>(conn: &mut Connection<S>, identity: Identity) -> Result<Numbers, AdoptFault>
     ensures why { OnErr result ((result ≡ Err AdoptFault.Memory) ⊎ (result ≡ Err AdoptFault.Failed)) }
@@ -69,38 +60,29 @@ fn ballot_of<S: Alter>(conn: &mut Connection<S>, members: u8) -> Result<u64, Ado
     }
 }
 
-/// Reads the rows for the whole node, and what the tables are.
+/// Reads the rows for the whole node, of a store with the four tables.
 pub(crate) fn read_again<S: Alter>(
-    alloc: Global,
     conn: &mut Connection<S>,
     identity: Identity,
-) -> Result<Opened, AdoptFault>
+) -> Result<Meta, AdoptFault>
+    requires tables { HasCleanDisk (state S.Store conn.old) → (state S.Store conn.old).now.schema ≡ schema_3 }
     ensures why { OnErr result ((result ≡ Err AdoptFault.Memory) ⊎ (result ≡ Err AdoptFault.Failed)) }
-    ensures ready { IfOk result (λ o. IsReady 0 o.tables identity o.meta (state S.Store conn.new)) }
-    ensures bounds { IfOk result (λ o. AreBounded identity o.meta) }
-    ensures tables { IfOk result (λ o. o.tables ≡ (state S.Store conn.old).now.schema) }
+    ensures ready { IfOk result (λ m. IsReady 0 identity m (state S.Store conn.new)) }
+    ensures bounds { IfOk result (λ m. AreBounded identity m) }
     ensures clean { HasCleanDisk (state S.Store conn.new) → HasCleanDisk (state S.Store conn.old) }
-    ensures stays { HasCleanDisk (state S.Store conn.new) → (state S.Store conn.old).now.schema ≡ schema_3 →
+    ensures stays { HasCleanDisk (state S.Store conn.new) →
         OnOk result ((state S.Store conn.new).committed ≡ (state S.Store conn.old).now) }
-    ensures crash { HasCleanDisk (state S.Store conn.new) → IfOk result (λ o. o.tables ≡ schema_3 →
-        LeavesOld (state S.Store conn.old) (state S.Store conn.new)) }
-    ensures left { HasCleanDisk (state S.Store conn.new) → (state S.Store conn.old).now.schema ≡ schema_3 →
+    ensures left { HasCleanDisk (state S.Store conn.new) →
         LeavesOld (state S.Store conn.old) (state S.Store conn.new) }
 {
     if !conn.is_autocommit() {
         return Err(AdoptFault::Failed);
     }
-    let Ok(tables) = conn.schema().copy(alloc) else {
-        return Err(AdoptFault::Memory);
-    };
     let numbers = meta_of(conn, identity)?;
     let floor = ballot_of(conn, identity.members)?;
-    Ok(Opened {
-        tables,
-        meta: Meta {
-            round: numbers.round,
-            number: numbers.number,
-            floor,
-        },
+    Ok(Meta {
+        round: numbers.round,
+        number: numbers.number,
+        floor,
     })
 }

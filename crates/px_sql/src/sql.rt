@@ -2,9 +2,10 @@
 ghost use Rattle.std.specs.Prelude.{◌≡◌};
 ghost use Rattle.std.proofs.Common.{◌∙◌, ap, refl};
 ghost use Rattle.sqlite.specs.Held.{state};
+ghost use Rattle.sqlite.specs.State.{HasCleanDisk};
 ghost use Rattle.sqlite.specs.Tree.{Trees};
 ghost use Rattle.px_sql.specs.Seen.{record_in};
-ghost use Rattle.px_sql.specs.Ready.{IsHonest, MayLeave, is_good};
+ghost use Rattle.px_sql.specs.Ready.{MayLeave, is_good};
 
 use crate::keeper::SqlRecords;
 use crate::reading::{entry_from, slot_from};
@@ -13,7 +14,10 @@ use px_records::{Records, StoreFault};
 use sqlite::Alter;
 
 impl<S: Alter> Records for SqlRecords<S> {
-    ghost is_honest = { λ r. IsHonest r.opened (state S.Store r.conn) };
+    // nothing of the keeper's own: the disk returned what was written
+    ghost is_honest = { λ r. HasCleanDisk (state S.Store r.conn) };
+
+    ghost is_trusted = { λ r. HasCleanDisk (state S.Store r.conn) };
 
     ghost stored = { λ r. record_in (state S.Store r.conn).committed.trees };
 
@@ -28,9 +32,9 @@ impl<S: Alter> Records for SqlRecords<S> {
     ghost is_good = { λ r. is_good r.identity.members (state S.Store r.conn).committed.trees };
 
     ghost settled = { λ r honest none d left. left.2 ∙ ap (λ (t : Trees). record_in t)
-        (S.Store.settled r.conn.store left.0 (r.ready none honest.0 honest.1).1.1.0 left.1) };
+        (S.Store.settled r.conn.store left.0 (r.ready none honest).1.1.0 left.1) };
 
-    ghost stays = { λ r honest none. (_, S.Store.stays r.conn.store (r.ready none honest.0 honest.1).1.1.0, refl) };
+    ghost stays = { λ r honest none. (_, S.Store.stays r.conn.store (r.ready none honest).1.1.0, refl) };
 
     fn failures(&self) -> u64 {
         self.failures

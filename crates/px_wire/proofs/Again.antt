@@ -46,13 +46,13 @@ stands w limit wide at bytes n more some lt e =
       there = omega (arith, length-drop at bytes, size);
     }
 
-stands32 : (at : ℕ) (bytes : List ℕ) (n : ℕ) (more : List ℕ) → n < 2 ^ 32 → drop at bytes ≡ to_be_bytes w32 n ++ more → Stands w32 at bytes n more
+pub stands32 : (at : ℕ) (bytes : List ℕ) (n : ℕ) (more : List ℕ) → n < 2 ^ 32 → drop at bytes ≡ to_be_bytes w32 n ++ more → Stands w32 at bytes n more
 stands32 at bytes n more lt e = stands w32 (2 ^ 32) wide32 at bytes n more (lit≤ tt) lt e
 
-stands64 : (at : ℕ) (bytes : List ℕ) (n : ℕ) (more : List ℕ) → n < 2 ^ 64 → drop at bytes ≡ to_be_bytes w64 n ++ more → Stands w64 at bytes n more
+pub stands64 : (at : ℕ) (bytes : List ℕ) (n : ℕ) (more : List ℕ) → n < 2 ^ 64 → drop at bytes ≡ to_be_bytes w64 n ++ more → Stands w64 at bytes n more
 stands64 at bytes n more lt e = stands w64 (2 ^ 64) wide64 at bytes n more (lit≤ tt) lt e
 
-stands8 : (at : ℕ) (bytes : List ℕ) (n : ℕ) (more : List ℕ) → drop at bytes ≡ n ∷ more → Stands w8 at bytes n more
+pub stands8 : (at : ℕ) (bytes : List ℕ) (n : ℕ) (more : List ℕ) → drop at bytes ≡ n ∷ more → Stands w8 at bytes n more
 unfolding number
 stands8 at bytes n more e =
     let size : length (drop at bytes) ≡ suc (length more) = ap length e in
@@ -153,7 +153,7 @@ small p h =
     let le = leb-true p 999999 h in
     omega arith
 
-slot0 : (bytes : List ℕ) (b p : ℕ) (t : List ℕ) → b < 2 ^ 64 → drop 13 bytes ≡ (to_be_bytes w64 b ++ to_be_bytes w32 p) ++ t → Stands w64 13 bytes b (to_be_bytes w32 p ++ t)
+pub slot0 : (bytes : List ℕ) (b p : ℕ) (t : List ℕ) → b < 2 ^ 64 → drop 13 bytes ≡ (to_be_bytes w64 b ++ to_be_bytes w32 p) ++ t → Stands w64 13 bytes b (to_be_bytes w32 p ++ t)
 slot0 bytes b p t lt here = stands64 13 bytes b (to_be_bytes w32 p ++ t) lt (here ∙ append_assoc (to_be_bytes w64 b) (to_be_bytes w32 p) t)
 
 -- a ballot and a position, and what follows

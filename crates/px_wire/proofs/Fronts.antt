@@ -107,7 +107,7 @@ body_in k bytes =
     (slot_then of_promise_all bytes)))))))))))
 
 -- a ballot is a number of eight bytes
-below : (g : Group) (node b : ℕ) → is_ballot_of g node b ≡ true → b < 2 ^ 64
+pub below : (g : Group) (node b : ℕ) → is_ballot_of g node b ≡ true → b < 2 ^ 64
 below g node b h = (wide_ballot g b (both_true (is_ballot g b) (eqb (b % 256) node) h).0).1
 
 body_again : (g : Group) (from to : ℕ) (x : Message) (more : List ℕ) → IsBody g from to x → body_in (messages.kind x) (messages.body x ++ more) ≡ Some (x, more)

@@ -10,3 +10,4 @@ pub mod Commands
 pub mod Sent
 pub mod Addressed
 pub mod Members
+pub mod Heads

@@ -3,4 +3,5 @@ pub mod Fields
 pub mod Seen
 pub mod Sent
 pub mod Members
+pub mod Heads
 pub mod inner

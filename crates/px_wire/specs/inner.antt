@@ -1,3 +1,4 @@
 -- What only code and proofs use: no contract of a public function needs it.
 pub mod Fields
 pub mod Seen
+pub mod Heads

@@ -5,10 +5,12 @@ ghost use Rattle.std.specs.Prelude.{OnOk, IfOk, IfSome, IsTrue};
 ghost use Rattle.std.specs.Int.{w32, w64, to_be_bytes};
 ghost use Rattle.px_wire.specs.Message.{group, sized, reported, kind, body, spelling, IsSpelling, IsBody, HasSpelling};
 ghost use Rattle.px_wire.specs.Message.{DatagramBytes};
+ghost use Rattle.px_wire.specs.Heads.{number_of};
 ghost use Rattle.px_wire.specs.Members.{as_sent, Passing};
 ghost use Rattle.px_model.specs.Seen.{message_of as sent_of};
 ghost use Rattle.px_wire.specs.Seen.{lent_of, accepted_of, message_of};
 
+use crate::kind::Kind;
 use crate::limits::{MAGIC, VERSION};
 use crate::membership::Membership;
 use pf_entry::numbers::{put_u32, put_u64};
@@ -189,35 +191,35 @@ fn put_body(
     }
 }
 
-fn kind_of(message: &Message<EntryView>) -> u8
-    ensures { result ≡ kind (message_of message.now) }
+fn kind_of(message: &Message<EntryView>) -> Kind
+    ensures { number_of result ≡ kind (message_of message.now) }
 {
     match message {
-        Message::Prepare { .. } => 1,
-        Message::Promise { .. } => 2,
-        Message::Accept { .. } => 3,
-        Message::Vote { .. } => 4,
-        Message::Nack { .. } => 5,
-        Message::Need { .. } => 6,
-        Message::Learned { .. } => 7,
-        Message::Ask { .. } => 8,
-        Message::Asked { .. } => 9,
-        Message::AskRefused { .. } => 10,
-        Message::PrepareAll { .. } => 11,
-        Message::PromiseAll { .. } => 12,
+        Message::Prepare { .. } => Kind::Prepare,
+        Message::Promise { .. } => Kind::Promise,
+        Message::Accept { .. } => Kind::Accept,
+        Message::Vote { .. } => Kind::Vote,
+        Message::Nack { .. } => Kind::Nack,
+        Message::Need { .. } => Kind::Need,
+        Message::Learned { .. } => Kind::Learned,
+        Message::Ask { .. } => Kind::Ask,
+        Message::Asked { .. } => Kind::Asked,
+        Message::AskRefused { .. } => Kind::AskRefused,
+        Message::PrepareAll { .. } => Kind::PrepareAll,
+        Message::PromiseAll { .. } => Kind::PromiseAll,
     }
 }
 
 /// Magic, version, cluster, members, from, to, kind.
-fn put_header(out: &mut Vec<u8>, m: &Membership, to: u8, kind: u8) -> Result<(), AllocError>
+fn put_header(out: &mut Vec<u8>, m: &Membership, to: u8, kind: Kind) -> Result<(), AllocError>
     ensures { OnOk result (out.new.items ≡ out.old.items ++
         (to_be_bytes w32 0x50465852 ++ 1 ∷ to_be_bytes w32 m.now.cluster
-        ++ m.now.members ∷ m.now.me ∷ to ∷ kind ∷ [])) }
+        ++ m.now.members ∷ m.now.me ∷ to ∷ number_of kind ∷ [])) }
 {
     put_u32(out, MAGIC)?;
     out.push(VERSION)?;
     put_u32(out, m.cluster())?;
-    let last = [m.members(), m.me(), to, kind];
+    let last = [m.members(), m.me(), to, kind.number()];
     out.extend_from_slice(&last)?;
     Ok(())
 }

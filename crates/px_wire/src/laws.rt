@@ -1,11 +1,12 @@
 //! What holds of all datagrams.
 
 ghost use Rattle.std.specs.Prelude.{◌≡◌, ◌<◌, ◌≤◌, ◌^◌, ◌++◌, ℕ, Bool, List, [], Some, None};
-ghost use Rattle.std.specs.Prelude.{true, IsOkAnd};
+ghost use Rattle.std.specs.Prelude.{true, IfOk, IsOkAnd};
 ghost use Rattle.px_wire.specs.declared.membership.Membership.{Membership};
 ghost use Rattle.px_wire.specs.Message as datagrams;
 ghost use Rattle.px_wire.specs.Message.{Group, group, HasSpelling, DatagramBytes};
 ghost use Rattle.px_wire.specs.Fields.{fields, first_fault, datagram};
+ghost use Rattle.px_wire.specs.Heads.{head_of};
 ghost use Rattle.px_wire.specs.Sent.{is_command, is_for_all, AreBytes, lent_bytes};
 ghost use Rattle.px_wire.specs.Members.{as_sent, as_heard, Passing};
 ghost use Rattle.px_model.specs.Node.{Envelope};
@@ -19,6 +20,7 @@ ghost use Rattle.px_wire.specs.declared.limits.TheConstants.{MEMBERS};
 
 use crate::decoding::decode;
 use crate::fault::WireFault;
+use crate::head::Head;
 use crate::membership::Membership;
 use px_model::{EntryView, Message};
 
@@ -35,6 +37,19 @@ pub fn what_one_encodes_the_other_decodes<'a>(
     ensures { IsOkAnd result (λ x. (x.0 ≡ sender.now.me) × (message_of x.1 ≡ message_of message.now)) }
 {
     decode(reader, bytes)
+}
+
+/// Where a datagram is decoded, the head that is read of it is that of the sender and the message.
+pub fn a_head_is_that_of_the_message<'a>(
+    m: &Membership,
+    bytes: &'a [u8],
+) -> (
+    Result<(u8, Message<EntryView<'a>>), WireFault>,
+    Option<Head>,
+)
+    ensures { IfOk result.0 (λ x. result.1 ≡ Some (head_of x.0 m.now.me (message_of x.1))) }
+{
+    (decode(m, bytes), Head::read(bytes))
 }
 
 /// What is spelled for a member has no fault there, and is read as its sender and its message.

@@ -3,11 +3,14 @@
 //! # Organization
 //!
 //! - [`decode`] gives the sender and the message of bytes that came, or their first fault. It takes no memory.
+//! - [`Head`]: sender, addressee, kind, ballot and position of a datagram, read at fixed places without the rest. It is
+//!   the head of the message that `decode` answers; nothing else looks for these in bytes. [`Kind`] has the numbers of
+//!   kinds for both ways.
 //! - [`encode`] and [`encode_sent`] give the bytes of a message, and [`address`] turns them to another member, so what
 //!   goes to all is encoded once.
 //! - [`laws`]: what one encodes the other decodes, one message has one spelling, what a member sends has one.
 //! - `specs/Message` is what is to be believed of what is spelled, `specs/Fields` of faults: a table of fields for each
-//!   kind. `specs/Members` joins both with the log's own messages.
+//!   kind. `specs/Members` joins both with the log's own messages, `specs/Heads` says what a message's head is.
 //!
 //! # The bytes of a datagram
 //!
@@ -53,6 +56,8 @@ mod ballot;
 mod decoding;
 mod encoding;
 mod fault;
+mod head;
+mod kind;
 pub mod laws;
 mod limits;
 mod membership;
@@ -63,6 +68,8 @@ pub use ballot::Ballot;
 pub use decoding::decode;
 pub use encoding::{encode, encode_sent};
 pub use fault::WireFault;
+pub use head::Head;
+pub use kind::Kind;
 pub use membership::Membership;
 pub use px_model::{Entry, EntryView, Message, Proposal};
 

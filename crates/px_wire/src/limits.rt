@@ -4,8 +4,24 @@
 pub(crate) const MAGIC: u32 = 0x5046_5852;
 /// The version that follows them.
 pub(crate) const VERSION: u8 = 1;
-/// Where the addressee stands.
+/// Where a datagram has its version.
+pub(crate) const VERSION_AT: usize = 4;
+/// Where it has the cluster's number.
+pub(crate) const CLUSTER_AT: usize = 5;
+/// Where it has the number of members.
+pub(crate) const MEMBERS_AT: usize = 9;
+/// Where it has its sender.
+pub(crate) const SENDER_AT: usize = 10;
+/// Where it has its addressee.
 pub(crate) const ADDRESSEE: usize = 11;
+/// Where it has its kind.
+pub(crate) const KIND_AT: usize = 12;
+/// Where the fields of the kind begin: a ballot, a position, a length or a token.
+pub(crate) const BODY_AT: usize = 13;
+/// Where a position is that follows a ballot.
+pub(crate) const POSITION_AT: usize = 21;
+/// Where an answer to a command from outside has, after the token, the entry's number or the code of the refusal.
+pub(crate) const ANSWER_AT: usize = 21;
 /// The most members of a cluster.
 pub(crate) const MEMBERS: u8 = 15;
 /// Who is no member: whoever asks from outside.

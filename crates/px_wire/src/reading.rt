@@ -15,12 +15,18 @@ ghost use Rattle.px_wire.specs.Fields.{asked_value, ask_refused_fields, ask_refu
 ghost use Rattle.px_wire.specs.Fields.{prepare_all_value, promise_all_fields, promise_all_value};
 ghost use Rattle.px_wire.specs.Seen.{Answers, ReadsDatagram, lent_of, accepted_of};
 ghost use Rattle.px_wire.specs.inner.Seen.{ReadsField, ReadsEntry, ReadsBody};
+ghost use Rattle.px_wire.specs.Heads.{number_of};
+ghost use Rattle.px_wire.specs.inner.Heads.{number_in};
+ghost use Rattle.std.specs.Int.{w8, w32, w64};
 ghost use Rattle.px_wire.specs.declared.limits.TheConstants.{ENTRY_BYTES};
 
 use crate::MessageView;
 use crate::fault::WireFault;
+use crate::kind::Kind;
 use crate::limits::{
-    ASKER, BALLOTS, ENTRY_BYTES, FIRST_BALLOT, LAST_POSITION, LAST_TOP, MAGIC, NUMBERS, VERSION,
+    ADDRESSEE, ANSWER_AT, ASKER, BALLOTS, BODY_AT, CLUSTER_AT, ENTRY_BYTES, FIRST_BALLOT, KIND_AT,
+    LAST_POSITION, LAST_TOP, MAGIC, MEMBERS_AT, NUMBERS, POSITION_AT, SENDER_AT, VERSION,
+    VERSION_AT,
 };
 use crate::membership::Membership;
 use px_model::{EntryView, Message, Proposal};
@@ -31,44 +37,80 @@ fn fault(code: u8, offset: usize) -> WireFault
     WireFault { code, offset }
 }
 
-#[tactic(auto, unfolding(crate::specs::Fields::fault_of, crate::specs::Fields::number))]
+/// The byte at an offset, if it is there.
+#[tactic(auto, unfolding(crate::specs::Fields::number))]
+pub(crate) fn u8_in(bytes: &[u8], at: usize) -> Option<u8>
+    requires { at < 64 }
+    ensures { result ≡ number_in w8 at bytes.now }
+{
+    if bytes.len() < at + 1 {
+        return None;
+    }
+    let (_, rest) = bytes.split_at(at);
+    Some(rest[0])
+}
+
+/// The number of four bytes at an offset, if they are there.
+#[tactic(auto, unfolding(crate::specs::Fields::number))]
+pub(crate) fn u32_in(bytes: &[u8], at: usize) -> Option<u32>
+    requires { at < 64 }
+    ensures { result ≡ number_in w32 at bytes.now }
+{
+    if bytes.len() < at + 4 {
+        return None;
+    }
+    let (_, rest) = bytes.split_at(at);
+    let (front, _) = rest.split_at(4);
+    Some(u32::from_be_bytes([front[0], front[1], front[2], front[3]]))
+}
+
+/// The number of eight bytes at an offset, if they are there.
+#[tactic(auto, unfolding(crate::specs::Fields::number))]
+pub(crate) fn u64_in(bytes: &[u8], at: usize) -> Option<u64>
+    requires { at < 64 }
+    ensures { result ≡ number_in w64 at bytes.now }
+{
+    if bytes.len() < at + 8 {
+        return None;
+    }
+    let (_, rest) = bytes.split_at(at);
+    let (front, _) = rest.split_at(8);
+    Some(u64::from_be_bytes([
+        front[0], front[1], front[2], front[3], front[4], front[5], front[6], front[7],
+    ]))
+}
+
+#[tactic(auto, unfolding(crate::specs::Fields::fault_of))]
 fn u8_at(bytes: &[u8], at: usize) -> Result<u8, WireFault>
     requires { at < 64 }
     ensures { ReadsField bytes.now result (field at 1 0 true) (u8 at bytes.now) }
 {
-    if bytes.len() < at + 1 {
-        return Err(fault(50, at));
+    match u8_in(bytes, at) {
+        Some(number) => Ok(number),
+        None => Err(fault(50, at)),
     }
-    let (_, rest) = bytes.split_at(at);
-    Ok(rest[0])
 }
 
-#[tactic(auto, unfolding(crate::specs::Fields::fault_of, crate::specs::Fields::number))]
+#[tactic(auto, unfolding(crate::specs::Fields::fault_of))]
 fn u32_at(bytes: &[u8], at: usize) -> Result<u32, WireFault>
     requires { at < 64 }
     ensures { ReadsField bytes.now result (field at 4 0 true) (u32 at bytes.now) }
 {
-    if bytes.len() < at + 4 {
-        return Err(fault(50, at));
+    match u32_in(bytes, at) {
+        Some(number) => Ok(number),
+        None => Err(fault(50, at)),
     }
-    let (_, rest) = bytes.split_at(at);
-    let (front, _) = rest.split_at(4);
-    Ok(u32::from_be_bytes([front[0], front[1], front[2], front[3]]))
 }
 
-#[tactic(auto, unfolding(crate::specs::Fields::fault_of, crate::specs::Fields::number))]
+#[tactic(auto, unfolding(crate::specs::Fields::fault_of))]
 fn u64_at(bytes: &[u8], at: usize) -> Result<u64, WireFault>
     requires { at < 64 }
     ensures { ReadsField bytes.now result (field at 8 0 true) (u64 at bytes.now) }
 {
-    if bytes.len() < at + 8 {
-        return Err(fault(50, at));
+    match u64_in(bytes, at) {
+        Some(number) => Ok(number),
+        None => Err(fault(50, at)),
     }
-    let (_, rest) = bytes.split_at(at);
-    let (front, _) = rest.split_at(8);
-    Ok(u64::from_be_bytes([
-        front[0], front[1], front[2], front[3], front[4], front[5], front[6], front[7],
-    ]))
 }
 
 /// Whether the number is a ballot of one of the members: a round from 1 to 2^48-1, and the member.
@@ -282,8 +324,8 @@ fn promised_at(m: &Membership, least: u64, bytes: &[u8], at: usize) -> Result<u6
 fn prepare_at<'a>(m: &Membership, from: u8, bytes: &'a [u8]) -> Result<MessageView<'a>, WireFault>
     ensures { ReadsBody bytes.now result (prepare_fields m.now from bytes.now) (prepare_value bytes.now) }
 {
-    let ballot = ballot_at(m, from, bytes, 13)?;
-    let position = position_at(bytes, 21)?;
+    let ballot = ballot_at(m, from, bytes, BODY_AT)?;
+    let position = position_at(bytes, POSITION_AT)?;
     end_at(bytes, 25)?;
     Ok(Message::Prepare { ballot, position })
 }
@@ -291,8 +333,8 @@ fn prepare_at<'a>(m: &Membership, from: u8, bytes: &'a [u8]) -> Result<MessageVi
 fn promise_at<'a>(m: &Membership, bytes: &'a [u8]) -> Result<MessageView<'a>, WireFault>
     ensures { ReadsBody bytes.now result (promise_fields m.now bytes.now) (promise_value bytes.now) }
 {
-    let ballot = ballot_at(m, m.me(), bytes, 13)?;
-    let position = position_at(bytes, 21)?;
+    let ballot = ballot_at(m, m.me(), bytes, BODY_AT)?;
+    let position = position_at(bytes, POSITION_AT)?;
     let accepted = accepted_at(m, ballot, bytes, 25)?;
     Ok(Message::Promise {
         ballot,
@@ -304,8 +346,8 @@ fn promise_at<'a>(m: &Membership, bytes: &'a [u8]) -> Result<MessageView<'a>, Wi
 fn accept_at<'a>(m: &Membership, from: u8, bytes: &'a [u8]) -> Result<MessageView<'a>, WireFault>
     ensures { ReadsBody bytes.now result (accept_fields m.now from bytes.now) (accept_value bytes.now) }
 {
-    let ballot = ballot_at(m, from, bytes, 13)?;
-    let position = position_at(bytes, 21)?;
+    let ballot = ballot_at(m, from, bytes, BODY_AT)?;
+    let position = position_at(bytes, POSITION_AT)?;
     let entry = members_entry_at(m, bytes, 25)?;
     Ok(Message::Accept {
         ballot,
@@ -317,8 +359,8 @@ fn accept_at<'a>(m: &Membership, from: u8, bytes: &'a [u8]) -> Result<MessageVie
 fn vote_at<'a>(m: &Membership, bytes: &'a [u8]) -> Result<MessageView<'a>, WireFault>
     ensures { ReadsBody bytes.now result (vote_fields m.now bytes.now) (vote_value bytes.now) }
 {
-    let ballot = any_ballot_at(m, bytes, 13)?;
-    let position = position_at(bytes, 21)?;
+    let ballot = any_ballot_at(m, bytes, BODY_AT)?;
+    let position = position_at(bytes, POSITION_AT)?;
     let entry = members_entry_at(m, bytes, 25)?;
     Ok(Message::Vote {
         ballot,
@@ -330,8 +372,8 @@ fn vote_at<'a>(m: &Membership, bytes: &'a [u8]) -> Result<MessageView<'a>, WireF
 fn nack_at<'a>(m: &Membership, bytes: &'a [u8]) -> Result<MessageView<'a>, WireFault>
     ensures { ReadsBody bytes.now result (nack_fields m.now bytes.now) (nack_value bytes.now) }
 {
-    let ballot = ballot_at(m, m.me(), bytes, 13)?;
-    let position = position_at(bytes, 21)?;
+    let ballot = ballot_at(m, m.me(), bytes, BODY_AT)?;
+    let position = position_at(bytes, POSITION_AT)?;
     let promised = promised_at(m, ballot, bytes, 25)?;
     end_at(bytes, 33)?;
     Ok(Message::Nack {
@@ -344,7 +386,7 @@ fn nack_at<'a>(m: &Membership, bytes: &'a [u8]) -> Result<MessageView<'a>, WireF
 fn need_at(bytes: &[u8]) -> Result<MessageView<'_>, WireFault>
     ensures { ReadsBody bytes.now result (need_fields bytes.now) (need_value bytes.now) }
 {
-    let position = position_at(bytes, 13)?;
+    let position = position_at(bytes, BODY_AT)?;
     end_at(bytes, 17)?;
     Ok(Message::Need { position })
 }
@@ -352,7 +394,7 @@ fn need_at(bytes: &[u8]) -> Result<MessageView<'_>, WireFault>
 fn learned_at<'a>(m: &Membership, bytes: &'a [u8]) -> Result<MessageView<'a>, WireFault>
     ensures { ReadsBody bytes.now result (learned_fields m.now bytes.now) (learned_value bytes.now) }
 {
-    let position = position_at(bytes, 13)?;
+    let position = position_at(bytes, BODY_AT)?;
     let entry = members_entry_at(m, bytes, 17)?;
     Ok(Message::Learned { position, entry })
 }
@@ -360,15 +402,15 @@ fn learned_at<'a>(m: &Membership, bytes: &'a [u8]) -> Result<MessageView<'a>, Wi
 fn ask_at(bytes: &[u8]) -> Result<MessageView<'_>, WireFault>
     ensures { ReadsBody bytes.now result (ask_fields bytes.now) (ask_value bytes.now) }
 {
-    let entry = askers_entry_at(bytes, 13)?;
+    let entry = askers_entry_at(bytes, BODY_AT)?;
     Ok(Message::Ask { entry })
 }
 
 fn asked_at(bytes: &[u8]) -> Result<MessageView<'_>, WireFault>
     ensures { ReadsBody bytes.now result (asked_fields bytes.now) (asked_value bytes.now) }
 {
-    let token = token_at(bytes, 13)?;
-    let number = token_at(bytes, 21)?;
+    let token = token_at(bytes, BODY_AT)?;
+    let number = token_at(bytes, ANSWER_AT)?;
     end_at(bytes, 29)?;
     Ok(Message::Asked { token, number })
 }
@@ -376,8 +418,8 @@ fn asked_at(bytes: &[u8]) -> Result<MessageView<'_>, WireFault>
 fn ask_refused_at(bytes: &[u8]) -> Result<MessageView<'_>, WireFault>
     ensures { ReadsBody bytes.now result (ask_refused_fields bytes.now) (ask_refused_value bytes.now) }
 {
-    let token = token_at(bytes, 13)?;
-    let code = refusal_at(bytes, 21)?;
+    let token = token_at(bytes, BODY_AT)?;
+    let code = refusal_at(bytes, ANSWER_AT)?;
     end_at(bytes, 22)?;
     Ok(Message::AskRefused { token, code })
 }
@@ -389,8 +431,8 @@ fn prepare_all_at<'a>(
 ) -> Result<MessageView<'a>, WireFault>
     ensures { ReadsBody bytes.now result (prepare_all_fields m.now from bytes.now) (prepare_all_value bytes.now) }
 {
-    let ballot = ballot_at(m, from, bytes, 13)?;
-    let position = position_at(bytes, 21)?;
+    let ballot = ballot_at(m, from, bytes, BODY_AT)?;
+    let position = position_at(bytes, POSITION_AT)?;
     end_at(bytes, 25)?;
     Ok(Message::PrepareAll { ballot, position })
 }
@@ -398,8 +440,8 @@ fn prepare_all_at<'a>(
 fn promise_all_at<'a>(m: &Membership, bytes: &'a [u8]) -> Result<MessageView<'a>, WireFault>
     ensures { ReadsBody bytes.now result (promise_all_fields m.now bytes.now) (promise_all_value bytes.now) }
 {
-    let ballot = ballot_at(m, m.me(), bytes, 13)?;
-    let position = position_at(bytes, 21)?;
+    let ballot = ballot_at(m, m.me(), bytes, BODY_AT)?;
+    let position = position_at(bytes, POSITION_AT)?;
     let top = top_at(bytes, 25)?;
     let accepted = accepted_at(m, ballot, bytes, 29)?;
     Ok(Message::PromiseAll {
@@ -414,24 +456,25 @@ fn promise_all_at<'a>(m: &Membership, bytes: &'a [u8]) -> Result<MessageView<'a>
 fn body_at<'a>(
     m: &Membership,
     from: u8,
-    kind: u8,
+    kind: Kind,
     bytes: &'a [u8],
 ) -> Result<MessageView<'a>, WireFault>
-    ensures { ReadsBody bytes.now result (body m.now from kind bytes.now) (value kind bytes.now) }
+    ensures { ReadsBody bytes.now result (body m.now from (number_of kind) bytes.now)
+        (value (number_of kind) bytes.now) }
 {
     match kind {
-        1 => prepare_at(m, from, bytes),
-        2 => promise_at(m, bytes),
-        3 => accept_at(m, from, bytes),
-        4 => vote_at(m, bytes),
-        5 => nack_at(m, bytes),
-        6 => need_at(bytes),
-        7 => learned_at(m, bytes),
-        8 => ask_at(bytes),
-        9 => asked_at(bytes),
-        10 => ask_refused_at(bytes),
-        11 => prepare_all_at(m, from, bytes),
-        _ => promise_all_at(m, bytes),
+        Kind::Prepare => prepare_at(m, from, bytes),
+        Kind::Promise => promise_at(m, bytes),
+        Kind::Accept => accept_at(m, from, bytes),
+        Kind::Vote => vote_at(m, bytes),
+        Kind::Nack => nack_at(m, bytes),
+        Kind::Need => need_at(bytes),
+        Kind::Learned => learned_at(m, bytes),
+        Kind::Ask => ask_at(bytes),
+        Kind::Asked => asked_at(bytes),
+        Kind::AskRefused => ask_refused_at(bytes),
+        Kind::PrepareAll => prepare_all_at(m, from, bytes),
+        Kind::PromiseAll => promise_all_at(m, bytes),
     }
 }
 
@@ -475,27 +518,39 @@ fn sender_at(m: &Membership, bytes: &[u8], at: usize) -> Result<u8, WireFault>
 }
 
 /// Only an ask is from one who is no member, and only its answers are to one.
-fn is_kind(from: u8, to: u8, kind: u8) -> bool
-    ensures { result ≡ is_kind from to kind }
+fn is_kind(from: u8, to: u8, kind: Kind) -> bool
+    ensures { result ≡ is_kind from to (number_of kind) }
 {
     match kind {
-        8 => from == ASKER && to != ASKER,
-        9 | 10 => from != ASKER && to == ASKER,
-        1..=12 => from != ASKER && to != ASKER,
-        _ => false,
+        Kind::Ask => from == ASKER && to != ASKER,
+        Kind::Asked => from != ASKER && to == ASKER,
+        Kind::AskRefused => from != ASKER && to == ASKER,
+        Kind::Prepare => from != ASKER && to != ASKER,
+        Kind::Promise => from != ASKER && to != ASKER,
+        Kind::Accept => from != ASKER && to != ASKER,
+        Kind::Vote => from != ASKER && to != ASKER,
+        Kind::Nack => from != ASKER && to != ASKER,
+        Kind::Need => from != ASKER && to != ASKER,
+        Kind::Learned => from != ASKER && to != ASKER,
+        Kind::PrepareAll => from != ASKER && to != ASKER,
+        Kind::PromiseAll => from != ASKER && to != ASKER,
     }
 }
 
 #[tactic(auto, unfolding(crate::specs::Fields::fault_of))]
-fn kind_at(from: u8, to: u8, bytes: &[u8], at: usize) -> Result<u8, WireFault>
+fn kind_at(from: u8, to: u8, bytes: &[u8], at: usize) -> Result<Kind, WireFault>
     requires { at < 64 }
-    ensures { ReadsField bytes.now result (field at 1 55 (is_kind from to (u8 at bytes.now))) (u8 at bytes.now) }
+    ensures { Answers number_of result (fault_of (field at 1 55 (is_kind from to (u8 at bytes.now))) bytes.now)
+        (u8 at bytes.now) }
 {
-    let kind = u8_at(bytes, at)?;
-    if is_kind(from, to, kind) {
-        Ok(kind)
-    } else {
-        Err(fault(55, at))
+    let number = u8_at(bytes, at)?;
+    match Kind::from_number(number) {
+        Some(kind) => if is_kind(from, to, kind) {
+            Ok(kind)
+        } else {
+            Err(fault(55, at))
+        },
+        None => Err(fault(55, at)),
     }
 }
 
@@ -507,12 +562,12 @@ pub(crate) fn datagram_of<'a>(
     ensures { ReadsDatagram bytes.now result (fields m.now bytes.now) (datagram bytes.now) }
 {
     want_u32(bytes, 0, 51, MAGIC)?;
-    want_u8(bytes, 4, 52, VERSION)?;
-    want_u32(bytes, 5, 53, m.cluster())?;
-    want_u8(bytes, 9, 54, m.members())?;
-    let from = sender_at(m, bytes, 10)?;
-    want_u8(bytes, 11, 54, m.me())?;
-    let kind = kind_at(from, m.me(), bytes, 12)?;
+    want_u8(bytes, VERSION_AT, 52, VERSION)?;
+    want_u32(bytes, CLUSTER_AT, 53, m.cluster())?;
+    want_u8(bytes, MEMBERS_AT, 54, m.members())?;
+    let from = sender_at(m, bytes, SENDER_AT)?;
+    want_u8(bytes, ADDRESSEE, 54, m.me())?;
+    let kind = kind_at(from, m.me(), bytes, KIND_AT)?;
     let message = body_at(m, from, kind, bytes)?;
     Ok((from, message))
 }

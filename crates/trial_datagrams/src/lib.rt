@@ -11,6 +11,8 @@ mod datagrams;
 #[cfg(test)]
 mod entries;
 #[cfg(test)]
+mod heads;
+#[cfg(test)]
 mod kinds;
 #[cfg(test)]
 mod largest;

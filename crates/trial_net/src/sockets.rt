@@ -5,11 +5,14 @@ use px_transport::Wire;
 use std::cell::Cell;
 use std::test::Fail;
 
-/// A datagram of one who asks: 255 stands where its sender's number does.
-const ASK: [u8; 11] = [0, 0, 0, 0, 0, 0, 0, 0, 0, 0, 255];
+/// The front of a datagram of one who asks: its sender is 255.
+const ASK: [u8; 13] = [0x50, 0x46, 0x58, 0x52, 1, 0, 0, 0, 7, 2, 255, 0, 8];
 
 /// The same with member 1 as its sender.
-const OF_ONE: [u8; 11] = [0, 0, 0, 0, 0, 0, 0, 0, 0, 0, 1];
+const OF_ONE: [u8; 13] = [0x50, 0x46, 0x58, 0x52, 1, 0, 0, 0, 7, 2, 1, 0, 8];
+
+/// Bytes that are no datagram, with 255 where one has its sender.
+const NO_DATAGRAM: [u8; 13] = [0, 0, 0, 0, 0, 0, 0, 0, 0, 0, 255, 0, 8];
 
 /// Whether the room begins with the bytes, if any came, and is as it was behind them: 7 everywhere.
 fn holds(room: &[u8], came: Option<usize>, wanted: &[u8]) -> bool {
@@ -272,11 +275,13 @@ fn has_empty<W: Wire>(wire: &mut W) -> bool {
     wire.poll(&mut room) == Some(0)
 }
 
-/// Whether two datagrams of a stranger are given as empty ones.
+/// Whether three datagrams of a stranger are given as empty ones.
 fn drops<W: Wire>(one: &mut W, stranger: &mut W) -> bool {
-    let is_first = stranger.send(0, &OF_ONE) && hears_empty(one) && stranger.send(0, b"short");
+    let is_first = stranger.send(0, &OF_ONE) && hears_empty(one);
+    let is_next = stranger.send(0, &NO_DATAGRAM) && hears_empty(one);
+    let is_last = stranger.send(0, b"short");
     one.wait(1000);
-    is_first && has_empty(one)
+    is_first && is_next && is_last && has_empty(one)
 }
 
 /// Whether a stranger's ask comes, and what a member sends.
@@ -292,8 +297,8 @@ fn a_stranger_is_dropped_unless_it_asks(rt: HostRuntime) -> Result<(), Fail> {
     let mut one = UdpWire::bind(&rt, rt.alloc(), &members, 0, 1000)?;
     let mut other = UdpWire::bind(&rt, rt.alloc(), &members, 1, 10)?;
     let mut stranger = UdpWire::bind(&rt, rt.alloc(), &elsewhere, 1, 10)?;
-    assert!(rt; drops(&mut one, &mut stranger) && one.strangers() == 2);
-    assert!(rt; takes(&mut one, &mut other, &mut stranger) && one.strangers() == 2);
+    assert!(rt; drops(&mut one, &mut stranger) && one.strangers() == 3);
+    assert!(rt; takes(&mut one, &mut other, &mut stranger) && one.strangers() == 3);
     Ok(())
 }
 

@@ -1,5 +1,5 @@
 //! Tests of the words `check` and `test` that are no rows of pfx: texts at limits, reads and writes that fail,
-//! and what the place and the profile decide, of texts and of loads as entries.
+//! what the place and the profile decide, of texts and of loads as entries; and a node's files of settings.
 #![tactic(auto)]
 
 #[cfg(test)]
@@ -12,3 +12,5 @@ mod large;
 mod profiles;
 #[cfg(test)]
 mod runs;
+#[cfg(test)]
+mod settings;

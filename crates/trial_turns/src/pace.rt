@@ -1,6 +1,6 @@
 //! When a node's clock ticks.
 
-use pf_turn::{Beat, Pace, View};
+use pf_turn::{Beat, Pace, Timer, View};
 
 /// A node with nothing to do.
 const IDLE: View = View {

@@ -1,5 +1,5 @@
 -- What only code and proofs use beside `Trees`.
-use Rattle.std.specs.Prelude.{◌≡◌, ℕ, ◌+◌, ◌-◌, Bool, List, [], ◌∷◌, ◌++◌}
+use Rattle.std.specs.Prelude.{◌≡◌, ℕ, ◌-◌, Bool, List, [], ◌∷◌, ◌++◌}
 use Rattle.std.specs.Prelude.{filter, Option, Some, None, not, nat_lt, ◌&&◌, fold}
 use Rattle.std.specs.Prelude.{if◌then◌else◌, ◌||◌}
 use Rattle.std.specs.List.{list_any, starts_with}

@@ -1,45 +1,44 @@
 -- What is told of how a node stands, from what came over its wire.
-use Rattle.std.specs.Prelude.{ℕ, ◌+◌, ◌-◌, ◌/◌, ◌==◌, ◌&&◌, Bool, true, false, Option, Some, None, min, nat_le, nat_lt}
+use Rattle.std.specs.Prelude.{ℕ, ◌-◌, ◌/◌, ◌==◌, ◌&&◌, Bool, true, false, List, [], ◌∷◌, Option, Some, None}
+use Rattle.std.specs.Prelude.{nat_le, nat_lt}
 use Rattle.std.specs.Prelude.{if◌then◌else◌}
-use Rattle.px_wire.specs.Message.{Message, prepare, promise, accept, vote, nack, need, learned, ask, asked}
-use Rattle.px_wire.specs.Message.{ask_refused, prepare_all, promise_all}
+use Rattle.px_wire.specs.declared.head.Head.{Head}
+use Rattle.px_wire.specs.declared.kind.Kind.{Kind}
+use Rattle.px_wire.specs.declared.kind.Kind.TheVariants as kinds
 use Rattle.pf_door.specs.declared.tallying.TheConstants.{PROPOSED}
 
--- a position below which some member has learned all, as a message shows, in 32 bits: who proposes at a position, or
--- lacks it, has learned all below, and what is voted for is proposed
-abbrev pub shown_in : Message → ℕ
-shown_in (prepare ballot p) = p
-shown_in (prepare_all ballot p) = p
-shown_in (accept ballot p entry) = p
-shown_in (vote ballot p entry) = p
-shown_in (need p) = p
-shown_in (learned p entry) = min (p + 1) 4294967295
-shown_in (promise ballot p accepted) = 0
-shown_in (promise_all ballot p top accepted) = 0
-shown_in (nack ballot p promised) = 0
-shown_in (ask entry) = 0
-shown_in (asked token number) = 0
-shown_in (ask_refused token code) = 0
+-- the position at which the sender of a message of this kind, which is about this position, proposes a command
+abbrev pub proposal_by : Kind → (position : Option ℕ) → Option ℕ
+proposal_by kinds.Prepare p = p
+proposal_by kinds.PrepareAll p = p
+proposal_by kinds.Accept p = p
+proposal_by kinds.Vote p = None
+proposal_by kinds.Need p = None
+proposal_by kinds.Learned p = None
+proposal_by kinds.Promise p = None
+proposal_by kinds.PromiseAll p = None
+proposal_by kinds.Nack p = None
+proposal_by kinds.Ask p = None
+proposal_by kinds.Asked p = None
+proposal_by kinds.AskRefused p = None
 
--- the position at which its sender proposes a command
-abbrev pub proposal_in : Message → Option ℕ
-proposal_in (prepare ballot p) = Some p
-proposal_in (prepare_all ballot p) = Some p
-proposal_in (accept ballot p entry) = Some p
-proposal_in (vote ballot p entry) = None
-proposal_in (need p) = None
-proposal_in (learned p entry) = None
-proposal_in (promise ballot p accepted) = None
-proposal_in (promise_all ballot p top accepted) = None
-proposal_in (nack ballot p promised) = None
-proposal_in (ask entry) = None
-proposal_in (asked token number) = None
-proposal_in (ask_refused token code) = None
+-- the same by a head
+abbrev pub proposal_in : Head → Option ℕ
+proposal_in h = proposal_by h.kind h.position
 
 -- a proposal is kept where it isn't below the front; an older one stands else
 abbrev pub proposed_then : (front now : ℕ) → Option ℕ → (was : Option (ℕ × ℕ)) → Option (ℕ × ℕ)
 proposed_then front now None was = was
 proposed_then front now (Some p) was = if nat_le front p then Some (p, now) else was
+
+-- the same with a message of this head, which counts where another member sent it
+abbrev pub proposed_by : (front now : ℕ) → Head → (was : Option (ℕ × ℕ)) → Option (ℕ × ℕ)
+proposed_by front now h was = if h.from == h.to then was else proposed_then front now (proposal_in h) was
+
+-- the same with these, one after the other
+abbrev pub proposed_after : (front now : ℕ) → List Head → (was : Option (ℕ × ℕ)) → Option (ℕ × ℕ)
+proposed_after front now [] was = was
+proposed_after front now (h ∷ hs) was = proposed_after front now hs (proposed_by front now h was)
 
 -- another member proposes a command at the front or beyond it
 abbrev pub is_proposed : (front now : ℕ) → Option (ℕ × ℕ) → Bool

@@ -47,6 +47,11 @@ abbrev pub first_of : Outcome → Outcome → Outcome
 first_of Sound other = other
 first_of one other = one
 
+-- What a start would be refused for, of what is refused of its numbers, its keys, its store and its addresses: the
+-- first, in the order in which a start asks.
+abbrev pub checked : (place keys store addresses : Outcome) → Outcome
+checked place keys store addresses = first_of place (first_of keys (first_of store addresses))
+
 -- what a member's run is shown as, where its wire may be missing
 abbrev pub ended_outcome : (without : Outcome) → Ended → Outcome
 ended_outcome without (ended.Front front applied) = Front front applied

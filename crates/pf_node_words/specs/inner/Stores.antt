@@ -1,22 +1,39 @@
 -- Whether a node's store is opened or made.
-use Rattle.std.specs.Prelude.{◌≡◌, if◌then◌else◌, Bool, true, false}
+use Rattle.std.specs.Prelude.{◌≡◌, ◌≢◌, ◌⊎◌, ℕ, Bool, true, false}
 use Rattle.pf_node_words.specs.declared.outcome.Outcome.{Outcome}
 use Rattle.pf_node_words.specs.declared.outcome.Outcome.TheVariants.{Refused}
 use Rattle.pf_node_words.specs.declared.store.Found.{Found}
 use Rattle.pf_node_words.specs.declared.store.Found.TheVariants as found
 use Rattle.pf_node_words.specs.declared.store.Opening.{Opening}
 use Rattle.pf_node_words.specs.declared.store.Opening.TheVariants.{Opens, Makes, Refuses}
+use Rattle.pf_node_words.specs.declared.store.TheConstants.{NO_STORE, FILE_IS_THERE}
 
--- What becomes of what stands there. With settings of a file a store is made where --new is given, and only there; then
--- nothing may be there before. An empty file is no store.
-abbrev pub opening_of : (is_from_file is_new : Bool) → Found → Opening
-opening_of file new found.Nothing = if new then Makes else (if file then Refuses 93 else Makes)
-opening_of file new found.Empty = if new then Opens else (if file then Refuses 93 else Opens)
-opening_of file new found.Store = if new then Refuses 94 else Opens
-opening_of file new found.Other = Refuses 70
+-- no store is there: nothing, or a file without a byte
+abbrev pub IsNone : Found → Type 0
+IsNone f = (f ≡ found.Nothing) ⊎ (f ≡ found.Empty)
+
+-- Why what is there is refused: a store is lost where settings come from a file and none is to be made; there is one
+-- where one is to be made; or it is no file.
+abbrev pub IsRefused : (is_from_file is_new : Bool) → Found → (code : ℕ) → Type 0
+IsRefused file new f code =
+    ((code ≡ NO_STORE) × (file ≡ true) × (new ≡ false) × IsNone f)
+    ⊎ (((code ≡ FILE_IS_THERE) × (new ≡ true) × (f ≡ found.Store)) ⊎ ((code ≡ 70) × (f ≡ found.Other)))
+
+-- What becomes of what is there.
+pub record IsOpening (is_from_file is_new : Bool) (f : Found) (o : Opening) : Type 0 where
+  -- a start by a file of settings never makes a store, and of no empty file either
+  pub kept : is_from_file ≡ true → is_new ≡ false → o ≢ Makes
+  pub blank : is_from_file ≡ true → is_new ≡ false → o ≡ Opens → f ≡ found.Store
+  -- a store is made where nothing is, whatever is asked, and opened where a file is
+  pub made : o ≡ Makes → f ≡ found.Nothing
+  pub opened : o ≡ Opens → (f ≡ found.Store) ⊎ (f ≡ found.Empty)
+  -- with --new one that is there is kept as it is
+  pub held : is_new ≡ true → f ≡ found.Store → o ≡ Refuses FILE_IS_THERE
+  pub lost : is_from_file ≡ true → is_new ≡ false → IsNone f → o ≡ Refuses NO_STORE
+  pub refused : (code : ℕ) → o ≡ Refuses code → IsRefused is_from_file is_new f code
 
 -- What keeps a node from its store: 93 only where settings come from a file and none is to be made, 94 only where one
 -- is.
 pub record IsStoreless (is_from_file is_new : Bool) (outcome : Outcome) : Type 0 where
-  pub missing : outcome ≡ Refused 93 → (is_from_file ≡ true) × (is_new ≡ false)
-  pub there : outcome ≡ Refused 94 → is_new ≡ true
+  pub missing : outcome ≡ Refused NO_STORE → (is_from_file ≡ true) × (is_new ≡ false)
+  pub there : outcome ≡ Refused FILE_IS_THERE → is_new ≡ true

@@ -7,7 +7,6 @@ use mathlib.Core.HLevel.{Π_prop}
 use Rattle.sqlite.specs.Tree.{Trees}
 use Rattle.sqlite_value.specs.contracts.value.Value as value
 use Rattle.sqlite_schema.specs.contracts.schema.Schema.{the_row}
-use Rattle.sqlite.specs.Schema.{Schema}
 use Rattle.sqlite.specs.State.{State, HasCleanDisk}
 use Rattle.px_model.specs.Fits.{MetaFits}
 use Rattle.px_model.specs.Seen.{meta_of}
@@ -24,21 +23,20 @@ IsMeta id m db =
     (seen meta_columns (db 0) 1 ≡ meta_row 3 id.cluster id.members id.node m.round m.number ∷ [])
     × (seen floor_columns (db 2) 1 ≡ floor_rows m.floor)
 
--- while no call has failed, and if the tables that were found are the four, the connection is open, outside a
--- transaction, has the tables, and the numbers are those of its rows
-abbrev pub IsReady : ℕ → Schema → Identity → Meta → State → Type 0
-IsReady failures opened id m s =
-    failures ≡ 0 → HasCleanDisk s → opened ≡ schema_3 → (s.now.schema ≡ schema_3) ×
+-- while no call has failed and the disk returned what was written the connection is open, outside a transaction, has
+-- the four tables, and the numbers are those of its rows
+abbrev pub IsReady : ℕ → Identity → Meta → State → Type 0
+IsReady failures id m s =
+    failures ≡ 0 → HasCleanDisk s → (s.now.schema ≡ schema_3) ×
     ((s.in_transaction ≡ false) ×
     ((s.is_open ≡ true) × IsMeta id m s.committed.trees))
 
-pub IsReady-prop : (failures : ℕ) (opened : Schema) (id : Identity) (m : Meta) (s : State) →
-    IsProp (IsReady failures opened id m s)
-IsReady-prop failures opened id m s =
-    Π_prop (λ _. Π_prop (λ _. Π_prop (λ _. ×_prop (Coded-set the_row.coded _ _) (×_prop (Bool-set _ _) (×_prop
+pub IsReady-prop : (failures : ℕ) (id : Identity) (m : Meta) (s : State) → IsProp (IsReady failures id m s)
+IsReady-prop failures id m s =
+    Π_prop (λ _. Π_prop (λ _. ×_prop (Coded-set the_row.coded _ _) (×_prop (Bool-set _ _) (×_prop
     (Bool-set _ _)
     (×_prop (Coded-set (coded_list (coded_list value.the_row.coded)) _ _) (Coded-set (coded_list
-    (coded_list value.the_row.coded)) _ _)))))))
+    (coded_list value.the_row.coded)) _ _))))))
 
 -- the numbers that are kept beside the connection fit
 abbrev pub AreBounded : Identity → Meta → Type 0

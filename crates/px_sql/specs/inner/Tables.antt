@@ -1,8 +1,9 @@
 -- What only code and proofs use beside `Tables`.
-use Rattle.std.specs.Prelude.{[], ◌∷◌, codes, List, ℕ, pos}
+use Rattle.std.specs.Prelude.{◌≡◌, [], ◌∷◌, codes, List, ℕ, pos}
 use Rattle.sqlite.specs.declared.types.Value.TheVariants.{Int, Blob as Bytes}
 use Rattle.sqlite_value.specs.Order.{Row}
 use Rattle.sqlite.specs.Schema.{Schema}
+use Rattle.sqlite.specs.Table.{Table}
 use Rattle.px_sql.specs.Tables.{meta, with_tables}
 
 -- ---- the tables
@@ -10,6 +11,10 @@ use Rattle.px_sql.specs.Tables.{meta, with_tables}
 -- the schema of a store that is being made
 abbrev pub meta_schema : Schema
 meta_schema = with_tables (meta ∷ [])
+
+-- no column is computed, or has a default that reads the time
+abbrev pub IsPlain : Table → Type 0
+IsPlain t = (t.computed ≡ []) × (t.stamps ≡ record { places = []; terms = []; formats = [] })
 
 -- ---- the texts
 

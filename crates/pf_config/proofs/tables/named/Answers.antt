@@ -1,24 +1,20 @@
-use Rattle.std.proofs.Common.{◌∙◌, ◌-◌, ◌/◌, length, take, drop, sym, rules}
-use Rattle.pf_config.proofs.Ordered.{halves, cons_is}
+use Rattle.std.proofs.Common.{◌≡◌, ◌∙◌, Some, ap, rules, sym, subst}
+use Rattle.pf_ruleset.specs.Names.{Name}
+use Rattle.pf_table.specs.Tables.{TableValue}
+use Rattle.pf_config.specs.inner.TableChanges.{StandsAt, BelongsAt}
+use Rattle.pf_config.proofs.TableEdits.{found, missing}
 use Rattle.pf_config.proofs.tables.named.Goals as goal
 
-pub returns-in-Equal : goal.returns-in-Equal
-returns-in-Equal c =
-    let back = c.split_at.result.1.now in
-    let cut = sym c.split_at.ensures.back ∙ sym (cons_is back c.middle-item.result c.in-len1-up.len_at_least c.middle-item.is) in
-    let half = halves c.args.name.now (length c.loop-left.left.now / 2) c.loop-left.left.now c.middle-item.result (take (length back - 1) (drop 1 back)) c.loop-left.invariant.ordered cut in
-    sym (half.here (search rules)) ∙ c.loop-left.invariant.found
+pub returns-in-Ok : goal.returns-in-Ok
+returns-in-Ok c =
+    let name : c.as_bytes.result.now ≡ c.args.name.now = search rules in
+    let own = subst (λ (n : Name). StandsAt c.args.tables.now n c.in-Ok.at) name c.in-Ok.ensures in
+    let t = c.index-tables-at.result in
+    ap (λ (x : Name × TableValue). Some x.1) (sym c.index-tables-at.is) ∙
+    sym (found c.args.tables.now c.args.name.now c.in-Ok.at t c.requires own.within c.index-tables-at.is (own.is t c.index-tables-at.is))
 
-pub loop-left-preserved-in-Less : goal.loop-left-preserved-in-Less
-loop-left-preserved-in-Less c =
-    let back = c.split_at.result.1.now in
-    let cut = sym c.split_at.ensures.back ∙ sym (cons_is back c.middle-item.result c.in-len1-up.len_at_least c.middle-item.is) in
-    let half = halves c.args.name.now (length c.loop-left.left.now / 2) c.loop-left.left.now c.middle-item.result (take (length back - 1) (drop 1 back)) c.loop-left.invariant.ordered cut in
-    record { found = sym (half.back (search rules)) ∙ c.loop-left.invariant.found; ordered = half.ordered_behind }
-
-pub loop-left-preserved : goal.loop-left-preserved
-loop-left-preserved c =
-    let back = c.split_at.result.1.now in
-    let cut = sym c.split_at.ensures.back ∙ sym (cons_is back c.middle-item.result c.in-len1-up.len_at_least c.middle-item.is) in
-    let half = halves c.args.name.now (length c.loop-left.left.now / 2) c.loop-left.left.now c.middle-item.result (take (length back - 1) (drop 1 back)) c.loop-left.invariant.ordered cut in
-    rw c.split_at.ensures.front (record { found = sym (half.first (search rules)) ∙ c.loop-left.invariant.found; ordered = half.ordered_first })
+pub returns-in-Err : goal.returns-in-Err
+returns-in-Err c =
+    let name : c.as_bytes.result.now ≡ c.args.name.now = search rules in
+    let own = subst (λ (n : Name). BelongsAt c.args.tables.now n c.in-Err.field-0) name c.in-Err.ensures in
+    sym (missing c.args.tables.now c.args.name.now c.in-Err.field-0 own)

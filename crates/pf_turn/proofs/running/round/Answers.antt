@@ -37,8 +37,9 @@ returns-clause-took g c =
 
 pub returns-clause-saw : goal.returns-clause-saw
 returns-clause-saw g c =
-    round_saw c.tick_if.result c.in-Ok.taken _ _ _ _ _ _ (record {
+    round_saw c.tick_if.result c.in-Ok.taken _ _ _ _ _ _ _ _ _ _ _ _ (record {
       replica = refl;
       given = c.defer_asks.ensures.given;
       handed = c.defer_asks.ensures.quiet;
-    }) c.in-Ok.ensures.saw (c.tick_if.ensures.unseen ∙ c.beat-beat.ensures.looked)
+    }) c.in-Ok.ensures.saw (c.tick_if.ensures.unseen ∙ c.beat-beat.ensures.looked) c.front-was.ensures.front c.view_of-view.ensures
+    c.beat-beat.ensures.told c.repeats.ensures.told

@@ -1,6 +1,7 @@
 -- the message that was decoded was sent
 use Rattle.std.proofs.Common.{inl, inr, refl, sym, subst}
 use Rattle.px_model.specs.Seen.{come_of}
+use Rattle.px_wire.specs.Fields.{WireFaultAt}
 use Rattle.px_wire.specs.Message.{group, DatagramBytes}
 use Rattle.px_wire.specs.declared.membership.Membership.{Membership}
 use Rattle.px_replica.specs.Replicas.{membership_of, state_in}
@@ -50,6 +51,8 @@ returns-in-Err g c = record {
     unspelled = λ from x spells. c.in-Err.ensures.only from x
         (subst (λ (z : Membership). DatagramBytes (group z) from z.me x c.args.bytes.now) (sym c.group.ensures.group) spells);
     fault = c.in-Err.fault;
+    told = subst (λ (z : Membership). WireFaultAt z c.args.bytes.now c.in-Err.fault.code c.in-Err.fault.offset) c.group.ensures.group
+        c.in-Err.ensures.fault;
     answered = refl;
     still = refl;
     silent = refl;

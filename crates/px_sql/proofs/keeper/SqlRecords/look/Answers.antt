@@ -9,39 +9,39 @@ use Rattle.px_sql.proofs.keeper.SqlRecords.look.Goals as goal
 pub returns-in-Ok-clause-rows : goal.returns-in-Ok-clause-rows
 returns-in-Ok-clause-rows g c = λ honest.
     let none : c.args.self.now.failures ≡ 0 = search rules in
-    let r = c.args.self.now.ready none (c.in-Ok.ensures.clean honest.0) honest.1 in
-    let l = c.in-Ok.ensures.looked honest.0 Three (record { schema = r.0; auto = r.1.0 }) (three_has c.args.question) in
+    let r = c.args.self.now.ready none (c.in-Ok.ensures.clean honest) in
+    let l = c.in-Ok.ensures.looked honest Three (record { schema = r.0; auto = r.1.0 }) (three_has c.args.question) in
     subst (λ (d : Database). Answers c.args.question d.trees c.in-Ok.rows.items) (l.ok.1.begun ∙ sym l.ok.1.committed) l.ok.0
 
 pub returns-in-Ok-clause-reads : goal.returns-in-Ok-clause-reads
 returns-in-Ok-clause-reads g c =
     let none : c.args.self.now.failures ≡ 0 = search rules in
-    only_read c.args.self.now.opened c.args.self.now.identity.members c.args.self.now.failures c.args.self.now.failures (state g.S.Store c.args.self.now.conn) (state g.S.Store c.get.new.conn) c.in-Ok.ensures.clean (λ clean same.
-    let r = c.args.self.now.ready none (c.in-Ok.ensures.clean clean) same in
+    only_read c.args.self.now.identity.members c.args.self.now.failures c.args.self.now.failures (state g.S.Store c.args.self.now.conn) (state g.S.Store c.get.new.conn) c.in-Ok.ensures.clean (λ clean.
+    let r = c.args.self.now.ready none (c.in-Ok.ensures.clean clean) in
     let l = c.in-Ok.ensures.looked clean Three (record { schema = r.0; auto = r.1.0 }) (three_has c.args.question) in
     (λ _. l.ok.1, l.stop))
 
 pub returns-in-Err-Memory-clause-reads : goal.returns-in-Err-Memory-clause-reads
 returns-in-Err-Memory-clause-reads g c =
     let none : c.args.self.now.failures ≡ 0 = search rules in
-    only_read c.args.self.now.opened c.args.self.now.identity.members c.args.self.now.failures c.args.self.now.failures (state g.S.Store c.args.self.now.conn) (state g.S.Store c.get.new.conn) c.in-Err-Memory.ensures.clean (λ clean same.
-    let r = c.args.self.now.ready none (c.in-Err-Memory.ensures.clean clean) same in
+    only_read c.args.self.now.identity.members c.args.self.now.failures c.args.self.now.failures (state g.S.Store c.args.self.now.conn) (state g.S.Store c.get.new.conn) c.in-Err-Memory.ensures.clean (λ clean.
+    let r = c.args.self.now.ready none (c.in-Err-Memory.ensures.clean clean) in
     let l = c.in-Err-Memory.ensures.looked clean Three (record { schema = r.0; auto = r.1.0 }) (three_has c.args.question) in
     (λ _. l.memory (let e = c.in-Err-Memory.field-0-is in cc), l.stop))
 
 pub returns-in-Err-Failed-clause-reads : goal.returns-in-Err-Failed-clause-reads
 returns-in-Err-Failed-clause-reads g c =
     let none : c.args.self.now.failures ≡ 0 = search rules in
-    only_read c.args.self.now.opened c.args.self.now.identity.members c.args.self.now.failures 1 (state g.S.Store c.args.self.now.conn) (state g.S.Store c.get.new.conn) c.in-Err-Failed.ensures.clean (λ clean same.
-    let r = c.args.self.now.ready none (c.in-Err-Failed.ensures.clean clean) same in
+    only_read c.args.self.now.identity.members c.args.self.now.failures 1 (state g.S.Store c.args.self.now.conn) (state g.S.Store c.get.new.conn) c.in-Err-Failed.ensures.clean (λ clean.
+    let r = c.args.self.now.ready none (c.in-Err-Failed.ensures.clean clean) in
     let l = c.in-Err-Failed.ensures.looked clean Three (record { schema = r.0; auto = r.1.0 }) (three_has c.args.question) in
     (λ one. absurd cc, l.stop))
 
 pub invariant_of-self : goal.invariant_of-self
 invariant_of-self g c = record {
   bounds = c.args.self.now.bounds;
-  ready = λ none clean same.
-      let r = c.args.self.now.ready none (c.in-Ok.ensures.clean clean) same in
+  ready = λ none clean.
+      let r = c.args.self.now.ready none (c.in-Ok.ensures.clean clean) in
       let l = c.in-Ok.ensures.looked clean Three (record { schema = r.0; auto = r.1.0 }) (three_has c.args.question) in
       read_ready c.args.self.now.identity c.args.self.now.meta (state g.S.Store c.args.self.now.conn) (state g.S.Store c.get.new.conn) r.0 r.1.1.1 l.ok.1;
 }
@@ -49,8 +49,8 @@ invariant_of-self g c = record {
 pub invariant_of-self-in-Err-Memory : goal.invariant_of-self-in-Err-Memory
 invariant_of-self-in-Err-Memory g c = record {
   bounds = c.args.self.now.bounds;
-  ready = λ none clean same.
-      let r = c.args.self.now.ready none (c.in-Err-Memory.ensures.clean clean) same in
+  ready = λ none clean.
+      let r = c.args.self.now.ready none (c.in-Err-Memory.ensures.clean clean) in
       let l = c.in-Err-Memory.ensures.looked clean Three (record { schema = r.0; auto = r.1.0 }) (three_has c.args.question) in
       read_ready c.args.self.now.identity c.args.self.now.meta (state g.S.Store c.args.self.now.conn) (state g.S.Store c.get.new.conn) r.0 r.1.1.1 (l.memory (let e = c.in-Err-Memory.field-0-is in cc));
 }

@@ -13,7 +13,7 @@ use Rattle.px_sql.proofs.keeper.SqlRecords.make.Goals as goal
 pub returns-in-Round-clause-changed : goal.returns-in-Round-clause-changed
 returns-in-Round-clause-changed g c = λ honest.
     let was = c.keep_meta.ensures.was honest in
-    let r = c.args.self.now.ready c.requires.none was.0 was.1 in
+    let r = c.args.self.now.ready c.requires.none was in
     let s = view_of g.S.Store c.args.self.now in
     let e = numbers_are c.args.self.now.identity c.args.self.now.meta (state g.S.Store c.args.self.now.conn).committed.trees r.1.1.1 in
     rw c.in-Round.is (subst (λ (d : Record Bytes). Changed d c.keep_meta.result s (view_of g.S.Store c.keep_meta.new.self)) (round_is s.kept c.in-Round.round c.args.self.now.meta.number (sym (ap (λ (m : Meta). m.number) e))) (c.keep_meta.ensures.changed honest))
@@ -21,7 +21,7 @@ returns-in-Round-clause-changed g c = λ honest.
 pub returns-in-Number-clause-changed : goal.returns-in-Number-clause-changed
 returns-in-Number-clause-changed g c = λ honest.
     let was = c.keep_meta-in-Number.ensures.was honest in
-    let r = c.args.self.now.ready c.requires.none was.0 was.1 in
+    let r = c.args.self.now.ready c.requires.none was in
     let s = view_of g.S.Store c.args.self.now in
     let e = numbers_are c.args.self.now.identity c.args.self.now.meta (state g.S.Store c.args.self.now.conn).committed.trees r.1.1.1 in
     rw c.in-Number.is (subst (λ (d : Record Bytes). Changed d c.keep_meta-in-Number.result s (view_of g.S.Store c.keep_meta-in-Number.new.self)) (number_is s.kept c.args.self.now.meta.round c.in-Number.number (sym (ap (λ (m : Meta). m.round) e))) (c.keep_meta-in-Number.ensures.changed honest))
