@@ -27,7 +27,7 @@ targets_at c p h = rules_found p c.anchors h
 
 -- ---- what rules come to, by what their targets come to
 
-rules_same : (tables : Tables) (f g : Target → List Hit) (k : PacketValue) (p : Path) (i : ℕ) (rules : List AnyRule) → list_all has_target rules ≡ true →
+pub rules_same : (tables : Tables) (f g : Target → List Hit) (k : PacketValue) (p : Path) (i : ℕ) (rules : List AnyRule) → list_all has_target rules ≡ true →
     ((t : Target) → 1 ≤ length t.names → f t ≡ g t) → hits_with tables f k p i rules ≡ hits_with tables g k p i rules
 rules_same tables f g k p i [] h same = refl
 rules_same tables f g k p i (FilterRule r ∷ rules) h same = ap (λ hs. rule_hits tables f k p i (FilterRule r) ++ hs) (rules_same tables f g k p (i + 1) rules h same)

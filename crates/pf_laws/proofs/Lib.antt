@@ -4,3 +4,6 @@ pub mod Braces
 pub mod Readings
 pub mod Again
 pub mod Logs
+pub mod Labels
+pub mod Backwards
+pub mod Alone

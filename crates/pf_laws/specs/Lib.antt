@@ -3,3 +3,5 @@ pub mod Walks
 pub mod Maps
 pub mod Lengths
 pub mod Logs
+pub mod Labels
+pub mod Alone

@@ -1,10 +1,14 @@
 //! Anchor rules nest no deeper than the definition of a verdict goes.
 
 ghost use Rattle.std.specs.Prelude.{◌≡◌, ◌≤◌, List, length, true};
+ghost use Rattle.std.specs.List.{list_all};
+ghost use Rattle.pf_ruleset.specs.Items.{AnyRule};
+ghost use Rattle.pf_ruleset.specs.Names.{Name};
 ghost use Rattle.pf_config.specs.Map.{Configuration, Path};
 ghost use Rattle.pf_eval.specs.Packets.{PacketValue};
-ghost use Rattle.pf_eval.specs.Verdicts.{Hit, hits, judgement};
-ghost use Rattle.pf_laws.specs.Targets.{have_targets};
+ghost use Rattle.pf_eval.specs.Verdicts.{Hit, flat_judgement, hits, judgement};
+ghost use Rattle.pf_laws.specs.Alone.{alone};
+ghost use Rattle.pf_laws.specs.Targets.{has_target, have_targets};
 ghost use Rattle.pf_laws.specs.Walks.{AreHits, judged_by};
 
 /// The hits of a verdict, which the definition follows through nine levels of anchors, are what the rules of each
@@ -21,4 +25,11 @@ pub fn one_walk()
         AreHits c k at → (p : Path) → length p ≤ 8 → at p ≡ hits 9 c k p }
     ensures judged { (c : Configuration) (k : PacketValue) (at : Path → List Hit) → have_targets c ≡ true →
         AreHits c k at → judgement c k ≡ judged_by c k at }
+{}
+
+/// What rules alone come to, without a configuration, is the verdict of the configuration that has them at main, and no
+/// table and no other anchor.
+pub fn flat_verdicts_are_verdicts()
+    ensures { (skip : List Name) (rules : List AnyRule) (k : PacketValue) → list_all has_target rules ≡ true →
+        flat_judgement skip rules k ≡ judgement (alone skip rules) k }
 {}
