@@ -1,12 +1,12 @@
 -- Rules of main alone come to the verdict of the configuration that has nothing else.
-use Rattle.std.proofs.Common.{◌≡◌, ℕ, ◌≤◌, Bool, true, false, List, [], ◌∷◌, length, refl, sym, ap, arith}
+use Rattle.std.proofs.Common.{◌≡◌, ◌≤◌, Bool, true, false, List, [], ◌∷◌, length, refl, sym, ap, arith}
 use Rattle.std.specs.Prelude.{nat_le, if◌then◌else◌}
 use Rattle.std.specs.List.{list_all}
 use Rattle.pf_ruleset.specs.Names.{Name}
-use Rattle.pf_ruleset.specs.Items.{AnyRule, Target}
-use Rattle.pf_config.specs.Map.{Configuration, tables_at, rules_at, kids}
+use Rattle.pf_ruleset.specs.Items.{AnyRule}
+use Rattle.pf_config.specs.Map.{tables_at, rules_at, kids}
 use Rattle.pf_eval.specs.Packets.{PacketValue}
-use Rattle.pf_eval.specs.Verdicts.{hits, hits_with, member_hits, not_too_deep, target_hits, tables_in, last_spot, judgement, flat_judgement, no_tables, no_hits, Decided, Skipped, is_skipped}
+use Rattle.pf_eval.specs.Verdicts.{hits, member_hits, not_too_deep, target_hits, last_spot, judgement, flat_judgement, no_tables, no_hits, Decided, Skipped, is_skipped}
 use Rattle.pf_laws.specs.Alone.{alone}
 use Rattle.pf_laws.specs.Targets.{has_target}
 use Rattle.pf_laws.proofs.Depths.{rules_same}

@@ -1,6 +1,6 @@
 -- Labels in nftables' text are told apart.
-use Rattle.std.proofs.Common.{◌≡◌, ℕ, zero, suc, ◌+◌, ◌<◌, ◌≤◌, ◌^◌, Bool, true, false, cond, List, [], ◌∷◌, ◌++◌, length, take, drop, refl, sym, ap, ap₂, ◌∙◌, arith, append_assoc}
-use Rattle.std.specs.Prelude.{◌≢◌, ◌&&◌, ◌||◌, decimal, codes, if◌then◌else◌}
+use Rattle.std.proofs.Common.{◌≡◌, ℕ, suc, ◌+◌, ◌<◌, ◌≤◌, ◌^◌, Bool, true, false, List, [], ◌∷◌, ◌++◌, length, drop, refl, sym, ap, ap₂, ◌∙◌, arith, append_assoc}
+use Rattle.std.specs.Prelude.{◌≢◌, ◌&&◌, ◌||◌, decimal, if◌then◌else◌}
 use Rattle.std.specs.List.{list_any, AllByRecursion}
 use Rattle.std.proofs.Math.ListN.{get_or}
 use Rattle.std.proofs.lemmas.Fmt.{digits_decimal, decimal_injective}
@@ -8,7 +8,7 @@ use Rattle.std.proofs.lemmas.List.{append_cancel_left}
 use Rattle.std.proofs.lemmas.Str.Parse.{IsDigitsTest, numerals_by_value}
 use Rattle.pf_ruleset.specs.declared.parts.Direction.{Direction}
 use Rattle.pf_ruleset.specs.declared.parts.Direction.TheVariants.{In, Out}
-use Rattle.pf_config.specs.Map.{Path, path_eq}
+use Rattle.pf_config.specs.Map.{path_eq}
 use Rattle.std.specs.Str.{bytes_eq}
 use Rattle.pf_config.proofs.Treed.{both_true, bytes_same, path_same}
 use Rattle.pf_nft.specs.Evaluation.{pass_eq, same_chain, same_set, is_chain, is_set}
