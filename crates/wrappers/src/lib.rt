@@ -1,8 +1,14 @@
-//! Public calls of crates that are dear to prove, each as a function with the very clause of the call that hands on to
-//! it. A mutant of such a call stands here as a wrong body of its wrapper: the wrapper proves only if the call promises
-//! the clause, and the clause must refuse the mutant, for the price of this crate.
+//! Public calls of crates that are dear to prove, each as a function with a clause of the call, which it hands on to. A
+//! mutant of such a call is one of its wrapper: the wrapper proves only if the call promises the clause, and the clause
+//! must refuse the mutant, for the price of this crate.
 #![tactic(auto)]
 
 mod adopting;
+mod configurations;
+mod members;
+mod rulesets;
 
 pub use adopting::adopt;
+pub use configurations::{apply, flush_rules, holds};
+pub use members::{commit, decode, read_top, receive, step};
+pub use rulesets::{parse, rules_of};
