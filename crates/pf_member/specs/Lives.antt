@@ -16,6 +16,7 @@ use Rattle.px_replica.specs.declared.fault.NodeFault.TheVariants as fault
 use Rattle.pf_node.specs.Nodes.{replica_of, records_of, learned_by, membership_of, has_failed, state_in, applied_of}
 use Rattle.pf_node.specs.declared.state.Node.{Node}
 use Rattle.pf_turn.specs.Turns.{Stand, Served}
+use Rattle.pf_turn.specs.Hosting.{Hosted}
 use Rattle.pf_turn.specs.Living.{messages_of, Brings, AreBrought, sent_by, LeavesThere}
 use Rattle.pf_member.specs.declared.ended.Ended.{Ended}
 use Rattle.pf_member.specs.declared.ended.Ended.TheVariants.{Front, Fault, NoWire}
@@ -96,6 +97,12 @@ RunsAreLived {R} G =
     (m : Membership) (given back : R) (w v : Told) (ended : Ended) → G.is_honest back →
     Life G (λ s t. Serves s t w v ended) m given back →
     LivedOver G m given back w v × (ended ≢ Fault fault.Store → G.failed back ≡ 0)
+
+-- the same of runs with commands asked between turns, as at a control socket
+abbrev pub HostedRunsAreLived : {R : Type 0} → Ghosts R → Type 0
+HostedRunsAreLived {R} G =
+    (m : Membership) (given back : R) (w v : Told) (answered : Option NodeFault) → G.is_honest back →
+    Life G (λ s t. Hosted (stands s w) (stands t v) answered) m given back → LivedOver G m given back w v
 
 -- ---- one life of several runs
 
