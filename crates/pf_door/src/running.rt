@@ -1,4 +1,4 @@
-//! The loop of a node, with its door open or without one.
+//! The loop of a node, with a control socket or without one.
 
 ghost use Rattle.std.specs.Prelude.{◌≡◌, None};
 ghost use Rattle.px_replica.specs.Faults.{fault_of};
@@ -9,14 +9,12 @@ ghost use Rattle.pf_door.specs.Wiring.{below_of};
 use crate::clerk::Clerk;
 use crate::door::Door;
 use crate::tallying::TallyWire;
-use pf_desk::{Desk, Tally};
 use pf_turn::{NodeFault, Pace, Room, Timer, Wire, finish, microseconds, round};
 use px_records::Records;
-use std::alloc::Global;
 use std::io::Eprint;
 use std::time::{Clock, Instant};
 
-/// What is asked at the door, if there is one: whether anything was.
+/// Answers what is asked at the control socket, if there is one: whether anything was.
 fn serve<R: Records, RT: Clock + Eprint>(
     rt: &RT,
     clerk: &mut Clerk<R>,
@@ -36,7 +34,7 @@ fn serve<R: Records, RT: Clock + Eprint>(
     }
 }
 
-/// Waits until something has come, over the wire or at the door, or so many milliseconds have passed.
+/// Waits until something comes, over the wire or at the control socket, the given number of milliseconds at most.
 fn wait<W: Wire>(wire: &mut TallyWire<W>, door: &mut Option<Door>, milliseconds: u32)
     ensures given { W.given (below_of wire.new) ≡ W.given (below_of wire.old) }
     ensures quiet { W.handed (below_of wire.new) ≡ W.handed (below_of wire.old) }
@@ -48,7 +46,7 @@ fn wait<W: Wire>(wire: &mut TallyWire<W>, door: &mut Option<Door>, milliseconds:
     }
 }
 
-/// One round of the node, what is asked at the door, and a wait where nothing was. Answers for how many turns it counts.
+/// One round of the node, what is asked of it, and a wait where nothing was. Returns for how many turns it counts.
 fn pass<R: Records, W: Wire, T: Timer, RT: Clock + Eprint>(
     rt: &RT,
     clerk: &mut Clerk<R>,
@@ -85,7 +83,7 @@ fn is_ending<R: Records>(clerk: &Clerk<R>, door: &Option<Door>) -> bool {
     }
 }
 
-/// Round after round, until so many turns are over, or an operator asked for the end and has the answer.
+/// Round after round, until the given number of turns is over, or an operator asked for the end and has the answer.
 fn passes<R: Records, W: Wire, T: Timer, RT: Clock + Eprint>(
     rt: &RT,
     clerk: &mut Clerk<R>,
@@ -114,8 +112,8 @@ fn passes<R: Records, W: Wire, T: Timer, RT: Clock + Eprint>(
     Ok(())
 }
 
-/// All rounds, and the work that waits in the end.
-fn pass_on<R: Records, W: Wire, RT: Clock + Eprint>(
+/// All rounds, and then what waits to be proposed ([`finish`]).
+pub(crate) fn pass_on<R: Records, W: Wire, RT: Clock + Eprint>(
     rt: &RT,
     clerk: &mut Clerk<R>,
     wire: &mut TallyWire<W>,
@@ -134,50 +132,4 @@ fn pass_on<R: Records, W: Wire, RT: Clock + Eprint>(
         Ok(()) => finish(&mut clerk.desk.node, wire, room, &mut pace, rt, start),
         Err(fault) => Err(fault),
     }
-}
-
-/// A node runs: it takes what comes as it comes, and its clock ticks when its pace says so ([`pf_turn::round`]); and
-/// between two rounds its desk answers at most one request at each door, if there are doors. It ends after so many
-/// turns, where each datagram counts for one, and each tick and each wait, of a tenth of a second at most; or once an
-/// operator asked for that and has the answer. Then what waits to be proposed is worked off ([`pf_turn::finish`]). The
-/// desk and the door are given back.
-///
-/// What is counted goes on from the tally. With a door each change of the node's health is a line on standard error. The
-/// faults are those of the node's calls; one ends it.
-pub fn run_open<R: Records, W: Wire, RT: Clock + Eprint>(
-    rt: &RT,
-    alloc: Global,
-    desk: Desk<R>,
-    tally: Tally,
-    wire: &mut TallyWire<W>,
-    room: &mut Room,
-    door: Option<Door>,
-    turns: u64,
-) -> (Result<(), NodeFault>, Desk<R>, Option<Door>)
-    ensures hosted { Hosted (standing W.Wire desk.node (below_of wire.old))
-        (standing W.Wire result.1.node (below_of wire.new)) (fault_of result.0) }
-    ensures turns { door ≡ None → Served (standing W.Wire desk.node (below_of wire.old))
-        (standing W.Wire result.1.node (below_of wire.new)) (fault_of result.0) }
-{
-    let mut door = door;
-    let mut clerk = Clerk {
-        desk,
-        tally,
-        is_listening: true,
-        is_scraped: false,
-        is_spare: false,
-        answered: 0,
-        alloc,
-    };
-    let ended = pass_on(rt, &mut clerk, wire, room, &mut door, turns);
-    let Clerk {
-        desk,
-        tally: _,
-        is_listening: _,
-        is_scraped: _,
-        is_spare: _,
-        answered: _,
-        alloc: _,
-    } = clerk;
-    (ended, desk, door)
 }
