@@ -64,6 +64,21 @@ where
     }
 }
 
+/// The control socket is closed, if there is one.
+fn close_at<RT: Files>(rt: &RT, door: Option<Door>, place: Option<DoorPlace<'_>>) {
+    if let (Some(door), Some(place)) = (door, place) {
+        door.close(rt, place.path);
+    }
+}
+
+/// Where the members listen, as clients are told.
+fn members_at<'a>(place: Option<DoorPlace<'a>>) -> &'a str {
+    match place {
+        Some(place) => place.members,
+        None => "",
+    }
+}
+
 /// How a node's turns ended.
 fn ended_of<R: Records>(ended: Result<(), NodeFault>, node: &Node<R>) -> Ended
     ensures { Tells (front (learned_by node.now)) (applied_of node.now) (fault_of ended) result }
@@ -124,14 +139,8 @@ where
         Ok(door) => door,
         Err(ended) => return (ended, node),
     };
-    let members = match place {
-        Some(place) => place.members,
-        None => "",
-    };
-    let (ended, node) = run_node(rt, alloc, node, wire, members, &mut door, turns);
-    if let (Some(door), Some(place)) = (door, place) {
-        door.close(rt, place.path);
-    }
+    let (ended, node) = run_node(rt, alloc, node, wire, members_at(place), &mut door, turns);
+    close_at(rt, door, place);
     (ended, node)
 }
 

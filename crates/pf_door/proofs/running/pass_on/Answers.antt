@@ -8,3 +8,6 @@ returns-in-Ok-clause-hosted g c = hosted_then _ _ _ _ c.in-Ok.ensures.hosted (ho
 
 pub returns-in-Ok-clause-turns : goal.returns-in-Ok-clause-turns
 returns-in-Ok-clause-turns g c none = served_then _ _ _ _ (c.in-Ok.ensures.turns none).0 c.finish.ensures.served
+
+pub returns-in-Err-clause-turns : goal.returns-in-Err-clause-turns
+returns-in-Err-clause-turns g c none = (c.in-Err.ensures.turns none).0
