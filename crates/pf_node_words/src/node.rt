@@ -283,7 +283,10 @@ fn run_node<R: Records>(
 {
     let wire = bind(rt, alloc, words);
     match keys {
-        Some(keys) => run_over(rt, alloc, words, m, records, sealed(alloc, wire, keys), None),
+        Some(keys) => {
+            let wire = sealed(alloc, wire, keys);
+            run_over(rt, alloc, words, m, records, wire, None)
+        }
         None => run_over(rt, alloc, words, m, records, wire, None),
     }
 }
@@ -353,8 +356,14 @@ fn run_at_door<R: Records>(
         fd: wire.raw_fd(),
     });
     match keys {
-        Some(keys) => run_over(rt, alloc, words, m, records, sealed(alloc, Ok(wire), keys), place),
-        None => run_over(rt, alloc, words, m, records, Ok(MembersWire::new(wire)), place),
+        Some(keys) => {
+            let wire = sealed(alloc, Ok(wire), keys);
+            run_over(rt, alloc, words, m, records, wire, place)
+        }
+        None => {
+            let wire = Ok(MembersWire::new(wire));
+            run_over(rt, alloc, words, m, records, wire, place)
+        }
     }
 }
 

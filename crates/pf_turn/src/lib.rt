@@ -20,11 +20,11 @@ mod sight;
 mod timer;
 mod turning;
 
+pub use pace::{Pace, microseconds};
 pub use pf_node::Node;
 pub use px_replica::{Datagram, NodeFault};
 pub use px_transport::{FaultyWire, MemoryWire, Wire};
 pub use room::Room;
-pub use pace::{Pace, microseconds};
 pub use running::{Progress, finish, own_number, round};
 pub use serving::tick_now;
 pub use timer::{Beat, Timer, View};
