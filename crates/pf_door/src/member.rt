@@ -41,7 +41,7 @@ pub struct DoorPlace<'a> {
 fn open_at<RT>(rt: &RT, alloc: Global, place: Option<DoorPlace<'_>>) -> Result<Option<Door>, Ended>
 where
     RT: Files + Net<Listener = TcpListener, Stream = TcpStream> + RandomSource,
-    ensures none { place ≡ None → result ≡ Ok None }
+    ensures none { place.entry ≡ None → result ≡ Ok None }
     ensures fault { IfErr result (λ ended. (front applied : ℕ) → HostTells front applied None ended) }
 {
     let Some(place) = place else {
@@ -132,7 +132,7 @@ where
     RT: Clock + Eprint + Files + Net<Listener = TcpListener, Stream = TcpStream> + RandomSource,
     ensures hosted { Hosts node result.1 (told_by W.Wire (below_of wire.old)) (told_by W.Wire (below_of wire.new))
         result.0 }
-    ensures turns { place ≡ None → Serves node result.1 (told_by W.Wire (below_of wire.old))
+    ensures turns { place.entry ≡ None → Serves node result.1 (told_by W.Wire (below_of wire.old))
         (told_by W.Wire (below_of wire.new)) result.0 }
 {
     let mut door = match open_at(rt, alloc, place) {
@@ -167,7 +167,7 @@ where
     requires here { m.me < m.members }
     ensures hosted { HostedRuns R.Records m records (told_by W.Wire (below_of wire.old))
         (told_by W.Wire (below_of wire.new)) result.0 result.1 }
-    ensures turns { place ≡ None → Runs R.Records m records (told_by W.Wire (below_of wire.old))
+    ensures turns { place.entry ≡ None → Runs R.Records m records (told_by W.Wire (below_of wire.old))
         (told_by W.Wire (below_of wire.new)) result.0 result.1 }
 {
     let node = match Node::open(alloc, m, records) {
