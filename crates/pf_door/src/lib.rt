@@ -3,8 +3,8 @@
 //! # Organization
 //!
 //! - [`run_member`]: a member's run over its record, with a control socket or without one. There is no other loop.
-//! - [`DoorPlace`]: where the control socket is. Behind it bytes are moved and nothing else; `http_server` reads requests
-//!   and writes answers, and pf_desk says what is answered.
+//! - [`DoorPlace`]: where the control socket is. Behind it bytes are moved and nothing else; `http_server` reads
+//!   requests and writes answers, and pf_desk says what is answered.
 //! - [`TallyWire`]: a wire that counts what goes over it, for the desk's figures.
 //!
 //! Whoever may open the socket's file may ask: its mode, 0660, and the folder that it lies in say who.
