@@ -6,12 +6,11 @@ use Rattle.px_model.specs.Node.Input.{Asks}
 use Rattle.px_model.specs.Spelling.{Bytes}
 use Rattle.px_records.specs.declared.records.Records.{Ghosts}
 use Rattle.px_replica.specs.Calls.{Call}
-use Rattle.px_replica.specs.Replicas.{records_of, membership_of, has_failed, state_in}
+use Rattle.px_replica.specs.Replicas.{records_of, membership_of, has_failed}
 use Rattle.px_replica.specs.declared.fault.NodeFault.{NodeFault}
 use Rattle.px_replica.specs.declared.state.Replica.{Replica}
-use Rattle.pf_node.specs.Nodes.{replica_of}
 use Rattle.pf_turn.specs.Turns.{Stand, Same, Served}
-use Rattle.pf_turn.specs.Hosting.{AskedOnce, AskedTimes, AskedAt, Goes, Steps, Stops, Hosted}
+use Rattle.pf_turn.specs.Hosting.{AskedOnce, AskedTimes, Goes, Steps, Stops, Hosted}
 use Rattle.pf_turn.specs.Living.{Living, HostingsAreLived}
 use Rattle.pf_turn.proofs.Traffic.{grows_none, none_brought}
 use Rattle.pf_turn.proofs.Lives.{Led, called, led_same, led_then, served_before, served_led, served_ended, Ended, failed_call, same_lost, broken_served, broken_same, ended_more, led_living, ended_living}

@@ -6,7 +6,6 @@ use Rattle.px_records.specs.declared.records.Records.{Ghosts}
 use Rattle.px_replica.specs.Calls.{Call}
 use Rattle.px_replica.specs.declared.fault.NodeFault.{NodeFault}
 use Rattle.px_replica.specs.declared.state.Replica.{Replica}
-use Rattle.px_transport.specs.declared.wire.Wire as wires
 use Rattle.pf_node.specs.Nodes.{replica_of}
 use Rattle.pf_node.specs.declared.state.Node.{Node}
 use Rattle.pf_turn.specs.Turns.{Stand, Served}
