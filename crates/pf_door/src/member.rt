@@ -1,6 +1,6 @@
 //! A member's run, with a control socket or without one.
 
-ghost use Rattle.std.specs.Prelude.{◌≡◌, ◌<◌, None, Ok, IfErr};
+ghost use Rattle.std.specs.Prelude.{◌≡◌, ◌<◌, ℕ, None, Ok, IfErr};
 ghost use Rattle.px_model.specs.Step.{front};
 ghost use Rattle.px_replica.specs.Faults.{fault_of};
 ghost use Rattle.pf_node.specs.Nodes.{learned_by, applied_of};
@@ -42,7 +42,7 @@ fn open_at<RT>(rt: &RT, alloc: Global, place: Option<DoorPlace<'_>>) -> Result<O
 where
     RT: Files + Net<Listener = TcpListener, Stream = TcpStream> + RandomSource,
     ensures none { place.entry ≡ None → result ≡ Ok None }
-    ensures fault { IfErr result (λ ended. (front applied : ℕ) → HostTells front applied None ended) }
+    ensures fault { IfErr result (λ ended. (n k : ℕ) → HostTells n k None ended) }
 {
     let Some(place) = place else {
         return Ok(None);
@@ -66,7 +66,10 @@ where
 
 /// The control socket is closed, if there is one.
 fn close_at<RT: Files>(rt: &RT, door: Option<Door>, place: Option<DoorPlace<'_>>) {
-    if let (Some(door), Some(place)) = (door, place) {
+    let Some(door) = door else {
+        return;
+    };
+    if let Some(place) = place {
         door.close(rt, place.path);
     }
 }
@@ -93,7 +96,7 @@ fn ended_of<R: Records>(ended: Result<(), NodeFault>, node: &Node<R>) -> Ended
 }
 
 /// A node runs, and is given back.
-fn run_node<R: Records, W: Wire + Drop, RT: Clock + Eprint>(
+fn run_node<R: Records, W: Wire, RT: Clock + Eprint>(
     rt: &RT,
     alloc: Global,
     node: Node<R>,
@@ -120,7 +123,7 @@ fn run_node<R: Records, W: Wire + Drop, RT: Clock + Eprint>(
 }
 
 /// The same with the control socket at the place, which is closed in the end.
-fn run_at<R: Records, W: Wire + Drop, RT>(
+fn run_at<R: Records, W: Wire, RT>(
     rt: &RT,
     alloc: Global,
     node: Node<R>,
@@ -152,7 +155,7 @@ where
 /// counts for one, and so do each tick and each wait, of a tenth of a second at most; with the first fault of the
 /// node's calls; or once an operator asked for that and has the answer. Before it ends, what waits to be proposed is
 /// worked off ([`pf_turn::finish`]).
-pub fn run_member<R: Records, W: Wire + Drop, RT>(
+pub fn run_member<R: Records, W: Wire, RT>(
     rt: &RT,
     alloc: Global,
     m: Membership,
