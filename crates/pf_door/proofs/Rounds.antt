@@ -3,11 +3,12 @@ use Rattle.std.proofs.Common.{◌≡◌, Option, None, Result, Ok, Err, sym, sub
 use Rattle.px_model.specs.Step.{front}
 use Rattle.px_records.specs.declared.records.Records.{Ghosts}
 use Rattle.px_replica.specs.declared.fault.NodeFault.{NodeFault}
+use Rattle.px_replica.specs.declared.state.Replica.{Replica}
 use Rattle.px_transport.specs.declared.wire.Wire as wires
 use Rattle.pf_node.specs.Nodes.{replica_of, learned_by, applied_of}
 use Rattle.pf_node.specs.declared.state.Node.{Node}
 use Rattle.pf_turn.specs.Hosting.{Hosted}
-use Rattle.pf_turn.specs.Turns.{Served, standing}
+use Rattle.pf_turn.specs.Turns.{Stand, Served, standing}
 use Rattle.pf_turn.proofs.Chains.{served_none}
 use Rattle.pf_member.specs.Lives.{Told, stands, Tells, Serves, Hosts}
 use Rattle.pf_member.specs.declared.ended.Ended.{Ended}
@@ -15,10 +16,11 @@ use Rattle.pf_member.proofs.Hosted.{tells}
 use Rattle.pf_desk.specs.declared.desk.Desk.{Desk}
 
 -- it was another one at first
-pub served_over : {R W : Type 0} {G : Ghosts R} (H : wires.Ghosts W) (s t : Node R G) (v u w : W) (a : Option NodeFault) → u ≡ v →
-    Served (standing H s u) (standing H t w) a → Served (standing H s v) (standing H t w) a
-served_over {R} {W} {G} H s t v u w a e served =
-    subst (λ (x : W). Served (standing H s x) (standing H t w) a) e served
+pub served_over : {R W : Type 0} {G : Ghosts R} (H : wires.Ghosts W) (r : Replica R G) (z : Stand G) (v u : W) (a : Option NodeFault) → u ≡ v →
+    Served (record { replica = r; given = H.given u; handed = H.handed u }) z a →
+    Served (record { replica = r; given = H.given v; handed = H.handed v }) z a
+served_over {R} {W} {G} H r z v u a e served =
+    subst (λ (x : W). Served (record { replica = r; given = H.given x; handed = H.handed x }) z a) e served
 
 -- nothing was asked, and the wire is as it was
 pub still : {R W : Type 0} {G : Ghosts R} (H : wires.Ghosts W) (s t : Desk R G) (w v : W) → t ≡ s → H.given v ≡ H.given w →

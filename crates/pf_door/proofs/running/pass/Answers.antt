@@ -7,27 +7,27 @@ use Rattle.pf_door.proofs.running.pass.Goals as goal
 
 pub returns-in-Err-clause-hosted : goal.returns-in-Err-clause-hosted
 returns-in-Err-clause-hosted g c =
-    hosted_served _ _ _ (served_over g.W.Wire _ _ _ _ _ _ c.begin.ensures.below c.in-Err.ensures.served)
+    hosted_served _ _ _ (served_over g.W.Wire _ _ _ _ _ c.begin.ensures.below c.in-Err.ensures.served)
 
 pub returns-else-not-serve-clause-hosted : goal.returns-else-not-serve-clause-hosted
 returns-else-not-serve-clause-hosted g c =
     hosted_on _ _ _ c.serve.ensures.asks.0
-    (hosted_served _ _ None (served_over g.W.Wire _ _ _ _ _ _ c.begin.ensures.below c.in-Ok.ensures.served)) c.serve.ensures.asks.1
+    (hosted_served _ _ None (served_over g.W.Wire _ _ _ _ _ c.begin.ensures.below c.in-Ok.ensures.served)) c.serve.ensures.asks.1
     (ap g.W.Wire.given c.count_taken.ensures.below) (ap g.W.Wire.handed c.count_taken.ensures.below)
 
 pub returns-then-not-serve-clause-hosted : goal.returns-then-not-serve-clause-hosted
 returns-then-not-serve-clause-hosted g c =
     hosted_on _ _ _ c.serve.ensures.asks.0
-    (hosted_served _ _ None (served_over g.W.Wire _ _ _ _ _ _ c.begin.ensures.below c.in-Ok.ensures.served)) c.serve.ensures.asks.1
+    (hosted_served _ _ None (served_over g.W.Wire _ _ _ _ _ c.begin.ensures.below c.in-Ok.ensures.served)) c.serve.ensures.asks.1
     (c.wait.ensures.given ∙ ap g.W.Wire.given c.count_taken.ensures.below) (c.wait.ensures.quiet ∙ ap g.W.Wire.handed c.count_taken.ensures.below)
 
 pub returns-in-Err-clause-turns : goal.returns-in-Err-clause-turns
-returns-in-Err-clause-turns g c none = (served_over g.W.Wire _ _ _ _ _ _ c.begin.ensures.below c.in-Err.ensures.served, none)
+returns-in-Err-clause-turns g c none = (served_over g.W.Wire _ _ _ _ _ c.begin.ensures.below c.in-Err.ensures.served, none)
 
 pub returns-else-not-serve-clause-turns : goal.returns-else-not-serve-clause-turns
 returns-else-not-serve-clause-turns g c none =
     let same = c.serve.ensures.none none in (
-      served_then _ _ _ None (served_over g.W.Wire _ _ _ _ _ _ c.begin.ensures.below c.in-Ok.ensures.served)
+      served_then _ _ _ None (served_over g.W.Wire _ _ _ _ _ c.begin.ensures.below c.in-Ok.ensures.served)
           (still g.W.Wire _ _ _ _ same.0 (ap g.W.Wire.given c.count_taken.ensures.below) (ap g.W.Wire.handed c.count_taken.ensures.below)),
       same.1,
     )
@@ -35,7 +35,7 @@ returns-else-not-serve-clause-turns g c none =
 pub returns-then-not-serve-clause-turns : goal.returns-then-not-serve-clause-turns
 returns-then-not-serve-clause-turns g c none =
     let same = c.serve.ensures.none none in (
-      served_then _ _ _ None (served_over g.W.Wire _ _ _ _ _ _ c.begin.ensures.below c.in-Ok.ensures.served)
+      served_then _ _ _ None (served_over g.W.Wire _ _ _ _ _ c.begin.ensures.below c.in-Ok.ensures.served)
           (still g.W.Wire _ _ _ _ same.0 (c.wait.ensures.given ∙ ap g.W.Wire.given c.count_taken.ensures.below)
           (c.wait.ensures.quiet ∙ ap g.W.Wire.handed c.count_taken.ensures.below)),
       c.wait.ensures.none same.1,
