@@ -1,7 +1,5 @@
 -- What requests ask of the node.
-use Rattle.std.proofs.Common.{◌≡◌, ◌∙◌, ◌⊎◌, ◌≤◌, ℕ, zero, suc, true, false, Bool, [], Option, Result, Ok, Err, refl, sym, ap, subst, inl, inr, arith}
-use Rattle.px_model.specs.Node.Input.{Asks as AsksFor}
-use Rattle.px_model.specs.Spelling.{Bytes}
+use Rattle.std.proofs.Common.{◌≡◌, ◌∙◌, ◌⊎◌, ◌≤◌, ℕ, zero, suc, true, false, Bool, Result, Ok, Err, sym, ap, subst, inl, inr, arith}
 use Rattle.px_records.specs.declared.records.Records.{Ghosts}
 use Rattle.px_replica.specs.declared.state.Replica.{Replica}
 use Rattle.pf_entry.specs.Entry as entries
@@ -16,7 +14,7 @@ use Rattle.pf_desk.specs.declared.desk.Desk.{Desk}
 use Rattle.pf_desk.specs.declared.request.Request.{Request}
 use Rattle.pf_desk.specs.declared.request.Request.TheVariants as request
 use Rattle.pf_desk.specs.declared.tally.Tally.{Tally}
-use Rattle.pf_door.specs.inner.Runs.{IsAsked, Asks, AreAsked}
+use Rattle.pf_door.specs.inner.Runs.{Asks, AreAsked}
 
 -- Nothing was asked of the node, or a command was, once; what is applied stays.
 record Asked {R : Type 0} {G : Ghosts R} (s t : Node R G) : Type 0 where

@@ -9,7 +9,7 @@ use Rattle.pf_node.specs.Nodes.{replica_of, learned_by, applied_of}
 use Rattle.pf_node.specs.declared.state.Node.{Node}
 use Rattle.pf_turn.specs.Hosting.{Hosted}
 use Rattle.pf_turn.specs.Turns.{Stand, Served, standing}
-use Rattle.pf_turn.proofs.Chains.{served_none}
+use Rattle.pf_turn.proofs.Chains.{served_none, served_then}
 use Rattle.pf_member.specs.Lives.{Told, stands, Tells, Serves, Hosts}
 use Rattle.pf_member.specs.declared.ended.Ended.{Ended}
 use Rattle.pf_member.proofs.Hosted.{tells}
@@ -27,6 +27,11 @@ pub still : {R W : Type 0} {G : Ghosts R} (H : wires.Ghosts W) (s t : Desk R G) 
     H.handed v ≡ H.handed w → Served (standing H s.node w) (standing H t.node v) None
 still {R} {W} {G} H s t w v e g h =
     served_none _ _ (record { replica = ap (λ (d : Desk R G). replica_of d.node) e; given = g; handed = h })
+
+-- without a control socket: turns, and then turns
+pub turns_then : {R D : Type 0} {G : Ghosts R} (x y z : Stand G) (a : Option NodeFault) (d e : Option D) → Served x y None × (d ≡ None) →
+    (d ≡ None → Served y z a × (e ≡ None)) → Served x z a × (e ≡ None)
+turns_then x y z a d e (before, none) more = (served_then x y z a before (more none).0, (more none).1)
 
 -- a run between two nodes that are these
 pub hosts : {R : Type 0} {G : Ghosts R} (x y s t : Node R G) (w v : Told) (a : Option NodeFault) (ended : Ended) → x ≡ s → t ≡ y →

@@ -1,5 +1,5 @@
 -- no turn, or those that were made
-use Rattle.std.proofs.Common.{refl, inl, inr}
+use Rattle.std.proofs.Common.{refl, inr}
 use Rattle.px_replica.specs.Faults.{fault_of}
 use Rattle.pf_member.specs.Lives.{told_by}
 use Rattle.pf_member.proofs.Still.{still}

@@ -25,18 +25,16 @@ pub returns-in-Err-clause-turns : goal.returns-in-Err-clause-turns
 returns-in-Err-clause-turns g c none = (served_over g.W.Wire _ _ _ _ _ c.begin.ensures.below c.in-Err.ensures.served, none)
 
 pub returns-else-not-serve-clause-turns : goal.returns-else-not-serve-clause-turns
-returns-else-not-serve-clause-turns g c none =
-    let same = c.serve.ensures.none none in (
-      served_then _ _ _ None (served_over g.W.Wire _ _ _ _ _ c.begin.ensures.below c.in-Ok.ensures.served)
-          (still g.W.Wire _ _ _ _ same.0 (ap g.W.Wire.given c.count_taken.ensures.below) (ap g.W.Wire.handed c.count_taken.ensures.below)),
-      same.1,
-    )
+returns-else-not-serve-clause-turns g c none = (
+  served_then _ _ _ None (served_over g.W.Wire _ _ _ _ _ c.begin.ensures.below c.in-Ok.ensures.served)
+      (still g.W.Wire _ _ _ _ (c.serve.ensures.none none).0 (ap g.W.Wire.given c.count_taken.ensures.below) (ap g.W.Wire.handed c.count_taken.ensures.below)),
+  (c.serve.ensures.none none).1,
+)
 
 pub returns-then-not-serve-clause-turns : goal.returns-then-not-serve-clause-turns
-returns-then-not-serve-clause-turns g c none =
-    let same = c.serve.ensures.none none in (
-      served_then _ _ _ None (served_over g.W.Wire _ _ _ _ _ c.begin.ensures.below c.in-Ok.ensures.served)
-          (still g.W.Wire _ _ _ _ same.0 (c.wait.ensures.given ∙ ap g.W.Wire.given c.count_taken.ensures.below)
-          (c.wait.ensures.quiet ∙ ap g.W.Wire.handed c.count_taken.ensures.below)),
-      c.wait.ensures.none same.1,
-    )
+returns-then-not-serve-clause-turns g c none = (
+  served_then _ _ _ None (served_over g.W.Wire _ _ _ _ _ c.begin.ensures.below c.in-Ok.ensures.served)
+      (still g.W.Wire _ _ _ _ (c.serve.ensures.none none).0 (c.wait.ensures.given ∙ ap g.W.Wire.given c.count_taken.ensures.below)
+      (c.wait.ensures.quiet ∙ ap g.W.Wire.handed c.count_taken.ensures.below)),
+  c.wait.ensures.none (c.serve.ensures.none none).1,
+)

@@ -1,7 +1,8 @@
 -- one round more
 use Rattle.std.proofs.Common.{refl}
-use Rattle.pf_turn.proofs.Chains.{served_none, served_then, same_all}
+use Rattle.pf_turn.proofs.Chains.{served_none, same_all}
 use Rattle.pf_turn.proofs.Hosting.{hosted_none, hosted_then}
+use Rattle.pf_door.proofs.Rounds.{turns_then}
 use Rattle.pf_door.proofs.running.passes.Goals as goal
 
 pub loop-round-init : goal.loop-round-init
@@ -10,17 +11,11 @@ loop-round-init g c = record { hosted = hosted_none _ _ refl; turns = λ none. (
 pub loop-round-preserved : goal.loop-round-preserved
 loop-round-preserved g c = record {
   hosted = hosted_then _ _ _ _ c.loop-round.invariant.hosted c.in-Ok.ensures.hosted;
-  turns = λ none.
-      let before = c.loop-round.invariant.turns none in
-      let now = c.in-Ok.ensures.turns before.1 in
-      (served_then _ _ _ _ before.0 now.0, now.1);
+  turns = λ none. turns_then _ _ _ _ _ _ (c.loop-round.invariant.turns none) c.in-Ok.ensures.turns;
 }
 
 pub returns-in-Err-clause-hosted : goal.returns-in-Err-clause-hosted
 returns-in-Err-clause-hosted g c = hosted_then _ _ _ _ c.loop-round.invariant.hosted c.in-Err.ensures.hosted
 
 pub returns-in-Err-clause-turns : goal.returns-in-Err-clause-turns
-returns-in-Err-clause-turns g c none =
-    let before = c.loop-round.invariant.turns none in
-    let now = c.in-Err.ensures.turns before.1 in
-    (served_then _ _ _ _ before.0 now.0, now.1)
+returns-in-Err-clause-turns g c none = turns_then _ _ _ _ _ _ (c.loop-round.invariant.turns none) c.in-Err.ensures.turns
