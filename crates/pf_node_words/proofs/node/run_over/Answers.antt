@@ -6,10 +6,10 @@ use Rattle.pf_node_words.proofs.Refusing.{refused_so}
 use Rattle.pf_node_words.proofs.node.run_over.Goals as goal
 
 pub returns-in-Ok-clause-hosted : goal.returns-in-Ok-clause-hosted
-returns-in-Ok-clause-hosted g c = (_, _, _, _, c.run_member-ended.ensures.hosted, c.ended_outcome-in-Ok.ensures, inl refl)
+returns-in-Ok-clause-hosted g c = (_, _, _, _, c.run_member-ended.ensures.hosted, c.ended_outcome.ensures, inl refl)
 
 pub returns-in-Ok-clause-turns : goal.returns-in-Ok-clause-turns
-returns-in-Ok-clause-turns g c none = (_, _, _, _, c.run_member-ended.ensures.turns none, c.ended_outcome-in-Ok.ensures, inl refl)
+returns-in-Ok-clause-turns g c none = (_, _, _, _, c.run_member-ended.ensures.turns none, c.ended_outcome.ensures, inl refl)
 
 pub returns-in-Err-clause-hosted : goal.returns-in-Err-clause-hosted
 returns-in-Err-clause-hosted g c =
