@@ -1,4 +1,3 @@
 pub mod Asking
-pub mod Going
-mod Lives
-mod Opening
+mod Asked
+mod Rounds

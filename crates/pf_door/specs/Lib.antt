@@ -1,4 +1,2 @@
-pub mod Runs
-pub mod Lives
 pub mod Wiring
 pub mod inner

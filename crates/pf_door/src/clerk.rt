@@ -10,6 +10,7 @@ use bytes::{BufMut, Bytes};
 use http::{HeaderName, HeaderValue, StatusCode};
 use http_server::{Response, Service};
 use pf_desk::{Answer, Desk, Read, Request, Routed, Tally, request_in, status_of};
+use pf_node::Node;
 use px_records::Records;
 use std::alloc::{AllocError, Global};
 
@@ -118,6 +119,37 @@ fn refused(alloc: Global, code: u8) -> Result<String, AllocError> {
 }
 
 impl<R: Records> Clerk<R> {
+    /// The handler of a node's requests.
+    pub(crate) fn new(alloc: Global, node: Node<R>, tally: Tally) -> Clerk<R>
+        ensures { result.desk.node ≡ node }
+    {
+        Clerk {
+            desk: Desk::new(alloc, node),
+            tally,
+            is_listening: true,
+            is_scraped: false,
+            is_spare: false,
+            answered: 0,
+            alloc,
+        }
+    }
+
+    /// The node, with which the handler ends.
+    pub(crate) fn close(self) -> Node<R>
+        ensures { result ≡ self.desk.node }
+    {
+        let Clerk {
+            desk,
+            tally: _,
+            is_listening: _,
+            is_scraped: _,
+            is_spare: _,
+            answered: _,
+            alloc: _,
+        } = self;
+        desk.close()
+    }
+
     /// Says which node answers, and after how many positions.
     fn add_standing(&self, response: &mut Response) -> Result<(), AllocError>
         ensures status { OnOk result (response.new.status ≡ response.old.status) }

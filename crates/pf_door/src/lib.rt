@@ -2,25 +2,22 @@
 //!
 //! # Organization
 //!
-//! - [`Door`]: the socket in the file system and the seats at it. It moves bytes and nothing else; `http_server` reads
+//! - [`run_member`]: a member's run over its record, with a control socket or without one. There is no other loop.
+//! - [`DoorPlace`]: where the control socket is. Behind it bytes are moved and nothing else; `http_server` reads
 //!   requests and writes answers, and pf_desk says what is answered.
 //! - [`TallyWire`]: a wire that counts what goes over it, for the desk's figures.
-//! - [`run_open`]: a node runs, and its desk answers between two rounds. [`laws`] says that this is a life of the
-//!   model.
 //!
 //! Whoever may open the socket's file may ask: its mode, 0660, and the folder that it lies in say who.
 #![tactic(auto)]
 
 mod clerk;
 mod door;
-pub mod laws;
+mod member;
 mod noting;
 mod running;
 mod seat;
 mod stream;
 mod tallying;
 
-pub use door::{Door, DoorFault};
-pub use pf_desk::Desk;
-pub use running::run_open;
+pub use member::{DoorPlace, run_member};
 pub use tallying::TallyWire;

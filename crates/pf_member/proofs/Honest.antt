@@ -12,10 +12,11 @@ use Rattle.px_replica.specs.declared.fault.NodeFault.{NodeFault}
 use Rattle.px_replica.specs.declared.fault.NodeFault.TheVariants as fault
 use Rattle.pf_node.specs.Nodes.{records_of, state_in}
 use Rattle.pf_node.specs.declared.state.Node.{Node}
-use Rattle.pf_turn.specs.Living.{Heard, message_in, messages_of, Brings, AreBrought, sent_by, LeavesThere, Living, TurnsAreLived}
+use Rattle.pf_turn.specs.Living.{Heard, message_in, messages_of, Brings, AreBrought, sent_by, LeavesThere, Living, TurnsAreLived, HostingsAreLived}
 use Rattle.pf_turn.proofs.Traffic.{messages_then, sent_then, are_brought, brought_then}
 use Rattle.pf_turn.proofs.Lives.{lived_then, served_before}
-use Rattle.pf_member.specs.Lives.{Told, stands, Tells, Serves, Life, LivedOver, RunsAreLived, OneLife, RunsGoOn}
+use Rattle.pf_turn.proofs.Hosting.{hosted_before}
+use Rattle.pf_member.specs.Lives.{Told, stands, Tells, Serves, Hosts, Life, LivedOver, RunsAreLived, HostedRunsAreLived, OneLife, RunsGoOn}
 use Rattle.pf_member.specs.declared.ended.Ended.{Ended}
 use Rattle.pf_member.specs.declared.ended.Ended.TheVariants.{Fault}
 
@@ -70,6 +71,15 @@ runs_lived {R} G law m given back w v ended honest l =
       life_lived G (λ x y. Serves x y w v ended) before m given back w v s.answered honest l lives.0,
       λ other. ap G.failed l.closed ∙ lives.1 (not_store _ _ s.answered ended s.told other),
     )
+
+pub hosted_runs_lived : {R : Type 0} (G : Ghosts R) → HostingsAreLived G → HostedRunsAreLived G
+hosted_runs_lived {R} G law m given back w v ended honest l =
+    let s = l.went in
+    let before = λ (x y : Node R G) (k : Hosts x y w v ended) (h : G.is_honest (records_of y)).
+    hosted_before (stands x w) (stands y v) k.answered k.hosted h in
+    let at_end = subst (λ (r : R). G.is_honest r) l.closed honest in
+    life_lived G (λ x y. Hosts x y w v ended) before m given back w v s.answered honest l
+    (law (stands l.begun w) (stands l.done v) s.answered at_end l.works s.hosted)
 
 -- ---- several runs
 

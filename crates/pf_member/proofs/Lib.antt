@@ -1,3 +1,4 @@
 pub mod Asking
 pub mod Honest
+pub mod Hosted
 pub mod Still

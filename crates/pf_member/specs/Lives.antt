@@ -16,9 +16,10 @@ use Rattle.px_replica.specs.declared.fault.NodeFault.TheVariants as fault
 use Rattle.pf_node.specs.Nodes.{replica_of, records_of, learned_by, membership_of, has_failed, state_in, applied_of}
 use Rattle.pf_node.specs.declared.state.Node.{Node}
 use Rattle.pf_turn.specs.Turns.{Stand, Served}
+use Rattle.pf_turn.specs.Hosting.{Hosted}
 use Rattle.pf_turn.specs.Living.{messages_of, Brings, AreBrought, sent_by, LeavesThere}
 use Rattle.pf_member.specs.declared.ended.Ended.{Ended}
-use Rattle.pf_member.specs.declared.ended.Ended.TheVariants.{Front, Fault, NoWire}
+use Rattle.pf_member.specs.declared.ended.Ended.TheVariants.{Front, Fault, NoWire, NoControlSocket, NoPort}
 
 -- ---- a run
 
@@ -46,6 +47,17 @@ pub record Serves {R : Type 0} {G : Ghosts R} (s t : Node R G) (w v : Told) (end
   pub served : Served (stands s w) (stands t v) answered
   pub told : Tells (front (learned_by t)) (applied_of t) answered ended
 
+-- the same where commands are asked between turns, as at a control socket; if that or its port is missing, none is made
+abbrev pub HostTells : (front applied : ℕ) → (answered : Option NodeFault) → Ended → Type 0
+HostTells n applied None ended = Tells n applied None ended ⊎ ((ended ≡ NoControlSocket) ⊎ (ended ≡ NoPort))
+HostTells n applied (Some e) ended = Tells n applied (Some e) ended
+
+-- turns of the node, and commands asked of it between them, led from one to the other, and these went over its wire
+pub record Hosts {R : Type 0} {G : Ghosts R} (s t : Node R G) (w v : Told) (ended : Ended) : Type 0 where
+  pub answered : Option NodeFault
+  pub hosted : Hosted (stands s w) (stands t v) answered
+  pub told : HostTells (front (learned_by t)) (applied_of t) answered ended
+
 -- A record is opened, the node goes on in some way, and the record is given back.
 pub record Life {R : Type 0} (G : Ghosts R) (How : (s t : Node R G) → Type 0) (m : Membership) (given back : R) :
     Type 0 where
@@ -63,11 +75,22 @@ pub record Life {R : Type 0} (G : Ghosts R) (How : (s t : Node R G) → Type 0) 
   -- it is given back
   pub closed : back ≡ records_of done
 
--- a record isn't opened, and nothing goes over the wire; or it is, and turns are made over it and nothing else is done
+-- a record isn't opened, and nothing goes over the wire
+abbrev pub IsUnopened : {R : Type 0} → (G : Ghosts R) → Membership → (given : R) → (w v : Told) → Ended → (back : R) →
+    Type 0
+IsUnopened G m given w v ended back =
+    (e : NodeFault) × (ended ≡ Fault e) × OpenRefused G m.members given e back × (v ≡ w)
+
+-- it isn't opened; or it is, and turns are made over the wire and nothing else is done
 abbrev pub Runs : {R : Type 0} → (G : Ghosts R) → Membership → (given : R) → (w v : Told) → Ended → (back : R) → Type 0
 Runs G m given w v ended back =
-    ((e : NodeFault) × (ended ≡ Fault e) × OpenRefused G m.members given e back × (v ≡ w))
-    ⊎ Life G (λ s t. Serves s t w v ended) m given back
+    IsUnopened G m given w v ended back ⊎ Life G (λ s t. Serves s t w v ended) m given back
+
+-- the same where commands are asked between turns
+abbrev pub HostedRuns : {R : Type 0} → (G : Ghosts R) → Membership → (given : R) → (w v : Told) → Ended → (back : R) →
+    Type 0
+HostedRuns G m given w v ended back =
+    IsUnopened G m given w v ended back ⊎ Life G (λ s t. Hosts s t w v ended) m given back
 
 -- ---- a life
 
@@ -96,6 +119,12 @@ RunsAreLived {R} G =
     (m : Membership) (given back : R) (w v : Told) (ended : Ended) → G.is_honest back →
     Life G (λ s t. Serves s t w v ended) m given back →
     LivedOver G m given back w v × (ended ≢ Fault fault.Store → G.failed back ≡ 0)
+
+-- the same of runs with commands asked between turns, as at a control socket
+abbrev pub HostedRunsAreLived : {R : Type 0} → Ghosts R → Type 0
+HostedRunsAreLived {R} G =
+    (m : Membership) (given back : R) (w v : Told) (ended : Ended) → G.is_honest back →
+    Life G (λ s t. Hosts s t w v ended) m given back → LivedOver G m given back w v
 
 -- ---- one life of several runs
 

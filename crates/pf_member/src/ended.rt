@@ -11,4 +11,8 @@ pub enum Ended {
     Fault(NodeFault),
     /// There is no wire, and no turn was made.
     NoWire,
+    /// There is no control socket, and no turn was made.
+    NoControlSocket,
+    /// There is no port for figures, and no turn was made.
+    NoPort,
 }

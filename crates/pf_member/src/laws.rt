@@ -1,9 +1,9 @@
 //! What holds of members' runs.
 
 ghost use Rattle.pf_member.specs.Asking.{MembersAskNothing};
-ghost use Rattle.pf_member.specs.Lives.{RunsAreLived, RunsGoOn};
+ghost use Rattle.pf_member.specs.Lives.{RunsAreLived, HostedRunsAreLived, RunsGoOn};
 
-use pf_turn::laws::turns_are_lived;
+use pf_turn::laws::{hostings_are_lived, turns_are_lived};
 use px_records::Records;
 
 /// What a run did to its record and over its wire is a life of the model, from what the record held on.
@@ -11,6 +11,14 @@ pub fn runs_are_lived<R: Records>()
     ensures { RunsAreLived R.Records }
 {
     turns_are_lived::<R>();
+}
+
+/// What a run with commands asked between its turns, as at a control socket, did to its record and over its wire is a
+/// trace of the model, as of a run without.
+pub fn hosted_runs_are_lived<R: Records>()
+    ensures { HostedRunsAreLived R.Records }
+{
+    hostings_are_lived::<R>();
 }
 
 /// Runs that follow one another over one store, where each opening finds what a stop may have left, are one life of the

@@ -2,8 +2,7 @@
 //!
 //! # Organization
 //!
-//! - [`run_member`]: a record is opened, turns are made over a wire, and the record is given back. [`Ended`].
-//!   [`open_member`] where there is no wire.
+//! - [`Ended`]: how a run ended. [`open_member`]: a run where there is no wire; pf_door has the others.
 //! - `specs/Lives` says what becomes of the record and what went over the wire; [`laws`] that this is a life of the
 //!   model, and that runs which follow one another over one store are one life.
 #![tactic(auto)]
@@ -13,6 +12,6 @@ pub mod laws;
 mod member;
 
 pub use ended::Ended;
-pub use member::{open_member, run_member};
+pub use member::open_member;
 pub use pf_node::Membership;
 pub use px_replica::NodeFault;

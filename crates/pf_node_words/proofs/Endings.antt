@@ -11,7 +11,7 @@ use Rattle.pf_node_words.specs.declared.outcome.Outcome.{Outcome}
 use Rattle.pf_node_words.specs.declared.outcome.Outcome.TheVariants.{Front, Asked, Key, Refused, RefusedLine, NoAnswer}
 use Rattle.pf_node_words.specs.declared.outcome.Outcome.TheVariants.{Sound, Made, Memory, Unread}
 use Rattle.pf_node_words.specs.inner.Outcomes.{outcome_of, ending_of, ended_outcome, first_of, checked, is_refused}
-use Rattle.pf_node_words.specs.inner.Outcomes.{ComesTo, ComesOpen, ComesOpenOr, IsDoorless, ShowsDesk, OpenLife}
+use Rattle.pf_node_words.specs.inner.Outcomes.{ComesOpenOr, IsWireless}
 use Rattle.pf_node_words.specs.inner.Stores.{IsStoreless}
 use Rattle.pf_node_words.proofs.Stores.{other, by_memory, sound}
 
@@ -73,32 +73,18 @@ of_ended : (without : Outcome) (how : Ended) → ((file new : Bool) → IsStorel
 of_ended without (ended.Front n a) h file new = fronts n a file new
 of_ended without (ended.Fault e) h file new = of_fault e file new
 of_ended without ended.NoWire h file new = h file new
+of_ended without ended.NoControlSocket h file new = n84 file new
+of_ended without ended.NoPort h file new = n82 file new
 
-without_wire : (o : Outcome) → (o ≡ Memory) ⊎ (o ≡ Refused 82) → (file new : Bool) → IsStoreless file new o
-without_wire o (inl e) = as_is o Memory e by_memory
-without_wire o (inr e) = as_is o (Refused 82) e n82
+wireless : (o : Outcome) → IsWireless o → (file new : Bool) → IsStoreless file new o
+wireless o (inl e) = as_is o Memory e by_memory
+wireless o (inr e) = as_is o (Refused 82) e n82
 
-doorless : (o : Outcome) → IsDoorless o → (file new : Bool) → IsStoreless file new o
-doorless o (inl e) = as_is o Memory e by_memory
-doorless o (inr (inl e)) = as_is o (Refused 82) e n82
-doorless o (inr (inr e)) = as_is o (Refused 84) e n84
-
-at_desk : (n a : ℕ) (answered : Option NodeFault) (o : Outcome) → ShowsDesk n a answered o → (file new : Bool) → IsStoreless file new o
-at_desk n a None o (inl e) = as_is o (Front n a) e (fronts n a)
-at_desk n a None o (inr d) = doorless o d
-at_desk n a (Some f) o e = as_is o (outcome_of f) e (of_fault f)
-
-opened : {R : Type 0} (G : Ghosts R) (m : Membership) (given back : R) (o : Outcome) → ComesOpen G m given o back →
+pub of_run : {R : Type 0} (G : Ghosts R) (m : Membership) (given back : R) (o : Outcome) → ComesOpenOr G m given o back →
     (file new : Bool) → IsStoreless file new o
-opened G m given back o (inl (e, is, r)) = as_is o (outcome_of e) is (of_fault e)
-opened G m given back o (inr life) = at_desk _ _ life.answered o life.shows
-
-pub of_run : {R : Type 0} (G : Ghosts R) (m : Membership) (given back : R) (o : Outcome) →
-    ComesTo G m given o back ⊎ ComesOpenOr G m given o back → (file new : Bool) → IsStoreless file new o
 of_run G m given back o (inl (w, v, how, without, runs, is, none)) =
-    as_is o (ended_outcome without how) is (of_ended without how (without_wire without none))
-of_run G m given back o (inr (inl opens)) = opened G m given back o opens
-of_run G m given back o (inr (inr (d, same))) = doorless o d
+    as_is o (ended_outcome without how) is (of_ended without how (wireless without none))
+of_run G m given back o (inr (none, same)) = wireless o none
 
 -- what it failed of
 pub of_ending : (o : Outcome) (n : ℕ) → ((file new : Bool) → IsStoreless file new o) → (file new : Bool) →

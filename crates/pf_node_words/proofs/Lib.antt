@@ -1,5 +1,4 @@
 pub mod Writing
 mod Refusing
-mod Desks
 pub mod Stores
 pub mod Endings

@@ -11,7 +11,6 @@
 
 mod ask;
 mod check;
-mod door;
 mod events;
 mod faults;
 mod hearing;

@@ -6,11 +6,10 @@ ghost use Rattle.toml.specs.Data.{as_str, get_member};
 ghost use Rattle.pf_node_file.specs.Files.{settings_of};
 ghost use Rattle.pf_node_file.specs.Settings.{number_of};
 ghost use Rattle.pf_node_words.specs.declared.outcome.Outcome.TheVariants.{Memory, Refused};
-ghost use Rattle.pf_node_words.specs.inner.Outcomes.{ComesTo, ComesOpenOr};
+ghost use Rattle.pf_node_words.specs.inner.Outcomes.{ComesTo, ComesOpen, ComesOpenOr};
 ghost use Rattle.pf_node_words.specs.inner.Stores.{IsStoreless};
 ghost use Rattle.pf_node_words.specs.inner.Places.{is_count, has_place, turns_or_all, chosen};
 
-use crate::door::{DoorWords, run_with_door};
 use crate::events::{say_end, say_start};
 use crate::faults::say_place;
 use crate::hearing::HearingWire;
@@ -18,7 +17,8 @@ use crate::key::{Keys, keys_for, warn_unsealed};
 use crate::outcome::{Outcome, ended_outcome, ending_of};
 use crate::store::record_for;
 use clap::ArgMatches;
-use pf_member::{Membership, open_member, run_member};
+use pf_door::{DoorPlace, TallyWire, run_member};
+use pf_member::{Membership, open_member};
 use pf_net::{Address, BindFault, UdpWire};
 use pf_node_file::NodeFile;
 use px_records::Records;
@@ -216,7 +216,29 @@ fn sealed(
     }
 }
 
-/// The run of a member over a wire, or without one; what it sends to itself doesn't go over it.
+/// The wire that counts, says how the node stands to the others, and keeps what the member sends to itself.
+fn counted<W: Wire + Drop>(
+    rt: &HostRuntime,
+    alloc: Global,
+    words: NodeWords<'_, '_, '_>,
+    m: Membership,
+    wire: Result<W, Outcome>,
+) -> Result<TallyWire<LoopbackWire<HearingWire<W>>>, Outcome>
+    requires { OnErr wire ((wire ≡ Err Memory) ⊎ (wire ≡ Err (Refused 82))) }
+    ensures { OnErr result ((result ≡ Err Memory) ⊎ (result ≡ Err (Refused 82))) }
+{
+    let wire = match wire {
+        Ok(wire) => HearingWire::new(rt, wire, m, words.is_quiet),
+        Err(outcome) => return Err(outcome),
+    };
+    match TallyWire::new(alloc, LoopbackWire::new(alloc, wire, m.me()), m) {
+        Ok(wire) => Ok(wire),
+        Err(_) => Err(Outcome::Memory),
+    }
+}
+
+/// The run of a member over a wire, with a control socket at the place if there is one; without a wire its record is
+/// opened alone. What the member sends to itself doesn't go over the wire.
 fn run_over<R: Records, W: Wire + Drop>(
     rt: &HostRuntime,
     alloc: Global,
@@ -224,20 +246,18 @@ fn run_over<R: Records, W: Wire + Drop>(
     m: Membership,
     records: R,
     wire: Result<W, Outcome>,
+    place: Option<DoorPlace<'_>>,
 ) -> (Outcome, R)
     requires members { R.members records ≡ m.members }
     requires here { m.me < m.members }
     requires refused { OnErr wire ((wire ≡ Err Memory) ⊎ (wire ≡ Err (Refused 82))) }
-    ensures { ComesTo R.Records m records result.0 result.1 }
+    ensures hosted { ComesOpen R.Records m records result.0 result.1 }
+    ensures turns { place.entry ≡ None → ComesTo R.Records m records result.0 result.1 }
 {
-    match wire {
+    match counted(rt, alloc, words, m, wire) {
         Ok(wire) => {
-            let mut wire = LoopbackWire::new(
-                alloc,
-                HearingWire::new(rt, wire, m, words.is_quiet),
-                words.me,
-            );
-            let (ended, records) = run_member(alloc, m, records, &mut wire, rt, words.turns);
+            let mut wire = wire;
+            let (ended, records) = run_member(rt, alloc, m, records, &mut wire, place, words.turns);
             (ended_outcome(ended, Outcome::Memory), records)
         }
         Err(outcome) => {
@@ -247,7 +267,7 @@ fn run_over<R: Records, W: Wire + Drop>(
     }
 }
 
-/// The run of a member over its record and a socket.
+/// The run of a member over a socket, without a control socket.
 fn run_node<R: Records>(
     rt: &HostRuntime,
     alloc: Global,
@@ -258,12 +278,16 @@ fn run_node<R: Records>(
 ) -> (Outcome, R)
     requires members { R.members records ≡ m.members }
     requires here { m.me < m.members }
-    ensures { ComesTo R.Records m records result.0 result.1 }
+    ensures hosted { ComesOpen R.Records m records result.0 result.1 }
+    ensures turns { ComesTo R.Records m records result.0 result.1 }
 {
     let wire = bind(rt, alloc, words);
     match keys {
-        Some(keys) => run_over(rt, alloc, words, m, records, sealed(alloc, wire, keys)),
-        None => run_over(rt, alloc, words, m, records, wire),
+        Some(keys) => {
+            let wire = sealed(alloc, wire, keys);
+            run_over(rt, alloc, words, m, records, wire, None)
+        }
+        None => run_over(rt, alloc, words, m, records, wire, None),
     }
 }
 
@@ -300,7 +324,7 @@ fn addresses_text(alloc: Global, addresses: &[Address]) -> Result<String, AllocE
     Ok(text)
 }
 
-/// The run of a member with its door open, over a socket. What is asked by datagrams isn't heard.
+/// The run of a member with a control socket at the path. What is asked by datagrams isn't heard.
 fn run_at_door<R: Records>(
     rt: &HostRuntime,
     alloc: Global,
@@ -325,24 +349,25 @@ fn run_at_door<R: Records>(
     let Ok(members) = addresses_text(alloc, wire.peers()) else {
         return (Outcome::Memory, records);
     };
-    let words = DoorWords {
+    let place = Some(DoorPlace {
         path,
         figures,
         members: members.as_str(),
         fd: wire.raw_fd(),
-        turns: words.turns,
-        is_quiet: words.is_quiet,
-    };
+    });
     match keys {
-        Some(keys) => match sealed(alloc, Ok(wire), keys) {
-            Ok(wire) => run_with_door(rt, alloc, words, m, records, wire),
-            Err(outcome) => (outcome, records),
-        },
-        None => run_with_door(rt, alloc, words, m, records, MembersWire::new(wire)),
+        Some(keys) => {
+            let wire = sealed(alloc, Ok(wire), keys);
+            run_over(rt, alloc, words, m, records, wire, place)
+        }
+        None => {
+            let wire = Ok(MembersWire::new(wire));
+            run_over(rt, alloc, words, m, records, wire, place)
+        }
     }
 }
 
-/// The run of a member, with a door or without.
+/// The run of a member over its record and a socket.
 fn run_member_in<R: Records>(
     rt: &HostRuntime,
     alloc: Global,
@@ -353,7 +378,8 @@ fn run_member_in<R: Records>(
 ) -> (Outcome, R)
     requires members { R.members records ≡ m.members }
     requires here { m.me < m.members }
-    ensures { ComesTo R.Records m records result.0 result.1 ⊎ ComesOpenOr R.Records m records result.0 result.1 }
+    ensures hosted { ComesOpenOr R.Records m records result.0 result.1 }
+    ensures turns { words.entry.door ≡ None → ComesTo R.Records m records result.0 result.1 }
 {
     match words.door {
         Some(path) => run_at_door(rt, alloc, words, path, m, records, keys),

@@ -165,6 +165,8 @@ pub(crate) fn ended_outcome(ended: Ended, without: Outcome) -> Outcome
         Ended::Front { front, applied } => Outcome::Front { front, applied },
         Ended::Fault(fault) => fault_outcome(fault),
         Ended::NoWire => without,
+        Ended::NoControlSocket => Outcome::Refused(84),
+        Ended::NoPort => Outcome::Refused(82),
     }
 }
 

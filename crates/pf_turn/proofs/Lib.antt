@@ -1,4 +1,5 @@
 mod Given
-mod Chains
+pub mod Chains
 pub mod Traffic
 pub mod Lives
+pub mod Hosting

@@ -1,4 +1,5 @@
 pub mod Turns
+pub mod Hosting
 pub mod Progress
 pub mod Timing
 pub mod Living

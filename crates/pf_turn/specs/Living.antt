@@ -16,6 +16,7 @@ use Rattle.px_replica.specs.Made.{LeavesOne}
 use Rattle.px_replica.specs.Replicas.{records_of, membership_of, has_failed, state_in, IsUnspelled}
 use Rattle.px_replica.specs.declared.fault.NodeFault.{NodeFault}
 use Rattle.px_replica.specs.declared.fault.NodeFault.TheVariants as fault
+use Rattle.pf_turn.specs.Hosting.{Hosted}
 use Rattle.pf_turn.specs.Turns.{Stand, Served, handed_over}
 
 -- ---- what comes
@@ -100,3 +101,9 @@ TurnsAreLived G =
     (x z : Stand G) (answered : Option NodeFault) → G.is_honest (records_of z.replica) →
     has_failed x.replica ≡ false → Served x z answered →
     Living x z answered × (answered ≢ Some fault.Store → G.failed (records_of z.replica) ≡ 0)
+
+-- The same of turns with commands asked between them.
+abbrev pub HostingsAreLived : {R : Type 0} → Ghosts R → Type 0
+HostingsAreLived G =
+    (x z : Stand G) (answered : Option NodeFault) → G.is_honest (records_of z.replica) →
+    has_failed x.replica ≡ false → Hosted x z answered → Living x z answered

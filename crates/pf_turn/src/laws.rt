@@ -1,6 +1,6 @@
 //! What holds of a node's turns.
 
-ghost use Rattle.pf_turn.specs.Living.{TurnsAreLived};
+ghost use Rattle.pf_turn.specs.Living.{TurnsAreLived, HostingsAreLived};
 
 use px_records::Records;
 
@@ -8,4 +8,9 @@ use px_records::Records;
 /// life of that member, as pf_cluster's histories are made of.
 pub fn turns_are_lived<R: Records>()
     ensures { TurnsAreLived R.Records }
+{}
+
+/// The same of turns with commands asked of the node between them, whatever was asked and answered.
+pub fn hostings_are_lived<R: Records>()
+    ensures { HostingsAreLived R.Records }
 {}

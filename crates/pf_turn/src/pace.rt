@@ -359,7 +359,7 @@ impl Timer for Pace {
 }
 
 /// The time since a reading of the clock, in microseconds; none has passed where the clock can't be read.
-pub(crate) fn microseconds<C: Clock>(clock: &C, start: Option<Instant>) -> u64 {
+pub fn microseconds<C: Clock>(clock: &C, start: Option<Instant>) -> u64 {
     match (start, Instant::now(clock)) {
         (Some(start), Ok(now)) => {
             u64::try_from(now.duration_since(start).as_micros()).unwrap_or(u64::MAX)

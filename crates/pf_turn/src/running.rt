@@ -9,7 +9,7 @@ ghost use Rattle.pf_turn.specs.Progress.{looked, seen_in};
 ghost use Rattle.pf_turn.specs.Timing.{SawThenLooked, looks, view_of};
 ghost use Rattle.pf_turn.specs.Turns.{Served, TickedIf, TookThenTicked, standing};
 
-use crate::pace::{Pace, microseconds};
+use crate::pace::microseconds;
 use crate::room::Room;
 use crate::serving::{drain, tick_now};
 use crate::sight::Sight;
@@ -188,36 +188,6 @@ pub fn round<R: Records, W: Wire, T: Timer>(
     tick_if(node, wire, room, beat, taken)
 }
 
-/// Rounds until so many turns are over, and the waits between them.
-fn rounds<R: Records, W: Wire, T: Timer, C: Clock>(
-    node: &mut Node<R>,
-    wire: &mut W,
-    room: &mut Room,
-    timer: &mut T,
-    clock: &C,
-    start: Option<Instant>,
-    turns: u64,
-) -> Result<(), NodeFault>
-    ensures served { Served (standing W.Wire node.old wire.old) (standing W.Wire node.new wire.new)
-        (fault_of result) }
-    ensures grows { applied_of node.old ≤ applied_of node.new }
-{
-    let mut left = turns;
-    for _round in 0..turns {
-        if left == 0 {
-            return Ok(());
-        }
-        match round(node, wire, room, timer, microseconds(clock, start)) {
-            Ok(made) => {
-                wire.wait(made.wait);
-                left = left.saturating_sub(u64::from(made.turns));
-            }
-            Err(fault) => return Err(fault),
-        }
-    }
-    Ok(())
-}
-
 /// Works off what waits to be proposed, before the node ends: rounds until nothing waits, 3,000 at most, of which one
 /// with a wait counts for its milliseconds. These are turns of the node and nothing else. What is asked from outside
 /// meanwhile is kept back, where the wire can do that.
@@ -250,28 +220,4 @@ pub fn finish<R: Records, W: Wire, T: Timer, C: Clock>(
         }
     }
     Ok(())
-}
-
-/// A node runs: it takes what comes as it comes, and its clock ticks when its pace says so ([`Pace`]), until so many
-/// turns are over, where each datagram counts for one, and each tick and each wait, of a tenth of a second at most.
-/// Then it works off what waits ([`finish`]).
-///
-/// The faults are those of [`Node::receive`] and [`Node::tick`]; one ends it.
-pub fn run<R: Records, W: Wire, C: Clock>(
-    node: &mut Node<R>,
-    wire: &mut W,
-    room: &mut Room,
-    clock: &C,
-    turns: u64,
-) -> Result<(), NodeFault>
-    ensures served { Served (standing W.Wire node.old wire.old) (standing W.Wire node.new wire.new)
-        (fault_of result) }
-    ensures grows { applied_of node.old ≤ applied_of node.new }
-{
-    let mut pace = Pace::new(node.membership().me());
-    let start = Instant::now(clock).ok();
-    match rounds(node, wire, room, &mut pace, clock, start, turns) {
-        Ok(()) => finish(node, wire, room, &mut pace, clock, start),
-        Err(fault) => Err(fault),
-    }
 }

@@ -1,9 +1,8 @@
 //! What a node does when its turns are over.
 
-use crate::members::{ask, member};
+use crate::members::{ask, member, run};
 use pf_node::{Command, Node};
 use pf_ruleset::Path;
-use pf_turn::{Room, run};
 use px_records::MemoryRecords;
 use px_transport::{LoopbackWire, MemoryWire};
 use std::test::Fail;
@@ -16,9 +15,7 @@ fn ask_and_end(rt: &HostRuntime, node: &mut Node<MemoryRecords>) -> Result<(), F
         ask(node, Command::FlushTables { path })?;
     }
     let mut wire = LoopbackWire::new(alloc, MemoryWire::new(alloc, Vec::new(alloc)), 0);
-    let mut room = Room::new(alloc)?;
-    run(node, &mut wire, &mut room, rt, 1)?;
-    Ok(())
+    run(rt, node, &mut wire)
 }
 
 #[test]

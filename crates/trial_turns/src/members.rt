@@ -3,9 +3,12 @@
 use pf_entry::Profile;
 use pf_node::{Command, Membership, Node};
 use pf_ruleset::Path;
+use pf_turn::{Pace, Room, finish, round};
 use px_records::MemoryRecords;
+use px_transport::{LoopbackWire, MemoryWire};
 use std::alloc::Global;
 use std::test::Fail;
+use std::time::Instant;
 
 /// The member with this number, of so many of cluster 7.
 pub(crate) fn member(alloc: Global, members: u8, me: u8) -> Result<Node<MemoryRecords>, Fail> {
@@ -42,4 +45,17 @@ pub(crate) fn ask_load(
         text,
     };
     ask(node, command)
+}
+
+/// A round of member 0, and what waits then is worked off.
+pub(crate) fn run(
+    rt: &HostRuntime,
+    node: &mut Node<MemoryRecords>,
+    wire: &mut LoopbackWire<MemoryWire>,
+) -> Result<(), Fail> {
+    let mut room = Room::new(rt.alloc())?;
+    let mut pace = Pace::new(0);
+    round(node, wire, &mut room, &mut pace, 0)?;
+    finish(node, wire, &mut room, &mut pace, rt, Instant::now(rt).ok())?;
+    Ok(())
 }

@@ -2,9 +2,9 @@
 
 ghost use Rattle.std.specs.Prelude.{None};
 
-use crate::members::member;
+use crate::members::{member, run};
 use pf_node::Node;
-use pf_turn::{Pace, Room, round, run};
+use pf_turn::{Pace, Room, round};
 use px_records::MemoryRecords;
 use px_transport::{LoopbackWire, MemoryWire, Wire};
 use std::alloc::Global;
@@ -71,8 +71,7 @@ fn learn_three(rt: &HostRuntime, node: &mut Node<MemoryRecords>) -> Result<(), F
         coming.push(Vec::from_slice(alloc, &learned(position))?)?;
     }
     let mut wire = LoopbackWire::new(alloc, MemoryWire::new(alloc, coming), 0);
-    let mut room = Room::new(alloc)?;
-    run(node, &mut wire, &mut room, rt, 1)?;
+    run(rt, node, &mut wire)?;
     if node.applied() < 3 {
         return Err(Fail::new("not told"));
     }

@@ -1,8 +1,18 @@
--- What only code and proofs use beside `Runs`.
+-- What requests do to a desk, one after another.
 use Rattle.std.specs.Prelude.{◌≡◌, ℕ, zero, suc}
 use Rattle.px_records.specs.declared.records.Records.{Ghosts}
+use Rattle.pf_desk.specs.Answers.{AnswerValue}
+use Rattle.pf_desk.specs.Requests.{Answers}
 use Rattle.pf_desk.specs.declared.desk.Desk.{Desk}
-use Rattle.pf_door.specs.Runs.{IsAsked}
+use Rattle.pf_desk.specs.declared.request.Request.{Request}
+use Rattle.pf_desk.specs.declared.tally.Tally.{Tally}
+
+-- a request was asked at the desk and answered
+pub record IsAsked {R : Type 0} {G : Ghosts R} (s t : Desk R G) : Type 0 where
+  pub counted : Tally
+  pub request : Request
+  pub answer : AnswerValue
+  pub answers : Answers s t counted request answer
 
 -- so many requests, one after another
 abbrev pub Asks : {R : Type 0} {G : Ghosts R} → (requests : ℕ) → (s t : Desk R G) → Type 0

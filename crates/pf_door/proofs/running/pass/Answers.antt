@@ -1,34 +1,40 @@
 -- turns, and the requests behind them
-use Rattle.std.proofs.Common.{None, refl}
-use Rattle.pf_door.specs.Runs.{place}
-use Rattle.pf_door.specs.Wiring.{below_of}
-use Rattle.pf_door.proofs.Going.{opened_then, opened_ran, opened_asked, ran_over, on_wire}
+use Rattle.std.proofs.Common.{◌∙◌, None, ap}
+use Rattle.pf_turn.proofs.Chains.{served_then}
+use Rattle.pf_turn.proofs.Hosting.{hosted_served, hosted_on}
+use Rattle.pf_door.proofs.Rounds.{served_over, still}
 use Rattle.pf_door.proofs.running.pass.Goals as goal
 
-pub returns-in-Err : goal.returns-in-Err
-returns-in-Err g c =
-    let served = record (c.args.clerk.now.desk) { node = c.round.new.node } in
-    opened_ran _ _ _ (ran_over g.W.Wire c.args.clerk.now.desk served (below_of c.args.wire.now) (below_of c.begin.new.self)
-    (below_of c.round.new.wire) _ c.begin.ensures.below c.in-Err.ensures.served refl refl)
+pub returns-in-Err-clause-hosted : goal.returns-in-Err-clause-hosted
+returns-in-Err-clause-hosted g c =
+    hosted_served _ _ _ (served_over g.W.Wire _ _ _ _ _ c.begin.ensures.below c.in-Err.ensures.served)
 
-pub returns-then-not-serve : goal.returns-then-not-serve
-returns-then-not-serve g c =
-    let served = record (c.args.clerk.now.desk) { node = c.round.new.node } in
-    let below = below_of c.round.new.wire in
-    let before = place g.W.Wire c.args.clerk.now.desk (below_of c.args.wire.now) in
-    on_wire g.W.Wire before c.serve.new.clerk.desk below (below_of c.count_taken.new.self) None c.count_taken.ensures.below
-    (opened_then before (place g.W.Wire served below) _ None
-    (opened_ran _ _ None (ran_over g.W.Wire c.args.clerk.now.desk served (below_of c.args.wire.now) (below_of c.begin.new.self)
-    below None c.begin.ensures.below c.in-Ok.ensures.served refl refl))
-    (opened_asked served c.serve.new.clerk.desk (g.W.Wire.given below) (g.W.Wire.handed below) c.serve.ensures))
+pub returns-else-not-serve-clause-hosted : goal.returns-else-not-serve-clause-hosted
+returns-else-not-serve-clause-hosted g c =
+    hosted_on _ _ _ c.serve.ensures.asks.0
+    (hosted_served _ _ None (served_over g.W.Wire _ _ _ _ _ c.begin.ensures.below c.in-Ok.ensures.served)) c.serve.ensures.asks.1
+    (ap g.W.Wire.given c.count_taken.ensures.below) (ap g.W.Wire.handed c.count_taken.ensures.below)
 
-pub returns-else-not-serve : goal.returns-else-not-serve
-returns-else-not-serve g c =
-    let served = record (c.args.clerk.now.desk) { node = c.round.new.node } in
-    let below = below_of c.round.new.wire in
-    let before = place g.W.Wire c.args.clerk.now.desk (below_of c.args.wire.now) in
-    on_wire g.W.Wire before c.serve.new.clerk.desk below (below_of c.count_taken.new.self) None c.count_taken.ensures.below
-    (opened_then before (place g.W.Wire served below) _ None
-    (opened_ran _ _ None (ran_over g.W.Wire c.args.clerk.now.desk served (below_of c.args.wire.now) (below_of c.begin.new.self)
-    below None c.begin.ensures.below c.in-Ok.ensures.served refl refl))
-    (opened_asked served c.serve.new.clerk.desk (g.W.Wire.given below) (g.W.Wire.handed below) c.serve.ensures))
+pub returns-then-not-serve-clause-hosted : goal.returns-then-not-serve-clause-hosted
+returns-then-not-serve-clause-hosted g c =
+    hosted_on _ _ _ c.serve.ensures.asks.0
+    (hosted_served _ _ None (served_over g.W.Wire _ _ _ _ _ c.begin.ensures.below c.in-Ok.ensures.served)) c.serve.ensures.asks.1
+    (c.wait.ensures.given ∙ ap g.W.Wire.given c.count_taken.ensures.below) (c.wait.ensures.quiet ∙ ap g.W.Wire.handed c.count_taken.ensures.below)
+
+pub returns-in-Err-clause-turns : goal.returns-in-Err-clause-turns
+returns-in-Err-clause-turns g c none = (served_over g.W.Wire _ _ _ _ _ c.begin.ensures.below c.in-Err.ensures.served, none)
+
+pub returns-else-not-serve-clause-turns : goal.returns-else-not-serve-clause-turns
+returns-else-not-serve-clause-turns g c none = (
+  served_then _ _ _ None (served_over g.W.Wire _ _ _ _ _ c.begin.ensures.below c.in-Ok.ensures.served)
+      (still g.W.Wire _ _ _ _ (c.serve.ensures.none none).0 (ap g.W.Wire.given c.count_taken.ensures.below) (ap g.W.Wire.handed c.count_taken.ensures.below)),
+  (c.serve.ensures.none none).1,
+)
+
+pub returns-then-not-serve-clause-turns : goal.returns-then-not-serve-clause-turns
+returns-then-not-serve-clause-turns g c none = (
+  served_then _ _ _ None (served_over g.W.Wire _ _ _ _ _ c.begin.ensures.below c.in-Ok.ensures.served)
+      (still g.W.Wire _ _ _ _ (c.serve.ensures.none none).0 (c.wait.ensures.given ∙ ap g.W.Wire.given c.count_taken.ensures.below)
+      (c.wait.ensures.quiet ∙ ap g.W.Wire.handed c.count_taken.ensures.below)),
+  c.wait.ensures.none (c.serve.ensures.none none).1,
+)

@@ -7,4 +7,4 @@ use Rattle.pf_node_words.proofs.node.run_on.Goals as goal
 
 pub returns-clause-store : goal.returns-clause-store
 returns-clause-store c = λ file new.
-    subst (λ (o : Outcome). IsStoreless file new o) (sym c.ending_of-outcome.ensures.is) (of_ending _ _ (of_run _ _ _ _ _ c.run_member_in-outcome.ensures) file new)
+    subst (λ (o : Outcome). IsStoreless file new o) (sym c.ending_of-outcome.ensures.is) (of_ending _ _ (of_run _ _ _ _ _ c.run_member_in-outcome.ensures.hosted) file new)

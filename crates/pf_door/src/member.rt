@@ -1,0 +1,182 @@
+//! A member's run, with a control socket or without one.
+
+ghost use Rattle.std.specs.Prelude.{◌≡◌, ◌<◌, ℕ, None, Ok, IfErr};
+ghost use Rattle.px_model.specs.Step.{front};
+ghost use Rattle.px_replica.specs.Faults.{fault_of};
+ghost use Rattle.pf_node.specs.Nodes.{learned_by, applied_of};
+ghost use Rattle.pf_member.specs.Lives.{HostTells, HostedRuns, Hosts, Runs, Serves, Tells, told_by};
+ghost use Rattle.pf_door.specs.Wiring.{below_of};
+
+use crate::clerk::Clerk;
+use crate::door::{Door, DoorFault};
+use crate::running::pass_on;
+use crate::tallying::TallyWire;
+use pf_member::{Ended, Membership};
+use pf_node::Node;
+use pf_turn::{NodeFault, Room, Wire};
+use px_records::Records;
+use std::alloc::Global;
+use std::fs::Files;
+use std::hash::RandomState;
+use std::io::Eprint;
+use std::net::{Net, SocketAddr, TcpListener, TcpStream};
+use std::os::fd::RawFd;
+use std::random::RandomSource;
+use std::time::Clock;
+
+/// Where a running node is asked.
+#[derive(Clone, Copy)]
+pub struct DoorPlace<'a> {
+    /// The path of its control socket.
+    pub path: &'a str,
+    /// The port at which figures are served over TCP, if they are.
+    pub figures: Option<SocketAddr>,
+    /// Where each member listens, in the order of their numbers, with a blank between two.
+    pub members: &'a str,
+    /// The descriptor of the members' socket.
+    pub fd: RawFd,
+}
+
+/// The control socket at the place, if there is to be one. A wait at it ends, too, when a datagram comes.
+fn open_at<RT>(rt: &RT, alloc: Global, place: Option<DoorPlace<'_>>) -> Result<Option<Door>, Ended>
+where
+    RT: Files + Net<Listener = TcpListener, Stream = TcpStream> + RandomSource,
+    ensures none { place.entry ≡ None → result ≡ Ok None }
+    ensures fault { IfErr result (λ ended. (n k : ℕ) → HostTells n k None ended) }
+{
+    let Some(place) = place else {
+        return Ok(None);
+    };
+    let Ok(keys) = RandomState::new(rt) else {
+        return Err(Ended::NoControlSocket);
+    };
+    match Door::open(rt, alloc, keys, place.path, place.figures) {
+        Ok(mut door) => {
+            if door.watch(place.fd) {
+                Ok(Some(door))
+            } else {
+                Err(Ended::NoControlSocket)
+            }
+        }
+        Err(DoorFault::Memory) => Err(Ended::Fault(NodeFault::Memory)),
+        Err(DoorFault::NoDoor) => Err(Ended::NoControlSocket),
+        Err(DoorFault::NoPort) => Err(Ended::NoPort),
+    }
+}
+
+/// The control socket is closed, if there is one.
+fn close_at<RT: Files>(rt: &RT, door: Option<Door>, place: Option<DoorPlace<'_>>) {
+    let Some(door) = door else {
+        return;
+    };
+    if let Some(place) = place {
+        door.close(rt, place.path);
+    }
+}
+
+/// Where the members listen, as clients are told.
+fn members_at<'a>(place: Option<DoorPlace<'a>>) -> &'a str {
+    match place {
+        Some(place) => place.members,
+        None => "",
+    }
+}
+
+/// How a node's turns ended.
+fn ended_of<R: Records>(ended: Result<(), NodeFault>, node: &Node<R>) -> Ended
+    ensures { Tells (front (learned_by node.now)) (applied_of node.now) (fault_of ended) result }
+{
+    match ended {
+        Ok(()) => Ended::Front {
+            front: node.front(),
+            applied: node.applied(),
+        },
+        Err(fault) => Ended::Fault(fault),
+    }
+}
+
+/// A node runs, and is given back.
+fn run_node<R: Records, W: Wire, RT: Clock + Eprint>(
+    rt: &RT,
+    alloc: Global,
+    node: Node<R>,
+    wire: &mut TallyWire<W>,
+    members: &str,
+    door: &mut Option<Door>,
+    turns: u64,
+) -> (Ended, Node<R>)
+    ensures hosted { Hosts node result.1 (told_by W.Wire (below_of wire.old)) (told_by W.Wire (below_of wire.new))
+        result.0 }
+    ensures turns { door.old ≡ None → Serves node result.1 (told_by W.Wire (below_of wire.old))
+        (told_by W.Wire (below_of wire.new)) result.0 }
+{
+    let Ok(tally) = wire.first_tally(alloc, members) else {
+        return (Ended::Fault(NodeFault::Memory), node);
+    };
+    let Ok(mut room) = Room::new(alloc) else {
+        return (Ended::Fault(NodeFault::Memory), node);
+    };
+    let mut clerk = Clerk::new(alloc, node, tally);
+    let ended = pass_on(rt, &mut clerk, wire, &mut room, door, turns);
+    let node = clerk.close();
+    (ended_of(ended, &node), node)
+}
+
+/// The same with the control socket at the place, which is closed in the end.
+fn run_at<R: Records, W: Wire, RT>(
+    rt: &RT,
+    alloc: Global,
+    node: Node<R>,
+    wire: &mut TallyWire<W>,
+    place: Option<DoorPlace<'_>>,
+    turns: u64,
+) -> (Ended, Node<R>)
+where
+    RT: Clock + Eprint + Files + Net<Listener = TcpListener, Stream = TcpStream> + RandomSource,
+    ensures hosted { Hosts node result.1 (told_by W.Wire (below_of wire.old)) (told_by W.Wire (below_of wire.new))
+        result.0 }
+    ensures turns { place.entry ≡ None → Serves node result.1 (told_by W.Wire (below_of wire.old))
+        (told_by W.Wire (below_of wire.new)) result.0 }
+{
+    let mut door = match open_at(rt, alloc, place) {
+        Ok(door) => door,
+        Err(ended) => return (ended, node),
+    };
+    let (ended, node) = run_node(rt, alloc, node, wire, members_at(place), &mut door, turns);
+    close_at(rt, door, place);
+    (ended, node)
+}
+
+/// A member's run over its record: the record is opened, turns are made over the wire, and the record is given back.
+///
+/// The node takes what comes as it comes, and its clock ticks when its pace says so ([`pf_turn::round`]). Where there
+/// is a place, requests come in at a control socket there, and between two rounds one at most is answered; each change
+/// of the node's health is a line on standard error. The run ends after the given number of turns, where each datagram
+/// counts for one, and so do each tick and each wait, of a tenth of a second at most; with the first fault of the
+/// node's calls; or once an operator asked for that and has the answer. Before it ends, what waits to be proposed is
+/// worked off ([`pf_turn::finish`]).
+pub fn run_member<R: Records, W: Wire, RT>(
+    rt: &RT,
+    alloc: Global,
+    m: Membership,
+    records: R,
+    wire: &mut TallyWire<W>,
+    place: Option<DoorPlace<'_>>,
+    turns: u64,
+) -> (Ended, R)
+where
+    RT: Clock + Eprint + Files + Net<Listener = TcpListener, Stream = TcpStream> + RandomSource,
+    requires members { R.members records ≡ m.members }
+    requires here { m.me < m.members }
+    ensures hosted { HostedRuns R.Records m records (told_by W.Wire (below_of wire.old))
+        (told_by W.Wire (below_of wire.new)) result.0 result.1 }
+    ensures turns { place.entry ≡ None → Runs R.Records m records (told_by W.Wire (below_of wire.old))
+        (told_by W.Wire (below_of wire.new)) result.0 result.1 }
+{
+    let node = match Node::open(alloc, m, records) {
+        Ok(node) => node,
+        Err((fault, records)) => return (Ended::Fault(fault), records),
+    };
+    let (ended, node) = run_at(rt, alloc, node, wire, place, turns);
+    (ended, node.close())
+}
