@@ -126,7 +126,7 @@ pub chains_apart : (p : ℕ) (d : Direction) (r : NftRuleset) (n m : ChainName) 
 chains_apart p d r n m few h k e =
     let f = append_cancel_left (generation p) _ _ (sym (label_is p d r n) ∙ e ∙ label_is p d r m) in
     let i = decimal_injective (chain_index n r.chains) (chain_index m r.chains)
-          (omega (arith, few, chains_before n r.chains)) (omega (arith, few, chains_before m r.chains)) (ap (drop 1) f) in
+    (omega (arith, few, chains_before n r.chains)) (omega (arith, few, chains_before m r.chains)) (ap (drop 1) f) in
     chains_same n m r.chains h k i
 
 -- ---- sets
@@ -175,5 +175,5 @@ pub sets_apart : (p : ℕ) (r : NftRuleset) (n m : SetName) → length r.sets < 
 sets_apart p r n m few h k e =
     let f = append_cancel_left (generation p) _ _ e in
     let i = decimal_injective (set_index n r.sets) (set_index m r.sets)
-          (omega (arith, few, sets_before n r.sets)) (omega (arith, few, sets_before m r.sets)) (ap (drop 1) f) in
+    (omega (arith, few, sets_before n r.sets)) (omega (arith, few, sets_before m r.sets)) (ap (drop 1) f) in
     sets_same n m r.sets h k i

@@ -8,6 +8,6 @@ use Rattle.pf_config.specs.Map.{Configuration}
 abbrev pub alone : (skip : List Name) → List AnyRule → Configuration
 alone skip [] = record { skip = skip; anchors = [] }
 alone skip (r ∷ rules) = record {
-    skip = skip;
-    anchors = record { path = []; rules = r ∷ rules; tables = [] } ∷ [];
-  }
+  skip = skip;
+  anchors = record { path = []; rules = r ∷ rules; tables = [] } ∷ [];
+}
