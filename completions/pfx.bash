@@ -17,7 +17,6 @@ _pfx() {
     -T) COMPREPLY=($(compgen -W "add delete replace flush show test" -- "$current")); return ;;
     -s) COMPREPLY=($(compgen -W "rules Tables Anchors" -- "$current")); return ;;
     --pf) [[ $word != follow ]] || { COMPREPLY=($(compgen -d -- "$current")); return; } ;;
-    --answer) COMPREPLY=($(compgen -W "learned" -- "$current")); return ;;
     -f | --file | --packets | --config | --store | --key | --other-key | --door | --interfaces)
         COMPREPLY=($(compgen -f -- "$current")); return ;;
     -a | -t | --me | --cluster | --turns | --to | --members | --node | --wait | --at | --position | --metrics) return ;;
@@ -31,7 +30,7 @@ _pfx() {
     test) options="-f --file --packets -q --quiet -v --verbose" ;;
     ctl) options="-v --verbose" ;;
     node)
-        options="--config --me --cluster --store --turns --answer --door --metrics --key --other-key --unsealed --new --check --quiet" ;;
+        options="--config --me --cluster --store --turns --door --metrics --key --other-key --unsealed --new --check --quiet" ;;
     ask)
         options="--wait -a -f -n -F -t -T -s"
         [[ $seen == *" --to "* ]] || options+=" --door --at --unchecked --script --from"

@@ -1,6 +1,6 @@
 -- What members lived with their wires is a history of the cluster.
 use Rattle.std.proofs.Common.{◌≡◌, ◌≢◌, ◌∙◌, ◌⊎◌, sym, ap, subst, refl, ℕ, zero, suc, ◌<◌, ◌≤◌, Bool, true, false, not, cond, nat_eq, List, [], ◌∷◌, ◌++◌, Some, slice_get, inl, inr, arith, append_assoc, eq-eqb, ne_eqb}
-use Rattle.std.specs.Prelude.{map, slice_index}
+use Rattle.std.specs.Prelude.{map}
 use Rattle.std.proofs.lemmas.Bool.{cond-true, cond-false}
 use Rattle.std.proofs.lemmas.Bool.Decides.{eqb_tells}
 use Rattle.px_model.proofs.Basics.{among_left, among_right, among_cases}
@@ -74,10 +74,6 @@ get_more [] ys k d h = absurd (cc)
 get_more (e ∷ xs) ys zero d h = h
 get_more (e ∷ xs) ys (suc k) d h = get_more xs ys k d h
 
--- the sender's place in a datagram
-placed : (g : Group) (from to : ℕ) (x : Message) → slice_index (spelling g from to x) 10 ≡ from
-placed g from to x = refl
-
 message_delivered : (g : Group) (handed : List (ℕ × Bytes)) (sent : List Datagram) (m sender : ℕ) (message : node.Message Bytes) (bytes : Bytes) →
     m ≢ asker → Holds handed sent → IsCarried g handed m bytes → DatagramBytes g sender m (as_sent message) bytes →
     WasSent g sent m sender message ⊎ (sender ≡ asker)
@@ -91,10 +87,8 @@ message_delivered g handed sent m sender message bytes other holds (inl among) s
       to_it = r.2;
       spelled = subst (λ (b : Bytes). DatagramBytes g sender m (as_sent message) b) (sym r.3) spelled;
     })
-message_delivered g handed sent m sender message bytes other holds (inr (inr nobodys)) spelled =
-    absurd (nobodys sender (as_sent message) spelled)
-message_delivered g handed sent m sender message bytes other holds (inr (inl asks)) spelled =
-    inr (sym (placed g sender m (as_sent message)) ∙ (sym (ap (λ (b : Bytes). slice_index b 10) spelled.spelled) ∙ asks))
+message_delivered g handed sent m sender message bytes other holds (inr outside) spelled =
+    inr (outside sender (as_sent message) spelled)
 
 one_delivered : (g : Group) (handed : List (ℕ × Bytes)) (sent : List Datagram) (m : ℕ) (gave : List Bytes) (x : Input Bytes) →
     m ≢ asker → Holds handed sent → ((b : Bytes) → Among gave b → IsCarried g handed m b) → AreBrought g m gave (message_in x) →

@@ -15,7 +15,9 @@ use Rattle.px_replica.specs.Replicas.{records_of, membership_of, state_in}
 use Rattle.px_replica.specs.declared.fault.NodeFault.{NodeFault}
 use Rattle.pf_turn.specs.Turns.{Stand}
 use Rattle.pf_turn.specs.Living.{Heard, message_in, messages_of, AreBrought, sent_by, Living}
-use Rattle.pf_turn.proofs.Traffic.{messages_then, are_brought, brought_then}
+use Rattle.px_resend.specs.Again.{AreAmong}
+use Rattle.px_resend.proofs.Among.{among_all, among_sides}
+use Rattle.pf_turn.proofs.Traffic.{messages_then, are_brought, brought_then, sent_all}
 use Rattle.pf_turn.proofs.Lives.{lived_then}
 use Rattle.pf_cluster.specs.Wires.{Stretch, AreStretches, IsCarried, AreCarried, deeds_in, led_to}
 use Rattle.pf_cluster.specs.Runs.{IsStretch, IsNew, LivesGo, at_first, stretch_of, stretch_to, LivesAreStretches, OpeningsAreStretches, Run, member_in, TellsMore, IsRun, AreRuns, NetworkCarries, standing_in, RunsAreStretches, RunsNeverDiffer}
@@ -36,7 +38,7 @@ whole x z a l below =
     record {
       below = below;
       lived = as_led g me (state_in x.replica) l.then l.deeds l.lived;
-      brought = are_brought g me l.came (messages_of l.deeds) l.brought;
+      brought = are_brought g me x.hears_asks x.requests l.came (messages_of l.deeds) l.brought;
     }
 
 cut : {R : Type 0} {G : Ghosts R} (x z : Stand G) (a : Option NodeFault) (l : Living x z a) →
@@ -56,7 +58,7 @@ cut x z a l below left may =
             (lived_then g me (state_in x.replica) l.then (stopped left) l.deeds end l.lived (l.up, s.1, s.3, refl));
         brought = subst (λ (ms : List Heard). AreBrought g me (l.came ++ l.last) ms) (sym (messages_then l.deeds end))
             (brought_then g me l.came l.last (messages_of l.deeds) (message_in s.0 ++ [])
-            (are_brought g me l.came (messages_of l.deeds) l.brought) last);
+            (are_brought g me x.hears_asks x.requests l.came (messages_of l.deeds) l.brought) last);
       },
     )
 
@@ -115,7 +117,7 @@ record IsLived {R : Type 0} {G : Ghosts R} (g : Group) (nodes : ℕ → NodeStat
   stretch : Stretch
   lived : IsStretch g (nodes stretch.member) stretch
   carried : (bytes : Bytes) → Among stretch.gave bytes → IsCarried g handed stretch.member bytes
-  sent : r.handed ≡ sent_by stretch.deeds
+  sent : AreAmong r.handed (sent_by stretch.deeds)
   stands : put nodes (member_in r) (state_in r.to.replica) ≡ put_on nodes stretch
 
 run_lived : {R : Type 0} {G : Ghosts R} (g : Group) (nodes : ℕ → NodeState Bytes) (handed : List (ℕ × Bytes)) (r : Run G) →
@@ -139,9 +141,21 @@ run_lived {R} {G} g nodes handed r is carries =
       lived = subst (λ (s : NodeState Bytes). IsStretch g s x) is.begins
           (subst (λ (k : Group). IsStretch k (state_in r.from.replica) x) is.cluster lived);
       carried = λ bytes among. carries bytes (subst (λ (bs : List Bytes). Among bs bytes) (sym gave) among);
-      sent = told r.from.handed r.to.handed (sent_by l.deeds) r.handed l.sent is.handed;
+      sent = subst (λ (hs : List (ℕ × Bytes)). AreAmong hs (sent_by l.deeds))
+          (sym (told r.from.handed r.to.handed l.handed r.handed l.sent is.handed))
+          (subst (λ (kept : List (ℕ × Bytes)). AreAmong l.handed (kept ++ sent_by l.deeds)) is.fresh
+          (sent_all r.from.kept (sent_by l.deeds) l.handed l.again));
       stands = ap (λ (s : NodeState Bytes). put nodes (member_in r) s) stands;
     }
+
+-- what is carried where fewer were handed is carried
+carried_more : (g : Group) (xs : List Stretch) (few many : List (ℕ × Bytes)) → AreAmong few many → AreCarried g xs few → AreCarried g xs many
+carried_more g [] few many a c = tt
+carried_more g (x ∷ xs) few many a c = (
+  λ bytes among. elim (c.0 bytes among) [ inl handed ↦ inl (a (x.member, bytes) handed) | inr outside ↦ inr outside ],
+  carried_more g xs (few ++ sent_by x.deeds) (many ++ sent_by x.deeds)
+      (among_sides few (sent_by x.deeds) many (sent_by x.deeds) a (among_all (sent_by x.deeds))) c.1,
+)
 
 -- stretches that are so many runs, and then others
 record AreOf {R : Type 0} {G : Ghosts R} (g : Group) (nodes : ℕ → NodeState Bytes) (handed : List (ℕ × Bytes)) (rs ss : List (Run G)) :
@@ -187,7 +201,11 @@ runs_lived g (r ∷ ss) nodes handed are carries =
       more = one.stretch ∷ xs;
       are = (one.lived.below, one.lived.brought, rest.are);
       live = first_live g nodes handed r xs one rest.live;
-      carried = (one.carried, subst (λ (hs : List (ℕ × Bytes)). AreCarried g xs (handed ++ hs)) one.sent rest.carried);
+      carried = (
+        one.carried,
+        carried_more g xs (handed ++ r.handed) (handed ++ sent_by one.stretch.deeds)
+            (among_sides handed r.handed handed (sent_by one.stretch.deeds) (among_all handed) one.sent) rest.carried,
+      );
       early = λ k. refl;
       late = λ k. first_led g nodes handed r xs one k _ (rest.late k);
     }
@@ -204,7 +222,11 @@ both_lived g (r ∷ rs) ss nodes handed are carries =
       more = rest.more;
       are = (one.lived.below, one.lived.brought, rest.are);
       live = first_live g nodes handed r xs one rest.live;
-      carried = (one.carried, subst (λ (hs : List (ℕ × Bytes)). AreCarried g xs (handed ++ hs)) one.sent rest.carried);
+      carried = (
+        one.carried,
+        carried_more g xs (handed ++ r.handed) (handed ++ sent_by one.stretch.deeds)
+            (among_sides handed r.handed handed (sent_by one.stretch.deeds) (among_all handed) one.sent) rest.carried,
+      );
       early = λ k. first_led g nodes handed r rest.before one k _ (rest.early k);
       late = λ k. first_led g nodes handed r xs one k _ (rest.late k);
     }

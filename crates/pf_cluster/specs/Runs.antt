@@ -99,12 +99,13 @@ member_in r = (membership_of r.from.replica).me
 abbrev pub TellsMore : {X : Type 0} → (old : Option (List X)) → List X → (new : Option (List X)) → Type 0
 TellsMore {X} old more new = (all : List X) × (old ≡ Some all) × (new ≡ Some (all ++ more))
 
--- The run of a member of the group from there on, without a fault and without a failure of its record; its wire tells
--- what it gave and was handed.
+-- The run of a member of the group from there on, with new buffers, without a fault and without a failure of its
+-- record; its wire tells what it gave and was handed.
 pub record IsRun {R : Type 0} {G : Ghosts R} (g : Group) (from : NodeState Bytes) (r : Run G) : Type 0 where
   pub cluster : group (membership_of r.from.replica) ≡ g
   pub below : member_in r < g.members
   pub begins : state_in r.from.replica ≡ from
+  pub fresh : r.from.kept ≡ []
   pub living : Living r.from r.to None
   pub holds : G.failed (records_of r.to.replica) ≡ 0
   pub gave : TellsMore r.from.given r.gave r.to.given

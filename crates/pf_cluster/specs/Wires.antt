@@ -1,16 +1,16 @@
 -- What members live with their wires, in the order in which it happened, and what is asked of the network.
-use Rattle.std.specs.Prelude.{◌≡◌, ◌⊎◌, ◌<◌, ℕ, List, [], ◌∷◌, ◌++◌, map, nat_eq, slice_index, if◌then◌else◌}
+use Rattle.std.specs.Prelude.{◌≡◌, ◌⊎◌, ◌<◌, ℕ, List, [], ◌∷◌, ◌++◌, map, nat_eq, if◌then◌else◌}
 use Rattle.px_model.specs.Law.{Among}
 use Rattle.px_model.specs.World.{NodeState, nothing_stored, started}
 use Rattle.px_model.specs.Spelling.{Bytes}
 use Rattle.px_wire.specs.Message.{Group}
 use Rattle.px_replica.specs.Lives.{Deed, stopped}
-use Rattle.px_replica.specs.Replicas.{IsUnspelled}
 use Rattle.pf_turn.specs.Living.{messages_of, AreBrought, sent_by}
+use Rattle.pf_turn.specs.Resending.{IsOutside}
 use Rattle.pf_cluster.specs.Clusters.{Happening}
 
 -- A stretch of a member's life: what befell it, one thing or several, and the datagrams that its wire gave meanwhile.
--- What the wire was handed meanwhile is what the member sent (`sent_by`).
+-- What the wire was handed meanwhile is what the member sent (`sent_by`), and some of that again.
 pub record Stretch : Type 0 where
   pub member : ℕ
   pub deeds : List Deed
@@ -41,10 +41,10 @@ AreStretches g (x ∷ xs) =
 -- ---- the network
 
 -- The datagram was handed to some member's wire, for this member, at any time before and however often it is given. Or
--- it is a request from outside: its byte for the sender is 255. Or it is no member's message to this member, which
--- ignores it: garbage, a datagram of another cluster, the empty one that a wire gives in place of one that it drops.
+-- it is no member's message to this member: what it spells, if anything, is a request from outside. So are garbage, a
+-- datagram of another cluster, and the empty one that a wire gives in place of one that it drops.
 abbrev pub IsCarried : Group → (handed : List (ℕ × Bytes)) → (member : ℕ) → Bytes → Type 0
-IsCarried g handed m bytes = Among handed (m, bytes) ⊎ ((slice_index bytes 10 ≡ 255) ⊎ IsUnspelled g m bytes)
+IsCarried g handed m bytes = Among handed (m, bytes) ⊎ IsOutside g m bytes
 
 -- So is each datagram that a wire gave in a stretch, by what wires were handed before that stretch began; these were
 -- handed already.

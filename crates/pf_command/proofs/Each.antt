@@ -63,7 +63,7 @@ one_fault xs e None (Err f) = refl
 one_fault xs e (Some d) (Ok ys) = refl
 one_fault xs e (Some d) (Err f) = ap Err (lower_both d e f)
 
--- so many words, so many values
+-- that many words, that many values
 all_read : {X : Type 0} (value : List ℕ → Result X AddrFault) (ws : List (List ℕ)) (xs : List X) → each value ws ≡ Ok xs → length xs ≡ length ws
 all_read value [] xs h = cc
 all_read {X} value (w ∷ ws) xs h = go (value w) (each value ws) (λ ys e. all_read value ws ys e) h

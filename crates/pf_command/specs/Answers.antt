@@ -9,7 +9,7 @@ use Rattle.pf_command.specs.declared.fault.CommandFault.TheVariants.{Memory, Usa
 use Rattle.pf_command.specs.Asked.{Asked, ActionValue, Change, CheckOnly, ShowRules, ShowTables}
 use Rattle.pf_command.specs.Asked.{ShowAnchors, TableShow, TableTest, is_too_long}
 
--- none for want of memory
+-- none for lack of memory
 abbrev pub command_fault_code : CommandFault → Option ℕ
 command_fault_code Memory = None
 command_fault_code Usage = Some 40
@@ -29,7 +29,7 @@ action_value (action.TableTest path table list) = TableTest path table list.item
 
 -- ---- actions
 
--- the fault is the one that is defined; of want of memory nothing is said
+-- the fault is the one that is defined; nothing is said of out of memory
 abbrev pub FailsAs : CommandFault → Asked → Type 0
 FailsAs Memory asked = Unit {0}
 FailsAs Usage asked = asked ≡ Err Usage

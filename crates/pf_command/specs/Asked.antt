@@ -101,6 +101,7 @@ chosen check None None None (Some text) = unless check (show_word text)
 chosen _ _ _ _ _ = None
 
 -- the word among what was given, none where the options don't go together or the value is no such word
+-- Example: -F rules -s rules is none.
 abbrev pub word_of : GivenWords → Option Word
 word_of given = chosen given.check given.file given.flush given.change given.show
 
@@ -135,6 +136,7 @@ before (Err e) (Ok xs) = Err e
 before (Err e) (Err f) = Err (lower e f)
 
 -- each word's value, or the lowest fault of any
+-- Example: 10/33 10.0.0 is 2.
 abbrev pub each : {X : Type 0} → (Text → Result X AddrFault) → List Text → Result (List X) AddrFault
 each value [] = Ok []
 each value (w ∷ ws) = before (value w) (each value ws)

@@ -10,7 +10,7 @@ use pf_addr::{Addr, AddrFault, parse_addr, parse_prefix};
 use pf_ruleset::TableEntry;
 use std::alloc::Global;
 
-/// Whether `!` stands first, and what stands behind it, or all of the word.
+/// Whether `!` stands first, and what is behind it, or all of the word.
 #[tactic(auto, using(crate::proofs::Each::negated, crate::proofs::Each::not_negated))]
 fn cut_sign(word: &str) -> (bool, &str)
     ensures { entry_of word.now ≡ signed result.0 (prefix_of result.1.now) }

@@ -119,7 +119,7 @@ pub(crate) fn word_of(given: Given<'_, '_>) -> Option<Word>
 }
 
 impl TableWord {
-    /// Whether so many addresses may stand behind it.
+    /// Whether that many addresses may be behind it.
     pub(crate) fn may_have(self, count: usize) -> bool
         ensures { result ≡ may_have self count }
     {

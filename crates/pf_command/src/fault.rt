@@ -29,7 +29,7 @@ pub enum CommandFault {
 }
 
 impl CommandFault {
-    /// The number of the refusal; none for want of memory.
+    /// The number of the refusal; none for lack of memory.
     pub fn code(self) -> Option<u8>
         ensures { result ≡ command_fault_code self }
     {

@@ -28,6 +28,7 @@ abbrev pub address_word : Address → List ℕ
 address_word a = 32 ∷ entry_part (entry_of a)
 
 -- a load's text is only counted
+-- Source: pfctl(8). Example: a load of 120 bytes at x: -a x -f - (120).
 abbrev pub command_words : Command → List ℕ
 command_words (load p profile text) = path_words p ++ codes "-f - (" ++ decimal (length text) ++ codes ")"
 command_words (flush_rules p) = path_words p ++ codes "-F rules"

@@ -2,7 +2,7 @@
 //!
 //! # Organization
 //!
-//! - [`is_same`]: whether they skip the same interfaces, and the same rules and tables stand at the same paths.
+//! - [`is_same`]: whether they skip the same interfaces, and the same rules and tables are at the same paths.
 //!
 //! Within: `same` goes through paths and tables, `same_rules` through rules, `same_parts` through their parts.
 #![tactic(auto)]

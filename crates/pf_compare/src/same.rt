@@ -107,7 +107,7 @@ fn same_named(
     Ok(true)
 }
 
-/// Whether the same tables stand at a path.
+/// Whether the same tables are at a path.
 fn same_tables(alloc: Global, a: &Config, b: &Config, path: &[Name]) -> Result<bool, AllocError>
     ensures { IfOk result (λ s. s ≡ true → tables_of a.now path.now ≡ tables_of b.now path.now) }
 {
@@ -119,7 +119,7 @@ fn same_tables(alloc: Global, a: &Config, b: &Config, path: &[Name]) -> Result<b
     same_named(alloc, a, b, path, &names)
 }
 
-/// Whether the same stands at a path.
+/// Whether the same is at a path.
 fn same_at(alloc: Global, a: &Config, b: &Config, path: &[Name]) -> Result<bool, AllocError>
     ensures { IfOk result (λ s. s ≡ true → content_at a.now path.now ≡ content_at b.now path.now) }
 {
@@ -148,7 +148,7 @@ fn same_paths(a: &[&[Name]], b: &[&[Name]]) -> bool
     right.is_empty()
 }
 
-/// Whether the same stands at each of these paths.
+/// Whether the same is at each of these paths.
 fn same_at_all(alloc: Global, a: &Config, b: &Config, paths: &[&[Name]]) -> Result<bool, AllocError>
     ensures { IfOk result (λ s. s ≡ true → map (content_at a.now) (map (λ x. x.now) paths.now)
         ≡ map (content_at b.now) (map (λ x. x.now) paths.now)) }

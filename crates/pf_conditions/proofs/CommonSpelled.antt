@@ -222,7 +222,7 @@ protocols_read profile ts rest x is h = behind_reads (codes "proto") (protocols_
 
 -- ---- all of it
 
--- what stands in a rule before its options
+-- what is in a rule before its options
 pub common_rank : (profile : Profile) (ts rest : List Token) (c : CommonText) → IsCommon profile ts c → 10 < rank rest → 4 < rank (ts ++ rest)
 common_rank profile ts rest c is h =
     let r7 = hosts_rank profile is.hosts rest c.source c.destination is.are_hosts h in

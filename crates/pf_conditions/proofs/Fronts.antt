@@ -1,4 +1,4 @@
--- What stands at the front of tokens.
+-- What is at the front of tokens.
 use Rattle.std.proofs.Common.{◌≡◌, ℕ, ◌<◌, ◌≤◌, ◌==◌, Bool, true, false, List, [], ◌∷◌, ◌++◌, drop, Option, Some, None, refl, sym, ap, ◌∙◌, arith}
 use Rattle.std.specs.Prelude.{codes, if◌then◌else◌}
 use Rattle.std.proofs.lemmas.Slice.Eq.{bytes_eq-Decides}
@@ -28,7 +28,7 @@ rank_in (Some n) = n
 abbrev pub word_rank : List ℕ → ℕ
 word_rank word = rank_in (named ranked word)
 
--- a brace ends what stands before it, and no other symbol begins a part
+-- a brace ends what is before it, and no other symbol begins a part
 abbrev pub mark_rank : Symbol → ℕ
 mark_rank Open = 20
 mark_rank Close = 20

@@ -17,7 +17,7 @@ behind names (Some (more, children)) = Some (names ++ more, children)
 abbrev read_names : List Name × Bool → Option (List Name × Bool)
 read_names x = Some x
 
--- one more of them stands in front
+-- one more of them is in front
 behind_one : (names : List Name) (name : Name) (read : Option (List Name × Bool)) → behind (names ++ name ∷ []) read ≡ behind names (in_front (Some name) read)
 behind_one names name None = refl
 behind_one names name (Some (more, children)) = ap (λ (all : List Name). read_names (all, children)) (append_assoc names (name ∷ []) more)

@@ -269,6 +269,7 @@ abbrev pub just_within : TcpFlags → TcpFlags → Option FlagTest
 just_within set of = if_so (is_within set of) (flags.Just set of)
 
 -- "any" | [LETTERS] "/" LETTERS
+-- Example: 2000:2004, S/SA.
 unfoldable pub flags_at : List Token → Read FlagTest
 flags_at ts = if begins (codes "any") ts then Some (flags.Any, drop 1 ts) else (do
   set ← letters_at ts

@@ -1,4 +1,4 @@
--- What may stand behind an element of a list.
+-- What may be behind an element of a list.
 use Rattle.std.specs.Prelude.{Bool, true, List, ◌&&◌, not, codes}
 use Rattle.pf_tokens.specs.declared.symbol.Symbol.TheVariants.{Slash, Between, Outside}
 use Rattle.pf_tokens.specs.Tokens.{Token}

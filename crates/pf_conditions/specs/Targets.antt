@@ -22,13 +22,13 @@ in_front None more = None
 in_front (Some name) None = None
 in_front (Some name) (Some (names, children)) = Some (name ∷ names, children)
 
--- names, and whether `*` stands behind them
+-- names, and whether `*` is behind them
 abbrev pub names_of : List (List ℕ) → Option (List Name × Bool)
 names_of [] = Some ([], false)
 names_of (piece ∷ more) =
     if is_star (piece ∷ more) then Some ([], true) else in_front (name_if is_anchor_text piece) (names_of more)
 
--- the target of these names, if they are 1 to 8; the children of that anchor where `*` stands behind them
+-- the target of these names, if they are 1 to 8; the children of that anchor where `*` is behind them
 abbrev pub target_with : (List Name × Bool) → Option Target
 target_with (names, children) =
     if_so (nat_le 1 (length names) && nat_le (length names) 8) (record { names = names; children = children })
@@ -56,6 +56,7 @@ target_behind None ts = None
 target_behind (Some target) ts = Some (target, ts)
 
 -- ANAME
+-- Example: "ftp-proxy/*"; "in", but not in.
 unfoldable pub target_at : Profile → List Token → Read Target
 target_at profile [] = None
 target_at profile (t ∷ ts) = target_text profile t >>= λ text. target_behind (target_of text) ts

@@ -4,7 +4,7 @@ ghost use Rattle.std.specs.Prelude.{◌≡◌};
 ghost use Rattle.std.specs.Option.{option_copied};
 ghost use Rattle.pf_addr.specs.Spelling.{cut_at};
 
-/// What stands before the first mark, and what after it, if there is one.
+/// What is before the first mark, and what after it, if there is one.
 #[tactic(auto, using(pf_addr::proofs::Pieces::cut_found, pf_addr::proofs::Pieces::cut_none))]
 pub(crate) fn cut(text: &[u8], mark: u8) -> (&[u8], Option<&[u8]>)
     ensures { (result.0.now, option_copied result.1) ≡ cut_at mark text.now }

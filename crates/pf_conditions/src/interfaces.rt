@@ -31,7 +31,7 @@ fn read_interface_name<'t: 's, 's>(
     }
 }
 
-/// The name of an interface, which may stand in a list.
+/// The name of an interface, which may be in a list.
 pub struct InterfaceNameProduction;
 
 impl Element for InterfaceNameProduction {

@@ -6,7 +6,7 @@ ghost use Rattle.pf_conditions.specs.Conditions.{host_at, interface_at, interfac
 ghost use Rattle.pf_conditions.specs.Conditions.{protocol_at, type_at};
 ghost use Rattle.pf_conditions.specs.ListElements.{anything, may_follow_host, may_follow_port};
 
-/// What may stand in the lists of a statement's conditions is an element as [`pf_tokens::lists_as_spelled`] asks for
+/// What may be in the lists of a statement's conditions is an element as [`pf_tokens::lists_as_spelled`] asks for
 /// one: an interface, its name, a protocol, a type of ICMP, a host and a port.
 pub fn elements_of_lists()
     ensures names { (profile : Profile) → IsElement (interface_name_at profile) anything }

@@ -6,8 +6,8 @@
 //!   [`WrittenPort`] and [`WrittenType`].
 //! - [`read_common`], [`read_flags`] and [`read_types`] read its parts at a parser of `pf_tokens`; [`read_prefix`] and
 //!   [`read_table`], prefixes and names of tables; [`read_target`], the names of an anchor.
-//! - [`InterfaceNameProduction`], the name of an interface, which may stand in a list.
-//! - [`elements_of_lists`]: what may stand in a list is an element as the law of lists asks for one.
+//! - [`InterfaceNameProduction`], the name of an interface, which may be in a list.
+//! - [`elements_of_lists`]: what may be in a list is an element as the law of lists asks for one.
 #![tactic(auto)]
 
 mod behind;

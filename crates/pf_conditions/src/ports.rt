@@ -145,7 +145,7 @@ fn read_compared<'t: 's, 's>(
     Some(WrittenPort { test })
 }
 
-/// What stands behind the first word of a test without an operator before it.
+/// What is behind the first word of a test without an operator before it.
 #[tactic(auto, unfolding(pf_tokens::specs::Productions::symbol_at, crate::specs::Conditions::port_behind))]
 fn read_port_rest<'t: 's, 's>(
     profile: Profile,

@@ -64,7 +64,7 @@ same_place p rules rules' tables tables' es =
     let first = whole.first ∙ append_none (anchors_before p es ++ []) ∙ append_none (anchors_before p es) in
     rw (first, whole.last) refl
 
--- ---- what stands at the path
+-- ---- what is at the path
 
 none_before : (p : Path) (es : List AnchorValue) → anchor_at p (anchors_before p es) ≡ None
 none_before p [] = refl

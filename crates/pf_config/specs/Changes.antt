@@ -168,7 +168,7 @@ pub record Block : Type 0 where
   pub path : Path
   pub rules : List AnyRule
 
--- the blocks of rules at a path: each stands before those in it, and these before the blocks that follow
+-- the blocks of rules at a path: each is before those in it, and these before the blocks that follow
 abbrev mutual
   pub blocks_of : Path → ItemValue → List Block
   blocks_of p (Filters rule) = []

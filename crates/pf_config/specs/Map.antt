@@ -19,7 +19,7 @@ pub record AnchorValue : Type 0 where
   pub rules : List AnyRule
   pub tables : List (Name × TableValue)
 
--- the entries of the map stand in byte order of their paths, each path once
+-- the entries of the map are in byte order of their paths, each path once
 pub record Configuration : Type 0 where
   pub skip : List Name
   pub anchors : List AnchorValue

@@ -22,7 +22,7 @@ use Rattle.pf_config.specs.declared.candidate.Candidate.{Candidate}
 abbrev pub everything : Interval
 everything = record { first = 0; width = 4294967295 }
 
--- the numbers that agree with this one but in the last bits, so many as said; the code's numbers have 32 bits
+-- the numbers that agree with this one but in the last bits, that many as said; the code's numbers have 32 bits
 unfoldable pub around : ℕ → ℕ → Interval
 around n bits = record { first = min (n / 2 ^ bits * 2 ^ bits) 4294967295; width = 2 ^ bits - 1 }
 
@@ -64,7 +64,8 @@ abbrev pub port_interval : Option PortTest → Interval
 port_interval None = everything
 port_interval (Some t) = test_interval t
 
--- what few compares of numbers tell of a rule's conditions: it matches no packet outside of these
+-- what few comparisons of numbers say of a rule's conditions: it matches no packet outside of these
+-- Example: to 10/8 port 22: 10.0.0.0 and 2^24 - 1 more; 22.
 unfoldable pub sieve_of : Conditions → Sieve
 sieve_of c = record {
   direction = c.direction;
@@ -102,6 +103,7 @@ unfoldable pub stops_of : List AnyRule → List Candidate
 stops_of rules = candidates may_stop 0 rules
 
 -- the rules that aren't quick, the last one first
+-- Example: pass, block quick, anchor x: stops 1, 2; others 2, 0.
 unfoldable pub others_of : List AnyRule → List Candidate
 others_of rules = reverse (candidates is_other 0 rules)
 

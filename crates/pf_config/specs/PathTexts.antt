@@ -35,6 +35,7 @@ IsNoPath TableFull path = ⊥
 IsNoPath AnchorsFull path = ⊥
 
 -- a call answers the path that a text is, or 24 where it is none, unless memory ran out
+-- Example: a/_1 is none.
 abbrev pub PathAnswers : Result (List Name) ConfigFault → Option (List Name) → Type 0
 PathAnswers (Ok p) path = path ≡ Some p
 PathAnswers (Err fault) path = IsNoPath fault path

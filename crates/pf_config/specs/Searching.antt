@@ -4,7 +4,7 @@ use Rattle.pf_config.specs.declared.candidate.Candidate.{Candidate}
 use Rattle.pf_config.specs.declared.candidate_list.Search.{Search}
 use Rattle.pf_config.specs.Searches.{may_pass, AreMarked}
 
--- its rows tell of its candidates and numbers
+-- its rows describe its candidates and numbers
 abbrev pub IsSound : Search → Type 0
 IsSound s = AreMarked s.list.now s.source s.destination s.destination_port s.row
 

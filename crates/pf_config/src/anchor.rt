@@ -1,4 +1,4 @@
-//! An anchor, with all that stands below it.
+//! An anchor, with all that is below it.
 
 ghost use Rattle.std.specs.Prelude.{◌≡◌, ◌≤◌, ◌&&◌, ◌++◌, [], IfOk, OnOk, MatchResult, map};
 ghost use Rattle.std.specs.Prelude.{fold, length};

@@ -13,7 +13,7 @@ use pf_ruleset::{Item, Name};
 use std::alloc::{AllocError, Global};
 use std::rc::Rc;
 
-/// The blocks of rules at a path: each stands before those in it, and these before the blocks that follow.
+/// The blocks of rules at a path: each is before those in it, and these before the blocks that follow.
 pub(crate) fn blocks_in(
     alloc: Global,
     path: &[Name],

@@ -1,10 +1,10 @@
-//! A rule as a verdict comes to it: its index, and what few compares tell of its conditions.
+//! A rule as a verdict comes to it: its index, and what few comparisons say of its conditions.
 
 use pf_addr::Family;
 use pf_intervals::Interval;
 use pf_ruleset::Direction;
 
-/// What few compares tell of a rule's conditions: the rule matches no packet that is outside of one of these.
+/// What few comparisons say of a rule's conditions: the rule matches no packet that is outside of one of these.
 #[derive(Clone, Copy)]
 pub struct Sieve {
     pub direction: Option<Direction>,

@@ -18,7 +18,7 @@ pub(crate) fn go_too_deep(path: &[Name], items: &[Item]) -> bool
     path.len() > DEEPEST || any_deep(path.len(), items)
 }
 
-/// Whether a block in the rules is too deep where they are at a path of so many names.
+/// Whether a block in the rules is too deep where they are at a path of that many names.
 #[cycle(depths)]
 fn any_deep(names: usize, items: &[Item]) -> bool
     requires { names ≤ DEEPEST }
@@ -32,7 +32,7 @@ fn any_deep(names: usize, items: &[Item]) -> bool
     false
 }
 
-/// Whether the rule's block or one in it is too deep where the rule is at a path of so many names.
+/// Whether the rule's block or one in it is too deep where the rule is at a path of that many names.
 #[cycle(depths)]
 fn is_deep(names: usize, item: &Item) -> bool
     requires { names ≤ DEEPEST }

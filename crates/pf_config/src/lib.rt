@@ -4,11 +4,51 @@
 //!
 //! - [`Config`]: a skip list, and the anchors from the main ruleset down. Each change is made whole, or refused and
 //!   leaves all as it was.
-//! - [`Anchor`]: what stands at a path and below it.
+//! - [`Anchor`]: what is at a path and below it.
 //! - [`Candidate`]: a rule as a verdict comes to it, in an order made once at the load: its index, and its [`Sieve`].
 //! - [`CandidateList`]: these rules one after the other; a [`Search`] finds the few of them that may match.
 //! - [`parse_path`] reads the path of an anchor.
 //! - [`Table`], of the crate below.
+//!
+//! # Why
+//!
+//! - **A table's name is no word that either profile reserves.** A command names a table without a profile, and the
+//!   words reserved in profile One are the fewer: a `TableName` is what profile One allows, and a text in profile
+//!   Two is asked for its own words too.
+//! - **Prefixes have a method `order`** instead of std's trait `Ord`, whose contract wants laws over any two values
+//!   beside the order; the laws of the order that code rests on are lemmas in pf_addr.
+//! - **A table is kept in parts** of one family and one length, each in the order of addresses, longest first. The
+//!   definition's question, 'is there an entry that no longer one overrules', is then 'the first part in which the
+//!   address, cut to that length, stands'.
+//! - **A part is searched by halving.** A hash table with a fixed seed would let entries be chosen whose keys all
+//!   meet, and std's proved maps are none whose times are bounded otherwise.
+//! - **The tree of anchors is kept as a tree**, the definition is a map from whole paths. A path of the map has a
+//!   rule or a table; an anchor that has neither, nor any below it that has, isn't kept. A change copies the
+//!   anchors from main to its path, and shares all others with the tree before it (`Rc`).
+//! - **A load puts a text's blocks in their places one after another**: each before those in it, and these before
+//!   the blocks that follow (`blocks_in`). The anchors share the block's rules with the text's value (`Rc`), so
+//!   nothing of a rule is copied.
+//! - **A refused command changes nothing by its form**: the new tables and rules are made beside the old ones, and
+//!   put in their places last. A change in place asks everything first; where memory runs out between the entry and
+//!   its number, the entry is removed again.
+//! - **One entry is added or deleted in place** where nothing on the way to it is shared, at any depth of anchors:
+//!   no entry is copied, and of those of its family and length the ones behind it move by one. Where something is
+//!   shared, where there is no such table, or the table has no entry of that family and length yet, the table is
+//!   made anew. Lists of several entries are merged, which costs the table once for all of them.
+//! - **Room for 1,024 paths** (23) is asked of the configuration that the command would leave, so a load that
+//!   clears away others may make room for itself.
+//! - **Faults of a configuration have no place in a text**: `pfx test` says `refused 23` alone.
+//! - **`find` and `kid` are `Config::anchor` and `Anchor::child`**: an anchor is lent as a part of the tree, with
+//!   its rules, its tables and the anchors below it. So a verdict goes down name by name, and looks no path up from
+//!   main again. `Config::kids` lends the anchors directly below a path, in byte order of their names; its clause
+//!   tells their paths, `Anchor::kids` that they are those anchors. `Config::paths` lends the paths of the map,
+//!   main among them where it has rules or tables; which anchors there are is told by going down.
+//! - **The calls that change a table, and the flushes, take names and no `Path`**: a path of 9 names, or one
+//!   through an unnamed block, is a path like others there. No command has one, since its path is a `Path` or is
+//!   decoded from bytes that spell none; so the law that a log leaves a map of paths of 8 names at most asks it of
+//!   the log's entries.
+//! - **Laws over the definitions of several crates are in pf_laws**, on which nothing stands: they are proved
+//!   beside the crates that use the definitions, and no crate is proved again for them.
 #![tactic(auto)]
 
 mod anchor;

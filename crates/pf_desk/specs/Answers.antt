@@ -17,6 +17,7 @@ pub record AnswerValue : Type 0 where
   pub body : List ℕ
 
 -- nothing is taken in: all positions are used, or the store failed
+-- Source: RFC 9110, 15. Example: 20 is 404, 40 is 400.
 abbrev pub is_unavailable : ℕ → Bool
 is_unavailable code = (code == 62) || (code == 70) || (code == 72) || (code == 80)
 
@@ -34,10 +35,12 @@ abbrev pub shown : List ℕ → AnswerValue
 shown body = record { code = 200; body = body }
 
 -- the status for a refusal, and its line: the number, and a line of a text where it isn't 0
+-- Example: refused 12 3 is 400 and refused 12 line 3.
 abbrev pub refused : ℕ → ℕ → AnswerValue
 refused code at = record { code = status_of code; body = refused_line code at }
 
--- what words that only look come to; words of a change are 40 here
+-- what words that only look give; words of a change are 40 here
+-- Example: pfctl -t bad -T show without such a table is 404 and refused 20.
 abbrev pub answered : WordsValue → AnswerValue
 answered (Asks command) = refused 40 0
 answered (Refuses code at) = refused code at
@@ -50,6 +53,7 @@ listed c words = answered (words_read c words [])
 -- ---- packets
 
 -- an answer with a text before its body
+-- Example: over nothing, a packet and then a text that is none: 400, pass default and refused 30.
 abbrev pub behind : List ℕ → AnswerValue → AnswerValue
 behind text later = record { code = later.code; body = text ++ later.body }
 

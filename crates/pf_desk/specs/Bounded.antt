@@ -20,6 +20,7 @@ met_in within [] = 0
 met_in within (rule ∷ rules) = met_by within rule + met_in within rules
 
 -- what an anchor has, nothing where its path is deeper than 8 names
+-- Example: main with 16 rules anchor "a", and a with 16 rules: 272.
 abbrev pub met_at : (Path → ℕ) → Path → ℕ
 met_at at p = if nat_le (length p) 8 then at p else 0
 
@@ -47,6 +48,7 @@ most_met zero c p = 0
 most_met (suc depth) c p = met_in (met_target (most_met depth c) c p) (rules_at c p)
 
 -- how many verdicts meet at most MET_MAX rules together; main's rules nest at most 9 deep
+-- Example: where a verdict meets 4,000, two packets are answered.
 abbrev pub fitting : Configuration → ℕ
 fitting c = MET_MAX / max (most_met 9 c []) 1
 

@@ -22,6 +22,7 @@ abbrev pub bytes_of : entries.Command → Bytes
 bytes_of command = command_in (spelling (record { origin = 0; number = 0; command = command }))
 
 -- what a fault of an ask is answered with
+-- Example: TooLong is 41.
 abbrev pub refused_by : NodeFault → Changed
 refused_by fault.Memory = Memory
 refused_by fault.TooLong = Refused 41
@@ -33,6 +34,7 @@ refused_by fault.BadStore = Refused 72
 refused_by fault.Failed = Refused 80
 
 -- what an ask is answered with: without a fault the node's number as a member, and the number that the record had next
+-- Example: member 0 whose record has 17 as the next number: 0 and 17.
 abbrev pub IsAnswered : {R : Type 0} {G : Ghosts R} → (s t : Node R G) → Option NodeFault → Changed → Type 0
 IsAnswered {R} {G} s t None (Asked origin number) =
     (origin ≡ (membership_of s).me) × (G.is_honest (records_of t) → number ≡ (G.stored (records_of s)).meta.number)
@@ -50,6 +52,7 @@ pub record AskedOnce {R : Type 0} {G : Ghosts R} (s t : Node R G) (command : ent
   pub config : config_of t ≡ config_of s
 
 -- whether more positions are left than commands wait, so that one more has its own
+-- Example: at front 999,999 with one command waiting, one more is 62.
 abbrev pub has_position : {R : Type 0} {G : Ghosts R} → Node R G → Bool
 has_position n = nat_lt (length (state_in n).volatile.waiting) (positions - front (learned_by n))
 
@@ -66,6 +69,7 @@ Changes s t (Ok command) changed = ChangesIf (has_position s) s t command change
 -- ---- the numbers that were given
 
 -- the first and the last of them, with one more
+-- Example: 5 to 7 and then 9: 5 to 9.
 abbrev pub with_number : Option (ℕ × ℕ) → Changed → Option (ℕ × ℕ)
 with_number taken (Refused code) = taken
 with_number taken Memory = taken
@@ -75,10 +79,11 @@ with_number (Some t) (Asked origin number) = Some (t.0, number)
 -- ---- what is answered
 
 -- asked N.NUMBER
+-- Example: asked 0.17.
 abbrev pub asked_line : ℕ → ℕ → List ℕ
 asked_line origin number = line (codes "asked " ++ decimal origin ++ codes "." ++ decimal number)
 
--- 202 and the line of what was asked; the refusal; 503 without a body where memory was wanting
+-- 202 and the line of what was asked; the refusal; 503 without a body when out of memory
 abbrev pub change_answer : Changed → AnswerValue
 change_answer (Asked origin number) = record { code = 202; body = asked_line origin number }
 change_answer (Refused code) = refused code 0

@@ -25,12 +25,13 @@ entries_before log end zero text = text
 entries_before log end (suc n) text =
     if nat_lt (length text) bytes_max then entries_before log end n (text ++ entry_line log (end - suc n)) else text
 
--- from a position on so many lines, 1,000 at most, of those that are applied
+-- from a position on that many lines, 1,000 at most, of those that are applied
+-- Example: with 412 applied, from 410 on: two lines.
 abbrev pub entries_from : Log Bytes → (applied first count : ℕ) → List ℕ
 entries_from log applied first count =
     let end = min applied (first + min count 1000) in entries_before log end (end - first) []
 
--- the lines from a position on, 0 where it isn't said, and so many, 1,000 where it isn't said
+-- the lines from a position on, 0 where it isn't said, and that many, 1,000 where it isn't said
 abbrev pub entries_answer : {R : Type 0} {G : Ghosts R} → Node R G → (from count : Option ℕ) → AnswerValue
 entries_answer n from count =
     shown (entries_from (learned_by n) (applied_of n) (unwrap_or from 0) (unwrap_or count 1000))

@@ -20,15 +20,18 @@ is_recent None = false
 is_recent (Some seconds) = nat_lt seconds 3
 
 -- of how many of the other members one came
+-- Example: 2 is recent, 3 isn't.
 abbrev pub counted : List PeerTally → ℕ
 counted peers = count_by (λ p. is_recent p.heard) peers
 
 -- a member showed that a position is learned which isn't applied here
+-- Example: with 412 applied, 413 is, 412 isn't.
 abbrev pub is_shown : ℕ → List PeerTally → Bool
 is_shown applied peers = list_any (λ p. nat_lt applied p.shown) peers
 
 -- a fault of the store; commands wait and the front stands; fewer than a majority heard, this one counted; positions
 -- to be applied; else it works
+-- Example: of 3 members, one other that is heard will do.
 abbrev pub health_by : (failed stuck few behind : Bool) → Health
 health_by failed stuck few behind =
     if failed then Failed else if stuck then Stuck else if few then Alone else if behind then Behind else Works
@@ -58,6 +61,7 @@ health_code Stuck = 200
 health_code Failed = 503
 
 -- 200 of one that works alone
+-- Example: a node that is behind: 200 to the first, 503 to the second, behind to both.
 abbrev pub ready_code : Health → ℕ
 ready_code Works = 200
 ready_code Behind = 503

@@ -5,6 +5,7 @@ use Rattle.pf_desk.specs.declared.request.Listing.{Listing}
 use Rattle.pf_desk.specs.declared.request.Listing.TheVariants as list
 
 -- an empty path is the main ruleset's, without -a
+-- Source: pfctl(8). Example: the rules at x are pfctl -a x -s rules.
 abbrev pub at_path : List ℕ → List Text → List Text
 at_path [] words = codes "pfctl" ∷ words
 at_path (b ∷ bytes) words = codes "pfctl" ∷ codes "-a" ∷ (b ∷ bytes) ∷ words

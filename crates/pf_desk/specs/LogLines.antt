@@ -9,7 +9,7 @@ use Rattle.pf_node.specs.Nodes.{learned_by, applied_of, kept_of}
 use Rattle.pf_node.specs.declared.state.Node.{Node}
 use Rattle.pf_desk.specs.Answers.{AnswerValue, shown}
 
--- once the lines have so many bytes, no further one is shown
+-- once the lines have that many bytes, no further one is shown
 abbrev pub bytes_max : ℕ
 bytes_max = 262144
 
@@ -22,6 +22,7 @@ lines_before log applied kept end (suc n) text =
     else text
 
 -- from a position on 1,000 lines at most, of those that are applied
+-- Example: with 412 applied and no from: 392 to 411.
 abbrev pub lines_from : Log Bytes → (applied kept first : ℕ) → List ℕ
 lines_from log applied kept first =
     let end = min applied (first + 1000) in lines_before log applied kept end (end - first) []

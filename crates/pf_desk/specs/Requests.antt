@@ -38,6 +38,7 @@ pub record AreFigures {R : Type 0} {G : Ghosts R} (n : Node R G) (f : Figures) :
   pub failed : f.has_failed ≡ has_failed n
 
 -- the status of figures that are the node's, as JSON or in lines
+-- Example: at front 412, 999,588 positions are left.
 pub record IsStatus {R : Type 0} {G : Ghosts R} (n : Node R G) (t : Tally) (json : Bool) (a : AnswerValue) :
     Type 0 where
   pub figures : Figures
@@ -57,6 +58,7 @@ IsRead n taken t read.Ready a = a ≡ ready_answer (health n t)
 IsRead n taken t read.Metrics a = a.code ≡ 200
 
 -- fewer positions are applied than the reader asks for
+-- Example: with 411 applied, a read at 412 is waiting, one at 411 is read.
 abbrev pub not_yet : AnswerValue
 not_yet = record { code = 503; body = codes "waiting\n" }
 
@@ -82,6 +84,7 @@ pub record IsChange {R : Type 0} {G : Ghosts R} (s t : Desk R G) (asked : Result
   pub answered : (a ≡ change_answer changed) ⊎ (a ≡ no_memory)
 
 -- A read leaves all as it was. A change is one ask of the node, or a refusal with nothing changed.
+-- Example: Stop is answered 200 and stopping.
 abbrev pub Answers : {R : Type 0} {G : Ghosts R} → (s t : Desk R G) → Tally → Request → AnswerValue → Type 0
 Answers s t counted (request.Change words text) a =
     IsChange s t (change_in (map (λ w. w.now) words.items) text.now) a

@@ -45,6 +45,7 @@ abbrev pub unknown : AnswerValue
 unknown = record { code = 404; body = codes "unknown\n" }
 
 -- of one that was learned, its place; of another one, whether this node took it in
+-- Example: applied 411 and ok 1 0.
 abbrev pub standing_at : Log Bytes → (applied kept : ℕ) → Bool → Option ℕ → AnswerValue
 standing_at log applied kept ours (Some p) =
     if nat_lt p applied then shown (applied_line p ++ kept_line log applied kept p) else waiting

@@ -19,6 +19,7 @@ abbrev pub fields : List (Text × ℕ) → List ℕ
 fields list = flat_map field list
 
 -- how many seconds ago a datagram came, or that none ever did
+-- Example: peer 2 heard never in 0 out 88140.
 abbrev pub heard : Option ℕ → List ℕ
 heard None = codes " heard never"
 heard (Some seconds) = field (codes " heard ", seconds)
@@ -73,6 +74,7 @@ abbrev pub members_line : Tally → List ℕ
 members_line t = (codes "members " ++ string_bytes t.members) ++ codes "\n"
 
 -- all of them, a line for each other member in their midst
+-- Example: node 0 of 3 cluster 7 up 86412.
 abbrev pub status_lines : Figures → Health → Tally → List ℕ
 status_lines f h t =
     (((((((node_line f t.up ++ front_line f) ++ standing_line h t) ++ config_line f)

@@ -53,7 +53,7 @@ impl Answer {
         })
     }
 
-    /// What words that only look come to; words of a change are 40 here.
+    /// What words that only look give; words of a change are 40 here.
     pub(crate) fn of_words(alloc: Global, read: WordsRead) -> Result<Answer, AllocError>
         ensures { IfOk result (λ a. answer_value a ≡ answered (words_value read)) }
     {

@@ -155,7 +155,7 @@ impl<R: Records> Desk<R> {
         }
     }
 
-    /// The same, once so many positions are applied; before that it is 503 and `waiting`.
+    /// The same, once that many positions are applied; before that it is 503 and `waiting`.
     fn read_at(&self, at: u32, read: &Read, tally: &Tally) -> Result<Answer, AllocError>
         ensures { IfOk result (λ a. IsReadIf (nat_lt (applied_of self.now.node) at) self.now.node self.now.taken
             tally.now read.now (answer_value a)) }
@@ -169,7 +169,7 @@ impl<R: Records> Desk<R> {
 
     /// Takes the change in that a line of pfctl's words asks for, `pfctl` itself first, with the text of its file: one
     /// ask of the node, or a refusal with nothing changed: 62 where the positions that are left are those of commands
-    /// that wait. Where memory is wanting nothing has changed, and the node wasn't asked.
+    /// that wait. Where memory runs out nothing has changed, and the node wasn't asked.
     pub fn change(&mut self, words: &[&str], text: &[u8]) -> Result<Changed, AllocError>
         ensures changes { IfOk result (Changes self.old.node self.new.node
             (change_in (map (λ w. w.now) words.now) text.now)) }
@@ -211,7 +211,7 @@ impl<R: Records> Desk<R> {
     }
 
     /// What a request answers: a read leaves all as it was, a change is one ask of the node or a refusal with nothing
-    /// changed. Where memory is wanting nothing has changed.
+    /// changed. Where memory runs out nothing has changed.
     pub fn answer(&mut self, request: &Request, tally: &Tally) -> Result<Answer, AllocError>
         ensures answers { IfOk result (λ a. Answers self.old self.new tally.now request.now (answer_value a)) }
         ensures memory { OnErr result (self.new ≡ self.old) }

@@ -20,7 +20,7 @@ pub enum Changed {
     Asked(u8, u64),
     /// It wasn't taken in: the number of the refusal.
     Refused(u8),
-    /// It wasn't taken in: memory is wanting.
+    /// It wasn't taken in: memory runs out.
     Memory,
 }
 

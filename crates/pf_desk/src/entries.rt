@@ -13,7 +13,7 @@ use std::alloc::{AllocError, Global};
 /// How many entries are shown at most.
 pub const ENTRIES_MAX: u32 = 1_000;
 
-/// Once the lines have so many bytes, no further one is shown.
+/// Once the lines have that many bytes, no further one is shown.
 pub const ENTRIES_BYTES: usize = 262_144;
 
 /// Puts the line of a position's entry behind the text.
@@ -35,7 +35,7 @@ fn push_entry<R: Records>(
     }
 }
 
-/// Puts the lines of the last `count` positions before an end behind the text, until it has so many bytes that no
+/// Puts the lines of the last `count` positions before an end behind the text, until it has that many bytes that no
 /// further one is shown.
 fn push_entries<R: Records>(
     alloc: Global,
@@ -60,7 +60,7 @@ fn push_entries<R: Records>(
 }
 
 /// The entries at the applied positions, from a position on (0): a line each, the entry's bytes in hexadecimal digits.
-/// It ends after so many lines, 1,000 at most, and after the line with which it has 262,144 bytes.
+/// It ends after that many lines, 1,000 at most, and after the line with which it has 262,144 bytes.
 pub(crate) fn entries<R: Records>(
     alloc: Global,
     node: &Node<R>,

@@ -6,7 +6,7 @@ ghost use Rattle.pf_eval.specs.Packets.{PacketValue};
 ghost use Rattle.pf_eval.specs.Verdicts.{hits};
 ghost use Rattle.pf_desk.specs.Bounded.{most_met};
 
-/// The hits of a packet, by which its verdict is told, are no more than the rules that a verdict may meet, of which the
+/// The hits of a packet, by which its verdict is reported, are no more than the rules that a verdict may meet, of which the
 /// verdicts that one request asks for meet at most [`crate::MET_MAX`].
 #[tactic(auto, using(crate::proofs::HitsCounted::hits_met))]
 pub fn hits_are_met()

@@ -1,4 +1,4 @@
-//! What a running node answers operators, at the position that it stands at.
+//! What a running node answers operators, at the position that it is at.
 //!
 //! # Organization
 //!

@@ -17,10 +17,10 @@ const LAST_LINES: u32 = 20;
 /// How many lines are shown at most.
 const LINES_MAX: u32 = 1_000;
 
-/// Once the lines have so many bytes, no further one is shown.
+/// Once the lines have that many bytes, no further one is shown.
 const BYTES_MAX: usize = 262_144;
 
-/// Puts the lines of the last `count` positions before an end behind the text, until it has so many bytes that no
+/// Puts the lines of the last `count` positions before an end behind the text, until it has that many bytes that no
 /// further one is shown.
 fn push_lines<R: Records>(
     alloc: Global,

@@ -1,4 +1,4 @@
-//! What stands behind a path.
+//! What is behind a path.
 
 use crate::target::Target;
 use form_urlencoded::parse;

@@ -85,7 +85,7 @@ pub enum Request<'a> {
         /// The text of `-f -`.
         text: &'a [u8],
     },
-    /// A read, once so many positions are applied.
+    /// A read, once that many positions are applied.
     Read {
         /// How many positions at least, 0 for any.
         at: u32,

@@ -37,7 +37,7 @@ fn request_number(text: &str) -> Option<(u8, u64)> {
     }
 }
 
-/// A change: its words are the first line, the text is what stands behind it.
+/// A change: its words are the first line, the text is what is behind it.
 fn change_in(alloc: Global, body: &[u8]) -> Result<Routed<'_>, AllocError> {
     let (line, text) = match cut_line(body) {
         Some((line, text)) => (line.content, text),
@@ -168,7 +168,7 @@ fn standing_asked<'a>(
     }))
 }
 
-/// What HTTP's method, path, query (what stands behind the `?`, without it) and body ask for; `json` says that `Accept`
+/// What HTTP's method, path, query (what is behind the `?`, without it) and body ask for; `json` says that `Accept`
 /// names `application/json`.
 ///
 /// The path has no escapes; those of the query are read, and `+` stands for a blank there.

@@ -67,7 +67,7 @@ impl Target {
         }
     }
 
-    /// Whether a parameter of this name may stand behind the path.
+    /// Whether a parameter of this name may be behind the path.
     pub(crate) fn takes(self, name: &str) -> bool {
         match self {
             Target::Rules | Target::Tables => name == "a" || name == "at",

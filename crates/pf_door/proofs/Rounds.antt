@@ -1,5 +1,5 @@
--- Rounds over a wire that stands on another one, and a run that is made of them.
-use Rattle.std.proofs.Common.{◌≡◌, Option, None, Result, Ok, Err, sym, subst, ap}
+-- A run that is made of rounds.
+use Rattle.std.proofs.Common.{◌≡◌, Bool, [], Option, None, Result, Ok, Err, refl, sym, subst, ap}
 use Rattle.px_model.specs.Step.{front}
 use Rattle.px_records.specs.declared.records.Records.{Ghosts}
 use Rattle.px_replica.specs.declared.fault.NodeFault.{NodeFault}
@@ -8,25 +8,44 @@ use Rattle.px_transport.specs.declared.wire.Wire as wires
 use Rattle.pf_node.specs.Nodes.{replica_of, learned_by, applied_of}
 use Rattle.pf_node.specs.declared.state.Node.{Node}
 use Rattle.pf_turn.specs.Hosting.{Hosted}
+use Rattle.px_resend.specs.Resends.{kept_of, requests_of}
 use Rattle.pf_turn.specs.Turns.{Stand, Served, standing}
-use Rattle.pf_turn.proofs.Chains.{served_none, served_then}
-use Rattle.pf_member.specs.Lives.{Told, stands, Tells, Serves, Hosts}
+use Rattle.pf_turn.specs.declared.room.Room.{Room}
+use Rattle.pf_turn.proofs.Chains.{same_is, served_none, served_then}
+use Rattle.pf_member.specs.Lives.{Buffers, new_buffers, told_by, stands, Tells, Serves, Hosts}
 use Rattle.pf_member.specs.declared.ended.Ended.{Ended}
 use Rattle.pf_member.proofs.Hosted.{tells}
 use Rattle.pf_desk.specs.declared.desk.Desk.{Desk}
 
--- it was another one at first
-pub served_over : {R W : Type 0} {G : Ghosts R} (H : wires.Ghosts W) (r : Replica R G) (z : Stand G) (v u : W) (a : Option NodeFault) → u ≡ v →
-    Served (record { replica = r; given = H.given u; handed = H.handed u }) z a →
-    Served (record { replica = r; given = H.given v; handed = H.handed v }) z a
-served_over {R} {W} {G} H r z v u a e served =
-    subst (λ (x : W). Served (record { replica = r; given = H.given x; handed = H.handed x }) z a) e served
-
 -- nothing was asked, and the wire is as it was
-pub still : {R W : Type 0} {G : Ghosts R} (H : wires.Ghosts W) (s t : Desk R G) (w v : W) → t ≡ s → H.given v ≡ H.given w →
-    H.handed v ≡ H.handed w → Served (standing H s.node w) (standing H t.node v) None
-still {R} {W} {G} H s t w v e g h =
-    served_none _ _ (record { replica = ap (λ (d : Desk R G). replica_of d.node) e; given = g; handed = h })
+pub still : {R W : Type 0} {G : Ghosts R} (H : wires.Ghosts W) (s t : Desk R G) (w v : W) (room : Room) → t ≡ s → H.given v ≡ H.given w →
+    H.handed v ≡ H.handed w → Served (standing H s.node w room) (standing H t.node v room) None
+still {R} {W} {G} H s t w v room e g h =
+    served_none _ _ (record {
+      replica = ap (λ (d : Desk R G). replica_of d.node) e;
+      given = g;
+      handed = h;
+      kept = refl;
+      requests = refl;
+      hears = refl;
+    })
+
+-- a run begins so, with new buffers
+begins : {R W : Type 0} {G : Ghosts R} (H : wires.Ghosts W) (x s : Node R G) (w : W) (room : Room) (hears : Bool) → x ≡ s →
+    kept_of room.resender ≡ [] → requests_of room.resender ≡ [] → room.hears_asks ≡ hears →
+    standing H x w room ≡ stands s (told_by H w) (new_buffers hears)
+begins {R} {W} {G} H x s w room hears e k q h =
+    same_is (stands s (told_by H w) (new_buffers hears)) (standing H x w room) (record {
+      replica = ap (λ (n : Node R G). replica_of n) e;
+      given = refl;
+      handed = refl;
+      kept = k;
+      requests = q;
+      hears = h;
+    })
+
+abbrev left_in : Room → Buffers
+left_in room = record { kept = kept_of room.resender; requests = requests_of room.resender; hears_asks = room.hears_asks }
 
 -- without a control socket: turns, and then turns
 pub turns_then : {R D : Type 0} {G : Ghosts R} (x y z : Stand G) (a : Option NodeFault) (d e : Option D) → Served x y None × (d ≡ None) →
@@ -34,21 +53,31 @@ pub turns_then : {R D : Type 0} {G : Ghosts R} (x y z : Stand G) (a : Option Nod
 turns_then x y z a d e (before, none) more = (served_then x y z a before (more none).0, (more none).1)
 
 -- a run between two nodes that are these
-pub hosts : {R : Type 0} {G : Ghosts R} (x y s t : Node R G) (w v : Told) (a : Option NodeFault) (ended : Ended) → x ≡ s → t ≡ y →
-    Hosted (stands x w) (stands y v) a → Tells (front (learned_by t)) (applied_of t) a ended → Hosts s t w v ended
-hosts {R} {G} x y s t w v a ended e f h told = record {
+pub hosts : {R W : Type 0} {G : Ghosts R} (H : wires.Ghosts W) (x y s t : Node R G) (w v : W) (first last : Room) (hears : Bool)
+    (a : Option NodeFault) (ended : Ended) → x ≡ s → t ≡ y →
+    kept_of first.resender ≡ [] → requests_of first.resender ≡ [] → first.hears_asks ≡ hears →
+    Hosted (standing H x w first) (standing H y v last) a → Tells (front (learned_by t)) (applied_of t) a ended →
+    Hosts s t (told_by H w) (told_by H v) ended
+hosts {R} {W} {G} H x y s t w v first last hears a ended e f k q h hosted told = record {
   answered = a;
-  hosted = subst (λ (n : Node R G). Hosted (stands n w) (stands t v) a) e
-      (subst (λ (n : Node R G). Hosted (stands x w) (stands n v) a) (sym f) h);
+  hears = hears;
+  buffers = left_in last;
+  hosted = subst (λ (p : Stand G). Hosted p (standing H t v last) a) (begins H x s w first hears e k q h)
+      (subst (λ (n : Node R G). Hosted (standing H x w first) (standing H n v last) a) (sym f) hosted);
   told = tells (front (learned_by t)) (applied_of t) a ended told;
 }
 
-pub serves : {R : Type 0} {G : Ghosts R} (x y s t : Node R G) (w v : Told) (a : Option NodeFault) (ended : Ended) → x ≡ s → t ≡ y →
-    Served (stands x w) (stands y v) a → Tells (front (learned_by t)) (applied_of t) a ended → Serves s t w v ended
-serves {R} {G} x y s t w v a ended e f h told = record {
+pub serves : {R W : Type 0} {G : Ghosts R} (H : wires.Ghosts W) (x y s t : Node R G) (w v : W) (first last : Room) (hears : Bool)
+    (a : Option NodeFault) (ended : Ended) → x ≡ s → t ≡ y →
+    kept_of first.resender ≡ [] → requests_of first.resender ≡ [] → first.hears_asks ≡ hears →
+    Served (standing H x w first) (standing H y v last) a → Tells (front (learned_by t)) (applied_of t) a ended →
+    Serves s t (told_by H w) (told_by H v) ended
+serves {R} {W} {G} H x y s t w v first last hears a ended e f k q h served told = record {
   answered = a;
-  served = subst (λ (n : Node R G). Served (stands n w) (stands t v) a) e
-      (subst (λ (n : Node R G). Served (stands x w) (stands n v) a) (sym f) h);
+  hears = hears;
+  buffers = left_in last;
+  served = subst (λ (p : Stand G). Served p (standing H t v last) a) (begins H x s w first hears e k q h)
+      (subst (λ (n : Node R G). Served (standing H x w first) (standing H n v last) a) (sym f) served);
   told = told;
 }
 

@@ -1,2 +1,1 @@
-pub mod Wiring
 pub mod inner

@@ -5,12 +5,11 @@ ghost use Rattle.px_model.specs.Step.{front};
 ghost use Rattle.px_replica.specs.Faults.{fault_of};
 ghost use Rattle.pf_node.specs.Nodes.{learned_by, applied_of};
 ghost use Rattle.pf_member.specs.Lives.{HostTells, HostedRuns, Hosts, Runs, Serves, Tells, told_by};
-ghost use Rattle.pf_door.specs.Wiring.{below_of};
 
 use crate::clerk::Clerk;
 use crate::door::{Door, DoorFault};
+use crate::observer::Observer;
 use crate::running::pass_on;
-use crate::tallying::TallyWire;
 use pf_member::{Ended, Membership};
 use pf_node::Node;
 use pf_turn::{NodeFault, Room, Wire};
@@ -100,24 +99,26 @@ fn run_node<R: Records, W: Wire, RT: Clock + Eprint>(
     rt: &RT,
     alloc: Global,
     node: Node<R>,
-    wire: &mut TallyWire<W>,
+    wire: &mut W,
+    observer: &mut Observer,
     members: &str,
+    hears_asks: bool,
     door: &mut Option<Door>,
     turns: u64,
 ) -> (Ended, Node<R>)
-    ensures hosted { Hosts node result.1 (told_by W.Wire (below_of wire.old)) (told_by W.Wire (below_of wire.new))
+    ensures hosted { Hosts node result.1 (told_by W.Wire wire.old) (told_by W.Wire wire.new)
         result.0 }
-    ensures turns { door.old ≡ None → Serves node result.1 (told_by W.Wire (below_of wire.old))
-        (told_by W.Wire (below_of wire.new)) result.0 }
+    ensures turns { door.old ≡ None → Serves node result.1 (told_by W.Wire wire.old)
+        (told_by W.Wire wire.new) result.0 }
 {
-    let Ok(tally) = wire.first_tally(alloc, members) else {
+    let Ok(tally) = observer.first_tally(alloc, members) else {
         return (Ended::Fault(NodeFault::Memory), node);
     };
-    let Ok(mut room) = Room::new(alloc) else {
+    let Ok(mut room) = Room::new(alloc, &node.membership(), hears_asks) else {
         return (Ended::Fault(NodeFault::Memory), node);
     };
     let mut clerk = Clerk::new(alloc, node, tally);
-    let ended = pass_on(rt, &mut clerk, wire, &mut room, door, turns);
+    let ended = pass_on(rt, &mut clerk, wire, observer, &mut room, door, turns);
     let node = clerk.close();
     (ended_of(ended, &node), node)
 }
@@ -127,22 +128,34 @@ fn run_at<R: Records, W: Wire, RT>(
     rt: &RT,
     alloc: Global,
     node: Node<R>,
-    wire: &mut TallyWire<W>,
+    wire: &mut W,
+    observer: &mut Observer,
+    hears_asks: bool,
     place: Option<DoorPlace<'_>>,
     turns: u64,
 ) -> (Ended, Node<R>)
 where
     RT: Clock + Eprint + Files + Net<Listener = TcpListener, Stream = TcpStream> + RandomSource,
-    ensures hosted { Hosts node result.1 (told_by W.Wire (below_of wire.old)) (told_by W.Wire (below_of wire.new))
+    ensures hosted { Hosts node result.1 (told_by W.Wire wire.old) (told_by W.Wire wire.new)
         result.0 }
-    ensures turns { place.entry ≡ None → Serves node result.1 (told_by W.Wire (below_of wire.old))
-        (told_by W.Wire (below_of wire.new)) result.0 }
+    ensures turns { place.entry ≡ None → Serves node result.1 (told_by W.Wire wire.old)
+        (told_by W.Wire wire.new) result.0 }
 {
     let mut door = match open_at(rt, alloc, place) {
         Ok(door) => door,
         Err(ended) => return (ended, node),
     };
-    let (ended, node) = run_node(rt, alloc, node, wire, members_at(place), &mut door, turns);
+    let (ended, node) = run_node(
+        rt,
+        alloc,
+        node,
+        wire,
+        observer,
+        members_at(place),
+        hears_asks,
+        &mut door,
+        turns,
+    );
     close_at(rt, door, place);
     (ended, node)
 }
@@ -151,16 +164,18 @@ where
 ///
 /// The node takes what comes as it comes, and its clock ticks when its pace says so ([`pf_turn::round`]). Where there
 /// is a place, requests come in at a control socket there, and between two rounds one at most is answered; each change
-/// of the node's health is a line on standard error. The run ends after the given number of turns, where each datagram
-/// counts for one, and so do each tick and each wait, of a tenth of a second at most; with the first fault of the
-/// node's calls; or once an operator asked for that and has the answer. Before it ends, what waits to be proposed is
-/// worked off ([`pf_turn::finish`]).
+/// of the node's health is a line on standard error. Asks by datagrams are heard or not. The run ends after the given
+/// number of turns, where each datagram counts for one, and so do each tick and each wait, of a tenth of a second at
+/// most; with the first fault of the node's calls; or once an operator asked for that and has the answer. Before it
+/// ends, what waits to be proposed is worked off ([`pf_turn::finish`]).
 pub fn run_member<R: Records, W: Wire, RT>(
     rt: &RT,
     alloc: Global,
     m: Membership,
     records: R,
-    wire: &mut TallyWire<W>,
+    wire: &mut W,
+    observer: &mut Observer,
+    hears_asks: bool,
     place: Option<DoorPlace<'_>>,
     turns: u64,
 ) -> (Ended, R)
@@ -168,15 +183,15 @@ where
     RT: Clock + Eprint + Files + Net<Listener = TcpListener, Stream = TcpStream> + RandomSource,
     requires members { R.members records ≡ m.members }
     requires here { m.me < m.members }
-    ensures hosted { HostedRuns R.Records m records (told_by W.Wire (below_of wire.old))
-        (told_by W.Wire (below_of wire.new)) result.0 result.1 }
-    ensures turns { place.entry ≡ None → Runs R.Records m records (told_by W.Wire (below_of wire.old))
-        (told_by W.Wire (below_of wire.new)) result.0 result.1 }
+    ensures hosted { HostedRuns R.Records m records (told_by W.Wire wire.old)
+        (told_by W.Wire wire.new) result.0 result.1 }
+    ensures turns { place.entry ≡ None → Runs R.Records m records (told_by W.Wire wire.old)
+        (told_by W.Wire wire.new) result.0 result.1 }
 {
     let node = match Node::open(alloc, m, records) {
         Ok(node) => node,
         Err((fault, records)) => return (Ended::Fault(fault), records),
     };
-    let (ended, node) = run_at(rt, alloc, node, wire, place, turns);
+    let (ended, node) = run_at(rt, alloc, node, wire, observer, hears_asks, place, turns);
     (ended, node.close())
 }

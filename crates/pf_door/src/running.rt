@@ -4,11 +4,10 @@ ghost use Rattle.std.specs.Prelude.{◌≡◌, None};
 ghost use Rattle.px_replica.specs.Faults.{fault_of};
 ghost use Rattle.pf_turn.specs.Hosting.{AsksSome, Hosted};
 ghost use Rattle.pf_turn.specs.Turns.{Served, standing};
-ghost use Rattle.pf_door.specs.Wiring.{below_of};
 
 use crate::clerk::Clerk;
 use crate::door::Door;
-use crate::tallying::TallyWire;
+use crate::observer::Observer;
 use pf_turn::{NodeFault, Pace, Room, Timer, Wire, finish, microseconds, round};
 use px_records::Records;
 use std::io::Eprint;
@@ -35,9 +34,9 @@ fn serve<R: Records, RT: Clock + Eprint>(
 }
 
 /// Waits until something comes, over the wire or at the control socket, the given number of milliseconds at most.
-fn wait<W: Wire>(wire: &mut TallyWire<W>, door: &mut Option<Door>, milliseconds: u32)
-    ensures given { W.given (below_of wire.new) ≡ W.given (below_of wire.old) }
-    ensures quiet { W.handed (below_of wire.new) ≡ W.handed (below_of wire.old) }
+fn wait<W: Wire>(wire: &mut W, door: &mut Option<Door>, milliseconds: u32)
+    ensures given { W.given wire.new ≡ W.given wire.old }
+    ensures quiet { W.handed wire.new ≡ W.handed wire.old }
     ensures none { door.old ≡ None → door.new ≡ None }
 {
     match door {
@@ -50,25 +49,27 @@ fn wait<W: Wire>(wire: &mut TallyWire<W>, door: &mut Option<Door>, milliseconds:
 fn pass<R: Records, W: Wire, T: Timer, RT: Clock + Eprint>(
     rt: &RT,
     clerk: &mut Clerk<R>,
-    wire: &mut TallyWire<W>,
+    wire: &mut W,
+    observer: &mut Observer,
     room: &mut Room,
     door: &mut Option<Door>,
     timer: &mut T,
     now: u64,
 ) -> Result<u32, NodeFault>
-    ensures hosted { Hosted (standing W.Wire clerk.old.desk.node (below_of wire.old))
-        (standing W.Wire clerk.new.desk.node (below_of wire.new)) (fault_of result) }
-    ensures turns { door.old ≡ None → Served (standing W.Wire clerk.old.desk.node (below_of wire.old))
-        (standing W.Wire clerk.new.desk.node (below_of wire.new)) (fault_of result) × (door.new ≡ None) }
+    ensures hosted { Hosted (standing W.Wire clerk.old.desk.node wire.old room.old)
+        (standing W.Wire clerk.new.desk.node wire.new room.new) (fault_of result) }
+    ensures turns { door.old ≡ None → Served (standing W.Wire clerk.old.desk.node wire.old room.old)
+        (standing W.Wire clerk.new.desk.node wire.new room.new) (fault_of result) × (door.new ≡ None) }
 {
-    wire.begin(now, clerk.desk.node.front(), clerk.desk.node.waiting() > 0);
+    observer.begin(now, clerk.desk.node.front(), clerk.desk.node.waiting() > 0);
     let made = match round(&mut clerk.desk.node, wire, room, timer, now) {
         Ok(made) => made,
         Err(fault) => return Err(fault),
     };
-    wire.count_taken(room.heads());
-    wire.tell(&mut clerk.tally, made);
+    observer.count(room.heads(), room.counts());
+    observer.tell(&mut clerk.tally, made);
     clerk.is_listening = timer.is_listening(now);
+    observer.hear(rt, room.heads(), room.counts(), clerk.is_listening);
     if !serve(rt, clerk, door, now) {
         wait(wire, door, made.wait);
     }
@@ -87,24 +88,34 @@ fn is_ending<R: Records>(clerk: &Clerk<R>, door: &Option<Door>) -> bool {
 fn passes<R: Records, W: Wire, T: Timer, RT: Clock + Eprint>(
     rt: &RT,
     clerk: &mut Clerk<R>,
-    wire: &mut TallyWire<W>,
+    wire: &mut W,
+    observer: &mut Observer,
     room: &mut Room,
     door: &mut Option<Door>,
     timer: &mut T,
     start: Option<Instant>,
     turns: u64,
 ) -> Result<(), NodeFault>
-    ensures hosted { Hosted (standing W.Wire clerk.old.desk.node (below_of wire.old))
-        (standing W.Wire clerk.new.desk.node (below_of wire.new)) (fault_of result) }
-    ensures turns { door.old ≡ None → Served (standing W.Wire clerk.old.desk.node (below_of wire.old))
-        (standing W.Wire clerk.new.desk.node (below_of wire.new)) (fault_of result) × (door.new ≡ None) }
+    ensures hosted { Hosted (standing W.Wire clerk.old.desk.node wire.old room.old)
+        (standing W.Wire clerk.new.desk.node wire.new room.new) (fault_of result) }
+    ensures turns { door.old ≡ None → Served (standing W.Wire clerk.old.desk.node wire.old room.old)
+        (standing W.Wire clerk.new.desk.node wire.new room.new) (fault_of result) × (door.new ≡ None) }
 {
     let mut left = turns;
     for _round in 0..turns {
         if left == 0 || is_ending(clerk, door) {
             return Ok(());
         }
-        match pass(rt, clerk, wire, room, door, timer, microseconds(rt, start)) {
+        match pass(
+            rt,
+            clerk,
+            wire,
+            observer,
+            room,
+            door,
+            timer,
+            microseconds(rt, start),
+        ) {
             Ok(used) => left = left.saturating_sub(u64::from(used)),
             Err(fault) => return Err(fault),
         }
@@ -116,19 +127,22 @@ fn passes<R: Records, W: Wire, T: Timer, RT: Clock + Eprint>(
 pub(crate) fn pass_on<R: Records, W: Wire, RT: Clock + Eprint>(
     rt: &RT,
     clerk: &mut Clerk<R>,
-    wire: &mut TallyWire<W>,
+    wire: &mut W,
+    observer: &mut Observer,
     room: &mut Room,
     door: &mut Option<Door>,
     turns: u64,
 ) -> Result<(), NodeFault>
-    ensures hosted { Hosted (standing W.Wire clerk.old.desk.node (below_of wire.old))
-        (standing W.Wire clerk.new.desk.node (below_of wire.new)) (fault_of result) }
-    ensures turns { door.old ≡ None → Served (standing W.Wire clerk.old.desk.node (below_of wire.old))
-        (standing W.Wire clerk.new.desk.node (below_of wire.new)) (fault_of result) }
+    ensures hosted { Hosted (standing W.Wire clerk.old.desk.node wire.old room.old)
+        (standing W.Wire clerk.new.desk.node wire.new room.new) (fault_of result) }
+    ensures turns { door.old ≡ None → Served (standing W.Wire clerk.old.desk.node wire.old room.old)
+        (standing W.Wire clerk.new.desk.node wire.new room.new) (fault_of result) }
 {
     let mut pace = Pace::new(clerk.desk.node.membership().me());
     let start = Instant::now(rt).ok();
-    match passes(rt, clerk, wire, room, door, &mut pace, start, turns) {
+    match passes(
+        rt, clerk, wire, observer, room, door, &mut pace, start, turns,
+    ) {
         Ok(()) => finish(&mut clerk.desk.node, wire, room, &mut pace, rt, start),
         Err(fault) => Err(fault),
     }

@@ -7,6 +7,7 @@ use Rattle.pf_scripts.specs.Ctl.{WaitingWords, pfctl, stepped}
 use Rattle.pf_compare.specs.Contents.{IsSame}
 
 -- the end of the script ends a text
+-- Example: pfctl -f - and pass, without a line ., loads pass.
 abbrev pub at_last : Configuration → Option WaitingWords → Configuration
 at_last c None = c
 at_last c (Some w) = (pfctl c w.words w.text).configuration
@@ -17,9 +18,11 @@ after_lines c waiting [] = at_last c waiting
 after_lines c waiting (l ∷ ls) = let s = stepped c waiting l in after_lines s.configuration s.waiting ls
 
 -- after a script that begins with nothing
+-- Example: of an empty script it is the empty one.
 unfoldable pub configured : List ℕ → Configuration
 configured script = after_lines empty None (lines script)
 
 -- the script, done on an empty configuration, gives this one
+-- Example: pfctl -t t -T add 10/8 twice gives what it gives once.
 abbrev pub Gives : List ℕ → Configuration → Type 0
 Gives script c = IsSame (configured script) c

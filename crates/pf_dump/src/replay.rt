@@ -18,7 +18,7 @@ use pf_scripts::{
 };
 use std::alloc::{AllocError, Global};
 
-/// Where a script stands behind a line.
+/// Where a script is behind a line.
 #[derive(Drop)]
 pub(crate) struct Stand<'a> {
     /// Whether it goes on: the line was a change, or it is of a text.

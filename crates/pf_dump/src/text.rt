@@ -8,7 +8,7 @@ use std::alloc::{AllocError, Global};
 /// How many steps a text has at most: one for each rule of each path, and one for the end of each block.
 const STEPS: u32 = 4_000_000;
 
-/// Where a text stands in the rules of a path.
+/// Where a text is in the rules of a path.
 #[derive(Drop)]
 struct Level {
     path: Vec<Name>,
@@ -32,7 +32,7 @@ enum Stepped {
 }
 
 /// The paths that a command may load: main, which comes last, and those with rules or tables that aren't below an
-/// unnamed block, in byte order. Main is left out where nothing stands there and no interface is skipped.
+/// unnamed block, in byte order. Main is left out where nothing is there and no interface is skipped.
 pub fn text_paths(alloc: Global, config: &Config) -> Result<Vec<&[Name]>, AllocError> {
     let mut found = Vec::new(alloc);
     let mut has_main = !config.skip().is_empty();

@@ -18,7 +18,7 @@ Applies (Ok counts) old new e = e ≡ Ok (record {
 Applies (Err Memory) old new e = new ≡ old
 Applies (Err (Refused code line)) old new e = (e ≡ Err (record { code = code; line = line })) × (new ≡ old)
 
--- The configuration is then the one after the command, which for a refused command is the same; where memory ran out it
+-- The configuration is then the one after the command, which for a refused command is the same; when out of memory it
 -- is as it was.
 abbrev pub Leaves : Result Applied ApplyFault → Configuration → Configuration → Configuration → Type 0
 Leaves (Ok counts) old new next = new ≡ next

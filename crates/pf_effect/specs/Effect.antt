@@ -16,7 +16,7 @@ use Rattle.pf_grammar.specs.Reading.{reading}
 use Rattle.pf_entry.specs.Entry.{Address, Command, load, flush_rules, flush_tables, flush_all, add, delete, replace}
 use Rattle.pf_entry.specs.Entry.{flush_table, Entry}
 
--- the configuration that a command leaves, and how many signed entries came to its table and went from it
+-- the configuration that a command leaves, and how many signed entries were added to its table and removed from it
 pub record Effect : Type 0 where
   pub configuration : Configuration
   pub added : ℕ
@@ -49,6 +49,7 @@ abbrev pub contents_at : Configuration → Path → Name → List TableEntry
 contents_at c p name = change.entries_in (table_at c p name)
 
 -- the signed entries of the table that are new, and those that are gone
+-- Example: -T replace 11/8 10/8 over 10/8 and !10.1/16 counts 1 and 1.
 abbrev pub counted : Configuration → Path → Name → Result Configuration ConfigFault →
     Result Effect RefusedCommand
 counted old p name (Ok new) = Ok (record {
@@ -73,12 +74,13 @@ abbrev pub place_at : Path → Place
 place_at [] = Main
 place_at (n ∷ p) = Anchor
 
--- the ruleset that a text comes to is loaded
+-- the ruleset that a text gives is loaded
 abbrev pub loaded : Configuration → Path → Result RulesetValue Refusal → Result Effect RefusedCommand
 loaded c p (Ok rules) = uncounted (change.load_ruleset c p rules)
 loaded c p (Err refusal) = Err (refused_text refusal)
 
 -- what a command does, or why it is refused
+-- Source: pfctl(8), -f, -F, -T. Example: adding 10/8 to a table that has it counts 0 and 0.
 unfoldable pub effect : Configuration → Command → Result Effect RefusedCommand
 effect c (load p profile text) = loaded c p (reading (place_at p) profile text)
 effect c (flush_rules p) = uncounted (Ok (change.flush_rules c p))

@@ -18,7 +18,7 @@ use pf_ruleset::{Name, Path, TableEntry, TableName};
 use pf_words::Profile;
 use std::alloc::{AllocError, Global};
 
-/// How many entries, with their signs, came to a command's table and went from it; 0 and 0 for loads and for flushes of
+/// How many entries, with their signs, were added to a command's table and removed from it; 0 and 0 for loads and for flushes of
 /// rules or of all tables.
 #[derive(Clone, Copy, PartialEq, Eq)]
 pub struct Applied {
@@ -144,7 +144,7 @@ fn entries_owned(alloc: Global, list: &Addresses) -> Result<Vec<TableEntry>, All
     addresses_owned(alloc, list)
 }
 
-/// Changes the configuration by a command, and answers how many entries came to its table and went from it.
+/// Changes the configuration by a command, and answers how many entries were added to its table and removed from it.
 ///
 /// The command is as [`pf_entry::decode`] lends it. A load reads its text by its profile, for the main ruleset where
 /// the path is empty and else for an anchor. A command that is refused, or for which a growth is refused, changes

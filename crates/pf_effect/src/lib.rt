@@ -2,7 +2,7 @@
 //!
 //! # Organization
 //!
-//! - [`apply`] changes a configuration by a command, as it lies in an entry's bytes, and counts what came to a table
+//! - [`apply`] changes a configuration by a command, as it is in an entry's bytes, and counts what was added to a table
 //!   and went from it.
 //! - `specs/Effect` is what is to be believed: `effect`, a command's change or its refusal, and `after`, the
 //!   configuration after a log.

@@ -150,7 +150,7 @@ in_family (V6 n) = nat_lt n (2 ^ 128)
 abbrev pub is_address : Address → Bool
 is_address a = in_family a.prefix.base && is_block a.prefix.base a.prefix.len
 
--- at least so many addresses, and at most 4096
+-- at least that many addresses, and at most 4096
 abbrev pub are_addresses : ℕ → List Address → Bool
 are_addresses least list = nat_le least (length list) && nat_le (length list) 4096 && list_all is_address list
 

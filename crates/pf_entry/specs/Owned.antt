@@ -1,4 +1,4 @@
--- What an entry is, without where it lies in memory.
+-- What an entry is, without where it is in memory.
 use Rattle.std.specs.Prelude.{Bool, false, nat_lt, List, length, map, ◌||◌}
 use Rattle.pf_ruleset.specs.declared.ruleset.TableEntry as rust_address
 use Rattle.pf_entry.specs.declared.command.Command as rust_command

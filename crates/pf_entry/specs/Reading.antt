@@ -33,7 +33,7 @@ number_at w bytes =
     if nat_lt (length bytes) (byte_len w) then None
     else Some (from_be_bytes w (take (byte_len w) bytes), drop (byte_len w) bytes)
 
--- so many bytes
+-- that many bytes
 abbrev pub text_at : ℕ → List ℕ → Option (List ℕ × List ℕ)
 text_at n bytes = if nat_lt (length bytes) n then None else Some (take n bytes, drop n bytes)
 
@@ -49,7 +49,7 @@ name_at bytes = do
   name ← counted_at bytes
   only (is_name name.0) name
 
--- so many of one kind
+-- that many of one kind
 unfoldable pub many_at : {A : Type 0} → (List ℕ → Option (A × List ℕ)) → ℕ → List ℕ →
     Option (List A × List ℕ)
 many_at item zero bytes = Some ([], bytes)
@@ -58,7 +58,7 @@ many_at item (suc n) bytes = do
   others ← many_at item n first.1
   Some (first.0 ∷ others.0, others.1)
 
--- so many names, each behind its length
+-- that many names, each behind its length
 abbrev pub names_at : ℕ → List ℕ → Option (List (List ℕ) × List ℕ)
 names_at n bytes = many_at name_at n bytes
 
@@ -100,11 +100,11 @@ address_at bytes = do
   block ← block_at base.0 len.0
   Some (record { negated = sign.0; prefix = block }, base.1)
 
--- so many addresses, one after another
+-- that many addresses, one after another
 abbrev pub addresses_at : ℕ → List ℕ → Option (List Address × List ℕ)
 addresses_at n bytes = many_at address_at n bytes
 
--- how many addresses, so many at least and 4096 at most, and each of them
+-- how many addresses, that many at least and 4096 at most, and each of them
 unfoldable pub list_at : ℕ → List ℕ → Option (List Address × List ℕ)
 list_at least bytes = do
   n ← number_at w16 bytes
@@ -197,10 +197,10 @@ abbrev pub first_or_none : {A : Type 0} → Option (List A × List ℕ) → List
 first_or_none None = []
 first_or_none (Some x) = x.0
 
--- so many names that begin the bytes, or no name where they don't spell so many
+-- that many names that begin the bytes, or no name where they don't spell that many
 abbrev pub names_in : ℕ → List ℕ → List (List ℕ)
 names_in count bytes = first_or_none (names_at count bytes)
 
--- so many addresses that begin the bytes, or none where they don't spell so many
+-- that many addresses that begin the bytes, or none where they don't spell that many
 abbrev pub addresses_in : ℕ → List ℕ → List Address
 addresses_in count bytes = first_or_none (addresses_at count bytes)

@@ -1,4 +1,4 @@
--- What views show, without where it lies in memory.
+-- What views show, without where it is in memory.
 use Rattle.std.specs.Prelude.{ℕ, List}
 use Rattle.pf_ruleset.specs.declared.ruleset.TableEntry as rust
 use Rattle.pf_entry.specs.declared.view.Names.{Names}

@@ -20,7 +20,7 @@ fn name_owned(alloc: Global, bytes: &[u8]) -> Result<Name, AllocError>
     }
 }
 
-/// The table's name, with memory of its own. Fails for want of memory alone.
+/// The table's name, with memory of its own. Fails for lack of memory alone.
 pub fn table_owned(alloc: Global, bytes: &[u8]) -> Result<TableName, AllocError>
     requires { is_table bytes.now ≡ true }
     ensures { IfOk result (λ name. name ≡ bytes.now) }
@@ -43,7 +43,7 @@ fn names_owned(alloc: Global, names: &Names) -> Result<Vec<Name>, AllocError>
     Ok(owned)
 }
 
-/// The path of a view's names, with memory of its own. Fails for want of memory alone.
+/// The path of a view's names, with memory of its own. Fails for lack of memory alone.
 pub fn path_owned(alloc: Global, names: &Names) -> Result<Path, AllocError>
     requires { are_names (names_of names.now) ≡ true }
     ensures { IfOk result (λ path. path ≡ names_of names.now) }
@@ -55,7 +55,7 @@ pub fn path_owned(alloc: Global, names: &Names) -> Result<Path, AllocError>
     }
 }
 
-/// The addresses of a view, with memory of their own. Fails for want of memory alone.
+/// The addresses of a view, with memory of their own. Fails for lack of memory alone.
 pub fn addresses_owned(alloc: Global, list: &Addresses) -> Result<Vec<TableEntry>, AllocError>
     ensures { IfOk result (λ v. addresses_value v.items ≡ addresses_of list.now) }
 {

@@ -159,7 +159,7 @@ pub(crate) fn address_at(bytes: &[u8]) -> Option<(TableEntry, &[u8])>
     Some((TableEntry { negated, prefix }, rest))
 }
 
-/// Passes over so many names.
+/// Passes over that many names.
 fn names_at(count: u8, bytes: &[u8]) -> Option<(Names<'_>, &[u8])>
     ensures { option_map (λ x. (names_of x.0, x.1.now)) result ≡ names_at count bytes.now }
 {
@@ -171,7 +171,7 @@ fn names_at(count: u8, bytes: &[u8]) -> Option<(Names<'_>, &[u8])>
     Some((Names { count, bytes }, rest))
 }
 
-/// Passes over so many addresses.
+/// Passes over that many addresses.
 fn addresses_at(count: u16, bytes: &[u8]) -> Option<(Addresses<'_>, &[u8])>
     ensures { option_map (λ x. (addresses_of x.0, x.1.now)) result ≡ addresses_at count bytes.now }
 {

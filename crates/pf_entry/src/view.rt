@@ -21,7 +21,7 @@ pub struct Addresses<'a> {
     ghost spelled: { IsTrue (is_some (addresses_at count bytes.now)) },
 }
 
-/// A command with its path. Names, addresses and text lie in the bytes that were read.
+/// A command with its path. Names, addresses and text are in the bytes that were read.
 #[derive(Clone, Copy)]
 pub enum CommandView<'a> {
     /// A text becomes the anchor's rules and tables.

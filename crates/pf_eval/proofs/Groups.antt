@@ -18,7 +18,7 @@ groups_step [] e = absurd cc
 groups_step (w ∷ []) e = rw e refl
 groups_step (w ∷ v ∷ ws) e = rw (e, bind_bind {B = List ℕ × List Word} (name_of v) (λ x. Some (x, ws)) (λ g. put_name g.0 (groups_at g.1))) refl
 
--- groups that stand before others
+-- groups that are before others
 abbrev pub prepend : List Word → Option (List Word × List Word) → Option (List Word × List Word)
 prepend names None = None
 prepend names (Some r) = Some (names ++ r.0, r.1)

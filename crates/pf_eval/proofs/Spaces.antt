@@ -41,7 +41,7 @@ words_are _ _ (LastWord word is) =
 words_are _ _ (MoreWords word blanks text ws is are more) =
     grows [] word (blanks ++ text) is.plain ∙ ends word blanks text is are ∙ ap (λ (r : List Word). word ∷ r) (words_are text ws more)
 
--- ---- no blank stands at either end
+-- ---- no blank is at either end
 
 -- the last byte, if there is one, is no blank
 abbrev pub ends_plain : List ℕ → Bool
@@ -68,7 +68,7 @@ word_ends_plain [] e = refl
 word_ends_plain (b ∷ []) e = (and_parts (not (is_blank b)) true e).0
 word_ends_plain (b ∷ c ∷ cs) e = word_ends_plain (c ∷ cs) (and_parts (not (is_blank b)) (list_all (λ b. not (is_blank b)) (c ∷ cs)) e).1
 
--- what stands before another text doesn't matter
+-- what is before another text doesn't matter
 behind_plain : (front text : List ℕ) → text ≢ [] → ends_plain text ≡ true → ends_plain (front ++ text) ≡ true
 behind_plain [] text some e = e
 behind_plain (b ∷ []) [] some e = absurd (some refl)

@@ -203,6 +203,7 @@ packet_at ws = do
     icmp_type = icmp_type.0;
   }) icmp_type.1
 
--- what a text spells, as a packet; no blank stands at either end
+-- what a text spells, as a packet; no blank is at either end
+-- Example: in on em0 proto tcp from 10.1.2.3 port 4000 to 192.0.2.1 port 22 flags A.
 abbrev pub packet_of : List ℕ → Option PacketValue
 packet_of text = if has_outer_blank text then None else packet_at (words text)

@@ -37,6 +37,7 @@ action_text act.Drop = codes "block drop"
 action_text act.Return = codes "block return"
 
 -- how a verdict is shown: the interface is skipped, no rule matches, or the action and spot of the one that decides
+-- Example: block drop @0.
 abbrev pub verdict_text : Judgement → List ℕ
 verdict_text Skipped = codes "pass skip"
 verdict_text (Decided None) = codes "pass default"

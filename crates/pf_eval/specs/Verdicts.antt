@@ -71,6 +71,7 @@ abbrev pub tables_in : Configuration → Path → Tables
 tables_in c p name = table_for c p name
 
 -- the hits of the rules at a path, where anchor rules nest less deep than this
+-- Example: main's anchor "x/*" quick, and a match in x/b alone: one hit, marked.
 unfoldable pub hits : (depth : ℕ) → Configuration → PacketValue → Path → List Hit
 hits zero c k p = []
 hits (suc depth) c k p = hits_with (tables_in c p) (target_hits (hits depth c k) c p) k p 0 (rules_at c p)
@@ -107,7 +108,7 @@ judgement c k = if is_skipped c.skip k then Skipped else Decided (last_spot (hit
 abbrev pub no_tables : Tables
 no_tables name = None
 
--- no anchor rule comes to a hit
+-- no anchor rule yields a hit
 abbrev pub no_hits : Target → List Hit
 no_hits t = []
 

@@ -23,6 +23,6 @@ pub enum Verdict<'c> {
     Pass(Spot<'c>),
     /// A block rule decides, and the packet is dropped silently.
     Drop(Spot<'c>),
-    /// A block rule decides, and the sender is told.
+    /// A block rule decides, and the sender is notified.
     Return(Spot<'c>),
 }

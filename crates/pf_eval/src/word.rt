@@ -26,7 +26,7 @@ pub(crate) fn has_outer_blank(text: &[u8]) -> bool
     }
 }
 
-/// What stands before the first blank of a text that begins with a word, and what stands behind that blank.
+/// What is before the first blank of a text that begins with a word, and what is behind that blank.
 #[tactic(auto, using(crate::proofs::Words::word_stays, crate::proofs::Words::word_cut, crate::proofs::Words::word_whole))]
 fn cut_word(text: &[u8]) -> (&[u8], &[u8])
     requires { begins_plain text.now ≡ true }
@@ -44,7 +44,7 @@ fn cut_word(text: &[u8]) -> (&[u8], &[u8])
     (text, &text[text.len()..])
 }
 
-/// The first word of a text, and what stands behind it. A blank that ends the word is gone.
+/// The first word of a text, and what is behind it. A blank that ends the word is gone.
 pub(crate) fn first_word(text: &[u8]) -> Option<(&[u8], &[u8])>
     ensures { cut_words (option_map (λ cut. (cut.0.now, cut.1.now)) result) ≡ words text.now }
 {
@@ -58,7 +58,7 @@ pub(crate) fn first_word(text: &[u8]) -> Option<(&[u8], &[u8])>
     None
 }
 
-/// What stands behind this word and the blank that ends it, where the text begins with them.
+/// What is behind this word and the blank that ends it, where the text begins with them.
 #[inline(always)]
 #[tactic(auto, using(crate::proofs::Words::key_ends, crate::proofs::Words::key_goes_on))]
 fn cut_key<'a>(text: &'a [u8], key: &[u8]) -> Option<&'a [u8]>
@@ -80,7 +80,7 @@ fn cut_key<'a>(text: &'a [u8], key: &[u8]) -> Option<&'a [u8]>
     }
 }
 
-/// What stands behind this word, if it is the first one of a text that doesn't begin with it: blanks stand before it.
+/// What is behind this word, if it is the first one of a text that doesn't begin with it: blanks are before it.
 #[tactic(auto, using(crate::proofs::Words::other_first))]
 fn behind_blanks<'a>(text: &'a [u8], key: &[u8]) -> Option<&'a [u8]>
     requires { 0 < length key.now }
@@ -96,7 +96,7 @@ fn behind_blanks<'a>(text: &'a [u8], key: &[u8]) -> Option<&'a [u8]>
     }
 }
 
-/// What stands behind this word, if it is the first one. Inlined, so that a key's length is known where it is compared.
+/// What is behind this word, if it is the first one. Inlined, so that a key's length is known where it is compared.
 #[inline(always)]
 pub(crate) fn behind<'a>(text: &'a [u8], key: &[u8]) -> Option<&'a [u8]>
     requires some { 0 < length key.now }

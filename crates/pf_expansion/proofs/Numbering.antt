@@ -109,7 +109,7 @@ next_paths items i item unnamed next within is e path =
     let here : drop i items ≡ item ∷ drop (i + 1) items = rw add-one (drop-cons items i item within) ∙ ap (λ (x : WrittenItem). x ∷ drop (i + 1) items) (sym is) in
     ap (λ (is : List WrittenItem). block_paths path unnamed (item_texts_of is)) here ∙ ap (λ (k : ℕ). item_paths path unnamed (item_text_of item) ++ block_paths path k (item_texts_of (drop (i + 1) items))) (sym e)
 
--- all numbers of a rule that stands at the root
+-- all numbers of a rule that is at the root
 pub all_numbers : (m n : Steps) (olds news : List ℕ) (all : Path → List Path) → olds ≡ [] → AreNumbered m n 0 olds news all (λ (path : Path). []) → map (number_of n) (all []) ≡ somes news
 unfolding AreNumbered
 all_numbers m n olds news all none x =

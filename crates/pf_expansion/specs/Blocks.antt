@@ -1,4 +1,4 @@
--- What an anchor rule with a block comes to, and why one is refused.
+-- What an anchor rule with a block gives, and why one is refused.
 use Rattle.std.specs.Prelude.{ℕ, ◌+◌, ◌&&◌, ◌||◌, Bool, true, false, List, [], ◌∷◌, ◌++◌, length, map, min}
 use Rattle.std.specs.Prelude.{Option, Some, None, is_none, nat_lt, bytes_eq, if◌then◌else◌}
 use Rattle.std.specs.List.{list_any}
@@ -25,11 +25,11 @@ use Rattle.pf_expansion.specs.Anchors.{anchor_flags, given_name, headings, is_mi
 abbrev pub given_target : ℕ → Target
 given_target k = record { names = given_name k ∷ []; children = false }
 
--- one more unnamed block; no more than 65,535 are told apart, since a statement has no more tokens
+-- one more unnamed block; no more than 65,535 are distinguished, since a statement has no more tokens
 abbrev pub next_unnamed : ℕ → ℕ
 next_unnamed unnamed = if nat_lt unnamed 65535 then unnamed + 1 else 65535
 
--- behind so many unnamed blocks
+-- behind that many unnamed blocks
 abbrev pub target_or_given : ℕ → Option Target → Target
 target_or_given unnamed None = given_target (next_unnamed unnamed)
 target_or_given unnamed (Some target) = target
@@ -44,14 +44,14 @@ unnamed_after unnamed (RuleItem rule) = unnamed
 unnamed_after unnamed (AnchorItem anchor) = unnamed
 unnamed_after unnamed (BlockItem h block) = if is_none h.target then next_unnamed unnamed else unnamed
 
--- ---- what it comes to
+-- ---- what it gives
 
 -- of the anchor rules of one text the first carries the block
 abbrev pub carried : List Heading → ItemValues → List ItemValue
 carried [] block = []
 carried (h ∷ hs) block = Blocks h block ∷ map (λ (h : Heading). Anchors h) hs
 
--- the rules of a text behind so many unnamed blocks of its ruleset, a plain `block` being the policy's
+-- the rules of a text behind that many unnamed blocks of its ruleset, a plain `block` being the policy's
 abbrev mutual
   pub item_values : Policy → ℕ → ItemText → List ItemValue
   item_values policy unnamed (RuleItem rule) = map (λ (r : Rule). Filters r) (expanded policy rule)
@@ -70,7 +70,7 @@ abbrev mutual
 abbrev pub nothing_wrong : Judged
 nothing_wrong = record { ports = false; combination = false; many = false; types = false; rules = 0 }
 
--- what is wrong with either; no more than 1,025 rules are told apart
+-- what is wrong with either; no more than 1,025 rules are distinguished
 abbrev pub both : Judged → Judged → Judged
 both a b = record {
   ports = a.ports || b.ports;
@@ -80,11 +80,11 @@ both a b = record {
   rules = min (a.rules + b.rules) 1025;
 }
 
--- how many rules conditions come to, where they aren't refused for their width
+-- how many rules conditions give, where they aren't refused for their width
 unfoldable pub rule_count : FlagTest → ConditionsText → ℕ
 rule_count test text = if is_too_wide text then 0 else length (combined test text)
 
--- what is wrong with conditions, and how many rules they come to
+-- what is wrong with conditions, and how many rules they give
 unfoldable pub conditions_judged : FlagTest → ConditionsText → Judged
 conditions_judged test text = record {
   ports = bad_ports text;
@@ -123,7 +123,7 @@ abbrev pub is_reserved_name : Option Target → Bool
 is_reserved_name None = false
 is_reserved_name (Some target) = is_reserved target
 
--- a rule or one in its block is misnamed, behind so many unnamed blocks of its ruleset; of rules one after another
+-- a rule or one in its block is misnamed, behind that many unnamed blocks of its ruleset; of rules one after another
 abbrev mutual
   pub item_misnamed : ℕ → ItemText → Bool
   item_misnamed unnamed (RuleItem rule) = false
@@ -155,7 +155,7 @@ abbrev mutual
   block_paths path unnamed (one_text item items) =
       item_paths path unnamed item ++ block_paths path (unnamed_after unnamed item) items
 
--- the same of rules that stand before
+-- the same of rules that are before
 abbrev mutual
   pub paths_in : Path → ItemValue → List Path
   paths_in path (Filters rule) = []
@@ -178,7 +178,7 @@ abbrev pub comes_again : List Path → Bool
 comes_again [] = false
 comes_again (p ∷ ps) = list_any (same_path p) ps || comes_again ps
 
--- ---- the rules that stand before
+-- ---- the rules that are before
 
 -- the name of an unnamed block, which stands alone
 abbrev pub is_unnamed : List Name → Bool
@@ -186,7 +186,7 @@ is_unnamed [] = false
 is_unnamed (name ∷ []) = begins_below name
 is_unnamed (name ∷ other ∷ names) = false
 
--- how many unnamed blocks there are with this rule; whether its block is one is told by its name
+-- how many unnamed blocks there are with this rule; whether its block is one shows in its name
 abbrev pub unnamed_with : ℕ → ItemValue → ℕ
 unnamed_with unnamed (Filters rule) = unnamed
 unnamed_with unnamed (Anchors h) = unnamed
@@ -203,13 +203,14 @@ unnamed_in unnamed (item ∷ items) = unnamed_in (unnamed_with unnamed item) ite
 abbrev pub any_among : List Path → List Path → Bool
 any_among others paths = list_any (λ p. list_any (same_path p) others) paths
 
--- a path of a block in this rule is that of another one, or of one in the rules that stand before
+-- a path of a block in this rule is that of another one, or of one in the rules that are before
+-- Example: anchor "x" {} twice: 16.
 unfoldable pub is_twice : List ItemValue → ItemText → Bool
 is_twice before item =
     let paths = item_paths [] (unnamed_in 0 before) item in
     any_among (paths_within [] (values_of before)) paths || comes_again paths
 
--- each cause with its test, the lowest first, where these rules stand before
+-- each cause with its test, the lowest first, where these rules are before
 abbrev pub block_causes : List ItemValue → ItemText → List (Bool × Cause)
 block_causes before item =
     let j = item_judged item in

@@ -39,11 +39,11 @@ abbrev pub all_listed : {X : Type 0} → (X → Bool) → Option (Elements X) �
 all_listed test None = false
 all_listed test (Some list) = list_all test list.items
 
--- more than 8 lists stand in one another
+-- more than 8 lists are in one another
 abbrev pub is_deep : {X : Type 0} → Elements X → Bool
 is_deep list = nat_lt 8 list.deepest
 
--- there is a list, and more than 8 stand in one another
+-- there is a list, and more than 8 are in one another
 abbrev pub is_deep_list : {X : Type 0} → Option (Elements X) → Bool
 is_deep_list None = false
 is_deep_list (Some list) = is_deep list
@@ -83,14 +83,14 @@ is_empty (x ∷ xs) = false
 unfoldable pub has_no_combination : FlagTest → ConditionsText → Bool
 has_no_combination test text = not (is_too_wide text) && is_empty (combined test text)
 
--- in one of the conditions more than 8 lists stand in one another
+-- in one of the conditions more than 8 lists are in one another
 unfoldable pub has_deep_list : ConditionsText → Bool
 has_deep_list text =
     is_deep_list text.common.interfaces || is_deep_list text.common.protocols || is_deep text.common.source.hosts ||
     is_deep_list text.common.source.ports
     || is_deep text.common.destination.hosts || is_deep_list text.common.destination.ports || is_deep_list text.types
 
--- with those so many that stand before there are more than 1,024 rules
+-- with those that many that are before there are more than 1,024 rules
 unfoldable pub has_too_many : FlagTest → ℕ → ConditionsText → Bool
 has_too_many test before text = is_too_wide text || has_deep_list text ||
     nat_lt 1024 (before + length (combined test text))
@@ -117,7 +117,7 @@ abbrev pub lowest : List (Bool × Cause) → Option Cause
 lowest [] = None
 lowest (row ∷ rows) = if row.0 then Some row.1 else lowest rows
 
--- each cause with its test, the lowest first, where so many rules stand before, and a name is reserved or not
+-- each cause with its test, the lowest first, where that many rules are before, and a name is reserved or not
 abbrev pub condition_causes : FlagTest → ℕ → Bool → ConditionsText → List (Bool × Cause)
 condition_causes test before reserved text =
     (bad_ports text, Ports) ∷ (has_no_combination test text, NoCombination) ∷ (reserved, Reserved)

@@ -29,7 +29,7 @@ use Rattle.pf_words.specs.Words.{no_flags}
 use Rattle.pf_statements.specs.Statements.{RuleText}
 use Rattle.pf_addr.specs.Blocks.{family_of}
 
--- ---- what the lists come to
+-- ---- what the lists give
 
 -- each element that is listed, or none at all where there is no list
 abbrev pub choices : {X : Type 0} → Option (Elements X) → List (Option X)
@@ -66,6 +66,7 @@ with_family (Some Inet) (Some (Some Inet6)) = None
 with_family (Some Inet6) (Some (Some Inet)) = None
 
 -- the family that occurs among these, if one does; none where two do
+-- Example: two protocols and two prefixes make four rules.
 abbrev pub occurring : List (Option Family) → Option (Option Family)
 occurring [] = Some None
 occurring (f ∷ fs) = with_family f (occurring fs)
@@ -198,7 +199,7 @@ nothing_chosen = record {
   icmp_type = None;
 }
 
--- what the lists come to, where this is asked of the flags
+-- what the lists give, where this is asked of the flags
 unfoldable pub combined : FlagTest → ConditionsText → List Conditions
 combined test text = by_interface test text nothing_chosen
 

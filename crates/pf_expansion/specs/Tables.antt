@@ -1,4 +1,4 @@
--- What a table statement comes to, and why one is refused.
+-- What a table statement gives, and why one is refused.
 use Rattle.std.specs.Prelude.{◌||◌, Bool, false, List, [], ◌∷◌, ◌++◌, length, fold, Option}
 use Rattle.std.specs.Prelude.{Some, None, option_map, nat_lt, if◌then◌else◌}
 use Rattle.std.specs.List.{list_any}
@@ -28,7 +28,7 @@ with_first entries e = if list_any (same_prefix e) entries then entries else ent
 abbrev pub first_of_each : List TableEntry → List TableEntry
 first_of_each entries = fold with_first [] entries
 
--- what a table statement comes to
+-- what a table statement gives
 abbrev pub table_value : TableText → TableValue
 table_value t = record {
   name = t.name;
@@ -43,11 +43,11 @@ table_value t = record {
 abbrev pub is_defined : List TableValue → Name → Bool
 is_defined tables name = list_any (λ (t : TableValue). bytes_eq t.name name) tables
 
--- more than 8 lists stand in one another, or more than 4,096 different prefixes are listed
+-- more than 8 lists are in one another, or more than 4,096 different prefixes are listed
 abbrev pub is_too_long : Option (Elements TableEntry) → Bool
 is_too_long None = false
 is_too_long (Some list) = is_deep list || nat_lt 4096 (length (first_of_each list.items))
 
--- each cause with its test, the lowest first, where these tables stand before
+-- each cause with its test, the lowest first, where these tables are before
 abbrev pub table_causes : List TableValue → TableText → List (Bool × Cause)
 table_causes tables t = (is_defined tables t.name, Twice) ∷ (is_too_long t.entries, TooMany) ∷ []

@@ -14,7 +14,7 @@ use pf_statements::WrittenItem;
 use pf_words::parse_decimal;
 use std::alloc::{AllocError, Global};
 
-/// The most unnamed blocks that are told apart: a statement has no more tokens.
+/// The most unnamed blocks that are distinguished: a statement has no more tokens.
 const MOST_UNNAMED: u16 = 65_535;
 
 /// One more unnamed block.
@@ -51,7 +51,7 @@ fn given_target(alloc: Global, k: u32) -> Result<Target, AllocError>
     })
 }
 
-/// The target of a block behind so many unnamed ones: the one that is written, or the one that it is given.
+/// The target of a block behind that many unnamed ones: the one that is written, or the one that it is given.
 pub(crate) fn target_or_given(
     alloc: Global,
     unnamed: u32,
@@ -88,7 +88,7 @@ fn is_unnamed(names: &[Name]) -> bool
     }
 }
 
-/// How many unnamed blocks there are with this rule, which stands before.
+/// How many unnamed blocks there are with this rule, which is before.
 fn unnamed_with(unnamed: u32, item: &Item) -> u32
     ensures { result ≡ unnamed_with unnamed (item_of item.now) }
 {
@@ -113,7 +113,7 @@ pub fn unnamed_in(items: &[Item]) -> u32
     unnamed
 }
 
-/// Whether it is the name of one of the first so many unnamed blocks.
+/// Whether it is the name of one of the first that many unnamed blocks.
 #[tactic(auto, unfolding(crate::specs::Anchors::is_given))]
 fn is_given(alloc: Global, unnamed: u32, name: &Name) -> Result<bool, AllocError>
     ensures { IfOk result (λ given. given ≡ is_given unnamed name.now) }
@@ -142,7 +142,7 @@ fn is_given_alone(alloc: Global, unnamed: u32, names: &[Name]) -> Result<bool, A
     }
 }
 
-/// Whether a name begins with `_` and isn't that of an unnamed block that stands before, alone.
+/// Whether a name begins with `_` and isn't that of an unnamed block that is before, alone.
 #[tactic(auto, unfolding(crate::specs::Anchors::is_misnamed))]
 pub(crate) fn is_misnamed(alloc: Global, unnamed: u32, target: &Target) -> Result<bool, AllocError>
     ensures { IfOk result (λ misnamed. misnamed ≡ is_misnamed unnamed (target_of target.now)) }

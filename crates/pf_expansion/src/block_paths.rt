@@ -17,7 +17,7 @@ use pf_statements::WrittenItem;
 use std::alloc::{AllocError, Global};
 use std::collections::BTreeSet;
 
-/// Appends the numbers of the paths of the blocks in a written rule behind so many unnamed ones, which stands at the
+/// Appends the numbers of the paths of the blocks in a written rule behind that many unnamed ones, which is at the
 /// path of this number.
 #[cycle(paths)]
 fn push_item_numbers(
@@ -81,7 +81,7 @@ fn as_set(alloc: Global, numbers: &[usize]) -> Result<Option<BTreeSet<usize>>, A
     Ok(Some(set))
 }
 
-/// Whether a path of a block in the rule, which stands at the path of this number, has a number of the set.
+/// Whether a path of a block in the rule, which is at the path of this number, has a number of the set.
 #[cycle(values)]
 fn is_in(
     alloc: Global,
@@ -102,7 +102,7 @@ fn is_in(
     }
 }
 
-/// Whether the path of a block with these rules, which stands at the path of this number, has a number of the set, or
+/// Whether the path of a block with these rules, which is at the path of this number, has a number of the set, or
 /// one of a block in it.
 #[cycle(values)]
 fn is_carried(
@@ -127,7 +127,7 @@ fn is_carried(
     Ok(found)
 }
 
-/// Whether a path of a block in the rules, which stand at the path of this number, has a number of the set.
+/// Whether a path of a block in the rules, which are at the path of this number, has a number of the set.
 #[cycle(values)]
 fn any_in(
     alloc: Global,
@@ -148,7 +148,7 @@ fn any_in(
     Ok(false)
 }
 
-/// Whether a path of a block in this rule is that of another one, or of one in the rules that stand before. The paths
+/// Whether a path of a block in this rule is that of another one, or of one in the rules that are before. The paths
 /// in this rule are numbered, and those before are looked for among them: a block that no path in this rule leads to is
 /// passed over with all that it holds.
 #[tactic(auto, unfolding(crate::specs::Blocks::is_twice))]

@@ -1,4 +1,4 @@
-//! What anchor rules with blocks come to, and why one is refused.
+//! What anchor rules with blocks give, and why one is refused.
 
 ghost use Rattle.std.specs.Prelude.{◌≡◌, ◌++◌, map, IfErr, IfOk, None, OnOk, Some};
 ghost use Rattle.pf_ruleset.specs.declared.rule.Rule.{Rule as IRule};
@@ -21,7 +21,7 @@ use pf_ruleset::{AnchorHeading, Item, Policy, Rule};
 use pf_statements::{WrittenAnchor, WrittenHeading, WrittenItem, WrittenRule};
 use std::alloc::{AllocError, Global};
 
-/// The most rules that a text may come to.
+/// The most rules that a text may give.
 const MOST_RULES: usize = 1_024;
 
 /// Appends the rules.
@@ -87,7 +87,7 @@ fn headings(alloc: Global, anchor: &WrittenAnchor) -> Result<Vec<AnchorHeading>,
     headings_with(alloc, &anchor.target, anchor.quick, found)
 }
 
-/// The anchor rules of one with a block, behind so many unnamed blocks.
+/// The anchor rules of one with a block, behind that many unnamed blocks.
 #[tactic(auto, unfolding(crate::specs::Anchors::headings))]
 fn named_headings(
     alloc: Global,
@@ -103,7 +103,7 @@ fn named_headings(
     headings_with(alloc, &target, heading.quick, found)
 }
 
-/// Appends the rules of a written one behind so many unnamed blocks of its ruleset.
+/// Appends the rules of a written one behind that many unnamed blocks of its ruleset.
 #[cycle(values)]
 fn push_item(
     alloc: Global,

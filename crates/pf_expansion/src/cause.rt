@@ -17,7 +17,7 @@ pub enum Cause {
     Ports,
     /// 14: no combination of what is listed is of one family.
     NoCombination,
-    /// 15: a name of an anchor that begins with `_`, but for that of an unnamed block that stands before, alone.
+    /// 15: a name of an anchor that begins with `_`, but for that of an unnamed block that is before, alone.
     Reserved,
     /// 16: a table that the text has defined before, or a block with the path of another one.
     Twice,

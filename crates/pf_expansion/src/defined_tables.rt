@@ -32,7 +32,7 @@ impl DefinedTables {
         }
     }
 
-    /// With one table more. An error is want of memory.
+    /// With one table more. An error is out of memory.
     pub fn push(&mut self, alloc: Global, table: TableDef) -> Result<(), AllocError>
         ensures { OnOk result (tables_of self.new ≡ tables_of self.old ++ table_of table ∷ []) }
     {

@@ -22,10 +22,10 @@ use std::alloc::{AllocError, Global};
 /// The most combinations that the lists of one rule may have, before families are compared.
 const MOST_COMBINATIONS: usize = 65_536;
 
-/// The most lists that may stand in one another.
+/// The most lists that may be in one another.
 const MOST_NESTED: u64 = 8;
 
-/// The most rules that a text may come to.
+/// The most rules that a text may give.
 const MOST_RULES: usize = 1_024;
 
 /// The number of tcp.
@@ -124,14 +124,14 @@ pub(crate) fn is_too_wide(text: &WrittenConditions) -> bool
     combinations(text) > MOST_COMBINATIONS
 }
 
-/// Whether too many lists stand in one another.
+/// Whether too many lists are in one another.
 pub fn is_deep<E: Drop>(list: &Listed<E>) -> bool
     ensures { result ≡ is_deep (elements_of list.now) }
 {
     list.deepest > MOST_NESTED
 }
 
-/// Whether there is a list in which too many stand in one another.
+/// Whether there is a list in which too many are in one another.
 fn is_deep_list<E: Drop>(list: &Option<Listed<E>>) -> bool
     ensures { result ≡ is_deep_list (list_of list.now) }
 {
@@ -141,7 +141,7 @@ fn is_deep_list<E: Drop>(list: &Option<Listed<E>>) -> bool
     }
 }
 
-/// Whether too many lists stand in one another anywhere in the rule.
+/// Whether too many lists are in one another anywhere in the rule.
 #[tactic(auto, unfolding(crate::specs::Causes::has_deep_list))]
 pub(crate) fn has_deep_list(text: &WrittenConditions) -> bool
     ensures { result ≡ has_deep_list (conditions_of text.now) }
@@ -211,7 +211,7 @@ pub(crate) fn bad_types(text: &WrittenConditions) -> bool
     has_bad_type(&text.types) || (text.types.is_some() && !all_are_icmp(&text.common.protocols))
 }
 
-/// The conditions of all combinations behind so many rules, or the lowest cause that refuses them, where a name is
+/// The conditions of all combinations behind that many rules, or the lowest cause that refuses them, where a name is
 /// reserved or not.
 #[tactic(auto, using(crate::proofs::Capped::empty_is), unfolding(crate::specs::Causes::has_no_combination, crate::specs::Causes::has_too_many))]
 pub(crate) fn judge_conditions(

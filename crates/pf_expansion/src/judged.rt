@@ -15,16 +15,16 @@ use pf_statements::WrittenItem;
 /// One rule more than a ruleset may have.
 const TOO_MANY_RULES: usize = 1_025;
 
-/// What is wrong with rules, and how many they come to, of which no more than 1,025 are told apart.
+/// What is wrong with rules, and how many they give, of which no more than 1,025 are distinguished.
 #[derive(Clone, Copy, PartialEq, Eq)]
 pub struct Judged {
-    /// A port is no port, or stands in a rule without protocols that have ports.
+    /// A port is no port, or is in a rule without protocols that have ports.
     pub ports: bool,
     /// No combination of what a rule lists is of one family.
     pub combination: bool,
     /// There are too many combinations, nested lists, or rules in a block.
     pub many: bool,
-    /// A type of ICMP is no type, or stands in a rule of another protocol.
+    /// A type of ICMP is no type, or is in a rule of another protocol.
     pub types: bool,
     /// How many rules there are.
     pub rules: usize,

@@ -1,4 +1,4 @@
-//! What written rules come to (pf.conf(5), lists), and why one is refused.
+//! What written rules give (pf.conf(5), lists), and why one is refused.
 //!
 //! # Organization
 //!
@@ -8,7 +8,47 @@
 //! - [`judge_block`]: the same of an anchor rule with a block.
 //! - [`judge_table`]: the table that a table statement defines, or the lowest cause that refuses it. [`DefinedTables`]
 //!   keeps those that a text has defined so far.
-//! - [`is_deep`]: whether too many lists stand in one another.
+//! - [`is_deep`]: whether too many lists are in one another.
+//!
+//! # Why
+//!
+//! - The readers of productions are free functions over `&mut Parser`, one for each production, in files by subject
+//!   (`interfaces`, `protocols`, `hosts`, `ports`, `ends`, `options`, `statements`), so that a contract cites its
+//!   production and needs no struct of its own. `Element::read` takes the allocator and the profile: names take
+//!   memory, and a word can be reserved in one profile alone.
+//! - Operators before a port are an enum `Comparison` in the code; the definition speaks of the test itself (a
+//!   function from ports to tests). `compared` joins them.
+//! - `pf_statements` cuts a port range at its colon with a ten-line function of its own, since the one of `pf_addr`
+//!   is private there.
+//! - A change by a statement (`Change`) is a value that is made while the macros are borrowed and applied
+//!   afterwards (`Gathered::add`): the parser borrows the macros that are before, so nothing can be added while it
+//!   lives, and a refused statement changes nothing by its form.
+//! - `finish` is called once a statement has been read, so that the tokens behind the parser aren't gone over
+//!   again.
+//! - **Two families.** Hosts of two families are left before the ports of the destination are gone through; a type
+//!   of ICMP is compared where the rule would be made, before memory is taken for it.
+//! - **Number of combinations.** The code's product stops at the greatest number of its type, which is far above
+//!   the limit; a rule with more than 65,536 combinations is never expanded.
+//! - **Empty lists.** The grammar makes no list without elements; the expansion of one has no rule, so it would be
+//!   refused as no combination.
+//! - **Newlines in lists** are blanks in the relation exactly as pf_tokens takes them out, since no more than 65
+//!   open braces are told apart.
+//! - **An anchor rule is read like a block rule without its action**: its line shows flags only where something is
+//!   checked, so the proofs that a shown block rule is read again serve it too. It has no option, so `icmp-type`,
+//!   `keep state` and `no state` are refused with 12.
+//! - **`*` in a target** ends it, behind a slash: `"*"` and `"x/*/y"` are refused with 12.
+//! - **An item's block is shared** (`Rc`), so that a load puts it at its anchor without a copy. A recursive type
+//!   can't keep a fact about itself, so that blocks have at most 1,024 items stands on `Ruleset`.
+//! - **The causes of a block are asked of the rules as written**, so two blocks with one path are 16 also where the
+//!   statement has too many rules. A rule with too many combinations adds none to its ruleset's count: it is
+//!   refused for its width.
+//! - **The first rule of an expanded block carries it**; the further ones name it, an unnamed one as `_k`.
+//! - **`_k/*` is reserved**: only `_k` alone may be written.
+//! - **At most 65,535 unnamed blocks of a ruleset are told apart**; a statement has no more tokens.
+//! - **A ruleset with blocks is read again where its lines fit a statement**: a block's expansion can have more
+//!   than 65,536 tokens, and a text with such a statement is refused.
+//! - **`show_items` is stated over rules without blocks** (`AnyRule`), which is what a configuration keeps at a
+//!   path.
 #![tactic(auto)]
 
 mod anchors;

@@ -26,7 +26,8 @@ abbrev pub after_lines : Configuration → List ℕ → Configuration
 after_lines c text = fold after_line c (lines text)
 
 -- Lines were taken one after the other up to one that wasn't, or to the last: the configuration is then that after the
--- lines before it, and it stands so many entries further.
+-- lines before it, and it stands that many entries further.
+-- Example: of three lines at 7: at 7, 8, 9 or 10.
 abbrev pub StopsIn : (old new : Configuration) → (from to : ℕ) → List ScriptLine → Type 0
 StopsIn old new from to [] = (new ≡ old) × (to ≡ from)
 StopsIn old new from to (l ∷ ls) =
@@ -38,6 +39,7 @@ AreBytes log = (p : ℕ) (e : Entry Bytes) → log p ≡ Some e → IsBytes (spe
 
 -- Where a configuration is that of a log's first entries, and a text is what a door answers of this log from there on,
 -- it is afterwards that of the log's first entries up to where it stands then.
+-- Example: at 3, with two lines: after five entries.
 abbrev pub Follows : (old new : Configuration) → (from to : ℕ) → (text : List ℕ) → Type 0
 Follows old new from to text = (log : Log Bytes) (applied count : ℕ) → AreBytes log → applied ≤ front log →
     after log from ≡ Some old → text ≡ entries_from log applied from count → after log to ≡ Some new

@@ -15,6 +15,7 @@ line_end text =
     let len = prefix_len (λ b. not (b == 10)) text in if nat_lt len (length text) then len + 1 else len
 
 -- how many the first two have
+-- Example: ab, newline, c has 3.
 abbrev pub two_ends : List ℕ → ℕ
 two_ends text = line_end text + line_end (drop (line_end text) text)
 
@@ -22,7 +23,7 @@ two_ends text = line_end text + line_end (drop (line_end text) text)
 abbrev pub two_lines : List ℕ → List ℕ
 two_lines text = take (two_ends text) text
 
--- what stands behind them
+-- what is behind them
 abbrev pub end_line : List ℕ → List ℕ
 end_line text = drop (two_ends text) text
 

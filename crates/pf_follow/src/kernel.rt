@@ -19,7 +19,7 @@ struct Loaded {
     text: String,
 }
 
-/// What a kernel was told, on a machine with these interfaces.
+/// What a kernel was given, on a machine with these interfaces.
 #[derive(Drop)]
 pub struct Kernel {
     /// The file that lists the interfaces.
@@ -41,7 +41,7 @@ pub enum Step {
     Lines(Vec<u8>),
 }
 
-/// How many bytes stand before the end of the first line.
+/// How many bytes are before the end of the first line.
 #[tactic(auto, using(crate::proofs::Ends::line_len_le))]
 fn line_len(text: &[u8]) -> usize
     ensures value { result ≡ prefix_len (λ b. not (b == 10)) text.now }
@@ -59,7 +59,7 @@ fn line_end(text: &[u8]) -> usize
     if len < text.len() { len + 1 } else { len }
 }
 
-/// The first two lines, and what stands behind them.
+/// The first two lines, and what is behind them.
 fn cut_end(text: &[u8]) -> (&[u8], &[u8])
     ensures front { result.0.now ≡ two_lines text.now }
     ensures end { result.1.now ≡ end_line text.now }
@@ -140,7 +140,7 @@ impl Kernel {
         }
     }
 
-    /// What is to be loaded of the configuration after so many entries: nothing where it would be rendered under the
+    /// What is to be loaded of the configuration after that many entries: nothing where it would be rendered under the
     /// names of what was handed out last as that was; else its first two lines, and the last line of what was handed
     /// out last, unless it has the same names. Where it can't be rendered, what was handed out last stands.
     pub fn step(

@@ -12,7 +12,7 @@ use std::io::{self, Write};
 struct TextFile {
     name: String,
     text: String,
-    /// Whether the text stands there.
+    /// Whether the text is there.
     is_put: bool,
 }
 
@@ -66,7 +66,7 @@ fn has_name(files: &[TextFile], name: &str) -> bool {
     files.iter().any(|file| file.name.as_str() == name)
 }
 
-/// Whether this stands there.
+/// Whether this is there.
 fn is_written(files: &[TextFile], name: &str, text: &str) -> bool {
     files.iter().any(|old| old.is_put && old.name.as_str() == name && old.text.as_str() == text)
 }
@@ -108,7 +108,7 @@ impl TextFiles {
         )
     }
 
-    /// Writes a file unless it stands there, and answers whether it does now.
+    /// Writes a file unless it is there, and answers whether it does now.
     fn stands(
         &self,
         rt: &HostRuntime,

@@ -1,33 +1,51 @@
 //! Where a node says that its members listen.
 
+ghost use Rattle.std.specs.Prelude.{◌≡◌, IfOk, map, option_map};
+ghost use Rattle.pf_follow_words.specs.Members.{some_texts, texts_on, members_told};
+
 use pf_kernel::Member;
 use pf_kernel_words::members_in;
+use pf_scripts::{cut_line, words_in};
 use std::alloc::{AllocError, Global};
 
-/// What a line of a node's status begins with that says where the members listen.
-const MEMBERS: &str = "members ";
-
-/// The members that a line names, with blanks between them.
-fn members_on(alloc: Global, line: &str) -> Result<Option<Vec<Member>>, AllocError> {
-    let mut texts = Vec::new(alloc);
-    for text in line.split(' ') {
-        texts.push(text)?;
+/// Texts, if there are some.
+fn some_texts<'w, 'a>(texts: &'w [&'a str]) -> Option<&'w [&'a str]>
+    ensures { option_map (λ ts. map (λ t. t.now) ts.now) result ≡ some_texts (map (λ t. t.now) texts.now) }
+{
+    if texts.is_empty() {
+        return None;
     }
-    members_in(alloc, texts.as_slice())
+    Some(texts)
 }
 
-/// Where the members listen by a node's status; none where that doesn't say it.
-pub(crate) fn members_told(
-    alloc: Global,
-    status: &[u8],
-) -> Result<Option<Vec<Member>>, AllocError> {
-    let Ok(text) = std::str::from_utf8(status) else {
-        return Ok(None);
-    };
-    for line in text.lines() {
-        if let Some(rest) = line.strip_prefix(MEMBERS) {
-            return members_on(alloc, rest);
+/// The texts behind the word `members`, if these are the words of a line that begins with it.
+fn texts_on<'w, 'a>(words: &'w [&'a str]) -> Option<&'w [&'a str]>
+    ensures { option_map (λ ts. map (λ t. t.now) ts.now) result ≡ texts_on (map (λ w. w.now) words.now) }
+{
+    match words {
+        [first, texts @ ..] => {
+            if *first == "members" {
+                return some_texts(texts);
+            }
+            None
         }
+        [] => None,
+    }
+}
+
+/// Where the members listen by a node's status, of which a line names them; none where it doesn't.
+#[tactic(auto, unfolding(crate::specs::Members::members_told))]
+pub(crate) fn members_told(alloc: Global, status: &[u8]) -> Result<Option<Vec<Member>>, AllocError>
+    ensures { IfOk result (λ o. option_map (λ v. v.items) o ≡ members_told status.now) }
+{
+    let mut left = status;
+    while let Some((line, rest)) = cut_line(left) {
+        if let Some(words) = words_in(alloc, line.content)? {
+            if let Some(texts) = texts_on(words.as_slice()) {
+                return members_in(alloc, texts);
+            }
+        }
+        left = rest;
     }
     Ok(None)
 }

@@ -17,7 +17,7 @@ pub(crate) struct Outlets {
     pub(crate) is_guarded: bool,
     /// Whether something was to be written already.
     pub(crate) has_begun: bool,
-    /// Whether a file couldn't be written, so that what stands there is of an earlier configuration.
+    /// Whether a file couldn't be written, so that what is there is of an earlier configuration.
     pub(crate) is_behind: bool,
 }
 

@@ -26,7 +26,7 @@ const AGAIN: u64 = 20;
 const NO_GUARD: &[u8] =
     b"pfx: no member guard: rules that drop the members' own datagrams cut this node off, and no command mends them\n";
 
-/// What asking once came to.
+/// What asking once gave.
 #[derive(Clone, Copy, PartialEq, Eq)]
 enum Asked {
     /// Entries that weren't all.
@@ -188,7 +188,7 @@ fn another<E: Write>(errors: &mut E) -> Status {
     }
 }
 
-/// Want of memory, said on standard error.
+/// Out of memory, said on standard error.
 fn memory<E: Write>(errors: &mut E) -> Status {
     match errors.write_all(b"memory\n") {
         Ok(()) => Status::Memory,

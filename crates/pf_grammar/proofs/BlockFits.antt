@@ -134,7 +134,7 @@ free_unnamed (name ∷ other ∷ names) e = refl
 
 -- ---- blocks
 
--- a block that stands at a place, and the rules behind it
+-- a block that is at a place, and the rules behind it
 record Placed (profile : Profile) (u : ℕ) (h : HeadingText) (target : Target) : Type 0 where
   name : FitsName u target
   after : cond (is_unnamed target.names) (next_unnamed u) u ≡ cond (is_none h.target) (next_unnamed u) u

@@ -157,7 +157,7 @@ or_gone false false false false o e = (e, refl)
 gone : (t : Token) (c d : ℕ) (ts : List Token) → reading_fault [] c d (t ∷ ts) ≡ None → Gone t c d ts
 gone t c d ts e = let g = or_gone (is_bad t) (is_unknown [] t) (nat_le 65536 c) (nat_lt 64 (depth_after d t)) (reading_fault [] (c + 1) (depth_after d t) ts) e in record { rest = g.0; low = g.1 }
 
--- what stands in front has no fault where all has none
+-- what is in front has no fault where all has none
 faults_two : (a b x : Bool) (o q : Option ReadingFault) → (o ≡ None → q ≡ None) → or_fault a Lexical (or_fault b UnknownMacro (or_fault x TooMany o)) ≡ None → or_fault a Lexical (or_fault b UnknownMacro (or_fault x TooMany q)) ≡ None
 faults_two true b x o q f e = absurd cc
 faults_two false true x o q f e = absurd cc

@@ -54,7 +54,7 @@ pub record Fine (values : List ItemValue) (rules : ℕ) : Type 0 where
   pub count : min (length values) 1025 ≡ min rules 1025
   pub blocks : list_any is_overfull values ≡ false
 
--- the same behind so many rules
+-- the same behind that many rules
 pub record FineBehind (before : ℕ) (values : List ItemValue) (rules : ℕ) : Type 0 where
   pub count : min (before + length values) 1025 ≡ min rules 1025
   pub blocks : list_any is_overfull values ≡ false

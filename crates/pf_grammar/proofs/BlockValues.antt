@@ -27,7 +27,7 @@ use Rattle.pf_grammar.proofs.AnchorLine.{as_rule, FitsHeading, as_fitting, ancho
 
 -- ---- rules that a text gives
 
--- the name of a block behind so many unnamed ones: the one that it is given, or one that isn't reserved
+-- the name of a block behind that many unnamed ones: the one that it is given, or one that isn't reserved
 pub record FitsName (unnamed : ℕ) (t : Target) : Type 0 where
   pub given : is_unnamed t.names ≡ true → t ≡ given_target (next_unnamed unnamed)
   pub free : is_unnamed t.names ≡ false → is_reserved t ≡ false
@@ -137,7 +137,7 @@ judged_one profile r fits =
     let both = or_parts (is_too_wide (written_conditions r)) (has_deep_list (written_conditions r)) many.0 in
     rw (no_bad_ports profile r fits, some_combination profile r fits, both.0, both.1, no_bad_types profile r fits, combined_again profile r fits) refl
 
--- so many rules behind others, of which no more than 1,025 are told apart
+-- that many rules behind others, of which no more than 1,025 are told apart
 abbrev capped : ℕ → ItemValues → ℕ
 capped n no_items = n
 capped n (one_more i is) = capped (min (n + 1) 1025) is

@@ -65,7 +65,7 @@ simple_word text = record { in_line = refl; good = refl; known = refl; level = �
 pub simple_mark : (s : Symbol) → ((d : ℕ) → depth_after d (Mark s) ≡ d) → Simple (Mark s)
 simple_mark s level = record { in_line = refl; good = refl; known = refl; level = level }
 
--- so many tokens of this kind
+-- that many tokens of this kind
 pub record Short (k : ℕ) (ts : List Token) : Type 0 where
   pub simple : AllByRecursion Simple ts
   pub short : length ts ≤ k

@@ -63,7 +63,7 @@ pub rest_shorter : (sofar : Sofar) (line : ℕ) (old ts : List Placed) (defines 
 rest_shorter sofar line old ts defines statement rest b = omega (arith, ap (λ (us : List Placed). length us) b.is_rest, later_shorter sofar.macros (is_definition ts) line old ts b.is_past b.is_line)
 
 module _ (place : Place) (profile : Profile) where
-  -- what the tokens that follow make of what stands before
+  -- what the tokens that follow make of what is before
   abbrev pub from : Sofar → List Placed → Result Sofar Refusal
   from sofar ts = reading_from macros_of (judge place profile) sofar [] ts
 

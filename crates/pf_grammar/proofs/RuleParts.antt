@@ -372,7 +372,7 @@ condition_are profile r fits =
     (parts_append (ends_parts c.source c.source_port c.destination c.destination_port) _ (ends_tokens c.source c.source_port c.destination c.destination_port) _ (ends_are profile c.source c.source_port c.destination c.destination_port fits.conditions.source fits.conditions.source_port fits.conditions.destination fits.conditions.destination_port)
     (type_are profile c.protocol c.icmp_type fits.conditions.types))))
 
--- the options stand behind the type
+-- the options are behind the type
 rest_tokens : (a b c d e f : List Token) → (a ++ (b ++ (c ++ (d ++ e)))) ++ f ≡ a ++ (b ++ (c ++ (d ++ (e ++ f))))
 rest_tokens a b c d e f = simp append_assoc refl
 

@@ -21,7 +21,7 @@ use Rattle.pf_grammar.proofs.Parts.{lexed, at_line, bytes_of, letter_at, front_l
 
 -- ---- a string
 
--- bytes that stand in a string
+-- bytes that are in a string
 abbrev pub AreQuoted : List ℕ → Type 0
 AreQuoted text = list_all is_quoted_byte text ≡ true
 
@@ -172,7 +172,7 @@ children_quoted false = refl
 pub target_is_part : (t : Target) → FitsTarget t → IsPart (target_part t) (Quoted (target_text t) ∷ [])
 target_is_part t fits = string_part (target_text t) (quoted_append (slashed t.names) (children_text t.children) (slashed_quoted t.names fits.names) (children_quoted t.children))
 
--- what stands behind the names
+-- what is behind the names
 abbrev stars : Bool → List (List ℕ)
 stars true = codes "*" ∷ []
 stars false = []

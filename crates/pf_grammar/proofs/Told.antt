@@ -510,7 +510,7 @@ rule_told profile r fits = record {
   keeps = may_told r.action r.keeps_state;
 }
 
--- what stands behind the action
+-- what is behind the action
 abbrev pub behind_action : Rule → List Token
 behind_action r =
     direction_tokens r.conditions.direction ++ ([] ++ (quick_tokens r.quick ++ (interface_tokens r.conditions.interface ++ (family_tokens r.conditions.family ++ (protocol_tokens r.conditions.protocol

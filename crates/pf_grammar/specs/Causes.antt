@@ -26,7 +26,7 @@ abbrev pub is_anchor : Place → Bool
 is_anchor Main = false
 is_anchor Anchor = true
 
--- in the interfaces to skip more than 8 lists stand in one another
+-- in the interfaces to skip more than 8 lists are in one another
 abbrev pub is_deep_setting : Setting → Bool
 is_deep_setting (SetPolicy policy) = false
 is_deep_setting (SetSkip names) = is_deep names
@@ -35,7 +35,8 @@ is_deep_setting (SetSkip names) = is_deep names
 abbrev pub setting_causes : Place → Setting → List (Bool × Cause)
 setting_causes place setting = (is_anchor place, SetHere) ∷ (is_deep_setting setting, TooMany) ∷ []
 
--- the cause that refuses a statement, if one does; these tables and rules stand before it
+-- the cause that refuses a statement, if one does; these tables and rules are before it
+-- Example: set skip in a text for an anchor is refused.
 abbrev pub statement_cause : Place → List TableValue → List ItemValue → Option Statement → Option Cause
 statement_cause place tables before None = Some Syntax
 statement_cause place tables before (Some (Sets setting)) = lowest (setting_causes place setting)

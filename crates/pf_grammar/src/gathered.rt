@@ -1,4 +1,4 @@
-//! What the statements of a text so far come to, and what one more changes.
+//! What the statements of a text so far give, and what one more changes.
 
 ghost use Rattle.std.specs.Prelude.{◌≡◌, ◌++◌, map, OnOk};
 ghost use Rattle.pf_ruleset.specs.declared.rule.Rule.{Rule as IRule};
@@ -12,7 +12,7 @@ use pf_ruleset::{AnchorHeading, InterfaceName, Item, Policy, Rule, TableDef};
 use pf_tokens::{Macro, Macros};
 use std::alloc::{AllocError, Global};
 
-/// The ruleset that the statements so far come to.
+/// The ruleset that the statements so far give.
 #[derive(Drop)]
 pub(crate) struct GatheredRuleset {
     pub(crate) skip: Vec<InterfaceName>,
@@ -20,7 +20,7 @@ pub(crate) struct GatheredRuleset {
     pub(crate) items: Vec<Item>,
 }
 
-/// What the statements so far come to: what is the text's alone, and the ruleset.
+/// What the statements so far give: what is the text's alone, and the ruleset.
 #[derive(Drop)]
 pub(crate) struct Gathered {
     pub(crate) macros: Macros,
@@ -40,11 +40,11 @@ pub(crate) enum Change {
     Skips(Vec<InterfaceName>),
     /// It defines a table.
     Tables(TableDef),
-    /// It comes to these rules.
+    /// It gives these rules.
     Adds(Vec<Rule>),
-    /// It comes to these anchor rules.
+    /// It gives these anchor rules.
     AddsAnchors(Vec<AnchorHeading>),
-    /// It comes to these rules of any kind.
+    /// It gives these rules of any kind.
     AddsItems(Vec<Item>),
 }
 

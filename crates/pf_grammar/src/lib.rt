@@ -1,4 +1,4 @@
-//! Texts of rules, and what they come to (pf.conf(5), GRAMMAR).
+//! Texts of rules, and what they give (pf.conf(5), GRAMMAR).
 //!
 //! # Organization
 //!
@@ -7,6 +7,36 @@
 //! - [`reading_again`]: what is shown of a ruleset is read as that ruleset.
 //! - Of the layers below: [`show`] and [`show_items`] write a ruleset or its rules in one form; [`Rule`] and the types
 //!   of its parts; [`reads_the_grammar`], a statement is read exactly as the grammar spells it.
+//!
+//! # Why
+//!
+//! - **Both profiles are built in from the start**, with `icmp-type` in profile Two alone; `check` and `test` use
+//!   Two.
+//! - **A macro's tokens have no line of their own**: a refusal's line is that of the statement's first token as
+//!   written, and a macro counts as one, also where its text is empty. A statement left without tokens is passed
+//!   over.
+//! - **A string with `$` or `#`** is refused with 11 in macro statements alone; elsewhere it is a bad name, 12.
+//! - **A string that spells a reserved word** is refused as the name of an interface.
+//! - **A range of ports may have names at its ends, in any order.** A word with a colon is a range only where it
+//!   stands alone; behind an operator it is a port that is neither number nor name, 13.
+//! - **Types of ICMP**: inside braces any word is a type (a reserved one is then 19); outside braces a reserved
+//!   word ends the statement's options, 12. A type gives the rule the family inet, also where it is no type.
+//! - **14 isn't asked of a rule with more than 65,536 combinations**, where 18 holds.
+//! - **Names of skipped interfaces** are kept as often as they are written.
+//! - **What a shown ruleset with more than 65,531 skipped names comes to**: its one `set skip` line has more than
+//!   65,536 tokens and is refused. The law of the round trip says so by its premise; the form of the line leaves no
+//!   other way. The same holds of a rule whose block is shown in more tokens than that, which a text of fewer can
+//!   give: a list is shown as one rule for each of its elements.
+//! - **Words for numbers and names** are read by pf_words for texts of rules and for packets alike, from tables
+//!   that the definition and the code both have as lists.
+//! - **A packet text has no blank at either end**; between its words there may be several spaces or tabs. Its ports
+//!   have one to five digits and its types one to three, leading zeros allowed.
+//! - **The packet grammar is a relation** too (`IsPacketText`); a law says that what is read is exactly what it
+//!   spells.
+//! - **Groups and interfaces of a packet** are plain words, of which the words reserved in profile One are none.
+//! - **The name of an interface is in its value**, 15 bytes and how many count: no memory is taken for it. A
+//!   packet's text is read word by word, without a list of them.
+//! - **A ruleset has at most 1,024 rules** as a fact of its type, so the place of a rule is a `u32` without a test.
 #![tactic(auto)]
 
 mod fault;

@@ -5,7 +5,7 @@ use Rattle.pf_intervals.specs.declared.interval.Interval.{Interval}
 use Rattle.pf_intervals.specs.declared.column.Column.{Column}
 use Rattle.pf_intervals.specs.Rows.{Marks}
 
--- where the bucket begins that stands behind so many others: past the last one, past all numbers
+-- where the bucket begins that is behind that many others: past the last one, past all numbers
 abbrev pub bound : List ℕ → ℕ → ℕ
 bound bounds j = get_or bounds j 4294967296
 

@@ -1,4 +1,4 @@
--- Rows of bits, and which places they tell.
+-- Rows of bits, and which places they mark.
 use Rattle.std.specs.Prelude.{◌≡◌, ℕ, ◌/◌, ◌%◌, ◌≤◌, ◌<◌, true, List, Some, get_or, slice_get}
 use Rattle.std.specs.Int.{bit_at}
 use Rattle.pf_intervals.specs.declared.interval.Interval.{Interval}

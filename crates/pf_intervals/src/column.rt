@@ -65,7 +65,7 @@ fn row_of(
     Ok(row)
 }
 
-/// Some of the numbers, in their order: few more than so many, spread evenly.
+/// Some of the numbers, in their order: few more than that many, spread evenly.
 fn sampled(alloc: Global, numbers: &[u32], most: usize) -> Result<Vec<u32>, AllocError>
     requires { 0 < most }
 {

@@ -4,7 +4,7 @@
 //!
 //! - [`Interval`]: numbers of 32 bits from a first one on.
 //! - [`Classes`]: three lists of intervals of which each place has one of each, as the rules of a path have for the two
-//!   ends and the port. The numbers are cut into buckets, and for each bucket a row of bits tells which places have an
+//!   ends and the port. The numbers are cut into buckets, and for each bucket a row of bits marks which places have an
 //!   interval that meets it (the bit vectors of Lakshman and Stiliadis).
 //! - [`Row`]: the three rows where a packet's numbers are. It gives one place after the other; what it passes over
 //!   doesn't hold the numbers.

@@ -19,7 +19,7 @@ pub fn open_regular<F: Files>(files: &F, path: &str) -> io::Result<F::File> {
     fs::open(files, path)
 }
 
-/// Makes a file that its owner alone may read and write, whatever the umask is. Refused where something stands there, a
+/// Makes a file that its owner alone may read and write, whatever the umask is. Refused where something is there, a
 /// link too.
 pub fn make_private<F: Files>(files: &F, path: &str) -> io::Result<F::File> {
     let file = OpenOptions::new()

@@ -7,7 +7,7 @@
 //! - [`open_regular`], [`make_private`]: a file that isn't waited for, and one that its owner alone may read;
 //!   [`knock`]: why nobody answers at a socket.
 //! - [`Shown`]: a text of others for people.
-//! - [`misused`], [`out_of_memory`]: what is written of words that aren't understood, and of want of memory.
+//! - [`misused`], [`out_of_memory`]: what is written of words that aren't understood, and of out of memory.
 #![tactic(auto)]
 
 mod files;

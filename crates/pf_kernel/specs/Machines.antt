@@ -10,6 +10,7 @@ use Rattle.pf_nft.specs.Rendering.{Machine, known}
 use Rattle.pf_kernel.specs.declared.machines.TheConstants.{INTERFACES_MAX}
 
 -- whether the machine may have one more, of this name: no interface is listed twice
+-- Example: 9em is no name.
 abbrev pub may_have : Machine → Name → Bool
 may_have m name = nat_lt (length m) INTERFACES_MAX && not (list_any (λ n. bytes_eq n name) (known m))
 
@@ -44,5 +45,6 @@ lines [] = []
 lines (b ∷ bytes) = if b == 10 then [] ∷ lines bytes else at_front b (lines bytes)
 
 -- the machine of a text, none where a line isn't as it should be
+-- Example: em0 lan.
 unfoldable pub machine_in : List ℕ → Option Machine
 machine_in text = machine_with [] (map words (lines text))

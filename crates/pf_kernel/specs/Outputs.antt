@@ -28,6 +28,7 @@ refused None = record { text = []; refused = true }
 refused (Some code) = record { text = codes "refused " ++ (decimal code ++ codes "\n"); refused = true }
 
 -- of a text, with the line at which the statement begins
+-- Example: refused 88, refused 3 line 2.
 abbrev pub refused_at : ℕ → ℕ → Written
 refused_at code line = record {
   text = codes "refused " ++ (decimal code ++ (codes " line " ++ (decimal line ++ codes "\n")));

@@ -17,7 +17,7 @@ use std::alloc::{AllocError, Global};
 /// How many interfaces a machine has at most.
 pub const INTERFACES_MAX: usize = 1024;
 
-/// How many bytes stand before the end of the line.
+/// How many bytes are before the end of the line.
 #[tactic(auto, using(crate::proofs::LinesCut::line_len_le))]
 fn line_len(text: &[u8]) -> usize
     ensures value { result ≡ prefix_len (λ b. not (b == 10)) text.now }
@@ -26,7 +26,7 @@ fn line_len(text: &[u8]) -> usize
     text.iter().take_while(|b| **b != b'\n').count()
 }
 
-/// The first line of a text, and what stands behind it; none of an empty one.
+/// The first line of a text, and what is behind it; none of an empty one.
 #[tactic(auto, using(crate::proofs::LinesCut::cuts))]
 fn cut_line(text: &[u8]) -> Option<(&[u8], &[u8])>
     ensures cut { IfSome result (λ c. lines text.now ≡ c.0.now ∷ lines c.1.now) }

@@ -1,4 +1,4 @@
--- What is wrong with the words, and want of memory, are of no file.
+-- What is wrong with the words, and out of memory, are of no file.
 use Rattle.std.proofs.Common.{◌≡◌, ◌⊎◌, ◌∙◌, List, ℕ, Option, None, true, inl, inr, refl, ap, sym, subst, codes}
 use Rattle.std.specs.Io.KnownBytes.{Appends}
 use Rattle.pf_io.specs.declared.status.Status.{Status}

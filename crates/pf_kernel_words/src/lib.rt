@@ -2,7 +2,7 @@
 //!
 //! # Organization
 //!
-//! - [`run_nft`]: the words, over any reader and writer; [`asks_nft`] tells whether words are such.
+//! - [`run_nft`]: the words, over any reader and writer; [`asks_nft`] says whether arguments are such.
 //! - [`read_file`]: a file of interfaces; [`members_in`]: members from texts.
 //!
 //! Within: `words` has the words as `clap` reads them.

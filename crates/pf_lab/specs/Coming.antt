@@ -1,4 +1,4 @@
--- What comes to a member of a lab, and what that is in the world.
+-- What a member of a lab receives, and what that is in the world.
 use Rattle.std.specs.Prelude.{Bool, false, List, [], ◌∷◌, if◌then◌else◌}
 use Rattle.px_model.specs.World as world
 use Rattle.px_model.specs.World.{Action, Event}

@@ -52,6 +52,6 @@ pub record IsShown {R : Type 0} {G : Ghosts R} (s : NodeState Bytes) (n : Node R
   pub honest : G.is_honest (records_of n)
   pub sound : IsSound (membership_of n).members s.stored
 
--- a lab's cluster of so many members
+-- a lab's cluster of that many members
 abbrev pub cluster_of : ℕ → Group
 cluster_of n = record { cluster = 0; members = n }

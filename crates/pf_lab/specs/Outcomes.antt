@@ -35,7 +35,7 @@ outcome_of meta Ticks (Refused code) = outcome.Refused code
 outcome_of meta Ticks (Planned plan) = outcome.Nothing
 outcome_of meta (Comes from x) a = outcome.Nothing
 
--- what comes to a member that is stopped does nothing
+-- what a member that is stopped receives does nothing
 abbrev pub outcome_at : World Bytes → Option (ℕ × Input Bytes) → (ℕ → Input Bytes → Outcome) → Outcome
 outcome_at w None does = outcome.Nothing
 outcome_at w (Some t) does = if (w.nodes t.0).is_up then does t.0 t.1 else outcome.Stopped

@@ -1,4 +1,4 @@
-//! What comes to a member, as bytes.
+//! What a member receives, as bytes.
 
 ghost use Rattle.std.specs.Prelude.{◌≡◌, ◌↔◌, IfSome, IfOk, None, length, true, false};
 ghost use Rattle.px_model.specs.Spelling.{Bytes};
@@ -14,7 +14,7 @@ use px_model::EntryView;
 use px_replica::Datagram;
 use std::alloc::{AllocError, Global};
 
-/// What comes to a member.
+/// What a member receives.
 #[derive(Clone, Copy)]
 pub(crate) enum What<'a> {
     Ask(EntryView<'a>),

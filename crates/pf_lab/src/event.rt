@@ -3,7 +3,7 @@
 use pf_node::Command;
 use thiserror::Error;
 
-/// What comes to a member.
+/// What a member receives.
 #[derive(Drop)]
 pub enum LabAction {
     /// A command is asked of the member by a call.

@@ -125,7 +125,7 @@ impl Lab {
 
     /// The event happens as in the world. An ask whose command is too long is no event: it is refused with 41.
     ///
-    /// `BadEvent` exactly where the event names no member or no message that was sent, unless memory is wanting first.
+    /// `BadEvent` exactly where the event names no member or no message that was sent, unless memory runs out first.
     /// It and `Memory` leave the same world: only what a tick applied before stays applied.
     pub fn step(&mut self, event: &LabEvent) -> Result<Outcome, LabFault>
         ensures happens { (g : Group) (w : World Bytes) → IsWorld self.old g w →

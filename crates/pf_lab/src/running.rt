@@ -1,4 +1,4 @@
-//! What comes to a member of a lab.
+//! What a member of a lab receives.
 
 ghost use Rattle.std.specs.Prelude.{◌≡◌, ◌≤◌, ℕ, [], length, false, Err, IfOk, OnOk, OnErr, true};
 ghost use Rattle.px_model.specs.Entries.{view_of};
@@ -127,7 +127,7 @@ fn receive(
 }
 
 impl Seat {
-    /// What comes to the member is answered as the model answers it.
+    /// What the member receives is answered as the model answers it.
     pub(crate) fn take(&mut self, what: What, out: &mut Vec<Datagram>) -> Result<Outcome, LabFault>
         requires empty { out.old.items ≡ [] }
         requires askable { IsAskable what }

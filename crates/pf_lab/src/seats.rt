@@ -1,4 +1,4 @@
-//! What comes to one of the members.
+//! What one of the members receives.
 
 ghost use Rattle.std.specs.Prelude.{◌≡◌, ◌++◌, ◌<◌, ◌≤◌, ◌+◌, ◌↔◌, List, [], Some};
 ghost use Rattle.std.specs.Prelude.{length, OnOk, OnErr, Err};
@@ -23,7 +23,7 @@ use pf_entry::ASKER;
 use px_replica::Datagram;
 use std::alloc::Global;
 
-/// What comes to the member `m` happens in the world.
+/// What the member `m` receives happens in the world.
 pub(crate) fn run_at(
     seats: &mut Vec<Seat>,
     m: u8,

@@ -28,7 +28,7 @@ fn change_in(alloc: Global, matches: &ArgMatches<'_>, text: &[u8]) -> Result<Com
     }
 }
 
-/// Whether a file may be named so: standard input where a text may stand behind the line, else none.
+/// Whether a file may be named so: standard input where a text may be behind the line, else none.
 fn is_allowed(file: Option<&str>, text: Option<&[u8]>) -> bool
     ensures { result ≡ is_allowed (option_copied file.entry) (option_copied text.entry) }
 {
@@ -38,7 +38,7 @@ fn is_allowed(file: Option<&str>, text: Option<&[u8]>) -> bool
     }
 }
 
-/// The change that pfctl's words ask for; the first word stands for pfctl itself. `text` is what stands behind the
+/// The change that pfctl's words ask for; the first word stands for pfctl itself. `text` is what is behind the
 /// line, none where no text may.
 pub(crate) fn command_in(
     alloc: Global,

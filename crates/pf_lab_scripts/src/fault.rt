@@ -1,11 +1,11 @@
-//! Why a line comes to nothing.
+//! Why a line gives nothing.
 
 ghost use Rattle.std.specs.Prelude.{◌≡◌};
 ghost use Rattle.pf_lab_scripts.specs.declared.fault.LineFault.TheVariants.{Memory};
 
 use std::alloc::{AllocError, AllocFailed};
 
-/// Why a line comes to nothing.
+/// Why a line gives nothing.
 #[derive(Clone, Copy, PartialEq, Eq)]
 pub(crate) enum LineFault {
     /// Memory is wanting: the script isn't gone on with.

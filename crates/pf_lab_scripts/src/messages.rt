@@ -157,7 +157,7 @@ fn push_message(
     out.push('\n')
 }
 
-/// The line of the message of this number, among so many members.
+/// The line of the message of this number, among that many members.
 pub(crate) fn push_datagram(
     alloc: Global,
     out: &mut String,

@@ -50,7 +50,7 @@ fn ask_in(alloc: Global, words: &[&str], text: Option<&[u8]>) -> Result<LabActio
     Ok(LabAction::Ask(node, command))
 }
 
-/// `ask NODE WORDS`, `tick NODE` or `deliver K`; `text` is what stands behind the line, none where no text may.
+/// `ask NODE WORDS`, `tick NODE` or `deliver K`; `text` is what is behind the line, none where no text may.
 fn action_in(alloc: Global, words: &[&str], text: Option<&[u8]>) -> Result<LabAction, LineFault>
     ensures { Reads action_value result (action_of (map (λ w. w.now) words.now) (option_copied text.entry)) }
 {
@@ -114,7 +114,7 @@ fn bare<'w, 'a>(word: &str) -> Option<LabLine<'w, 'a>>
     None
 }
 
-/// What a line with these words asks for; `text` is what stands behind it.
+/// What a line with these words asks for; `text` is what is behind it.
 pub(crate) fn line_in<'w, 'a>(
     alloc: Global,
     words: &'w [&'a str],

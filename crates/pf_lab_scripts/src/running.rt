@@ -30,7 +30,7 @@ fn members_in(words: &[&str]) -> Option<u8>
     Some(members as u8)
 }
 
-/// How many members the first line says that isn't blank, and what stands behind it; none where it doesn't.
+/// How many members the first line says that isn't blank, and what is behind it; none where it doesn't.
 fn begun(alloc: Global, script: &[u8]) -> Result<Option<(u8, &[u8])>, AllocError>
     ensures { IfOk result (λ o. IfSome o (λ b. (1 ≤ b.0) × (b.0 ≤ MEMBERS))) }
 {
@@ -50,7 +50,7 @@ fn begun(alloc: Global, script: &[u8]) -> Result<Option<(u8, &[u8])>, AllocError
     Ok(None)
 }
 
-/// A lab of so many members, of whose messages nothing is delivered or shown.
+/// A lab of that many members, of whose messages nothing is delivered or shown.
 fn new_bench(alloc: Global, members: u8) -> Result<Bench, AllocError>
     requires some { 1 ≤ members }
     requires few { members ≤ MEMBERS }

@@ -16,7 +16,7 @@ use px_model::EntryView;
 use px_records::MemoryRecords;
 use std::alloc::{AllocError, Global};
 
-/// Nothing is learned so many positions or more past a node's front.
+/// Nothing is learned that many positions or more past a node's front.
 const WINDOW: u32 = 64;
 
 /// `node N round R front F applied A`, or `node N stopped`

@@ -27,7 +27,7 @@ fn run_line(
     Ok(())
 }
 
-/// Does what a line with words asks for, or prints its refusal; `text` is what stands behind it.
+/// Does what a line with words asks for, or prints its refusal; `text` is what is behind it.
 pub(crate) fn run_words(
     alloc: Global,
     bench: &mut Bench,

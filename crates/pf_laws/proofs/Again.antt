@@ -69,7 +69,7 @@ use Rattle.pf_laws.proofs.Readings.{all_append, made_is, answered_is, done_is}
 -- ---- how deep the blocks of rules nest
 
 abbrev mutual
-  -- with so many braces open before it, no more than 64 are open at once where it is shown
+  -- with that many braces open before it, no more than 64 are open at once where it is shown
   pub shallow : ℕ → ItemValue → Bool
   shallow d (item.Filters r) = true
   shallow d (item.Anchors h) = true

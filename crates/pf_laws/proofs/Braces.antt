@@ -318,7 +318,7 @@ mutual
 -- ---- how deep blocks nest
 
 abbrev mutual
-  -- with so many braces open before it, no more than 64 are open at once
+  -- with that many braces open before it, no more than 64 are open at once
   pub text_shallow : ℕ → ItemText → Bool
   text_shallow d (RuleItem rule) = true
   text_shallow d (AnchorItem a) = true

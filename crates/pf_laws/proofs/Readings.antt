@@ -1,4 +1,4 @@
--- The rules that a text gives evaluate anchors by 1 to 8 names each, and stand in blocks of 1,024 at most.
+-- The rules that a text gives evaluate anchors by 1 to 8 names each, and are in blocks of 1,024 at most.
 use Rattle.std.proofs.Common.{◌≡◌, ℕ, ◌+◌, ◌<◌, ◌≤◌, Bool, true, false, ◌&&◌, cond, List, [], ◌∷◌, ◌++◌, map, length, Option, Some, None, Result, Ok, Err, refl, subst, arith}
 use Rattle.std.specs.Prelude.{nat_le, nat_lt}
 use Rattle.std.specs.List.{list_all, list_any, AllByRecursion}

@@ -13,12 +13,13 @@ abbrev pub words_read : Option entries.Entry → List ℕ
 words_read None = []
 words_read (Some e) = codes " " ++ command_words e.command
 
--- what came of it stands behind the words; a line without it ends so
+-- what came of it is behind the words; a line without it ends so
 abbrev pub behind_words : List ℕ → List ℕ
 behind_words [] = codes "\n"
 behind_words (b ∷ outcome) = 32 ∷ b ∷ outcome
 
 -- POSITION ORIGIN.NUMBER WORDS OUTCOME
+-- Example: 411 0.17 -t bad -T add 203.0.113.9 ok 1 0; 0 0.1 -f - (5) ok, of a load of pass and a newline.
 abbrev pub entry_line : ℕ → node.Entry Bytes → List ℕ → List ℕ
 entry_line p e outcome =
     decimal p ++ codes " " ++ decimal e.origin ++ codes "." ++ decimal e.number ++ words_read (reading (spelled e))

@@ -20,6 +20,7 @@ line_read c (Some e) = change_line (is_counted e.command) (effect c e.command)
 
 -- the line of what a position has, at the configuration before it; nothing where one of them isn't there, or no command
 -- is spelled
+-- Example: ok 1 0, refused 20.
 abbrev pub line_in : Option Configuration → Option (node.Entry Bytes) → List ℕ
 line_in None e = []
 line_in (Some c) None = []
@@ -30,6 +31,7 @@ abbrev pub line_at : Log Bytes → ℕ → List ℕ
 line_at log p = line_in (after log p) (log p)
 
 -- the same, as long as it is kept
+-- Example: of 5 applied and 2 kept: positions 3 and 4; with 5,000 applied and 4,096 kept, from position 904 on.
 abbrev pub kept_line : Log Bytes → (applied kept p : ℕ) → List ℕ
 kept_line log applied kept p =
     if nat_lt p applied && nat_le applied (p + kept) then line_at log p else []

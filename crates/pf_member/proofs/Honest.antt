@@ -1,5 +1,5 @@
 -- What became of a record in a run, in the words of the model.
-use Rattle.std.proofs.Common.{◌≢◌, ◌∙◌, ℕ, List, [], ◌∷◌, ◌++◌, Option, Some, None, refl, sym, ap, subst, subst₂, append_assoc}
+use Rattle.std.proofs.Common.{◌≢◌, ◌∙◌, ℕ, Bool, List, [], ◌∷◌, ◌++◌, Option, Some, None, refl, sym, ap, subst, subst₂, append_assoc}
 use Rattle.px_model.specs.Node.{Record}
 use Rattle.px_model.specs.Spelling.{Bytes}
 use Rattle.px_model.specs.World.{NodeState, started}
@@ -13,10 +13,12 @@ use Rattle.px_replica.specs.declared.fault.NodeFault.TheVariants as fault
 use Rattle.pf_node.specs.Nodes.{records_of, state_in}
 use Rattle.pf_node.specs.declared.state.Node.{Node}
 use Rattle.pf_turn.specs.Living.{Heard, message_in, messages_of, Brings, AreBrought, sent_by, LeavesThere, Living, TurnsAreLived, HostingsAreLived}
-use Rattle.pf_turn.proofs.Traffic.{messages_then, sent_then, are_brought, brought_then}
+use Rattle.px_resend.proofs.Among.{among_none}
+use Rattle.pf_turn.specs.Resending.{SentAgain}
+use Rattle.pf_turn.proofs.Traffic.{messages_then, sent_then, are_brought, brought_then, sent_again_then}
 use Rattle.pf_turn.proofs.Lives.{lived_then, served_before}
 use Rattle.pf_turn.proofs.Hosting.{hosted_before}
-use Rattle.pf_member.specs.Lives.{Told, stands, Tells, Serves, Hosts, Life, LivedOver, RunsAreLived, HostedRunsAreLived, OneLife, RunsGoOn}
+use Rattle.pf_member.specs.Lives.{Told, Buffers, new_buffers, stands, Tells, Serves, Hosts, Life, LivedOver, RunsAreLived, HostedRunsAreLived, OneLife, RunsGoOn}
 use Rattle.pf_member.specs.declared.ended.Ended.{Ended}
 use Rattle.pf_member.specs.declared.ended.Ended.TheVariants.{Fault}
 
@@ -31,8 +33,8 @@ module _ {R : Type 0} (G : Ghosts R) (How : (s t : Node R G) → Type 0)
 
   -- a life from where the node began is one from what its record held
   pub life_lived : (m : Membership) (given back : R) (w v : Told) (a : Option NodeFault) → G.is_honest back → (l : Life G How m given back) →
-      Living (stands l.begun w) (stands l.done v) a → LivedOver G m given back w v
-  life_lived m given back w v a honest l living =
+      (hears : Bool) (buffers : Buffers) → Living (stands l.begun w (new_buffers hears)) (stands l.done v buffers) a → LivedOver G m given back w v
+  life_lived m given back w v a honest l hears buffers living =
       let began = l.starts (at_start m given back honest l) in
       let deeds = living.deeds in
       record {
@@ -43,8 +45,11 @@ module _ {R : Type 0} (G : Ghosts R) (How : (s t : Node R G) → Type 0)
         up = living.up;
         came = living.came;
         last = living.last;
-        brought = subst (λ (n : Membership). Brings (group n) n.me living.came (messages_of deeds)) l.membership living.brought;
+        hears = hears;
+        brought = subst (λ (n : Membership). Brings (group n) n.me hears [] living.came (messages_of deeds)) l.membership living.brought;
         gave = living.gave;
+        handed = living.handed;
+        again = living.again;
         sent = living.sent;
         stays = λ none. ap G.stored l.closed
             ∙ ap (λ (t : NodeState Bytes). t.stored) (living.stays (sym (ap G.failed l.closed) ∙ none));
@@ -65,10 +70,10 @@ pub runs_lived : {R : Type 0} (G : Ghosts R) → TurnsAreLived G → RunsAreLive
 runs_lived {R} G law m given back w v ended honest l =
     let s = l.went in
     let before = λ (x y : Node R G) (k : Serves x y w v ended) (h : G.is_honest (records_of y)).
-    served_before (stands x w) (stands y v) k.answered k.served h in
+    served_before (stands x w (new_buffers k.hears)) (stands y v k.buffers) k.answered k.served h in
     let at_end = subst (λ (r : R). G.is_honest r) l.closed honest in
-    let lives = law (stands l.begun w) (stands l.done v) s.answered at_end l.works s.served in (
-      life_lived G (λ x y. Serves x y w v ended) before m given back w v s.answered honest l lives.0,
+    let lives = law (stands l.begun w (new_buffers s.hears)) (stands l.done v s.buffers) s.answered at_end l.works s.served in (
+      life_lived G (λ x y. Serves x y w v ended) before m given back w v s.answered honest l s.hears s.buffers lives.0,
       λ other. ap G.failed l.closed ∙ lives.1 (not_store _ _ s.answered ended s.told other),
     )
 
@@ -76,10 +81,10 @@ pub hosted_runs_lived : {R : Type 0} (G : Ghosts R) → HostingsAreLived G → H
 hosted_runs_lived {R} G law m given back w v ended honest l =
     let s = l.went in
     let before = λ (x y : Node R G) (k : Hosts x y w v ended) (h : G.is_honest (records_of y)).
-    hosted_before (stands x w) (stands y v) k.answered k.hosted h in
+    hosted_before (stands x w (new_buffers k.hears)) (stands y v k.buffers) k.answered k.hosted h in
     let at_end = subst (λ (r : R). G.is_honest r) l.closed honest in
-    life_lived G (λ x y. Hosts x y w v ended) before m given back w v s.answered honest l
-    (law (stands l.begun w) (stands l.done v) s.answered at_end l.works s.hosted)
+    life_lived G (λ x y. Hosts x y w v ended) before m given back w v s.answered honest l s.hears s.buffers
+    (law (stands l.begun w (new_buffers s.hears)) (stands l.done v s.buffers) s.answered at_end l.works s.hosted)
 
 -- ---- several runs
 
@@ -92,8 +97,10 @@ one_life G m given back w v l = record {
   up = l.up;
   gave = l.came;
   last = l.last;
-  brought = are_brought (group m) m.me l.came (messages_of l.deeds) l.brought;
-  told = ([], l.came ++ l.last, [], sent_by l.deeds, (refl, refl), l.gave, l.sent, refl, refl);
+  brought = are_brought (group m) m.me l.hears [] l.came (messages_of l.deeds) l.brought;
+  handed = l.handed;
+  again = l.again;
+  told = ([], l.came ++ l.last, [], l.handed, (refl, refl), l.gave, l.sent, refl, refl);
   stays = l.stays;
   stop = l.stop;
 }
@@ -107,7 +114,7 @@ next_life G m first back given end runs w v a may b =
     let tail = Stops s.0 left ∷ Opens ∷ b.deeds in
     let last : AreBrought g m.me (a.last ++ b.came) (messages_of tail) =
     brought_then g m.me a.last b.came (message_in s.0) (messages_of b.deeds) s.2
-    (are_brought g m.me b.came (messages_of b.deeds) b.brought) in
+    (are_brought g m.me b.hears [] b.came (messages_of b.deeds) b.brought) in
     record {
       deeds = a.deeds ++ tail;
       then = b.then;
@@ -118,16 +125,19 @@ next_life G m first back given end runs w v a may b =
       brought = subst₂ (λ (bs : List Bytes) (ms : List Heard). AreBrought g m.me bs ms) (sym (append_assoc a.gave a.last b.came))
           (sym (messages_then a.deeds tail))
           (brought_then g m.me a.gave (a.last ++ b.came) (messages_of a.deeds) (messages_of tail) a.brought last);
+      handed = a.handed ++ b.handed;
+      again = subst (λ (ds : List (ℕ × Bytes)). SentAgain [] ds (a.handed ++ b.handed)) (sym (sent_then a.deeds tail))
+          (sent_again_then [] (sent_by a.deeds) a.handed [] (sent_by b.deeds) b.handed a.again b.again (among_none (sent_by a.deeds)));
       told = (
         a.gave ++ a.last,
         b.came ++ b.last,
-        sent_by a.deeds,
-        sent_by b.deeds,
+        a.handed,
+        b.handed,
         a.told,
         b.gave,
         b.sent,
         append_assoc (a.gave ++ a.last) b.came b.last,
-        sent_then a.deeds tail,
+        refl,
       );
       stays = b.stays;
       stop = b.stop;

@@ -7,7 +7,7 @@ use Rattle.px_replica.specs.declared.fault.NodeFault.{NodeFault}
 use Rattle.pf_node.specs.Nodes.{learned_by, applied_of}
 use Rattle.pf_node.specs.declared.state.Node.{Node}
 use Rattle.pf_turn.proofs.Hosting.{hosted_served}
-use Rattle.pf_member.specs.Lives.{Told, stands, Tells, HostTells, Serves, Hosts, Runs, HostedRuns}
+use Rattle.pf_member.specs.Lives.{Told, new_buffers, stands, Tells, HostTells, Serves, Hosts, Runs, HostedRuns}
 use Rattle.pf_member.specs.declared.ended.Ended.{Ended}
 
 pub tells : (n k : ℕ) (answered : Option NodeFault) (ended : Ended) → Tells n k answered ended → HostTells n k answered ended
@@ -17,7 +17,9 @@ tells n k (Some e) ended told = told
 pub serves : {R : Type 0} {G : Ghosts R} (s t : Node R G) (w v : Told) (ended : Ended) → Serves s t w v ended → Hosts s t w v ended
 serves s t w v ended k = record {
   answered = k.answered;
-  hosted = hosted_served (stands s w) (stands t v) k.answered k.served;
+  hears = k.hears;
+  buffers = k.buffers;
+  hosted = hosted_served (stands s w (new_buffers k.hears)) (stands t v k.buffers) k.answered k.served;
   told = tells (front (learned_by t)) (applied_of t) k.answered ended k.told;
 }
 

@@ -1,5 +1,5 @@
 -- What comes to a member from members asks nothing.
-use Rattle.std.specs.Prelude.{◌≡◌, ◌≢◌, ◌==◌, ℕ, false, List, Result, slice_index}
+use Rattle.std.specs.Prelude.{◌≢◌, ℕ, List, Result}
 use Rattle.px_model.specs.Node.Message.{Ask}
 use Rattle.px_model.specs.Spelling.{Bytes}
 use Rattle.px_records.specs.declared.records.Records.{Ghosts}
@@ -9,9 +9,9 @@ use Rattle.px_replica.specs.declared.fault.NodeFault.{NodeFault}
 use Rattle.px_replica.specs.declared.receiving.Received.{Received}
 use Rattle.px_replica.specs.declared.state.Replica.{Replica}
 
--- What is taken of a datagram whose byte for the sender isn't 255 is no ask.
+-- What is taken of a sender other than 255 is no ask.
 abbrev pub MembersAskNothing : {R : Type 0} → Ghosts R → Type 0
 MembersAskNothing {R} G =
     (s t : Replica R G) (bytes : Bytes) (old new : List Datagram) (result : Result Received NodeFault) →
-    (slice_index bytes 10 == 255) ≡ false → (it : IsTaken s t bytes old new result) →
+    (it : IsTaken s t bytes old new result) → it.sender ≢ 255 →
     (token : ℕ) (command : Bytes) → it.message ≢ Ask token command

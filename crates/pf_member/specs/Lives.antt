@@ -1,5 +1,5 @@
 -- A member's run over its record and its wire.
-use Rattle.std.specs.Prelude.{◌≡◌, ◌≢◌, ◌⊎◌, ℕ, true, false, List, [], ◌∷◌, ◌++◌, Option, Some, None}
+use Rattle.std.specs.Prelude.{◌≡◌, ◌≢◌, ◌⊎◌, ℕ, Bool, true, false, List, [], ◌∷◌, ◌++◌, Option, Some, None}
 use Rattle.px_model.specs.Node.{Record}
 use Rattle.px_model.specs.Step.{front}
 use Rattle.px_model.specs.Spelling.{Bytes}
@@ -17,6 +17,7 @@ use Rattle.pf_node.specs.Nodes.{replica_of, records_of, learned_by, membership_o
 use Rattle.pf_node.specs.declared.state.Node.{Node}
 use Rattle.pf_turn.specs.Turns.{Stand, Served}
 use Rattle.pf_turn.specs.Hosting.{Hosted}
+use Rattle.pf_turn.specs.Resending.{SentAgain}
 use Rattle.pf_turn.specs.Living.{messages_of, Brings, AreBrought, sent_by, LeavesThere}
 use Rattle.pf_member.specs.declared.ended.Ended.{Ended}
 use Rattle.pf_member.specs.declared.ended.Ended.TheVariants.{Front, Fault, NoWire, NoControlSocket, NoPort}
@@ -31,9 +32,27 @@ pub record Told : Type 0 where
 abbrev pub told_by : {W : Type 0} → wires.Ghosts W → W → Told
 told_by H w = record { given = H.given w; handed = H.handed w }
 
--- a node with what its wire tells
-abbrev pub stands : {R : Type 0} {G : Ghosts R} → Node R G → Told → Stand G
-stands n w = record { replica = replica_of n; given = w.given; handed = w.handed }
+-- the buffers of a run: what may be handed to the wire again, the requests that are known where they come again, and
+-- whether asks from outside are heard
+pub record Buffers : Type 0 where
+  pub kept : List (ℕ × Bytes)
+  pub requests : List Bytes
+  pub hears_asks : Bool
+
+-- those with which a run begins
+abbrev pub new_buffers : (hears_asks : Bool) → Buffers
+new_buffers hears = record { kept = []; requests = []; hears_asks = hears }
+
+-- a node with what its wire tells, and its buffers
+abbrev pub stands : {R : Type 0} {G : Ghosts R} → Node R G → Told → Buffers → Stand G
+stands n w b = record {
+  replica = replica_of n;
+  given = w.given;
+  handed = w.handed;
+  kept = b.kept;
+  requests = b.requests;
+  hears_asks = b.hears_asks;
+}
 
 -- What is said of turns at whose end so many positions are learned without a gap and so many are applied: how many
 -- these are, or the fault. Where there is no wire, or memory is wanting before the first turn, none is made.
@@ -44,7 +63,9 @@ Tells n applied (Some e) ended = ended ≡ Fault e
 -- turns of the node and nothing else led from one to the other, and these went over its wire
 pub record Serves {R : Type 0} {G : Ghosts R} (s t : Node R G) (w v : Told) (ended : Ended) : Type 0 where
   pub answered : Option NodeFault
-  pub served : Served (stands s w) (stands t v) answered
+  pub hears : Bool
+  pub buffers : Buffers
+  pub served : Served (stands s w (new_buffers hears)) (stands t v buffers) answered
   pub told : Tells (front (learned_by t)) (applied_of t) answered ended
 
 -- the same where commands are asked between turns, as at a control socket; if that or its port is missing, none is made
@@ -55,7 +76,9 @@ HostTells n applied (Some e) ended = Tells n applied (Some e) ended
 -- turns of the node, and commands asked of it between them, led from one to the other, and these went over its wire
 pub record Hosts {R : Type 0} {G : Ghosts R} (s t : Node R G) (w v : Told) (ended : Ended) : Type 0 where
   pub answered : Option NodeFault
-  pub hosted : Hosted (stands s w) (stands t v) answered
+  pub hears : Bool
+  pub buffers : Buffers
+  pub hosted : Hosted (stands s w (new_buffers hears)) (stands t v buffers) answered
   pub told : HostTells (front (learned_by t)) (applied_of t) answered ended
 
 -- A record is opened, the node goes on in some way, and the record is given back.
@@ -97,8 +120,9 @@ HostedRuns G m given w v ended back =
 -- Steps of the model, one after the other, befell the member from what its record held on, up to the call that failed,
 -- if one did. That is what the record holds then, unless a call on it failed; and whatever a stop leaves of it is that,
 -- or that with the change of the next step.
--- The wire gave the datagrams that are the messages which came, each in its place, others that are nobody's, and last
--- what came for the call that failed and after it; and it was handed what the steps handed out and nothing else.
+-- The wire gave the datagrams that are the messages which came, each in its place, others that are nobody's or known,
+-- and last what came for the call that failed and after it; and it was handed what the steps handed out, in order, and
+-- between these nothing but some of that again.
 pub record LivedOver {R : Type 0} (G : Ghosts R) (m : Membership) (given back : R) (w v : Told) : Type 0 where
   pub deeds : List Deed
   pub then : NodeState Bytes
@@ -106,9 +130,12 @@ pub record LivedOver {R : Type 0} (G : Ghosts R) (m : Membership) (given back : 
   pub up : then.is_up ≡ true
   pub came : List Bytes
   pub last : List Bytes
-  pub brought : Brings (group m) m.me came (messages_of deeds)
+  pub hears : Bool
+  pub brought : Brings (group m) m.me hears [] came (messages_of deeds)
   pub gave : GrowsBy w.given (came ++ last) v.given
-  pub sent : GrowsBy w.handed (sent_by deeds) v.handed
+  pub handed : List (ℕ × Bytes)
+  pub again : SentAgain [] (sent_by deeds) handed
+  pub sent : GrowsBy w.handed handed v.handed
   pub stays : G.failed back ≡ 0 → G.stored back ≡ then.stored
   pub stop : (left : Record Bytes) → G.may_leave back left → LeavesThere (group m) m.me last then left
 
@@ -139,7 +166,8 @@ WiresReport (r ∷ rs) gave handed =
 
 -- Steps of the model at this member, one after the other, from an opening of this record on, through these runs, the
 -- latest first. The datagrams that their wires gave have each message received among them, and those for a call that
--- failed last; and the wires were handed what the steps send, in order, and nothing else.
+-- failed last; and the wires were handed what the steps send, in order, and between these nothing but some of that
+-- again.
 pub record OneLife {R : Type 0} (G : Ghosts R) (m : Membership) (first : Record Bytes) (back : R)
     (runs : List (Told × Told)) : Type 0 where
   pub deeds : List Deed
@@ -149,7 +177,9 @@ pub record OneLife {R : Type 0} (G : Ghosts R) (m : Membership) (first : Record 
   pub gave : List Bytes
   pub last : List Bytes
   pub brought : AreBrought (group m) m.me gave (messages_of deeds)
-  pub told : WiresReport runs (gave ++ last) (sent_by deeds)
+  pub handed : List (ℕ × Bytes)
+  pub again : SentAgain [] (sent_by deeds) handed
+  pub told : WiresReport runs (gave ++ last) handed
   pub stays : G.failed back ≡ 0 → G.stored back ≡ then.stored
   pub stop : (left : Record Bytes) → G.may_leave back left → LeavesThere (group m) m.me last then left
 

@@ -27,8 +27,8 @@ pub fn runs_go_on<R: Records>()
     ensures { RunsGoOn R.Records }
 {}
 
-/// A datagram whose byte for the sender isn't 255 asks nothing of a member, whatever else it has. Such are all that a
-/// `MembersWire` of px_seal gives.
+/// A datagram of a sender other than 255 asks nothing of a member. Such are all that a node takes whose buffers hear no
+/// asks (`pf_turn::Room`).
 pub fn members_ask_nothing<R: Records>()
     ensures { MembersAskNothing R.Records }
 {}

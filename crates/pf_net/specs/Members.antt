@@ -1,7 +1,6 @@
 -- What a wire over UDP was made with.
-use Rattle.std.specs.Prelude.{◌≡◌, ◌⊎◌, ◌==◌, ℕ, Bool, false, List, Option, Some, None}
+use Rattle.std.specs.Prelude.{◌≡◌, ◌⊎◌, ℕ, List, Option, Some}
 use Rattle.px_transport.specs.Wires.{one_more}
-use Rattle.px_wire.specs.declared.head.Head.{Head}
 use Rattle.pf_net.specs.declared.address.Address.{Address}
 use Rattle.pf_net.specs.declared.udp.UdpWire.{UdpWire}
 
@@ -16,11 +15,6 @@ me_of w = w.me
 -- how many datagrams were dropped whose source is no member's address, up to 2^64 - 1
 abbrev pub strangers_of : {C : Type 0} → UdpWire C → ℕ
 strangers_of w = w.strangers
-
--- a datagram with this head is of one who asks and is no member
-abbrev pub is_asking : (head : Option Head) → Bool
-is_asking None = false
-is_asking (Some h) = h.from == 255
 
 -- none was dropped, or this one was: it is given as an empty one, and counted
 abbrev pub Drops : (strangers : ℕ) → (given : Option ℕ) → (strangers' : ℕ) → Type 0

@@ -9,13 +9,9 @@
 
 mod address;
 mod answer;
-mod askers;
 mod asking;
-mod datagram;
 mod host;
 mod laws;
-mod repeats;
-mod trail;
 mod udp;
 
 pub use address::{Address, parse_address};

@@ -30,7 +30,7 @@ any_rules (x ∷ xs) rules h = ap is_empty h
 pub first_last : (q : Path) (qs : List Path) → backward_chains (q ∷ qs) ≡ backward_chains qs ++ At Backward q ∷ []
 first_last q qs = ap (map (At Backward)) (reverse-append (q ∷ []) qs) ∙ map-append (At Backward) (reverse qs) (q ∷ [])
 
--- what is found at a path stands there
+-- what is found at a path is there
 pub path_there : (c : Configuration) (p : Path) (t : AnchorTree) → Some t ≡ anchor_in c.anchors p → filter (is_chained c) (t.names ∷ []) ≡ filter (is_chained c) (p ∷ [])
 path_there c p t h = ap (λ q. filter (is_chained c) (q ∷ [])) (anchor_names c p t h)
 

@@ -24,7 +24,7 @@ protocol_matches AnyProtocol = []
 protocol_matches (Only n) = OfProtocol n false ∷ []
 protocol_matches NotTcp = OfProtocol 6 true ∷ []
 
--- the matches as a rule has them: the family and the protocol stand before what asks for a part of their headers
+-- the matches as a rule has them: the family and the protocol are before what asks for a part of their headers
 abbrev pub matches_of : Alternative → List Match
 matches_of a = family_matches a.family ++ (protocol_matches a.protocol ++ a.tests)
 
@@ -47,12 +47,14 @@ both_protocols NotTcp (Only n) = if n == 6 then None else Some (Only n)
 both_protocols NotTcp NotTcp = Some NotTcp
 
 -- one alternative of a family, a protocol and tests; none where the family or the protocol can't hold
+-- Example: UDP, and any but TCP: UDP.
 abbrev pub made : Option (Option Family) → Option Protocol → List Match → List Alternative
 made None q tests = []
 made (Some f) None tests = []
 made (Some f) (Some q) tests = record { family = f; protocol = q; tests = tests } ∷ []
 
 -- what two alternatives ask at once, as one; none where their families or their protocols exclude each other
+-- Example: TCP alone and UDP alone: none.
 abbrev pub joined : Alternative → Alternative → List Alternative
 joined a b = made (both_families a.family b.family) (both_protocols a.protocol b.protocol) (a.tests ++ b.tests)
 

@@ -30,6 +30,7 @@ abbrev pub first_of : Block → ℕ
 first_of p = cleared (width p.base) p.len (bits_of p.base)
 
 -- the last address of a prefix, as a number
+-- Example: 10/8 ends at 10.255.255.255.
 abbrev pub last_of : Block → ℕ
 last_of p = first_of p + (2 ^ (width p.base - p.len) - 1)
 
@@ -63,11 +64,13 @@ span true low high = record { low = low; high = high } ∷ []
 span false low high = []
 
 -- from each cut that passes the test to before the next one
+-- Example: the greatest address has no cut behind it.
 abbrev pub spans : (ℕ → Bool) → ℕ → List ℕ → List Interval
 spans test end [] = []
 spans test end (n ∷ []) = span (test n) n end
 spans test end (n ∷ m ∷ ms) = span (test n) n (m - 1) ++ spans test end (m ∷ ms)
 
 -- the addresses of a family that a table of these entries holds, as intervals in rising order
+-- Example: { 10/8, !10.1/16 } is 10.0.0.0 to 10.0.255.255, and 10.2.0.0 to 10.255.255.255.
 unfoldable pub elements : Family → List TableEntry → List Interval
 elements f entries = spans (λ n. in_table (address f n) entries) (top f) (cuts f entries)

@@ -75,6 +75,7 @@ abbrev pub masked : (here mask value : Bool) → Bool
 masked here mask value = bool_eq (here && mask) value
 
 -- the packet's flags under the mask are just those of the value
+-- Source: nft(8), PAYLOAD EXPRESSIONS.
 abbrev pub flags_masked : (here mask value : TcpFlags) → Bool
 flags_masked here mask value =
     masked here.fin mask.fin value.fin && masked here.syn mask.syn value.syn
@@ -83,6 +84,7 @@ flags_masked here mask value =
     && masked here.ece mask.ece value.ece && masked here.cwr mask.cwr value.cwr
 
 -- whether a match holds of a packet; where the packet has no such field it doesn't
+-- Example: != 22 doesn't hold of ICMP.
 unfoldable pub holds : List NamedSet → PacketValue → Match → Bool
 holds sets k (OnInterface names negated) = turned negated (list_any (bytes_eq k.interface) names)
 holds sets k (OfFamily family) = of_family k.source family
@@ -109,6 +111,7 @@ run_rules sets k jumped (rule ∷ rules) =
     (run_rules sets k jumped rules)
 
 -- the rules of a chain, none where there is no such chain
+-- Source: nft(8), VERDICT STATEMENT.
 abbrev pub rules_in : Option Chain → List NftRule
 rules_in None = []
 rules_in (Some c) = c.rules

@@ -1,4 +1,4 @@
--- The members' guard: rules that stand at the hooks before all others, so that whatever is loaded the members of the
+-- The members' guard: rules that are at the hooks before all others, so that whatever is loaded the members of the
 -- cluster hear each other (nft(8)).
 use Rattle.std.specs.Prelude.{◌≡◌, ℕ, ◌==◌, ◌&&◌, ◌||◌, Bool, List, [], ◌∷◌, ◌++◌, Option, Some, None, if◌then◌else◌}
 use Rattle.std.specs.List.{list_any, list_all}
@@ -19,6 +19,7 @@ pub use Rattle.pf_nft.specs.declared.guard.Member.{Member}
 -- ---- packets
 
 -- a packet at a hook: what pf's rules ask of it, and what the guard asks of it beside
+-- Source: RFC 791, 792, 8200, 4443.
 pub record HookPacket : Type 0 where
   -- of a later fragment this has no ports, flags or type: the header of its protocol isn't in it
   pub packet : PacketValue
@@ -60,6 +61,7 @@ is_datagram ms h =
     && if_there (is_end ms h.packet.destination) h.packet.destination_port
 
 -- a later fragment between two members: it has no ports
+-- Source: RFC 768, 791, 8200. Example: of one forged end alone neither.
 abbrev pub is_fragment : List Member → HookPacket → Bool
 is_fragment ms h = is_udp h.packet && h.is_later && is_home ms h.packet.source && is_home ms h.packet.destination
 
@@ -69,6 +71,7 @@ says_too_big Inet h = if_there (λ n. n == 3) h.packet.icmp_type && if_there (λ
 says_too_big Inet6 h = if_there (λ n. n == 2) h.icmp6_type
 
 -- the same to a member
+-- Source: RFC 792, 4443.
 abbrev pub is_too_big : List Member → HookPacket → Bool
 is_too_big ms h = says_too_big (family_of h.packet.destination) h && is_home ms h.packet.destination
 
@@ -155,6 +158,7 @@ pub data HookJump : Type 0 where
 
 -- what the chain at a hook decides whose rules are these jumps to the guard and into a ruleset: the first that decides
 -- does
+-- Source: nft(8), VERDICT STATEMENT.
 abbrev pub at_hook : List HookJump → NftRuleset → HookPacket → Option Decision
 at_hook [] r h = None
 at_hook (ToGuard guard ∷ jumps) r h = behind_guard guard (at_hook jumps r) h
@@ -165,7 +169,7 @@ abbrev pub hook_of : List Member → List HookJump
 hook_of [] = ToChain Base ∷ []
 hook_of (m ∷ ms) = ToGuard (guard_of (m ∷ ms)) ∷ ToChain Base ∷ []
 
--- Whatever stands behind the guard of these members: their packets are accepted, and of every other packet it is
+-- Whatever is behind the guard of these members: their packets are accepted, and of every other packet it is
 -- decided as without the guard.
 abbrev pub GuardPasses : List Member → (HookPacket → Option Decision) → Type 0
 GuardPasses ms behind = (h : HookPacket) →

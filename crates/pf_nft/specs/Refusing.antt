@@ -8,13 +8,14 @@ use Rattle.pf_nft.specs.Evaluation.{is_chain, rules_in}
 use Rattle.pf_nft.specs.Rendering.{Machine, rendered}
 use Rattle.pf_nft.specs.Deciding.{some_leads_back}
 use Rattle.pf_nft.specs.declared.rendering.TheConstants.{ASKED_MAX}
--- a rule leads back to the anchor that holds it; a packet would be asked of too many rules; want of memory
+-- a rule leads back to the anchor that holds it; a packet would be asked of too many rules; out of memory
 pub use Rattle.pf_nft.specs.declared.rendering.RenderFault.{RenderFault}
 pub use Rattle.pf_nft.specs.declared.rendering.RenderFault.TheVariants.{LeadsBack, Costly, Memory}
 
 -- ---- work a packet
 
 -- a rule, and those to which it jumps
+-- Example: two rules that jump to a chain of three: 8.
 abbrev pub asked_by : (ChainName → ℕ) → Statement → ℕ
 asked_by jumped (Ends decision) = 1
 asked_by jumped (Jump chain) = 1 + jumped chain
@@ -36,6 +37,7 @@ is_costly r = nat_lt ASKED_MAX (most_asked 10 r Base)
 -- ---- what is rendered
 
 -- the ruleset, or a refusal where a packet may be asked of more than ASKED_MAX rules
+-- Example: 100,000 rules aren't too many.
 abbrev pub unless_costly : NftRuleset → Result NftRuleset RenderFault
 unless_costly r = if is_costly r then Err Costly else Ok r
 
@@ -48,7 +50,7 @@ abbrev pub Renders : {R S : Type 0} → (R → S) → Result R RenderFault → R
 Renders seen (Ok r) answer = answer ≡ Ok (seen r)
 Renders seen (Err fault) answer = (fault ≡ Memory) ⊎ (answer ≡ Err fault)
 
--- the number of a refusal; none for want of memory
+-- the number of a refusal; none for lack of memory
 abbrev pub fault_code : RenderFault → Option ℕ
 fault_code LeadsBack = Some 87
 fault_code Costly = Some 88

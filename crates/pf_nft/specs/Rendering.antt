@@ -63,6 +63,7 @@ abbrev pub names_in : Machine → Name → List Name
 names_in m name = names_of name (unwrap_or (groups_in m name) [])
 
 -- the names of the machine's interfaces
+-- Example: em0 in the group lan: em0, em, lan.
 abbrev pub known : Machine → List Name
 known m = map (λ (i : Name × List Name). i.0) m
 
@@ -168,6 +169,7 @@ on_ports side (Some s) = of_protocol 6 (AtPort side s.low s.high s.negated)
 
 -- the port of that end passes the rule's test: an alternative for TCP and one for UDP, none where no port passes;
 -- without a test nothing is asked
+-- Example: no port is less than 0: none.
 abbrev pub port_alternatives : Side → Option PortTest → List Alternative
 port_alternatives side None = always ∷ []
 port_alternatives side (Some test) = on_ports side (port_span test)
@@ -213,6 +215,7 @@ host_alternatives c p side (host.NotIn set) =
 -- ---- the whole of a rule's conditions
 
 -- what is asked of the packet itself
+-- Example: an ICMP type asks for protocol 1.
 unfoldable pub such_alternatives : Machine → Direction → Conditions → List Alternative
 such_alternatives m d r =
     both (both (both (both (both (direction_alternatives d r.direction) (family_alternatives r.family))
@@ -220,12 +223,14 @@ such_alternatives m d r =
     (interface_alternatives m r.interface)
 
 -- what is asked of its two ends
+-- Example: ! 10/8 holds of every IPv6 address.
 unfoldable pub end_alternatives : Configuration → Path → Conditions → List Alternative
 end_alternatives c p r =
     both (both (both (port_alternatives Source r.source_port) (port_alternatives Destination r.destination_port))
     (host_alternatives c p Source r.source)) (host_alternatives c p Destination r.destination)
 
 -- the conditions of a rule at a path as alternatives, of which one has to hold of packets of the direction
+-- Example: port > 22 is one for TCP and one for UDP.
 unfoldable pub alternatives : Configuration → Machine → Direction → Path → Conditions → List Alternative
 alternatives c m d p r = both (such_alternatives m d r) (end_alternatives c p r)
 
@@ -278,6 +283,7 @@ abbrev pub backward_chains : List Path → List ChainName
 backward_chains paths = map (At Backward) (reverse paths)
 
 -- the chains to which an anchor rule leads forwards; within a quick one the last hit ends the evaluation too
+-- Example: x/* means no unnamed block.
 abbrev pub anchor_chains : Configuration → Path → Heading → List ChainName
 anchor_chains c p a = forward_chains (chained_targets c p a.target)
     ++ (if a.quick then backward_chains (chained_targets c p a.target) else [])
@@ -322,6 +328,7 @@ unknown_matches [] = []
 unknown_matches (n ∷ ns) = OnInterface (n ∷ ns) true ∷ []
 
 -- a rule that decides so, for this reason, of packets of which all matches hold
+-- Example: a machine without interfaces drops all.
 abbrev pub ending : Outcome → Note → List Match → NftRule
 ending outcome note matches = record { matches = matches; statement = Ends (record { outcome = outcome; note = note }) }
 

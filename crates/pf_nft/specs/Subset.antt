@@ -21,6 +21,7 @@ pub use Rattle.pf_nft.specs.declared.subset.Outcome.TheVariants.{Accept, Drop, R
 -- ---- sets (nft(8), SETS)
 
 -- two families are the same
+-- Source: nft(8), SETS, VERDICT STATEMENT.
 abbrev pub family_eq : Family → Family → Bool
 family_eq Inet Inet = true
 family_eq Inet Inet6 = false
@@ -41,6 +42,7 @@ pub record NamedSet : Type 0 where
 -- ---- expressions that match (nft(8), PAYLOAD EXPRESSIONS, META EXPRESSIONS)
 
 -- low-high, or @name
+-- Example: th dport 22.
 pub data Where : Type 0 where
   From : (low high : ℕ) → Where
   InSet : (name : SetName) → Where
@@ -71,6 +73,7 @@ pub data ChainName : Type 0 where
   At : (pass : Pass) (path : Path) → ChainName
 
 -- what a rule's counter and comment say
+-- Example: reject with x@3.
 pub data Note : Type 0 where
   -- a packet on an interface that the machine's list lacks
   Unknown : Note
@@ -89,6 +92,7 @@ pub record Decision : Type 0 where
   pub note : Note
 
 -- what a rule does with packets that it matches (nft(8), VERDICT STATEMENT)
+-- Source: nft(8), CHAINS, RULES, VERDICT STATEMENT.
 pub data Statement : Type 0 where
   Ends : (decision : Decision) → Statement
   Jump : (chain : ChainName) → Statement

@@ -22,7 +22,7 @@ fn chain_named<'r, 'c>(chains: &'r [Chain<'c>], name: ChainName<'c>) -> Option<&
     None
 }
 
-/// What is left of so many questions, behind a rule that does this; none if they aren't enough.
+/// What is left of that many questions, behind a rule that does this; none if they aren't enough.
 #[cycle(asking)]
 #[tactic(auto, using(crate::proofs::Refused::one_rule))]
 fn left_behind<'r, 'c>(
@@ -42,7 +42,7 @@ fn left_behind<'r, 'c>(
     }
 }
 
-/// What is left of so many questions, behind a chain; none if they aren't enough.
+/// What is left of that many questions, behind a chain; none if they aren't enough.
 #[cycle(asking)]
 #[tactic(auto, using(crate::proofs::Refused::some_rules))]
 pub(crate) fn left_after<'r, 'c>(

@@ -30,7 +30,7 @@ pub fn rendered_as_judged()
         run depth (rendered c m k.direction) k Base ≡ Some (decision_of (judgement c k)) }
 {}
 
-/// Whatever stands behind the members' guard, it accepts the members' packets, and of every other packet it is decided
+/// Whatever is behind the members' guard, it accepts the members' packets, and of every other packet it is decided
 /// as without it.
 pub fn guard_passes_members()
     ensures { (ms : List Member) (behind : HookPacket → Option Decision) → GuardPasses ms behind }

@@ -36,7 +36,7 @@ pub enum RenderFault {
 }
 
 impl RenderFault {
-    /// The number of the refusal; none for want of memory.
+    /// The number of the refusal; none for lack of memory.
     pub fn code(self) -> Option<u8>
         ensures { result ≡ fault_code self }
     {

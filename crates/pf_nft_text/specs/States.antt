@@ -18,5 +18,6 @@ keeps_state (FilterRule r) = passes r.action && r.keeps_state
 keeps_state (AnchorRule a) = false
 
 -- at any path
+-- Example: block keeps none.
 abbrev pub some_keep_state : Configuration → Bool
 some_keep_state c = list_any (λ p. list_any keeps_state (rules_at c p)) (paths_in c.anchors)

@@ -29,12 +29,13 @@ use Rattle.pf_nft.specs.Guard.{GuardRule, guard_of, HookJump, ToGuard, ToChain, 
 
 -- ---- names
 
--- how many stand before the first of that name
+-- how many are before the first of that name
 abbrev pub chain_index : ChainName → List Chain → ℕ
 chain_index name [] = 0
 chain_index name (c ∷ cs) = if is_chain name c then 0 else chain_index name cs + 1
 
--- how many sets stand before the first of that name
+-- how many sets are before the first of that name
+-- Example: the hook's chain is 0.
 abbrev pub set_index : SetName → List NamedSet → ℕ
 set_index name [] = 0
 set_index name (s ∷ ss) = if is_set name s then 0 else set_index name ss + 1
@@ -49,6 +50,7 @@ chain_label position In r name = generation position ++ (codes "i" ++ decimal (c
 chain_label position Out r name = generation position ++ (codes "o" ++ decimal (chain_index name r.chains))
 
 -- g7_s2
+-- Example: g7_, g7_i2, g7_s0.
 abbrev pub set_label : ℕ → NftRuleset → SetName → List ℕ
 set_label position r name = generation position ++ (codes "s" ++ decimal (set_index name r.sets))
 
@@ -68,6 +70,7 @@ abbrev pub interval_text : Family → ℕ → ℕ → List ℕ
 interval_text f low high = number_text f low ++ (codes "-" ++ number_text f high)
 
 -- where an address has to be: an interval, or @ and the name of a set
+-- Example: 10.0.0.0-10.255.255.255, @g7_s0.
 abbrev pub place_text : ℕ → NftRuleset → Family → Where → List ℕ
 place_text position r f (From low high) = interval_text f low high
 place_text position r f (InSet name) = codes "@" ++ set_label position r name
@@ -92,6 +95,7 @@ address_text Source = codes "saddr "
 address_text Destination = codes "daddr "
 
 -- the words for the port of an end, of TCP or UDP
+-- Example: th dport.
 abbrev pub port_text : Side → List ℕ
 port_text Source = codes "th sport "
 port_text Destination = codes "th dport "
@@ -102,12 +106,14 @@ weight true n = n
 weight false n = 0
 
 -- the flags as the byte that holds them (RFC 9293, 3.1)
+-- Example: SYN and ACK are 18.
 abbrev pub flags_byte : TcpFlags → ℕ
 flags_byte f =
     weight f.fin 1 + weight f.syn 2 + weight f.rst 4 + weight f.psh 8 + weight f.ack 16 + weight f.urg 32
     + weight f.ece 64 + weight f.cwr 128
 
 -- how a match is written (nft(8), META EXPRESSIONS, PAYLOAD EXPRESSIONS)
+-- Example: tcp flags & 18 == 2.
 unfoldable pub match_text : ℕ → Direction → NftRuleset → Match → List ℕ
 match_text position d r (OnInterface names negated) =
     interface_text d ++ (not_text negated ++ (codes "{ " ++ (flat_map quoted names ++ codes "} ")))
@@ -125,7 +131,7 @@ match_text position d r (OfType number) = codes "@th,0,8 " ++ (decimal number ++
 
 -- ---- statements
 
--- whether names, each with a slash, take no more than so many bytes
+-- whether names, each with a slash, take no more than that many bytes
 abbrev pub are_short : ℕ → Path → Bool
 are_short room [] = true
 are_short room (n ∷ ns) = nat_lt (length n) room && are_short (room - (length n + 1)) ns
@@ -161,6 +167,7 @@ statement_text position d r (Ends decision) =
 statement_text position d r (Jump chain) = codes "jump " ++ (chain_label position d r chain ++ codes "; ")
 
 -- a rule: its matches, and then its statement
+-- Example: counter drop comment "x@3";.
 unfoldable pub rule_text : ℕ → Direction → NftRuleset → NftRule → List ℕ
 rule_text position d r rule =
     flat_map (match_text position d r) rule.matches ++ statement_text position d r rule.statement
@@ -230,7 +237,7 @@ set_text position r s =
 
 -- ---- the members' guard
 
--- what stands behind an address: its port, where ports are asked too, and a comma
+-- what is behind an address: its port, where ports are asked too, and a comma
 abbrev pub end_text : (ports : Bool) → ℕ → List ℕ
 end_text true port = codes " . " ++ (decimal port ++ codes ", ")
 end_text false port = codes ", "
@@ -267,6 +274,7 @@ guard_match_text (IsTooBig f) = too_big_text f
 guard_match_text IsNeighbour = codes "icmpv6 type { nd-neighbor-solicit, nd-neighbor-advert } ip6 hoplimit 255 "
 
 -- a rule of the guard: its matches, a counter, accept
+-- Example: ip saddr { 192.0.2.1, }.
 unfoldable pub guard_rule_text : GuardRule → List ℕ
 guard_rule_text matches = flat_map guard_match_text matches ++ codes "counter accept comment \"members\"; "
 
@@ -278,6 +286,7 @@ members_text position (m ∷ ms) =
     ++ codes "}; ")))
 
 -- its end, if it is there
+-- Example: chain g7_members { .. }.
 unfoldable pub members_gone : ℕ → List Member → List ℕ
 members_gone position [] = []
 members_gone position (m ∷ ms) =
@@ -320,7 +329,7 @@ refuse_text position =
     codes "chain " ++ (generation position ++ (codes "refuse { meta l4proto 6 counter reject with tcp reset; "
     ++ codes "counter reject with icmpx port-unreachable; }; "))
 
--- a jump of a hook: to the chain of the members' guard, or to a chain of the ruleset, which tells the position
+-- a jump of a hook: to the chain of the members' guard, or to a chain of the ruleset, which names the position
 unfoldable pub jump_text : ℕ → Direction → NftRuleset → HookJump → List ℕ
 jump_text position d r (ToGuard guard) = codes "jump " ++ (generation position ++ codes "members; ")
 jump_text position d r (ToChain chain) =
@@ -333,6 +342,7 @@ hook_text name position d r jumps =
     codes "chain " ++ (name ++ (codes " { " ++ (flat_map (jump_text position d r) jumps ++ codes "}; ")))
 
 -- the three hooks: the members' guard, if there are members, and then the ruleset's first chain
+-- Example: jump g7_members;, comment "applied 7".
 abbrev pub hooks_filled : ℕ → List Member → NftRuleset → NftRuleset → List ℕ
 hooks_filled position ms inward outward =
     hook_text (codes "in") position In inward (hook_of ms)
@@ -362,6 +372,7 @@ fixed_gone position =
     ++ (generation position ++ codes "refuse; ")))
 
 -- the chains and sets of this position go: once another position's rules have come
+-- Example: delete set inet reltzuma g7_s0;.
 unfoldable pub gone_line : ℕ → List Member → NftRuleset → NftRuleset → List ℕ
 gone_line position ms inward outward =
     flat_map (chain_gone position In inward) inward.chains ++ (flat_map (chain_gone position Out outward) outward.chains

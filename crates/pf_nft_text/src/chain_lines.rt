@@ -46,7 +46,7 @@ fn first_rules(rules: &[NftRule<'_>]) -> usize
     count
 }
 
-/// What stands at the hook behind the rules that ask for the interface alone.
+/// What is at the hook behind the rules that ask for the interface alone.
 #[derive(Clone, Copy)]
 struct FrontText<'c> {
     position: u32,

@@ -8,7 +8,7 @@ use pf_nft::{Chain, ChainName, NamedSet, NftRuleset, SetName, same_chain, same_s
 use pf_ruleset::Direction;
 use std::fmt::{self, Display};
 
-/// How many chains stand before the first of that name.
+/// How many chains are before the first of that name.
 fn chain_index<'c>(chains: &[Chain<'c>], name: ChainName<'c>) -> usize
     ensures { result ≡ chain_index (chain_name_of name.entry) (map chain_of chains.now) }
 {
@@ -22,7 +22,7 @@ fn chain_index<'c>(chains: &[Chain<'c>], name: ChainName<'c>) -> usize
     index
 }
 
-/// How many sets stand before the first of that name.
+/// How many sets are before the first of that name.
 fn set_index<'c>(sets: &[NamedSet<'c>], name: SetName<'c>) -> usize
     ensures { result ≡ set_index (set_name_of name.entry) (map named_set_of sets.now) }
 {
@@ -36,7 +36,7 @@ fn set_index<'c>(sets: &[NamedSet<'c>], name: SetName<'c>) -> usize
     index
 }
 
-/// What a text is of: a ruleset, its direction, and the position that names tell.
+/// What a text is of: a ruleset, its direction, and the position in the names.
 #[derive(Clone, Copy)]
 pub(crate) struct Whole<'r, 'c> {
     pub(crate) position: u32,

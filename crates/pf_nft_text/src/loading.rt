@@ -97,7 +97,7 @@ impl fmt::Display for RefuseText {
     }
 }
 
-/// The jump to the ruleset's first chain, which tells the position.
+/// The jump to the ruleset's first chain, which names the position.
 #[derive(Clone, Copy)]
 struct RulesetJump<'r, 'c>(Whole<'r, 'c>);
 

@@ -12,7 +12,7 @@ use pf_nft::{Match, NftRule, Note, Outcome, Statement};
 use pf_ruleset::Name;
 use std::fmt::{self, Display};
 
-/// Whether names, each with a slash, take no more than so many bytes.
+/// Whether names, each with a slash, take no more than that many bytes.
 fn are_short(room: usize, path: &[Name]) -> bool
     ensures { result ≡ are_short room path.now }
 {

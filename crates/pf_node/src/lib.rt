@@ -5,7 +5,7 @@
 //! - [`Node`]: `ask`, `tick` and `receive` are steps of the agreement, and apply what was learned; `verdict` answers
 //!   packets; `outcome` says what came of the command at a position.
 //! - `specs/Applied` is the configuration of a log, `specs/Outcomes` what came of its commands; what a call makes
-//!   stands in px_replica's `specs/Made`.
+//!   is in px_replica's `specs/Made`.
 //!
 //! The configuration is always that after the first `applied` learned entries.
 #![tactic(auto)]

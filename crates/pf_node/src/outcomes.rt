@@ -8,7 +8,7 @@ use std::collections::VecDeque;
 /// What came of the command at a position, when it was applied.
 #[derive(Clone, Copy, PartialEq, Eq)]
 pub enum Outcome {
-    /// It was done: how many entries, with their signs, came to its table and went from it, 0 and 0 where it isn't on
+    /// It was done: how many entries, with their signs, were added to its table and removed from it, 0 and 0 where it isn't on
     /// one table.
     Done(usize, usize),
     /// It was refused, and changed nothing: the number of the refusal, and the line of a refused text, else 0.
@@ -36,7 +36,7 @@ impl Outcomes {
         }
     }
 
-    /// Keeps one more, and lets the eldest go where there are too many. Where memory is wanting all are let go.
+    /// Keeps one more, and lets the eldest go where there are too many. Where memory runs out all are let go.
     pub(crate) fn put(&mut self, outcome: Outcome)
         ensures { (self.new.kept.items ≡ outcome ∷ take 4095 self.old.kept.items) ⊎ (self.new.kept.items ≡ []) }
     {
@@ -46,7 +46,7 @@ impl Outcomes {
         }
     }
 
-    /// The outcome so many positions before the last one.
+    /// The outcome that many positions before the last one.
     pub(crate) fn before(&self, back: usize) -> Option<Outcome>
         ensures kept { IsSome result ↔ (back < length self.now.kept.items) }
         ensures value { IfSome result (λ o. o ≡ slice_index_or self.now.kept.items back o) }

@@ -6,7 +6,7 @@ use Rattle.toml.specs.Data.{Data, string, Items, no_items, item, Members, no_mem
 use Rattle.toml.specs.Data.{as_str, as_bool, as_integer, as_array}
 use Rattle.toml.specs.Parse.{parse_document}
 use Rattle.pf_node_file.specs.declared.kinds.Kind.{Kind}
-use Rattle.pf_node_file.specs.declared.kinds.Kind.TheVariants.{Text, Number, Flag, Texts, Answer}
+use Rattle.pf_node_file.specs.declared.kinds.Kind.TheVariants.{Text, Number, Flag, Texts}
 use Rattle.pf_node_file.specs.declared.fault.FileFault.{FileFault}
 use Rattle.pf_node_file.specs.declared.fault.FileFault.TheVariants as fault
 
@@ -21,7 +21,6 @@ kind_of key =
     else if bytes_eq key (codes "other-key") then Some Text
     else if bytes_eq key (codes "door") then Some Text
     else if bytes_eq key (codes "metrics") then Some Text
-    else if bytes_eq key (codes "answer") then Some Answer
     else if bytes_eq key (codes "unsealed") then Some Flag
     else if bytes_eq key (codes "quiet") then Some Flag
     else None
@@ -32,6 +31,7 @@ natural (pos n) = Some n
 natural (negsuc n) = None
 
 -- a value as a whole number from 0 on, none where it isn't one
+-- Source: TOML 1.1, Integer. Example: -1 is none.
 abbrev pub number_of : Data → Option ℕ
 number_of value = option_and_then natural (as_integer value)
 
@@ -41,6 +41,7 @@ at_most most None = false
 at_most most (Some n) = nat_le n most
 
 -- the value is a whole number from 0 to the most
+-- Example: me = 256 isn't.
 abbrev pub is_number : Data → ℕ → Bool
 is_number value most = at_most most (number_of value)
 
@@ -51,14 +52,10 @@ are_texts (item (string text) values) = are_texts values
 are_texts (item _ values) = false
 
 -- there is a list, and each of its items is a text
+-- Source: TOML 1.1, Array.
 abbrev pub are_texts_of : Option Items → Bool
 are_texts_of None = false
 are_texts_of (Some values) = are_texts values
-
--- the text `learned`
-abbrev pub is_learned : Option (List ℕ) → Bool
-is_learned None = false
-is_learned (Some text) = bytes_eq text (codes "learned")
 
 -- a value of a kind
 abbrev pub fits : Kind → Data → Bool
@@ -66,9 +63,9 @@ fits Text value = is_some (as_str value)
 fits (Number most) value = is_number value most
 fits Flag value = is_some (as_bool value)
 fits Texts value = are_texts_of (as_array value)
-fits Answer value = is_learned (as_str value)
 
 -- the value is one for this kind of setting; for none none is
+-- Example: members = ["a", 1] isn't.
 abbrev pub fits_if : Option Kind → Data → Bool
 fits_if None value = false
 fits_if (Some kind) value = fits kind value
@@ -88,6 +85,7 @@ is_true None = false
 is_true (Some flag) = flag
 
 -- the value is there, and is true
+-- Source: TOML 1.1, Boolean. Example: without quiet it isn't.
 abbrev pub flag_at : Option Data → Bool
 flag_at None = false
 flag_at (Some value) = is_true (as_bool value)
@@ -110,6 +108,7 @@ texts_at value = texts_if (option_and_then as_array value)
 -- ---- refusals
 
 -- the line of a refusal, if it has one
+-- Example: unknown setting in line 16.
 abbrev pub line_of_fault : FileFault → Option ℕ
 line_of_fault fault.Memory = None
 line_of_fault (fault.Syntax line) = Some line
@@ -122,11 +121,12 @@ HasWrong such text = (ms : Members) × (key : List ℕ) × (parse_document text 
     × (first_wrong ms ≡ Some key) × (such (kind_of key) ≡ true)
 
 -- the key names no setting
+-- Example: doors = "/run/x" names none.
 abbrev pub is_unknown : Option Kind → Bool
 is_unknown None = true
 is_unknown (Some kind) = false
 
--- why a text is refused; of want of memory nothing is said
+-- why a text is refused; nothing is said of out of memory
 abbrev pub IsRefused : FileFault → List ℕ → Type 0
 IsRefused fault.Memory text = Unit {0}
 IsRefused (fault.Syntax line) text = IsUtf8 text → parse_document text ≡ None

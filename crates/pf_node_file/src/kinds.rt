@@ -2,7 +2,7 @@
 
 ghost use Rattle.std.specs.Prelude.{◌≡◌};
 ghost use Rattle.toml.specs.View.{view, items_view};
-ghost use Rattle.pf_node_file.specs.declared.kinds.Kind.TheVariants.{Texts, Answer};
+ghost use Rattle.pf_node_file.specs.declared.kinds.Kind.TheVariants.{Texts};
 ghost use Rattle.pf_node_file.specs.Settings.{kind_of, number_of, is_number, are_texts, fits, is_setting};
 
 use toml::Value;
@@ -18,8 +18,6 @@ pub(crate) enum Kind {
     Flag,
     /// A list of texts.
     Texts,
-    /// The text `learned`.
-    Answer,
 }
 
 /// What the value of a key may be, none where the key names no setting.
@@ -35,7 +33,6 @@ pub(crate) fn kind_of(key: &str) -> Option<Kind>
         "other-key" => Some(Kind::Text),
         "door" => Some(Kind::Text),
         "metrics" => Some(Kind::Text),
-        "answer" => Some(Kind::Answer),
         "unsealed" => Some(Kind::Flag),
         "quiet" => Some(Kind::Flag),
         _ => None,
@@ -84,16 +81,6 @@ fn is_list(value: &Value) -> bool
     }
 }
 
-/// Whether a value is the text `learned`.
-fn is_learned(value: &Value) -> bool
-    ensures { result ≡ fits Answer (view value.now) }
-{
-    match value.as_str() {
-        Some(text) => text == "learned",
-        None => false,
-    }
-}
-
 /// Whether a value is of a kind.
 fn fits(kind: Kind, value: &Value) -> bool
     ensures { result ≡ fits kind (view value.now) }
@@ -103,7 +90,6 @@ fn fits(kind: Kind, value: &Value) -> bool
         Kind::Number(most) => is_number(value, most),
         Kind::Flag => value.is_bool(),
         Kind::Texts => is_list(value),
-        Kind::Answer => is_learned(value),
     }
 }
 

@@ -16,7 +16,7 @@ pub(crate) fn line_behind(front: &[u8]) -> u64
     line
 }
 
-/// The number of the line, from 1, in which the byte behind so many others stands; that of the end past it.
+/// The number of the line, from 1, in which the byte behind that many others stands; that of the end past it.
 pub(crate) fn line_at(text: &[u8], before: usize) -> u64 {
     match text.get(..before) {
         Some(front) => line_behind(front),
@@ -24,7 +24,7 @@ pub(crate) fn line_at(text: &[u8], before: usize) -> u64 {
     }
 }
 
-/// Whether a byte may stand before a key in its line: a blank, a header's bracket, a quote.
+/// Whether a byte may be before a key in its line: a blank, a header's bracket, a quote.
 fn may_precede(byte: u8) -> bool {
     matches!(byte, b' ' | b'\t' | b'[' | b'"' | b'\'')
 }
@@ -34,7 +34,7 @@ fn is_of_key(byte: u8) -> bool {
     byte.is_ascii_alphanumeric() || byte == b'-' || byte == b'_'
 }
 
-/// Whether the key stands at this place, and no more of a word.
+/// Whether the key is at this place, and no more of a word.
 fn stands_at(text: &[u8], at: usize, key: &[u8]) -> bool {
     let Some(rest) = text.get(at..) else {
         return false;

@@ -1,5 +1,4 @@
 -- What only code and proofs use: no contract of a public function needs it.
 pub mod Places
-pub mod Hearing
 pub mod Outcomes
 pub mod Stores

@@ -13,7 +13,6 @@ mod ask;
 mod check;
 mod events;
 mod faults;
-mod hearing;
 mod key;
 mod node;
 mod outcome;

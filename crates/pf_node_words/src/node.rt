@@ -12,17 +12,16 @@ ghost use Rattle.pf_node_words.specs.inner.Places.{is_count, has_place, turns_or
 
 use crate::events::{say_end, say_start};
 use crate::faults::say_place;
-use crate::hearing::HearingWire;
 use crate::key::{Keys, keys_for, warn_unsealed};
 use crate::outcome::{Outcome, ended_outcome, ending_of};
 use crate::store::record_for;
 use clap::ArgMatches;
-use pf_door::{DoorPlace, TallyWire, run_member};
+use pf_door::{DoorPlace, Observer, run_member};
 use pf_member::{Membership, open_member};
 use pf_net::{Address, BindFault, UdpWire};
 use pf_node_file::NodeFile;
 use px_records::Records;
-use px_seal::{MembersWire, SealedWire};
+use px_seal::SealedWire;
 use px_sql::SqlRecords;
 use px_transport::{LoopbackWire, Wire};
 use sqlite::{File, FileStore};
@@ -50,8 +49,6 @@ pub(crate) struct NodeWords<'m, 'w, 'a> {
     pub(crate) other_key: Option<&'a str>,
     /// Whether something below seals datagrams.
     pub(crate) is_unsealed: bool,
-    /// Whether an ask is answered once its command is learned, and not before.
-    pub(crate) answers_learned: bool,
     /// Where operators ask, if there is a door.
     pub(crate) door: Option<&'a str>,
     /// Where figures are told over TCP, if they are.
@@ -133,10 +130,14 @@ impl<'m, 'w, 'a> NodeWords<'m, 'w, 'a> {
             is_unsealed: matches.get_flag("unsealed") || file.flag("unsealed"),
             door: text_or(matches.get_str("door"), file, "door"),
             metrics: text_or(matches.get_str("metrics"), file, "metrics"),
-            answers_learned: text_or(matches.get_str("answer"), file, "answer").is_some(),
             is_quiet: matches.get_flag("quiet") || file.flag("quiet"),
             members,
         })
+    }
+
+    /// Whether commands are heard by datagrams: where these carry no tag of a key, and there is no control socket.
+    fn hears_asks(self) -> bool {
+        self.key.is_none() && self.door.is_none()
     }
 
     /// Whether each setting has the one that it wants: a second key a key, figures a door.
@@ -176,7 +177,7 @@ pub(crate) fn membership(words: NodeWords<'_, '_, '_>) -> Option<Membership>
     Membership::new(words.cluster, members, words.me)
 }
 
-/// The member's wire.
+/// The member's wire. Where asks aren't heard, none comes from elsewhere than a member's address.
 fn bind(
     rt: &HostRuntime,
     alloc: Global,
@@ -187,8 +188,8 @@ fn bind(
     match UdpWire::bind(rt, alloc, words.members, words.me, WAIT_MS) {
         Ok(wire) => {
             let mut wire = wire;
-            if words.answers_learned {
-                wire.answer_learned();
+            if !words.hears_asks() {
+                wire.hear_members();
             }
             Ok(wire)
         }
@@ -197,12 +198,12 @@ fn bind(
     }
 }
 
-/// The wire whose datagrams carry the tag of a key, over which members alone are heard.
+/// The wire whose datagrams carry the tag of a key.
 fn sealed(
     alloc: Global,
     wire: Result<UdpWire<HostRuntime>, Outcome>,
     keys: Keys,
-) -> Result<MembersWire<SealedWire<UdpWire<HostRuntime>>>, Outcome>
+) -> Result<SealedWire<UdpWire<HostRuntime>>, Outcome>
     requires { OnErr wire ((wire ≡ Err Memory) ⊎ (wire ≡ Err (Refused 82))) }
     ensures { OnErr result ((result ≡ Err Memory) ⊎ (result ≡ Err (Refused 82))) }
 {
@@ -211,28 +212,27 @@ fn sealed(
         Err(outcome) => return Err(outcome),
     };
     match SealedWire::new(alloc, wire, &keys.key, keys.other.as_ref()) {
-        Ok(wire) => Ok(MembersWire::new(wire)),
+        Ok(wire) => Ok(wire),
         Err(_) => Err(Outcome::Memory),
     }
 }
 
-/// The wire that counts, says how the node stands to the others, and keeps what the member sends to itself.
-fn counted<W: Wire + Drop>(
-    rt: &HostRuntime,
+/// The wire that keeps what the member sends to itself, and the observer of its run.
+fn observed<W: Wire + Drop>(
     alloc: Global,
     words: NodeWords<'_, '_, '_>,
     m: Membership,
     wire: Result<W, Outcome>,
-) -> Result<TallyWire<LoopbackWire<HearingWire<W>>>, Outcome>
+) -> Result<(LoopbackWire<W>, Observer), Outcome>
     requires { OnErr wire ((wire ≡ Err Memory) ⊎ (wire ≡ Err (Refused 82))) }
     ensures { OnErr result ((result ≡ Err Memory) ⊎ (result ≡ Err (Refused 82))) }
 {
     let wire = match wire {
-        Ok(wire) => HearingWire::new(rt, wire, m, words.is_quiet),
+        Ok(wire) => LoopbackWire::new(alloc, wire, m.me()),
         Err(outcome) => return Err(outcome),
     };
-    match TallyWire::new(alloc, LoopbackWire::new(alloc, wire, m.me()), m) {
-        Ok(wire) => Ok(wire),
+    match Observer::new(alloc, m, words.is_quiet) {
+        Ok(observer) => Ok((wire, observer)),
         Err(_) => Err(Outcome::Memory),
     }
 }
@@ -254,10 +254,21 @@ fn run_over<R: Records, W: Wire + Drop>(
     ensures hosted { ComesOpen R.Records m records result.0 result.1 }
     ensures turns { place.entry ≡ None → ComesTo R.Records m records result.0 result.1 }
 {
-    match counted(rt, alloc, words, m, wire) {
-        Ok(wire) => {
+    match observed(alloc, words, m, wire) {
+        Ok((wire, observer)) => {
             let mut wire = wire;
-            let (ended, records) = run_member(rt, alloc, m, records, &mut wire, place, words.turns);
+            let mut observer = observer;
+            let (ended, records) = run_member(
+                rt,
+                alloc,
+                m,
+                records,
+                &mut wire,
+                &mut observer,
+                words.hears_asks(),
+                place,
+                words.turns,
+            );
             (ended_outcome(ended, Outcome::Memory), records)
         }
         Err(outcome) => {
@@ -360,10 +371,7 @@ fn run_at_door<R: Records>(
             let wire = sealed(alloc, Ok(wire), keys);
             run_over(rt, alloc, words, m, records, wire, place)
         }
-        None => {
-            let wire = Ok(MembersWire::new(wire));
-            run_over(rt, alloc, words, m, records, wire, place)
-        }
+        None => run_over(rt, alloc, words, m, records, Ok(wire), place),
     }
 }
 

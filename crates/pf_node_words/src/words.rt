@@ -35,12 +35,6 @@ const KEY: &str =
 const OTHER_KEY: &str =
     "A file with a second key that is heard too, while the cluster's key is changed";
 
-const ANSWER: &str =
-    "When it answers an ask by UDP: learned, once the command is learned; else once it is taken in";
-
-/// The times of an answer.
-const ANSWERS: &[&str] = &["learned"];
-
 const QUIET: &str = "Of what happens, only warnings and errors are said on standard error";
 
 const UNSEALED: &str =
@@ -173,17 +167,6 @@ fn with_turns<'a>(alloc: Global, command: Command<'a>) -> Result<Command<'a>, Al
     )
 }
 
-/// `--answer learned`
-fn with_answer<'a>(alloc: Global, command: Command<'a>) -> Result<Command<'a>, AllocError>
-    requires command { (out-Command command).has_globals ≡ false }
-    ensures local { IfOk result (λ c. (out-Command c).has_globals ≡ false) }
-{
-    with(
-        command,
-        optional(alloc, "answer", ANSWER).value_parser(ValueParser::Names(ANSWERS)),
-    )
-}
-
 /// Adds an option without a value.
 fn with_flag<'a>(
     alloc: Global,
@@ -267,7 +250,6 @@ fn node_options<'a>(alloc: Global, node: Command<'a>) -> Result<Command<'a>, All
     ensures local { IfOk result (λ c. (out-Command c).has_globals ≡ false) }
 {
     let command = with_turns(alloc, node)?;
-    let command = with_answer(alloc, command)?;
     let command = with_door(alloc, command)?;
     let command = with_keys(alloc, command)?;
     let command = with_flag(alloc, command, "new", NEW)?;
@@ -287,7 +269,7 @@ fn with_members<'a>(alloc: Global, command: Command<'a>) -> Result<Command<'a>, 
     with(command, addresses)
 }
 
-/// `node [--config FILE] --me N --cluster C --store FILE [--turns T] [--answer learned] [--door PATH [--metrics ADDR]]
+/// `node [--config FILE] --me N --cluster C --store FILE [--turns T] [--door PATH [--metrics ADDR]]
 /// [--key FILE [--other-key FILE]] [--unsealed] [--new] [--check] [--quiet] ADDR..`
 fn node_command<'a>(alloc: Global) -> Result<Command<'a>, AllocError>
     ensures local { IfOk result (λ c. (out-Command c).has_globals ≡ false) }

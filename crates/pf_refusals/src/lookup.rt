@@ -15,7 +15,7 @@ pub fn explanation(table: &[Explanation], code: u8) -> Option<&Explanation>
     table.iter().find(|row| row.code == code)
 }
 
-/// What the table says of a number that stands there in digits, none where no row has it. A number with leading zeros
+/// What the table says of a number that is there in digits, none where no row has it. A number with leading zeros
 /// is none.
 pub fn named<'t>(table: &'t [Explanation], digits: &str) -> Option<&'t Explanation>
     ensures { option_copied result ≡ named table.now digits.now }

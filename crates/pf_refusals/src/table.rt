@@ -13,7 +13,7 @@ const ASK_STAYS: &str = "Nothing is taken in, and the node goes on.";
 
 const STORE_STAYS: &str = "The node isn't started, and the store stays as it was.";
 
-/// Each refusal once, by number. `scripts/refusals` compares it with docs/LANGUAGE.md.
+/// Each refusal once, by number. `scripts/refusals` compares it with the list in pfx(8).
 pub const REFUSALS: [Explanation; 43] = [
     Explanation {
         code: 1,

@@ -11,6 +11,7 @@ pub record Target : Type 0 where
   pub children : Bool
 
 -- an anchor rule without the block that it may carry
+-- Example: anchor "ftp/*" in quick on em0.
 pub record Heading : Type 0 where
   pub target : Target
   pub quick : Bool

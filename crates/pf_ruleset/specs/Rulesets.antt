@@ -8,13 +8,14 @@ use Rattle.pf_ruleset.specs.declared.ruleset.TableDef.{TableDef}
 use Rattle.pf_ruleset.specs.declared.ruleset.TableEntry.{TableEntry}
 
 -- what a text says of a table: its flags, and its entries where they are listed
+-- Example: table <t> persist.
 pub record TableValue : Type 0 where
   pub name : Name
   pub persist : Bool
   pub is_const : Bool
   pub entries : Option (List TableEntry)
 
--- a ruleset without where it lies in memory
+-- a ruleset without where it is in memory
 pub record RulesetValue : Type 0 where
   pub skip : List Name
   pub tables : List TableValue

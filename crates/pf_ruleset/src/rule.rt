@@ -10,7 +10,7 @@ pub enum Action {
     Pass,
     /// It is dropped silently.
     Drop,
-    /// It is dropped, and the sender is told.
+    /// It is dropped, and the sender is notified.
     Return,
 }
 

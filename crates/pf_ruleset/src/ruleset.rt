@@ -13,7 +13,7 @@ use pf_addr::Prefix;
 /// A prefix that a table holds, or where it is negated one that it leaves out (pf.conf(5), TABLES).
 #[derive(Clone, Copy, PartialEq, Eq)]
 pub struct TableEntry {
-    /// Whether `!` stands before it.
+    /// Whether `!` is before it.
     pub negated: bool,
     /// The prefix.
     pub prefix: Prefix,
@@ -33,7 +33,7 @@ pub struct TableDef {
     pub entries: Option<Vec<TableEntry>>,
 }
 
-/// What a text comes to.
+/// What a text gives.
 #[derive(Drop)]
 pub struct Ruleset {
     /// The interfaces and groups whose packets aren't filtered, in the order of the text, as often as written.

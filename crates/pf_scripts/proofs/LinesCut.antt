@@ -1,4 +1,4 @@
--- The first line of a script, and what stands behind it.
+-- The first line of a script, and what is behind it.
 use Rattle.std.proofs.Common.{◌≡◌, ◌==◌, ℕ, suc, ◌+◌, ◌-◌, ◌<◌, ◌≤◌, true, false, cond, List, [], ◌∷◌, length, length-drop, take, take_all, drop, refl, sym, ap, ◌∙◌, arith, IsUtf8, Some, None}
 use Rattle.std.specs.Str.{is_utf8}
 use Rattle.std.proofs.lemmas.Str.{is_utf8-from_IsUtf8, IsUtf8-from_is_utf8}
@@ -7,7 +7,7 @@ use Rattle.std.specs.List.{prefix_len}
 use Rattle.std.proofs.lemmas.List.Sums.{prefix_len-le-length}
 use Rattle.pf_scripts.specs.Lines.{lines, at_front}
 
--- how many bytes stand before the end of the line
+-- how many bytes are before the end of the line
 abbrev pub line_len : List ℕ → ℕ
 line_len s = prefix_len (λ b. not (b == 10)) s
 
@@ -46,7 +46,7 @@ pub last_line : (s front : List ℕ) → drop (line_len s) s ≡ [] → front �
 last_line [] front h e k = let none : length front ≡ 0 = ap length e in absurd (omega (arith, none, k))
 last_line (x ∷ s) front h e k = rw e (whole_line x s h)
 
--- what stands behind a line is shorter
+-- what is behind a line is shorter
 pub shorter : (s rest : List ℕ) (b : ℕ) → drop (line_len s) s ≡ b ∷ rest → length rest < length s
 shorter s rest b h = let e : length (drop (line_len s) s) ≡ length (b ∷ rest) = ap length h in omega (arith, e, length-drop (line_len s) s)
 

@@ -63,7 +63,7 @@ pub record Outcome : Type 0 where
 abbrev pub prints : Configuration → List ℕ → Outcome
 prints c output = record { configuration = c; output = output }
 
--- what an action comes to: the configuration after it, and what it prints; a fault prints its refusal
+-- what an action gives: the configuration after it, and what it prints; a fault prints its refusal
 abbrev pub acted : Configuration → List ℕ → Asked → Outcome
 acted c text (Err fault) = prints c (refused_line (unwrap_or (command_fault_code fault) 0) 0)
 acted c text (Ok (Change command)) =
@@ -83,6 +83,7 @@ is_standard None = true
 is_standard (Some file) = bytes_eq file (codes "-")
 
 -- what rows ask for, with the text of the file; any other file is 40
+-- Source: pfctl(8).
 abbrev pub pfctl_rows : Configuration → List ℕ → List Row → Outcome
 pfctl_rows c text rows =
     if is_standard (first_of (codes "file") rows) then acted c text (asked (given_in rows) text)
@@ -97,7 +98,7 @@ rows_unless (k ∷ ks) rows = None
 unfoldable pub rows_in : List Text → Option (List Row)
 rows_in words = rows_unless (fault_of pfctl_app words) (matches_of pfctl_app words)
 
--- what pfctl's words come to once they are read; words that aren't pfctl's are 40
+-- what pfctl's words give once they are read; words that aren't pfctl's are 40
 abbrev pub at_rows : Configuration → List ℕ → Option (List Row) → Outcome
 at_rows c text None = prints c (refused_line 40 0)
 at_rows c text (Some rows) = pfctl_rows c text rows

@@ -40,6 +40,7 @@ abbrev pub line : List ℕ → List ℕ
 line text = text ++ 10 ∷ []
 
 -- a refusal: its number, and the line of a refused text
+-- Example: refused 12 line 3.
 abbrev pub refused_line : ℕ → ℕ → List ℕ
 refused_line code at =
     if at == 0 then line (codes "refused " ++ decimal code)

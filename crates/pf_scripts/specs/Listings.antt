@@ -40,6 +40,7 @@ entries_listed None = refused_line 20 0
 entries_listed (Some t) = all_lines (map entry_part (entries_in_order t.entries))
 
 -- -T test: how many of the addresses are in the table
+-- Example: with rules at x/y alone, -s Anchors lists x and x/y.
 abbrev pub matches_listed : List Addr → Option TableValue → List ℕ
 matches_listed addresses None = refused_line 20 0
 matches_listed addresses (Some t) =

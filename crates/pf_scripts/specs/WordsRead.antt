@@ -1,4 +1,4 @@
--- What a line of pfctl's words comes to where nothing is changed.
+-- What a line of pfctl's words gives where nothing is changed.
 use Rattle.std.specs.Prelude.{◌≡◌, ℕ, List, Option, Some, None, Result, Ok, Err, codes, unwrap_or, string_bytes}
 use Rattle.std.specs.Prelude.{if◌then◌else◌}
 use Rattle.clap.specs.Words.{Text, Row, first_of}
@@ -28,7 +28,7 @@ pub data WordsValue : Type 0 where
   Refuses : (code : ℕ) → (at : ℕ) → WordsValue
   Shows : (output : List ℕ) → WordsValue
 
--- ---- what an action comes to
+-- ---- what an action gives
 
 -- -n: the text is only read
 abbrev pub checked : Result RulesetValue Refusal → WordsValue
@@ -40,7 +40,7 @@ abbrev pub of_table : Option TableValue → List ℕ → WordsValue
 of_table None listed = Refuses 20 0
 of_table (Some t) listed = Shows listed
 
--- what an action comes to where nothing is changed: a change is handed back, a look is printed
+-- what an action gives where nothing is changed: a change is handed back, a look is printed
 abbrev pub looked : Configuration → List ℕ → Asked → WordsValue
 looked c text (Err fault) = Refuses (unwrap_or (command_fault_code fault) 0) 0
 looked c text (Ok (Change command)) = Asks command
@@ -51,7 +51,7 @@ looked c text (Ok ShowAnchors) = Shows (anchors_listed c)
 looked c text (Ok (TableShow p t)) = of_table (table_at c p t) (entries_listed (table_at c p t))
 looked c text (Ok (TableTest p t list)) = of_table (table_at c p t) (matches_listed list (table_at c p t))
 
--- ---- what words come to
+-- ---- what words give
 
 -- what is given comes to this; another file than standard input is 40
 abbrev pub rows_read : Configuration → List ℕ → List Row → WordsValue
@@ -65,6 +65,7 @@ read_at c text None = Refuses 40 0
 read_at c text (Some rows) = rows_read c text rows
 
 -- words with the text of their file; those that aren't understood are 40
+-- Source: pfctl(8). Example: pfctl -F rules asks for a change.
 abbrev pub words_read : Configuration → List Text → List ℕ → WordsValue
 words_read c words text = read_at c text (rows_in words)
 
@@ -112,7 +113,7 @@ words_value (rust.Change command) = Asks (command_value command)
 words_value (rust.Refused code at) = Refuses code at
 words_value (rust.Output output) = Shows (string_bytes output)
 
--- the change, or its refusal; of want of memory nothing is said
+-- the change, or its refusal; nothing is said of out of memory
 abbrev pub IsChangeIn : {Z : Type 0} → Result Z ChangeFault → (Z → Command) → Result Command ℕ → Type 0
 IsChangeIn (Ok x) value asked = asked ≡ Ok (value x)
 IsChangeIn (Err fault.Memory) value asked = Unit {0}

@@ -58,7 +58,7 @@ pub fn push_counts(
     out.push('\n')
 }
 
-/// Applies a command as it lies in an entry's bytes, and says what comes of it.
+/// Applies a command as it is in an entry's bytes, and says what comes of it.
 #[tactic(auto, using(crate::proofs::Acted::applied_does, crate::proofs::Acted::refused_does))]
 fn run_view(
     alloc: Global,
@@ -133,7 +133,7 @@ fn run_check(alloc: Global, path: &[Name], text: &[u8], out: &mut String) -> Res
     }
 }
 
-/// Does what an action asks for; `text` is what stands behind the line.
+/// Does what an action asks for; `text` is what is behind the line.
 pub(crate) fn run_action(
     alloc: Global,
     config: &mut Config,

@@ -3,7 +3,7 @@
 //! # Organization
 //!
 //! - [`ctl`]: what a script of pfctl's words and packets prints.
-//! - [`read_words`]: what a line of pfctl's words comes to where nothing is changed; [`read_change`]: the change that
+//! - [`read_words`]: what a line of pfctl's words gives where nothing is changed; [`read_change`]: the change that
 //!   it asks for.
 //! - For scripts of other kinds: [`cut_line`] and [`words_in`] cut; [`takes_text`] and [`Waiting`] are of the text
 //!   behind a line of pfctl's words, [`matches_in`], [`file_in`] and [`is_standard`] of those words; [`push_line`],

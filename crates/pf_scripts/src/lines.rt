@@ -14,13 +14,13 @@ use std::alloc::{AllocError, Global};
 /// A line of a script, and whether a newline ends it, which the last one may lack.
 #[derive(Clone, Copy)]
 pub struct Line<'a> {
-    /// What stands before its end.
+    /// What is before its end.
     pub content: &'a [u8],
     /// Whether a newline ends it.
     pub has_newline: bool,
 }
 
-/// How many bytes stand before the end of the line.
+/// How many bytes are before the end of the line.
 #[tactic(auto, using(crate::proofs::LinesCut::line_len_le))]
 fn line_len(script: &[u8]) -> usize
     ensures value { result ≡ prefix_len (λ b. not (b == 10)) script.now }
@@ -29,7 +29,7 @@ fn line_len(script: &[u8]) -> usize
     script.iter().take_while(|b| **b != b'\n').count()
 }
 
-/// The first line of a script, and what stands behind it; none of an empty one.
+/// The first line of a script, and what is behind it; none of an empty one.
 #[tactic(auto, using(crate::proofs::LinesCut::cut_here, crate::proofs::LinesCut::last_line, crate::proofs::LinesCut::shorter, crate::proofs::LinesCut::nothing))]
 pub fn cut_line(script: &[u8]) -> Option<(Line<'_>, &[u8])>
     ensures cut { IfSome result (λ c. lines script.now ≡ line_of c.0 ∷ lines c.1.now) }

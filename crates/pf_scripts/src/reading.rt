@@ -99,7 +99,7 @@ fn matches_of(alloc: Global, table: Option<&Table>, list: &[Addr]) -> Result<Wor
     Ok(WordsRead::Output(out))
 }
 
-/// What an action comes to.
+/// What an action gives.
 fn read_action(
     alloc: Global,
     config: &Config,
@@ -123,7 +123,7 @@ fn read_action(
     }
 }
 
-/// What matches come to.
+/// What matches give.
 #[tactic(auto, using(crate::proofs::Looked::fault_looked))]
 fn read_matches(
     alloc: Global,

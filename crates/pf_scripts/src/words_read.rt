@@ -1,9 +1,9 @@
-//! What words come to where nothing is changed.
+//! What words give where nothing is changed.
 
 use pf_command::Command;
 use std::alloc::{AllocError, AllocFailed};
 
-/// What a line of pfctl's words comes to where nothing is changed.
+/// What a line of pfctl's words gives where nothing is changed.
 #[derive(Drop)]
 pub enum WordsRead {
     /// It asks for this change, which isn't made.

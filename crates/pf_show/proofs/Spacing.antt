@@ -23,7 +23,7 @@ pub conditions_are : (c : Conditions) → spaced (condition_parts c) ≡ spaced 
 unfolding condition_parts
 conditions_are c = simp (spaced_append, append_assoc)
 
--- a newline stands behind the parts
+-- a newline is behind the parts
 pub more_is : (parts : List Part) → more_parts parts ≡ spaced parts ++ 10 ∷ []
 more_is [] = refl
 more_is (part ∷ parts) = ap (λ t. 32 ∷ t) (rw (more_is parts) (rw append_assoc refl))

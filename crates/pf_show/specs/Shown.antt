@@ -202,13 +202,14 @@ target_text t = slashed t.names ++ children_text t.children
 abbrev pub target_part : Target → Part
 target_part t = 34 ∷ (target_text t ++ 34 ∷ [])
 
--- what stands behind the target; flags only where something is checked
+-- what is behind the target; flags only where something is checked
 unfoldable pub heading_parts : Heading → List Part
 heading_parts h =
     direction_parts h.conditions.direction ++ (quick_parts h.quick
     ++ (condition_parts h.conditions ++ flags_parts Drop h.conditions.flags))
 
 -- an anchor rule without a block, with its target
+-- Example: pass in on em0 inet proto 6 from 10.0.0.0/8 to any port = 53 flags S/SA keep state.
 unfoldable pub anchor_parts : Heading → List Part
 anchor_parts h = codes "anchor" ∷ target_part h.target ∷ heading_parts h
 
@@ -234,6 +235,7 @@ any_rule_line (FilterRule r) = line (rule_parts r)
 any_rule_line (AnchorRule h) = line (anchor_parts h)
 
 -- a line for each rule, without blocks and with every name
+-- Example: anchor "_1" all.
 abbrev pub shown_items : List AnyRule → List ℕ
 shown_items [] = []
 shown_items (rule ∷ rules) = any_rule_line rule ++ shown_items rules

@@ -88,7 +88,7 @@ impl fmt::Display for BlockTarget<'_> {
     }
 }
 
-/// What stands behind an anchor rule's target.
+/// What is behind an anchor rule's target.
 #[derive(Clone, Copy)]
 struct HeadingParts<'a>(&'a AnchorHeading);
 

@@ -8,6 +8,7 @@ use Rattle.pf_show_words.specs.declared.outcome.Outcome.{Outcome}
 use Rattle.pf_show_words.specs.declared.outcome.Outcome.TheVariants.{Shown, Refused, Memory}
 
 -- what an outcome is written as
+-- Example: refused 73, memory.
 abbrev pub text_of : Outcome → List ℕ
 text_of (Shown s) = s.bytes.items
 text_of (Refused code) = line (codes "refused " ++ decimal code)
@@ -24,7 +25,7 @@ ending (Shown s) = status_of s.refused
 ending (Refused code) = status.Refused
 ending Memory = status.Memory
 
--- the outcome is written; where memory ran out that alone; of a write that failed nothing is said
+-- the outcome is written; when out of memory that alone; of a write that failed nothing is said
 abbrev pub Wrote : Status → Outcome → Option (List ℕ) → Option (List ℕ) → Type 0
 Wrote status.Memory outcome old new = Appends old new (line (codes "memory"))
 Wrote status.Failed outcome old new = Unit {0}

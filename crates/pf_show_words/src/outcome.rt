@@ -1,4 +1,4 @@
-//! What a run comes to, and what is written of it.
+//! What a run gives, and what is written of it.
 
 ghost use Rattle.std.specs.Prelude.{◌≡◌};
 ghost use Rattle.pf_show_words.specs.Outcomes.{Wrote, status_of};
@@ -9,7 +9,7 @@ use pf_stored::Shown;
 use std::alloc::Global;
 use std::io::Write;
 
-/// What a run comes to.
+/// What a run gives.
 #[derive(Drop)]
 pub(crate) enum Outcome {
     /// This is shown.
@@ -40,7 +40,7 @@ fn status_of(refused: bool) -> Status
     }
 }
 
-/// Writes what a run comes to.
+/// Writes what a run gives.
 pub(crate) fn write_outcome<W: Write>(alloc: Global, outcome: Outcome, writer: &mut W) -> Status
     ensures { Wrote result outcome (W.contents writer.old) (W.contents writer.new) }
 {

@@ -68,7 +68,7 @@ fn words_outcome(
     }
 }
 
-/// What the words come to.
+/// What the words give.
 fn outcome_of(rt: &HostRuntime, alloc: Global, matches: &ArgMatches<'_>) -> Outcome {
     let (Some(store), Some(kind)) = (matches.get_str("store"), kind_of(matches)) else {
         return Outcome::Refused(40);

@@ -25,7 +25,7 @@ pub enum Closed {
     Refused(u8),
 }
 
-/// What a refusal to take a store comes to.
+/// What a refusal to take a store gives.
 fn closed_of(fault: AdoptFault) -> Closed {
     match fault.code() {
         Some(code) => Closed::Refused(code),
@@ -44,7 +44,7 @@ fn identity_of(m: Membership) -> Identity
     }
 }
 
-/// The record in a store: that of the rows that stand there.
+/// The record in a store: that of the rows that are there.
 fn taken<S: Alter + Drop>(
     alloc: Global,
     conn: Connection<S>,
@@ -62,7 +62,7 @@ fn taken<S: Alter + Drop>(
     }
 }
 
-/// What a fault of a record that doesn't open comes to.
+/// What a fault of a record that doesn't open gives.
 fn closed_for(fault: NodeFault) -> Closed {
     match fault {
         NodeFault::Memory => Closed::Memory,

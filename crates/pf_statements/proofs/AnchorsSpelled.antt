@@ -70,7 +70,7 @@ said_flags_rank : (ts rest : List Token) (x : Option FlagTest) → IsBehind (cod
 said_flags_rank _ rest _ Missing h = omega (arith, h)
 said_flags_rank _ rest _ (Behind ts x is) h = omega arith
 
--- ---- no name stands behind the place of a name
+-- ---- no name is behind the place of a name
 
 abbrev pub Nameless : Profile → List Token → Type 0
 Nameless profile ts = starts (may_name profile) ts ≡ false

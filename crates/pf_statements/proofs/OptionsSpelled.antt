@@ -202,7 +202,7 @@ rule_reads profile ts rest r is over =
       is.keeps,
     ) refl
 
--- what stands behind the action
+-- what is behind the action
 pub rule_rank : (profile : Profile) (ts : List Token) (r : RuleText) (is : IsRule profile ts r) → 1 < rank (is.direction ++ (is.log ++ (is.quick ++ (is.common ++ is.options))))
 rule_rank profile ts r is =
     let t5 = is.options in

@@ -39,6 +39,7 @@ optional_target_at profile ts =
     if starts (may_name profile) ts then (target_at profile ts >>= said_target) else Some (None, ts)
 
 -- heading = [ANAME] [way] ["quick"] common [flags]
+-- Example: anchor "ftp/*" in quick on em0.
 unfoldable pub heading_at : Profile → List Token → Read HeadingText
 heading_at profile ts = do
   target ← optional_target_at profile ts

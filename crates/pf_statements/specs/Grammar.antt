@@ -159,7 +159,7 @@ mutual
         is_wild h.target ≡ false → AreItems profile us items →
         IsItem profile (key (codes "anchor") ++ (ts ++ (sign mark.Open ++ (us ++ sign mark.Close)))) (BlockItem h items)
 
-  -- items = {NL} [item {NL {NL} item} {NL}]: nothing stands behind an item on its line
+  -- items = {NL} [item {NL {NL} item} {NL}]: nothing is behind an item on its line
   pub data AreItems (profile : Profile) : List Token → ItemTexts → Type 0 where
     NoItem : AreItems profile [] no_texts
     EmptyLine : (ts : List Token) (items : ItemTexts) → AreItems profile ts items →

@@ -139,7 +139,7 @@ abbrev pub texts_of : List ItemText → ItemTexts
 texts_of [] = no_texts
 texts_of (item ∷ items) = one_text item (texts_of items)
 
--- `/*` stands behind the name
+-- `/*` is behind the name
 abbrev pub is_wild : Option Target → Bool
 is_wild None = false
 is_wild (Some target) = target.children
@@ -178,6 +178,7 @@ put_text item more = Some (one_text item more.0, more.1)
 
 -- block = "{" {NL} [item {NL {NL} item} {NL}] "}", behind the brace that opens it; an item ends where it is over. No
 -- more than n steps are made, of which each takes a token.
+-- Example: anchor { pass newline block }.
 unfoldable pub items_at : ℕ → Profile → List Token → Read ItemTexts
 items_at zero profile ts = None
 items_at (suc n) profile ts =

@@ -63,6 +63,7 @@ table_option profile t ts =
 
 -- table = "table" "<" TNAME ">" {"persist" | "const" | "counters" | "{" "}" | list(["!"] prefix)}, behind the first
 -- word
+-- Example: table <t> const { 10/8, !10.1/16 }.
 unfoldable pub table_of : Profile → List Token → Option TableText
 table_of profile ts = table_at profile ts >>= λ name. to_end (table_option profile) (suc (length name.1))
     (new_table name.0) name.1

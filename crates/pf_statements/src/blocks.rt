@@ -15,10 +15,10 @@ use pf_tokens::{Parser, Stop, Symbol};
 use pf_words::Profile;
 use std::alloc::Global;
 
-/// The most blocks that may stand in one another: a statement has no more braces open at once.
+/// The most blocks that may be in one another: a statement has no more braces open at once.
 const MOST_NESTED: u8 = 64;
 
-/// Whether `/*` stands behind the name.
+/// Whether `/*` is behind the name.
 fn is_wild(target: &Option<Target>) -> bool
     ensures { result ≡ is_wild (option_map target_of target.now) }
 {
@@ -63,7 +63,7 @@ fn end_anchor(heading: WrittenHeading, parser: &Parser<'_, '_>) -> Result<Writte
     }))
 }
 
-/// A filter rule, or an anchor rule with its block, where so many blocks are open. `TooMany` where there are more than
+/// A filter rule, or an anchor rule with its block, where that many blocks are open. `TooMany` where there are more than
 /// a statement may have open braces.
 #[cycle(block)]
 pub(crate) fn read_item<'t: 's, 's>(
@@ -97,7 +97,7 @@ pub(crate) fn read_item<'t: 's, 's>(
     Ok(WrittenItem::block(heading, items))
 }
 
-/// The rules behind the brace that opens a block, up to the one that closes it, where so many blocks are open.
+/// The rules behind the brace that opens a block, up to the one that closes it, where that many blocks are open.
 #[cycle(block)]
 fn read_items<'t: 's, 's>(
     alloc: Global,

@@ -14,7 +14,7 @@ pub fn reads_the_grammar()
         IsStatement profile ts s }
 {}
 
-/// What may stand in the list of a table is an element as [`pf_tokens::lists_as_spelled`] asks for one.
+/// What may be in the list of a table is an element as [`pf_tokens::lists_as_spelled`] asks for one.
 pub fn entries_of_tables()
     ensures { (profile : IProfile) → IsElement (entry_at profile) may_follow_entry }
 {}

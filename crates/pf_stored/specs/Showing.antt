@@ -24,7 +24,8 @@ Shows log k kept c wanted.Texts s = s.refused ≡ false
 Shows log k kept c wanted.Script s = s.refused ≡ false → Gives s.bytes.items c
 Shows log k kept c wanted.Figures s = shown_value s ≡ figures k
 
--- of the first entries of the log that stands in a record, up to the first gap
+-- of the first entries of the log that is in a record, up to the first gap
+-- Example: with positions 0, 1 and 3 learned, that after two.
 pub record ShowsLog (log : Log Bytes) (w : Wanted) (s : Shown) : Type 0 where
   pub configuration : Configuration
   pub kept : ℕ

@@ -26,18 +26,20 @@ abbrev pub written : List ℕ → ShownValue
 written bytes = record { bytes = bytes; refused = false }
 
 -- the line of a refusal: the number, and a line of a text where it isn't 0
+-- Example: refused 40 0 is the line refused 40.
 abbrev pub refused : ℕ → ℕ → ShownValue
 refused code at = record { bytes = refused_line code at; refused = true }
 
 -- ---- pfctl's words
 
--- what words come to; those of a change are 40 here
+-- what words give; those of a change are 40 here
 abbrev pub answered : WordsValue → ShownValue
 answered (Asks command) = refused 40 0
 answered (Refuses code at) = refused code at
 answered (Shows output) = written output
 
 -- a line of pfctl's words at a configuration
+-- Example: pfctl -F rules is refused 40.
 abbrev pub listed : Configuration → List Text → ShownValue
 listed c words = answered (words_read c words [])
 
@@ -57,6 +59,7 @@ unfoldable pub verdict_for : Configuration → Text → Option (List ℕ)
 verdict_for c packet = option_map (λ (k : PacketValue). verdict_text (judgement c k)) (packet_of packet)
 
 -- a line for each packet's text in turn
+-- Example: two packets and the text x: two verdicts, then refused 30.
 abbrev pub verdicts : Configuration → List Text → ShownValue
 verdicts c [] = written []
 verdicts c (packet ∷ packets) = put_verdict (verdict_for c packet) (verdicts c packets)
@@ -69,6 +72,7 @@ first_of applied None count = applied - unwrap_or count 20
 first_of applied (Some from) count = min from applied
 
 -- and where they end
+-- Example: of 30, from 5 and 3 lines: 5 and 8; without either 10 and 30.
 abbrev pub end_of : ℕ → ℕ → Option ℕ → ℕ
 end_of applied first None = applied
 end_of applied first (Some count) = min applied (first + count)
@@ -85,12 +89,14 @@ log_shown log applied kept from count =
 -- ---- figures
 
 -- how many positions are applied, and how many the log has left
+-- Example: applied 412 left 999588.
 abbrev pub figures : ℕ → ShownValue
 figures k = written (codes "applied " ++ decimal k ++ codes " left " ++ decimal (positions - k) ++ codes "\n")
 
 -- ---- rules for nft(8)
 
 -- what is written for a kernel, as what is shown
+-- Example: without a list of interfaces refused 89.
 abbrev pub of_kernel : kernel.Written → ShownValue
 of_kernel w = record { bytes = w.text; refused = w.refused }
 

@@ -1,4 +1,4 @@
-//! What a record shows: the configuration that stands in it, and its log.
+//! What a record shows: the configuration that is in it, and its log.
 //!
 //! # Organization
 //!
@@ -7,6 +7,20 @@
 //!
 //! Within: `words` has pfctl's words and packets, `logged` the log, `texts` rulesets for pfctl(8), `scripts` a script
 //! that gives the configuration, `figures` how far it is.
+//!
+//! # Why
+//!
+//! - `show` opens a record as its node would: the configuration is then that after the learned positions up to the
+//!   first gap, by the clauses of `Node::open`, and the record comes back as it was. A reader of its own would need
+//!   no slots, and would have no such clause.
+//! - The library opens a database for writing alone. So `show` takes the node's lock, which refuses a store in use,
+//!   writes nothing, and lets the connection go without closing it, which would copy the log of writes.
+//! - Only a store of format 3 with its row is shown, since to take any other one writes.
+//! - **A script is checked, not proved to be made well.** What is made of the configuration is done by the
+//!   definition of `ctl` on an empty one, and the two are compared; what doesn't come to the same is not shown. So
+//!   nothing is said of how it is made, and a wrong script can't be shown. It costs a replay.
+//! - Main's load stands last in a script, since a load takes away each table that no rule names: the rules of the
+//!   other paths have to be there.
 #![tactic(auto)]
 
 mod figures;

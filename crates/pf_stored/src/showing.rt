@@ -63,10 +63,10 @@ pub fn show_node<R: Records>(
     }
 }
 
-/// What is shown of the record that stands there, as of a node that opens it: of the configuration after the first
+/// What is shown of the record that is there, as of a node that opens it: of the configuration after the first
 /// learned entries, up to the first gap. The record is given back as it was.
 ///
-/// `Store` and `BadStore` are as for [`Node::open`], `Memory` where memory is wanting.
+/// `Store` and `BadStore` are as for [`Node::open`], `Memory` where memory runs out.
 #[tactic(auto, using(crate::proofs::Opened::shows_record))]
 pub fn show_record<R: Records>(
     alloc: Global,

@@ -7,7 +7,7 @@ pub enum Wanted<'a> {
     Words(&'a [&'a str]),
     /// The verdicts for packets.
     Packets(&'a [&'a str]),
-    /// Lines of the log: from a position on, and so many at most. Without a position the last ones, 20 if it isn't said
+    /// Lines of the log: from a position on, and that many at most. Without a position the last ones, 20 if it isn't said
     /// how many.
     Log {
         from: Option<u32>,

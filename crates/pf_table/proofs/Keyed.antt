@@ -37,7 +37,7 @@ less x y h = elim (cases_lt x y) [
 third : (a b c d : ℕ) (o : Ordering) → a ≡ b → c ≡ d → ordering_then (nat_cmp a b) (ordering_then (nat_cmp c d) o) ≡ o
 third a b c d o h k = rw (ap (λ z. nat_cmp a z) (sym h) ∙ equal a, ap (λ z. nat_cmp c z) (sym k) ∙ equal c) refl
 
--- prefixes of one family and length stand in the order of their numbers
+-- prefixes of one family and length are in the order of their numbers
 pub by_bits : (p q : Block) → version p.base ≡ version q.base → p.len ≡ q.len → prefix_cmp p q ≡ nat_cmp (bits_of p.base) (bits_of q.base)
 unfolding prefix_cmp
 by_bits p q v l = third (version p.base) (version q.base) p.len q.len (nat_cmp (bits_of p.base) (bits_of q.base)) v l

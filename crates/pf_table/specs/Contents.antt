@@ -30,6 +30,7 @@ put_entry entries e = if list_any (is_prefix e.prefix) entries then entries else
     e ∷ entries_behind e.prefix entries
 
 -- entries are put in, one after another, so the first of each prefix counts
+-- Example: { 10/8, !10/8 } is { 10/8 }.
 abbrev pub with_entries : List TableEntry → List TableEntry → List TableEntry
 with_entries entries more = fold put_entry entries more
 

@@ -23,6 +23,7 @@ abbrev pub no_longer : Addr → ℕ → TableEntry → Bool
 no_longer a len e = not (contains a e) || nat_le e.prefix.len len
 
 -- some entry that isn't negated contains the address, and no entry that contains it is longer
+-- Example: { 10/8, !10.1/16 } has 10.2.0.1 and not 10.1.0.1.
 unfoldable pub in_table : Addr → List TableEntry → Bool
 in_table a entries = list_any (λ e. not e.negated && contains a e && list_all (no_longer a e.prefix.len) entries)
     entries

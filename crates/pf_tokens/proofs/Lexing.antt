@@ -1,4 +1,4 @@
--- One step of the lexer goes past what stands at the front of the text.
+-- One step of the lexer goes past what is at the front of the text.
 use Rattle.std.proofs.Common.{◌≡◌, ℕ, zero, suc, ◌+◌, ◌-◌, ◌<◌, ◌≤◌, ◌==◌, Bool, true, false, cond, List, [], ◌∷◌, ◌++◌, length, take, drop, get_or, map, Option, Some, None, option_map, refl, sym, ap, ◌∙◌, arith, not, eqb-true, length-drop}
 use Rattle.std.specs.List.{take_while}
 use Rattle.std.specs.List.{prefix_len}
@@ -41,7 +41,7 @@ pub same_line : (p : ℕ → Bool) (line c : ℕ) → p 10 ≡ false → p c ≡
 same_line p line c stops passes =
     pick (λ n. n ≡ line) (c == 10) (line + 1) line (λ e. absurd (false≢true (sym stops ∙ ap p (sym (eqb-true c 10 e)) ∙ passes))) (λ e. refl)
 
--- so many letters are on one line
+-- that many letters are on one line
 abbrev pub OneLine : ℕ → List ℕ → Type 0
 OneLine n bytes = (line at : ℕ) (steps : List ℕ) → drop n (letters_at line at steps bytes) ≡ letters_at line (at + n) steps (drop n bytes)
 
@@ -58,7 +58,7 @@ line_run p stops (c ∷ bytes) =
     (λ e. let more : 1 + prefix_len p bytes ≡ suc (prefix_len p bytes) = omega arith in rw more (line_more (prefix_len p bytes) c bytes (λ line. same_line p line c stops e) (line_run p stops bytes)))
     (λ e. line_none (c ∷ bytes))
 
--- what stands at the front takes at least one letter, and no newline but one alone
+-- what is at the front takes at least one letter, and no newline but one alone
 record Takes (b : ℕ) (bytes : List ℕ) (len : ℕ) : Type 0 where
   some : 0 < len
   within : len ≤ length (b ∷ bytes)

@@ -221,7 +221,7 @@ fault_begins profile ds _ (OtherByte name ts b among e) = record { name = name; 
 fault_begins profile ds _ (BadString name ts t among refused) = record { name = name; behind = ts; whole = refl }
 fault_begins profile ds _ (LongText name ts items text has are long) = record { name = name; behind = ts; whole = refl }
 
--- its name, and the text of what stands behind =
+-- its name, and the text of what is behind =
 record Parts (ds : List Definition) (name : List ℕ) (ts : List Token) (made : Definition) : Type 0 where
   named : made.name ≡ name
   are : AreItems ds ts made.text

@@ -6,7 +6,7 @@ use Rattle.std.proofs.lemmas.Bool.{false≢true}
 use Rattle.pf_tokens.specs.Tokens.{is_word_byte}
 use Rattle.pf_tokens.specs.inner.Joined.{is_continued}
 
--- what stands in a table of 256 tests at a byte
+-- what is in a table of 256 tests at a byte
 pub looked_up : (table : List Bool) (i b : ℕ) → b < 256 → i ≡ b → table ≡ map is_word_byte (range_with_len 0 256) → get_or table i false ≡ is_word_byte b
 looked_up table i b small at same = ap (λ (xs : List Bool). get_or xs i false) same ∙ get_or-map-range_with_len is_word_byte 0 256 i b false (omega (arith, small, at)) (omega (arith, at))
 

@@ -125,7 +125,7 @@ start_ending ds ps = ending_is ds (is_definition ps) [] ps refl
 
 -- ---- statement by statement
 
--- whether a macro is defined stands in the statement's own tokens
+-- whether a macro is defined is in the statement's own tokens
 both_false : (b : Bool) → (b && false) ≡ false
 both_false true = refl
 both_false false = refl
@@ -167,7 +167,7 @@ ending_ended ds w depth (p ∷ ps) = cases (ends depth p) refl (ending_ended ds 
     cases true e more = AtNewline p ps (ends_zero depth p e)
     cases false e more = more
 
--- what stands behind empty statements
+-- what is behind empty statements
 data Begun : List Placed → Type 0 where
   Nothing : Begun []
   Begins : (p : Placed) (ps : List Placed) → ends 0 p ≡ false → Begun (p ∷ ps)

@@ -3,7 +3,7 @@ use Rattle.std.specs.Prelude.{ℕ, zero, suc, List, [], ◌∷◌, if◌then◌e
 use Rattle.pf_tokens.specs.Tokens.{Token, is_newline}
 use Rattle.pf_tokens.specs.Macros.{depth_after}
 
--- The tokens where so many braces of a list are open: up to the brace that closes it newlines are blanks.
+-- The tokens where that many braces of a list are open: up to the brace that closes it newlines are blanks.
 abbrev pub blanked : ℕ → List Token → List Token
 blanked zero ts = ts
 blanked (suc n) [] = []

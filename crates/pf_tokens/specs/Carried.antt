@@ -7,6 +7,6 @@ use Rattle.pf_tokens.specs.Tokens.{Token}
 use Rattle.pf_tokens.specs.Macros.{Definition}
 use Rattle.pf_tokens.specs.Faults.{reading_fault}
 
--- the one found, else the first among these tokens, before which so many braces are open
+-- the one found, else the first among these tokens, before which that many braces are open
 abbrev pub carried : List Definition → Passed → ℕ → List Token → Option ReadingFault
 carried ds passed depth ts = option_or passed.fault (reading_fault ds passed.count depth ts)

@@ -1,4 +1,4 @@
--- A macro without where it lies in memory.
+-- A macro without where it is in memory.
 use Rattle.pf_tokens.specs.declared.macro_text.Macro.{Macro}
 use Rattle.pf_tokens.specs.Macros.{Definition}
 

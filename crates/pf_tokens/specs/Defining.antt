@@ -83,6 +83,7 @@ behind_name profile ds (Some (name, ts)) =
     let equals = symbol_at Equals ts in if equals.0 then defined_as profile ds name equals.1 else Err faults.Syntax
 
 -- macro = WORD "=" item {item}
+-- Example: a = b "c d" $e.
 unfoldable pub definition_at : Profile → List Definition → List Token → Result Definition DefinitionFault
 definition_at profile ds ts = behind_name profile ds (word_at ts)
 

@@ -16,12 +16,12 @@ abbrev pub is_unknown : List Definition → Token → Bool
 is_unknown ds (Macro name) = is_none (text_of ds name)
 is_unknown ds other = false
 
--- this fault if the test holds, else what the others come to
+-- this fault if the test holds, else what the others give
 abbrev pub or_fault : Bool → ReadingFault → Option ReadingFault → Option ReadingFault
 or_fault true fault others = Some fault
 or_fault false fault others = others
 
--- The first fault among the tokens, of which so many stand before, with so many open braces: a statement has
+-- The first fault among the tokens, of which that many are before, with that many open braces: a statement has
 -- at most 65,536 tokens, and at most 64 of its braces are open at once.
 abbrev pub reading_fault : List Definition → ℕ → ℕ → List Token → Option ReadingFault
 reading_fault ds count depth [] = None

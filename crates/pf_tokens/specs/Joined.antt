@@ -5,11 +5,11 @@ use Rattle.std.specs.Cow.{cow_slice_items}
 use Rattle.pf_tokens.specs.declared.text.Text.{Text}
 use Rattle.pf_tokens.specs.Tokens.{Letter, Placed, line_after, tokens_behind}
 
--- how many of them stand before the byte at this place
+-- how many of them are before the byte at this place
 abbrev pub passed : ℕ → List ℕ → ℕ
 passed at steps = prefix_len (λ s. nat_le s at) steps
 
--- the bytes that stay with their lines in the text as given, so many bytes standing before them
+-- the bytes that stay with their lines in the text as given, that many bytes standing before them
 abbrev pub letters_at : ℕ → ℕ → List ℕ → List ℕ → List Letter
 letters_at line at steps [] = []
 letters_at line at steps (b ∷ bytes) = record { byte = b; line = line + passed at steps } ∷

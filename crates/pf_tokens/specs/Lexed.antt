@@ -13,6 +13,6 @@ token_of (lexed.Mark symbol) = Mark symbol
 token_of lexed.Newline = Newline
 token_of lexed.Bad = Bad
 
--- the same with its line, and whether it stands in the text as it is
+-- the same with its line, and whether it is in the text as it is
 abbrev pub placed_of : Lexed → Placed
 placed_of t = record { token = token_of t.lexeme; line = t.line; written = t.written }

@@ -18,7 +18,7 @@ pub data IsComma : List Token → Type 0 where
   CommaSign : IsComma (sign Comma)
 
 -- elem {[","] elem}   elem = x | list(x)   with the elements, those of the lists in it among them, and how many lists
--- stand in one another at the deepest
+-- are in one another at the deepest
 pub data IsElements {X : Type 0} (Is : List Token → X → Type 0) : List Token → List X → ℕ → Type 0 where
   LastOne : (ts : List Token) (x : X) → Is ts x → IsElements Is ts (x ∷ []) 0
   LastList : (ts : List Token) (xs : List X) (d : ℕ) → IsElements Is ts xs d →
@@ -37,6 +37,7 @@ pub data IsList {X : Type 0} (Is : List Token → X → Type 0) : List Token →
       (record { items = xs; deepest = d + 1 })
 
 -- x | list(x)
+-- Example: { }, { , a }, { a , } are in no IsList.
 pub data IsSome {X : Type 0} (Is : List Token → X → Type 0) : List Token → Elements X → Type 0 where
   One : (ts : List Token) (x : X) → Is ts x → IsSome Is ts (record { items = x ∷ []; deepest = 0 })
   Listed : (ts : List Token) (list : Elements X) → IsList Is ts list → IsSome Is ts list
@@ -51,7 +52,7 @@ IsReadAs read ts x = read ts ≡ Some (x, [])
 abbrev pub IsPlain : Token → Type 0
 IsPlain t = (is_symbol Open t ≡ false) × (is_symbol Close t ≡ false)
 
--- An element is read alike whatever stands behind it, if that may follow one; a brace, a comma and an element may. It
+-- An element is read alike whatever is behind it, if that may follow one; a brace, a comma and an element may. It
 -- begins with no comma, and has no brace.
 pub record IsElement {X : Type 0} (read : List Token → Read X) (follows : List Token → Bool) : Type 0 where
   pub front : (ts rest : List Token) (x : X) → read ts ≡ Some (x, rest) →
@@ -66,6 +67,6 @@ pub record IsElement {X : Type 0} (read : List Token → Read X) (follows : List
   pub plain : (ts : List Token) (x : X) → IsReadAs read ts x → AllByRecursion IsPlain ts
   pub some : (ts : List Token) (x : X) → IsReadAs read ts x → 0 < length ts
 
--- a list stands in front of these tokens
+-- a list is in front of these tokens
 abbrev pub IsListBefore : {X : Type 0} → (List Token → X → Type 0) → List Token → Elements X → List Token → Type 0
 IsListBefore Is ts list rest = (own : List Token) × (ts ≡ own ++ rest) × IsList Is own list

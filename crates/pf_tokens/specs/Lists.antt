@@ -6,7 +6,7 @@ use Rattle.pf_tokens.specs.declared.lists.Listed.{Listed}
 use Rattle.pf_tokens.specs.Tokens.{Token}
 use Rattle.pf_tokens.specs.Productions.{Read, ◌>>=◌, begins_symbol, list_opened}
 
--- the elements of a list, with those of the lists in it, and how many lists stand in one another at the deepest
+-- the elements of a list, with those of the lists in it, and how many lists are in one another at the deepest
 pub record Elements (X : Type 0) : Type 0 where
   pub items : List X
   pub deepest : ℕ
@@ -19,8 +19,8 @@ elements_of l = record { items = l.items.items; deepest = l.deepest }
 abbrev pub put : {X : Type 0} → X → Elements X × List Token → Read (Elements X)
 put x more = Some (record { items = x ∷ more.0.items; deepest = more.0.deepest }, more.1)
 
--- The elements up to the brace that closes the list, with those of the lists in it; so many lists are open
--- here, so many were at the deepest, and an element has to come next where none has come since the last brace or
+-- The elements up to the brace that closes the list, with those of the lists in it; that many lists are open
+-- here, that many were at the deepest, and an element has to come next where none has come since the last brace or
 -- comma. No more than n steps are made, of which each takes a token.
 unfoldable pub elements : {X : Type 0} → (List Token → Read X) → ℕ → ℕ → ℕ → Bool → List Token →
     Read (Elements X)
@@ -38,6 +38,7 @@ unfoldable pub list_at : {X : Type 0} → (List Token → Read X) → List Token
 list_at element ts = let list = list_opened ts in if list.0 then elements element (length ts) 1 1 true list.1 else None
 
 -- x | list(x)
+-- Example: { { a, b } c } has three elements, deepest 2.
 unfoldable pub some_at : {X : Type 0} → (List Token → Read X) → List Token → Read (Elements X)
 some_at element ts = if begins_symbol Open ts then list_at element ts
     else (element ts >>= λ x. Some (record { items = x.0 ∷ []; deepest = 0 }, x.1))

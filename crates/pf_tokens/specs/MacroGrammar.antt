@@ -51,6 +51,7 @@ pub data IsRefusedString : Token → Type 0 where
 
 -- A macro statement that defines a macro: its name is no reserved word and has letters, digits and _ alone, no string
 -- has a dollar sign or #, and the text has at most 4,096 bytes.
+-- Example: a = b "c" defines a as b c.
 pub record IsDefinition (profile : Profile) (ds : List Definition) (tokens : List Token) (made : Definition) : Type
     0 where
   pub spelled : IsMacro ds tokens made
@@ -82,6 +83,7 @@ pub data HasMacroFault (profile : Profile) (ds : List Definition) : List Token �
       AreItems ds items text → 4096 < length text → HasMacroFault profile ds (Word name ∷ Mark Equals ∷ ts)
 
 -- not spelled as a macro, and without those faults
+-- Example: a = "#" { is refused with 11.
 pub record HasSyntaxFault (profile : Profile) (ds : List Definition) (tokens : List Token) : Type 0 where
   pub no_macro : (made : Definition) → IsMacro ds tokens made → ⊥
   pub no_lower : HasMacroFault profile ds tokens → ⊥

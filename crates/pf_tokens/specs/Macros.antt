@@ -56,22 +56,24 @@ is_equals (Mark Equals) = true
 is_equals other = false
 
 -- whether the tokens as written begin with a word and =
+-- Example: $a = b is none.
 abbrev pub is_definition : List Placed → Bool
 is_definition [] = false
 is_definition (p ∷ []) = false
 is_definition (p ∷ q ∷ more) = is_some_word p.token && is_equals q.token
 
 -- the tokens of a statement that has begun so
+-- Example: with a = in quick, pass $a is pass in quick.
 abbrev pub flattened : List Definition → List Placed → List Placed
 flattened ds begun = flat_map (replaced ds (is_definition begun)) begun
 
--- how many braces are open behind the token; no more than 65 are told apart, since 65 refuse the text
+-- how many braces are open behind the token; no more than 65 are distinguished, since 65 refuse the text
 abbrev pub depth_after : ℕ → Token → ℕ
 depth_after depth (Mark Open) = if nat_lt depth 65 then depth + 1 else depth
 depth_after depth (Mark Close) = depth - 1
 depth_after depth other = depth
 
--- how many braces are open behind the tokens, where so many are open before them
+-- how many braces are open behind the tokens, where that many are open before them
 abbrev pub depth_behind : ℕ → List Placed → ℕ
 depth_behind depth ts = fold (λ d (t : Placed). depth_after d t.token) depth ts
 

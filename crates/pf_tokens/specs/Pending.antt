@@ -1,4 +1,4 @@
--- What stands before a parser: tokens that have been replaced already, and those of the text.
+-- What is before a parser: tokens that have been replaced already, and those of the text.
 use Rattle.std.specs.Prelude.{List, [], ◌∷◌, map, Option, Some, None}
 use Rattle.pf_tokens.specs.declared.lexeme.Lexed.{Lexed}
 use Rattle.pf_tokens.specs.declared.stream.Stream.{Stream}

@@ -1,4 +1,4 @@
--- What a text comes to, one statement after another, whatever is done with a statement.
+-- What a text gives, one statement after another, whatever is done with a statement.
 use Rattle.std.specs.Prelude.{ℕ, Bool, List, [], ◌∷◌, ◌++◌, Result, Ok, Err, if◌then◌else◌}
 use Rattle.pf_tokens.specs.Tokens.{Placed}
 use Rattle.pf_tokens.specs.Macros.{Definition, is_definition, flattened, depth_behind, ends}
@@ -9,7 +9,7 @@ abbrev pub ◌>>=◌ : {A B R : Type 0} → Result A R → (A → Result B R) �
 (Ok x) >>= f = f x
 (Err e) >>= f = Err e
 
--- What is done with a statement: from what the statements before come to, the line of its first token as written,
+-- What is done with a statement: from what the statements before give, the line of its first token as written,
 -- whether it defines a macro, and its tokens.
 abbrev pub Judge : Type 0 → Type 0 → Type 0
 Judge S R = S → ℕ → Bool → List Placed → Result S R
@@ -26,7 +26,7 @@ with_statement macros judge sofar [] = Ok sofar
 with_statement macros judge sofar (p ∷ ps) = statement_judged judge sofar p.line (is_definition (p ∷ ps))
     (flattened (macros sofar) (p ∷ ps))
 
--- What the tokens that follow make of what stands before, and of the statement that has begun: it ends at the first
+-- What the tokens that follow make of what is before, and of the statement that has begun: it ends at the first
 -- newline of the text outside braces.
 unfoldable pub reading_from : {S R : Type 0} → (S → List Definition) → Judge S R → S → List Placed →
     List Placed → Result S R

@@ -22,6 +22,7 @@ line_after line b = if b == 10 then line + 1 else line
 
 -- Each byte with its line, the first being on this one; a backslash directly before a newline is taken out
 -- together with it, and the lines are those of the text as given. (pf.conf(5): lines are joined by a backslash.)
+-- Example: pa\ NL ss gives the letters of pass, the last two on line 2.
 abbrev pub letters : ℕ → List ℕ → List Letter
 letters line [] = []
 letters line (b ∷ []) = record { byte = b; line = line } ∷ []
@@ -36,6 +37,7 @@ plain_letters line (b ∷ bytes) = record { byte = b; line = line } ∷ plain_le
 -- ---- tokens
 
 -- a WORD, a STRING, a macro's name, a symbol, a newline, or a byte that begins none of these
+-- Example: "a NL is Bad at the quote.
 pub data Token : Type 0 where
   Word : (text : List ℕ) → Token
   Quoted : (text : List ℕ) → Token
@@ -53,7 +55,7 @@ is_newline (Mark symbol) = false
 is_newline Newline = true
 is_newline Bad = false
 
--- A token, the line of its first letter, and whether it stands in the text as it is; the others are of a
+-- A token, the line of its first letter, and whether it is in the text as it is; the others are of a
 -- macro's text.
 pub record Placed : Type 0 where
   pub token : Token
@@ -100,7 +102,7 @@ symbol_of_two b c =
     else (if c == 60 then (if b == 62 then Some Between else None)
     else None))
 
--- What stands at the front of a text: a token, or none where it is a blank or a comment, and how many
+-- What is at the front of a text: a token, or none where it is a blank or a comment, and how many
 -- letters it takes.
 pub record Front : Type 0 where
   pub token : Option Token
@@ -110,7 +112,7 @@ pub record Front : Type 0 where
 abbrev pub one_letter : Token → Front
 one_letter token = record { token = Some token; len = 1 }
 
--- a quote, its text, and a quote; a fault where the line ends before it, or a byte that may not stand there
+-- a quote, its text, and a quote; a fault where the line ends before it, or a byte that may not be there
 abbrev pub quoted_closed : List ℕ → ℕ → List ℕ → Front
 quoted_closed bytes len [] = one_letter Bad
 quoted_closed bytes len (b ∷ more) = if b == 34 then record { token = Some (Quoted (take len bytes)); len = len + 2 }
@@ -153,7 +155,7 @@ abbrev pub placed : Option Token → ℕ → List Placed → List Placed
 placed None line more = more
 placed (Some token) line more = record { token = token; line = line; written = true } ∷ more
 
--- the tokens behind so many letters, which belong to what stood before
+-- the tokens behind that many letters, which belong to what stood before
 abbrev pub tokens_behind : ℕ → List Letter → List Placed
 tokens_behind skip [] = []
 tokens_behind (suc skip) (l ∷ ls) = tokens_behind skip ls
@@ -162,6 +164,7 @@ tokens_behind zero (l ∷ ls) =
     placed f.token l.line (tokens_behind (f.len - 1) ls)
 
 -- the tokens of a text as given
+-- Example: a<=b is Word a, Mark LessEqual, Word b.
 abbrev pub tokens : List ℕ → List Placed
 tokens text = tokens_behind 0 (letters 1 text)
 

@@ -63,7 +63,7 @@ struct Items {
     all: bool,
 }
 
-/// Whether all bytes may stand in a macro's name.
+/// Whether all bytes may be in a macro's name.
 fn are_name_bytes(name: &[u8]) -> bool
     ensures { result ≡ list_all is_name_byte name.now }
 {
@@ -77,21 +77,21 @@ fn is_macro_name(profile: Profile, name: &[u8]) -> bool
     !is_reserved(profile, name) && are_name_bytes(name)
 }
 
-/// Whether the byte may not stand in a string of a macro statement.
+/// Whether the byte may not be in a string of a macro statement.
 fn is_refused_byte(b: u8) -> bool
     ensures { result ≡ is_refused_byte b }
 {
     b == b'$' || b == b'#'
 }
 
-/// Whether a byte may not stand in a string of a macro statement.
+/// Whether a byte may not be in a string of a macro statement.
 fn has_refused_byte(text: &[u8]) -> bool
     ensures { result ≡ list_any is_refused_byte text.now }
 {
     text.iter().any(|b| is_refused_byte(*b))
 }
 
-/// Whether it is a string that may not stand in a macro statement.
+/// Whether it is a string that may not be in a macro statement.
 fn is_refused_string(lexeme: Lexeme<'_>) -> bool
     ensures { result ≡ is_refused_string (token_of lexeme.entry) }
 {

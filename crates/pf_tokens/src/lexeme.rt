@@ -1,4 +1,4 @@
-//! Tokens and what stands at the front of a text.
+//! Tokens and what is at the front of a text.
 
 ghost use Rattle.std.specs.Prelude.{◌≡◌, ◌≤◌, ◌==◌, length, not, drop};
 ghost use Rattle.std.specs.List.{prefix_len};
@@ -43,7 +43,7 @@ impl Lexeme<'_> {
     }
 }
 
-/// A token, its line, and whether it stands in the text as it is, and not in a macro's text.
+/// A token, its line, and whether it is in the text as it is, and not in a macro's text.
 #[derive(Clone, Copy)]
 pub(crate) struct Lexed<'a> {
     pub lexeme: Lexeme<'a>,
@@ -60,7 +60,7 @@ impl Lexed<'_> {
     }
 }
 
-/// For each byte whether it may stand in a word: a look-up is quicker than ten comparisons.
+/// For each byte whether it may be in a word: a look-up is quicker than ten comparisons.
 const WORD_BYTES: [bool; 256] = [
     false, false, false, false, false, false, false, false, false, false, false, false, false,
     false, false, false, false, false, false, false, false, false, false, false, false, false,
@@ -83,7 +83,7 @@ const WORD_BYTES: [bool; 256] = [
     false, false, false, false, false, false, false, false, false,
 ];
 
-/// Whether the byte may stand in a word.
+/// Whether the byte may be in a word.
 pub(crate) fn is_word_byte(b: u8) -> bool
     ensures { result ≡ is_word_byte b }
 {
@@ -97,14 +97,14 @@ pub(crate) fn word_len(text: &[u8]) -> usize
     text.iter().take_while(|b| is_word_byte(**b)).count()
 }
 
-/// How many bytes stand before the end of the line.
+/// How many bytes are before the end of the line.
 fn line_len(text: &[u8]) -> usize
     ensures { result ≡ prefix_len (λ b. not (b == 10)) text.now }
 {
     text.iter().take_while(|b| **b != b'\n').count()
 }
 
-/// Whether the byte may stand in a macro's name.
+/// Whether the byte may be in a macro's name.
 pub(crate) fn is_name_byte(b: u8) -> bool
     ensures { result ≡ is_name_byte b }
 {
@@ -136,7 +136,7 @@ fn quoted_len(text: &[u8]) -> usize
     text.iter().take_while(|b| is_quoted_byte(**b)).count()
 }
 
-/// What stands behind an opening quote.
+/// What is behind an opening quote.
 fn quoted(bytes: &[u8]) -> (Option<Lexeme<'_>>, usize)
     ensures { front_of result ≡ quoted_closed bytes.now (prefix_len is_quoted_byte bytes.now)
         (drop (prefix_len is_quoted_byte bytes.now) bytes.now) }
@@ -149,7 +149,7 @@ fn quoted(bytes: &[u8]) -> (Option<Lexeme<'_>>, usize)
     }
 }
 
-/// What stands behind a dollar sign.
+/// What is behind a dollar sign.
 fn macro_name(bytes: &[u8]) -> (Option<Lexeme<'_>>, usize)
     ensures { front_of result ≡ macro_front bytes.now (prefix_len is_name_byte bytes.now) }
 {
@@ -182,7 +182,7 @@ fn symbol_front<'a>(b: u8, others: &[u8]) -> (Option<Lexeme<'a>>, usize)
     }
 }
 
-/// What stands at the front: a token, or none where it is a blank or a comment, and how many bytes it takes.
+/// What is at the front: a token, or none where it is a blank or a comment, and how many bytes it takes.
 pub(crate) fn front(text: &[u8]) -> (Option<Lexeme<'_>>, usize)
     ensures { front_of result ≡ front text.now }
 {

@@ -78,7 +78,7 @@ impl<'a> Lexer<'a> {
         }
     }
 
-    /// Goes past what stands at the front, which may be no token.
+    /// Goes past what is at the front, which may be no token.
     fn step(&mut self) -> Option<Lexed<'a>>
         requires { 0 < length self.old.rest.now }
         ensures left { tokens_left self.old ≡ option_to_list (option_map placed_of result) ++ tokens_left self.new }
@@ -102,7 +102,7 @@ impl<'a> Lexer<'a> {
         })
     }
 
-    /// The word at the front, if one stands there, as most tokens do.
+    /// The word at the front, if one is there, as most tokens do.
     #[tactic(auto, using(crate::proofs::Lexing::word_step, crate::proofs::Lexing::word_within), unfolding(crate::specs::Left::tokens_left))]
     fn word(&mut self) -> Option<Lexed<'a>>
         ensures word { IfSome result (λ t. tokens_left self.old ≡ placed_of t ∷ tokens_left self.new) }
@@ -148,7 +148,7 @@ impl<'a> Lexer<'a> {
         }
     }
 
-    /// The line of the word that comes next, where it is at the front, as its first byte tells.
+    /// The line of the word that comes next, where it is at the front, by its first byte.
     #[tactic(auto, using(crate::proofs::Lexing::word_on), unfolding(crate::specs::Left::tokens_left))]
     pub(crate) fn word_line(&mut self) -> Option<u64>
         ensures left { tokens_left self.new ≡ tokens_left self.old }

@@ -17,7 +17,7 @@ use std::alloc::Global;
 /// How many elements are kept at most: a statement has no more tokens.
 const ELEMENTS_MAX: usize = 65_536;
 
-/// A production whose values may stand in a list. It is a type of its own where the values stand in a crate below.
+/// A production whose values may be in a list. It is a type of its own where the values are in a crate below.
 pub trait Element {
     /// What is read.
     type Value: Drop;
@@ -44,7 +44,7 @@ pub trait Element {
 pub struct Listed<E> {
     /// The elements in order, with those of the lists in it.
     pub items: Vec<E>,
-    /// How many lists stand in one another at the deepest: 0 for an element without braces, 1 for a list of elements.
+    /// How many lists are in one another at the deepest: 0 for an element without braces, 1 for a list of elements.
     pub deepest: u64,
 }
 

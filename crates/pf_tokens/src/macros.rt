@@ -36,7 +36,7 @@ impl Macros {
         }
     }
 
-    /// With one definition more. An error is want of memory.
+    /// With one definition more. An error is out of memory.
     pub fn push(&mut self, alloc: Global, made: Macro) -> Result<(), AllocError>
         ensures { OnOk result (definitions_of self.new ≡ definitions_of self.old ++ definition_of made ∷ []) }
     {

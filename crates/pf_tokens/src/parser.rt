@@ -26,7 +26,7 @@ pub struct Parser<'t, 's> {
     stream: Stream<'t, 's>,
     /// What was passed of the statement, with the newlines that are blanks.
     passed: Passed,
-    /// How many braces are open; no more than 65 are told apart.
+    /// How many braces are open; no more than 65 are distinguished.
     depth: u8,
     /// How many of them belong to the list that is being read, in which newlines are blanks.
     braces: u8,
@@ -111,7 +111,7 @@ where
         }
     }
 
-    /// Takes the token at hand, behind which so many braces of the list are open.
+    /// Takes the token at hand, behind which that many braces of the list are open.
     #[inline(always)]
     fn take(&mut self, token: Lexed<'s>, braces: u8)
         requires at_hand { self.old.stream.next ≡ Some token }

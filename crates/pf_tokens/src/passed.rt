@@ -43,7 +43,7 @@ fn is_unknown(macros: &Macros, lexeme: Lexeme<'_>) -> bool
     }
 }
 
-/// How many braces are open behind the token; no more than 65 are told apart.
+/// How many braces are open behind the token; no more than 65 are distinguished.
 pub(crate) fn depth_after(depth: u8, lexeme: Lexeme<'_>) -> u8
     ensures { result ≡ depth_after depth (token_of lexeme.entry) }
 {
@@ -66,7 +66,7 @@ impl Passed {
         }
     }
 
-    /// With one token more, before which so many braces were open.
+    /// With one token more, before which that many braces were open.
     pub(crate) fn with(self, macros: &Macros, depth: u8, lexeme: Lexeme<'_>) -> Passed
         ensures { let t = token_of lexeme.entry in let ds = definitions_of macros.now in (ts : List Token) →
             carried ds result (depth_after depth t) ts ≡ carried ds self depth (t ∷ ts) }

@@ -155,7 +155,7 @@ where
         }
     }
 
-    /// Goes past newlines where braces of a list are open, so many braces being open in all.
+    /// Goes past newlines where braces of a list are open, that many braces being open in all.
     #[inline(always)]
     pub(crate) fn pass_newlines(&mut self, braces: u8, depth: u8, passed: Passed) -> Passed
         requires { braces ≤ depth }

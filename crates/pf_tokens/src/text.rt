@@ -66,7 +66,7 @@ fn joined(alloc: Global, text: &[u8]) -> Result<(Vec<u8>, Vec<usize>), AllocErro
 }
 
 impl<'a> Text<'a> {
-    /// Joins the lines of a text. Where none is continued the text itself is lent. An error is want of memory.
+    /// Joins the lines of a text. Where none is continued the text itself is lent. An error is out of memory.
     pub fn new(alloc: Global, text: &'a [u8]) -> Result<Text<'a>, AllocError>
         ensures { IfOk result (λ t. text_tokens t ≡ tokens text.now) }
     {

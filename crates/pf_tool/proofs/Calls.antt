@@ -45,7 +45,7 @@ pub call_entered : (table : List Explanation) (words : List Text) (m : ArgMatche
 unfolding call_of
 call_entered table words m e f = rw (e, f) refl
 
--- where memory ran out or something failed, nothing hangs on what was called
+-- when out of memory or something failed, nothing hangs on what was called
 unhindered : (table : List Explanation) (s : Status) (call : Option CallValue) (input old new : Option (List ℕ)) → IsMisused s old new → (s ≡ status.Usage → ⊥) → Ran table s call input old new
 unhindered table status.Memory call input old new h k = h
 unhindered table status.Failed call input old new h k = tt

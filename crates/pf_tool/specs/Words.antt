@@ -96,8 +96,8 @@ pfx_app =
 
 -- ---- what they ask for
 
--- Verdicts for packet texts, what a text comes to at a place, or what a script prints, over one configuration or over a
--- lab, each of standard input; a refusal's paragraph, or all of them. Of files: what their texts come to; verdicts
+-- Verdicts for packet texts, what a text gives at a place, or what a script prints, over one configuration or over a
+-- lab, each of standard input; a refusal's paragraph, or all of them. Of files: what their texts give; verdicts
 -- under a file's rules, and for the packets of a file.
 pub data CallValue : Type 0 where
   Test : (packets : List Text) → CallValue

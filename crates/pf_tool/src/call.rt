@@ -16,7 +16,7 @@ use pf_refusals::{Explanation, named};
 pub(crate) enum Call<'m, 'a> {
     /// Verdicts for packet texts.
     Test(&'m [&'a str]),
-    /// What a text comes to at a place.
+    /// What a text gives at a place.
     Check(Place),
     /// What a script over one configuration prints.
     Ctl,
@@ -24,7 +24,7 @@ pub(crate) enum Call<'m, 'a> {
     Lab,
     /// A refusal's paragraph, or all of them.
     Explain(Option<&'m Explanation>),
-    /// What the texts of files come to at a place; without files that of the input.
+    /// What the texts of files give at a place; without files that of the input.
     CheckFiles {
         place: Place,
         quiet: bool,

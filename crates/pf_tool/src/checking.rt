@@ -1,4 +1,4 @@
-//! The word `check`: what a text comes to.
+//! The word `check`: what a text gives.
 
 ghost use Rattle.std.specs.Prelude.{◌≡◌, IfOk, map, option_map};
 ghost use Rattle.pf_tool.specs.Tool.{check_output, checked_text, checked_texts};
@@ -12,7 +12,7 @@ use crate::testing::refusal_line;
 use pf_grammar::{ParseFault, Place, Profile, parse, show};
 use std::alloc::{AllocError, Global};
 
-/// What `check` writes over this input: the ruleset that it comes to at the place, or its refusal.
+/// What `check` writes over this input: the ruleset that it gives at the place, or its refusal.
 #[tactic(auto, unfolding(crate::specs::Tool::check_output))]
 pub(crate) fn check_output(alloc: Global, place: Place, input: &[u8]) -> Result<Output, AllocError>
     ensures { IfOk result (λ o. written o ≡ check_output place input.now) }

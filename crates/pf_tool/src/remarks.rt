@@ -4,7 +4,7 @@ use pf_io::Shown;
 use pf_refusals::{Explanation, NO_PACKET, Remark, explanation};
 use std::alloc::{AllocError, Global};
 
-/// What people are told.
+/// What is printed for people.
 #[derive(Clone, Copy, PartialEq, Eq)]
 pub(crate) enum Level {
     /// Nothing.

@@ -47,7 +47,7 @@ fn answer<R: Read, W: Write, E: Write>(
     }
 }
 
-/// What people are told: all with `-v`, what is refused where somebody looks on.
+/// What is printed for people: all with `-v`, what is refused where somebody looks on.
 fn level_of(is_verbose: bool, is_terminal: bool) -> Level {
     if is_verbose {
         return Level::Rules;
@@ -73,7 +73,7 @@ fn misnamed_words<W: Write>(text: &str, writer: &mut W) -> Status
 ///
 /// `test PACKET..` reads the text of a ruleset and writes a verdict line for each packet text in turn. A refused text
 /// gives `refused CAUSE line L` instead, and a text that is no packet `refused 30`, which ends the run. `check` writes
-/// the ruleset that the text comes to, in its expanded form, or its refusal; with `--anchor` the text is one for an
+/// the ruleset that the text gives, in its expanded form, or its refusal; with `--anchor` the text is one for an
 /// anchor. Both read files where their words name some; one that can't be read gives `refused 90`. All that is written
 /// goes to the writer at once; an input, and a file, is 16,777,216 bytes at most. What is said to people, a line for
 /// each refusal and, with `-v`, the rules that decide, changes nothing of what is written, nor of the status. `explain`

@@ -23,11 +23,10 @@ AskedTimes {R} {G} (suc n) s u = (t : Replica R G) × AskedTimes n s t × AskedO
 abbrev pub AsksSome : {R : Type 0} {G : Ghosts R} → (s t : Node R G) → Type 0
 AsksSome s t = (n : ℕ) × AskedTimes n (replica_of s) (replica_of t)
 
--- a command is asked of the member, and its wire is left alone
+-- a command is asked of the member, and its wire and its buffers are left alone
 pub record AskedAt {R : Type 0} {G : Ghosts R} (x y : Stand G) : Type 0 where
   pub asked : AskedOnce x.replica y.replica
-  pub given : y.given ≡ x.given
-  pub handed : y.handed ≡ x.handed
+  pub rest : y ≡ record x { replica = y.replica }
 
 -- turns without a fault, or one command that is asked
 abbrev pub Goes : {R : Type 0} {G : Ghosts R} → (x y : Stand G) → Type 0

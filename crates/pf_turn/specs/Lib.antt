@@ -1,7 +1,7 @@
+pub mod Resending
 pub mod Turns
 pub mod Hosting
 pub mod Progress
 pub mod Timing
 pub mod Living
-pub mod Releases
 pub mod inner

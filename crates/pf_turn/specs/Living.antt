@@ -1,5 +1,5 @@
 -- What befalls a node in its turns, in the words of the law of nodes, and what goes over its wire meanwhile.
-use Rattle.std.specs.Prelude.{◌≡◌, ◌≢◌, ◌⊎◌, ℕ, true, false, List, [], ◌∷◌, ◌++◌, Option, None, Some}
+use Rattle.std.specs.Prelude.{◌≡◌, ◌≢◌, ◌⊎◌, ℕ, Bool, true, false, List, [], ◌∷◌, ◌++◌, Option, None, Some}
 use Rattle.px_model.specs.Law.{Among}
 use Rattle.px_model.specs.Node as node
 use Rattle.px_model.specs.Node.{Record, Input}
@@ -13,10 +13,12 @@ use Rattle.px_transport.specs.Wires.{GrowsBy}
 use Rattle.px_replica.specs.Lives.{Deed, IsInput, Lived}
 use Rattle.px_replica.specs.Lives.Deed.{Calls, Stops, Opens}
 use Rattle.px_replica.specs.Made.{LeavesOne}
-use Rattle.px_replica.specs.Replicas.{records_of, membership_of, has_failed, state_in, IsUnspelled}
+use Rattle.px_replica.specs.Replicas.{records_of, membership_of, has_failed, state_in}
 use Rattle.px_replica.specs.declared.fault.NodeFault.{NodeFault}
 use Rattle.px_replica.specs.declared.fault.NodeFault.TheVariants as fault
+use Rattle.px_resend.specs.Again.{AreAmong}
 use Rattle.pf_turn.specs.Hosting.{Hosted}
+use Rattle.pf_turn.specs.Resending.{SentAgain, IsPassedOver}
 use Rattle.pf_turn.specs.Turns.{Stand, Served, handed_over}
 
 -- ---- what comes
@@ -39,13 +41,15 @@ messages_of (Stops x left ∷ ds) = message_in x ++ messages_of ds
 messages_of (Opens ∷ ds) = messages_of ds
 
 -- The datagrams that a wire gave are these messages, each spelled by the datagram in its place; the other datagrams are
--- nobody's.
-abbrev pub Brings : Group → (me : ℕ) → (gave : List Bytes) → List Heard → Type 0
-Brings g me [] [] = Unit {0}
-Brings g me [] (x ∷ xs) = ⊥
-Brings g me (b ∷ bs) [] = IsUnspelled g me b × Brings g me bs []
-Brings g me (b ∷ bs) (x ∷ xs) =
-    (IsUnspelled g me b × Brings g me bs (x ∷ xs)) ⊎ (DatagramBytes g x.0 me (as_sent x.1) b × Brings g me bs xs)
+-- passed over. These came before them.
+abbrev pub Brings : Group → (me : ℕ) → (hears_asks : Bool) → (before gave : List Bytes) → List Heard → Type 0
+Brings g me hears before [] [] = Unit {0}
+Brings g me hears before [] (x ∷ xs) = ⊥
+Brings g me hears before (b ∷ bs) [] =
+    IsPassedOver g me hears before b × Brings g me hears (before ++ b ∷ []) bs []
+Brings g me hears before (b ∷ bs) (x ∷ xs) =
+    (IsPassedOver g me hears before b × Brings g me hears (before ++ b ∷ []) bs (x ∷ xs)) ⊎
+    (DatagramBytes g x.0 me (as_sent x.1) b × Brings g me hears (before ++ b ∷ []) bs xs)
 
 -- each of the messages is spelled by one of the datagrams
 abbrev pub AreBrought : Group → (me : ℕ) → (gave : List Bytes) → List Heard → Type 0
@@ -72,9 +76,9 @@ LeavesThere g me gave s left =
 -- Steps of the model, one after the other, befell the member, up to the call that failed, if one did. There it stands,
 -- unless a call on its record failed; and whenever it stops it leaves its record as it was there, or with the change of
 -- the next step.
--- Its wire gave the datagrams that are the messages which came to it, each in its place, and others that are nobody's;
--- and then, where a call failed, what came for that call and after it. And it was handed what the steps handed out,
--- each datagram once, in order, and nothing else.
+-- Its wire gave the datagrams that are the messages which came to it, each in its place, and others that are nobody's
+-- or known; and then, where a call failed, what came for that call and after it. And it was handed what the steps
+-- handed out, each datagram once, in order, and between these nothing but what was kept or handed out before.
 pub record Living {R : Type 0} {G : Ghosts R} (x z : Stand G) (answered : Option NodeFault) : Type 0 where
   pub deeds : List Deed
   pub then : NodeState Bytes
@@ -83,9 +87,16 @@ pub record Living {R : Type 0} {G : Ghosts R} (x z : Stand G) (answered : Option
   -- the wire
   pub came : List Bytes
   pub last : List Bytes
-  pub brought : Brings (group (membership_of x.replica)) (membership_of x.replica).me came (messages_of deeds)
+  pub brought : Brings (group (membership_of x.replica)) (membership_of x.replica).me x.hears_asks x.requests came
+      (messages_of deeds)
   pub gave : GrowsBy x.given (came ++ last) z.given
-  pub sent : GrowsBy x.handed (sent_by deeds) z.handed
+  pub handed : List (ℕ × Bytes)
+  pub again : SentAgain x.kept (sent_by deeds) handed
+  pub sent : GrowsBy x.handed handed z.handed
+  -- the buffers
+  pub kept : AreAmong z.kept (x.kept ++ sent_by deeds)
+  pub requests : AreAmong z.requests (x.requests ++ (came ++ last))
+  pub hears : z.hears_asks ≡ x.hears_asks
   -- the end
   pub stays : G.failed (records_of z.replica) ≡ 0 → state_in z.replica ≡ then
   pub stop : (left : Record Bytes) → G.may_leave (records_of z.replica) left →

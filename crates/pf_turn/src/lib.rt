@@ -6,11 +6,12 @@
 //! - [`round`]: what has come is taken, and the clock ticks when the [`Timer`] says so, which is [`Pace`]. pf_door has
 //!   the loop of such rounds. [`finish`]: what waits to be proposed is worked off.
 //! - [`tick_now`]: the clock ticks.
-//! - [`Room`]: the room that one turn after another uses.
-//! - [`own_number`]: which answer may go that waits until its command is learned.
+//! - [`Room`]: the room that one turn after another uses, and what is sent again. [`RoundCounts`]: what went over the
+//!   wire in a round, for whoever counts it.
 //! - `specs/Turns` says what a turn makes, and what several in a row do; [`laws`] that they are steps of the model.
 #![tactic(auto)]
 
+mod counts;
 pub mod laws;
 mod pace;
 mod room;
@@ -20,12 +21,13 @@ mod sight;
 mod timer;
 mod turning;
 
+pub use counts::RoundCounts;
 pub use pace::{Pace, microseconds};
 pub use pf_node::Node;
 pub use px_replica::{Datagram, NodeFault};
 pub use px_transport::{FaultyWire, MemoryWire, Wire};
 pub use room::Room;
-pub use running::{Progress, finish, own_number, round};
+pub use running::{Progress, finish, round};
 pub use serving::tick_now;
 pub use timer::{Beat, Timer, View};
 pub use turning::turn;

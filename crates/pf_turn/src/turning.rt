@@ -1,24 +1,38 @@
 //! One turn of a node over a wire.
 
-ghost use Rattle.std.specs.Prelude.{◌≡◌, ◌≤◌, [], option_map, length, take, IfSome};
+ghost use Rattle.std.specs.Prelude.{◌≡◌, ◌≤◌, ◌++◌, [], option_map, length, take, IfSome};
 ghost use Rattle.px_replica.specs.Faults.{fault_of};
 ghost use Rattle.pf_node.specs.Nodes.{replica_of, applied_of};
 ghost use Rattle.px_transport.specs.Wires.{GrowsBy, Gives};
+ghost use Rattle.px_resend.specs.Again.{AreAmong};
+ghost use Rattle.px_resend.specs.Resends.{kept_of, requests_of};
 ghost use Rattle.pf_turn.specs.Turns.{Acts, Turned, handed_over, standing};
 
+use crate::counts::RoundCounts;
 use crate::room::Room;
 use pf_node::Node;
 use px_records::Records;
 use px_replica::{Datagram, NodeFault};
+use px_resend::Resender;
 use px_transport::Wire;
 
-/// Hands the datagrams to the wire, each once, in order. One that isn't sent is lost.
-pub(crate) fn send_all<W: Wire>(wire: &mut W, out: &[Datagram])
+/// Hands the datagrams to the wire, each once, in order, and shows them to the resender. One that isn't sent is lost.
+pub(crate) fn send_all<W: Wire>(
+    wire: &mut W,
+    out: &[Datagram],
+    resender: &mut Resender,
+    counts: &mut RoundCounts,
+)
     ensures handed { GrowsBy (W.handed wire.old) (handed_over out.now) (W.handed wire.new) }
     ensures given { W.given wire.new ≡ W.given wire.old }
+    ensures kept { AreAmong (kept_of resender.new) (kept_of resender.old ++ handed_over out.now) }
+    ensures requests { requests_of resender.new ≡ requests_of resender.old }
 {
     for datagram in out {
-        let _sent = wire.send(datagram.to, datagram.bytes.as_slice());
+        let bytes = datagram.bytes.as_slice();
+        let is_sent = wire.send(datagram.to, bytes);
+        counts.count_out(datagram.to, bytes.len(), is_sent);
+        let _kept = resender.keep(datagram.to, bytes);
     }
 }
 
@@ -72,13 +86,18 @@ pub fn turn<R: Records, W: Wire>(
     wire: &mut W,
     room: &mut Room,
 ) -> Result<(), NodeFault>
-    ensures turned { Turned (standing W.Wire node.old wire.old) (standing W.Wire node.new wire.new)
+    ensures turned { Turned (standing W.Wire node.old wire.old room.old) (standing W.Wire node.new wire.new room.new)
         (fault_of result) }
     ensures grows { applied_of node.old ≤ applied_of node.new }
 {
     room.out.clear();
     let len = hear(wire, &mut room.bytes);
     let result = act(node, came(&room.bytes, len), &mut room.out);
-    send_all(wire, room.out.as_slice());
+    send_all(
+        wire,
+        room.out.as_slice(),
+        &mut room.resender,
+        &mut room.counts,
+    );
     result
 }

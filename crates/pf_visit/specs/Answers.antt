@@ -21,6 +21,7 @@ behind_first [] = []
 behind_first (b ∷ bytes) = bytes
 
 -- what became of a command: what is behind the line `asked N.NUMBER`, if that comes first
+-- Example: 2 of 3 match doesn't.
 abbrev pub outcome_behind : List ℕ → List ℕ
 outcome_behind body = if begins body (codes "asked ") then behind_first (drop (line_len body) body) else body
 

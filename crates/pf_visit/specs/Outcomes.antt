@@ -28,7 +28,7 @@ status_of (Refused refused) = status.Refused
 status_of Memory = status.Memory
 status_of Unread = status.Failed
 
--- the outcome's text is written; where memory ran out `memory` alone; of a write that failed nothing is said
+-- the outcome's text is written; when out of memory `memory` alone; of a write that failed nothing is said
 abbrev pub Wrote : Status → Outcome → Option (List ℕ) → Option (List ℕ) → Type 0
 Wrote status.Memory outcome old new = Appends old new (line (codes "memory"))
 Wrote status.Failed outcome old new = Unit {0}

@@ -16,6 +16,7 @@ abbrev pub is_graphic : ℕ → Bool
 is_graphic b = nat_lt 32 b && not (b == 127)
 
 -- an argument that is one word of a line: it isn't empty, and has neither blanks nor control characters
+-- Example: -t a b has none.
 abbrev pub is_plain : List ℕ → Bool
 is_plain [] = false
 is_plain (b ∷ bytes) = list_all is_graphic (b ∷ bytes) && not (has_control (b ∷ bytes))

@@ -31,7 +31,7 @@ fn refused_text(
     }
 }
 
-/// What a command is refused for whatever stands at the node: a text that the grammar refuses.
+/// What a command is refused for whatever is at the node: a text that the grammar refuses.
 pub(crate) fn refused_command(
     alloc: Global,
     command: &Command,

@@ -10,7 +10,7 @@
 //! refused for before that, `exchange` one request and its answer over the socket, `visiting` how often it is asked,
 //! `answers` whether an answer says that what was asked for was done, `outcome` what a run writes and how it ends,
 //! `showing` an answer for a terminal, `script` reads the changes of a script, `scripting` asks them, and `telling` has
-//! what people are told on standard error.
+//! what is printed for people on standard error.
 #![tactic(auto)]
 
 mod answers;

@@ -56,7 +56,7 @@ fn checked(
     }
 }
 
-/// What the words come to.
+/// What the words give.
 fn outcome_of<R: Read>(
     rt: &HostRuntime,
     alloc: Global,

@@ -1,12 +1,12 @@
-//! What people are told beside an answer, on standard error.
+//! What is printed for people beside an answer, on standard error.
 
 use crate::words::POSITIONS;
 use std::io::IsTerminal;
 
-/// From this front on each ask is told how many are left.
+/// From this front on each answer says how many are left.
 const NEAR_THE_END: u32 = 900_000;
 
-/// Tells, once the log comes to its end, how many positions are left.
+/// Says, once the log nears its end, how many positions are left.
 pub(crate) fn tell_left(rt: &HostRuntime, front: Option<u32>) {
     if let Some(front) = front {
         if front >= NEAR_THE_END {
@@ -16,7 +16,7 @@ pub(crate) fn tell_left(rt: &HostRuntime, front: Option<u32>) {
     }
 }
 
-/// Tells on a terminal how far a script is.
+/// Shows on a terminal how far a script is.
 pub(crate) fn tell_line(rt: &HostRuntime, line: u64) {
     let mut errors = rt.stderr();
     if errors.is_terminal() {

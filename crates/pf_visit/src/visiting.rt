@@ -28,7 +28,7 @@ const ASKED: &[u8] = b"asked ";
 /// What it answers once a command is applied.
 const APPLIED: &[u8] = b"applied ";
 
-/// Waits for so many milliseconds: for what never comes over a stream of its own.
+/// Waits for that many milliseconds: for what never comes over a stream of its own.
 pub fn pause<RT: Net>(rt: &RT, milliseconds: u64) {
     if let Ok((mut near, _far)) = UnixStream::pair(rt) {
         if near
@@ -102,7 +102,7 @@ fn line_count(text: &[u8]) -> usize {
     text.iter().filter(|byte| **byte == b'\n').count()
 }
 
-/// What is behind so many lines.
+/// What is behind that many lines.
 fn behind_lines(text: &[u8], count: usize) -> &[u8] {
     let mut left = count;
     for i in 0..text.len() {
@@ -201,7 +201,7 @@ fn joined(taken: Reply, reply: Reply) -> Result<Reply, AllocError> {
     })
 }
 
-/// The position in the line that tells it.
+/// The position in the line that has it.
 fn position_in(body: &[u8]) -> Option<u32> {
     let rest = body.strip_prefix(APPLIED)?;
     let digits = rest.split(|byte| *byte == b'\n').next()?;

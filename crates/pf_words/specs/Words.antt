@@ -14,11 +14,11 @@ use Rattle.pf_words.specs.declared.profile.Profile.TheVariants.{One, Two}
 abbrev pub decimal_value : List ℕ → ℕ
 decimal_value digits = fold (λ n d. 10 * n + (d - 48)) 0 digits
 
--- one to so many digits
+-- one to that many digits
 abbrev pub is_decimal : ℕ → List ℕ → Bool
 is_decimal most text = nat_lt 0 (length text) && nat_le (length text) most && list_all is_ascii_digit text
 
--- one to so many digits, whose number is at most this; leading zeros may stand within the digits
+-- one to that many digits, whose number is at most this; leading zeros may stand within the digits
 unfoldable pub number_of : ℕ → ℕ → List ℕ → Option ℕ
 number_of digits most text = if is_decimal digits text && nat_le (decimal_value text) most
     then Some (decimal_value text) else None
@@ -99,6 +99,7 @@ flags_with text = record {
 }
 
 -- LETTERS: the flags whose letters occur
+-- Example: tcp is 6.
 unfoldable pub flags_of : List ℕ → Option TcpFlags
 flags_of text = if are_letters text then Some (flags_with text) else None
 

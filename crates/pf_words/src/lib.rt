@@ -5,7 +5,7 @@
 //! - [`parse_protocol`], [`parse_port`], [`parse_icmp_type`] and [`parse_decimal`] read numbers, or names that stand
 //!   for them.
 //! - [`parse_flags`] reads the letters of [`TcpFlags`].
-//! - [`is_same_word`] compares words; [`is_reserved`] tells the words of the grammar from names; [`is_interface_name`],
+//! - [`is_same_word`] compares words; [`is_reserved`] distinguishes the grammar's words from names; [`is_interface_name`],
 //!   [`is_table_name`] and [`is_anchor_text`] say what forms names have.
 #![tactic(auto)]
 

@@ -17,35 +17,35 @@ const TABLE_NAME_MAX: usize = 31;
 /// How many bytes the name of an anchor within another has at most.
 const ANCHOR_NAME_MAX: usize = 63;
 
-/// Whether the byte may stand in the name of a table.
+/// Whether the byte may be in the name of a table.
 fn is_table_byte(b: u8) -> bool
     ensures { result ≡ is_table_byte b }
 {
     b.is_ascii_alphanumeric() || b == b'_' || b == b'-'
 }
 
-/// Whether each byte may stand in the name of a table.
+/// Whether each byte may be in the name of a table.
 fn are_table_bytes(text: &[u8]) -> bool
     ensures { result ≡ list_all is_table_byte text.now }
 {
     text.iter().all(|b| is_table_byte(*b))
 }
 
-/// Whether the byte may stand in the name of an anchor or of an interface.
+/// Whether the byte may be in the name of an anchor or of an interface.
 fn is_anchor_byte(b: u8) -> bool
     ensures { result ≡ is_anchor_byte b }
 {
     is_table_byte(b) || b == b'.'
 }
 
-/// Whether each byte may stand in the name of an anchor or of an interface.
+/// Whether each byte may be in the name of an anchor or of an interface.
 fn are_anchor_bytes(text: &[u8]) -> bool
     ensures { result ≡ list_all is_anchor_byte text.now }
 {
     text.iter().all(|b| is_anchor_byte(*b))
 }
 
-/// Whether a letter stands at the front.
+/// Whether a letter is at the front.
 fn begins_with_letter(text: &[u8]) -> bool
     ensures { result ≡ begins_with_letter text.now }
 {

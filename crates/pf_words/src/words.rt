@@ -101,7 +101,7 @@ fn are_digits(text: &[u8]) -> bool
     text.iter().all(|b| b.is_ascii_digit())
 }
 
-/// A number of one to so many digits, at most this. Leading zeros may stand within the digits.
+/// A number of one to that many digits, at most this. Leading zeros may stand within the digits.
 #[tactic(auto, unfolding(crate::specs::Words::number_of))]
 pub fn parse_decimal(text: &[u8], digits: usize, most: u16) -> Option<u16>
     requires { digits ≤ 5 }

@@ -101,7 +101,7 @@ fn run_plain<S: AsStr, R: Read, W: Write, E: Write>(
     }
 }
 
-/// The same on a terminal, where it is told what a refusal means.
+/// The same on a terminal, with what the refusal means.
 fn run_told<S: AsStr, R: Read, W: Write, E: Write>(
     rt: &HostRuntime,
     arguments: &[S],

@@ -1,4 +1,4 @@
-//! What people are told of a refusal that an argument's crate only prints the number of.
+//! What is printed for people of a refusal that an argument's crate only prints the number of.
 
 use pf_io::{Shown, knock};
 use pf_refusals::{REFUSALS, explanation};

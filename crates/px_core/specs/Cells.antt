@@ -3,7 +3,7 @@ use Rattle.std.specs.Prelude.{ℕ, ◌+◌, ◌*◌, ◌%◌, Bool, ◌&&◌, Li
 use Rattle.std.specs.Prelude.{nat_eq, slice_index_or}
 use Rattle.px_core.specs.declared.votes.Cell.{Cell}
 
--- a cell that tells of no vote
+-- a cell without a vote
 abbrev pub empty_cell : Cell
 empty_cell = record { position = 0; ballot = 0 }
 

@@ -1,4 +1,4 @@
--- What a core keeps, is handed and sends can be spelled: the model's `Fits` over a core. The test tells which commands
+-- What a core keeps, is handed and sends can be spelled: the model's `Fits` over a core. The test says which commands
 -- have a spelling.
 use Rattle.std.specs.Prelude.{ℕ, ◌≤◌, Bool, IfSome}
 use Rattle.px_model.specs.Node as node

@@ -31,7 +31,7 @@ pub(crate) fn share_proposal(
     }
 }
 
-/// The acceptor at one position, as it stands in the record.
+/// The acceptor at one position, as it is in the record.
 #[derive(Clone, Copy)]
 pub(crate) struct Acceptor<'a> {
     pub(crate) meta: &'a Meta,

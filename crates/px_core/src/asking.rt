@@ -167,7 +167,7 @@ impl Core {
         }
     }
 
-    /// A command is asked from outside: the asker is told the number, or the refusal.
+    /// A command is asked from outside: the client is answered with the number, or the refusal.
     pub(crate) fn ask_from(&self, meta: &Meta, entry: &EntryView) -> Result<Plan, AllocError>
         ensures room { IfOk result (λ plan. IsFor plan self.now) }
         ensures step { IfOk result (λ plan.

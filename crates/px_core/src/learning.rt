@@ -1,4 +1,4 @@
-//! The learner (Paxos Made Simple, 2.3): votes are counted, and what was missed is told.
+//! The learner (Paxos Made Simple, 2.3): votes are counted, and what was missed is sent.
 ghost use Rattle.std.specs.Prelude.{◌≡◌, ℕ, ◌+◌, ◌<◌, ◌≤◌, IfOk, OnOk, is_none, ◌&&◌, length};
 ghost use Rattle.std.specs.Prelude.{Some, None, option_map, true, nat_eq};
 ghost use Rattle.std.specs.Cmp.Lexicographic.{pointwise};

@@ -1,12 +1,12 @@
 //! The limits of the protocol.
 
-/// A cluster has so many members at most.
+/// A cluster has that many members at most.
 pub const MEMBERS: u8 = 15;
 
 /// Positions are 0 to 999,999.
 pub const POSITIONS: u32 = 1_000_000;
 
-/// Votes are kept at so many positions, from the front on.
+/// Votes are kept at that many positions, from the front on.
 pub const WINDOW: u32 = 64;
 
 /// So many entries wait at most.

@@ -86,7 +86,7 @@ impl Core {
         })
     }
 
-    /// As a member starts: its record has this entry as learned at the position. Want of memory leaves all as it was.
+    /// As a member starts: its record has this entry as learned at the position. Out of memory leaves all as it was.
     #[tactic(auto, unfolding(crate::specs::Planning::state_of))]
     pub fn remember(&mut self, position: u32, entry: Entry) -> Result<(), AllocError>
         requires position { position < positions }

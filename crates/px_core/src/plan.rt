@@ -1,4 +1,4 @@
-//! What a step comes to, before any of it is done.
+//! What a step gives, before any of it is done.
 use px_model::{Change, Entry, Message, Proposal};
 use thiserror::Error;
 

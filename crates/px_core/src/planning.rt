@@ -1,4 +1,4 @@
-//! One step of a member: what it comes to, before any of it is done.
+//! One step of a member: what it gives, before any of it is done.
 ghost use Rattle.std.specs.Prelude.{◌≡◌, ◌<◌, IfOk, OnOk, MatchResult, length, nat_eq, Bool};
 ghost use Rattle.std.specs.Cmp.Lexicographic.{pointwise};
 ghost use Rattle.px_model.specs.Node.Answer.{Planned};
@@ -37,7 +37,7 @@ impl Core {
         }
     }
 
-    /// What a message comes to.
+    /// What a message gives.
     fn plan_message(
         &self,
         meta: &Meta,
@@ -90,7 +90,7 @@ impl Core {
         }
     }
 
-    /// What the event comes to, by its kind.
+    /// What the event gives, by its kind.
     #[tactic(auto, unfolding(px_model::specs::Step::step))]
     fn plan_event(
         &mut self,
@@ -127,7 +127,7 @@ impl Core {
     ///
     /// Whatever is answered, the core stays what it stands for. A command is refused with `Full` where 64 entries wait,
     /// else with `PositionsSpent` where every position is learned or every number used; a tick with `BallotsSpent`
-    /// where it needs a round and every one is used. Nothing else fails but for want of memory. All growths that
+    /// where it needs a round and every one is used. Nothing else fails but for lack of memory. All growths that
     /// `settle` will need are made.
     ///
     /// What is sent can be spelled as a datagram, where what the core keeps and what it is handed can.

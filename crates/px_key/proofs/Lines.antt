@@ -7,7 +7,7 @@ use Rattle.hex.proofs.HexLemmas.{decode_sized-encode_lower, IsOk-decode_sized}
 use Rattle.px_seal.specs.Texts.{line}
 use Rattle.px_key.specs.Texts.{IsNoKey, WrittenIsRead}
 
--- what stands before the last
+-- what is before the last
 front-of : (t : List ℕ) → length (t ++ 10 ∷ []) - 1 ≡ length t
 front-of t = omega (arith, length-append t (10 ∷ []))
 

@@ -8,7 +8,7 @@ use Rattle.std.proofs.lemmas.Slice.{drop-append-drop}
 use Rattle.px_model.specs.Spelling.{command_in, spelled}
 use Rattle.px_model.specs.inner.Spelling.{renamed}
 
--- the format bytes and what stands behind the number are compared apart
+-- the format bytes and what is behind the number are compared apart
 same_parts : (xs ys : List ℕ) → (pointwise nat_eq (take 1 xs) (take 1 ys) && pointwise nat_eq (drop 10 xs) (drop 10 ys)) ≡ pointwise nat_eq (command_in xs) (command_in ys)
 unfolding command_in
 same_parts [] [] = refl

@@ -94,7 +94,7 @@ lead_plan n me p v e x = record {
 abbrev pub nack_plan : {C : Type 0} → Volatile C → (b p q : ℕ) → Plan C
 nack_plan v b p q = idle (record v { attempt = drop_attempt b p v.attempt; lead = drop_lead b v.lead; seen = max v.seen (round_of q) })
 
--- so many have promised, and they aren't a majority
+-- that many have promised, and they aren't a majority
 abbrev pub counted_plan : {C : Type 0} → Volatile C → (b p : ℕ) → (counted : ℕ → Bool) → (top : ℕ) → Option (Proposal C) → Plan C
 counted_plan v b p counted top best = idle (record v { attempt = Some (record { position = p; ballot = b; phase = Preparing counted top best }) })
 

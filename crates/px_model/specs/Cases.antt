@@ -32,7 +32,7 @@ does meta v input = stepped meta (slot 0 None) 0 v input
 abbrev pub greatest : ℕ
 greatest = 281474976710655
 
--- the entry so many times
+-- the entry that many times
 abbrev pub repeated : (many : ℕ) → Entry ℕ → List (Entry ℕ)
 repeated zero e = []
 repeated (suc k) e = e ∷ repeated k e
@@ -75,7 +75,7 @@ pub record NothingAfterTheLastPosition : Type 0 where
   pub spent : does_at_the_end (waits []) (Asks 7) ≡ Refused 62
   pub idles : does_at_the_end (waits (entry 0 1 8 ∷ [])) Ticks ≡ Planned (idle (waits (entry 0 1 8 ∷ [])))
 
--- somebody outside is told, and no member
+-- a client is answered, and no member
 pub record AnAskerIsTold : Type 0 where
   pub taken : does (numbers 0 4 0) (waits []) (Comes asker (Ask 9 7)) ≡ Planned (record {
     change = Some (NewNumber 5);
@@ -167,7 +167,7 @@ proposes from e = record {
   sends = three 0 (Accept 512 0 e);
 }
 
--- a member's promise counts once, for its ballot and position alone, though a proposal that it tells again is taken; at
+-- a member's promise counts once, for its ballot and position alone, though a proposal that it reports again is accepted; at
 -- a majority phase 2 begins, or the attempt ends where nothing is to be proposed
 pub record APromiseCountsOnce : Type 0 where
   pub again : does (numbers 2 1 0) (prepared 4 None counted) (Comes 1 (PromiseAll 512 0 9 None)) ≡

@@ -59,11 +59,11 @@ pub record ProposalFits {C : Type 0} (IsSpelled : C → Type 0) (n : ℕ) (x : P
   pub ballot : IsBallot n x.ballot
   pub entry : EntryFits IsSpelled n x.entry
 
--- what a promise of ballot b tells: nothing, or a proposal of a lower ballot
+-- what a promise of ballot b reports: nothing, or a proposal of a lower ballot
 abbrev pub ReportFits : {C : Type 0} → (C → Type 0) → (n b : ℕ) → Option (Proposal C) → Type 0
 ReportFits IsSpelled n b a = IfSome a (λ x. ProposalFits IsSpelled n x × (x.ballot < b))
 
--- what a message tells, by its kind: what proposes has the sender's ballot, what answers it the addressee's,
+-- what a message reports, by its kind: what proposes has the sender's ballot, what answers it the addressee's,
 -- a vote any member's
 abbrev pub MessageFits : {C : Type 0} → (C → Type 0) → (n from to : ℕ) → Message C → Type 0
 MessageFits S n from to (Prepare b p) = IsBallotOf n from b × IsPosition p
@@ -106,17 +106,17 @@ pub record MetaFits (n : ℕ) (meta : Meta) : Type 0 where
   pub round : IsNumber meta.round
   -- 2^48 where all are spent
   pub number : meta.number ≤ 2 ^ 48
-  -- a refusal tells it
+  -- a refusal reports it
   pub floor : IsPromise n meta.floor
 
 -- a slot: what is promised there, and a proposal accepted in a ballot not above that
 pub record SlotFits {C : Type 0} (IsSpelled : C → Type 0) (n : ℕ) (slot : Slot C) : Type 0 where
-  -- a refusal tells it
+  -- a refusal reports it
   pub promised : IsPromise n slot.promised
-  -- a promise tells it, and its ballot is above all that was promised
+  -- a promise reports it, and its ballot is above all that was promised
   pub accepted : IfSome slot.accepted (λ x. ProposalFits IsSpelled n x × (x.ballot ≤ slot.promised))
 
--- whoever asks what was learned is told
+-- a client that asks what was learned is answered
 abbrev pub LogFits : {C : Type 0} → (C → Type 0) → (n : ℕ) → Log C → Type 0
 LogFits {C} IsSpelled n log = (p : ℕ) (e : Entry C) → log p ≡ Some e → IsPosition p × EntryFits IsSpelled n e
 
@@ -124,7 +124,7 @@ LogFits {C} IsSpelled n log = (p : ℕ) (e : Entry C) → log p ≡ Some e → I
 pub record RecordFits {C : Type 0} (IsSpelled : C → Type 0) (n : ℕ) (d : Record C) : Type 0 where
   pub meta : MetaFits n d.meta
   pub slots : (p : ℕ) → SlotFits IsSpelled n (d.slots p)
-  -- nothing was accepted past the last position, so no top is told too low
+  -- nothing was accepted past the last position, so no top is reported too low
   pub last : (p : ℕ) → positions ≤ p → (d.slots p).accepted ≡ None
   pub learned : LogFits IsSpelled n d.learned
 
@@ -149,13 +149,13 @@ pub record AttemptFits {C : Type 0} (IsSpelled : C → Type 0) (n me front : ℕ
   -- where something is learned there, the attempt ends
   pub at_front : x.position ≡ front
   pub position : IsPosition x.position
-  -- its messages tell it
+  -- its messages report it
   pub ballot : IsBallotOf n me x.ballot
   pub phase : PhaseFits IsSpelled n x.phase
 
 -- a lead: a ballot of the member's own, and where it may be used from, 1,000,000 at most
 pub record LeadFits (n me : ℕ) (x : Lead) : Type 0 where
-  -- proposals tell it
+  -- proposals report it
   pub ballot : IsBallotOf n me x.ballot
   -- 1,000,000 where no position is left
   pub from : x.from ≤ positions
@@ -254,7 +254,7 @@ pub record WorldFits {C : Type 0} (IsSpelled : C → Type 0) (n : ℕ) (w : Worl
   pub nodes : (m : ℕ) → m < n → NodeFits IsSpelled n m (w.nodes m)
   pub sent : (x : Envelope C) → Among w.sent x → EnvelopeFits IsSpelled n x
 
--- ---- the laws: for 1 to 15 members, and any test that tells which commands have a spelling
+-- ---- the laws: for 1 to 15 members, and any test of which commands have a spelling
 
 -- the command passes the test
 abbrev pub Passes : {C : Type 0} → (C → Bool) → C → Type 0

@@ -54,7 +54,7 @@ learned_at p = put (λ q. None) p (Some (entry 1 0 8))
 abbrev pub does_with : Log ℕ → Volatile ℕ → Input ℕ → Answer ℕ
 does_with log v input = step nat_eq 3 0 (numbers 1 1 0) (slot 0 None) 0 log v input
 
--- a member that is asked for a position tells what it learned there, or else nothing
+-- a member that is asked for a position reports what it learned there, or else nothing
 pub record NeedIsAnswered : Type 0 where
   pub learned : does_with (learned_at 5) (waits []) (Comes 2 (Need 5)) ≡
       Planned (answered None (waits []) 0 2 (Learned 5 (entry 1 0 8)))
@@ -135,7 +135,7 @@ pub record TheBordersAreExact : Type 0 where
 abbrev pub from_outside : (member token command : ℕ) → List (Event ℕ)
 from_outside m t c = Runs (AskFrom m t c) ∷ []
 
--- the same events so many times
+-- the same events that many times
 abbrev pub many : (times : ℕ) → List (Event ℕ) → List (List (Event ℕ))
 many zero es = []
 many (suc k) es = es ∷ many k es

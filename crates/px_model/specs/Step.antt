@@ -122,7 +122,7 @@ on_ask me meta learned v c =
     else if nat_le (2 ^ 48) meta.number then Refused 62
     else Planned (taken_in me meta v c)
 
--- whoever asked from outside is told the number that the entry got, or the refusal
+-- the client is answered with the number that the entry got, or the refusal
 abbrev pub ask_answered : {C : Type 0} → (me token number : ℕ) → Volatile C → Answer C → Plan C
 ask_answered me token number v (Refused code) = answered None v me asker (AskRefused token code)
 ask_answered me token number v (Planned plan) = answered plan.change plan.volatile me asker (Asked token number)
@@ -195,7 +195,7 @@ on_prepare me meta slot v from b p =
     then answered (Some (NewPromise p b)) v me from (Promise b p slot.accepted)
     else answered None v me from (Nack b p (promised_at meta slot))
 
--- for all positions: beside what it accepted at p it tells from where on it accepted nothing (section 3)
+-- for all positions: beside what it accepted at p it reports from where on it accepted nothing (section 3)
 unfoldable pub on_prepare_all : {C : Type 0} → (me : ℕ) → Meta → Slot C → (top : ℕ) → Volatile C →
     (from b p : ℕ) → Plan C
 on_prepare_all me meta slot top v from b p =
@@ -203,7 +203,7 @@ on_prepare_all me meta slot top v from b p =
     then answered (Some (NewFloor b)) v me from (PromiseAll b p top slot.accepted)
     else answered None v me from (Nack b p (promised_at meta slot))
 
--- it accepts unless it promised a higher ballot, and tells each learner
+-- it accepts unless it promised a higher ballot, and informs each learner
 unfoldable pub on_accept : {C : Type 0} → (n me : ℕ) → Meta → Slot C → Volatile C → (from b p : ℕ) →
     Entry C → Plan C
 on_accept n me meta slot v from b p e =
@@ -323,7 +323,7 @@ unfoldable pub on_learned : {C : Type 0} → (C → C → Bool) → Log C → Vo
 on_learned same learned v p e =
     if is_none (learned p) && in_window (front learned) p then learn same learned v p e else idle v
 
--- whoever asked is told the entry, if there is one
+-- the client is answered with the entry, if there is one
 abbrev pub need_of : {C : Type 0} → (me : ℕ) → Volatile C → (from p : ℕ) → Option (Entry C) → Plan C
 need_of me v from p None = idle v
 need_of me v from p (Some e) = answered None v me from (Learned p e)
@@ -332,7 +332,7 @@ need_of me v from p (Some e) = answered None v me from (Learned p e)
 unfoldable pub on_need : {C : Type 0} → (me : ℕ) → Log C → Volatile C → (from p : ℕ) → Plan C
 on_need me learned v from p = need_of me v from p (learned p)
 
--- ---- a refusal tells of a higher ballot (2.2, last paragraph)
+-- ---- a refusal names a higher ballot (2.2, last paragraph)
 
 -- the attempt, unless it is that with this ballot at this position
 abbrev pub drop_attempt : {C : Type 0} → (b p : ℕ) → Option (Attempt C) → Option (Attempt C)

@@ -1,4 +1,4 @@
--- Worked runs, each with its whole outcome. Messages stand in the order of sending: a message's number is its
+-- Worked runs, each with its whole outcome. Messages are in the order of sending: a message's number is its
 -- place in the list, counted from 0. A command is a number here.
 use Rattle.std.specs.Prelude.{◌≡◌, ℕ, suc, zero, List, [], ◌∷◌, ◌++◌, length, Option, Some, None}
 use Rattle.std.specs.Prelude.{nat_eq}
@@ -15,7 +15,7 @@ abbrev pub joined : {X : Type 0} → List (List X) → List X
 joined [] = []
 joined (xs ∷ rest) = xs ++ joined rest
 
--- the world after these events at so many members
+-- the world after these events at that many members
 abbrev pub world : (members : ℕ) → List (List (Event ℕ)) → World ℕ
 world n events = world_after nat_eq n (joined events)
 
@@ -38,7 +38,7 @@ abbrev pub deliver : (numbers : List ℕ) → List (Event ℕ)
 deliver [] = []
 deliver (k ∷ ks) = Runs (Deliver k) ∷ deliver ks
 
--- the numbers from k on, so many of them
+-- the numbers from k on, that many of them
 abbrev pub from : (k many : ℕ) → List ℕ
 from k zero = []
 from k (suc many) = k ∷ from (suc k) many
@@ -267,11 +267,11 @@ told_of_a_top =
     tick 0 ∷ deliver (14 ∷ []) ∷
     tick 1 ∷ deliver (20 ∷ 21 ∷ 23 ∷ 24 ∷ []) ∷ deliver (25 ∷ 26 ∷ 29 ∷ 32 ∷ []) ∷ []
 
--- its lead begins above position 1, so it prepares anew, and is told what was accepted there
+-- its lead begins above position 1, so it prepares anew, and learns what was accepted there
 abbrev pub above_the_top : List (List (Event ℕ))
 above_the_top = told_of_a_top ++ tick 1 ∷ deliver (34 ∷ 35 ∷ 37 ∷ 38 ∷ []) ∷ []
 
--- 1 was told that position 1 has something accepted: it prepares there anew, and proposes that
+-- 1 heard that position 1 has something accepted: it prepares there anew, and proposes that
 pub record NoLeadBelowACountedTop : Type 0 where
   pub front_before : front_of (world 3 told_of_a_top) 1 ≡ 1
   pub sent : (world 3 above_the_top).sent ≡ joined (first_sent ++

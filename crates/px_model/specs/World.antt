@@ -45,7 +45,7 @@ start = record {
   asked = [];
 }
 
--- What comes to a member: a command, asked by a call or from outside; its clock; the k-th message ever sent.
+-- What a member receives: a command, asked by a call or from outside; its clock; the k-th message ever sent.
 pub data Action (C : Type 0) : Type 0 where
   Ask : (member : ℕ) (command : C) → Action C
   AskFrom : (member token : ℕ) (command : C) → Action C

@@ -13,7 +13,7 @@ use crate::record::{Meta, Proposal, Slot};
 /// Rounds and numbers are below 2^48.
 const NUMBERS: u64 = 1 << 48;
 
-/// Whether one of so many members made the ballot.
+/// Whether one of that many members made the ballot.
 fn is_ballot(members: u8, ballot: u64) -> bool
     ensures { IsTrue result ↔ IsBallot members ballot }
 {
@@ -29,7 +29,7 @@ fn is_promise(members: u8, ballot: u64) -> bool
 }
 
 impl EntryView<'_> {
-    /// Whether one of so many members took the command in, and its number is below 2^48. The command isn't looked at.
+    /// Whether one of that many members took the command in, and its number is below 2^48. The command isn't looked at.
     pub fn fits(&self, members: u8) -> bool
         ensures exact { IsTrue result ↔ EntryFits AnyCommand members (view_of self.now) }
         ensures spelled { (test : Bytes → Bool) → IsTrue result → test (view_of self.now).command ≡ true →
@@ -39,7 +39,7 @@ impl EntryView<'_> {
     }
 }
 
-/// Whether the ballot is one of so many members, not above what is promised, and the entry fits.
+/// Whether the ballot is one of that many members, not above what is promised, and the entry fits.
 fn is_accepted(members: u8, promised: u64, proposal: &Proposal<Entry>) -> bool
     ensures exact { IsTrue result ↔
         (ProposalFits AnyCommand members (proposal_of proposal.now) × (proposal.now.ballot ≤ promised)) }
@@ -53,7 +53,7 @@ fn is_accepted(members: u8, promised: u64, proposal: &Proposal<Entry>) -> bool
 }
 
 impl Meta {
-    /// Whether the round is below 2^48, the number at most that, and the floor 0 or a ballot of one of so many members.
+    /// Whether the round is below 2^48, the number at most that, and the floor 0 or a ballot of one of that many members.
     pub fn fits(&self, members: u8) -> bool
         ensures { IsTrue result ↔ MetaFits members (meta_of self.now) }
     {
@@ -62,7 +62,7 @@ impl Meta {
 }
 
 impl Slot {
-    /// Whether what is promised is 0 or a ballot of one of so many members, and what is accepted has a ballot of theirs
+    /// Whether what is promised is 0 or a ballot of one of that many members, and what is accepted has a ballot of theirs
     /// that isn't above it, and an entry that fits. The entry's command isn't looked at.
     pub fn fits(&self, members: u8) -> bool
         ensures exact { IsTrue result ↔ SlotFits AnyCommand members (slot_of self.now) }

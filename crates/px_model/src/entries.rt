@@ -52,7 +52,7 @@ fn renamed_bytes(
 }
 
 impl Entry {
-    /// The entry that the view shows. Its bytes are copied. Fails for want of memory alone.
+    /// The entry that the view shows. Its bytes are copied. Fails for lack of memory alone.
     #[tactic(auto, unfolding(crate::specs::Entries::entry_of, crate::specs::Entries::view_of))]
     pub fn from_view(alloc: Global, view: &EntryView) -> Result<Entry, AllocError>
         ensures { IfOk result (λ e. entry_of e ≡ view_of view.now) }
@@ -66,7 +66,7 @@ impl Entry {
         })
     }
 
-    /// The command of the view's entry, taken in by this member as this number. Fails for want of memory alone.
+    /// The command of the view's entry, taken in by this member as this number. Fails for lack of memory alone.
     #[tactic(auto, unfolding(crate::specs::Entries::entry_of, crate::specs::Entries::view_of), using(crate::proofs::Commands::renamed_command, crate::proofs::Commands::renamed_again, crate::proofs::Commands::renamed_long))]
     pub fn named(
         alloc: Global,
@@ -87,7 +87,7 @@ impl Entry {
         })
     }
 
-    /// One owner more of the same bytes. Fails for want of memory, or where there are 2^64 owners.
+    /// One owner more of the same bytes. Fails for lack of memory, or where there are 2^64 owners.
     #[tactic(auto, unfolding(crate::specs::Entries::entry_of))]
     pub fn share(&self) -> Result<Entry, AllocError>
         ensures { IfOk result (λ e. entry_of e ≡ entry_of self.now) }
@@ -165,7 +165,7 @@ fn number_in(bytes: &[u8]) -> u64
 
 impl<'a> EntryView<'a> {
     /// The entry that the bytes spell, as far as they say who took its command in and as which number; none where they
-    /// are fewer than ten. What stands behind them isn't looked at.
+    /// are fewer than ten. What is behind them isn't looked at.
     #[tactic(auto, unfolding(crate::specs::Spelling::entry_in, crate::specs::Entries::view_of), using(crate::proofs::Commands::read_again, crate::proofs::Commands::spelling_is))]
     pub fn read(bytes: &'a [u8]) -> Option<EntryView<'a>>
         ensures entry { option_map view_of result ≡ entry_in bytes.now }

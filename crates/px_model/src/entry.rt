@@ -16,7 +16,7 @@ pub struct Entry {
     ghost is_spelled: { renamed bytes.value.items origin number ≡ bytes.value.items },
 }
 
-/// An entry whose spelling lies in bytes that somebody else owns, as in a datagram.
+/// An entry whose spelling is in bytes that somebody else owns, as in a datagram.
 #[derive(Clone, Copy)]
 pub struct EntryView<'a> {
     pub(crate) origin: u8,

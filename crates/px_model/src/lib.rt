@@ -2,7 +2,7 @@
 //!
 //! # Organization
 //!
-//! - The definitions stand in `specs/`: `Node` (what a member keeps and sends), `Step` (what it does with an input),
+//! - The definitions are in `specs/`: `Node` (what a member keeps and sends), `Step` (what it does with an input),
 //!   `World` (the members, their messages and failures), `Law` (what is said of every run), `Reach` (how far a log
 //!   goes), `Fits` (what can be spelled), `Worked`, `Cases`, `MoreCases` and `FitsCases` (runs, steps and messages,
 //!   computed).
@@ -13,6 +13,59 @@
 //!   say what each stands for.
 //!
 //! Source: Lamport, "Paxos Made Simple" (2001).
+//!
+//! # Why
+//!
+//! - Where the paper of Lamport leaves a choice, or where two readings were possible, these are taken; the
+//!   definitions are in `crates/px_model/specs/`.
+//! - The type of commands is a parameter of all definitions and laws, and so is a test of their equality. The laws
+//!   ask that the test be right. So entries can later be compared as bytes or as values, and no law changes.
+//! - An entry leaves those that wait when an entry equal in origin, number and command is learned. One with the
+//!   same origin and number and another command would stay; by the law `once` there is no such entry.
+//! - A request's refusals come in the order 60 (64 entries wait), 62 (every position is learned), 62 (every number
+//!   is used). That a command has no spelling is refused by the caller, before the step.
+//! - A request that comes as a message, from outside the cluster, is a request like any other. The step answers it,
+//!   `Asked` with the entry's number or `AskRefused` with 60 or 62, to 255. These two are in the step's messages
+//!   and not in the world's list of messages, since no member ever gets them. In the world such a request is an
+//!   action of its own, so every call of a node is an event of the world.
+//! - Votes are kept at the 64 positions from the present front on. A vote elsewhere is forgotten, kept ballots
+//!   below the front are dropped, and those of positions that come in are 0.
+//! - What is kept of a vote is its ballot. The entry that is learned is that of the vote that completes the
+//!   majority: no ballot carries two entries at a position, so it doesn't matter whose vote that is. A vote not
+//!   above the kept ballot isn't kept, but it is still asked whether its own ballot has a majority.
+//! - A member's promise counts once. If it comes again, its top isn't counted again, and a proposal that it tells
+//!   is weighed like any other. Of two reported proposals with one ballot the earlier is kept.
+//! - At a majority of promises the lead is set even where there is nothing to propose and the attempt ends.
+//! - A tick uses a lead only where it begins at or below the front, and then moves it to the position after the
+//!   front. Where it begins above, the tick drops it and begins a round; if no round is left (61), lead and attempt
+//!   stay. With nothing waiting both stay, and only `Need` is sent.
+//! - A refusal (`Nack`) always raises the highest round heard of, drops an attempt only if ballot and position are
+//!   the attempt's, and drops a lead if the ballot is the lead's.
+//! - `Prepare` and `PrepareAll` that come again are refused, since their ballot is then no longer above what is
+//!   promised.
+//! - No node sends `Prepare`: `PrepareAll` has taken its place. It is answered as ever; `Promise` does nothing.
+//! - Acceptors answer at every position, without a window, and `Need` is answered at every learned position.
+//! - What an acceptor promised at all positions (`floor`) and at one are kept apart, and the greater counts.
+//! - A stop after an action without a change, or after one that is refused, stops the member and does nothing else.
+//!   A restart of a running member empties its volatile part.
+//! - An entry counts as chosen by the votes that were sent, as in the paper's 2.3, and not by what acceptors have
+//!   recorded: a member that stops between its commit and its votes hasn't voted. What it accepted still binds
+//!   every later ballot: the core of the proof speaks of all proposals ever accepted.
+//! - A stop after an action that learns has learned: the entry is in the record and in the list of what was ever
+//!   learned.
+//! - The record's maps by position are functions and the world's lists are lists, not sets: "ever" is membership in
+//!   a list, and the list of requests has no element twice.
+//! - `laws` says two things more than the agreement and once: `kept`, which ties the list of what was ever learned
+//!   to the members' records, and `same_state`, stated over any function and any two moments of a run.
+//! - That messages can be spelled is said of numbers, in px_model, with the command's spelling as a test that
+//!   everything takes as an argument: so the protocol's definitions know no bytes, and whoever spells puts in that
+//!   the whole entry has 1 to 32,768 bytes.
+//! - `RecordFits` also says that nothing was accepted or learned past the last position. The top is looked for
+//!   below it, so a proposal accepted there would be left out; no run has one.
+//! - The worked cases are contracts of functions without a body in `px_model::worked`, not tests: they are checked
+//!   with the crate, without being run, and a crate with tests is proved twice.
+//! - Functions of `laws` and `worked` have no body that an edit could turn: their contracts speak of definitions
+//!   alone. So px_model has no must-fail edits, and what a wrong definition does is in proofs/Lib.antt.
 #![tactic(auto)]
 
 mod bounds;

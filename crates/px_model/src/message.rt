@@ -1,4 +1,4 @@
-//! What comes to a member, and what it sends.
+//! What a member receives, and what it sends.
 use crate::entry::EntryView;
 use crate::record::Proposal;
 

@@ -28,7 +28,7 @@ pub struct Proposal<E> {
 /// Source: Paxos Made Simple, 2.2 and 3.
 #[derive(Drop)]
 pub struct Slot {
-    /// The ballot promised there, 0 for none. That promised at all positions stands in [`Meta`].
+    /// The ballot promised there, 0 for none. That promised at all positions is in [`Meta`].
     pub promised: u64,
     /// The accepted proposal of highest ballot.
     pub accepted: Option<Proposal<Entry>>,

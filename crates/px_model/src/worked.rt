@@ -51,7 +51,7 @@ pub fn nothing_after_the_last_position()
     ensures { NothingAfterTheLastPosition }
 {}
 
-/// Whoever asks from outside the cluster is told the entry's number, or the refusal.
+/// A client is answered with the entry's number, or the refusal.
 pub fn an_asker_is_told()
     ensures { AnAskerIsTold }
 {}
@@ -91,7 +91,7 @@ pub fn a_proposal_from_nothing()
     ensures { AProposalFromNothing }
 {}
 
-/// What is missed is told where it was learned, and nowhere else.
+/// What is missed is sent where it was learned, and nowhere else.
 pub fn need_is_answered()
     ensures { NeedIsAnswered }
 {}
@@ -106,7 +106,7 @@ pub fn nothing_is_learned_twice()
     ensures { NothingIsLearnedTwice }
 {}
 
-/// A promise at one position binds every request there, and what was accepted there is told and kept.
+/// A promise at one position binds every request there, and what was accepted there is reported and kept.
 pub fn a_promise_here_binds_too()
     ensures { APromiseHereBindsToo }
 {}
@@ -131,7 +131,7 @@ pub fn ballots_that_fit()
     ensures { BallotsThatFit }
 {}
 
-/// Positions end at 999,999 and tops at 1,000,000; entries are members' own, and only an asker asks and is told.
+/// Positions end at 999,999 and tops at 1,000,000; entries are members' own, and only a client asks and is answered.
 pub fn others_that_fit()
     ensures { OthersThatFit }
 {}

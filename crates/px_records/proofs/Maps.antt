@@ -68,7 +68,7 @@ module _ (old new : Log Bytes) (q : ℕ) (e : Entry Bytes) (done : (p : ℕ) →
 pub end_same : (old new : Log Bytes) → ((p : ℕ) → new p ≡ old p) → (end : ℕ) → IsEnd old end → IsEnd new end
 end_same old new same end h = subst (λ (f : Log Bytes). IsEnd f end) (sym (fun_ext same)) h
 
--- what is learned stands below the bound of positions
+-- what is learned is below the bound of positions
 pub end_within : (bound : ℕ) (log : Log Bytes) → ((p : ℕ) (e : Entry Bytes) → log p ≡ Some e → p < bound) → (end : ℕ) → IsEnd log end → end ≤ bound
 end_within bound log fits zero h = omega arith
 end_within bound log fits (suc last) h = last_within (log last) refl h.0 where

@@ -23,7 +23,7 @@ pub enum When {
 }
 
 /// A record of which one commit fails, and then every call. It shows what a failure leaves: a test counts the commit
-/// that fails upwards until none does. A commit that is to fail after its change, and for which memory is wanting,
+/// that fails upwards until none does. A commit that is to fail after its change, and for which memory runs out,
 /// answers that, and is still to come.
 #[derive(Drop)]
 pub struct FaultyRecords<R> {

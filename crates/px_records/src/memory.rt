@@ -37,7 +37,7 @@ pub struct MemoryRecords {
 }
 
 impl MemoryRecords {
-    /// The empty record of one of so many members. It takes no memory.
+    /// The empty record of one of that many members. It takes no memory.
     pub fn new(alloc: Global, members: u8) -> MemoryRecords
         ensures empty { ⟦<MemoryRecords as Records>⟧.stored result ≡ nothing_stored }
         ensures same { ⟦<MemoryRecords as Records>⟧.members result ≡ members }

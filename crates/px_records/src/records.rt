@@ -20,7 +20,7 @@ pub enum StoreFault {
     #[error("out of memory")]
     Memory,
     /// 70: the store has failed, at this call or before. Every later call answers the same and changes nothing; a call
-    /// that commits has made its change whole or not at all, and which of the two only the next opening tells.
+    /// that commits has made its change whole or not at all, and which of the two only the next opening shows.
     #[error("the store has failed")]
     Failed,
     /// 72: what is read is a row that no commit writes. Nothing has changed.

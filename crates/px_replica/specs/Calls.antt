@@ -104,7 +104,7 @@ pub record IsLost {R : Type 0} {G : Ghosts R} (s t : Replica R G) (old new : Lis
   pub still : t ≡ s
   pub silent : new ≡ old
 
--- nobody's datagram is passed over, and its first fault is told: nothing changes, and nothing is sent
+-- nobody's datagram is passed over, and its first fault is reported: nothing changes, and nothing is sent
 pub record IsPassedOver {R : Type 0} {G : Ghosts R} (s t : Replica R G) (bytes : Bytes) (old new : List Datagram)
     (result : Result Received NodeFault) : Type 0 where
   pub works : has_failed s ≡ false

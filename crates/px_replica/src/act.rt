@@ -54,7 +54,7 @@ fn core_fault(fault: CoreFault) -> NodeFault
     }
 }
 
-/// What a step tells of the record: the next number before it, the round after it.
+/// What a step reports of the record: the next number before it, the round after it.
 #[derive(Clone, Copy)]
 pub(crate) struct Acted {
     pub(crate) number: u64,

@@ -118,7 +118,7 @@ impl Member {
         self.core.settle(plan)
     }
 
-    /// As a member starts: its record has this entry as learned at the position. Want of memory leaves all as it was.
+    /// As a member starts: its record has this entry as learned at the position. Out of memory leaves all as it was.
     pub(crate) fn remember(&mut self, position: u32, entry: Entry) -> Result<(), AllocError>
         requires position { position < positions }
         requires nothing { volatile_of self.old ≡ nothing_volatile }

@@ -5,5 +5,4 @@ pub mod Groups
 pub mod Wiring
 pub mod Laws
 pub mod Texts
-pub mod Outside
 pub mod inner

@@ -6,7 +6,6 @@
 //! - [`group_key`]: the key of a cluster's tags, made of its secret, its number and its members' addresses.
 //!   [`parse_key`]: a secret of 64 hexadecimal digits.
 //! - [`hmac_sha256`]: the tag of a message under a key, of RFC 2104 with SHA-256. [`HmacKey`]: a key made ready once.
-//! - [`MembersWire`]: any wire, on which members alone are heard.
 //! - [`laws`]: what was sealed is opened as it was, nothing else is opened, and another group has other bytes.
 //! - `specs/Hmac`, `specs/Seals` and `specs/Groups` say what a tag, a sealed datagram and a cluster's key are.
 #![tactic(auto)]
@@ -15,7 +14,6 @@ mod group;
 mod hmac;
 mod key;
 pub mod laws;
-mod members;
 mod seal;
 mod text;
 mod wire;
@@ -23,6 +21,5 @@ mod wire;
 pub use group::group_key;
 pub use hmac::hmac_sha256;
 pub use key::HmacKey;
-pub use members::MembersWire;
 pub use text::parse_key;
 pub use wire::SealedWire;

@@ -213,30 +213,6 @@ impl<W: Wire> Wire for SealedWire<W> {
         self.inner.send(to, self.room.as_slice())
     }
 
-    fn repeat(&mut self, front: u32)
-        ensures keys { (keys_of self.new ≡ keys_of self.old) × (dropped_of self.new ≡ dropped_of self.old) }
-        ensures given { given_through (W.given (inner_of self.new)) self.new ≡
-            given_through (W.given (inner_of self.old)) self.old }
-        ensures quiet { handed_through (W.handed (inner_of self.new)) self.new ≡
-            handed_through (W.handed (inner_of self.old)) self.old }
-        ensures counts { failures_of (W.failed (inner_of self.old)) self.old ≤
-            failures_of (W.failed (inner_of self.new)) self.new }
-    {
-        self.inner.repeat(front);
-    }
-
-    fn repeat_to(&mut self, to: u8, front: u32)
-        ensures keys { (keys_of self.new ≡ keys_of self.old) × (dropped_of self.new ≡ dropped_of self.old) }
-        ensures given { given_through (W.given (inner_of self.new)) self.new ≡
-            given_through (W.given (inner_of self.old)) self.old }
-        ensures quiet { handed_through (W.handed (inner_of self.new)) self.new ≡
-            handed_through (W.handed (inner_of self.old)) self.old }
-        ensures counts { failures_of (W.failed (inner_of self.old)) self.old ≤
-            failures_of (W.failed (inner_of self.new)) self.new }
-    {
-        self.inner.repeat_to(to, front);
-    }
-
     fn failures(&self) -> u64 {
         self.inner.failures().saturating_add(self.missed)
     }

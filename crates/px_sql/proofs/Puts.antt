@@ -287,7 +287,7 @@ refused old new sql params e auto settled (inr h) = elim (cases_Bool (shows_rows
   | inr runs ↦ elim (rw runs at h.2) [ inl same ↦ unchanged old new auto settled same.1 | inr failed ↦ undone old new (fails old new _ e failed) ]
 ]
 
--- where memory was wanting and the connection still serves, nothing changed
+-- when out of memory and the connection still serves, nothing changed
 pub served : (old mid new : State) → (IsTrue old.is_open → old.now ≡ old.committed) → Stays old mid → Serves mid new → IsStill old new
 served s m t settled stays serves =
     let begun = settled (stays.was_open serves.was_open) in record {

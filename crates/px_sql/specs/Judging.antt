@@ -39,7 +39,7 @@ abbrev pub says_numbers : Row → Bool
 says_numbers r = is_number (column r 5) && (is_number (column r 6) &&
     (nat_lt (number_in (column r 5)) (2 ^ 48) && nat_le (number_in (column r 6)) (2 ^ 48)))
 
--- the node that opens is this one, of this cluster with so many members
+-- the node that opens is this one, of this cluster with that many members
 abbrev pub is_owner : Identity → (cluster members node : ℕ) → Bool
 is_owner i cluster members node =
     nat_eq cluster i.cluster && (nat_eq members i.members && nat_eq node i.node)

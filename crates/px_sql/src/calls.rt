@@ -22,7 +22,7 @@ pub struct Identity {
     pub node: u8,
 }
 
-/// Why a statement failed: for want of memory, with nothing changed and the connection serving, or else.
+/// Why a statement failed: for lack of memory, with nothing changed and the connection serving, or else.
 #[derive(Clone, Copy, PartialEq, Eq)]
 pub(crate) enum Trouble {
     Memory,
@@ -40,7 +40,7 @@ fn is_memory(error: &Error) -> bool {
     matches!(error, Error::SqliteFailure(ErrorCode::OutOfMemory))
 }
 
-/// Whether memory was wanting and the connection still serves: it reads an empty text.
+/// Whether memory ran out and the connection still serves: it reads an empty text.
 pub(crate) fn cause_of<S: Alter>(conn: &mut Connection<S>, error: Error) -> Trouble
     ensures serves { HasCleanDisk (state S.Store conn.new) → result ≡ Trouble.Memory →
         Serves (state S.Store conn.old) (state S.Store conn.new) }
@@ -133,7 +133,7 @@ fn run<S: Alter>(
     }
 }
 
-/// Puts a row, in a transaction of its own. The identity stands in the row for the whole node alone, the bytes in those
+/// Puts a row, in a transaction of its own. The identity is in the row for the whole node alone, the bytes in those
 /// of slots and of what is learned.
 pub(crate) fn put<S: Alter>(
     conn: &mut Connection<S>,

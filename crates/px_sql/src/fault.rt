@@ -3,7 +3,7 @@ ghost use Rattle.px_sql.specs.Adopting.{code_of};
 
 use thiserror::Error;
 
-/// Why a store isn't taken. Where more than one holds, the first of 70, 73, 72, 71 is told.
+/// Why a store isn't taken. Where more than one holds, the first of 70, 73, 72, 71 is reported.
 #[derive(Clone, Copy, Debug, PartialEq, Eq, Error)]
 pub enum AdoptFault {
     /// Memory is wanting. The store shows the record that it showed.
@@ -26,7 +26,7 @@ pub enum AdoptFault {
 }
 
 impl AdoptFault {
-    /// The number of the refusal, none for want of memory.
+    /// The number of the refusal, none for lack of memory.
     pub fn code(&self) -> Option<u8>
         ensures { result ≡ code_of self.now }
     {

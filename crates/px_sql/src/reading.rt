@@ -31,7 +31,7 @@ pub(crate) const NUMBERS: u64 = 281_474_976_710_656;
 /// The integers of a store are below it.
 pub(crate) const INTEGERS: u64 = 9_223_372_036_854_775_808;
 
-/// Why a row isn't read: for want of memory, or since no commit writes it.
+/// Why a row isn't read: for lack of memory, or since no commit writes it.
 #[derive(Clone, Copy, PartialEq, Eq)]
 pub(crate) enum ReadFault {
     Memory,

@@ -151,50 +151,6 @@ impl<W: Wire> Wire for FaultyWire<W> {
         self.inner.send(to, bytes)
     }
 
-    fn defer_asks(&mut self, is_deferred: bool)
-        ensures rest { (sends_left self.new ≡ sends_left self.old) × (recvs_left self.new ≡ recvs_left self.old) ×
-            (period_of self.new ≡ period_of self.old) × (missed_of self.new ≡ missed_of self.old) }
-        ensures given { W.given (inner_of self.new) ≡ W.given (inner_of self.old) }
-        ensures quiet { W.handed (inner_of self.new) ≡ W.handed (inner_of self.old) }
-        ensures counts { failures_of (W.failed (inner_of self.old)) self.old ≤
-            failures_of (W.failed (inner_of self.new)) self.new }
-    {
-        self.inner.defer_asks(is_deferred);
-    }
-
-    fn release(&mut self, number: u64)
-        ensures rest { (sends_left self.new ≡ sends_left self.old) × (recvs_left self.new ≡ recvs_left self.old) ×
-            (period_of self.new ≡ period_of self.old) × (missed_of self.new ≡ missed_of self.old) }
-        ensures given { W.given (inner_of self.new) ≡ W.given (inner_of self.old) }
-        ensures quiet { W.handed (inner_of self.new) ≡ W.handed (inner_of self.old) }
-        ensures counts { failures_of (W.failed (inner_of self.old)) self.old ≤
-            failures_of (W.failed (inner_of self.new)) self.new }
-    {
-        self.inner.release(number);
-    }
-
-    fn repeat(&mut self, front: u32)
-        ensures rest { (sends_left self.new ≡ sends_left self.old) × (recvs_left self.new ≡ recvs_left self.old) ×
-            (period_of self.new ≡ period_of self.old) × (missed_of self.new ≡ missed_of self.old) }
-        ensures given { W.given (inner_of self.new) ≡ W.given (inner_of self.old) }
-        ensures quiet { W.handed (inner_of self.new) ≡ W.handed (inner_of self.old) }
-        ensures counts { failures_of (W.failed (inner_of self.old)) self.old ≤
-            failures_of (W.failed (inner_of self.new)) self.new }
-    {
-        self.inner.repeat(front);
-    }
-
-    fn repeat_to(&mut self, to: u8, front: u32)
-        ensures rest { (sends_left self.new ≡ sends_left self.old) × (recvs_left self.new ≡ recvs_left self.old) ×
-            (period_of self.new ≡ period_of self.old) × (missed_of self.new ≡ missed_of self.old) }
-        ensures given { W.given (inner_of self.new) ≡ W.given (inner_of self.old) }
-        ensures quiet { W.handed (inner_of self.new) ≡ W.handed (inner_of self.old) }
-        ensures counts { failures_of (W.failed (inner_of self.old)) self.old ≤
-            failures_of (W.failed (inner_of self.new)) self.new }
-    {
-        self.inner.repeat_to(to, front);
-    }
-
     fn failures(&self) -> u64 {
         self.inner.failures().saturating_add(self.missed)
     }

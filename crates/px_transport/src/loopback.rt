@@ -180,50 +180,6 @@ impl<W: Wire> Wire for LoopbackWire<W> {
         self.below.send(to, bytes)
     }
 
-    fn defer_asks(&mut self, is_deferred: bool)
-        ensures kept { (kept_of self.new ≡ kept_of self.old) × (me_of self.new ≡ me_of self.old) }
-        ensures given { given_past (W.given (below_of self.new)) self.new ≡
-            given_past (W.given (below_of self.old)) self.old }
-        ensures quiet { handed_past (W.handed (below_of self.new)) self.new ≡
-            handed_past (W.handed (below_of self.old)) self.old }
-        ensures counts { W.failed (below_of self.old) ≤ W.failed (below_of self.new) }
-    {
-        self.below.defer_asks(is_deferred);
-    }
-
-    fn release(&mut self, number: u64)
-        ensures kept { (kept_of self.new ≡ kept_of self.old) × (me_of self.new ≡ me_of self.old) }
-        ensures given { given_past (W.given (below_of self.new)) self.new ≡
-            given_past (W.given (below_of self.old)) self.old }
-        ensures quiet { handed_past (W.handed (below_of self.new)) self.new ≡
-            handed_past (W.handed (below_of self.old)) self.old }
-        ensures counts { W.failed (below_of self.old) ≤ W.failed (below_of self.new) }
-    {
-        self.below.release(number);
-    }
-
-    fn repeat(&mut self, front: u32)
-        ensures kept { (kept_of self.new ≡ kept_of self.old) × (me_of self.new ≡ me_of self.old) }
-        ensures given { given_past (W.given (below_of self.new)) self.new ≡
-            given_past (W.given (below_of self.old)) self.old }
-        ensures quiet { handed_past (W.handed (below_of self.new)) self.new ≡
-            handed_past (W.handed (below_of self.old)) self.old }
-        ensures counts { W.failed (below_of self.old) ≤ W.failed (below_of self.new) }
-    {
-        self.below.repeat(front);
-    }
-
-    fn repeat_to(&mut self, to: u8, front: u32)
-        ensures kept { (kept_of self.new ≡ kept_of self.old) × (me_of self.new ≡ me_of self.old) }
-        ensures given { given_past (W.given (below_of self.new)) self.new ≡
-            given_past (W.given (below_of self.old)) self.old }
-        ensures quiet { handed_past (W.handed (below_of self.new)) self.new ≡
-            handed_past (W.handed (below_of self.old)) self.old }
-        ensures counts { W.failed (below_of self.old) ≤ W.failed (below_of self.new) }
-    {
-        self.below.repeat_to(to, front);
-    }
-
     fn failures(&self) -> u64 {
         self.below.failures()
     }

@@ -4,7 +4,8 @@ ghost use Rattle.std.specs.Prelude.{◌≡◌, ◌≤◌, ℕ, List, Option, IfS
 ghost use Rattle.px_transport.specs.Wires.{Gives, Grows, Counts};
 
 /// Where datagrams come from and go to. Members are told apart by their numbers; 255 is whoever sent the datagram that
-/// came last. A datagram that isn't sent is lost, as it may be on its way: nothing else follows from it.
+/// came last. A datagram that isn't sent is lost, as it may be on its way: nothing else follows from it. A wire sends
+/// what it is handed and nothing of its own: what is sent again, px_resend hands to it again.
 pub trait Wire {
     // what `recv` and `poll` gave so far, where the wire tells
     ghost given: { Self → Option (List (List ℕ)) };
@@ -30,7 +31,7 @@ pub trait Wire {
         ensures quiet { handed self.new ≡ handed self.old }
         ensures counts { failed self.old ≤ failed self.new };
 
-    /// Waits until something has come or so many milliseconds have passed, and takes nothing.
+    /// Waits until something has come or the given number of milliseconds has passed, and takes nothing.
     fn wait(&mut self, milliseconds: u32)
         ensures given { given self.new ≡ given self.old }
         ensures quiet { handed self.new ≡ handed self.old }
@@ -41,38 +42,6 @@ pub trait Wire {
         ensures handed { Grows (handed self.old) (to, bytes.now) (handed self.new) }
         ensures quiet { given self.new ≡ given self.old }
         ensures counts { Counts result (failed self.old) (failed self.new) };
-
-    /// Whether what is asked from outside is kept back from now on, where the wire can do that: then it is given later,
-    /// as a datagram may be late.
-    fn defer_asks(&mut self, _is_deferred: bool)
-        ensures given { given self.new ≡ given self.old }
-        ensures quiet { handed self.new ≡ handed self.old }
-        ensures counts { failed self.old ≤ failed self.new }
-    {}
-
-    /// What was taken in as this request of the member is learned: an answer that the wire held back for it goes out,
-    /// as a datagram may be late.
-    fn release(&mut self, _number: u64)
-        ensures given { given self.new ≡ given self.old }
-        ensures quiet { handed self.new ≡ handed self.old }
-        ensures counts { failed self.old ≤ failed self.new }
-    {}
-
-    /// What was sent of the positions from this one on, and may be lost, is sent again, where the wire keeps it: a
-    /// datagram may come twice.
-    fn repeat(&mut self, _front: u32)
-        ensures given { given self.new ≡ given self.old }
-        ensures quiet { handed self.new ≡ handed self.old }
-        ensures counts { failed self.old ≤ failed self.new }
-    {}
-
-    /// What was sent to this member of the positions from this one on is sent to it again, since it may lack them,
-    /// where the wire keeps it: a datagram may come twice.
-    fn repeat_to(&mut self, _to: u8, _front: u32)
-        ensures given { given self.new ≡ given self.old }
-        ensures quiet { handed self.new ≡ handed self.old }
-        ensures counts { failed self.old ≤ failed self.new }
-    {}
 
     /// How many sends were answered `false`, and how many faults the receives and waits met, up to 2^64 - 1.
     fn failures(&self) -> u64

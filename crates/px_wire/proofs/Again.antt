@@ -29,7 +29,7 @@ end_clear end bytes le =
     let short : ltb end (length bytes) ≡ false = le-ltb _ _ le in
     rw short refl
 
--- what stands at an offset
+-- what is at an offset
 pub record Stands (w : Width) (at : ℕ) (bytes : List ℕ) (n : ℕ) (more : List ℕ) : Type 0 where
   pub is : number w at bytes ≡ n
   pub after : drop (at + byte_len w) bytes ≡ more

@@ -11,7 +11,7 @@ use Rattle.px_wire.specs.Message.{group, Lent, Message, prepare, promise, accept
 use Rattle.px_wire.specs.Message.{ask_refused, prepare_all, promise_all, is_member, is_asker, is_party, is_kind}
 use Rattle.px_wire.specs.Message.{is_ballot, is_ballot_of, is_position, is_top, is_number, is_refusal, is_accepted}
 
--- a field as it stands in given bytes
+-- a field as it is in given bytes
 pub record Field : Type 0 where
   pub at : ℕ
   pub len : ℕ
@@ -57,7 +57,7 @@ u32 at bytes = number w32 at bytes
 abbrev pub u64 : ℕ → List ℕ → ℕ
 u64 at bytes = number w64 at bytes
 
--- the field at this offset, of so many bytes, with its code; and whether its value is allowed
+-- the field at this offset, of that many bytes, with its code; and whether its value is allowed
 abbrev pub field : ℕ → ℕ → ℕ → Bool → Field
 field at len code allowed = record { at = at; len = len; code = code; allowed = allowed }
 
@@ -77,7 +77,7 @@ position at bytes = field at 4 57 (is_position (u32 at bytes))
 abbrev pub token : ℕ → List ℕ → Field
 token at bytes = field at 8 57 (is_number (u64 at bytes))
 
--- the bytes of the entry whose length stands at an offset
+-- the bytes of the entry whose length is at an offset
 abbrev pub entry_bytes : ℕ → List ℕ → List ℕ
 entry_bytes at bytes = take (u32 at bytes) (drop (at + 4) bytes)
 
@@ -203,11 +203,11 @@ WireFaultAt m bytes code offset = first_fault (fields m bytes) 0 bytes ≡ Some 
 
 -- ---- the message that the fields make
 
--- the entry whose length stands at an offset, if its bytes spell one
+-- the entry whose length is at an offset, if its bytes spell one
 abbrev pub entry_value : ℕ → List ℕ → Option Lent
 entry_value at bytes = lent_in (entry_bytes at bytes)
 
--- what a promise tells at an offset: none for ballot 0, else ballot and entry, if the entry can be read
+-- what a promise reports at an offset: none for ballot 0, else ballot and entry, if the entry can be read
 abbrev pub accepted_value : ℕ → List ℕ → Option (Option (ℕ × Lent))
 accepted_value at bytes =
     if u64 at bytes == 0 then Some None
@@ -217,7 +217,7 @@ accepted_value at bytes =
 abbrev pub prepare_value : List ℕ → Option Message
 prepare_value bytes = Some (prepare (u64 13 bytes) (u32 21 bytes))
 
--- the fields of Promise as a message, if what it tells can be read
+-- the fields of Promise as a message, if what it reports can be read
 abbrev pub promise_value : List ℕ → Option Message
 promise_value bytes = option_map (λ a. promise (u64 13 bytes) (u32 21 bytes) a) (accepted_value 25 bytes)
 
@@ -257,7 +257,7 @@ ask_refused_value bytes = Some (ask_refused (u64 13 bytes) (u8 21 bytes))
 abbrev pub prepare_all_value : List ℕ → Option Message
 prepare_all_value bytes = Some (prepare_all (u64 13 bytes) (u32 21 bytes))
 
--- the fields of PromiseAll as a message, if what it tells can be read
+-- the fields of PromiseAll as a message, if what it reports can be read
 abbrev pub promise_all_value : List ℕ → Option Message
 promise_all_value bytes =
     option_map (λ a. promise_all (u64 13 bytes) (u32 21 bytes) (u32 25 bytes) a) (accepted_value 29 bytes)

@@ -59,7 +59,7 @@ head_of from to (promise_all b p top a) = of_ballot from to kinds.PromiseAll b p
 -- ---- what a message shows of its sender
 
 -- the position below which it has learned all, by a message of this kind about this position, in 32 bits: who proposes
--- or votes at a position, or lacks it, has learned all below; who tells its entry has learned that too
+-- or votes at a position, or lacks it, has learned all below; who reports its entry has learned that too
 abbrev pub learned_by : Kind → (position : ℕ) → ℕ
 learned_by kinds.Prepare p = p
 learned_by kinds.PrepareAll p = p

@@ -15,7 +15,7 @@ pub record Group : Type 0 where
 abbrev pub group : Membership → Group
 group m = record { cluster = m.cluster; members = m.members }
 
--- an entry as it lies in a datagram: who asked, the number there, and the bytes that spell it
+-- an entry as it is in a datagram: who asked, the number there, and the bytes that spell it
 pub record Lent : Type 0 where
   pub origin : ℕ
   pub number : ℕ
@@ -124,7 +124,7 @@ is_top top = nat_le top 1000000
 abbrev pub is_number : ℕ → Bool
 is_number n = nat_lt n (2 ^ 48)
 
--- the number of a refusal that whoever asked is told: 60 or 62
+-- the number of a refusal that a client is answered with: 60 or 62
 abbrev pub is_refusal : ℕ → Bool
 is_refusal code = code == 60 || code == 62
 
@@ -143,7 +143,7 @@ pub record IsSpelling (x : Lent) : Type 0 where
 abbrev pub IsMembers : Group → Lent → Type 0
 IsMembers g e = IsSpelling e × IsTrue (is_member g e.origin)
 
--- what a promise of ballot b tells: nothing, or a proposal of a lower ballot, its entry a member's
+-- what a promise of ballot b reports: nothing, or a proposal of a lower ballot, its entry a member's
 abbrev pub IsReported : Group → ℕ → Option (ℕ × Lent) → Type 0
 IsReported g b None = Unit {0}
 IsReported g b (Some a) = IsTrue (is_ballot g a.0) × (a.0 < b) × IsMembers g a.1

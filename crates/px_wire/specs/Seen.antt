@@ -15,7 +15,7 @@ use Rattle.px_wire.specs.Fields.{Field, first_fault}
 abbrev pub lent_of : EntryView → Lent
 lent_of e = record { origin = (view_of e).origin; number = (view_of e).number; bytes = spelled (view_of e) }
 
--- the accepted proposal that a message in code tells, if it tells one: its ballot and its entry
+-- the accepted proposal that a message in code reports, if it reports one: its ballot and its entry
 abbrev pub accepted_of : Option (Proposal EntryView) → Option (ℕ × Lent)
 accepted_of None = None
 accepted_of (Some a) = Some (a.ballot, lent_of a.entry)

@@ -51,12 +51,12 @@ pub record EntryFits (IsOrigin : ℕ → Type 0) (x : Lent) : Type 0 where
 abbrev pub MembersFits : ℕ → Lent → Type 0
 MembersFits n x = EntryFits (λ o. o < n) x
 
--- what a promise of ballot b tells: nothing, or a proposal of a lower ballot
+-- what a promise of ballot b reports: nothing, or a proposal of a lower ballot
 abbrev pub ReportFits : (n b : ℕ) → Option (ℕ × Lent) → Type 0
 ReportFits n b None = Unit {0}
 ReportFits n b (Some a) = IsBallot n a.0 × (a.0 < b) × MembersFits n a.1
 
--- what a message tells, by its kind: what proposes has the sender's ballot, what answers it the addressee's,
+-- what a message reports, by its kind: what proposes has the sender's ballot, what answers it the addressee's,
 -- a vote any member's
 abbrev pub MessageFits : (n from to : ℕ) → Message → Type 0
 MessageFits n from to (prepare b p) = IsBallotOf n from b × IsPosition p
@@ -116,7 +116,7 @@ is_for_all (promise_all b p top a) = false
 abbrev pub AreBytes : List ℕ → Type 0
 AreBytes bytes = (i : ℕ) → slice_index_or bytes i 0 < 256
 
--- the bytes of the entry that a promise tells, none where it tells none
+-- the bytes of the entry that a promise reports, none where it reports none
 abbrev pub reported_bytes : Option (ℕ × Lent) → List ℕ
 reported_bytes None = []
 reported_bytes (Some a) = a.1.bytes

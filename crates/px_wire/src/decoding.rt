@@ -13,7 +13,7 @@ use crate::membership::Membership;
 use crate::reading::datagram_of;
 
 /// The sender and the message that the datagram spells for this member, or its first fault. Takes no memory: the
-/// message's entry lies in the bytes.
+/// message's entry is in the bytes.
 ///
 /// Errors are 50 to 57, the fields in order, and 56 at the first byte past the last field ([`WireFault`]).
 pub fn decode<'a>(m: &Membership, bytes: &'a [u8]) -> Result<(u8, MessageView<'a>), WireFault>

@@ -141,7 +141,7 @@ impl Head {
     }
 
     /// A position below which the sender has learned all, as its message shows: whoever proposes or votes at a
-    /// position, or lacks it, has learned all below, and whoever tells its entry has learned that too. 0 where the
+    /// position, or lacks it, has learned all below, and whoever reports its entry has learned that too. 0 where the
     /// message shows none.
     pub fn learned_below(&self) -> u32
         ensures { result ≡ learned_below self.now }

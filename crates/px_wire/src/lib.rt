@@ -49,6 +49,25 @@
 //!
 //! Fields are read in this order. A field whose bytes aren't all there is 50 at its offset, a value that isn't allowed
 //! is refused at its offset, and 56 is at the first byte after the last field.
+//!
+//! # Why
+//!
+//! - A datagram's fields are asked in their order, the code of the first fault is answered: 54 at 9, 10 and 11
+//!   before 55 at 12, for the kind's range and its rules on 255 alike, and then the body. An entry is one field of
+//!   its length: 50 at its first byte where its bytes aren't all there, else 57 there, for an origin too.
+//! - The fields of a promise for all positions are ballot, position, top, accepted, length, entry.
+//! - The message that is decoded is px_model's, whose entries are lent: it goes to a core as it is, and a core's
+//!   own message is lent to be encoded. A view of a message of its own would have to be turned into that, and its
+//!   contract with it.
+//! - In definitions an entry in a datagram is its origin, its number and its bytes. What the bytes say is
+//!   pf_entry's; px_wire's proofs open it once, where an entry is read.
+//! - `encode` takes a message that has a spelling, and no test is offered for it: a member shows it by its plan
+//!   (`encode_sent`), an asker by the entry that it encoded.
+//! - What goes to all members is encoded once; `address` changes the one byte that tells them apart.
+//! - A ballot in a message is one number, as in the record. `Ballot` is for whoever shows one.
+//! - A table's name in an entry is no word that rules of the first profile reserve, whichever profile a text has.
+//! - The text of a load is bytes. That it can be read as rules is asked when the entry takes effect, in every node
+//!   alike.
 #![tactic(auto)]
 
 mod addressing;
@@ -73,5 +92,5 @@ pub use kind::Kind;
 pub use membership::Membership;
 pub use px_model::{Entry, EntryView, Message, Proposal};
 
-/// A message as it is decoded: its entry lies in the datagram's bytes.
+/// A message as it is decoded: its entry is in the datagram's bytes.
 pub type MessageView<'a> = Message<EntryView<'a>>;

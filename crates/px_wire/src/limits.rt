@@ -34,7 +34,7 @@ pub(crate) const FIRST_BALLOT: u64 = 256;
 pub(crate) const BALLOTS: u64 = 0x100_0000_0000_0000;
 /// The last position.
 pub(crate) const LAST_POSITION: u32 = 999_999;
-/// The greatest top that a promise tells: nothing is accepted from there on.
+/// The greatest top that a promise reports: nothing is accepted from there on.
 pub(crate) const LAST_TOP: u32 = 1_000_000;
 /// The most bytes of an entry.
 pub(crate) const ENTRY_BYTES: u32 = 32_768;

@@ -228,7 +228,7 @@ fn entry_in(bytes: &[u8]) -> Option<EntryView<'_>>
     }
 }
 
-/// An entry of so many bytes, of whatever origin.
+/// An entry of that many bytes, of whatever origin.
 #[tactic(auto, unfolding(crate::specs::Fields::fault_of))]
 fn entry_of_len(bytes: &[u8], at: usize, len: usize) -> Result<EntryView<'_>, WireFault>
     requires at { at < 128 }

@@ -1,5 +1,5 @@
 //! Members of three, and datagrams that come to them, line by line: the stored input has the lines, the stored output
-//! what each comes to.
+//! what each gives.
 //!
 //! A line of the input is a form, a name and words:
 //!
@@ -8,10 +8,10 @@
 //!   which comes to its addressee. Written are all messages that were handed out, what each member shows, and what it
 //!   leaves in its record.
 //! - `until` and steps: the same, but that a refused call ends the run.
-//! - `stops` and steps: what the first member's record shows, opened again, behind the first so many steps, for each
+//! - `stops` and steps: what the first member's record shows, opened again, behind the first that many steps, for each
 //!   number of them; and where its first, second .. commit fails before its change or after it, until none fails. A
 //!   member that failed must refuse each further call and hand nothing out, else the line says `wrong`.
-//! - `encode`, a reader, digits and a number: the datagram with these digits and so many times `x`.
+//! - `encode`, a reader, digits and a number: the datagram with these digits and that many times `x`.
 //!
 //! Any other line is a name, who reads (a member of the three of cluster 7, or 255) and a datagram's bytes in
 //! hexadecimal digits; `scripts/datagram-rows` derives these lines, and what is written of them, from the formats. For
@@ -19,7 +19,7 @@
 //! the reader answers, runs of equal answers together. An answer is a fault's code and offset, or `same`: read, and
 //! written again as those bytes. A member's node gets each that is refused too, and must ignore it with that fault,
 //! hand out nothing, and stay as it was, else the answer is `wrong`. With a word `x1000` before the bytes they come to
-//! a new node so many times, and one line says what it did.
+//! a new node that many times, and one line says what it did.
 //!
 //! Of a `run`, `until` or `encode`, a call that finds no memory is made again: that is what `scripts/refused-memory`
 //! compares. Where a call finds no memory, nothing may be handed out, and the member must show what it showed before,
@@ -64,7 +64,7 @@ fn begun(alloc: Global, k: u64, when: When, is_once: bool) -> Option<Run<Kept>> 
     )
 }
 
-/// How many of the line's first so many steps were done, until one is refused. None where one can't be made.
+/// How many of the line's first that many steps were done, until one is refused. None where one can't be made.
 fn follow(run: &mut Run<Kept>, line: &str, most: usize) -> Option<u32> {
     let mut steps = 0u32;
     for word in line.split(' ').skip(2).take(most) {
@@ -92,7 +92,7 @@ fn write_done(rt: &HostRuntime, run: &Run<Kept>, steps: u32) -> io::Result<()> {
     println!(rt; "{steps} steps")
 }
 
-/// Writes what a line's run comes to.
+/// Writes what a line's run gives.
 fn write_run(rt: &HostRuntime, line: &str, is_once: bool) -> io::Result<()> {
     let Some(mut run) = begun(rt.alloc(), 0, When::Before, is_once) else {
         return println!(rt; "nothing");
@@ -119,7 +119,7 @@ fn write_row(rt: &HostRuntime, line: &str) -> io::Result<()> {
     each_byte(rt, &mut row)
 }
 
-/// Writes what a line comes to.
+/// Writes what a line gives.
 fn write_line(rt: &HostRuntime, line: &str) -> io::Result<()> {
     let (form, _) = line.split_once(' ').unwrap_or((line, ""));
     match form {

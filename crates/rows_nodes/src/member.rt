@@ -20,7 +20,7 @@ pub fn opened<R: Records + Drop>(alloc: Global, me: u8, records: R) -> Option<No
     Node::open(alloc, m, records).ok()
 }
 
-/// What comes to a member.
+/// What a member receives.
 #[derive(Clone, Copy)]
 pub enum Event<'a> {
     /// It is asked a command.
@@ -82,7 +82,7 @@ pub fn look<R: Records>(node: &Node<R>) -> Seen {
 /// What was refused so far.
 #[derive(Clone, Copy)]
 pub struct Tally {
-    /// Datagrams that were refused for want of memory.
+    /// Datagrams that were refused for lack of memory.
     pub datagrams: u32,
     /// Ticks that were.
     pub ticks: u32,
@@ -163,7 +163,7 @@ impl Tally {
         }
     }
 
-    /// The call was refused for want of memory.
+    /// The call was refused for lack of memory.
     fn count(&mut self, event: Event) {
         match event {
             Event::Asks(_) => self.commands = self.commands.saturating_add(1),
@@ -193,7 +193,7 @@ impl Tally {
     }
 }
 
-/// Makes the call, so often again as memory is wanting, or once: whether it was done.
+/// Makes the call, so often again as memory runs out, or once: whether it was done.
 pub fn take<R: Records>(
     node: &mut Node<R>,
     event: Event,

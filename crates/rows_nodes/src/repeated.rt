@@ -6,7 +6,7 @@ use crate::row::Row;
 use pf_node::{Datagram, Node, Received};
 use std::io;
 
-/// How many of the first so many positions are learned.
+/// How many of the first that many positions are learned.
 fn learned(node: &Node<Kept>, positions: u32) -> u32 {
     let mut count = 0u32;
     for position in 0..positions {

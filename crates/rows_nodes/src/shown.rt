@@ -1,4 +1,4 @@
-//! What a run comes to, as lines.
+//! What a run gives, as lines.
 
 use crate::member::{Seen, Tally, look};
 use pf_node::{Datagram, Node};

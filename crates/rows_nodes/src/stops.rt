@@ -47,7 +47,7 @@ fn write_steps(rt: &HostRuntime, run: &mut Run<Kept>, steps: Option<u32>) -> io:
     Ok(is_stopped)
 }
 
-/// Writes what the first so many steps of a line come to, where the first member's `k`-th commit fails. Whether one
+/// Writes what the first that many steps of a line give, where the first member's `k`-th commit fails. Whether one
 /// did.
 fn write_one(rt: &HostRuntime, line: &str, k: u64, when: When, most: usize) -> io::Result<bool> {
     let Some(mut run) = begun(rt.alloc(), k, when, true) else {
@@ -76,7 +76,7 @@ fn write_failing(rt: &HostRuntime, line: &str, when: When) -> io::Result<()> {
     Ok(())
 }
 
-/// Writes what a line's run comes to, cut behind each step, and with each commit of the first member that fails before
+/// Writes what a line's run gives, cut behind each step, and with each commit of the first member that fails before
 /// its change or after it.
 pub fn write_stops(rt: &HostRuntime, line: &str) -> io::Result<()> {
     let steps = line.split(' ').skip(2).count();

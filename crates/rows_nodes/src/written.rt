@@ -9,7 +9,7 @@ const TRIES: u8 = 20;
 
 /// What a datagram's message is written as.
 enum Written {
-    /// As so many bytes, which are those that were read.
+    /// As that many bytes, which are those that were read.
     Same(usize),
     /// As others.
     Other,
@@ -34,7 +34,7 @@ fn write_once(alloc: Global, reader: &Membership, bytes: &[u8]) -> Written {
     }
 }
 
-/// The bytes with these digits, and so many times `x`.
+/// The bytes with these digits, and that many times `x`.
 fn bytes_of(alloc: Global, digits: &str, more: usize) -> Option<Vec<u8>> {
     let mut bytes = hex::decode(alloc, digits).ok()?;
     bytes.reserve(more).ok()?;
@@ -55,7 +55,7 @@ fn datagram(alloc: Global, line: &str) -> Option<(Membership, Vec<u8>)> {
     Some((reader, bytes_of(alloc, digits, more)?))
 }
 
-/// Writes what the line's datagram is written as; where memory is wanting, it is written again.
+/// Writes what the line's datagram is written as; where memory runs out, it is written again.
 pub fn write_again(rt: &HostRuntime, line: &str) -> io::Result<()> {
     let Some((reader, bytes)) = datagram(rt.alloc(), line) else {
         return println!(rt; "nothing");

@@ -16,7 +16,7 @@ use std::alloc::Global;
 /// The front of each entry: its format, who asked, and its number there.
 const FRONT: [u8; 10] = [1, 2, 0, 0, 0, 0, 0, 0, 0, 4];
 
-/// An entry of so many bytes, ten at least: request 4 of member 2, of which each byte of the command is 7.
+/// An entry of that many bytes, ten at least: request 4 of member 2, of which each byte of the command is 7.
 fn entry(alloc: Global, length: usize) -> Result<Entry, Refused>
     ensures { IfOk result (λ e. EntryFits AnyCommand 3 (entry_of e)) }
 {
@@ -125,7 +125,7 @@ fn promised<R: Records>(records: &mut R, position: u32) -> Result<u64, Refused>
     }
 }
 
-/// Promises the ballot at the position. It must stand there then.
+/// Promises the ballot at the position. It must be there then.
 fn promise<R: Records>(records: &mut R, position: u32, ballot: u64) -> Result<(), Refused>
     requires { R.members records.old ≡ 3 }
     ensures { R.members records.new ≡ 3 }

@@ -182,7 +182,7 @@ fn first<R: Records>(node: &Node<R>) -> Option<(u8, u64)> {
     Some((entry.origin(), entry.number()))
 }
 
-/// Tells the node's verdict for a packet from 10.0.0.1.
+/// Reports the node's verdict for a packet from 10.0.0.1.
 fn say_verdict<R: Records>(alloc: Global, node: &Node<R>, out: &mut String) -> bool {
     let Ok(packet) = parse_packet(alloc, PACKET) else {
         return false;
@@ -193,7 +193,7 @@ fn say_verdict<R: Records>(alloc: Global, node: &Node<R>, out: &mut String) -> b
     }
 }
 
-/// Tells what the node shows.
+/// Reports what the node shows.
 fn say_node<R: Records>(alloc: Global, node: &Node<R>, out: &mut String) -> bool {
     let (front, applied, round) = (node.front(), node.applied(), node.round());
     let (origin, number) = first(node).unwrap_or((255, 0));
@@ -205,7 +205,7 @@ fn say_node<R: Records>(alloc: Global, node: &Node<R>, out: &mut String) -> bool
         && say_verdict(alloc, node, out)
 }
 
-/// Does the run over these empty stores, and tells what each node shows then.
+/// Does the run over these empty stores, and reports what each node shows then.
 pub(crate) fn say_run<S: Alter + Drop>(
     alloc: Global,
     zero: Connection<S>,

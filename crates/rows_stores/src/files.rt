@@ -33,7 +33,7 @@ pub(crate) fn twice(rt: &HostRuntime, file: &str, tasks: &str, out: &mut String)
     work_once(rt.alloc(), conn, tasks, out) && is_told
 }
 
-/// Tells whether something was done with a file.
+/// Reports whether something was done with a file.
 fn say_done(out: &mut String, is_done: bool) -> bool {
     say(out, if is_done { "done" } else { "no file" })
 }

@@ -77,7 +77,7 @@ fn work_in<D: Disk + Drop>(
     }
 }
 
-/// A file that holds the bytes and stops after so many calls.
+/// A file that holds the bytes and stops after that many calls.
 fn file(alloc: Global, bytes: &[u8], calls: u64) -> Option<Fuse<Memory>> {
     let mut memory = Memory::new(alloc);
     let is_held = memory.write_at(0, bytes).is_ok() && memory.sync().is_ok();
@@ -139,7 +139,7 @@ fn empty(alloc: Global) -> Option<Connection<FileStore<Fuse<Memory>>>> {
     opened(alloc, Files { log, db }).ok()
 }
 
-/// Does a run of three nodes over empty stores whose files are in memory, and tells what they show.
+/// Does a run of three nodes over empty stores whose files are in memory, and reports what they show.
 pub(crate) fn nodes_in_memory(alloc: Global, out: &mut String) -> bool {
     let (Some(zero), Some(one), Some(two)) = (empty(alloc), empty(alloc), empty(alloc)) else {
         return false;

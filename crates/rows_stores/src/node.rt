@@ -1,4 +1,4 @@
-//! A node over a record, step by step, each of which tells what came of it.
+//! A node over a record, step by step, each of which reports what came of it.
 //!
 //! | Step | Does |
 //! |---|---|
@@ -6,8 +6,8 @@
 //! | `tick` | its clock ticks |
 //! | `receive DIGITS` | the datagram of these hexadecimal digits comes to it |
 //!
-//! A step tells `done` and how many datagrams the node hands out, `ignored`, or the number of its fault. A node that
-//! doesn't open does no step, and tells the number.
+//! A step reports `done` and how many datagrams the node hands out, `ignored`, or the number of its fault. A node that
+//! doesn't open does no step, and reports the number.
 ghost use Rattle.std.specs.Prelude.{◌≡◌};
 
 use crate::cluster::{ask, opened};
@@ -38,7 +38,7 @@ fn done(came: Result<(), NodeFault>) -> Result<Received, NodeFault> {
     }
 }
 
-/// Tells what came of a step, behind which so many datagrams are to be sent.
+/// Reports what came of a step, behind which that many datagrams are to be sent.
 fn say_done(out: &mut String, came: Result<Received, NodeFault>, sent: usize) -> bool {
     match came {
         Ok(Received::Done) => say_number(out, "done", sent as u64),
@@ -47,7 +47,7 @@ fn say_done(out: &mut String, came: Result<Received, NodeFault>, sent: usize) ->
     }
 }
 
-/// Does one step with the node, and tells what came of it.
+/// Does one step with the node, and reports what came of it.
 fn walk<R: Records>(alloc: Global, node: &mut Node<R>, text: &str, out: &mut String) -> bool {
     let (word, digits) = text.split_once(' ').unwrap_or((text, ""));
     let mut sent = Vec::new(alloc);
@@ -61,7 +61,7 @@ fn walk<R: Records>(alloc: Global, node: &mut Node<R>, text: &str, out: &mut Str
     say_done(out, came, count)
 }
 
-/// Does one step after the other with the node; what each tells is appended, a comma behind it.
+/// Does one step after the other with the node; what each reports is appended, a comma behind it.
 fn walk_all<R: Records>(alloc: Global, node: &mut Node<R>, steps: &str, out: &mut String) -> bool {
     for text in steps.split_terminator(", ") {
         if !walk(alloc, node, text, out) || !say(out, ", ") {
@@ -72,7 +72,7 @@ fn walk_all<R: Records>(alloc: Global, node: &mut Node<R>, steps: &str, out: &mu
 }
 
 /// Opens member 0 of three over the record, does the steps, and gives the record back. Whether there was memory for
-/// what is told.
+/// what is reported.
 pub(crate) fn walked<R: Records>(
     alloc: Global,
     records: R,

@@ -1,14 +1,14 @@
-//! Steps with a record, each of which tells what came of it.
+//! Steps with a record, each of which reports what came of it.
 //!
 //! | Step | Does |
 //! |---|---|
-//! | `show` | tells the round, the number, the floor, the top and the end of what is learned |
-//! | `slot AT`, `learned AT` | tells what is promised and accepted at the position, and what is learned |
-//! | `top`, `end`, `failures` | tells one number |
-//! | `read TIMES` | reads the top and the end so many times |
+//! | `show` | reports the round, the number, the floor, the top and the end of what is learned |
+//! | `slot AT`, `learned AT` | reports what is promised and accepted at the position, and what is learned |
+//! | `top`, `end`, `failures` | reports one number |
+//! | `read TIMES` | reads the top and the end that many times |
 //! | `round N`, `number N`, `floor BALLOT` | commits it |
 //! | `promise FROM TO BALLOT` | promises the ballot at each position from one to before another |
-//! | `accept FROM TO BALLOT BYTES`, `learn FROM TO BYTES` | accepts or learns an entry of so many bytes there |
+//! | `accept FROM TO BALLOT BYTES`, `learn FROM TO BYTES` | accepts or learns an entry of that many bytes there |
 ghost use Rattle.std.specs.Prelude.{◌≡◌};
 
 use crate::change::{Made, make, make_all};
@@ -49,7 +49,7 @@ fn ends<R: Records>(records: &mut R) -> Result<(Meta, u32, u32), StoreFault>
     Ok((meta, top, end))
 }
 
-/// Tells all three.
+/// Reports all three.
 fn show<R: Records>(records: &mut R, out: &mut String) -> bool
     ensures { R.members records.new ≡ R.members records.old }
 {
@@ -64,7 +64,7 @@ fn show<R: Records>(records: &mut R, out: &mut String) -> bool
     }
 }
 
-/// Tells a number that was read.
+/// Reports a number that was read.
 fn tell(out: &mut String, name: &str, number: Result<u32, StoreFault>) -> bool {
     match number {
         Ok(number) => say_number(out, name, number as u64),
@@ -72,7 +72,7 @@ fn tell(out: &mut String, name: &str, number: Result<u32, StoreFault>) -> bool {
     }
 }
 
-/// Tells what is promised and accepted at the position.
+/// Reports what is promised and accepted at the position.
 fn slot<R: Records>(records: &mut R, position: u32, out: &mut String) -> bool
     ensures { R.members records.new ≡ R.members records.old }
 {
@@ -82,7 +82,7 @@ fn slot<R: Records>(records: &mut R, position: u32, out: &mut String) -> bool
     }
 }
 
-/// Tells what is learned at the position.
+/// Reports what is learned at the position.
 fn learned<R: Records>(records: &mut R, position: u32, out: &mut String) -> bool
     ensures { R.members records.new ≡ R.members records.old }
 {
@@ -92,7 +92,7 @@ fn learned<R: Records>(records: &mut R, position: u32, out: &mut String) -> bool
     }
 }
 
-/// Reads the top and the end so many times.
+/// Reads the top and the end that many times.
 fn read<R: Records>(records: &mut R, times: u32) -> Result<(), Refused>
     requires { R.members records.old ≡ 3 }
     ensures { R.members records.new ≡ 3 }
@@ -118,7 +118,7 @@ fn numbers(text: &str) -> [u32; 4] {
     all
 }
 
-/// Makes a change, and tells whether it is made.
+/// Makes a change, and reports whether it is made.
 fn change<R: Records>(
     alloc: Global,
     records: &mut R,
@@ -148,7 +148,7 @@ fn change<R: Records>(
     say_made(out, is_made)
 }
 
-/// Does the step with a record of three members, and tells what came of it.
+/// Does the step with a record of three members, and reports what came of it.
 pub(crate) fn step<R: Records>(alloc: Global, records: &mut R, step: &str, out: &mut String) -> bool
     requires { R.members records.old ≡ 3 }
     ensures { R.members records.new ≡ 3 }

@@ -6,7 +6,7 @@ use crate::said::say;
 use px_records::Records;
 use std::alloc::Global;
 
-/// Does one step after the other with a record of three members; what each tells is appended, a comma between. Whether
+/// Does one step after the other with a record of three members; what each reports is appended, a comma between. Whether
 /// there was memory for that.
 pub(crate) fn follow<R: Records>(
     alloc: Global,

@@ -2,10 +2,10 @@
 //!
 //! A line says what is counted of the store before, the statements that make it, or none, what its record shows then,
 //! and changes of the record (`stops`) or steps of a node over it (`node-stops`), each with what the record shows
-//! behind it. What the record shows is told by `show`, the slots of the first two positions and what is learned at the
+//! behind it. What the record shows is shown by `show`, the slots of the first two positions and what is learned at the
 //! first. A stop must leave a store as it was or one of format 3 with four tables; taken again, or opened again by a
 //! new node, its record must be that before the change or step at which the stop came, or that with it. A line that
-//! holds tells how many calls on either file its run has.
+//! holds reports how many calls on either file its run has.
 use crate::fused::{Held, NEVER, Stop, attempt};
 use crate::said::say;
 use std::alloc::{AllocError, Global};
@@ -16,7 +16,7 @@ use std::fmt::Write;
 pub(crate) struct Work {
     /// The word of the task.
     task: &'static str,
-    /// What stands behind the steps.
+    /// What is behind the steps.
     look: &'static str,
     /// The tasks that tell what a stop left.
     again: &'static str,
@@ -49,7 +49,7 @@ struct Run<'a> {
     again: &'a str,
 }
 
-/// What the trials of a run come to.
+/// What the trials of a run give.
 #[derive(Clone, Copy)]
 struct Trials {
     /// How many calls on the log there are.
@@ -60,7 +60,7 @@ struct Trials {
     came: Came,
 }
 
-/// What a trial comes to.
+/// What a trial gives.
 #[derive(Clone, Copy, PartialEq)]
 enum Came {
     /// Nothing stopped.
@@ -79,7 +79,7 @@ impl Run<'_> {
         self.parts.len() / 2
     }
 
-    /// What the record shows after so many changes.
+    /// What the record shows after that many changes.
     fn record(&self, changes: usize) -> &str {
         match self.parts.get(changes.saturating_mul(2)) {
             Some(record) => record,
@@ -88,7 +88,7 @@ impl Run<'_> {
     }
 }
 
-/// How many changes were made as far as the store said, and what was told behind them.
+/// How many changes were made as far as the store said, and what was reported behind them.
 fn made(said: &str) -> (usize, &str) {
     let mut rest = said;
     let mut count = 0usize;
@@ -126,7 +126,7 @@ fn judged(run: Run, said: &str, counted: &str, again: &str) -> Came {
     }
 }
 
-/// What a stop leaves. None where memory is wanting.
+/// What a stop leaves. None where memory runs out.
 fn attempted(alloc: Global, run: Run, held: &Held, stop: Stop) -> Option<Came> {
     let (mut said, mut found) = (String::new(alloc), String::new(alloc));
     let left = attempt(alloc, held, stop, run.tasks, &mut said)?;
@@ -141,7 +141,7 @@ fn attempted(alloc: Global, run: Run, held: &Held, stop: Stop) -> Option<Came> {
     })
 }
 
-/// The stop after so many calls on one of the files.
+/// The stop after that many calls on one of the files.
 fn stop_after(calls: u64, log: bool, loses: bool) -> Stop {
     let (log, db) = if log {
         (calls, u64::MAX)
@@ -151,7 +151,7 @@ fn stop_after(calls: u64, log: bool, loses: bool) -> Stop {
     Stop { log, db, loses }
 }
 
-/// One file stops after so many calls, counted upwards until nothing stops: how many it has, and what came last.
+/// One file stops after that many calls, counted upwards until nothing stops: how many it has, and what came last.
 fn first_end(alloc: Global, run: Run, held: &Held, log: bool, loses: bool) -> Option<(u64, Came)> {
     for calls in 0..10_000u64 {
         let came = attempted(alloc, run, held, stop_after(calls, log, loses))?;
@@ -222,7 +222,7 @@ fn held(alloc: Global, sql: &str) -> Option<Held> {
     attempt(alloc, &none, NEVER, sql, &mut said)
 }
 
-/// What the trials of a line come to, and how many changes it has.
+/// What the trials of a line give, and how many changes it has.
 fn found(alloc: Global, work: Work, before: &str, line: &str) -> Option<(Trials, usize)> {
     let (sql, rest) = line.split_once(" | ")?;
     let parts = parts_of(alloc, rest).ok()?;
@@ -237,7 +237,7 @@ fn found(alloc: Global, work: Work, before: &str, line: &str) -> Option<(Trials,
     Some((trial(alloc, run, &held)?, run.changes()))
 }
 
-/// Tells what was found of so many changes.
+/// Reports what was found of that many changes.
 fn say_found(out: &mut String, found: Trials, changes: usize) -> bool {
     match found.came {
         Came::Whole if found.log.min(found.db) > changes.max(1) as u64 => write!(
@@ -253,7 +253,7 @@ fn say_found(out: &mut String, found: Trials, changes: usize) -> bool {
     }
 }
 
-/// Does the line, and tells what was found.
+/// Does the line, and reports what was found.
 pub(crate) fn stops(alloc: Global, work: Work, before: &str, line: &str, out: &mut String) -> bool {
     match found(alloc, work, before, line) {
         Some((found, changes)) => say_found(out, found, changes),

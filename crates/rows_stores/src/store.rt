@@ -39,7 +39,7 @@ pub(crate) fn adopted<S: Alter + Drop>(
     SqlRecords::adopt(alloc, conn, identity)
 }
 
-/// Tells why a store isn't taken.
+/// Reports why a store isn't taken.
 fn say_refused(out: &mut String, fault: AdoptFault) -> bool {
     match fault.code() {
         Some(code) => say_number(out, "refused", code as u64),
@@ -67,7 +67,7 @@ fn take<S: Alter + Drop>(
 }
 
 /// Takes the store as member 0 of cluster 7, does a node's steps over its record, gives it back, takes it again and
-/// does the record's steps, which stand behind `then`.
+/// does the record's steps, which are behind `then`.
 fn take_node<S: Alter + Drop>(
     alloc: Global,
     conn: Connection<S>,
@@ -96,7 +96,7 @@ fn format_of<S: Alter>(conn: &mut Connection<S>) -> Option<u32> {
     row.get::<u32>(0).ok()
 }
 
-/// Tells the format, and how many tables there are.
+/// Reports the format, and how many tables there are.
 fn count<S: Alter>(conn: &mut Connection<S>, out: &mut String) -> bool {
     match format_of(conn) {
         Some(format) => {

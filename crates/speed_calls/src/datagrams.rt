@@ -1,4 +1,4 @@
-//! A datagram that is decoded many times, or copied many times: a vote with an entry of so many bytes.
+//! A datagram that is decoded many times, or copied many times: a vote with an entry of that many bytes.
 use px_wire::{Membership, Message, decode};
 use std::alloc::{AllocError, Global};
 
@@ -51,7 +51,7 @@ fn copied(bytes: &mut [u8], room: &mut [u8], times: u32) -> u64 {
     sum
 }
 
-/// The sum of the positions of a vote of so many bytes that is decoded so many times, or copied, where `decodes` is 0.
+/// The sum of the positions of a vote of that many bytes that is decoded that many times, or copied, where `decodes` is 0.
 pub(crate) fn sum_of(
     alloc: Global,
     decodes: u32,

@@ -39,7 +39,7 @@ fn event_of(kind: u32, position: u32, entry: EntryView<'_>) -> Event<'_> {
     }
 }
 
-/// A member of three that has learned so many entries.
+/// A member of three that has learned that many entries.
 fn opened(alloc: Global, learned: u32) -> Result<Core, CoreFault> {
     let Ok(mut core) = Core::new(alloc, 3, 0) else {
         return Err(CoreFault::Memory);
@@ -59,7 +59,7 @@ fn opened(alloc: Global, learned: u32) -> Result<Core, CoreFault> {
     Ok(core)
 }
 
-/// The front after so many events, of a member that has learned so many entries.
+/// The front after that many events, of a member that has learned that many entries.
 pub(crate) fn front_after(alloc: Global, learned: u32, events: u32) -> Result<u32, CoreFault> {
     let mut core = opened(alloc, learned)?;
     let mut record = Record::new(alloc, learned);

@@ -1,17 +1,17 @@
 //! What is timed. The first word says what, the others how much of it:
 //!
-//! - `table FAMILY BUILDS LOOKUPS` makes a table of IPv4 (4) or IPv6 (6) so often, and looks so many addresses up:
+//! - `table FAMILY BUILDS LOOKUPS` makes a table of IPv4 (4) or IPv6 (6) so often, and looks that many addresses up:
 //!   `found` and how many it holds.
-//! - `packets TIMES TEXT ..` reads each text as a packet so many times: `found` and how often it was one.
-//! - `events LEARNED EVENTS` takes so many events through a member that has learned so many entries: `front` and the
+//! - `packets TIMES TEXT ..` reads each text as a packet that many times: `found` and how often it was one.
+//! - `events LEARNED EVENTS` takes that many events through a member that has learned that many entries: `front` and the
 //!   first position that isn't learned then.
-//! - `datagram DECODES BYTES TIMES` decodes (1) or copies (0) a vote with an entry of so many bytes so many times:
+//! - `datagram DECODES BYTES TIMES` decodes (1) or copies (0) a vote with an entry of that many bytes that many times:
 //!   `sum` and that of what was read.
-//! - `tag ANEW BYTES TIMES` makes the tags of so many datagrams of so many bytes, the key made ready for each (1) or
+//! - `tag ANEW BYTES TIMES` makes the tags of that many datagrams of that many bytes, the key made ready for each (1) or
 //!   once (0): `sum` and that of their first bytes.
 //!
 //! With no words each line of the standard input has them, tabs between. The status is 2 for other words, and 1 where
-//! memory is wanting or the answer can't be written.
+//! memory runs out or the answer can't be written.
 #![tactic(auto)]
 
 mod datagrams;
@@ -107,7 +107,7 @@ fn tag_sum(alloc: Global, words: &[&str]) -> Result<u64, Fault> {
     }
 }
 
-/// What the words come to: a name and a number.
+/// What the words give: a name and a number.
 fn answer(alloc: Global, words: &[&str]) -> Result<(&'static str, u64), Fault> {
     let Some(first) = words.first() else {
         return Err(Fault::Words);
@@ -122,7 +122,7 @@ fn answer(alloc: Global, words: &[&str]) -> Result<(&'static str, u64), Fault> {
     }
 }
 
-/// Writes what the words come to.
+/// Writes what the words give.
 fn tell(rt: &HostRuntime, words: &[&str]) -> Result<(), Fault> {
     let (name, number) = answer(rt.alloc(), words)?;
     match println!(rt; "{name} {number}") {
@@ -131,7 +131,7 @@ fn tell(rt: &HostRuntime, words: &[&str]) -> Result<(), Fault> {
     }
 }
 
-/// Writes what the words of a line come to.
+/// Writes what the words of a line give.
 fn tell_line(rt: &HostRuntime, line: &str) -> Result<(), Fault> {
     let mut words = Vec::new(rt.alloc());
     for word in line.split('\t') {
@@ -142,7 +142,7 @@ fn tell_line(rt: &HostRuntime, line: &str) -> Result<(), Fault> {
     tell(rt, &words)
 }
 
-/// Writes what each line of the standard input comes to.
+/// Writes what each line of the standard input gives.
 fn tell_lines(rt: &HostRuntime) -> Result<(), Fault> {
     let Ok(input) = io::read_to_string(rt.alloc(), rt.reader()) else {
         return Err(Fault::Memory);
@@ -153,7 +153,7 @@ fn tell_lines(rt: &HostRuntime) -> Result<(), Fault> {
     Ok(())
 }
 
-/// Writes what the words of the program come to, or the lines.
+/// Writes what the words of the program give, or the lines.
 fn tell_all(rt: &HostRuntime, words: &[String]) -> Result<(), Fault> {
     let mut list = Vec::new(rt.alloc());
     for word in words {

@@ -68,7 +68,7 @@ fn entries(alloc: Global, v6: bool) -> Result<Vec<TableEntry>, AllocError> {
     Ok(list)
 }
 
-/// How many of so many addresses are in the table: every second one is an entry's, in turn.
+/// How many of that many addresses are in the table: every second one is an entry's, in turn.
 fn count(table: &Table, v6: bool, lookups: u32) -> u32 {
     let mut own = 1u32;
     let mut other = 7u32;
@@ -91,7 +91,7 @@ fn count(table: &Table, v6: bool, lookups: u32) -> u32 {
     found
 }
 
-/// The table is made so often, and so many addresses are looked up in the last one: how many are in it.
+/// The table is made so often, and that many addresses are looked up in the last one: how many are in it.
 pub(crate) fn found_after(
     alloc: Global,
     v6: bool,

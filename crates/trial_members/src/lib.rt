@@ -1,7 +1,7 @@
 //! Trials of members in code: cores beside plain records made by hand, with what they send to each other on a list.
 //! What no contract says is tried here: that a call doesn't always want memory, and the worked runs on the code itself.
 //!
-//! The tests stand in a crate of their own, since they take longer to prove than what they try.
+//! The tests are in a crate of their own, since they take longer to prove than what they try.
 #![tactic(auto)]
 
 #[cfg(test)]

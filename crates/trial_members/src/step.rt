@@ -10,7 +10,7 @@
 //!   anew with an entry learned at the first position, `forget` in place.
 //! - `sent MANY`, `line MESSAGE TEXT`, `front MEMBER POSITION`, `learned MEMBER POSITION ORIGIN NUMBER LENGTH`,
 //!   `unlearned MEMBER POSITION`, `meta ROUND NUMBER` and `unaccepted`, of the first member's record: it must be so.
-//! - `refused CODE`: the first member refuses a tick so. `asked CODE TIMES`: it answers so many askings so, 0 takes
+//! - `refused CODE`: the first member refuses a tick so. `asked CODE TIMES`: it answers that many askings so, 0 takes
 //!   them in.
 use crate::bus::Bus;
 use crate::member::{Member, asked, entry, spelling};
@@ -79,7 +79,7 @@ fn comes_to(member: &mut Member, event: &Event, code: Option<u8>) -> Result<bool
     Ok(found == code)
 }
 
-/// The same of so many askings; 0 where each is taken in.
+/// The same of that many askings; 0 where each is taken in.
 fn all_come_to(member: &mut Member, code: u8, times: u64) -> Result<bool, Fail> {
     let bytes = spelling(0, 0, 7);
     let event = asked(&bytes)?;

@@ -7,8 +7,4 @@ mod asking;
 #[cfg(test)]
 mod bench;
 #[cfg(test)]
-mod repeats;
-#[cfg(test)]
 mod sockets;
-#[cfg(test)]
-mod trail;

@@ -20,7 +20,7 @@ fn holds(room: &[u8], came: Option<usize>, wanted: &[u8]) -> bool {
     came == Some(wanted.len()) && front == wanted && rest.iter().all(|byte| *byte == 7)
 }
 
-/// Whether these bytes are what comes next, into a room of so many bytes, 20 at most.
+/// Whether these bytes are what comes next, into a room of that many bytes, 20 at most.
 fn hears<W: Wire>(wire: &mut W, size: usize, wanted: &[u8]) -> bool {
     let mut room = [7u8; 20];
     let room = &mut room[..size.min(20)];
@@ -146,7 +146,7 @@ fn a_wait_ends_whatever_comes(rt: HostRuntime) -> Result<(), Fail> {
     Ok(())
 }
 
-/// How many datagrams of 150 come before none does, where so many milliseconds go by between two receives.
+/// How many datagrams of 150 come before none does, where that many milliseconds go by between two receives.
 fn heard<A: Wire, B: Wire>(one: &mut A, other: &mut B, now: &Cell<u64>, millis: u64) -> u32 {
     for _ in 0..150 {
         if !other.send(0, b"a") {

@@ -131,7 +131,7 @@ fn nothing_is_written_after_a_failed_write(rt: HostRuntime) {
     }
 }
 
-/// Gives so many newlines.
+/// Gives that many newlines.
 #[derive(Drop)]
 struct Newlines {
     left: usize,
@@ -146,7 +146,7 @@ impl Read for Newlines {
     }
 }
 
-/// How a run ends that reads so many newlines, and how many bytes it writes.
+/// How a run ends that reads that many newlines, and how many bytes it writes.
 fn ended(rt: &HostRuntime, left: usize) -> (Status, usize) {
     let mut reader = Newlines { left };
     let mut out = Vec::new(rt.alloc());

@@ -4,9 +4,9 @@ use crate::runs::checked;
 use std::fmt::Write;
 use std::test::Fail;
 
-/// Texts, each with what `check` writes: a text's parts, each with how many times it stands there, a `%` for a newline.
+/// Texts, each with what `check` writes: a text's parts, each with how many times it is there, a `%` for a newline.
 /// In a part with two `#` these stand for the two bytes of a number that counts from 0. A text that is accepted writes
-/// so many lines.
+/// that many lines.
 const ROWS: &str = "\
 pass~1~ x~65535>refused 12 line 1
 pass~1~ x~65536>refused 18 line 1
@@ -41,7 +41,7 @@ fn push_part(text: &mut String, part: &str, number: u32) -> Result<(), Fail> {
     Ok(())
 }
 
-/// The part so many times.
+/// The part that many times.
 fn push_times(text: &mut String, part: &str, count: u32) -> Result<(), Fail> {
     for number in 0..count {
         push_part(text, part, number)?;
@@ -61,7 +61,7 @@ fn push_text(text: &mut String, row: &str) -> Result<(), Fail> {
     Ok(())
 }
 
-/// Whether the text is refused with this line; or accepted, and so many lines are written.
+/// Whether the text is refused with this line; or accepted, and that many lines are written.
 fn is_written(rt: &HostRuntime, text: &[u8], wanted: &str) -> bool {
     let (status, out) = checked(rt, text);
     match wanted.parse::<usize>() {

@@ -1,4 +1,4 @@
-use px_seal::{MembersWire, SealedWire, group_key, hmac_sha256, parse_key};
+use px_seal::{SealedWire, group_key, hmac_sha256, parse_key};
 use px_transport::{LoopbackWire, MemoryWire, Wire};
 use std::alloc::Global;
 use std::test::Fail;
@@ -174,21 +174,6 @@ fn a_secret_has_64_digits(rt: HostRuntime) -> Result<(), Fail> {
     for text in [&b"5a5a"[..], b"", b"\n", &text.as_bytes()[1..], b"\n5a"] {
         assert!(rt; parse_key(text).is_none());
     }
-    Ok(())
-}
-
-#[test]
-fn members_alone_are_heard(rt: HostRuntime) -> Result<(), Fail> {
-    let mut coming = Vec::new(rt.alloc());
-    coming.push(Vec::from_slice(rt.alloc(), b"PFXR\x01\0\0\0\x07\x03\xff\x00\x08")?)?;
-    coming.push(Vec::from_slice(rt.alloc(), b"PFXR\x01\0\0\0\x07\x03\x01\x00\x06")?)?;
-    let mut wire = MembersWire::new(MemoryWire::new(rt.alloc(), coming));
-    let mut room = [0u8; 100];
-    wire.wait(10);
-    assert_eq!(rt; wire.recv(&mut room), Some(0));
-    assert_eq!(rt; wire.poll(&mut room), Some(13));
-    assert_eq!(rt; wire.recv(&mut room), None);
-    assert_eq!(rt; wire.dropped(), 1);
     Ok(())
 }
 

@@ -124,7 +124,7 @@ fn push_definition<'t: 's, 's>(
     }
 }
 
-/// What a statement comes to: a macro, or its tokens.
+/// What a statement gives: a macro, or its tokens.
 fn push_statement<'t: 's, 's>(
     alloc: Global,
     out: &mut Vec<u8>,
@@ -341,7 +341,7 @@ fn a_reserved_name_defines_no_macro(rt: HostRuntime) -> Result<(), Fail> {
     Ok(())
 }
 
-/// Appends so many parts.
+/// Appends that many parts.
 fn push_parts(text: &mut Vec<u8>, part: &[u8], count: u32) -> Result<(), Fail> {
     for _ in 0..count {
         text.extend_from_slice(part)?;
@@ -349,7 +349,7 @@ fn push_parts(text: &mut Vec<u8>, part: &[u8], count: u32) -> Result<(), Fail> {
     Ok(())
 }
 
-/// A text of so many parts.
+/// A text of that many parts.
 fn repeated(
     alloc: Global,
     before: &[u8],
@@ -371,7 +371,7 @@ fn expect_fault(alloc: Global, text: &Text, fault: Option<ReadingFault>) -> Resu
     expect(parser.fault() == fault, "another fault")
 }
 
-/// The same of a text of so many parts.
+/// The same of a text of that many parts.
 fn expect_fault_of(
     alloc: Global,
     part: &str,
@@ -398,7 +398,7 @@ fn limits_while_reading(rt: HostRuntime) -> Result<(), Fail> {
     Ok(())
 }
 
-/// What a macro of so many `x`, ended so, comes to.
+/// What a macro of that many `x`, ended so, gives.
 fn expect_macro(alloc: Global, behind: &str, count: u32, want: &str) -> Result<(), Fail> {
     let text = repeated(alloc, b"a = \"", b"x", count, behind.as_bytes())?;
     expect_statements(alloc, &text, want)
@@ -435,7 +435,7 @@ fn expect_listed(alloc: Global, text: &str, want: Option<(usize, u64)>) -> Resul
     expect(listed(alloc, &cut, &macros) == want, text)
 }
 
-/// What stands behind a list.
+/// What is behind a list.
 fn expect_behind<'t: 's, 's>(parser: Parser<'t, 's>) -> Result<(), Fail> {
     expect(parser.at_end(), "not at its end")?;
     let mut lexer = parser.finish();
@@ -499,7 +499,7 @@ fn take_list<'t: 's, 's>(parser: &mut Parser<'t, 's>) -> Result<(), Fail> {
     expect(parser.accept_symbol(Symbol::Close), "}")
 }
 
-/// What stands behind it up to the statement's end.
+/// What is behind it up to the statement's end.
 fn take_rest<'t: 's, 's>(parser: &mut Parser<'t, 's>) -> Result<(), Fail> {
     expect(parser.word().is_none(), "no word")?;
     expect(parser.name().is_some(), "a string")?;

@@ -6,7 +6,7 @@ use pf_addr::parse_prefix;
 use pf_entry::TableName;
 use pf_eval::{parse_packet, show_verdict};
 use pf_net::UdpWire;
-use pf_node::{Command, Node};
+use pf_node::{Command, Membership, Node};
 use pf_ruleset::{Path, TableEntry};
 use pf_turn::{Room, turn};
 use px_records::MemoryRecords;
@@ -135,9 +135,17 @@ fn spread(parties: &mut [Party], room: &mut Room) -> Result<(), Fail> {
     Ok(())
 }
 
+/// The buffers that they share: what they hold of one of them nobody uses in a turn.
+fn room(alloc: Global) -> Result<Room, Fail> {
+    match Membership::new(7, 3, 0) {
+        Some(m) => Ok(Room::new(alloc, &m, true)?),
+        None => Err(Fail::new("no member")),
+    }
+}
+
 /// Whether a load that is asked from outside is applied by each.
 fn is_spread<W: Wire>(alloc: Global, parties: &mut [Party], asker: &mut W) -> Result<bool, Fail> {
-    let mut room = Room::new(alloc)?;
+    let mut room = room(alloc)?;
     if !is_asked(parties, asker, &mut room)? {
         return Ok(false);
     }
@@ -218,7 +226,7 @@ fn most_applied(parties: &[Party]) -> u32 {
 /// 600 turns of three nodes, after each of which any two agree: how many commands were applied.
 fn paced(alloc: Global, parties: &mut [Party]) -> Result<u32, Fail> {
     ask_all(alloc, parties)?;
-    let mut room = Room::new(alloc)?;
+    let mut room = room(alloc)?;
     for number in 0..600usize {
         pace(parties, number % 3, &mut room)?;
         if !all_agree(alloc, parties)? {

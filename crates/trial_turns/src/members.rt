@@ -53,7 +53,7 @@ pub(crate) fn run(
     node: &mut Node<MemoryRecords>,
     wire: &mut LoopbackWire<MemoryWire>,
 ) -> Result<(), Fail> {
-    let mut room = Room::new(rt.alloc())?;
+    let mut room = Room::new(rt.alloc(), &node.membership(), true)?;
     let mut pace = Pace::new(0);
     round(node, wire, &mut room, &mut pace, 0)?;
     finish(node, wire, &mut room, &mut pace, rt, Instant::now(rt).ok())?;

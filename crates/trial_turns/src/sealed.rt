@@ -2,7 +2,7 @@
 
 use crate::listing::listing;
 use crate::members::{ask_load, member};
-use pf_node::Node;
+use pf_node::{Membership, Node};
 use pf_turn::{Room, turn};
 use px_records::MemoryRecords;
 use px_seal::SealedWire;
@@ -166,7 +166,10 @@ fn live_all(
     trace: &mut Vec<u8>,
     is_sealed: bool,
 ) -> Result<(), Fail> {
-    let mut room = Room::new(alloc)?;
+    let Some(m) = Membership::new(7, 3, 0) else {
+        return Err(Fail::new("no member"));
+    };
+    let mut room = Room::new(alloc, &m, true)?;
     for i in 0..TURNS {
         live(alloc, group, &mut room, trace, i % 3, is_sealed)?;
     }

@@ -1,11 +1,10 @@
-//! What is asked of a node that has just started.
+//! What is asked of a node by datagrams.
 
 use crate::members::member;
-use pf_net::UdpWire;
 use pf_node::Node;
 use pf_turn::{Pace, Room, round};
 use px_records::MemoryRecords;
-use px_transport::Wire;
+use px_transport::MemoryWire;
 use std::test::Fail;
 
 /// An Ask of a flush of main's tables, with the token 1, for member 0 of 3 of cluster 7.
@@ -14,34 +13,32 @@ const ASK: [u8; 29] = [
     1, 3, 0,
 ];
 
-/// How many commands wait at the node, which is asked before its first round, after a round at each of these times.
+/// How many commands wait at the node after a round in which it is asked one, and how many datagrams were dropped.
 fn waiting(
     rt: &HostRuntime,
     node: &mut Node<MemoryRecords>,
-    times: [u64; 3],
-) -> Result<[usize; 3], Fail> {
-    let members = ["127.0.0.1:39611", "127.0.0.1:39612", "127.0.0.1:39613"];
-    let mut wire = UdpWire::bind(rt, rt.alloc(), &members, 0, 100)?;
-    let mut asker = UdpWire::bind(rt, rt.alloc(), &members[..1], 255, 100)?;
-    if !asker.send(0, &ASK) {
-        return Err(Fail::new("not asked"));
-    }
-    wire.wait(100);
-    let mut room = Room::new(rt.alloc())?;
+    hears_asks: bool,
+) -> Result<(usize, u32), Fail> {
+    let mut coming = Vec::new(rt.alloc());
+    coming.push(Vec::from_slice(rt.alloc(), &ASK)?)?;
+    let mut wire = MemoryWire::new(rt.alloc(), coming);
+    let mut room = Room::new(rt.alloc(), &node.membership(), hears_asks)?;
     let mut pace = Pace::new(0);
-    let mut found = [0usize; 3];
-    for (count, now) in found.iter_mut().zip(times) {
-        round(node, &mut wire, &mut room, &mut pace, now)?;
-        *count = node.waiting();
-    }
-    Ok(found)
+    round(node, &mut wire, &mut room, &mut pace, 0)?;
+    Ok((node.waiting(), room.counts().dropped))
+}
+
+/// The same of a new node.
+fn waits(rt: &HostRuntime, hears_asks: bool) -> Result<(usize, u32), Fail> {
+    let mut node = member(rt.alloc(), 3, 0)?;
+    let found = waiting(rt, &mut node, hears_asks);
+    drop(node);
+    found
 }
 
 #[test]
-fn what_is_asked_at_its_start_waits_in_the_wire(rt: HostRuntime) -> Result<(), Fail> {
-    let mut node = member(rt.alloc(), 3, 0)?;
-    let found = waiting(&rt, &mut node, [0, 199_999, 200_000]);
-    drop(node);
-    assert!(rt; found? == [0, 0, 1]);
+fn an_ask_is_heard_or_dropped(rt: HostRuntime) -> Result<(), Fail> {
+    assert!(rt; waits(&rt, true)? == (1, 0));
+    assert!(rt; waits(&rt, false)? == (0, 1));
     Ok(())
 }

@@ -2,7 +2,7 @@
 use Rattle.std.specs.Prelude.{ℕ, Bool, false, ◌+◌, ◌||◌, length, nat_lt}
 use Rattle.pf_ruleset.specs.Items.{ItemValue, ItemValues, Filters, Anchors, Blocks, no_items, one_more}
 
--- a block in these rules is deeper than 8 names where the rules are at a path of so many
+-- a block in these rules is deeper than 8 names where the rules are at a path of that many
 abbrev mutual
   pub is_deep : ℕ → ItemValue → Bool
   is_deep n (Filters rule) = false

@@ -4,7 +4,7 @@ use Rattle.std.specs.List.{list_all}
 use Rattle.pf_ruleset.specs.Names.{Name, is_before}
 use Rattle.pf_config.specs.SkippedNames.{is_listed}
 
--- no name is before one that it stands behind
+-- no name is before one that it is behind
 abbrev pub AreRising : List Name → Type 0
 AreRising [] = Unit {0}
 AreRising (n ∷ names) = (list_all (λ (m : Name). not (is_before m n)) names ≡ true) × AreRising names

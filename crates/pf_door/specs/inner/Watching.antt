@@ -5,7 +5,7 @@ use Rattle.std.specs.Prelude.{if◌then◌else◌}
 use Rattle.px_wire.specs.declared.head.Head.{Head}
 use Rattle.px_wire.specs.declared.kind.Kind.{Kind}
 use Rattle.px_wire.specs.declared.kind.Kind.TheVariants as kinds
-use Rattle.pf_door.specs.declared.tallying.TheConstants.{PROPOSED}
+use Rattle.pf_door.specs.declared.observer.TheConstants.{PROPOSED}
 
 -- the position at which the sender of a message of this kind, which is about this position, proposes a command
 abbrev pub proposal_by : Kind → (position : Option ℕ) → Option ℕ

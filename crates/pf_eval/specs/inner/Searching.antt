@@ -19,7 +19,7 @@ Skips candidates key a b =
 abbrev pub NonePasses : List Candidate → Key → (a : ℕ) → Type 0
 NonePasses candidates key a = Skips candidates key a (length candidates)
 
--- the first one that does, from a on, stands at this place
+-- the first one that does, from a on, is at this place
 abbrev pub PassesFirst : List Candidate → Key → (a at : ℕ) → Type 0
 PassesFirst candidates key a at =
     (a ≤ at) × (at < length candidates) × Skips candidates key a at

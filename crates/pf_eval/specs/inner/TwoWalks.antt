@@ -20,7 +20,7 @@ abbrev pub first_stop : List Hit → Option Spot
 first_stop [] = None
 first_stop (h ∷ hs) = if h.stops then Some h.spot else first_stop hs
 
--- the spot of the last hit, whatever stands before it
+-- the spot of the last hit, whatever is before it
 abbrev pub last_hit : List Hit → Option Spot
 last_hit hs = last (map (λ (h : Hit). h.spot) hs)
 
@@ -45,12 +45,12 @@ abbrev pub last_rule : (ℕ → AnyRule → Option Spot) → ℕ → List AnyRul
 last_rule f i [] = None
 last_rule f i (rule ∷ rules) = or_else (last_rule f (i + 1) rules) (f i rule)
 
--- what a rule comes to, if there is one
+-- what a rule gives, if there is one
 abbrev pub some_rule : (AnyRule → Option Spot) → Option AnyRule → Option Spot
 some_rule f None = None
 some_rule f (Some rule) = f rule
 
--- what a candidate comes to: to nothing where its sieve doesn't let the packet pass
+-- what a candidate gives: nothing where its sieve doesn't let the packet pass
 abbrev pub candidate_spot : (ℕ → AnyRule → Option Spot) → List AnyRule → PacketValue → Candidate → Option Spot
 candidate_spot f rules k candidate =
     if passes candidate.sieve (key_of k) then some_rule (f candidate.index) (slice_get rules candidate.index) else None
@@ -70,7 +70,7 @@ other_spot tables k p i r = if r.quick then None else rule_spot tables k p i r
 abbrev pub ending : (quick : Bool) → (stop last : Option Spot) → Option Spot
 ending quick stop last = if quick then or_else stop last else stop
 
--- where a rule ends the evaluation; stop and last say what the target of an anchor rule comes to
+-- where a rule ends the evaluation; stop and last say what the target of an anchor rule gives
 abbrev pub rule_stop : Tables → (stop last : Target → Option Spot) → PacketValue → Path → ℕ → AnyRule →
     Option Spot
 rule_stop tables stop last k p i (FilterRule r) = quick_spot tables k p i r

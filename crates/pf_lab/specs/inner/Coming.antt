@@ -25,7 +25,7 @@ IsOf (event.StopBefore a) b = a ≡ b
 IsOf (event.StopAfter a) b = a ≡ b
 IsOf (event.Restart m) b = ⊥
 
--- the message of the action is none of so many
+-- the message of the action is none of that many
 abbrev pub names_no_message : (sent : ℕ) → LabAction → Bool
 names_no_message k (lab.Ask m c) = false
 names_no_message k (lab.Tick m) = false
@@ -37,7 +37,7 @@ IsNamed (lab.Ask m c) bytes = EntryBytes (unnamed c) bytes
 IsNamed (lab.Tick m) bytes = Unit {0}
 IsNamed (lab.Deliver k) bytes = Unit {0}
 
--- what comes to the member me, as its bytes say
+-- what the member me receives, as its bytes say
 abbrev pub IsInput : Group → (me : ℕ) → What → Input Bytes → Type 0
 IsInput g me (what.Ask e) x = x ≡ Asks (view_of e).command
 IsInput g me what.Tick x = x ≡ Ticks
@@ -45,7 +45,7 @@ IsInput g me (what.Datagram bytes) x =
     (from : ℕ) × (message : node.Message Bytes) × (Passing g.members from me message ×
     (DatagramBytes g from me (as_sent message) bytes.now × (x ≡ Comes from message)))
 
--- what comes to the member me by this action
+-- what the member me receives by this action
 pub record Came (g : Group) (w : World Bytes) (a : Action Bytes) (me : ℕ) (what : What) : Type 0 where
   pub input : Input Bytes
   pub comes : comes_to w a ≡ Some (me, input)

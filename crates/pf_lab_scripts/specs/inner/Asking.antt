@@ -41,6 +41,6 @@ abbrev pub change_at : Option (List Row) → Option (List ℕ) → AskedChange
 change_at None text = Err 40
 change_at (Some rows) text = change_of_rows rows text
 
--- what words ask for, the first of which stands for pfctl, with the text behind their line, if one may stand there
+-- what words ask for, the first of which stands for pfctl, with the text behind their line, if one may be there
 abbrev pub change_of : List Text → Option (List ℕ) → AskedChange
 change_of words text = change_at (rows_in words) text

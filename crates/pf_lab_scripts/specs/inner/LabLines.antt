@@ -70,7 +70,7 @@ abbrev pub ask_of : List Text → Option (List ℕ) → Asked ActionValue
 ask_of [] text = Err 40
 ask_of (node ∷ words) text = ask_if (node_of node) (change_of (node ∷ words) text)
 
--- with the text behind the line, if one may stand there
+-- with the text behind the line, if one may be there
 abbrev pub action_of : List Text → Option (List ℕ) → Asked ActionValue
 action_of [] text = Err 40
 action_of (w ∷ ws) text =
@@ -103,7 +103,7 @@ abbrev pub test_of : List Text → Asked LineValue
 test_of [] = Err 40
 test_of (node ∷ packet) = mapped (λ m. Test m packet) (node_of node)
 
--- a line with these words; text is what stands behind it
+-- a line with these words; text is what is behind it
 abbrev pub line_asked : List Text → List ℕ → Asked LineValue
 line_asked [] text = Err 40
 line_asked (w ∷ []) text = bare_or (bare w)

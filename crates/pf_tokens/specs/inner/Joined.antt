@@ -14,7 +14,7 @@ abbrev pub is_continued : List ℕ → Bool
 is_continued [] = false
 is_continued (b ∷ bytes) = continues b bytes || is_continued bytes
 
--- for each backslash and newline taken out, how many bytes stay before it, so many standing before this text
+-- for each backslash and newline taken out, how many bytes stay before it, that many standing before this text
 abbrev pub joints : ℕ → List ℕ → List ℕ
 joints at [] = []
 joints at (b ∷ []) = []

@@ -25,7 +25,7 @@ abbrev pub at_hand : Option Lexed → List Token
 at_hand None = []
 at_hand (Some t) = token_of t.lexeme ∷ []
 
--- the tokens of the statement, where these are pending and so many braces are open
+-- the tokens of the statement, where these are pending and that many braces are open
 abbrev pub statement_tokens : List Definition → Bool → ℕ → List Placed × List Placed → List Token
 statement_tokens ds defining depth p = map (λ (t : Placed). t.token) (statement_left ds defining depth p.0 p.1)
 
@@ -34,7 +34,7 @@ pub record Stays (old new : Stream) : Type 0 where
   pub known : known new ≡ known old
   pub defining : new.defining ≡ old.defining
 
--- where so many braces of a list are open, at least so many being open in all, the statement stays the same but
+-- where that many braces of a list are open, at least that many being open in all, the statement stays the same but
 -- for newlines, and so does its end
 pub record Blanks (braces : ℕ) (ds : List Definition) (defining : Bool) (old new : List Placed ×
     List Placed) : Type 0 where

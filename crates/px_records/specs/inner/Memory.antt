@@ -31,6 +31,6 @@ Promises place ballot old new = PutsSlot place (promised_with ballot (slots_in o
 abbrev pub PutsEntry : (place : ℕ) → node.Entry Bytes → (old new : BTreeMap ℕ Entry) → Type 0
 PutsEntry place e old new = (p : ℕ) → learned_in new p ≡ put (learned_in old) place (Some e) p
 
--- what is kept fits a record of so many members
+-- what is kept fits a record of that many members
 abbrev pub AllFits : (members : ℕ) → Meta → BTreeMap ℕ Slot → BTreeMap ℕ Entry → Type 0
 AllFits members meta slots learned = RecordFits AnyCommand members (record_of meta slots learned)

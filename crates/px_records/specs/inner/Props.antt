@@ -20,7 +20,7 @@ use Rattle.px_records.specs.Records.{IsEnd}
 use Rattle.px_records.specs.Memory.{slots_in, record_of}
 use Rattle.px_records.specs.inner.Memory.{AllFits}
 
--- ---- values that are told apart
+-- ---- values that are distinguished
 
 abbrev entry_code : Coded (Entry Bytes)
 entry_code =

@@ -71,7 +71,7 @@ AreIntegers (Learned p) = ⊤
 abbrev pub IsPut : Identity → NewRow → Bytes → Trees → Trees → Type 0
 IsPut id r bytes = Puts (tree_of r) (key_of r) (columns_of r) (row_of id r bytes)
 
--- What putting a row makes of a connection: after Ok it stands, committed; where memory was wanting nothing differs;
+-- What putting a row makes of a connection: after Ok it stands, committed; when out of memory nothing differs;
 -- and a stop at this moment leaves what it left before, or the rows with it put.
 pub record Wrote (id : Identity) (r : NewRow) (bytes : Bytes) (answer : Result (Unit {0}) Trouble) (old new : State)
     : Type 0 where

@@ -55,7 +55,7 @@ Answers Top db rows = IsLast has_ballot (db 1) rows
 Answers End db rows = IsLast any_row (db 3) rows
 Answers LastSlot db rows = IsLast any_row (db 1) rows
 
--- What reading makes of a connection: after Ok the rows answer it and nothing differs; where memory was wanting nothing
+-- What reading makes of a connection: after Ok the rows answer it and nothing differs; when out of memory nothing
 -- differs; and a stop leaves what it left before.
 pub record Looked (q : Question) (answer : Result (Vec Row Global) Trouble) (old new : State) : Type 0 where
   pub ok : IfOk answer (λ rows. Answers q old.now.trees rows.items × IsStill old new)

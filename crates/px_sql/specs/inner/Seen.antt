@@ -75,7 +75,7 @@ IsLast test rows (a ∷ []) =
     × ((x : Row) → Has rows x → test x ≡ true → is_gt (value_cmp (column x 0) (column r 0)) ≡ false)
 IsLast test rows (a ∷ b ∷ more) = ⊥
 
--- one more than the position that such an answer tells, or 0
+-- one more than the position that such an answer reports, or 0
 abbrev pub IsEndOf : List Row → ℕ → Type 0
 IsEndOf [] t = t ≡ 0
 IsEndOf (a ∷ []) t =

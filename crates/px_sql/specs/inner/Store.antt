@@ -26,7 +26,7 @@ pub record OnlyReads (old new : Stored) : Type 0 where
 abbrev pub LeavesOneOf : Record Bytes → Stored → Stored → Type 0
 LeavesOneOf target old new = (r : Record Bytes) → new.may_leave r → old.may_leave r ⊎ (r ≡ target)
 
--- What a change makes: after Ok the record is this one; where memory was wanting nothing differs; and a stop at this
+-- What a change makes: after Ok the record is this one; when out of memory nothing differs; and a stop at this
 -- moment leaves what it left before, or this record.
 pub record Changed (target : Record Bytes) (answer : Result (Unit {0}) StoreFault) (old new : Stored) : Type 0 where
   pub ok : OnOk answer (new.kept ≡ target)

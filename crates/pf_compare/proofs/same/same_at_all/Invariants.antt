@@ -2,7 +2,7 @@ use Rattle.std.proofs.Common.{◌≡◌, map, length}
 use Rattle.pf_compare.specs.Contents.{content_at}
 use Rattle.pf_compare.proofs.same.same_at_all.Given as goal
 
--- where the same stands at the paths that are left, it does at all
+-- where the same is at the paths that are left, it does at all
 abbrev pub invariant-loop-left : goal.invariant-loop-left
 invariant-loop-left l =
     map (content_at l.a) (map (λ x. x.now) l.left) ≡ map (content_at l.b) (map (λ x. x.now) l.left)

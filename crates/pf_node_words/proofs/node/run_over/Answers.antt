@@ -20,7 +20,7 @@ returns-in-Err-clause-hosted g c =
       c.in-Err.outcome,
       runs _ _ _ _ _ _ _ (c.open_member-ended.ensures none),
       c.ended_outcome-in-Err.ensures,
-      refused_so _ c.in-Err.outcome c.in-Err.is c.counted.ensures,
+      refused_so _ c.in-Err.outcome c.in-Err.is c.observed.ensures,
     )
 
 pub returns-in-Err-clause-turns : goal.returns-in-Err-clause-turns
@@ -32,5 +32,5 @@ returns-in-Err-clause-turns g c no_place =
       c.in-Err.outcome,
       c.open_member-ended.ensures none,
       c.ended_outcome-in-Err.ensures,
-      refused_so _ c.in-Err.outcome c.in-Err.is c.counted.ensures,
+      refused_so _ c.in-Err.outcome c.in-Err.is c.observed.ensures,
     )

@@ -15,6 +15,9 @@ loop-round-preserved g c = record {
     replica = refl;
     given = c.wait.ensures.given;
     handed = c.wait.ensures.quiet;
+    kept = refl;
+    requests = refl;
+    hears = refl;
   })));
   grows = omega (arith, c.loop-round.invariant.grows, c.round.ensures.grows);
 }

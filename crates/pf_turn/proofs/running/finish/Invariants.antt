@@ -6,6 +6,6 @@ use Rattle.pf_turn.proofs.running.finish.Given as goal
 
 abbrev pub invariant-loop-round : goal.invariant-loop-round
 invariant-loop-round g l = record {
-  served : Served (standing g.W.Wire l.fn.node l.fn.wire) (standing g.W.Wire l.node l.wire) None;
+  served : Served (standing g.W.Wire l.fn.node l.fn.wire l.fn.room) (standing g.W.Wire l.node l.wire l.room) None;
   grows : applied_of l.fn.node ≤ applied_of l.node;
 }

@@ -7,7 +7,7 @@ use Rattle.pf_turn.proofs.serving.drain.Given as goal
 
 abbrev pub invariant-loop-taken : goal.invariant-loop-taken
 invariant-loop-taken g l = record {
-  served : Served (standing g.W.Wire l.fn.node l.fn.wire) (standing g.W.Wire l.node l.wire) None;
-  saw : SawAll l.taken (standing g.W.Wire l.fn.node l.fn.wire) (standing g.W.Wire l.node l.wire) (seen_in l.fn.room) (seen_in l.room);
+  served : Served (standing g.W.Wire l.fn.node l.fn.wire l.fn.room) (standing g.W.Wire l.node l.wire l.room) None;
+  saw : SawAll l.taken (standing g.W.Wire l.fn.node l.fn.wire l.fn.room) (standing g.W.Wire l.node l.wire l.room) (seen_in l.fn.room) (seen_in l.room);
   grows : applied_of l.fn.node ≤ applied_of l.node;
 }

@@ -1,9 +1,0 @@
--- the wire tells what it told
-use Rattle.std.proofs.Common.{◌≡◌}
-use Rattle.pf_turn.proofs.running.release.Given as goal
-
-abbrev pub invariant-loop-position : goal.invariant-loop-position
-invariant-loop-position g l = record {
-  given : g.W.Wire.given l.wire ≡ g.W.Wire.given l.fn.wire;
-  quiet : g.W.Wire.handed l.wire ≡ g.W.Wire.handed l.fn.wire;
-}

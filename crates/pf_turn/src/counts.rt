@@ -1,0 +1,62 @@
+//! What went over the wire in a round.
+
+/// What went over the wire in a round, for whoever counts it. What is sent again isn't among it.
+#[derive(Clone, Copy, PartialEq, Eq)]
+pub struct RoundCounts {
+    me: u8,
+    /// How many datagrams came.
+    pub came: u32,
+    /// How many of these were empty, as a wire gives one in place of one that it drops, or asks where these aren't
+    /// heard.
+    pub dropped: u32,
+    /// How many of them were requests that had come before, byte for byte, and were answered again.
+    pub answered: u32,
+    /// How many datagrams were not sent.
+    pub unsent: u32,
+    /// How many were handed to the wire for each member.
+    pub sent: [u32; 15],
+    /// The most bytes of one for another member.
+    pub longest: usize,
+}
+
+impl RoundCounts {
+    /// Nothing went over the wire of this member.
+    pub(crate) fn new(me: u8) -> RoundCounts {
+        RoundCounts {
+            me,
+            came: 0,
+            dropped: 0,
+            answered: 0,
+            unsent: 0,
+            sent: [0; 15],
+            longest: 0,
+        }
+    }
+
+    /// The same of the next round.
+    pub(crate) fn next(self) -> RoundCounts {
+        RoundCounts::new(self.me)
+    }
+
+    /// One datagram more came, of that many bytes.
+    pub(crate) fn count_in(&mut self, length: usize) {
+        self.came = self.came.saturating_add(1);
+        if length == 0 {
+            self.dropped = self.dropped.saturating_add(1);
+        }
+    }
+
+    /// One more was handed over for this member, of that many bytes.
+    pub(crate) fn count_out(&mut self, to: u8, length: usize, is_sent: bool) {
+        if !is_sent {
+            self.unsent = self.unsent.saturating_add(1);
+        }
+        let Some(sent) = self.sent.get_mut(usize::from(to)) else {
+            return;
+        };
+        *sent = sent.saturating_add(1);
+        if to != self.me {
+            self.longest = self.longest.max(length);
+        }
+    }
+}

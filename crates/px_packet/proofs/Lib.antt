@@ -1,0 +1,4 @@
+mod Apart
+mod Sealing
+mod Headers
+mod Opening

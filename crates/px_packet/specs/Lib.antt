@@ -1,0 +1,5 @@
+pub mod Headers
+pub mod Packets
+pub mod Keyed
+pub mod Laws
+pub mod Examples

@@ -1,0 +1,2 @@
+mod Windows
+mod Arrivals

@@ -1,0 +1,4 @@
+pub mod Windows
+pub mod Arrivals
+pub mod Laws
+pub mod Examples

@@ -1,0 +1,2 @@
+pub mod Among
+mod Kept

@@ -1,0 +1,12 @@
+//! Trials of packets of the second format: pieces in any order, sealed packets, which packets are accepted, starts'
+//! files.
+#![tactic(auto)]
+
+#[cfg(test)]
+mod arrivals;
+#[cfg(test)]
+mod packets;
+#[cfg(test)]
+mod pieces;
+#[cfg(test)]
+mod starts;
