@@ -30,7 +30,7 @@ _pfx() {
     test) options="-f --file --packets -q --quiet -v --verbose" ;;
     ctl) options="-v --verbose" ;;
     node)
-        options="--config --me --cluster --store --turns --door --metrics --key --other-key --unsealed --new --check --quiet" ;;
+        options="--config --me --cluster --store --turns --door --metrics --key --other-key --new-starts --unsealed --new --check --quiet" ;;
     ask)
         options="--wait -a -f -n -F -t -T -s"
         [[ $seen == *" --to "* ]] || options+=" --door --at --unchecked --script --from"

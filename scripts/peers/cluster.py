@@ -17,6 +17,7 @@ CLUSTER = 7
 LAST_ROUND = (1 << 48) - 1
 PREPARE, ACCEPT, VOTE, NACK, NEED, LEARNED, ASK, ASKED = 1, 3, 4, 5, 6, 7, 8, 9
 PREPARE_ALL, PROMISE_ALL = 11, 12
+STATE, WHOLE = 0, 1
 
 
 # ---- bytes
@@ -46,14 +47,36 @@ def tag_key(secret, addresses):
     return hmac.new(secret, number(CLUSTER, 4) + texts, hashlib.sha256).digest()
 
 
-def sealed(key, data):
-    return data if key is None else data + hmac.new(key, data, hashlib.sha256).digest()
+class Packets:
+    """The packets of a member with a key (docs/KEYS.md): its start, the others' starts, and a counter for each. It cuts
+    nothing, so a datagram has at most 1,179 bytes, and remembers no counters that came."""
+
+    def __init__(self, members, me):
+        self.members, self.me = members, me
+        self.start = number(int(time.time()), 4) + os.urandom(4)
+        self.starts, self.counters = {}, {}
+
+    def seal(self, key, to, kind, body):
+        self.counters[to] = self.counters.get(to, 0) + 1
+        head = b"PFXS\2" + number(CLUSTER, 4) + bytes([self.members, self.me, to, kind]) + self.start
+        head += self.starts.get(to, bytes(8)) + number(self.counters[to], 8)
+        return head + body + packet_tag(key, head + body)
+
+    def open(self, keys, packet):
+        """The sender, the kind and the body of a packet for this start; the sender alone where it is for none."""
+        front, tag = packet[:-16], packet[-16:]
+        if len(front) < 37 or all(packet_tag(key, front) != tag for key in keys):
+            return None
+        sender, start = front[10], front[13:21]
+        if front[11] != self.me or start < self.starts.get(sender, bytes(8)):
+            return None
+        self.starts[sender] = start
+        return sender, front[12], front[37:] if front[21:29] == self.start else b""
 
 
-def opened(key, data):
-    if key is None:
-        return data
-    return data[:-32] if len(data) >= 32 and sealed(key, data[:-32]) == data else b""
+def packet_tag(key, front):
+    own = hmac.new(key, b"PFXS\2", hashlib.sha256).digest()
+    return hmac.new(own, front, hashlib.sha256).digest()[:16]
 
 
 def spoof(raw, source, target, data):
@@ -167,6 +190,8 @@ class Member:
         self.socket = socket.socket(socket.AF_INET, socket.SOCK_DGRAM)
         self.socket.bind(cluster.places[me])
         self.round, self.position, self.sent_again, self.entries = 0, 0, 0, []
+        self.packets = Packets(self.members, me) if key else None
+        self.greeted = {}
 
     def close(self):
         self.socket.close()
@@ -174,18 +199,36 @@ class Member:
     def send(self, kind, body):
         for to in range(self.members):
             if to != self.me:
-                data = datagram(self.members, self.me, to, kind, body)
-                self.socket.sendto(sealed(self.key, data), self.cluster.places[to])
+                self.send_one(to, datagram(self.members, self.me, to, kind, body))
+
+    def send_one(self, to, data):
+        if self.packets and to not in self.packets.starts:
+            data = self.packets.seal(self.key, to, STATE, b"")
+        elif self.packets:
+            data = self.packets.seal(self.key, to, WHOLE, data)
+        self.socket.sendto(data, self.cluster.places[to])
+
+    def opened(self, packet):
+        """The datagram in a packet; a member that shows a new start is greeted by this one's."""
+        if not self.packets:
+            return packet
+        found = self.packets.open([it for it in (self.key, self.other) if it], packet)
+        if found is None:
+            return b""
+        sender, kind, body = found
+        if self.greeted.get(sender) != self.packets.starts[sender] and sender < self.members:
+            self.greeted[sender] = self.packets.starts[sender]
+            self.socket.sendto(self.packets.seal(self.key, sender, STATE, b""), self.cluster.places[sender])
+        return body if kind == WHOLE else b""
 
     def hear(self, until):
         """The next datagram of a member: its sender, kind and body; None where none comes in time."""
         while (left := until - time.time()) > 0:
             self.socket.settimeout(left)
             try:
-                sealed_data = self.socket.recv(65536)
+                data = self.opened(self.socket.recv(65536))
             except TimeoutError:
                 return None
-            data = opened(self.key, sealed_data) or (opened(self.other, sealed_data) if self.other else b"")
             if len(data) > 13 and data[:4] == b"PFXR" and data[11] == self.me:
                 if data[12] == NEED:
                     self.tell(data[10], int.from_bytes(data[13:17], "big"))
@@ -197,8 +240,7 @@ class Member:
         """Tells a node what was learned at a position, if it was."""
         if position < len(self.entries) and to < self.members:
             body = number(position, 4) + sized(self.entries[position])
-            data = datagram(self.members, self.me, to, LEARNED, body)
-            self.socket.sendto(sealed(self.key, data), self.cluster.places[to])
+            self.send_one(to, datagram(self.members, self.me, to, LEARNED, body))
 
     def await_learned(self, nodes=None, seconds=60):
         """Until each of the nodes has learned all of its entries; False where that takes longer."""

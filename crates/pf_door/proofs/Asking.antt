@@ -1,11 +1,12 @@
 -- Requests at a desk, one after another.
-use Rattle.std.proofs.Common.{◌≡◌, ℕ, zero, suc, List, [], ◌∷◌, refl, sym, ap, subst, inl, inr}
+use Rattle.std.proofs.Common.{◌≡◌, ℕ, zero, suc, Bool, true, false, List, [], ◌∷◌, refl, sym, ap, subst, inl, inr}
 use Rattle.http.specs.declared.request.Request.{Request}
 use Rattle.http_server.specs.Exchange.{Call, Chain}
 use Rattle.http_server.specs.declared.response.Response.{Response}
 use Rattle.px_records.specs.declared.records.Records.{Ghosts}
 use Rattle.pf_desk.specs.declared.desk.Desk.{Desk}
-use Rattle.pf_door.specs.inner.Handling.{IsHandled}
+use Rattle.pf_desk.specs.declared.request.Request as asked
+use Rattle.pf_door.specs.inner.Handling.{IsHandled, PassedOnIf, is_asked}
 use Rattle.pf_door.specs.inner.Runs.{Asks, AreAsked}
 use Rattle.pf_door.specs.declared.clerk.Clerk.{Clerk}
 
@@ -20,9 +21,10 @@ asks_then m (suc n) s t u a (w, b, k) =
 pub asked_then : {R : Type 0} {G : Ghosts R} (s t u : Desk R G) → AreAsked s t → AreAsked t u → AreAsked s u
 asked_then s t u (m, a) (n, b) = asks_then m n s t u a b
 
--- what became of one request
-handled : {R : Type 0} {G : Ghosts R} (c d : Clerk R G) (r : Response) → IsHandled c d r → AreAsked c.desk d.desk
-handled c d r (inl (request, answered)) = (
+-- what became of one request that was understood
+passed_on : {R : Type 0} {G : Ghosts R} (b : Bool) (c d : Clerk R G) (request : asked.Request) (r : Response) →
+    PassedOnIf b c d request r → AreAsked c.desk d.desk
+passed_on true c d request r answered = (
   suc zero,
   (
     c.desk,
@@ -35,7 +37,12 @@ handled c d r (inl (request, answered)) = (
     },
   ),
 )
-handled c d r (inr away) = asked_none c.desk d.desk away.still
+passed_on false c d request r turned = asked_none c.desk d.desk turned.still
+
+-- and of one
+handled : {R : Type 0} {G : Ghosts R} (c d : Clerk R G) (r : Response) → IsHandled c d r → AreAsked c.desk d.desk
+handled c d r (inl (request, passed)) = passed_on (is_asked c request) c d request r passed
+handled c d r (inr misread) = asked_none c.desk d.desk misread.still
 
 -- a chain of calls of a clerk
 pub chained : {R : Type 0} {G : Ghosts R} (answers : Clerk R G → Request (List ℕ) → Response → Clerk R G → Type 0) →

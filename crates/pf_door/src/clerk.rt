@@ -1,10 +1,10 @@
 //! Requests as the desk has them, and its answers as HTTP has them.
 
-ghost use Rattle.std.specs.Prelude.{◌≡◌, ◌≤◌, [], true, IfOk, OnErr, OnOk, string_bytes};
+ghost use Rattle.std.specs.Prelude.{◌≡◌, [], true, false, IfOk, OnErr, OnOk, string_bytes};
 ghost use Rattle.http_server.specs.Response.{IsBlank};
 ghost use Rattle.pf_desk.specs.Answers.{answer_value};
-ghost use Rattle.pf_door.specs.inner.Handling.{Says, IsAnswered, IsTurnedAway, IsHandled};
-ghost use Rattle.pf_door.specs.inner.Handling.{is_urgent, is_change, passes_on};
+ghost use Rattle.pf_door.specs.inner.Handling.{Says, IsAnswered, IsTurnedAway, IsMisread, IsPassedOn, IsHandled};
+ghost use Rattle.pf_door.specs.inner.Handling.{is_urgent, is_change, is_read, waiting, not_found};
 
 use bytes::{BufMut, Bytes};
 use http::{HeaderName, HeaderValue, StatusCode};
@@ -233,47 +233,65 @@ impl<R: Records> Clerk<R> {
         Ok(())
     }
 
-    /// Asks nothing: what came is refused, with HTTP's status, 400 at least.
-    fn turn_away(&mut self, code: u16, body: String, response: &mut Response)
+    /// Asks nothing: this is answered.
+    fn turn_away(&mut self, answer: &Answer, response: &mut Response)
         requires { IsBlank response.old }
-        ensures away { IsTurnedAway self.old.desk self.new.desk response.new }
+        ensures away { IsTurnedAway self.old.desk self.new.desk (answer_value answer.now) response.new }
         ensures scraped { self.new.is_scraped ≡ self.old.is_scraped }
     {
-        let answer = Answer {
-            code: code.max(400),
-            body,
-        };
-        self.write(&answer, TEXT, response);
+        self.write(answer, TEXT, response);
         self.count(response.status.as_u16());
     }
 
-    /// The same without a body.
-    fn refuse(&mut self, code: u16, response: &mut Response)
+    /// Asks nothing, since what came isn't understood: that is answered with HTTP's status, 400 to 499.
+    fn misread(&mut self, code: u16, body: String, response: &mut Response)
         requires { IsBlank response.old }
-        ensures away { IsTurnedAway self.old.desk self.new.desk response.new }
+        ensures misread { IsMisread self.old.desk self.new.desk response.new }
         ensures scraped { self.new.is_scraped ≡ self.old.is_scraped }
     {
-        let body = String::new(self.alloc);
-        self.turn_away(code, body, response);
+        let answer = Answer {
+            code: code.max(400).min(499),
+            body,
+        };
+        self.turn_away(&answer, response);
     }
 
-    /// Asks nothing now: who asks is to ask again.
+    /// Asks nothing: what is asked isn't served here.
+    fn not_found(&mut self, response: &mut Response)
+        requires { IsBlank response.old }
+        ensures away { IsTurnedAway self.old.desk self.new.desk not_found response.new }
+        ensures scraped { self.new.is_scraped ≡ self.old.is_scraped }
+    {
+        let answer = Answer {
+            code: 404,
+            body: String::new(self.alloc),
+        };
+        self.turn_away(&answer, response);
+    }
+
+    /// Asks nothing now: the client is to ask again.
     fn put_off(&mut self, response: &mut Response) -> Result<(), AllocError>
         requires { IsBlank response.old }
-        ensures away { OnOk result (IsTurnedAway self.old.desk self.new.desk response.new) }
+        ensures away { OnOk result (IsTurnedAway self.old.desk self.new.desk waiting response.new) }
         ensures still { self.new.desk ≡ self.old.desk }
         ensures memory { OnErr result (self.new ≡ self.old) }
         ensures scraped { self.new.is_scraped ≡ self.old.is_scraped }
     {
-        let body = String::from_str(self.alloc, "waiting\n")?;
-        self.turn_away(503, body, response);
+        let answer = Answer {
+            code: 503,
+            body: String::from_str(self.alloc, "waiting\n")?,
+        };
+        self.turn_away(&answer, response);
         Ok(())
     }
 
-    /// Reads, where figures alone are told.
+    /// Reads, where figures alone are served.
     fn look(&mut self, request: &Request, response: &mut Response) -> Result<(), AllocError>
         requires { IsBlank response.old }
-        ensures handled { OnOk result (IsHandled self.old self.new response.new) }
+        ensures read { is_read request.now ≡ true → OnOk result
+            (IsAnswered self.old.desk self.new.desk self.old.tally request.now response.new) }
+        ensures other { is_read request.now ≡ false → OnOk result
+            (IsTurnedAway self.old.desk self.new.desk not_found response.new) }
         ensures still { self.new.desk ≡ self.old.desk }
         ensures memory { OnErr result (self.new ≡ self.old) }
         ensures scraped { self.new.is_scraped ≡ self.old.is_scraped }
@@ -281,19 +299,17 @@ impl<R: Records> Clerk<R> {
         match request {
             Request::Read { at: _, read: _ } => self.ask(request, response),
             Request::Change { .. } | Request::Stop => {
-                self.refuse(404, response);
+                self.not_found(response);
                 Ok(())
             }
         }
     }
 
-    /// Handles a request that was understood: a change isn't asked while the node takes none in, and at the last seat
-    /// nothing is but `health` and `stop`.
+    /// Handles a request that was understood: a change isn't asked while the node is catching up, and at the last
+    /// connection nothing is but `health` and `stop`.
     fn pass_on(&mut self, request: &Request, response: &mut Response) -> Result<(), AllocError>
         requires { IsBlank response.old }
-        ensures handled { OnOk result (IsHandled self.old self.new response.new) }
-        ensures answered { passes_on self.old request.now ≡ true → OnOk result
-            (IsAnswered self.old.desk self.new.desk self.old.tally request.now response.new) }
+        ensures passed { OnOk result (IsPassedOn self.old self.new request.now response.new) }
         ensures still { self.old.is_scraped ≡ true → self.new.desk ≡ self.old.desk }
         ensures memory { OnErr result (self.new ≡ self.old) }
         ensures scraped { self.new.is_scraped ≡ self.old.is_scraped }
@@ -324,7 +340,8 @@ impl<R: Records> Clerk<R> {
     {
         let uri = request.uri();
         if self.is_scraped && !is_of_figures(uri.path()) {
-            self.refuse(404, response);
+            let body = String::new(self.alloc);
+            self.misread(404, body, response);
             return Ok(());
         }
         let body: &[u8] = request.body();
@@ -334,12 +351,13 @@ impl<R: Records> Clerk<R> {
         match request_in(self.alloc, method, uri.path(), query, body, is_json)? {
             Routed::Asked(asked) => self.pass_on(&asked, response),
             Routed::Refused(code) => {
-                self.refuse(code, response);
+                let body = String::new(self.alloc);
+                self.misread(code, body, response);
                 Ok(())
             }
             Routed::Unread(code) => {
                 let body = refused(self.alloc, code)?;
-                self.turn_away(status_of(code), body, response);
+                self.misread(status_of(code), body, response);
                 Ok(())
             }
         }

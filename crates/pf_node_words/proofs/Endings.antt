@@ -1,6 +1,6 @@
 -- With what a run ends: neither 93 nor 94, which are of a store before it is opened.
-use Rattle.std.proofs.Common.{◌≡◌, ◌⊎◌, ◌↔◌, ℕ, Bool, true, false, Option, Some, None, refl, sym, subst, ap, ◌∙◌, inl, inr, arith}
-use Rattle.std.specs.Prelude.{if◌then◌else◌, nat_lt, IsSome, IsTrue}
+use Rattle.std.proofs.Common.{◌≡◌, ◌⊎◌, ◌↔◌, ℕ, Result, Ok, Err, Bool, true, false, Option, Some, None, refl, sym, subst, ap, ◌∙◌, inl, inr, arith}
+use Rattle.std.specs.Prelude.{if◌then◌else◌, nat_lt, IsSome, IsTrue, OnErr}
 use Rattle.px_records.specs.declared.records.Records.{Ghosts}
 use Rattle.px_wire.specs.declared.membership.Membership.{Membership}
 use Rattle.px_replica.specs.declared.fault.NodeFault.{NodeFault}
@@ -54,6 +54,9 @@ n83 = of_number 83 (λ b. omega (arith, b)) (λ b. omega (arith, b))
 
 n84 : (file new : Bool) → IsStoreless file new (Refused 84)
 n84 = of_number 84 (λ b. omega (arith, b)) (λ b. omega (arith, b))
+
+n95 : (file new : Bool) → IsStoreless file new (Refused 95)
+n95 = of_number 95 (λ b. omega (arith, b)) (λ b. omega (arith, b))
 
 fronts : (n a : ℕ) (file new : Bool) → IsStoreless file new (Front n a)
 fronts n a file new = record { missing = λ e. absurd (cc); there = λ e. absurd (cc) }
@@ -121,19 +124,33 @@ of_key o (inl e) = as_is o Sound e sound
 of_key o (inr (inl e)) = as_is o Memory e by_memory
 of_key o (inr (inr e)) = as_is o (Refused 83) e n83
 
+of_starts : (o : Outcome) → (o ≡ Sound) ⊎ ((o ≡ Memory) ⊎ (o ≡ Refused 95)) → (file new : Bool) → IsStoreless file new o
+of_starts o (inl e) = as_is o Sound e sound
+of_starts o (inr (inl e)) = as_is o Memory e by_memory
+of_starts o (inr (inr e)) = as_is o (Refused 95) e n95
+
+-- the packets of a node can't be sealed
+pub unsealed : {X : Type 0} (r : Result X Outcome) (outcome : Outcome) → r ≡ Err outcome →
+    OnErr r ((r ≡ Err Memory) ⊎ (r ≡ Err (Refused 95))) → (file new : Bool) → IsStoreless file new outcome
+unsealed (Ok x) outcome is h file new = absurd (cc)
+unsealed (Err o) outcome is (inl e) file new = let same : outcome ≡ Memory = cc in rw same (by_memory file new)
+unsealed (Err o) outcome is (inr e) file new = let same : outcome ≡ Refused 95 = cc in rw same (n95 file new)
+
 of_addresses : (o : Outcome) → (o ≡ Sound) ⊎ (o ≡ Refused 82) → (file new : Bool) → IsStoreless file new o
 of_addresses o (inl e) = as_is o Sound e sound
 of_addresses o (inr e) = as_is o (Refused 82) e n82
 
-pub of_check : (file new : Bool) (place key other store addresses : Outcome) →
+pub of_check : (file new : Bool) (place key other store starts addresses : Outcome) →
     (place ≡ Sound) ⊎ (place ≡ Refused 40) →
     (key ≡ Sound) ⊎ ((key ≡ Memory) ⊎ (key ≡ Refused 83)) → (other ≡ Sound) ⊎ ((other ≡ Memory) ⊎ (other ≡ Refused 83)) →
-    IsStoreless file new store → (addresses ≡ Sound) ⊎ (addresses ≡ Refused 82) →
-    IsStoreless file new (checked place (first_of key other) store addresses)
-of_check file new place key other store addresses p k q s a =
+    IsStoreless file new store → (starts ≡ Sound) ⊎ ((starts ≡ Memory) ⊎ (starts ≡ Refused 95)) →
+    (addresses ≡ Sound) ⊎ (addresses ≡ Refused 82) →
+    IsStoreless file new (checked place (first_of key other) store starts addresses)
+of_check file new place key other store starts addresses p k q s t a =
     first file new place _ (of_place place p file new)
     (first file new (first_of key other) _ (first file new key other (of_key key k file new) (of_key other q file new))
-    (first file new store addresses s (of_addresses addresses a file new)))
+    (first file new store _ s (first file new starts addresses (of_starts starts t file new)
+    (of_addresses addresses a file new))))
 
 pub none_of : {X : Type 0} (m : Option X) (b : Bool) → IsSome m ↔ IsTrue b → b ≡ false → m ≡ None
 none_of None b h e = refl
@@ -141,5 +158,6 @@ none_of (Some x) b h e =
     let t : IsTrue b = h.0 refl in absurd (let f : IsTrue false = subst (λ (q : Bool). IsTrue q) e t in cc)
 
 -- the numbers are the first that is asked
-pub place_first : (place keys store addresses : Outcome) → place ≡ Refused 40 → checked place keys store addresses ≡ Refused 40
-place_first place keys store addresses e = ap (λ (o : Outcome). checked o keys store addresses) e
+pub place_first : (place keys store starts addresses : Outcome) → place ≡ Refused 40 →
+    checked place keys store starts addresses ≡ Refused 40
+place_first place keys store starts addresses e = ap (λ (o : Outcome). checked o keys store starts addresses) e

@@ -11,7 +11,10 @@ use crate::faults::{owner_of, say_closed, say_figures, say_place, say_storeless,
 use crate::key::key_in;
 use crate::node::{NodeWords, figures_at, membership};
 use crate::outcome::Outcome;
-use crate::store::{Found, Opening, failed_outcome, found_at, identity_of, opening_of, untaken};
+use crate::sealing::of_starts;
+use crate::store::{
+    Found, Opening, failed_outcome, found_at, identity_of, is_made, opening_of, untaken,
+};
 use pf_io::{Shown, open_regular};
 use pf_member::Membership;
 use px_sql::{AdoptFault, SqlRecords};
@@ -34,12 +37,21 @@ fn first_of(one: Outcome, other: Outcome) -> Outcome
     }
 }
 
-/// What a start would be refused for, of what is refused of its numbers, its keys, its store and its addresses: the
-/// first, in the order in which a start asks.
-fn checked(place: Outcome, keys: Outcome, store: Outcome, addresses: Outcome) -> Outcome
-    ensures { result ≡ checked place keys store addresses }
+/// What a start would be refused for, of what is refused of its numbers, its keys, its store, its starts and its
+/// addresses: the first, in the order in which a start asks.
+fn checked(
+    place: Outcome,
+    keys: Outcome,
+    store: Outcome,
+    starts: Outcome,
+    addresses: Outcome,
+) -> Outcome
+    ensures { result ≡ checked place keys store starts addresses }
 {
-    first_of(place, first_of(keys, first_of(store, addresses)))
+    first_of(
+        place,
+        first_of(keys, first_of(store, first_of(starts, addresses))),
+    )
 }
 
 /// Whether a store has no table yet, so that a node that is started makes them.
@@ -235,6 +247,27 @@ fn of_store(
     }
 }
 
+/// What is refused of the file of starts, where a node with these words would need one.
+fn starts_of(
+    rt: &HostRuntime,
+    alloc: Global,
+    words: NodeWords<'_, '_, '_>,
+    m: Option<Membership>,
+) -> Outcome
+    ensures { (result ≡ Sound) ⊎ ((result ≡ Memory) ⊎ (result ≡ Refused 95)) }
+{
+    match found_at(rt, alloc, words.store) {
+        Ok(found) => of_starts(
+            rt,
+            alloc,
+            words,
+            m,
+            is_made(words.is_from_file, words.is_new, found),
+        ),
+        Err(_) => Outcome::Memory,
+    }
+}
+
 /// What is refused of the numbers that the words name.
 fn of_place(rt: &HostRuntime, words: NodeWords<'_, '_, '_>, m: Option<Membership>) -> Outcome
     ensures none { m ≡ None → result ≡ Refused 40 }
@@ -284,7 +317,7 @@ fn of_addresses(rt: &HostRuntime, words: NodeWords<'_, '_, '_>) -> Outcome
 }
 
 /// What a start with these words would be refused for, as far as settings, keys, addresses and store tell: all is said
-/// on standard error, and the first answered, in the order of a start: 40, 83, 93, 94, the store's refusals, 82.
+/// on standard error, and the first answered, in the order of a start: 40, 83, 93, 94, the store's refusals, 95, 82.
 pub(crate) fn check_outcome(
     rt: &HostRuntime,
     alloc: Global,
@@ -298,6 +331,7 @@ pub(crate) fn check_outcome(
     let key = of_key(rt, alloc, words, words.key);
     let other = of_key(rt, alloc, words, words.other_key);
     let store = of_store(rt, alloc, words, m);
+    let starts = starts_of(rt, alloc, words, m);
     let addresses = of_addresses(rt, words);
-    checked(place, first_of(key, other), store, addresses)
+    checked(place, first_of(key, other), store, starts, addresses)
 }

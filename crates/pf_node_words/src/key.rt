@@ -11,8 +11,7 @@ use crate::store::FILE_IS_THERE;
 use pf_addr::Addr;
 use pf_io::{Shown, make_private, open_regular};
 use pf_net::parse_address;
-use px_key::{KeyFault, key_text, new_key, read_key};
-use px_seal::group_key;
+use px_key::{KeyFault, key_text, new_key, read_cluster_key};
 use std::alloc::Global;
 use std::fs;
 use std::io::{self, ErrorKind, Write};
@@ -54,13 +53,9 @@ pub(crate) fn key_in(
 ) -> Result<[u8; 32], Outcome>
     ensures { OnErr result ((result ≡ Err Memory) ⊎ (result ≡ Err (Refused 83))) }
 {
-    let secret = match read_key(rt, alloc, path) {
-        Ok(secret) => secret,
-        Err(fault) => return Err(key_refused(rt, path, fault)),
-    };
-    match group_key(alloc, &secret, words.cluster, words.members) {
+    match read_cluster_key(rt, alloc, path, words.cluster, words.members) {
         Ok(key) => Ok(key),
-        Err(_) => Err(Outcome::Memory),
+        Err(fault) => Err(key_refused(rt, path, fault)),
     }
 }
 

@@ -17,6 +17,7 @@ mod key;
 mod node;
 mod outcome;
 mod running;
+mod sealing;
 mod settings;
 mod store;
 mod words;

@@ -1,8 +1,12 @@
 //! The word `node`: a node over UDP.
 
 ghost use Rattle.std.specs.Prelude.{◌≡◌, ◌≢◌, ◌<◌, ◌≤◌, ◌⊎◌, ◌↔◌, Err, false, length, IfSome, OnErr, IsSome, IsTrue};
-ghost use Rattle.std.specs.Prelude.{ℕ, Bool, Some, None, option_map, option_and_then};
+ghost use Rattle.std.specs.Prelude.{ℕ, Bool, Some, None, IfOk, option_map, option_and_then};
 ghost use Rattle.toml.specs.Data.{as_str, get_member};
+ghost use Rattle.px_seal.specs.Hmac.{key_block};
+ghost use Rattle.px_packet.specs.Packets.{packet_key};
+ghost use Rattle.px_packet.specs.Keyed.{and_key};
+ghost use Rattle.px_packets.specs.Wiring.{keys_of, sealer_of};
 ghost use Rattle.pf_node_file.specs.Files.{settings_of};
 ghost use Rattle.pf_node_file.specs.Settings.{number_of};
 ghost use Rattle.pf_node_words.specs.declared.outcome.Outcome.TheVariants.{Memory, Refused};
@@ -14,14 +18,16 @@ use crate::events::{say_end, say_start};
 use crate::faults::say_place;
 use crate::key::{Keys, keys_for, warn_unsealed};
 use crate::outcome::{Outcome, ended_outcome, ending_of};
-use crate::store::record_for;
+use crate::sealing::{Sealing, sealing_for};
+use crate::store::{Found, found_at, is_made, record_at};
 use clap::ArgMatches;
 use pf_door::{DoorPlace, Observer, run_member};
 use pf_member::{Membership, open_member};
 use pf_net::{Address, BindFault, UdpWire};
 use pf_node_file::NodeFile;
+use px_packet::PacketKeys;
+use px_packets::PacketWire;
 use px_records::Records;
-use px_seal::SealedWire;
 use px_sql::SqlRecords;
 use px_transport::{LoopbackWire, Wire};
 use sqlite::{File, FileStore};
@@ -47,6 +53,8 @@ pub(crate) struct NodeWords<'m, 'w, 'a> {
     /// The file of the cluster's key, if datagrams carry its tag, and that of another that is heard too.
     pub(crate) key: Option<&'a str>,
     pub(crate) other_key: Option<&'a str>,
+    /// Whether a missing file of starts is made, beside a store that isn't new too.
+    pub(crate) makes_starts: bool,
     /// Whether something below seals datagrams.
     pub(crate) is_unsealed: bool,
     /// Where operators ask, if there is a door.
@@ -127,6 +135,7 @@ impl<'m, 'w, 'a> NodeWords<'m, 'w, 'a> {
             turns: turns_or_all(matches.get_one::<u32>("turns")),
             key: text_or(matches.get_str("key"), file, "key"),
             other_key: text_or(matches.get_str("other-key"), file, "other-key"),
+            makes_starts: matches.get_flag("new-starts"),
             is_unsealed: matches.get_flag("unsealed") || file.flag("unsealed"),
             door: text_or(matches.get_str("door"), file, "door"),
             metrics: text_or(matches.get_str("metrics"), file, "metrics"),
@@ -140,9 +149,9 @@ impl<'m, 'w, 'a> NodeWords<'m, 'w, 'a> {
         self.key.is_none() && self.door.is_none()
     }
 
-    /// Whether each setting has the one that it wants: a second key a key, figures a door.
+    /// Whether each setting has the one that it wants: a second key and new starts a key, figures a door.
     pub(crate) fn is_whole(self) -> bool {
-        (self.other_key.is_none() || self.key.is_some())
+        (self.other_key.is_none() && !self.makes_starts || self.key.is_some())
             && (self.metrics.is_none() || self.door.is_some())
     }
 }
@@ -198,20 +207,42 @@ fn bind(
     }
 }
 
-/// The wire whose datagrams carry the tag of a key.
+/// The wire whose packets are sealed with a key.
 fn sealed(
+    rt: &HostRuntime,
     alloc: Global,
+    m: Membership,
     wire: Result<UdpWire<HostRuntime>, Outcome>,
-    keys: Keys,
-) -> Result<SealedWire<UdpWire<HostRuntime>>, Outcome>
+    sealing: Sealing,
+) -> Result<PacketWire<UdpWire<HostRuntime>, HostRuntime>, Outcome>
     requires { OnErr wire ((wire ≡ Err Memory) ⊎ (wire ≡ Err (Refused 82))) }
-    ensures { OnErr result ((result ≡ Err Memory) ⊎ (result ≡ Err (Refused 82))) }
+    ensures refused { OnErr result ((result ≡ Err Memory) ⊎ (result ≡ Err (Refused 82))) }
+    ensures sealer { IfOk result (λ w. sealer_of w ≡ record {
+      cluster = m.cluster;
+      members = m.members;
+      me = m.me;
+      start = sealing.start;
+      key = key_block (packet_key sealing.keys.key);
+    }) }
+    ensures keys { IfOk result (λ w. keys_of w ≡ and_key (key_block (packet_key sealing.keys.key))
+        (option_map (λ k. key_block (packet_key k)) sealing.keys.other)) }
 {
     let wire = match wire {
         Ok(wire) => wire,
         Err(outcome) => return Err(outcome),
     };
-    match SealedWire::new(alloc, wire, &keys.key, keys.other.as_ref()) {
+    let keys = sealing.keys;
+    let packets = PacketKeys::new(&keys.key, keys.other.as_ref());
+    match PacketWire::new(
+        alloc,
+        wire,
+        *rt,
+        packets,
+        m.cluster(),
+        m.members(),
+        m.me(),
+        sealing.start,
+    ) {
         Ok(wire) => Ok(wire),
         Err(_) => Err(Outcome::Memory),
     }
@@ -285,7 +316,7 @@ fn run_node<R: Records>(
     words: NodeWords<'_, '_, '_>,
     m: Membership,
     records: R,
-    keys: Option<Keys>,
+    sealing: Option<Sealing>,
 ) -> (Outcome, R)
     requires members { R.members records ≡ m.members }
     requires here { m.me < m.members }
@@ -293,9 +324,9 @@ fn run_node<R: Records>(
     ensures turns { ComesTo R.Records m records result.0 result.1 }
 {
     let wire = bind(rt, alloc, words);
-    match keys {
-        Some(keys) => {
-            let wire = sealed(alloc, wire, keys);
+    match sealing {
+        Some(sealing) => {
+            let wire = sealed(rt, alloc, m, wire, sealing);
             run_over(rt, alloc, words, m, records, wire, None)
         }
         None => run_over(rt, alloc, words, m, records, wire, None),
@@ -343,7 +374,7 @@ fn run_at_door<R: Records>(
     path: &str,
     m: Membership,
     records: R,
-    keys: Option<Keys>,
+    sealing: Option<Sealing>,
 ) -> (Outcome, R)
     requires members { R.members records ≡ m.members }
     requires here { m.me < m.members }
@@ -366,9 +397,9 @@ fn run_at_door<R: Records>(
         members: members.as_str(),
         fd: wire.raw_fd(),
     });
-    match keys {
-        Some(keys) => {
-            let wire = sealed(alloc, Ok(wire), keys);
+    match sealing {
+        Some(sealing) => {
+            let wire = sealed(rt, alloc, m, Ok(wire), sealing);
             run_over(rt, alloc, words, m, records, wire, place)
         }
         None => run_over(rt, alloc, words, m, records, Ok(wire), place),
@@ -382,7 +413,7 @@ fn run_member_in<R: Records>(
     words: NodeWords<'_, '_, '_>,
     m: Membership,
     records: R,
-    keys: Option<Keys>,
+    sealing: Option<Sealing>,
 ) -> (Outcome, R)
     requires members { R.members records ≡ m.members }
     requires here { m.me < m.members }
@@ -390,8 +421,8 @@ fn run_member_in<R: Records>(
     ensures turns { words.entry.door ≡ None → ComesTo R.Records m records result.0 result.1 }
 {
     match words.door {
-        Some(path) => run_at_door(rt, alloc, words, path, m, records, keys),
-        None => run_node(rt, alloc, words, m, records, keys),
+        Some(path) => run_at_door(rt, alloc, words, path, m, records, sealing),
+        None => run_node(rt, alloc, words, m, records, sealing),
     }
 }
 
@@ -403,7 +434,7 @@ fn run_on(
     words: NodeWords<'_, '_, '_>,
     m: Membership,
     records: SqlRecords<FileStore<File>>,
-    keys: Option<Keys>,
+    sealing: Option<Sealing>,
 ) -> Outcome
     requires members { ⟦<SqlRecords<FileStore<File>> as Records>⟧.members records ≡ m.members }
     requires here { m.me < m.members }
@@ -411,15 +442,62 @@ fn run_on(
     ensures store { (file new : Bool) → IsStoreless file new result }
 {
     say_start(rt, words);
-    let (outcome, records) = run_member_in(rt, alloc, words, m, records, keys);
+    let (outcome, records) = run_member_in(rt, alloc, words, m, records, sealing);
     let outcome = ending_of(outcome, records.failures());
     say_end(rt, words, outcome);
     let _closed = records.release().close();
     outcome
 }
 
-/// What `node` comes to: 40 of its numbers, 83, 93, 94, the store's refusals, 82, 84, and the first refusal of a turn,
-/// in this order.
+/// The run of a member over its record, where its packets can be sealed; else the record is closed: 95.
+fn run_sealed(
+    rt: &HostRuntime,
+    alloc: Global,
+    words: NodeWords<'_, '_, '_>,
+    m: Membership,
+    records: SqlRecords<FileStore<File>>,
+    keys: Option<Keys>,
+) -> Outcome
+    requires members { ⟦<SqlRecords<FileStore<File>> as Records>⟧.members records ≡ m.members }
+    requires here { m.me < m.members }
+    ensures ending { result ≢ Refused 80 }
+    ensures store { (file new : Bool) → IsStoreless file new result }
+{
+    match sealing_for(rt, alloc, words, m, keys, false) {
+        Ok(sealing) => run_on(rt, alloc, words, m, records, sealing),
+        Err(outcome) => {
+            let _closed = records.release().close();
+            outcome
+        }
+    }
+}
+
+/// What a node over a new store comes to: its file of starts is made before its store, so that no store is without one.
+/// 95, the store's refusals, 82, 84, and the first refusal of a turn, in this order.
+fn run_new(
+    rt: &HostRuntime,
+    alloc: Global,
+    words: NodeWords<'_, '_, '_>,
+    m: Membership,
+    found: Found,
+    keys: Option<Keys>,
+) -> Outcome
+    requires here { m.me < m.members }
+    ensures ending { result ≢ Refused 80 }
+    ensures store { IsStoreless words.entry.is_from_file words.entry.is_new result }
+{
+    let sealing = match sealing_for(rt, alloc, words, m, keys, true) {
+        Ok(sealing) => sealing,
+        Err(outcome) => return outcome,
+    };
+    match record_at(rt, alloc, words, m, found) {
+        Ok(records) => run_on(rt, alloc, words, m, records, sealing),
+        Err(outcome) => outcome,
+    }
+}
+
+/// What `node` comes to: 40 of its numbers, 83, 93, 94, the store's refusals, 95, 82, 84, and the first refusal of a
+/// turn, in this order.
 pub(crate) fn node_outcome(rt: &HostRuntime, alloc: Global, words: NodeWords<'_, '_, '_>) -> Outcome
     ensures place { has_place words.entry.me (length words.entry.members.now) ≡ false → result ≡ Refused 40 }
     ensures ending { result ≢ Refused 80 }
@@ -434,8 +512,14 @@ pub(crate) fn node_outcome(rt: &HostRuntime, alloc: Global, words: NodeWords<'_,
         Err(outcome) => return outcome,
     };
     warn_unsealed(rt, words);
-    match record_for(rt, alloc, words, m) {
-        Ok(records) => run_on(rt, alloc, words, m, records, keys),
+    let Ok(found) = found_at(rt, alloc, words.store) else {
+        return Outcome::Memory;
+    };
+    if is_made(words.is_from_file, words.is_new, found) {
+        return run_new(rt, alloc, words, m, found, keys);
+    }
+    match record_at(rt, alloc, words, m, found) {
+        Ok(records) => run_sealed(rt, alloc, words, m, records, keys),
         Err(outcome) => outcome,
     }
 }

@@ -4,7 +4,7 @@ ghost use Rattle.std.specs.Prelude.{◌≡◌, ◌≢◌, ◌⊎◌, Err, IfOk, 
 ghost use Rattle.pf_node_words.specs.declared.outcome.Outcome.TheVariants.{Memory, Refused};
 ghost use Rattle.pf_node_words.specs.declared.store.TheConstants.{NO_STORE, FILE_IS_THERE};
 ghost use Rattle.pf_node_words.specs.inner.Outcomes.{adopt_outcome};
-ghost use Rattle.pf_node_words.specs.inner.Stores.{IsOpening, IsStoreless};
+ghost use Rattle.pf_node_words.specs.inner.Stores.{IsOpening, IsStoreless, is_made};
 
 use crate::faults::{say_closed, say_judged, say_storeless};
 use crate::node::NodeWords;
@@ -175,6 +175,16 @@ fn make_file(rt: &HostRuntime, path: &str) -> Result<Connection<FileStore<File>>
     }
 }
 
+/// Whether a start makes a store there, of nothing or of a file without a byte.
+pub(crate) fn is_made(is_from_file: bool, is_new: bool, found: Found) -> bool
+    ensures { result ≡ is_made is_from_file is_new found }
+{
+    match found {
+        Found::Nothing | Found::Empty => is_new || !is_from_file,
+        Found::Store | Found::Other => false,
+    }
+}
+
 /// The database where a store is named, by what becomes of what stands there.
 #[tactic(auto, using(crate::proofs::Stores::by_opening, crate::proofs::Stores::by_file))]
 fn open_store(
@@ -198,21 +208,19 @@ fn open_store(
     }
 }
 
-/// The record of a member in the store that its words name: 93, 94, 70, 73, 72 and 71, in this order.
-#[tactic(auto, using(crate::proofs::Stores::by_memory))]
-pub(crate) fn record_for(
+/// The record of a member in the store that its words name, where that was found: 93, 94, 70, 73, 72 and 71, in this
+/// order.
+pub(crate) fn record_at(
     rt: &HostRuntime,
     alloc: Global,
     words: NodeWords<'_, '_, '_>,
     m: Membership,
+    found: Found,
 ) -> Result<SqlRecords<FileStore<File>>, Outcome>
     ensures members { IfOk result (λ r. ⟦<SqlRecords<FileStore<File>> as Records>⟧.members r ≡ m.members) }
     ensures refused { IfErr result (IsStoreless words.entry.is_from_file words.entry.is_new) }
     ensures unfailed { OnErr result (result ≢ Err (Refused 80)) }
 {
-    let Ok(found) = found_at(rt, alloc, words.store) else {
-        return Err(Outcome::Memory);
-    };
     let conn = match open_store(rt, words, found) {
         Ok(conn) => conn,
         Err(outcome) => return Err(outcome),

@@ -35,6 +35,9 @@ const KEY: &str =
 const OTHER_KEY: &str =
     "A file with a second key that is heard too, while the cluster's key is changed";
 
+const NEW_STARTS: &str =
+    "Makes a missing file of starts beside a store that isn't new, as one that was lost or never had a key";
+
 const QUIET: &str = "Of what happens, only warnings and errors are said on standard error";
 
 const UNSEALED: &str =
@@ -64,7 +67,7 @@ const NODE_BELOW: &str =
 refused CODE: 40 words, 83 no key in its file, or others may read it, 70 the store failed, 71 it is of another cluster
 or member, 72 a bad row, 73 another format, 82 its address is taken, or that of --metrics is none of this machine
 alone, 84 its door is taken, 90 its file of settings can't be read, 92 (with the line) that file is wrong, 93 its
-store isn't there, 94 with --new it is. Standard error says which file or address, and what the system said. --check
+store isn't there, 94 with --new it is, 95 its file of starts is missing or damaged. Standard error says which file or address, and what the system said. --check
 writes ok, or the first refusal. With a key or a door asks by UDP aren't heard.";
 
 const KEY_BELOW: &str =
@@ -167,6 +170,16 @@ fn with_turns<'a>(alloc: Global, command: Command<'a>) -> Result<Command<'a>, Al
     )
 }
 
+/// An option without a value.
+fn flag<'a>(alloc: Global, name: &'a str, help: &'a str) -> Arg<'a>
+    ensures local { result.global ≡ false }
+{
+    Arg::new(alloc, name)
+        .long(name)
+        .action(ArgAction::SetTrue)
+        .help(help)
+}
+
 /// Adds an option without a value.
 fn with_flag<'a>(
     alloc: Global,
@@ -177,11 +190,7 @@ fn with_flag<'a>(
     requires command { (out-Command command).has_globals ≡ false }
     ensures local { IfOk result (λ c. (out-Command c).has_globals ≡ false) }
 {
-    let flag = Arg::new(alloc, name)
-        .long(name)
-        .action(ArgAction::SetTrue)
-        .help(help);
-    with(command, flag)
+    with(command, flag(alloc, name, help))
 }
 
 /// The name of a group of two options, of which what wants the group wants either.
@@ -223,6 +232,20 @@ fn with_below<'a>(
     with_made(command, optional(alloc, name, help).requires_arg(above))
 }
 
+/// Adds an option without a value that stands only where another stands.
+fn with_flag_below<'a>(
+    alloc: Global,
+    command: Command<'a>,
+    name: &'a str,
+    help: &'a str,
+    above: &'a str,
+) -> Result<Command<'a>, AllocError>
+    requires command { (out-Command command).has_globals ≡ false }
+    ensures local { IfOk result (λ c. (out-Command c).has_globals ≡ false) }
+{
+    with_made(command, flag(alloc, name, help).requires_arg(above))
+}
+
 /// The options of `node` about its keys that may be missing.
 fn with_keys<'a>(alloc: Global, command: Command<'a>) -> Result<Command<'a>, AllocError>
     requires command { (out-Command command).has_globals ≡ false }
@@ -231,6 +254,7 @@ fn with_keys<'a>(alloc: Global, command: Command<'a>) -> Result<Command<'a>, All
     let command = with(command, optional(alloc, "key", KEY))?;
     let command = with_either(alloc, command, "a key", "key")?;
     let command = with_below(alloc, command, "other-key", OTHER_KEY, "a key")?;
+    let command = with_flag_below(alloc, command, "new-starts", NEW_STARTS, "a key")?;
     with_flag(alloc, command, "unsealed", UNSEALED)
 }
 
@@ -270,7 +294,7 @@ fn with_members<'a>(alloc: Global, command: Command<'a>) -> Result<Command<'a>, 
 }
 
 /// `node [--config FILE] --me N --cluster C --store FILE [--turns T] [--door PATH [--metrics ADDR]]
-/// [--key FILE [--other-key FILE]] [--unsealed] [--new] [--check] [--quiet] ADDR..`
+/// [--key FILE [--other-key FILE] [--new-starts]] [--unsealed] [--new] [--check] [--quiet] ADDR..`
 fn node_command<'a>(alloc: Global) -> Result<Command<'a>, AllocError>
     ensures local { IfOk result (λ c. (out-Command c).has_globals ≡ false) }
 {

@@ -14,7 +14,7 @@ const ASK_STAYS: &str = "Nothing is taken in, and the node goes on.";
 const STORE_STAYS: &str = "The node isn't started, and the store stays as it was.";
 
 /// Each refusal once, by number. `scripts/refusals` compares it with the list in pfx(8).
-pub const REFUSALS: [Explanation; 43] = [
+pub const REFUSALS: [Explanation; 44] = [
     Explanation {
         code: 1,
         name: "no number in an address",
@@ -357,5 +357,14 @@ pub const REFUSALS: [Explanation; 43] = [
         after: "Nothing is made, and the file stays as it was.",
         remedy: "Start a node on its store without --new; give a new key a name of its\n         \
             own.",
+    },
+    Explanation {
+        code: 95,
+        name: "bad file of starts",
+        meaning: "the file STORE-starts of a node with a key: it is missing beside a store\n         \
+            that isn't new, is damaged or another cluster's, or can't be written",
+        after: "The node isn't started. Its store and the file stay as they were.",
+        remedy: "Bring the file back, or start the node once with --new-starts, which\n         \
+            makes a missing one.",
     },
 ];

@@ -14,6 +14,7 @@
 mod counts;
 pub mod laws;
 mod pace;
+mod pacing;
 mod room;
 mod running;
 mod serving;
@@ -22,7 +23,8 @@ mod timer;
 mod turning;
 
 pub use counts::RoundCounts;
-pub use pace::{Pace, microseconds};
+pub use pace::Pace;
+pub use pacing::microseconds;
 pub use pf_node::Node;
 pub use px_replica::{Datagram, NodeFault};
 pub use px_transport::{FaultyWire, MemoryWire, Wire};

@@ -10,7 +10,7 @@ ghost use Rattle.pf_turn.specs.Progress.{looked, seen_in};
 ghost use Rattle.pf_turn.specs.Timing.{SawThenLooked, looks, view_of};
 ghost use Rattle.pf_turn.specs.Turns.{Served, TickedIf, TookThenTicked, standing};
 
-use crate::pace::microseconds;
+use crate::pacing::microseconds;
 use crate::room::Room;
 use crate::serving::{drain, tick_now};
 use crate::sight::Sight;
@@ -54,13 +54,14 @@ pub struct Progress {
     pub wait: u32,
 }
 
-/// The clock ticks if it is to, after so many datagrams.
+/// The clock ticks if it is to, after so many datagrams; else it is waited, unless the member was handed own votes.
 fn tick_if<R: Records, W: Wire>(
     node: &mut Node<R>,
     wire: &mut W,
     room: &mut Room,
     beat: Beat,
     taken: u32,
+    has_own: bool,
 ) -> Result<Progress, NodeFault>
     ensures served { Served (standing W.Wire node.old wire.old room.old) (standing W.Wire node.new wire.new room.new)
         (fault_of result) }
@@ -79,7 +80,11 @@ fn tick_if<R: Records, W: Wire>(
         },
         Beat::Wait(milliseconds) => Ok(Progress {
             turns: taken.max(1),
-            wait: if taken == 0 { milliseconds } else { 0 },
+            wait: if taken == 0 && !has_own {
+                milliseconds
+            } else {
+                0
+            },
         }),
     }
 }
@@ -112,7 +117,7 @@ fn remind<W: Wire>(wire: &mut W, resender: &mut Resender, sight: &Sight, front: 
 }
 
 /// The same; and what was sent of the positions from the front on is sent again, if that is due.
-fn resend<W: Wire>(wire: &mut W, resender: &mut Resender, sight: &Sight, is_due: bool, front: u32)
+fn repeat<W: Wire>(wire: &mut W, resender: &mut Resender, sight: &Sight, is_due: bool, front: u32)
     ensures again { HandsAgain (kept_of resender.old) (W.handed wire.old) (W.handed wire.new) }
     ensures given { W.given wire.new ≡ W.given wire.old }
     ensures kept { kept_of resender.new ≡ kept_of resender.old }
@@ -122,6 +127,36 @@ fn resend<W: Wire>(wire: &mut W, resender: &mut Resender, sight: &Sight, is_due:
     if is_due {
         resender.repeat(wire, front);
     }
+}
+
+/// A member that others have passed is handed its own votes again that its window has reached: whether there were any.
+fn recall<W: Wire>(wire: &mut W, resender: &mut Resender, sight: &Sight, front: u32) -> bool
+    ensures again { HandsAgain (kept_of resender.old) (W.handed wire.old) (W.handed wire.new) }
+    ensures given { W.given wire.new ≡ W.given wire.old }
+    ensures kept { kept_of resender.new ≡ kept_of resender.old }
+    ensures requests { requests_of resender.new ≡ requests_of resender.old }
+{
+    if sight.reached > front {
+        return resender.repeat_own(wire, front);
+    }
+    false
+}
+
+/// Both: whether the member was handed any of its own votes.
+fn resend<W: Wire>(
+    wire: &mut W,
+    resender: &mut Resender,
+    sight: &Sight,
+    is_due: bool,
+    front: u32,
+) -> bool
+    ensures again { HandsAgain (kept_of resender.old) (W.handed wire.old) (W.handed wire.new) }
+    ensures given { W.given wire.new ≡ W.given wire.old }
+    ensures kept { kept_of resender.new ≡ kept_of resender.old }
+    ensures requests { requests_of resender.new ≡ requests_of resender.old }
+{
+    repeat(wire, resender, sight, is_due, front);
+    recall(wire, resender, sight, front)
 }
 
 /// Begins a round at this time: nothing went over the wire in it.
@@ -169,8 +204,8 @@ pub fn round<R: Records, W: Wire, T: Timer>(
     let view = view_of(node, room, was);
     let beat = beat(timer, &mut room.sight, now, view);
     let is_due = timer.repeats(now);
-    resend(wire, &mut room.resender, &seen, is_due, node.front());
-    tick_if(node, wire, room, beat, taken)
+    let has_own = resend(wire, &mut room.resender, &seen, is_due, node.front());
+    tick_if(node, wire, room, beat, taken, has_own)
 }
 
 /// Works off what waits to be proposed, before the node ends: rounds until nothing waits, 3,000 at most, of which one

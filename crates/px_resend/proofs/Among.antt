@@ -5,7 +5,7 @@ use Rattle.std.proofs.lemmas.List.{append-nil}
 use Rattle.px_model.proofs.Basics.{among_left, among_right, among_cases, among_get}
 use Rattle.px_model.specs.Law.{Among}
 use Rattle.px_transport.specs.Wires.{GrowsBy, Grows}
-use Rattle.px_resend.specs.Again.{Addressed, AreAmong, HandsAgain, HandsShort, HandsFirst, HandsAt}
+use Rattle.px_resend.specs.Again.{Addressed, AreAmong, HandsAgain, HandsFor, HandsShort, HandsFirst, HandsAt}
 
 pub among_all : {X : Type 0} (xs : List X) → AreAmong xs xs
 among_all xs x h = h
@@ -63,6 +63,37 @@ hands_then kept old mid new (xs, a, g) (ys, b, h) = (xs ++ ys, among_both xs ys 
 pub hands_more : (few many : List Addressed) (old new : Option (List Addressed)) → AreAmong few many → HandsAgain few old new →
     HandsAgain many old new
 hands_more few many old new a (xs, b, g) = (xs, among_then xs few many b a, g)
+
+-- ---- for one member
+
+pub for_again : (m : ℕ) (kept : List Addressed) (old new : Option (List Addressed)) → HandsFor m kept old new → HandsAgain kept old new
+for_again m kept old new (again, a, g, to) = (again, a, g)
+
+pub for_none : (m : ℕ) (kept : List Addressed) (old new : Option (List Addressed)) → new ≡ old → HandsFor m kept old new
+for_none m kept None new e = ([], among_none kept, e, λ d h. absurd h)
+for_none m kept (Some all) new e = ([], among_none kept, inr (e ∙ ap Some (sym (append-nil all))), λ d h. absurd h)
+
+pub for_one : (m : ℕ) (kept : List Addressed) (d : Addressed) (old new : Option (List Addressed)) → d.0 ≡ m → Among kept d →
+    Grows old d new → HandsFor m kept old new
+for_one m kept d old new to a g = (
+  d ∷ [],
+  λ x h. elim h [ inl e ↦ subst (λ (y : Addressed). Among kept y) e a | inr n ↦ absurd n ],
+  g,
+  λ x h. elim h [ inl e ↦ subst (λ (y : Addressed). y.0 ≡ m) e to | inr n ↦ absurd n ],
+)
+
+pub for_then : (m : ℕ) (kept : List Addressed) (old mid new : Option (List Addressed)) → HandsFor m kept old mid → HandsFor m kept mid new →
+    HandsFor m kept old new
+for_then m kept old mid new (xs, a, g, to) (ys, b, h, too) = (
+  xs ++ ys,
+  among_both xs ys kept a b,
+  grows_then old mid new xs ys g h,
+  λ d is. elim (among_cases xs ys d is) [ inl p ↦ to d p | inr q ↦ too d q ],
+)
+
+pub for_more : (m : ℕ) (few many : List Addressed) (old new : Option (List Addressed)) → AreAmong few many → HandsFor m few old new →
+    HandsFor m many old new
+for_more m few many old new a (xs, b, g, to) = (xs, among_then xs few many b a, g, to)
 
 -- ---- which of them
 

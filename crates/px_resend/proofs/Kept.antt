@@ -14,8 +14,8 @@ use Rattle.px_resend.specs.declared.state.Kept.{Kept}
 use Rattle.px_resend.specs.declared.state.Latest.{Latest}
 use Rattle.px_resend.specs.declared.state.Votes.{Votes}
 use Rattle.px_resend.specs.declared.state.Sent.{Sent}
-use Rattle.px_resend.proofs.Among.{among_all, among_is, among_then, among_front, among_back, among_sides, hands_one, at_one, at_none}
-use Rattle.px_resend.specs.Again.{HandsAgain, HandsAt}
+use Rattle.px_resend.proofs.Among.{among_all, among_is, among_then, among_front, among_back, among_sides, for_one, at_one, at_none}
+use Rattle.px_resend.specs.Again.{HandsFor, HandsAt}
 use Rattle.std.proofs.lemmas.Option.{slice_get_within}
 use Rattle.px_transport.specs.Wires.{Grows}
 use Rattle.std.specs.Prelude.{OnOk, OnErr}
@@ -106,10 +106,10 @@ long_at {V} f xs ys i v old new e at long same =
     omega (arith, long, short, ap (λ (x : Addressed). length x.1) same')))
 
 -- the one at this place
-pub hand_at : {V : Type 0} (f : V → Addressed) (xs ys : List V) (i : ℕ) (v : V) (sent : List ℕ) (old new : Option (List Addressed)) →
-    xs ≡ ys → slice_get xs i ≡ Some v → sent ≡ (f v).1 → Grows old ((f v).0, sent) new → HandsAgain (map f ys) old new
-hand_at {V} f xs ys i v sent old new e at is grows =
-    hands_one (map f ys) (f v) old new (among_map f ys v (subst (λ (zs : List V). Among zs v) e (among_get xs i v at)))
+pub hand_at : {V : Type 0} (m : ℕ) (f : V → Addressed) (xs ys : List V) (i : ℕ) (v : V) (sent : List ℕ) (old new : Option (List Addressed)) →
+    (f v).0 ≡ m → xs ≡ ys → slice_get xs i ≡ Some v → sent ≡ (f v).1 → Grows old ((f v).0, sent) new → HandsFor m (map f ys) old new
+hand_at {V} m f xs ys i v sent old new to e at is grows =
+    for_one m (map f ys) (f v) old new to (among_map f ys v (subst (λ (zs : List V). Among zs v) e (among_get xs i v at)))
     (subst (λ (b : List ℕ). Grows old ((f v).0, b) new) is grows)
 
 -- one more, if there is memory

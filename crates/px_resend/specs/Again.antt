@@ -15,6 +15,11 @@ AreAmong {X} xs ys = (x : X) → Among xs x → Among ys x
 abbrev pub HandsAgain : (kept : List Addressed) → (handed handed' : Option (List Addressed)) → Type 0
 HandsAgain kept old new = (again : List Addressed) × AreAmong again kept × GrowsBy old again new
 
+-- the wire was handed some of these that are for this member, however often, and nothing else
+abbrev pub HandsFor : (member : ℕ) → (kept : List Addressed) → (handed handed' : Option (List Addressed)) → Type 0
+HandsFor m kept old new =
+    (again : List Addressed) × AreAmong again kept × GrowsBy old again new × ((d : Addressed) → Among again d → d.0 ≡ m)
+
 -- the wire was handed some of these, among them each that with a tag fits into a packet, and nothing else
 abbrev pub HandsShort : (kept : List Addressed) → (handed handed' : Option (List Addressed)) → Type 0
 HandsShort kept old new =

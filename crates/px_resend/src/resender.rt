@@ -2,7 +2,7 @@
 
 ghost use Rattle.std.specs.Prelude.{◌≡◌, ◌≢◌, ◌≤◌, ◌<◌, ◌++◌, [], ◌∷◌, ℕ, IsTrue, OnOk, Some, false, length};
 ghost use Rattle.px_model.specs.Law.{Among};
-ghost use Rattle.px_resend.specs.Again.{AreAmong, HandsAgain, HandsShort};
+ghost use Rattle.px_resend.specs.Again.{AreAmong, HandsAgain, HandsFor, HandsShort};
 ghost use Rattle.px_wire.specs.Heads.{head_of};
 ghost use Rattle.px_wire.specs.Message.{Group, Message, DatagramBytes};
 ghost use Rattle.px_resend.specs.Proposals.{proposal_of};
@@ -13,8 +13,8 @@ use px_transport::Wire;
 use px_wire::{Head, Kind};
 use std::alloc::{AllocError, Global};
 
-/// Keeps what a member sent to others and may be lost, and hands it to a wire again: bytes as they were sent, to whom
-/// they were sent, and nothing else. It is shown what the member sends, by [`Resender::keep`], and what it took, by
+/// Keeps what a member sent and may be lost, and hands it to a wire again: bytes as they were sent, to whom they were
+/// sent, and nothing else. It is shown what the member sends, by [`Resender::keep`], and what it took, by
 /// [`Resender::took`], and looks at these through their heads alone.
 ///
 /// The accept requests and votes of one ballot at one position that were sent last are kept, 30 at most, and handed
@@ -25,7 +25,8 @@ use std::alloc::{AllocError, Global};
 /// Of the votes that fit into a packet the last 131,072 are kept, and 16 MiB at most. [`Resender::repeat_to`] sends a
 /// member those that it lacks, at 63 positions at most and in 10 ms no more than this member's part of what its socket
 /// takes in: those that it wasn't sent again yet where it comes on, and all where it doesn't, or comes on by just one
-/// three times in a row, each 20 ms at most.
+/// three times in a row, each 20 ms at most. The votes that the member sent to itself are among these, since it drops
+/// those outside its window: [`Resender::repeat_own`] hands it those again that its window has reached.
 #[derive(Drop)]
 pub struct Resender {
     me: u8,
@@ -59,8 +60,8 @@ impl Resender {
         self.now = now;
     }
 
-    /// Keeps a datagram that was sent to another member, if it is an accept request or a vote. Where memory runs out, a
-    /// vote may be kept all the same for who lacks it later.
+    /// Keeps a datagram that was sent to a member, if it is a vote, or an accept request to another. Where memory runs
+    /// out, a vote may be kept all the same for who lacks it later.
     pub fn keep(&mut self, to: u8, bytes: &[u8]) -> Result<(), AllocError>
         // Such a one that isn't below the last is kept.
         ensures keeps { OnOk result ((g : Group) (from b p : ℕ) (message : Message) →
@@ -71,12 +72,16 @@ impl Resender {
         ensures bounded { IsBounded self.new }
         ensures request { requests_of self.new ≡ requests_of self.old }
     {
-        if to == self.me || to >= self.members {
+        if to >= self.members {
             return Ok(());
         }
         let Some(head) = Head::read(bytes) else {
             return Ok(());
         };
+        if to == self.me {
+            self.votes.keep(to, &head, bytes);
+            return Ok(());
+        }
         let kept = self.latest.keep(to, &head, bytes);
         self.votes.keep(to, &head, bytes);
         if head.kind == Kind::Accept || head.kind == Kind::Vote {
@@ -133,11 +138,26 @@ impl Resender {
     /// after it.
     pub fn repeat_to<W: Wire>(&mut self, wire: &mut W, to: u8, from: u32)
         ensures again { HandsAgain (kept_of self.old) (W.handed wire.old) (W.handed wire.new) }
+        ensures own { HandsFor to (kept_of self.old) (W.handed wire.old) (W.handed wire.new) }
         ensures given { W.given wire.new ≡ W.given wire.old }
         ensures kept { kept_of self.new ≡ kept_of self.old }
         ensures request { requests_of self.new ≡ requests_of self.old }
     {
         let votes = self.votes.walk(to, from, self.now);
         self.votes.send(wire, to, votes);
+    }
+
+    /// The votes that the member sent to itself are handed over again, where it lacks the entry of this position and
+    /// those after it. Returns whether there were any.
+    pub fn repeat_own<W: Wire>(&mut self, wire: &mut W, front: u32) -> bool
+        ensures again { HandsAgain (kept_of self.old) (W.handed wire.old) (W.handed wire.new) }
+        ensures own { HandsFor (me_of self.old) (kept_of self.old) (W.handed wire.old) (W.handed wire.new) }
+        ensures given { W.given wire.new ≡ W.given wire.old }
+        ensures kept { kept_of self.new ≡ kept_of self.old }
+        ensures request { requests_of self.new ≡ requests_of self.old }
+    {
+        let votes = self.votes.walk(self.me, front, self.now);
+        self.votes.send(wire, self.me, votes);
+        votes.has_any()
     }
 }

@@ -1,7 +1,7 @@
 //! The votes that a member sent, for those who lack them later.
 
 ghost use Rattle.std.specs.Prelude.{◌≡◌, ◌≤◌, ◌<◌, ◌+◌, ◌++◌, [], ◌∷◌, OnOk, OnErr, length};
-ghost use Rattle.px_resend.specs.Again.{AreAmong, HandsAgain};
+ghost use Rattle.px_resend.specs.Again.{AreAmong, HandsFor};
 ghost use Rattle.px_resend.specs.Keeping.{votes_in};
 
 use crate::latest::proposal_of;
@@ -112,6 +112,13 @@ pub(crate) struct Stretch {
     room: usize,
 }
 
+impl Stretch {
+    /// Whether any of them is the member's.
+    pub(crate) fn has_any(self) -> bool {
+        self.position.is_some()
+    }
+}
+
 impl Votes {
     /// Nothing is kept, of a group of that many members. Takes no memory.
     pub(crate) fn new(alloc: Global, members: u8) -> Votes
@@ -215,7 +222,7 @@ impl Votes {
 
     /// Hands the vote with this number to the wire, if it is this member's.
     fn hand<W: Wire>(&self, wire: &mut W, to: u8, i: usize)
-        ensures again { HandsAgain (votes_in self.entry.now) (W.handed wire.old) (W.handed wire.new) }
+        ensures again { HandsFor to (votes_in self.entry.now) (W.handed wire.old) (W.handed wire.new) }
         ensures given { W.given wire.new ≡ W.given wire.old }
     {
         let Some(vote) = self.votes.get(i) else {
@@ -228,7 +235,7 @@ impl Votes {
 
     /// Hands those of these votes to the wire that are this member's.
     pub(crate) fn send<W: Wire>(&self, wire: &mut W, to: u8, votes: Stretch)
-        ensures again { HandsAgain (votes_in self.entry.now) (W.handed wire.old) (W.handed wire.new) }
+        ensures again { HandsFor to (votes_in self.entry.now) (W.handed wire.old) (W.handed wire.new) }
         ensures given { W.given wire.new ≡ W.given wire.old }
     {
         for i in votes.begin..votes.end {

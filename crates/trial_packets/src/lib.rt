@@ -1,5 +1,5 @@
-//! Trials of packets of the second format: pieces in any order, sealed packets, which packets are accepted, starts'
-//! files.
+//! Trials of packets of the second format: pieces in any order, sealed packets, which packets are accepted, what a
+//! receiver gives, starts' files.
 #![tactic(auto)]
 
 #[cfg(test)]
@@ -8,5 +8,7 @@ mod arrivals;
 mod packets;
 #[cfg(test)]
 mod pieces;
+#[cfg(test)]
+mod receivers;
 #[cfg(test)]
 mod starts;

@@ -125,6 +125,25 @@ fn a_member_that_lacks_votes_is_sent_its_own_again(rt: HostRuntime) -> Result<()
 }
 
 #[test]
+fn a_member_is_handed_its_own_votes_again_at_63_positions(rt: HostRuntime) -> Result<(), Fail> {
+    let alloc = rt.alloc();
+    let mut it = Resender::new(alloc, 2, 1);
+    votes(&mut it, 1, 201, 27);
+    let mut wire = MemoryWire::new(alloc, Vec::new(alloc));
+    assert!(rt; it.repeat_own(&mut wire, 100));
+    let Some(sent) = wire.sent() else {
+        return Err(Fail::new("no memory"));
+    };
+    assert!(rt; sent.len() == 63);
+    for (to, bytes) in sent {
+        assert!(rt; shown(*to, bytes.as_slice()).0 == 1);
+    }
+    // what is to be lost to it at other positions isn't, and nothing is handed to it twice within 20 ms
+    assert!(rt; !it.repeat_own(&mut wire, 100) && !it.repeat_own(&mut wire, 201));
+    Ok(())
+}
+
+#[test]
 fn who_comes_on_is_sent_what_it_was_not_at_63_positions(rt: HostRuntime) -> Result<(), Fail> {
     let alloc = rt.alloc();
     let mut it = Resender::new(alloc, 2, 0);

@@ -150,12 +150,40 @@ fn it_is_begun_anew_after_four_seconds_at_the_latest(rt: HostRuntime) {
 }
 
 #[test]
-fn who_lost_the_lead_keeps_still(rt: HostRuntime) {
+fn who_is_refused_tries_again_soon_and_the_second_time_keeps_still(rt: HostRuntime) {
     let mut pace = Pace::new(1);
     assert!(rt; pace.beat(0, WAITING) == Beat::Tick);
     assert!(rt; pace.beat(1_000, ATTEMPTING) == Beat::Wait(100));
-    // the attempt is gone, and nothing was learned: a part of the clock's 0 and the number's 2, and 1, of 6 ms, twice
-    assert!(rt; pace.beat(2_000, WAITING) == Beat::Wait(37));
+    // the attempt is gone, and nothing was learned: two eighths of 20 ms, as drawn
+    assert!(rt; pace.beat(2_000, WAITING) == Beat::Wait(6));
+    assert!(rt; pace.beat(6_999, WAITING) == Beat::Wait(1));
+    assert!(rt; pace.beat(7_000, WAITING) == Beat::Tick);
+    assert!(rt; pace.beat(8_000, ATTEMPTING) == Beat::Wait(100));
+    // so is the next: eleven sixteenths of 44 ms, twice
+    assert!(rt; pace.beat(30_000, WAITING) == Beat::Wait(61));
+    assert!(rt; pace.beat(90_499, WAITING) == Beat::Wait(1));
+    assert!(rt; pace.beat(90_500, WAITING) == Beat::Tick);
+}
+
+#[test]
+fn who_lost_the_lead_keeps_still(rt: HostRuntime) {
+    let mut pace = Pace::new(1);
+    assert!(rt; pace.beat(0, WAITING) == Beat::Tick);
+    assert!(rt; pace.beat(1_000, ACCEPTING) == Beat::Wait(21));
+    // a majority had promised: ten sixteenths of 44 ms, twice
+    assert!(rt; pace.beat(2_000, WAITING) == Beat::Wait(56));
+    assert!(rt; pace.beat(56_999, WAITING) == Beat::Wait(1));
+    assert!(rt; pace.beat(57_000, WAITING) == Beat::Tick);
+}
+
+#[test]
+fn the_clock_rests_for_a_fifth_of_a_round_trip_while_the_front_stays(rt: HostRuntime) {
+    let mut pace = Pace::new(0);
+    assert!(rt; pace.beat(0, IDLE) == Beat::Tick);
+    assert!(rt; pace.beat(1_000, WAITING) == Beat::Wait(4));
+    assert!(rt; pace.beat(3_999, WAITING) == Beat::Wait(1));
+    assert!(rt; pace.beat(4_000, WAITING) == Beat::Tick);
+    assert!(rt; pace.beat(4_001, LEARNED) == Beat::Tick);
 }
 
 #[test]

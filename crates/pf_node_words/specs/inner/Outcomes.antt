@@ -41,10 +41,11 @@ abbrev pub first_of : Outcome → Outcome → Outcome
 first_of Sound other = other
 first_of one other = one
 
--- What a start would be refused for, of what is refused of its numbers, its keys, its store and its addresses: the
--- first, in the order in which a start asks.
-abbrev pub checked : (place keys store addresses : Outcome) → Outcome
-checked place keys store addresses = first_of place (first_of keys (first_of store addresses))
+-- What a start would be refused for, of what is refused of its numbers, its keys, its store, its starts and its
+-- addresses: the first, in the order in which a start asks.
+abbrev pub checked : (place keys store starts addresses : Outcome) → Outcome
+checked place keys store starts addresses =
+    first_of place (first_of keys (first_of store (first_of starts addresses)))
 
 -- what a member's run is shown as, where its wire may be missing
 abbrev pub ended_outcome : (without : Outcome) → Ended → Outcome

@@ -1,5 +1,5 @@
 -- Whether a node's store is opened or made.
-use Rattle.std.specs.Prelude.{◌≡◌, ◌≢◌, ◌⊎◌, ℕ, Bool, true, false}
+use Rattle.std.specs.Prelude.{◌≡◌, ◌≢◌, ◌⊎◌, ◌||◌, not, ℕ, Bool, true, false}
 use Rattle.pf_node_words.specs.declared.outcome.Outcome.{Outcome}
 use Rattle.pf_node_words.specs.declared.outcome.Outcome.TheVariants.{Refused}
 use Rattle.pf_node_words.specs.declared.store.Found.{Found}
@@ -11,6 +11,13 @@ use Rattle.pf_node_words.specs.declared.store.TheConstants.{NO_STORE, FILE_IS_TH
 -- no store is there: nothing, or a file without a byte
 abbrev pub IsNone : Found → Type 0
 IsNone f = (f ≡ found.Nothing) ⊎ (f ≡ found.Empty)
+
+-- whether a start makes a store there
+abbrev pub is_made : (is_from_file is_new : Bool) → Found → Bool
+is_made file new found.Nothing = new || not file
+is_made file new found.Empty = new || not file
+is_made file new found.Store = false
+is_made file new found.Other = false
 
 -- Why what is there is refused: a store is lost where settings come from a file and none is to be made; there is one
 -- where one is to be made; or it is no file.

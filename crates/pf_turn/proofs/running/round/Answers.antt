@@ -25,10 +25,10 @@ returns-clause-served g c =
       hears = c.begin.ensures.hears;
     })) (served_then _ _ _ _ c.in-Ok.ensures.served (served_then _ _ _ _ (served_between _ _ (between_resent _ _ (record {
       replica = refl;
-      given = c.resend.ensures.given;
-      again = c.resend.ensures.again;
-      kept = c.resend.ensures.kept;
-      requests = c.resend.ensures.requests;
+      given = c.resend-has_own.ensures.given;
+      again = c.resend-has_own.ensures.again;
+      kept = c.resend-has_own.ensures.kept;
+      requests = c.resend-has_own.ensures.requests;
       hears = refl;
     }))) c.tick_if.ensures.served))
 
@@ -43,10 +43,10 @@ returns-clause-took g c =
       hears = c.begin.ensures.hears;
     }) c.in-Ok.ensures.saw (record {
       replica = refl;
-      given = c.resend.ensures.given;
-      again = c.resend.ensures.again;
-      kept = c.resend.ensures.kept;
-      requests = c.resend.ensures.requests;
+      given = c.resend-has_own.ensures.given;
+      again = c.resend-has_own.ensures.again;
+      kept = c.resend-has_own.ensures.kept;
+      requests = c.resend-has_own.ensures.requests;
       hears = refl;
     }) c.tick_if.ensures.ticked
 

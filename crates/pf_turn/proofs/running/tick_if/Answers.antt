@@ -8,8 +8,8 @@ returns-in-Ok-clause-served g c = served_turn _ _ _ (turned_by_clock _ _ _ c.in-
 pub returns-in-Err-clause-served : goal.returns-in-Err-clause-served
 returns-in-Err-clause-served g c = served_turn _ _ _ (turned_by_clock _ _ _ c.in-Err.ensures.ticked)
 
-pub returns-then-taken-eq0-clause-served : goal.returns-then-taken-eq0-clause-served
-returns-then-taken-eq0-clause-served g c = served_none _ _ (same_all _)
+pub returns-then-not-has_own-clause-served : goal.returns-then-not-has_own-clause-served
+returns-then-not-has_own-clause-served g c = served_none _ _ (same_all _)
 
 pub returns-else-taken-eq0-clause-served : goal.returns-else-taken-eq0-clause-served
 returns-else-taken-eq0-clause-served g c = served_none _ _ (same_all _)

@@ -12,6 +12,12 @@ returns-then-to-self-clause-kept c = among_front _ _ _ (among_all _)
 pub returns-then-to-self-clause-bounded : goal.returns-then-to-self-clause-bounded
 returns-then-to-self-clause-bounded c = bounded c.args.self.now
 
+pub returns-then-to-self-2-clause-kept : goal.returns-then-to-self-2-clause-kept
+returns-then-to-self-2-clause-kept c = among_two _ _ _ _ _ (among_front _ _ _ (among_all _)) c.keep.ensures
+
+pub returns-then-to-self-2-clause-bounded : goal.returns-then-to-self-2-clause-bounded
+returns-then-to-self-2-clause-bounded c = bounded_by c.args.self.now.latest c.keep.new.self
+
 pub returns-in_default-clause-kept : goal.returns-in_default-clause-kept
 returns-in_default-clause-kept c = among_front _ _ _ (among_all _)
 
@@ -20,7 +26,7 @@ returns-in_default-clause-bounded c = bounded c.args.self.now
 
 pub returns-then-eq-clause-kept : goal.returns-then-eq-clause-kept
 returns-then-eq-clause-kept c =
-    among_two _ _ _ _ _ (among_then _ _ _ (among_is _ _ c.pass.ensures.kept) c.keep-kept.ensures.kept) c.keep.ensures
+    among_two _ _ _ _ _ (among_then _ _ _ (among_is _ _ c.pass.ensures.kept) c.keep-kept.ensures.kept) c.keep-2.ensures
 
 pub returns-then-eq-clause-keeps : goal.returns-then-eq-clause-keeps
 returns-then-eq-clause-keeps c =
@@ -31,10 +37,10 @@ returns-then-eq-clause-keeps c =
     c.keep-kept.ensures.keeps
 
 pub returns-then-eq-clause-bounded : goal.returns-then-eq-clause-bounded
-returns-then-eq-clause-bounded c = bounded_by c.pass.new.self c.keep.new.self
+returns-then-eq-clause-bounded c = bounded_by c.pass.new.self c.keep-2.new.self
 
 pub returns-else-eq-2-clause-kept : goal.returns-else-eq-2-clause-kept
-returns-else-eq-2-clause-kept c = among_two _ _ _ _ _ c.keep-kept.ensures.kept c.keep.ensures
+returns-else-eq-2-clause-kept c = among_two _ _ _ _ _ c.keep-kept.ensures.kept c.keep-2.ensures
 
 pub returns-else-eq-2-clause-bounded : goal.returns-else-eq-2-clause-bounded
-returns-else-eq-2-clause-bounded c = bounded_by c.keep-kept.new.self c.keep.new.self
+returns-else-eq-2-clause-bounded c = bounded_by c.keep-kept.new.self c.keep-2.new.self

@@ -2,7 +2,7 @@ use Rattle.std.proofs.Common.{sym, subst}
 use Rattle.pf_node_words.specs.declared.outcome.Outcome.{Outcome}
 use Rattle.pf_node_words.specs.inner.Stores.{IsStoreless}
 use Rattle.pf_node_words.proofs.Stores.{by_fault}
-use Rattle.pf_node_words.proofs.store.record_for.Goals as goal
+use Rattle.pf_node_words.proofs.store.record_at.Goals as goal
 
 pub returns-in-Err-adopt-clause-refused : goal.returns-in-Err-adopt-clause-refused
 returns-in-Err-adopt-clause-refused c =

@@ -1,0 +1,9 @@
+mod Bodies
+mod Entries
+mod Members
+mod Handed
+mod Once
+mod Last
+mod Sending
+mod Duties
+mod Arriving

@@ -1,0 +1,49 @@
+-- one more piece is sent, or isn't
+use Rattle.std.proofs.Common.{rules, ◌≡◌, ◌+◌, ◌<◌, true, false, [], ◌∷◌, ◌++◌, length}
+use Rattle.px_pieces.specs.Pieces.{count_of}
+use Rattle.px_pieces.specs.Held.{has_bit}
+use Rattle.px_packets.specs.Sending.{piece, pieces, pieces_from}
+use Rattle.px_packets.specs.Senders.{sealer_of, outgoing_of}
+use Rattle.px_packets.proofs.Sending.{piece_lacked, piece_fails, piece_splits, piece_sends}
+use Rattle.px_packets.proofs.sender.Sender.send_pieces.Goals as goal
+
+pub returns-then-not-send_piece-clause-sends : goal.returns-then-not-send_piece-clause-sends
+returns-then-not-send_piece-clause-sends g c =
+    let i = c.loop-index.index in
+    let inv = c.loop-index.invariant in
+    let a = c.args in
+    let l : i < count_of (length a.datagram.now) = search rules in
+    let lacks : has_bit a.held.bits i ≡ false = search rules in
+    let failed : c.send_piece.result ≡ false = search rules in
+    let p = piece a.to a.echo a.held.name a.datagram.now i in
+    piece_fails (sealer_of a.self.now) (sealer_of c.loop-index.self) c.send_piece.result
+    (pieces a.to a.echo a.held a.datagram.now) inv.first (pieces_from a.to a.echo a.held a.datagram.now i) p
+    (pieces_from a.to a.echo a.held a.datagram.now (i + 1)) (g.W.Wire.handed a.inner.now) (outgoing_of a.self.now)
+    (g.W.Wire.handed c.loop-index.inner) (outgoing_of c.loop-index.self) (g.W.Wire.handed c.send_piece.new.inner)
+    (outgoing_of c.send_piece.new.self) inv.split (piece_lacked a.to a.echo a.held a.datagram.now i l lacks)
+    inv.sealer failed inv.sends c.send_piece.ensures.sends
+
+pub loop-index-preserved : goal.loop-index-preserved
+loop-index-preserved g c =
+    let i = c.loop-index.index in
+    let inv = c.loop-index.invariant in
+    let a = c.args in
+    let l : i < count_of (length a.datagram.now) = search rules in
+    let lacks : has_bit a.held.bits i ≡ false = search rules in
+    let sent : c.send_piece.result ≡ true = search rules in
+    let p = piece a.to a.echo a.held.name a.datagram.now i in
+    record {
+      first = inv.first ++ p ∷ [];
+      split = piece_splits (pieces a.to a.echo a.held a.datagram.now) inv.first
+          (pieces_from a.to a.echo a.held a.datagram.now i) p
+          (pieces_from a.to a.echo a.held a.datagram.now (i + 1)) inv.split
+          (piece_lacked a.to a.echo a.held a.datagram.now i l lacks);
+      sends = piece_sends (sealer_of a.self.now) (sealer_of c.loop-index.self) c.send_piece.result inv.first p
+          (g.W.Wire.handed a.inner.now) (outgoing_of a.self.now) (g.W.Wire.handed c.loop-index.inner)
+          (outgoing_of c.loop-index.self) (g.W.Wire.handed c.send_piece.new.inner)
+          (outgoing_of c.send_piece.new.self) inv.sealer sent inv.sends c.send_piece.ensures.sends;
+      sealer = search rules;
+      keys = search rules;
+      given = search rules;
+      count = inv.count;
+    }
