@@ -5,8 +5,7 @@ use Rattle.std.proofs.lemmas.List.{length-append, length-drop, length-take, take
 use Rattle.std.proofs.lemmas.Slice.Eq.{bytes_eq-Decides}
 use Rattle.sha2.proofs.Facts256.{length-sha256}
 use Rattle.px_seal.specs.Hmac.{tag_under}
-use Rattle.px_seal.specs.Seals.{Among}
-use Rattle.px_packet.specs.Packets.{tag_of, sealed, front_of, tail_of, is_sealed, is_authentic}
+use Rattle.px_packet.specs.Packets.{Among, tag_of, sealed, front_of, tail_of, is_sealed, is_authentic}
 
 -- a tag has 16 bytes
 pub length-tag : (key m : List ℕ) → length (tag_of key m) ≡ 16

@@ -1,9 +1,8 @@
 -- Laws of packets.
 use Rattle.std.specs.Prelude.{◌≡◌, ◌≢◌, ℕ, ◌<◌, ◌^◌, List, ◌++◌, get_or, drop, None}
-use Rattle.px_seal.specs.Seals.{Among}
 use Rattle.px_packet.specs.declared.header.Header.{Header}
 use Rattle.px_packet.specs.Headers.{header_bytes, header_fault, header_in}
-use Rattle.px_packet.specs.Packets.{sealed, front_of, packet_fault}
+use Rattle.px_packet.specs.Packets.{Among, sealed, front_of, packet_fault}
 
 -- the header's numbers have room in its fields
 pub record HeaderFits (h : Header) : Type 0 where

@@ -1,5 +1,5 @@
 -- Sealed packets. A key is given as its block of HMAC.
-use Rattle.std.specs.Prelude.{ℕ, ◌-◌, Bool, true, false, List, [], ◌∷◌, ◌++◌, length, take, drop, bytes_eq}
+use Rattle.std.specs.Prelude.{◌≡◌, ◌⊎◌, ℕ, ◌-◌, Bool, true, false, List, [], ◌∷◌, ◌++◌, length, take, drop, bytes_eq}
 use Rattle.std.specs.Prelude.{Option, Some, if◌then◌else◌}
 use Rattle.px_seal.specs.Hmac.{hmac_sha256, tag_under}
 use Rattle.px_packet.specs.declared.fault.PacketFault.{PacketFault}
@@ -34,6 +34,11 @@ is_sealed key b = bytes_eq (tail_of b) (tag_of key (front_of b))
 abbrev pub is_authentic : (keys : List (List ℕ)) → List ℕ → Bool
 is_authentic [] b = false
 is_authentic (key ∷ keys) b = if is_sealed key b then true else is_authentic keys b
+
+-- the key is one of these
+abbrev pub Among : (keys : List (List ℕ)) → List ℕ → Type 0
+Among [] key = ⊥
+Among (k ∷ keys) key = (key ≡ k) ⊎ Among keys key
 
 -- the first fault of a packet for this member of a cluster
 abbrev pub packet_fault : (keys : List (List ℕ)) → (cluster members me : ℕ) → List ℕ → Option PacketFault

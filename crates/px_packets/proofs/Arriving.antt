@@ -1,16 +1,15 @@
 -- What comes of packets.
-use Rattle.std.proofs.Common.{◌≡◌, ◌∙◌, ℕ, zero, suc, ◌≤◌, Bool, true, false, List, [], ◌∷◌, length, take, ap, sym, subst, refl, arith, Option, Some, None}
+use Rattle.std.proofs.Common.{◌≡◌, ◌∙◌, ℕ, ◌≤◌, true, false, List, [], ◌∷◌, length, take, ap, sym, subst, refl, arith, Option, Some}
 use Rattle.std.proofs.Math.Seq.{take-nil}
 use Rattle.px_packet.specs.declared.header.Header.{Header}
 use Rattle.px_replay.specs.declared.arrival.Arrival.{Arrival}
 use Rattle.px_replay.specs.declared.arrival.Arrival.TheVariants as arrivals
 use Rattle.px_pieces.specs.declared.held.PiecesHeld.{PiecesHeld}
-use Rattle.px_packets.specs.declared.coming.Coming.{Coming}
 use Rattle.px_packets.specs.declared.coming.Coming.TheVariants as coming
-use Rattle.px_packets.specs.Receiving.{Heard, Given, Whole, Joined, Held, Nothing, Dropped, Memory}
+use Rattle.px_packets.specs.Receiving.{Given, Whole, Joined, Held, Nothing, Dropped, Memory}
 use Rattle.px_packets.specs.Sending.{Sealer}
-use Rattle.px_packets.specs.Wiring.{WireState, Comes, Takes, DoesAll, Duty, Again, opened, given_of, heard_with, datagram_of}
-use Rattle.px_packets.specs.Wiring.{duties_of, is_dropped, is_copy, is_other_machine, more_if}
+use Rattle.px_packets.specs.Wiring.{WireState, Comes, Takes, DoesAll, Duty, Again, opened, given_of, heard_with}
+use Rattle.px_packets.specs.Wiring.{is_other_machine, more_if}
 
 -- ---- of a packet that was opened
 

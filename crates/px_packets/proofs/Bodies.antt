@@ -1,8 +1,8 @@
 -- Bodies that are read.
 use Rattle.std.proofs.Common.{◌≡◌, ◌∙◌, ℕ, ◌*◌, ◌^◌, ◌<◌, ◌≤◌, Bool, true, false, List, length, ap, sym, refl, arith, Some, None}
-use Rattle.std.specs.Prelude.{◌==◌, if◌then◌else◌}
+use Rattle.std.specs.Prelude.{◌==◌, ◌&&◌, nat_le, nat_lt, if◌then◌else◌}
 use Rattle.std.specs.Int.{w16, w32, to_be_bytes, from_be_bytes}
-use Rattle.std.proofs.lemmas.Bool.{and_from, le-leb, lt-ltb, eq-eqb, both_ways}
+use Rattle.std.proofs.lemmas.Bool.{and_parts, leb-true, ltb-true, eqb-true, and_from, le-leb, lt-ltb, eq-eqb, both_ways}
 use Rattle.std.proofs.lemmas.Nat.{from_be_bytes-to_be_bytes_2, from_be_bytes-to_be_bytes_4}
 use Rattle.px_packet.specs.Headers.{number}
 use Rattle.px_pieces.specs.Pieces.{Piece, IsFormed, piece_bytes, part_length}
@@ -16,6 +16,17 @@ formed : (p : Piece) → IsFormed p → is_formed p ≡ true
 formed p f =
     and_from _ _ (le-leb p.size 33640 f.short) (and_from _ _ (lt-ltb (1160 * p.index) p.size f.inside)
     (eq-eqb (length p.part) (part_length p.size p.index) f.long))
+
+pub is_formed_is : (p : Piece) → is_formed p ≡ true → IsFormed p
+is_formed_is p h =
+    let a = and_parts (nat_le p.size 33640)
+    (nat_lt (1160 * p.index) p.size && (length p.part == part_length p.size p.index)) h in
+    let b = and_parts (nat_lt (1160 * p.index) p.size) (length p.part == part_length p.size p.index) a.1 in
+    record {
+      short = leb-true p.size 33640 a.0;
+      inside = ltb-true (1160 * p.index) p.size b.0;
+      long = eqb-true (length p.part) (part_length p.size p.index) b.1;
+    }
 
 -- ---- the fields that are written are read
 

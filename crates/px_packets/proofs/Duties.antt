@@ -1,7 +1,7 @@
 -- Duties one after another.
-use Rattle.std.proofs.Common.{◌≡◌, ◌∙◌, ℕ, zero, suc, ◌+◌, ◌<◌, ◌≤◌, Bool, true, false, List, [], ◌∷◌, ◌++◌, length, ap, sym, subst, refl, arith, inl, inr}
+use Rattle.std.proofs.Common.{◌≡◌, ◌∙◌, ℕ, zero, suc, ◌+◌, ◌≤◌, Bool, true, false, List, [], ◌∷◌, ◌++◌, ap, sym, subst, refl, arith}
 use Rattle.std.specs.List.{range_with_len, flat_map}
-use Rattle.std.specs.Prelude.{replicate, ◌&&◌, IsTrue, Option, if◌then◌else◌}
+use Rattle.std.specs.Prelude.{replicate, ◌&&◌, IsTrue, Option}
 use Rattle.std.proofs.lemmas.List.{flat_map_more, replicate_more}
 use Rattle.px_packets.specs.declared.wire.PacketWire.{PacketWire}
 use Rattle.px_transport.specs.Wires.{Gives}

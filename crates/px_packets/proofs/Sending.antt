@@ -1,6 +1,6 @@
 -- Packets that are handed over one after another.
 use Rattle.std.proofs.Common.{◌≡◌, ◌∙◌, ℕ, zero, suc, ◌+◌, ◌-◌, ◌<◌, Bool, true, false, List, [], ◌∷◌, ◌++◌, length, map, ap, sym, subst, refl, arith, inl, inr, Option, Some, None}
-use Rattle.std.specs.Prelude.{IsTrue, not, if◌then◌else◌, nat_le, nat_lt, slice_set, slice_index_or}
+use Rattle.std.specs.Prelude.{IsTrue, not, if◌then◌else◌, slice_set, slice_index_or}
 use Rattle.std.specs.List.{filter, range_with_len}
 use Rattle.std.proofs.lemmas.List.{append-nil, append_assoc}
 use Rattle.px_transport.specs.Wires.{GrowsBy}

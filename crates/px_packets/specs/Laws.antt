@@ -11,7 +11,7 @@ use Rattle.px_replay.specs.Arrivals.{arrival_of}
 use Rattle.px_replay.specs.Laws.{AreDistinct, AreOnce}
 use Rattle.px_pieces.specs.Pieces.{Piece, piece_of, piece_bytes}
 use Rattle.px_pieces.specs.Sending.{CanBeCut}
-use Rattle.px_pieces.specs.Laws.{IsPieceOf, Pending, is_among}
+use Rattle.px_pieces.specs.Laws.{IsPieceOf, Pending, is_among, is_bounded}
 use Rattle.px_packets.specs.Receiving.{Heard, Given, Whole, Joined, Held, Nothing, Dropped, Memory, Enough, unheard}
 use Rattle.px_packets.specs.Receiving.{with_header}
 use Rattle.px_packets.specs.Receiving.{of_member, heard_after, given_by, reported_of}
@@ -127,3 +127,17 @@ LastPieceGives = (mine : Start) (hs : List Heard) (h : Header) (name : ℕ) (d k
     ((j : ℕ) → 1160 * j < length d → is_among j (k ∷ ks) ≡ false →
     (given_by mine Enough hs h b now ≡ Nothing) ×
     Pending (of_member (heard_after mine Enough hs h b now) h.from).unfinished name d (k ∷ ks))
+
+-- ---- how much memory is taken
+
+-- what is heard of each member after all that
+abbrev pub heard_all : (members : ℕ) → (mine : Start) → List Heard → List Event → List Heard
+heard_all members mine hs [] = hs
+heard_all members mine hs (Starts next ∷ es) = heard_all members next (nobody members) es
+heard_all members mine hs (Comes h b now m ∷ es) = heard_all members mine (heard_after mine m hs h b now) es
+heard_all members mine hs (Reports member now ∷ es) = heard_all members mine (reported_of hs member now) es
+
+-- of each member there are at most 8 unfinished datagrams, of 29 parts at most, of 1,160 bytes at most, whatever comes
+abbrev pub StaysBounded : Type 0
+StaysBounded = (members : ℕ) (mine : Start) (es : List Event) (member : ℕ) →
+    is_bounded (of_member (heard_all members mine (nobody members) es) member).unfinished ≡ true

@@ -5,4 +5,5 @@ pub mod Senders
 pub mod Wiring
 pub mod Laws
 pub mod Examples
+pub mod SendingLaws
 pub mod SendingExamples

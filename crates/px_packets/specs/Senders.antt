@@ -1,6 +1,6 @@
 -- What a sender in code shows.
-use Rattle.std.specs.Prelude.{ℕ, List}
-use Rattle.px_packet.specs.Keyed.{key_of, keys_of}
+use Rattle.std.specs.Prelude.{List}
+use Rattle.px_packet.specs.Keyed.{key_of}
 use Rattle.px_packets.specs.declared.sender.Sender.{Sender}
 use Rattle.px_packets.specs.Sending as sending
 use Rattle.px_packets.specs.Sending.{ToMember}

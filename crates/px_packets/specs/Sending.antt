@@ -1,7 +1,7 @@
 -- Packets that a member sends.
-use Rattle.std.specs.Prelude.{◌≡◌, ℕ, ◌+◌, ◌-◌, ◌*◌, ◌^◌, ◌==◌, ◌&&◌, Bool, not, min, List, [], ◌∷◌, ◌++◌, length, map}
+use Rattle.std.specs.Prelude.{◌≡◌, ℕ, ◌+◌, ◌-◌, ◌^◌, ◌==◌, ◌&&◌, Bool, not, min, List, [], ◌∷◌, ◌++◌, length, map}
 use Rattle.std.specs.Prelude.{Option, Some, None, slice_set, slice_index_or, nat_le, nat_lt, if◌then◌else◌, IsTrue}
-use Rattle.std.specs.List.{range_with_len, All, filter}
+use Rattle.std.specs.List.{range_with_len, filter}
 use Rattle.px_transport.specs.Wires.{GrowsBy}
 use Rattle.px_packet.specs.declared.start.Start.{Start}
 use Rattle.px_packet.specs.declared.kind.Kind.{Kind}
@@ -27,7 +27,13 @@ pub record ToMember : Type 0 where
 
 -- nothing was sent
 abbrev pub new_to : ToMember
-new_to = record { counter = 0; sent = record { count = 0; cuts = [] }; stated = None; echoed = record { number = 0; salt = 0 } }
+new_to =
+    record {
+      counter = 0;
+      sent = record { count = 0; cuts = [] };
+      stated = None;
+      echoed = record { number = 0; salt = 0 };
+    }
 
 -- with one packet more
 abbrev pub counted : ToMember → ToMember

@@ -1,7 +1,7 @@
 -- Worked examples of what is sent.
 use Rattle.std.specs.Prelude.{◌≡◌, length, [], ◌∷◌, refl}
 use Rattle.px_packet.specs.declared.start.Start.{Start}
-use Rattle.px_packets.specs.Sending.{Sealer, new_to, to_member, next_state, stated, lacked, state, counted_all, is_short}
+use Rattle.px_packets.specs.Sending.{Sealer, new_to, to_member, next_state, stated, lacked, state, counted_all}
 use Rattle.px_packets.specs.Wiring.{upkeep}
 
 abbrev start : Start

@@ -1,6 +1,6 @@
 -- What a wire of packets does.
-use Rattle.std.specs.Prelude.{◌≡◌, ℕ, ◌≤◌, ◌==◌, Bool, true, false, List, [], ◌∷◌, ◌++◌, length, take, drop, replicate}
-use Rattle.std.specs.Prelude.{Option, Some, None, option_map, slice_set, nat_lt, nat_le, not, IsTrue, ◌&&◌, ◌⊎◌, if◌then◌else◌}
+use Rattle.std.specs.Prelude.{◌≡◌, ℕ, ◌≤◌, Bool, true, false, List, [], ◌∷◌, length, take, drop, replicate}
+use Rattle.std.specs.Prelude.{Option, Some, None, IsTrue, ◌&&◌, ◌⊎◌, if◌then◌else◌}
 use Rattle.std.specs.List.{range_with_len, flat_map}
 use Rattle.px_transport.specs.Wires.{Gives, Counts, one_more}
 use Rattle.px_packet.specs.declared.start.Start.{Start}
@@ -19,8 +19,8 @@ use Rattle.px_packets.specs.declared.receiver.Receiver.{Receiver}
 use Rattle.px_packets.specs.declared.wire.PacketWire.{PacketWire}
 use Rattle.px_packets.specs.Receiving.{Heard, Given, Whole, Joined, Held, Nothing, Dropped, Memory, Hears, of_member}
 use Rattle.px_packets.specs.Receiving.{heard_after, given_by, reported_of}
-use Rattle.px_packets.specs.Sending as sending
-use Rattle.px_packets.specs.Sending.{is_other, can_be_cut, ToMember, Sealer, Unsealed, SendsUpTo, states, stated_for, report, again, packets_of, kept_with}
+use Rattle.px_packets.specs.Sending.{is_other, can_be_cut, ToMember, Sealer, Unsealed, SendsUpTo, states, stated_for}
+use Rattle.px_packets.specs.Sending.{report, again, packets_of, kept_with}
 use Rattle.px_packets.specs.Senders as senders
 
 -- ---- a wire in code
@@ -67,7 +67,8 @@ pub record WireState : Type 0 where
   pub failures : ℕ
 
 -- this is so: `handed` is what the wire below tells
-pub record IsWireState {W C : Type 0} (handed : Option (List (ℕ × List ℕ))) (k : WireState) (w : PacketWire W C) : Type 0 where
+pub record IsWireState {W C : Type 0} (handed : Option (List (ℕ × List ℕ))) (k : WireState) (w : PacketWire W C) :
+    Type 0 where
   pub handed_is : handed ≡ k.handed
   pub outgoing_is : outgoing_of w ≡ k.outgoing
   pub heard_is : Hears (sealer_of w).start k.heard w.receiver

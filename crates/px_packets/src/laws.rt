@@ -1,6 +1,6 @@
 //! What is true of what a receiver gives.
 
-ghost use Rattle.px_packets.specs.Laws.{GivenWasSent, GivenOnce, GivenIsPresent, LastPieceGives};
+ghost use Rattle.px_packets.specs.Laws.{GivenWasSent, GivenOnce, GivenIsPresent, LastPieceGives, StaysBounded};
 
 use px_pieces::laws::{joined_was_cut, pieces_are_joined, report_keeps};
 
@@ -32,4 +32,11 @@ pub fn last_piece_gives()
     ensures { LastPieceGives }
 {
     pieces_are_joined();
+}
+
+/// Of each member there are at most 8 unfinished datagrams, of 33,640 bytes at most, whatever comes.
+pub fn stays_bounded()
+    ensures { StaysBounded }
+{
+    px_pieces::laws::stays_bounded();
 }

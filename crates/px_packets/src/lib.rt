@@ -4,7 +4,9 @@
 //!
 //! - [`PacketWire`]: any wire, over which datagrams go as sealed packets, cut where they are longer than a packet.
 //! - [`Receiver`]: what a receiver does with packets that were opened; [`Taken`]: what comes of one.
-//! - `specs/Sending` defines which packets a member sends, `specs/Wiring` what a wire does.
+//! - [`laws`] and [`sending_laws`]: what is given was handed over, once; no counter is used twice.
+//! - `specs/Bodies` defines how bodies are read, `specs/Receiving` what a receiver does with packets, `specs/Sending`
+//!   which packets a member sends, `specs/Wiring` what a wire does.
 //!
 //! # Why
 //!
@@ -17,6 +19,7 @@ mod opening;
 mod outgoing;
 mod receiver;
 mod sender;
+pub mod sending_laws;
 mod taken;
 mod wire;
 

@@ -1,6 +1,7 @@
 //! What a sender has of one receiver.
 
-ghost use Rattle.std.specs.Prelude.{◌≡◌, ◌+◌, ◌^◌, [], None, Some, IfOk, IfSome, IfNone, MatchOption, option_map, replicate};
+ghost use Rattle.std.specs.Prelude.{◌≡◌, ◌+◌, ◌^◌, [], None, Some, IfOk, IfSome, IfNone, MatchOption, option_map};
+ghost use Rattle.std.specs.Prelude.{replicate};
 ghost use Rattle.px_pieces.specs.Sending.{name_of, sent_after, cut_with};
 ghost use Rattle.px_packets.specs.Sending.{new_to, named, counted, next_state, stated};
 

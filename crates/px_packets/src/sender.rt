@@ -34,7 +34,8 @@ impl Sender {
     ghost use Rattle.std.specs.Prelude.{◌≡◌, ◌<◌, ◌≤◌, ◌*◌, ◌⊎◌, ◌∷◌, [], false, IsTrue, IfOk, replicate};
     ghost use Rattle.px_packet.specs.Keyed.{key_of};
     ghost use Rattle.px_packet.specs.declared.kind.Kind.TheVariants.{Piece};
-    ghost use Rattle.px_packets.specs.Sending.{is_other, can_be_cut, new_to, to_member, next_state, stated_for, Sends, SendsUpTo};
+    ghost use Rattle.px_packets.specs.Sending.{is_other, can_be_cut, new_to, to_member, next_state, stated_for};
+    ghost use Rattle.px_packets.specs.Sending.{Sends, SendsUpTo};
     ghost use Rattle.px_packets.specs.Sending.{piece, pieces, kept_with, packets_of, again, state, report, states};
     ghost use Rattle.px_packets.specs.Senders.{sealer_of, outgoing_of};
 

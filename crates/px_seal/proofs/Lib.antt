@@ -1,4 +1,2 @@
-mod Apart
 mod Filling
 mod Grouping
-mod Openings

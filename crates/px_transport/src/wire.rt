@@ -4,8 +4,9 @@ ghost use Rattle.std.specs.Prelude.{◌≡◌, ◌≤◌, ℕ, List, Option, IfS
 ghost use Rattle.px_transport.specs.Wires.{Gives, Grows, Counts};
 
 /// Where datagrams come from and go to. Members are told apart by their numbers; 255 is whoever sent the datagram that
-/// came last. A datagram that isn't sent is lost, as it may be on its way: nothing else follows from it. A wire sends
-/// what it is handed and nothing of its own: what is sent again, px_resend hands to it again.
+/// came last. A datagram that isn't sent is lost, as it may be on its way: nothing else follows from it. Of what
+/// it is handed a wire sends nothing again of its own accord: px_resend hands it again. A wire of packets adds packets
+/// that its layer needs.
 pub trait Wire {
     // what `recv` and `poll` gave so far, where the wire tells
     ghost given: { Self → Option (List (List ℕ)) };

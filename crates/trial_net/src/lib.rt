@@ -7,4 +7,6 @@ mod asking;
 #[cfg(test)]
 mod bench;
 #[cfg(test)]
+mod own;
+#[cfg(test)]
 mod sockets;

@@ -1,5 +1,4 @@
-use px_seal::{SealedWire, group_key, hmac_sha256, parse_key};
-use px_transport::{LoopbackWire, MemoryWire, Wire};
+use px_seal::{group_key, hmac_sha256, parse_key};
 use std::alloc::Global;
 use std::test::Fail;
 
@@ -56,97 +55,6 @@ fn tags_are_those_of_rfc_4231(rt: HostRuntime) -> Result<(), Fail> {
     Ok(())
 }
 
-const DATAGRAM: &[u8] = b"PFXR a datagram";
-
-/// What is handed to the wire below by a wire sealed with the key.
-fn sealed(alloc: Global, key: &[u8; 32]) -> Result<Vec<u8>, Fail> {
-    let below = MemoryWire::new(alloc, Vec::new(alloc));
-    let mut wire = SealedWire::new(alloc, below, key, None)?;
-    if !wire.send(1, DATAGRAM) || wire.failures() > 0 {
-        return Err(Fail::new("not sent"));
-    }
-    let below = wire.into_inner();
-    let Some(sent) = below.sent() else {
-        return Err(Fail::new("not told"));
-    };
-    let Some((to, bytes)) = sent.first() else {
-        return Err(Fail::new("not handed on"));
-    };
-    if *to != 1 || sent.len() != 1 {
-        return Err(Fail::new("not one datagram for member 1"));
-    }
-    Ok(Vec::from_slice(alloc, bytes.as_slice())?)
-}
-
-/// How many bytes come over a wire with these keys of what is handed to it, and how many datagrams are dropped.
-fn heard(
-    alloc: Global,
-    key: &[u8; 32],
-    other: Option<&[u8; 32]>,
-    bytes: &[u8],
-) -> Result<(usize, u64), Fail> {
-    let mut coming = Vec::new(alloc);
-    coming.push(Vec::from_slice(alloc, bytes)?)?;
-    let mut wire = SealedWire::new(alloc, MemoryWire::new(alloc, coming), key, other)?;
-    let mut room = [0u8; 100];
-    wire.wait(10);
-    let Some(n) = wire.poll(&mut room) else {
-        return Err(Fail::new("nothing came"));
-    };
-    if n > 0 && &room[..n] != DATAGRAM {
-        return Err(Fail::new("another datagram came"));
-    }
-    if wire.recv(&mut room).is_some() {
-        return Err(Fail::new("two came"));
-    }
-    Ok((n, wire.dropped()))
-}
-
-#[test]
-fn what_is_sealed_is_opened(rt: HostRuntime) -> Result<(), Fail> {
-    let bytes = sealed(rt.alloc(), &[7; 32])?;
-    assert_eq!(rt; bytes.len(), 47);
-    assert_eq!(rt;
-        heard(rt.alloc(), &[7; 32], None, bytes.as_slice())?,
-        (15, 0)
-    );
-    Ok(())
-}
-
-#[test]
-fn every_altered_byte_is_dropped(rt: HostRuntime) -> Result<(), Fail> {
-    let mut bytes = sealed(rt.alloc(), &[7; 32])?;
-    for i in 0..bytes.len() {
-        bytes[i] = bytes[i] ^ 1;
-        assert_eq!(rt;
-            heard(rt.alloc(), &[7; 32], None, bytes.as_slice())?,
-            (0, 1)
-        );
-        bytes[i] = bytes[i] ^ 1;
-    }
-    for n in 0..bytes.len() {
-        assert_eq!(rt;
-            heard(rt.alloc(), &[7; 32], None, &bytes.as_slice()[..n])?,
-            (0, 1)
-        );
-    }
-    Ok(())
-}
-
-#[test]
-fn a_key_is_changed_with_no_stop(rt: HostRuntime) -> Result<(), Fail> {
-    let (old, new) = ([7; 32], [8; 32]);
-    let by_old = sealed(rt.alloc(), &old)?;
-    let by_new = sealed(rt.alloc(), &new)?;
-    for bytes in [by_old.as_slice(), by_new.as_slice()] {
-        assert_eq!(rt; heard(rt.alloc(), &old, Some(&new), bytes)?, (15, 0));
-        assert_eq!(rt; heard(rt.alloc(), &new, Some(&old), bytes)?, (15, 0));
-        assert_eq!(rt; heard(rt.alloc(), &[9; 32], Some(&[6; 32]), bytes)?, (0, 1));
-    }
-    assert_eq!(rt; heard(rt.alloc(), &new, None, by_old.as_slice())?, (0, 1));
-    Ok(())
-}
-
 #[test]
 fn another_group_has_another_key(rt: HostRuntime) -> Result<(), Fail> {
     let alloc = rt.alloc();
@@ -174,37 +82,5 @@ fn a_secret_has_64_digits(rt: HostRuntime) -> Result<(), Fail> {
     for text in [&b"5a5a"[..], b"", b"\n", &text.as_bytes()[1..], b"\n5a"] {
         assert!(rt; parse_key(text).is_none());
     }
-    Ok(())
-}
-
-#[test]
-fn what_a_member_sends_to_itself_comes_back_first(rt: HostRuntime) -> Result<(), Fail> {
-    let mut coming = Vec::new(rt.alloc());
-    coming.push(Vec::from_slice(rt.alloc(), b"from below")?)?;
-    let mut wire = LoopbackWire::new(rt.alloc(), MemoryWire::new(rt.alloc(), coming), 2);
-    let mut room = [0u8; 100];
-    for text in [b"one", b"two"] {
-        assert!(rt; wire.send(2, text));
-    }
-    assert!(rt; wire.send(1, b"to another"));
-    wire.wait(60_000);
-    assert_eq!(rt; wire.poll(&mut room), Some(3));
-    assert!(rt; &room[..3] == b"one".as_slice());
-    assert_eq!(rt; wire.recv(&mut room), Some(3));
-    assert!(rt; &room[..3] == b"two".as_slice());
-    assert_eq!(rt; wire.recv(&mut room), Some(10));
-    assert_eq!(rt; wire.poll(&mut room), None);
-    for _ in 0..65 {
-        assert!(rt; wire.send(2, b"to itself"));
-    }
-    let below = wire.into_inner();
-    let Some(sent) = below.sent() else {
-        return Err(Fail::new("not told"));
-    };
-    assert_eq!(rt; sent.len(), 2);
-    let Some((to, _)) = sent.last() else {
-        return Err(Fail::new("not handed on"));
-    };
-    assert_eq!(rt; *to, 2);
     Ok(())
 }

@@ -1,6 +1,6 @@
 //! Trials of nodes over wires: a cluster in one process, over UDP, and with datagrams that are lost; of the pace at
 //! which a node's clock ticks; of what a node does when it starts and when its turns are over, and of whom it sends
-//! again what that member lacks; and of members over sealed wires and packets.
+//! again what that member lacks; and of members over packets.
 #![tactic(auto)]
 
 #[cfg(test)]
@@ -17,7 +17,5 @@ mod pace;
 mod packets;
 #[cfg(test)]
 mod reminding;
-#[cfg(test)]
-mod sealed;
 #[cfg(test)]
 mod starting;

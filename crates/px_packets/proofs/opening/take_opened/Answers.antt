@@ -1,6 +1,5 @@
 -- what the receiver gives is what comes of the packet
-use Rattle.std.proofs.Common.{rules, ◌≡◌, ◌∙◌, ℕ, List, length, take, ap, sym}
-use Rattle.px_packet.specs.declared.header.Header.{Header}
+use Rattle.std.proofs.Common.{◌∙◌, length, take, ap, sym}
 use Rattle.px_packets.specs.Receiving.{given_by, seen}
 use Rattle.px_packets.specs.Wiring.{is_other_machine}
 use Rattle.px_packets.proofs.Arriving.{comes_whole, comes_joined, comes_held, comes_nothing, comes_dropped, comes_copy}

@@ -1,6 +1,6 @@
 -- all pieces are sent under its name
-use Rattle.std.proofs.Common.{rules, ◌≡◌, ℕ, List, true, false, [], ◌∷◌, ◌∙◌, ◌<◌, length, subst, ap, arith, inr}
-use Rattle.std.specs.Prelude.{nat_le, slice_set}
+use Rattle.std.proofs.Common.{rules, ◌≡◌, ℕ, List, false, [], ◌∷◌, ◌∙◌, ◌<◌, length, subst, ap, arith, inr}
+use Rattle.std.specs.Prelude.{slice_set}
 use Rattle.px_pieces.specs.Sending.{name_of}
 use Rattle.px_packets.specs.Sending.{ToMember, SendsUpTo, to_member, named, whole, pieces, is_short, named_for}
 use Rattle.px_packets.specs.Senders.{sealer_of, outgoing_of}

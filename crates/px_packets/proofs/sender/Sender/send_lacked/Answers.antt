@@ -2,7 +2,7 @@
 use Rattle.std.proofs.Common.{rules, ◌≡◌, ◌∙◌, ◌<◌, length, None, ap, sym, arith}
 use Rattle.px_pieces.specs.Sending.{cut_with}
 use Rattle.px_packets.specs.Sending.{to_member, again_of}
-use Rattle.px_packets.specs.Senders.{sealer_of, outgoing_of}
+use Rattle.px_packets.specs.Senders.{outgoing_of}
 use Rattle.px_packets.proofs.Sending.{upto_none, at_index}
 use Rattle.px_packets.proofs.sender.Sender.send_lacked.Goals as goal
 

@@ -1,5 +1,5 @@
 -- it isn't due
-use Rattle.std.proofs.Common.{rules, ◌≡◌, ◌∙◌, true, false, [], ◌∷◌, ◌<◌, length, refl, ap, sym, subst, arith}
+use Rattle.std.proofs.Common.{rules, ◌≡◌, ◌∙◌, true, [], ◌∷◌, ◌<◌, length, refl, ap, subst, arith}
 use Rattle.std.specs.Prelude.{nat_lt, slice_set}
 use Rattle.px_packets.specs.Sending.{to_member, next_state, state, stated}
 use Rattle.px_packets.specs.Senders.{sealer_of, outgoing_of}

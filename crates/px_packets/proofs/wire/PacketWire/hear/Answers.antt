@@ -1,5 +1,5 @@
 -- what came of the packet is given, done and counted
-use Rattle.std.proofs.Common.{rules, ◌≡◌, ◌∙◌, ◌+◌, ℕ, List, [], ◌∷◌, true, false, length, take, replicate, ap, sym, subst, refl, arith, inl, inr}
+use Rattle.std.proofs.Common.{rules, ◌≡◌, ℕ, List, length, take, ap, subst, refl}
 use Rattle.px_packets.specs.declared.coming.Coming.TheVariants as coming
 use Rattle.px_packets.specs.Receiving.{Hears}
 use Rattle.px_packets.specs.Wiring.{sealer_of, keys_of, inner_of, state_of, opened, heard_with, given_of, Comes, IsWithin}

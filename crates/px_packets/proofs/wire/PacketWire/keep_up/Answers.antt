@@ -1,5 +1,5 @@
 -- a member more
-use Rattle.std.proofs.Common.{rules, ◌≡◌, ◌∙◌, ◌+◌, ℕ, List, [], ◌∷◌, true, false, length, take, replicate, ap, sym, subst, refl, arith, inl, inr}
+use Rattle.std.proofs.Common.{◌∙◌, ap, arith}
 use Rattle.px_packets.specs.Wiring.{sealer_of, inner_of, state_of}
 use Rattle.px_packets.proofs.Duties.{member_done, state_eq}
 use Rattle.px_packets.proofs.wire.PacketWire.keep_up.Goals as goal

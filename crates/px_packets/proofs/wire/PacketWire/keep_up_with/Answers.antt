@@ -1,8 +1,8 @@
 -- a report more, and all of them
-use Rattle.std.proofs.Common.{rules, ◌≡◌, ◌∙◌, ◌+◌, ℕ, List, [], ◌∷◌, true, false, length, take, replicate, ap, sym, subst, refl, arith, inl, inr}
+use Rattle.std.proofs.Common.{rules, ◌≡◌, ◌∙◌, [], ◌∷◌, true, false, replicate, ap, sym, subst, refl, arith}
 use Rattle.std.specs.Prelude.{if◌then◌else◌}
 use Rattle.px_packets.specs.Sending.{is_other}
-use Rattle.px_packets.specs.Wiring.{State, Report, Duty, DoesAll, duties, sealer_of, inner_of, state_of}
+use Rattle.px_packets.specs.Wiring.{State, Report, DoesAll, duties, sealer_of, inner_of, state_of}
 use Rattle.px_packets.proofs.Duties.{does_next, reports_more, state_eq}
 use Rattle.px_packets.proofs.wire.PacketWire.keep_up_with.Goals as goal
 

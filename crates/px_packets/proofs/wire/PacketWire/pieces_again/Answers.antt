@@ -1,5 +1,5 @@
 -- pieces are sent again, if their datagram is kept
-use Rattle.std.proofs.Common.{rules, ◌≡◌, subst, sym, ap, refl, false}
+use Rattle.std.proofs.Common.{◌≡◌, subst, sym, refl, false}
 use Rattle.px_packet.specs.declared.start.Start.{Start}
 use Rattle.px_packets.specs.Receiving.{Hears}
 use Rattle.px_packets.specs.Sending.{SendsUpTo, again}

@@ -1,5 +1,5 @@
 -- the state is sent, if it is due
-use Rattle.std.proofs.Common.{rules, ◌≡◌, subst, sym, refl}
+use Rattle.std.proofs.Common.{◌≡◌, subst, sym, refl}
 use Rattle.px_packet.specs.declared.start.Start.{Start}
 use Rattle.px_packets.specs.Receiving.{Hears}
 use Rattle.px_packets.specs.Sending.{SendsUpTo, states, stated_for}

@@ -1,5 +1,5 @@
 -- nothing came
-use Rattle.std.proofs.Common.{rules, ◌≡◌, ◌∙◌, ◌+◌, ℕ, List, [], ◌∷◌, true, false, length, take, replicate, ap, sym, subst, refl, arith, inl, inr}
+use Rattle.std.proofs.Common.{ℕ, length, take, sym, subst, refl}
 use Rattle.std.specs.Prelude.{Option, Some, None, option_map}
 use Rattle.px_packets.specs.Wiring.{inner_of, sealer_of, keys_of, state_of, TakesAny}
 use Rattle.px_packets.proofs.wire.PacketWire.take_came.Goals as goal

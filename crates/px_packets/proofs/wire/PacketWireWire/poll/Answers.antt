@@ -1,5 +1,5 @@
 -- what is due is done, and what came is taken
-use Rattle.std.proofs.Common.{rules, take, length}
+use Rattle.std.proofs.Common.{take, length}
 use Rattle.std.specs.Prelude.{option_map}
 use Rattle.px_packets.specs.Wiring.{inner_of}
 use Rattle.px_packets.proofs.Duties.{receives_from, hears_below}

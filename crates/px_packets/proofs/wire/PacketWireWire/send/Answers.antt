@@ -1,5 +1,5 @@
 -- the packets of the datagram are handed over
-use Rattle.std.proofs.Common.{rules, ◌≡◌, ◌∙◌, ◌+◌, ℕ, List, [], ◌∷◌, true, false, length, take, replicate, ap, sym, subst, refl, arith, inl, inr}
+use Rattle.std.proofs.Common.{rules, ◌≡◌, true, false, subst, refl}
 use Rattle.std.specs.Prelude.{◌⊎◌}
 use Rattle.px_packet.specs.declared.start.Start.{Start}
 use Rattle.px_packets.specs.Sending.{SendsUpTo, packets_of, kept_with, is_other, can_be_cut}
