@@ -1,6 +1,7 @@
 /* Sends garbage datagrams to ports of this machine, so many a second: flood RATE SECONDS KIND PORT..
    KIND: random (100 bytes of no meaning), asks (100 bytes that begin as an ask of cluster 7 does, with a wrong tag),
-   members (the same as from a member, its address too: the ports are the members' in order; wants root).
+   members (the same as from a member, its address too: the ports are the members' in order; wants root), pieces (the
+   same of packets that have a piece).
    It writes how many were sent. RATE 0: as many as can be sent. */
 #define _GNU_SOURCE
 #include <arpa/inet.h>
@@ -12,6 +13,7 @@
 #include <time.h>
 
 enum { SIZE = 100, BATCH = 32, FRONT = 28 };
+enum { RANDOM, ASKS, MEMBERS, PIECES };
 
 static double now(void) {
     struct timespec t;
@@ -30,15 +32,15 @@ static unsigned char byte(void) {
 
 static void fill(unsigned char *data, int kind, int from, int to, int members) {
     for (int i = 0; i < SIZE; i++) data[i] = byte();
-    if (kind == 0) {
+    if (kind == RANDOM) {
         data[10] &= 0x7f;
         return;
     }
-    memcpy(data, "PFXR\1\0\0\0\7", 9);
+    memcpy(data, kind == PIECES ? "PFXS\2\0\0\0\7" : "PFXR\1\0\0\0\7", 9);
     data[9] = members;
-    data[10] = kind == 1 ? 255 : from;
+    data[10] = kind == ASKS ? 255 : from;
     data[11] = to;
-    data[12] = kind == 1 ? 8 : 7;
+    data[12] = kind == PIECES ? 2 : kind == ASKS ? 8 : 7;
 }
 
 static void front(unsigned char *ip, int from, int to) {
@@ -59,8 +61,11 @@ static void front(unsigned char *ip, int from, int to) {
 int main(int words, char **word) {
     if (words < 5) return 2;
     double rate = atof(word[1]), seconds = atof(word[2]);
-    int kind = !strcmp(word[3], "members") ? 2 : !strcmp(word[3], "asks"), ports = words - 4;
-    int s = kind == 2 ? socket(AF_INET, SOCK_RAW, IPPROTO_RAW) : socket(AF_INET, SOCK_DGRAM, 0);
+    const char *kinds[] = {"random", "asks", "members", "pieces"};
+    int kind = RANDOM, ports = words - 4;
+    for (int k = 0; k < 4; k++) if (!strcmp(word[3], kinds[k])) kind = k;
+    int is_raw = kind >= MEMBERS;
+    int s = is_raw ? socket(AF_INET, SOCK_RAW, IPPROTO_RAW) : socket(AF_INET, SOCK_DGRAM, 0);
     if (s < 0) return perror("socket"), 1;
     static unsigned char data[BATCH][FRONT + SIZE];
     struct sockaddr_in to[BATCH];
@@ -75,12 +80,12 @@ int main(int words, char **word) {
             continue;
         }
         for (int k = 0; k < BATCH; k++, next++) {
-            int at = next % ports, from = (at + 1) % ports, skip = kind == 2 ? 0 : FRONT;
+            int at = next % ports, from = (at + 1) % ports, skip = is_raw ? 0 : FRONT;
             front(data[k], atoi(word[4 + from]), atoi(word[4 + at]));
             fill(data[k] + FRONT, kind, from, at, ports);
             memset(&to[k], 0, sizeof to[k]);
             to[k].sin_family = AF_INET;
-            to[k].sin_port = kind == 2 ? 0 : htons(atoi(word[4 + at]));
+            to[k].sin_port = is_raw ? 0 : htons(atoi(word[4 + at]));
             to[k].sin_addr.s_addr = htonl(0x7f000001);
             part[k] = (struct iovec){data[k] + skip, FRONT + SIZE - skip};
             memset(&batch[k], 0, sizeof batch[k]);

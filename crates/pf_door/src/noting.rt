@@ -39,6 +39,11 @@ pub(crate) fn say<R: Records, RT: Clock + Eprint>(
     } else {
         "warning"
     };
+    let advice = if is == Health::Stuck && tally.large > 0 {
+        ": if large datagrams don't arrive, use a key"
+    } else {
+        ""
+    };
     let _begun = eprint!(rt; "pfx: {}: ", level);
     if let Some(date) = date_now(rt) {
         let _dated = eprint!(rt; "{}: ", date);
@@ -46,7 +51,7 @@ pub(crate) fn say<R: Records, RT: Clock + Eprint>(
     let _said = eprintln!(rt;
         "node {} was {} and is {}: front {} has stood for {} seconds, {} commands wait here, {} of {} other \
          members are heard, {} positions behind, refused by a higher round {} times, the longest datagram sent since \
-         is {} bytes",
+         is {} bytes{}",
         node.membership().me(),
         was.word(),
         is.word(),
@@ -57,6 +62,7 @@ pub(crate) fn say<R: Records, RT: Clock + Eprint>(
         tally.peers.len(),
         shown(clerk).max(node.front()).saturating_sub(applied),
         tally.outrun,
-        tally.large
+        tally.large,
+        advice
     );
 }

@@ -56,6 +56,7 @@ pub struct Observer {
     proposed: Option<(u32, u64)>,
     outrun: u64,
     large: usize,
+    has_packets: bool,
     hearing: Hearing,
 }
 
@@ -201,9 +202,14 @@ impl Row {
 }
 
 impl Observer {
-    /// The observer of this member, which has seen nothing; whether it warns alone, and tells nothing else, on standard
-    /// error.
-    pub fn new(alloc: Global, m: Membership, is_quiet: bool) -> Result<Observer, AllocError> {
+    /// The observer of this member, which has seen nothing; whether datagrams go in packets, so that none is too long
+    /// for one, and whether it warns alone, and tells nothing else, on standard error.
+    pub fn new(
+        alloc: Global,
+        m: Membership,
+        has_packets: bool,
+        is_quiet: bool,
+    ) -> Result<Observer, AllocError> {
         let rows = first_rows(alloc, m)?;
         Ok(Observer {
             rows,
@@ -218,6 +224,7 @@ impl Observer {
             proposed: None,
             outrun: 0,
             large: 0,
+            has_packets,
             hearing: Hearing::new(m, is_quiet),
         })
     }
@@ -355,7 +362,7 @@ impl Observer {
             .saturating_add(taken as u64);
         let ignored = u64::from(counts.came).saturating_sub(known);
         self.ignored = self.ignored.saturating_add(ignored);
-        if counts.longest >= LARGE {
+        if counts.longest >= LARGE && !self.has_packets {
             self.large = self.large.max(counts.longest);
         }
     }

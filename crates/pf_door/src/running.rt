@@ -40,7 +40,7 @@ fn wait<W: Wire>(wire: &mut W, door: &mut Option<Door>, milliseconds: u32)
     ensures none { door.old ≡ None → door.new ≡ None }
 {
     match door {
-        Some(door) => door.wait(milliseconds),
+        Some(door) => door.wait(wire.due(milliseconds)),
         None => wire.wait(milliseconds),
     }
 }

@@ -405,6 +405,12 @@ impl<C: Clock> Wire for UdpWire<C> {
         }
     }
 
+    fn due(&self, milliseconds: u32) -> u32
+        ensures { result ≡ milliseconds }
+    {
+        milliseconds
+    }
+
     fn send(&mut self, to: u8, bytes: &[u8]) -> bool {
         let sent = match self.address(to) {
             Some(there) => self.sent_to(bytes, there),

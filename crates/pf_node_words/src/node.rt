@@ -262,7 +262,7 @@ fn observed<W: Wire + Drop>(
         Ok(wire) => LoopbackWire::new(alloc, wire, m.me()),
         Err(outcome) => return Err(outcome),
     };
-    match Observer::new(alloc, m, words.is_quiet) {
+    match Observer::new(alloc, m, words.key.is_some(), words.is_quiet) {
         Ok(observer) => Ok((wire, observer)),
         Err(_) => Err(Outcome::Memory),
     }

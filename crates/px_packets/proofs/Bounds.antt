@@ -65,7 +65,7 @@ due_length now [] = refl
 due_length now (u ∷ us) = at (is_due now u) (due_length now us)
   where
     at : (b : Bool) → length (due_after now us) ≡ length us →
-        length (if b then reported u ∷ us else u ∷ due_after now us) ≡ length (u ∷ us)
+        length (if b then reported now u ∷ us else u ∷ due_after now us) ≡ length (u ∷ us)
     at true e = refl
     at false e = ap suc e
 
@@ -77,7 +77,7 @@ due_all_small now [] = refl
 due_all_small now (u ∷ us) = at (is_due now u) (due_all_small now us)
   where
     at : (b : Bool) → list_all is_small (due_after now us) ≡ list_all is_small us →
-        list_all is_small (if b then reported u ∷ us else u ∷ due_after now us) ≡ list_all is_small (u ∷ us)
+        list_all is_small (if b then reported now u ∷ us else u ∷ due_after now us) ≡ list_all is_small (u ∷ us)
     at true e = refl
     at false e = ap (λ c. is_small u && c) e
 

@@ -1,5 +1,5 @@
 -- Packets that are handed over one after another.
-use Rattle.std.proofs.Common.{◌≡◌, ◌∙◌, ℕ, zero, suc, ◌+◌, ◌-◌, ◌<◌, Bool, true, false, List, [], ◌∷◌, ◌++◌, length, map, ap, sym, subst, refl, arith, inl, inr, Option, Some, None}
+use Rattle.std.proofs.Common.{◌≡◌, ◌∙◌, ℕ, zero, suc, ◌+◌, ◌-◌, ◌<◌, Bool, true, false, List, [], ◌∷◌, ◌++◌, length, map, take, ap, sym, subst, refl, arith, inl, inr, Option, Some, None}
 use Rattle.std.specs.Prelude.{IsTrue, not, if◌then◌else◌, slice_set, slice_index_or}
 use Rattle.std.specs.List.{filter, range_with_len}
 use Rattle.std.proofs.lemmas.List.{append-nil, append_assoc}
@@ -119,6 +119,39 @@ piece_lacked to echo held m i l e =
     let n = count_of (length m) in
     let rest = lacked held.bits (i + 1) (n - (i + 1)) in
     ap (map (piece to echo held.name m)) (lacked_from held.bits i n l ∙ ap (λ b. if not b then i ∷ rest else rest) e)
+
+-- of the first n of them
+
+pub take_held : (n to : ℕ) (echo : Start) (held : PiecesHeld) (m : List ℕ) (i : ℕ) → i < count_of (length m) →
+    has_bit held.bits i ≡ true →
+    take n (pieces_from to echo held m i) ≡ take n (pieces_from to echo held m (i + 1))
+take_held n to echo held m i l e = ap (take n) (piece_held to echo held m i l e)
+
+pub take_lacked : (n k to : ℕ) (echo : Start) (held : PiecesHeld) (m : List ℕ) (i : ℕ) → n ≡ suc k →
+    i < count_of (length m) → has_bit held.bits i ≡ false →
+    take n (pieces_from to echo held m i) ≡
+    piece to echo held.name m i ∷ take k (pieces_from to echo held m (i + 1))
+take_lacked n k to echo held m i s l e =
+    ap (λ x. take x (pieces_from to echo held m i)) s ∙ ap (take (suc k)) (piece_lacked to echo held m i l e)
+
+pub take_nil : {X : Type 0} (n : ℕ) → take {A = X} n [] ≡ []
+take_nil zero = refl
+take_nil (suc n) = refl
+
+pub take_past : (n to : ℕ) (echo : Start) (held : PiecesHeld) (m : List ℕ) (i : ℕ) → i ≡ count_of (length m) →
+    take n (pieces_from to echo held m i) ≡ []
+take_past n to echo held m i e =
+    let none : count_of (length m) - i ≡ 0 = omega (arith, e) in
+    ap (λ x. take n (map (piece to echo held.name m) (lacked held.bits i x))) none ∙ take_nil n
+
+pub take_none : (n to : ℕ) (echo : Start) (held : PiecesHeld) (m : List ℕ) (i : ℕ) → n ≡ 0 →
+    take n (pieces_from to echo held m i) ≡ []
+take_none n to echo held m i e = ap (λ x. take x (pieces_from to echo held m i)) e
+
+-- all that were to be sent were
+pub upto_done : (s : Sealer) (r : Bool) (all first rest : List Unsealed) (h : Handed) (os : List ToMember) (h' : Handed)
+    (os' : List ToMember) → all ≡ first ++ rest → rest ≡ [] → Sends s first h os h' os' → SendsUpTo s r all h os h' os'
+upto_done s r all first rest h os h' os' split none done = (first, rest, split, (λ _. none), done)
 
 -- ---- one of two ways
 

@@ -1,5 +1,5 @@
 -- Packets that a member sends.
-use Rattle.std.specs.Prelude.{◌≡◌, ℕ, ◌+◌, ◌-◌, ◌^◌, ◌==◌, ◌&&◌, Bool, not, min, List, [], ◌∷◌, ◌++◌, length, map}
+use Rattle.std.specs.Prelude.{◌≡◌, ℕ, ◌+◌, ◌-◌, ◌^◌, ◌==◌, ◌&&◌, Bool, not, min, List, [], ◌∷◌, ◌++◌, length, map, take}
 use Rattle.std.specs.Prelude.{Option, Some, None, slice_set, slice_index_or, nat_le, nat_lt, if◌then◌else◌, IsTrue}
 use Rattle.std.specs.List.{range_with_len, filter}
 use Rattle.px_transport.specs.Wires.{GrowsBy}
@@ -18,12 +18,15 @@ use Rattle.px_pieces.specs.Sending.{Sent, name_of, sent_after, cut_with}
 -- ---- what a sender has of one receiver
 
 -- how many packets were sealed for it, the datagrams that were cut for it, when the last packet of kind state was sent,
--- and the start that this echoed
+-- and the start that this echoed; since when packets for it are counted, in milliseconds, and how many pieces may
+-- still go to it
 pub record ToMember : Type 0 where
   pub counter : ℕ
   pub sent : Sent
   pub stated : Option ℕ
   pub echoed : Start
+  pub since : ℕ
+  pub left : ℕ
 
 -- nothing was sent
 abbrev pub new_to : ToMember
@@ -33,11 +36,18 @@ new_to =
       sent = record { count = 0; cuts = [] };
       stated = None;
       echoed = record { number = 0; salt = 0 };
+      since = 0;
+      left = 92;
     }
 
 -- with one packet more
 abbrev pub counted : ToMember → ToMember
-counted o = record o { counter = o.counter + 1 }
+counted o = record o { counter = o.counter + 1; left = o.left - 1 }
+
+-- each 5 ms 92 packets may go to it again: a socket takes in so many before they are read, where nobody set another
+-- size (212,992 bytes, of which Linux counts 2,304 for a packet of 1,232)
+abbrev pub refilled : (now : ℕ) → ToMember → ToMember
+refilled now o = if nat_le 5 (now - o.since) then record o { since = now; left = 92 } else o
 
 -- with a datagram that was cut
 abbrev pub named : List ℕ → ToMember → ToMember
@@ -56,6 +66,10 @@ next_after (Some t) same = min (t + (if same then 1000 else 20)) (2 ^ 64 - 1)
 -- where the receiver showed a new start
 abbrev pub next_state : ToMember → Start → ℕ
 next_state o start = next_after o.stated (is_start start o.echoed)
+
+-- how many of so many milliseconds are left before something is due
+abbrev pub time_left : (due now milliseconds : ℕ) → ℕ
+time_left due now milliseconds = min (due - now) milliseconds
 
 -- ---- packets
 
@@ -172,15 +186,23 @@ is_short m = nat_le (length m) 1179
 abbrev pub named_for : List ToMember → ℕ → List ℕ → List ToMember
 named_for os to m = slice_set os to (named m (to_member os to))
 
+-- at this time
+abbrev pub refilled_for : List ToMember → ℕ → (now : ℕ) → List ToMember
+refilled_for os to now = slice_set os to (refilled now (to_member os to))
+
 -- what a sender has as the packets of a datagram go out: where it is cut, it is kept
 abbrev pub kept_with : List ToMember → (to : ℕ) → List ℕ → List ToMember
 kept_with os to m = if is_short m then os else named_for os to m
 
--- the packets of a datagram for a member: one, or all pieces under its name
+-- the first pieces that may still go to a member. Its receiver asks for the others
+abbrev pub burst : List ToMember → (to : ℕ) → List Unsealed → List Unsealed
+burst os to ps = take (to_member os to).left ps
+
+-- the packets of a datagram for a member: one, or the pieces under its name
 abbrev pub packets_of : List ToMember → (to : ℕ) → (echo : Start) → List ℕ → List Unsealed
 packets_of os to echo m =
     if is_short m then whole to echo m ∷ []
-    else pieces to echo (record { name = name_of (to_member os to).sent m; bits = 0 }) m
+    else burst os to (pieces to echo (record { name = name_of (to_member os to).sent m; bits = 0 }) m)
 
 -- the pieces that it lacks of a datagram, if that is kept
 abbrev pub again_of : (to : ℕ) → (echo : Start) → PiecesHeld → Option (List ℕ) → List Unsealed
@@ -189,7 +211,7 @@ again_of to echo held (Some m) = pieces to echo held m
 
 -- the pieces that a member lacks of the datagram with that name, while it is kept
 abbrev pub again : List ToMember → (to : ℕ) → (echo : Start) → PiecesHeld → List Unsealed
-again os to echo held = again_of to echo held (cut_with (to_member os to).sent held.name)
+again os to echo held = burst os to (again_of to echo held (cut_with (to_member os to).sent held.name))
 
 -- a packet of kind state, if it is due
 abbrev pub states : List ToMember → (to : ℕ) → (echo : Start) → (now : ℕ) → List Unsealed

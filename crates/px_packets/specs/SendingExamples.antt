@@ -1,7 +1,8 @@
 -- Worked examples of what is sent.
 use Rattle.std.specs.Prelude.{◌≡◌, length, [], ◌∷◌, refl}
 use Rattle.px_packet.specs.declared.start.Start.{Start}
-use Rattle.px_packets.specs.Sending.{Sealer, new_to, to_member, next_state, stated, lacked, state, counted_all}
+use Rattle.px_packets.specs.Sending.{Sealer, new_to, to_member, next_state, stated, lacked, state, counted, counted_all}
+use Rattle.px_packets.specs.Sending.{refilled, refilled_for, burst, time_left}
 use Rattle.px_packets.specs.Wiring.{upkeep}
 
 abbrev start : Start
@@ -36,3 +37,23 @@ new_start = refl
 -- towards each of two others a state and 8 reports are looked at
 pub two_others : length (upkeep member) ≡ 18
 two_others = refl
+
+-- after 91 packets one piece more may go, and 5 ms after the first packets 92 again
+pub one_is_left : length (burst (record new_to { left = 1 } ∷ []) 0 (state 0 start ∷ state 0 start ∷ [])) ≡ 1
+one_is_left = refl
+
+pub each_packet_counts : (counted (record new_to { left = 1 })).left ≡ 0
+each_packet_counts = refl
+
+pub early : (refilled 4 (record new_to { left = 0 })).left ≡ 0
+early = refl
+
+pub all_again : (to_member (refilled_for (record new_to { left = 0 } ∷ []) 0 5) 0).left ≡ 92
+all_again = refl
+
+-- something that is due at 20 ms: at 7 ms 13 of 100 are left, at 30 none
+pub thirteen_left : time_left 20 7 100 ≡ 13
+thirteen_left = refl
+
+pub none_left : time_left 20 30 100 ≡ 0
+none_left = refl

@@ -1,6 +1,6 @@
 -- What a wire of packets does.
-use Rattle.std.specs.Prelude.{◌≡◌, ℕ, ◌≤◌, Bool, true, false, List, [], ◌∷◌, length, take, drop, replicate}
-use Rattle.std.specs.Prelude.{Option, Some, None, IsTrue, ◌&&◌, ◌⊎◌, if◌then◌else◌}
+use Rattle.std.specs.Prelude.{◌≡◌, ℕ, zero, suc, ◌-◌, ◌^◌, ◌≤◌, min, Bool, true, false, List, [], ◌∷◌, length, take}
+use Rattle.std.specs.Prelude.{drop, replicate, Option, Some, None, IsTrue, ◌&&◌, ◌⊎◌, if◌then◌else◌}
 use Rattle.std.specs.List.{range_with_len, flat_map}
 use Rattle.px_transport.specs.Wires.{Gives, Counts, one_more}
 use Rattle.px_packet.specs.declared.start.Start.{Start}
@@ -18,9 +18,9 @@ use Rattle.px_packets.specs.declared.coming.Coming.TheVariants as coming
 use Rattle.px_packets.specs.declared.receiver.Receiver.{Receiver}
 use Rattle.px_packets.specs.declared.wire.PacketWire.{PacketWire}
 use Rattle.px_packets.specs.Receiving.{Heard, Given, Whole, Joined, Held, Nothing, Dropped, Memory, Hears, of_member}
-use Rattle.px_packets.specs.Receiving.{heard_after, given_by, reported_of}
+use Rattle.px_packets.specs.Receiving.{heard_after, given_by, reported_of, due_of}
 use Rattle.px_packets.specs.Sending.{is_other, can_be_cut, ToMember, Sealer, Unsealed, SendsUpTo, states, stated_for}
-use Rattle.px_packets.specs.Sending.{report, again, packets_of, kept_with}
+use Rattle.px_packets.specs.Sending.{report, again, packets_of, kept_with, to_member, next_state, refilled_for}
 use Rattle.px_packets.specs.Senders as senders
 
 -- ---- a wire in code
@@ -112,13 +112,13 @@ abbrev pub packets_for : (now : ℕ) → WireState → Duty → List Unsealed
 packets_for now k (State to) = states k.outgoing to (start_of k.heard to) now
 packets_for now k (Report to) =
     reports to (start_of k.heard to) (due_held now (of_member k.heard to).unfinished)
-packets_for now k (Again to held) = again k.outgoing to (start_of k.heard to) held
+packets_for now k (Again to held) = again (refilled_for k.outgoing to now) to (start_of k.heard to) held
 
 -- the state as they go out: that the state was sent, or that it was reported
 abbrev pub state_for : (now : ℕ) → WireState → Duty → WireState
 state_for now k (State to) = record k { outgoing = stated_for k.outgoing to (start_of k.heard to) now }
 state_for now k (Report to) = record k { heard = reported_of k.heard to now }
-state_for now k (Again to held) = k
+state_for now k (Again to held) = record k { outgoing = refilled_for k.outgoing to now }
 
 -- a duty is done: its packets are sent, or one of them isn't, no later ones are, and that is counted
 pub record Does (s : Sealer) (now : ℕ) (d : Duty) (k k' : WireState) : Type 0 where
@@ -143,6 +143,24 @@ duties_to s ms = flat_map (duties s) ms
 -- those before each receive and each wait
 abbrev pub upkeep : Sealer → List Duty
 upkeep s = duties_to s (range_with_len 0 s.members)
+
+-- when a member is to be sent a packet of kind state next; never where it is this one
+abbrev pub state_due : Sealer → List ToMember → List Heard → (m : ℕ) → ℕ
+state_due s os hs m = if is_other s m then next_state (to_member os m) (start_of hs m) else 2 ^ 64 - 1
+
+-- when a report is due first, if any is
+abbrev pub report_due : Option ℕ → ℕ
+report_due None = 2 ^ 64 - 1
+report_due (Some t) = t
+
+-- when a report or the state of one of the first n members is due first
+abbrev pub due_of_first : Sealer → List ToMember → List Heard → (n : ℕ) → ℕ
+due_of_first s os hs zero = report_due (due_of hs)
+due_of_first s os hs (suc n) = min (due_of_first s os hs n) (state_due s os hs n)
+
+-- when something is due first, in milliseconds since the wire was made
+abbrev pub next_due : Sealer → List ToMember → List Heard → ℕ
+next_due s os hs = due_of_first s os hs s.members
 
 -- ---- what comes
 
@@ -282,14 +300,16 @@ pub record Waits {W C : Type 0} (handed handed' : Option (List (ℕ × List ℕ)
 abbrev pub can_send : Sealer → (to : ℕ) → List ℕ → Bool
 can_send s to m = is_other s to && can_be_cut m
 
--- a send: all packets of the datagram were handed over and sent; or they were up to one that wasn't sent; or nothing
--- changed, as where it can't be sent
+-- a send: the packets of the datagram were handed over and sent; or they were up to one that wasn't sent; or nothing
+-- was, as where it can't be sent
 pub record IsSent {W C : Type 0} (handed handed' : Option (List (ℕ × List ℕ))) (hs : List Heard) (to : ℕ)
     (m : List ℕ) (sent : Bool) (w w' : PacketWire W C) : Type 0 where
+  pub now : ℕ
   pub can : IsTrue sent → can_send (sealer_of w) to m ≡ true
-  pub cannot : can_send (sealer_of w) to m ≡ false → (handed' ≡ handed) × (outgoing_of w' ≡ outgoing_of w)
+  pub cannot : can_send (sealer_of w) to m ≡ false →
+      (handed' ≡ handed) × (outgoing_of w' ≡ refilled_for (outgoing_of w) to now)
   pub sends :
-      ((sent ≡ false) × (handed' ≡ handed) × (outgoing_of w' ≡ outgoing_of w)) ⊎
-      SendsUpTo (sealer_of w) sent (packets_of (outgoing_of w) to (start_of hs to) m) handed
-      (kept_with (outgoing_of w) to m) handed' (outgoing_of w')
+      ((sent ≡ false) × (handed' ≡ handed) × (outgoing_of w' ≡ refilled_for (outgoing_of w) to now)) ⊎
+      SendsUpTo (sealer_of w) sent (packets_of (refilled_for (outgoing_of w) to now) to (start_of hs to) m) handed
+      (kept_with (refilled_for (outgoing_of w) to now) to m) handed' (outgoing_of w')
   pub receiver_is : receiver_of w' ≡ receiver_of w

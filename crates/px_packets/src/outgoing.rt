@@ -3,7 +3,7 @@
 ghost use Rattle.std.specs.Prelude.{◌≡◌, ◌+◌, ◌^◌, [], None, Some, IfOk, IfSome, IfNone, MatchOption, option_map};
 ghost use Rattle.std.specs.Prelude.{replicate};
 ghost use Rattle.px_pieces.specs.Sending.{name_of, sent_after, cut_with};
-ghost use Rattle.px_packets.specs.Sending.{new_to, named, counted, next_state, stated};
+ghost use Rattle.px_packets.specs.Sending.{new_to, named, counted, next_state, stated, refilled};
 
 use px_packet::Start;
 use px_pieces::SendBuffer;
@@ -16,14 +16,24 @@ const STATE_EACH: u64 = 1_000;
 /// How many, where the receiver showed a new start since.
 const STATE_SOONEST: u64 = 20;
 
-/// What a sender has of one receiver: how many packets it sealed for it, the datagrams that it cut for it last, and
-/// when it sent a packet of kind state, with which echo.
+/// How many packets may go to a receiver in [`BURST_TIME`]: a socket takes in so many before they are read, where nobody
+/// set another size (212,992 bytes, of which Linux counts 2,304 for a packet of 1,232).
+const BURST: u8 = 92;
+
+/// In how many milliseconds a receiver reads them.
+const BURST_TIME: u64 = 5;
+
+/// What a sender has of one receiver: how many packets it sealed for it, the datagrams that it cut for it last, when it
+/// sent a packet of kind state, with which echo, and how many pieces may still go to it.
 #[derive(Drop)]
 pub(crate) struct Outgoing {
     counter: u64,
     buffer: SendBuffer,
     stated: Option<u64>,
     echoed: Start,
+    /// Since when its packets are counted, in milliseconds.
+    since: u64,
+    left: u8,
 }
 
 impl Model for Outgoing {
@@ -31,7 +41,14 @@ impl Model for Outgoing {
 
     ghost Value = { ToMember };
 
-    ghost view = { λ o. record { counter = o.counter; sent = o.buffer; stated = o.stated; echoed = o.echoed } };
+    ghost view = { λ o. record {
+      counter = o.counter;
+      sent = o.buffer;
+      stated = o.stated;
+      echoed = o.echoed;
+      since = o.since;
+      left = o.left;
+    } };
 }
 
 impl Outgoing {
@@ -44,6 +61,8 @@ impl Outgoing {
             buffer: SendBuffer::new(alloc),
             stated: None,
             echoed: Start::NEVER,
+            since: 0,
+            left: BURST,
         }
     }
 
@@ -60,6 +79,24 @@ impl Outgoing {
         ensures { self.new ≡ counted self.old }
     {
         self.counter = counter;
+        self.left = self.left.saturating_sub(1);
+    }
+
+    /// It is this time: after each [`BURST_TIME`] a [`BURST`] may go to it again.
+    pub(crate) fn refill(&mut self, now: u64)
+        ensures { self.new ≡ refilled now self.old }
+    {
+        if now.saturating_sub(self.since) >= BURST_TIME {
+            self.since = now;
+            self.left = BURST;
+        }
+    }
+
+    /// How many pieces may still go to it.
+    pub(crate) fn left(&self) -> u8
+        ensures { result ≡ self.now.left }
+    {
+        self.left
     }
 
     /// The name of a datagram that is cut, which is kept.

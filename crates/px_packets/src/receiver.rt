@@ -189,8 +189,8 @@ impl Receiver {
         entry.take(self.alloc, self.start, header, body, now)
     }
 
-    /// Which pieces of a datagram of a member have come, where that is to be reported at this time: none has come for
-    /// 20 ms, and nothing was reported since. There may be another.
+    /// Which pieces of a datagram of a member have come, where that is to be reported at this time, as
+    /// [`Reassembly::report`] says. There may be another.
     pub fn report(&mut self, member: u8, now: u64) -> Option<PiecesHeld>
         ensures held { (mine : Start) (hs : List Heard) → Hears mine hs self.old →
             result ≡ due_held now (of_member hs member).unfinished }

@@ -31,11 +31,11 @@ pub(crate) struct Sender {
 }
 
 impl Sender {
-    ghost use Rattle.std.specs.Prelude.{◌≡◌, ◌<◌, ◌≤◌, ◌*◌, ◌⊎◌, ◌∷◌, [], false, IsTrue, IfOk, replicate};
+    ghost use Rattle.std.specs.Prelude.{◌≡◌, ◌<◌, ◌≤◌, ◌*◌, ◌⊎◌, ◌∷◌, [], false, IsTrue, IfOk, replicate, take};
     ghost use Rattle.px_packet.specs.Keyed.{key_of};
     ghost use Rattle.px_packet.specs.declared.kind.Kind.TheVariants.{Piece};
     ghost use Rattle.px_packets.specs.Sending.{is_other, can_be_cut, new_to, to_member, next_state, stated_for};
-    ghost use Rattle.px_packets.specs.Sending.{Sends, SendsUpTo};
+    ghost use Rattle.px_packets.specs.Sending.{Sends, SendsUpTo, refilled_for};
     ghost use Rattle.px_packets.specs.Sending.{piece, pieces, kept_with, packets_of, again, state, report, states};
     ghost use Rattle.px_packets.specs.Senders.{sealer_of, outgoing_of};
 
@@ -145,7 +145,20 @@ impl Sender {
         self.send_packet(inner, to, echo, Kind::Piece, body.as_slice())
     }
 
-    /// Sends the pieces of a datagram that a receiver lacks, up to the first that isn't sent. Whether all were.
+    /// It is this time: towards a member as many packets may go again as it reads.
+    pub(crate) fn refill(&mut self, to: u8, now: u64)
+        ensures refilled { outgoing_of self.new ≡ refilled_for (outgoing_of self.old) to now }
+        ensures rest { (sealer_of self.new ≡ sealer_of self.old) × (self.new.keys ≡ self.old.keys) }
+    {
+        let place = usize::from(to);
+        if place < self.outgoing.len() {
+            let outgoing = &mut self.outgoing[place];
+            outgoing.refill(now);
+        }
+    }
+
+    /// Sends the pieces of a datagram that a receiver lacks, so many at most, up to the first that isn't sent. Whether
+    /// these were.
     pub(crate) fn send_pieces<W: Wire>(
         &mut self,
         inner: &mut W,
@@ -153,19 +166,25 @@ impl Sender {
         echo: Start,
         held: PiecesHeld,
         datagram: &[u8],
+        most: u8,
     ) -> bool
         requires to { to < self.old.members }
         requires short { length datagram.now ≤ DATAGRAM_MAX }
-        ensures sends { SendsUpTo (sealer_of self.old) result (pieces to echo held datagram.now)
+        ensures sends { SendsUpTo (sealer_of self.old) result (take most (pieces to echo held datagram.now))
             (W.handed inner.old) (outgoing_of self.old) (W.handed inner.new) (outgoing_of self.new) }
         ensures given { W.given inner.new ≡ W.given inner.old }
         ensures rest { (sealer_of self.new ≡ sealer_of self.old) × (self.new.keys ≡ self.old.keys) }
     {
         let count = piece_count(datagram.len()) as u8;
+        let mut left = most;
         for index in 0..count {
             if held.has(index) {
                 continue;
             }
+            if left == 0 {
+                return true;
+            }
+            left -= 1;
             if !self.send_piece(inner, to, echo, held.name, datagram, index) {
                 return false;
             }
@@ -173,7 +192,8 @@ impl Sender {
         true
     }
 
-    /// Sends a datagram to a member: in one packet where it has room there, else cut. Whether all was sent.
+    /// Sends a datagram to a member: in one packet where it has room there, else cut, and of the pieces as many as may
+    /// still go to it. Whether these were sent.
     pub(crate) fn send<W: Wire>(
         &mut self,
         inner: &mut W,
@@ -199,14 +219,15 @@ impl Sender {
             return self.send_packet(inner, to, echo, Kind::Whole, datagram);
         }
         let outgoing = &mut self.outgoing[usize::from(to)];
+        let left = outgoing.left();
         let Some(name) = outgoing.name(datagram) else {
             return false;
         };
         let none = PiecesHeld { name, bits: 0 };
-        self.send_pieces(inner, to, echo, none, datagram)
+        self.send_pieces(inner, to, echo, none, datagram, left)
     }
 
-    /// Sends a member the pieces that it lacks of a datagram, while that is kept.
+    /// Sends a member the pieces that it lacks of a datagram, while that is kept, as many as may still go to it.
     pub(crate) fn send_lacked<W: Wire>(
         &mut self,
         inner: &mut W,
@@ -221,6 +242,7 @@ impl Sender {
         ensures rest { (sealer_of self.new ≡ sealer_of self.old) × (self.new.keys ≡ self.old.keys) }
     {
         let outgoing = &self.outgoing[usize::from(to)];
+        let left = outgoing.left();
         let Some(kept) = outgoing.get(held.name) else {
             return true;
         };
@@ -230,7 +252,7 @@ impl Sender {
         let Ok(datagram) = Vec::from_slice(self.alloc, kept) else {
             return false;
         };
-        self.send_pieces(inner, to, echo, held, datagram.as_slice())
+        self.send_pieces(inner, to, echo, held, datagram.as_slice(), left)
     }
 
     /// Sends a member a packet of kind state, if it is due.

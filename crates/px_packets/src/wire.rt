@@ -3,6 +3,7 @@
 ghost use Rattle.std.specs.Prelude.{◌≡◌, ◌≤◌, IfOk, length};
 ghost use Rattle.px_transport.specs.Wires.{Counts};
 ghost use Rattle.px_packets.specs.declared.wire.TheConstants.{ROOM_BYTES};
+ghost use Rattle.px_packets.specs.Sending.{time_left};
 
 use crate::coming::Coming;
 use crate::opening::take_packet;
@@ -57,6 +58,15 @@ fn room(alloc: Global) -> Result<Vec<u8>, AllocError>
     let mut room = Vec::with_capacity(alloc, ROOM_BYTES)?;
     room.resize(ROOM_BYTES, 0)?;
     Ok(room)
+}
+
+/// How many of the given number of milliseconds are left before something is due.
+fn time_left(due: u64, now: u64, milliseconds: u32) -> u32
+    ensures left { result ≡ time_left due now milliseconds }
+    ensures within { result ≤ milliseconds }
+{
+    let left = due.saturating_sub(now).min(u64::from(milliseconds));
+    left as u32
 }
 
 /// How many sends failed with this one.
@@ -134,6 +144,7 @@ impl<W: Wire, C: Clock> PacketWire<W, C> {
     ghost use Rattle.px_packets.specs.Wiring.{inner_of, sealer_of, keys_of, receiver_of, dropped_of, copies_of};
     ghost use Rattle.px_packets.specs.Wiring.{WireState, IsWireState, IsSameMember, IsSameCount, state_of, State};
     ghost use Rattle.px_packets.specs.Wiring.{Report, Again, Does, DoesAll, duties, upkeep, Takes, TakesAny};
+    ghost use Rattle.px_packets.specs.Wiring.{outgoing_of, next_due, state_due};
 
     /// The wire below, to be looked at.
     pub fn inner(&self) -> &W
@@ -214,6 +225,7 @@ impl<W: Wire, C: Clock> PacketWire<W, C> {
         ensures count { IsSameCount self.old self.new }
         ensures rises { self.old.failures ≤ self.new.failures }
     {
+        self.sender.refill(member, now);
         let echo = self.receiver.start_of(member);
         if !self.sender.is_other(member) {
             self.failures = count_sent(self.failures, false);
@@ -260,13 +272,26 @@ impl<W: Wire, C: Clock> PacketWire<W, C> {
         }
     }
 
-    /// When something is due next.
-    fn due(&self) -> u64 {
+    /// When a member is to be sent a packet of kind state next; never where it is this one.
+    fn state_due(&self, member: u8) -> u64
+        requires { member < self.now.sender.members }
+        ensures { (hs : List Heard) → Hears (sealer_of self.now).start hs (receiver_of self.now) →
+            result ≡ state_due (sealer_of self.now) (outgoing_of self.now) hs member }
+    {
+        if !self.sender.is_other(member) {
+            return u64::MAX;
+        }
+        self.sender.due(member, self.receiver.start_of(member))
+    }
+
+    /// When something is due next, in milliseconds since the wire was made.
+    fn next_due(&self) -> u64
+        ensures { (hs : List Heard) → Hears (sealer_of self.now).start hs (receiver_of self.now) →
+            result ≡ next_due (sealer_of self.now) (outgoing_of self.now) hs }
+    {
         let mut due = self.receiver.due().unwrap_or(u64::MAX);
         for member in 0..self.sender.members {
-            if self.sender.is_other(member) {
-                due = due.min(self.sender.due(member, self.receiver.start_of(member)));
-            }
+            due = due.min(self.state_due(member));
         }
         due
     }
@@ -353,10 +378,11 @@ impl<W: Wire, C: Clock> PacketWire<W, C> {
 }
 
 impl<W: Wire, C: Clock> Wire for PacketWire<W, C> {
-    ghost use Rattle.std.specs.Prelude.{List, Option, None, Some, IsTrue, IfSome, option_map, take};
+    ghost use Rattle.std.specs.Prelude.{ℕ, List, Option, None, Some, IsTrue, IfSome, option_map, take};
     ghost use Rattle.px_packets.specs.Receiving.{Heard, Hears};
     ghost use Rattle.px_packets.specs.Wiring.{inner_of, sealer_of, keys_of, receiver_of, failures_of, Receives};
     ghost use Rattle.px_packets.specs.Wiring.{IsSameMember, IsSameCount, Waits, IsSent};
+    ghost use Rattle.px_packets.specs.Wiring.{outgoing_of, next_due};
 
     // it sends packets of its own
     ghost given = { λ w. None };
@@ -411,10 +437,18 @@ impl<W: Wire, C: Clock> Wire for PacketWire<W, C> {
     {
         let now = self.now();
         self.keep_up(now);
-        let left = self.due().saturating_sub(now).min(u64::from(milliseconds));
+        let left = time_left(self.next_due(), now, milliseconds);
         let before = self.inner.failures();
-        self.inner.wait(left as u32);
+        self.inner.wait(left);
         self.failures = count_below(self.failures, before, self.inner.failures());
+    }
+
+    fn due(&self, milliseconds: u32) -> u32
+        ensures due { (hs : List Heard) → Hears (sealer_of self.now).start hs (receiver_of self.now) → (now : ℕ) ×
+            (result ≡ time_left (next_due (sealer_of self.now) (outgoing_of self.now) hs) now milliseconds) }
+        ensures within { result ≤ milliseconds }
+    {
+        time_left(self.next_due(), self.now(), milliseconds)
     }
 
     fn send(&mut self, to: u8, bytes: &[u8]) -> bool
@@ -428,6 +462,8 @@ impl<W: Wire, C: Clock> Wire for PacketWire<W, C> {
         ensures quiet { Unit {0} }
         ensures counts { Counts result (failures_of self.old) (failures_of self.new) }
     {
+        let now = self.now();
+        self.sender.refill(to, now);
         if !self.sender.is_other(to) {
             self.failures = count_sent(self.failures, false);
             return false;

@@ -6,7 +6,7 @@ use Rattle.std.proofs.lemmas.Bool.{and_parts, and_from, le-leb, leb-true}
 use Rattle.std.proofs.lemmas.List.{length-set, length-append, length-drop, length-take, length-replicate}
 use Rattle.std.proofs.lemmas.List.Folds.{list_all-append}
 use Rattle.px_pieces.specs.Pieces.{Piece, IsFormed, count_of}
-use Rattle.px_pieces.specs.Reassembling.{Unfinished, empty_of, lacks, with_part, is_whole, place_of, filled_at, after_at, first_of, after_first, latest}
+use Rattle.px_pieces.specs.Reassembling.{Unfinished, empty_of, lacks, with_part, with_parts, is_whole, place_of, filled_at, after_at, first_of, after_first, latest}
 use Rattle.px_pieces.specs.Laws.{is_bounded, StaysBounded}
 
 abbrev is_short : List ℕ → Bool
@@ -62,7 +62,7 @@ small_empty p now f =
 small_with : (u : Unfinished) (p : Piece) (now : ℕ) → IsFormed p → is_small u ≡ true → is_small (with_part u p now) ≡ true
 small_with u p now f h = at (lacks u p.index)
   where
-    at : (b : Bool) → is_small (if b then record u { parts = slice_set u.parts p.index p.part; heard = now; is_reported = false }
+    at : (b : Bool) → is_small (if b then with_parts u (slice_set u.parts p.index p.part) now
         else u) ≡ true
     at true =
         let parts = and_parts (nat_le (length u.parts) 29) (list_all is_short u.parts) h in

@@ -8,7 +8,7 @@ use Rattle.std.proofs.lemmas.List.Folds.{find_at, find-set}
 use Rattle.std.proofs.lemmas.List.Sums.{passes_at_first}
 use Rattle.px_pieces.specs.Pieces.{Piece, piece_of, part_of, count_of}
 use Rattle.px_pieces.specs.Held.{is_present}
-use Rattle.px_pieces.specs.Reassembling.{Unfinished, empty_of, is_of, lacks, with_part, is_whole, joined, place_of, filled_at, given_at, after_at, first_of, given_first, after_first, latest, unfinished_after, finished_by}
+use Rattle.px_pieces.specs.Reassembling.{Unfinished, empty_of, is_of, lacks, with_part, with_parts, is_whole, joined, place_of, filled_at, given_at, after_at, first_of, given_first, after_first, latest, unfinished_after, finished_by}
 use Rattle.px_pieces.specs.Laws.{is_among, HasCome, unfinished_with, Pending, PiecesAreJoined}
 use Rattle.px_pieces.proofs.Joining.{cut_is_joined, all_present, one_lacks, some_part}
 
@@ -37,7 +37,7 @@ among_first j k ks e = or_left (k == j) (is_among j ks) (eq-eqb k j (sym e))
 
 came_at : (m ks : List ℕ) (k now : ℕ) (u : Unfinished) → 1160 * k < length m → HasCome m ks u → (b : Bool) →
     lacks u k ≡ b → HasCome m (k ∷ ks)
-    (if b then record u { parts = slice_set u.parts k (part_of m k); heard = now; is_reported = false } else u)
+    (if b then with_parts u (slice_set u.parts k (part_of m k)) now else u)
 came_at m ks k now u h has true e =
     let long : length (set u.parts k (part_of m k)) ≡ length u.parts = length-set u.parts k (part_of m k) in
     record {
@@ -161,7 +161,7 @@ still_of : (p : Piece) (u : Unfinished) (now : ℕ) → is_of p u ≡ true → i
 still_of p u now h = at (lacks u p.index)
   where
     at : (b : Bool) →
-        is_of p (if b then record u { parts = slice_set u.parts p.index p.part; heard = now; is_reported = false } else u) ≡ true
+        is_of p (if b then with_parts u (slice_set u.parts p.index p.part) now else u) ≡ true
     at true = h
     at false = h
 

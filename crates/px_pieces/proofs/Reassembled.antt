@@ -8,7 +8,7 @@ use Rattle.std.proofs.lemmas.List.Sums.{passes_at_first}
 use Rattle.std.proofs.lemmas.List.Elements.{All-set, All-get_or, All-append, All-take, All-drop, All-push, All-cons, All-head, All-tail, All-weaker}
 use Rattle.px_pieces.specs.Pieces.{Piece, part_of, count_of}
 use Rattle.px_pieces.specs.Held.{is_present}
-use Rattle.px_pieces.specs.Reassembling.{Unfinished, empty_of, is_of, lacks, with_part, is_whole, joined, place_of, filled_at, given_at, after_at, first_of, given_first, after_first, latest, is_due, reported, due_after}
+use Rattle.px_pieces.specs.Reassembling.{Unfinished, empty_of, is_of, lacks, with_part, with_parts, is_whole, joined, place_of, filled_at, given_at, after_at, first_of, given_first, after_first, latest, is_due, reported, due_after}
 use Rattle.px_pieces.specs.Laws.{IsPieceOf, IsPartOf, ArePartsOf, JoinedWasCut, ReportKeeps, CutIsPiece, LogGrows}
 use Rattle.px_pieces.proofs.Sending.{still_there}
 use Rattle.px_pieces.proofs.Joining.{cut_is_joined, present_at}
@@ -38,7 +38,7 @@ empty_part log p now of =
 -- with a part
 set_part : (log : List (List ℕ)) (u : Unfinished) (p : Piece) (now : ℕ) → u.name ≡ p.name → IsPieceOf log p →
     IsPartOf log u → (b : Bool) →
-    IsPartOf log (if b then record u { parts = slice_set u.parts p.index p.part; heard = now; is_reported = false } else u)
+    IsPartOf log (if b then with_parts u (slice_set u.parts p.index p.part) now else u)
 set_part log u p now name of is false = is
 set_part log u p now name of is true =
     let m = is.whole in
@@ -71,7 +71,7 @@ pub name_stays : (u : Unfinished) (p : Piece) (now : ℕ) → (with_part u p now
 name_stays u p now = at (lacks u p.index)
   where
     at : (b : Bool) →
-        (if b then record u { parts = slice_set u.parts p.index p.part; heard = now; is_reported = false } else u).name ≡ u.name
+        (if b then with_parts u (slice_set u.parts p.index p.part) now else u).name ≡ u.name
     at true = refl
     at false = refl
 
@@ -132,8 +132,8 @@ joined_was_cut log us p now all of = by_place log us p now (nat_lt (place_of us 
 
 -- ---- reports
 
-report_part : (log : List (List ℕ)) (u : Unfinished) → IsPartOf log u → IsPartOf log (reported u)
-report_part log u is =
+report_part : (log : List (List ℕ)) (now : ℕ) (u : Unfinished) → IsPartOf log u → IsPartOf log (reported now u)
+report_part log now u is =
     record { whole = is.whole; cut = is.cut; size_is = is.size_is; count_is = is.count_is; each = is.each }
 
 pub report_keeps : ReportKeeps
@@ -142,8 +142,8 @@ report_keeps log (u ∷ us) now all =
     let P : Unfinished → Type 0 = IsPartOf log in
     let head : P u = All-head P u us all in
     let tail : All P us = All-tail P u us all in
-    either log (is_due now u) (reported u ∷ us) (u ∷ due_after now us)
-    (All-cons P (reported u) us (report_part log u head) tail)
+    either log (is_due now u) (reported now u ∷ us) (u ∷ due_after now us)
+    (All-cons P (reported now u) us (report_part log now u head) tail)
     (All-cons P u (due_after now us) head (report_keeps log us now tail))
 
 -- ---- what was cut

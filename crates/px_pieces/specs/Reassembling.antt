@@ -1,5 +1,5 @@
 -- What a receiver does with the pieces of one sender.
-use Rattle.std.specs.Prelude.{ℕ, ◌+◌, ◌-◌, ◌^◌, ◌==◌, ◌&&◌, Bool, true, false, not, List, [], ◌∷◌, ◌++◌, length, drop}
+use Rattle.std.specs.Prelude.{ℕ, ◌+◌, ◌*◌, ◌-◌, ◌^◌, ◌==◌, ◌&&◌, Bool, not, List, [], ◌∷◌, ◌++◌, length, drop}
 use Rattle.std.specs.Prelude.{min, replicate}
 use Rattle.std.specs.Prelude.{Option, Some, None, nat_le, nat_lt, slice_set, slice_index_or, if◌then◌else◌}
 use Rattle.std.specs.List.{list_all, flat_map, remove, position_or_len}
@@ -7,19 +7,28 @@ use Rattle.px_pieces.specs.Pieces.{Piece, count_of}
 use Rattle.px_pieces.specs.Held.{is_present, bits_of}
 use Rattle.px_pieces.specs.declared.held.PiecesHeld.{PiecesHeld}
 
--- an unfinished datagram: its name, how long it is, its parts in order, of which one that hasn't come is empty, when
--- the last one came, in milliseconds, and whether it was reported since which have come
+-- an unfinished datagram: its name, how long it is, its parts in order, of which one that hasn't come is empty, when it
+-- is reported next which have come, in milliseconds, and how often that was since the last part came
 pub record Unfinished : Type 0 where
   pub name : ℕ
   pub size : ℕ
   pub parts : List (List ℕ)
-  pub heard : ℕ
-  pub is_reported : Bool
+  pub due : ℕ
+  pub reports : ℕ
+
+-- so many milliseconds later, up to 2^64 - 1
+abbrev pub later : (now : ℕ) → ℕ → ℕ
+later now n = min (now + n) (2 ^ 64 - 1)
+
+-- how long after a part it is reported which have come: 5 ms where the last of the datagram has, since those before it
+-- were sent first, else 20 ms
+abbrev pub pause : List (List ℕ) → ℕ
+pause parts = if is_present (slice_index_or parts (length parts - 1) []) then 5 else 20
 
 -- the datagram of a piece, of which nothing has come
 abbrev pub empty_of : Piece → (now : ℕ) → Unfinished
 empty_of p now =
-    record { name = p.name; size = p.size; parts = replicate (count_of p.size) []; heard = now; is_reported = false }
+    record { name = p.name; size = p.size; parts = replicate (count_of p.size) []; due = now; reports = 0 }
 
 -- whether a piece is one of the datagram
 abbrev pub is_of : Piece → Unfinished → Bool
@@ -29,11 +38,14 @@ is_of p u = (u.name == p.name) && (u.size == p.size)
 abbrev pub lacks : Unfinished → ℕ → Bool
 lacks u k = nat_lt k (length u.parts) && not (is_present (slice_index_or u.parts k []))
 
+-- the same with these parts, of which one came now
+abbrev pub with_parts : Unfinished → (parts : List (List ℕ)) → (now : ℕ) → Unfinished
+with_parts u parts now = record u { parts = parts; due = later now (pause parts); reports = 0 }
+
 -- with the part of a piece, if it hadn't come
 abbrev pub with_part : Unfinished → Piece → (now : ℕ) → Unfinished
 with_part u p now =
-    if lacks u p.index then
-    record u { parts = slice_set u.parts p.index p.part; heard = now; is_reported = false } else u
+    if lacks u p.index then with_parts u (slice_set u.parts p.index p.part) now else u
 
 -- whether all parts have come
 abbrev pub is_whole : Unfinished → Bool
@@ -87,13 +99,17 @@ finished_by us p now =
 
 -- ---- when it is reported which parts have come
 
--- whether no part has come for 20 ms, and nothing was reported since
-abbrev pub is_due : (now : ℕ) → Unfinished → Bool
-is_due now u = not u.is_reported && nat_le 20 (now - u.heard)
+-- whether it is reported again: 6 times at most since the last part came
+abbrev pub is_open : Unfinished → Bool
+is_open u = nat_lt u.reports 6
 
--- when that will be, up to 2^64 - 1
-abbrev pub due_at : Unfinished → ℕ
-due_at u = min (u.heard + 20) (2 ^ 64 - 1)
+-- whether it is to be reported now
+abbrev pub is_due : (now : ℕ) → Unfinished → Bool
+is_due now u = is_open u && nat_le u.due now
+
+-- when it is reported next, if it is
+abbrev pub due_at : Unfinished → Option ℕ
+due_at u = if is_open u then Some u.due else None
 
 -- the earlier of two times
 abbrev pub earlier : Option ℕ → Option ℕ → Option ℕ
@@ -104,11 +120,13 @@ earlier (Some s) (Some t) = Some (min s t)
 -- when the first report is due
 abbrev pub first_due : List Unfinished → Option ℕ
 first_due [] = None
-first_due (u ∷ us) = earlier (if u.is_reported then None else Some (due_at u)) (first_due us)
+first_due (u ∷ us) = earlier (due_at u) (first_due us)
 
--- the same, reported
-abbrev pub reported : Unfinished → Unfinished
-reported u = record u { is_reported = true }
+-- the same, reported now: where no part comes it is reported again, after 50 ms and then each time after 50 ms more, as
+-- the report or what it asked for may be lost
+abbrev pub reported : (now : ℕ) → Unfinished → Unfinished
+reported now u =
+    record u { due = later now (50 * (u.reports + 1)); reports = min (u.reports + 1) 255 }
 
 -- the first that is due, if there is one, and what is reported of it
 abbrev pub due_held : (now : ℕ) → List Unfinished → Option PiecesHeld
@@ -119,4 +137,4 @@ due_held now (u ∷ us) =
 -- the unfinished datagrams after that
 abbrev pub due_after : (now : ℕ) → List Unfinished → List Unfinished
 due_after now [] = []
-due_after now (u ∷ us) = if is_due now u then reported u ∷ us else u ∷ due_after now us
+due_after now (u ∷ us) = if is_due now u then reported now u ∷ us else u ∷ due_after now us

@@ -1,18 +1,27 @@
 //! An unfinished datagram.
 
-ghost use Rattle.std.specs.Prelude.{◌≡◌, ◌≤◌, [], IfOk, OnOk, OnErr, length, replicate};
-ghost use Rattle.std.specs.Prelude.{if◌then◌else◌};
+ghost use Rattle.std.specs.Prelude.{◌≡◌, ◌<◌, ◌≤◌, [], IfOk, OnOk, OnErr, length, replicate};
 ghost use Rattle.px_pieces.specs.Seen.{seen};
 ghost use Rattle.px_pieces.specs.Held.{is_present, bits_of};
-ghost use Rattle.px_pieces.specs.Reassembling.{empty_of, is_of, with_part, is_whole, joined, is_due, due_at, reported};
+ghost use Rattle.px_pieces.specs.Reassembling.{empty_of, is_of, with_part, is_whole, joined, later, pause};
+ghost use Rattle.px_pieces.specs.Reassembling.{is_due, due_at, reported};
 
 use crate::held::PiecesHeld;
 use crate::piece::{Piece, piece_count};
 use std::alloc::{AllocError, Global};
 use std::marker::Model;
 
-/// For how many milliseconds no part has come when it is reported which have.
+/// How many milliseconds after a part it is reported which have come.
 const REPORT_AFTER: u64 = 20;
+
+/// How many, where the datagram's last part has come: those before it were sent first.
+const REPORT_SOON: u64 = 5;
+
+/// How many milliseconds after a report it is reported again; after each later one so many more.
+const REPORT_AGAIN: u64 = 50;
+
+/// How often it is reported at most while no part comes.
+const REPORTS_MAX: u8 = 6;
 
 /// A part; one that hasn't come is empty.
 #[derive(Drop)]
@@ -54,10 +63,10 @@ pub(crate) struct Partial {
     name: u32,
     size: u16,
     parts: Vec<Part>,
-    /// When the last part came, in milliseconds.
-    heard: u64,
-    /// Whether it was reported since which have come.
-    is_reported: bool,
+    /// When it is reported next which have come, in milliseconds.
+    due: u64,
+    /// How often that was since the last part came.
+    reports: u8,
 }
 
 impl Model for Partial {
@@ -70,8 +79,8 @@ impl Model for Partial {
       name = u.name;
       size = u.size;
       parts = u.parts.items;
-      heard = u.heard;
-      is_reported = u.is_reported;
+      due = u.due;
+      reports = u.reports;
     } };
 
     ghost invariant = { λ u. length u.parts.items ≤ 29 };
@@ -101,6 +110,19 @@ fn bits_of(parts: &[Part]) -> u32
     bits
 }
 
+/// How many milliseconds after a part it is reported which of these have come.
+fn pause(parts: &[Part]) -> u64
+    requires { 0 < length parts.now }
+    ensures { result ≡ pause parts.now }
+{
+    let last = &parts[parts.len() - 1];
+    if last.is_present() {
+        REPORT_SOON
+    } else {
+        REPORT_AFTER
+    }
+}
+
 impl Partial {
     /// The datagram of a piece, of which nothing has come.
     pub(crate) fn new(alloc: Global, piece: &Piece<'_>, now: u64) -> Result<Partial, AllocError>
@@ -111,8 +133,8 @@ impl Partial {
             name: piece.name,
             size: piece.size,
             parts,
-            heard: now,
-            is_reported: false,
+            due: now,
+            reports: 0,
         })
     }
 
@@ -137,8 +159,8 @@ impl Partial {
         if index < self.parts.len() && !self.parts[index].is_present() {
             let bytes = Vec::from_slice(alloc, piece.part)?;
             self.parts[index] = Part::new(bytes);
-            self.heard = now;
-            self.is_reported = false;
+            self.due = now.saturating_add(pause(self.parts.as_slice()));
+            self.reports = 0;
         }
         Ok(())
     }
@@ -165,26 +187,27 @@ impl Partial {
     pub(crate) fn is_due(&self, now: u64) -> bool
         ensures { result ≡ is_due now self.now }
     {
-        !self.is_reported && now.saturating_sub(self.heard) >= REPORT_AFTER
+        self.reports < REPORTS_MAX && self.due <= now
     }
 
-    /// When it is to be reported which parts have come; never where it was.
+    /// When it is reported next which parts have come, if it is.
     pub(crate) fn due_at(&self) -> Option<u64>
-        ensures { result ≡ (if self.now.is_reported then None else Some (due_at self.now)) }
+        ensures { result ≡ due_at self.now }
     {
-        if self.is_reported {
-            None
+        if self.reports < REPORTS_MAX {
+            Some(self.due)
         } else {
-            Some(self.heard.saturating_add(REPORT_AFTER))
+            None
         }
     }
 
-    /// Which parts have come; this is reported.
-    pub(crate) fn report(&mut self) -> PiecesHeld
+    /// Which parts have come; this is reported now.
+    pub(crate) fn report(&mut self, now: u64) -> PiecesHeld
         ensures held { result ≡ record { name = self.old.name; bits = bits_of self.old.parts } }
-        ensures reported { self.new ≡ reported self.old }
+        ensures reported { self.new ≡ reported now self.old }
     {
-        self.is_reported = true;
+        self.due = now.saturating_add(REPORT_AGAIN * (u64::from(self.reports) + 1));
+        self.reports = self.reports.saturating_add(1);
         PiecesHeld {
             name: self.name,
             bits: bits_of(self.parts.as_slice()),

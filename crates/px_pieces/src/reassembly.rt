@@ -138,8 +138,9 @@ impl Reassembly {
         }
     }
 
-    /// Which parts of a datagram have come, where that is to be reported at this time: none has come for 20 ms, and
-    /// nothing was reported since. There may be another.
+    /// Which parts of a datagram have come, where that is to be reported at this time: 20 ms after a part, 5 ms after one
+    /// where the datagram's last has come, and while none comes six times, after 50 ms and then each time after 50 ms
+    /// more. There may be another.
     pub fn report(&mut self, now: u64) -> Option<PiecesHeld>
         ensures held { result ≡ due_held now self.old }
         ensures after { self.new ≡ due_after now self.old }
@@ -147,7 +148,7 @@ impl Reassembly {
         for i in 0..self.partials.len() {
             let partial = &mut self.partials[i];
             if partial.is_due(now) {
-                return Some(partial.report());
+                return Some(partial.report(now));
             }
         }
         None

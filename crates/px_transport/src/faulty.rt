@@ -130,6 +130,10 @@ impl<W: Wire> Wire for FaultyWire<W> {
         self.inner.wait(milliseconds);
     }
 
+    fn due(&self, milliseconds: u32) -> u32 {
+        self.inner.due(milliseconds)
+    }
+
     fn send(&mut self, to: u8, bytes: &[u8]) -> bool
         ensures missed { sends_left self.old ≤ 1 → (result ≡ false) × (inner_of self.new ≡ inner_of self.old) ×
             (sends_left self.new ≡ period_of self.old) × (missed_of self.new ≡ one_more (missed_of self.old)) }

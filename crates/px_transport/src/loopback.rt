@@ -163,6 +163,17 @@ impl<W: Wire> Wire for LoopbackWire<W> {
         }
     }
 
+    fn due(&self, milliseconds: u32) -> u32
+        ensures own { kept_of self.now ≢ [] → result ≡ 0 }
+        ensures within { result ≤ milliseconds }
+    {
+        if self.kept.is_empty() {
+            self.below.due(milliseconds)
+        } else {
+            0
+        }
+    }
+
     fn send(&mut self, to: u8, bytes: &[u8]) -> bool
         ensures kept { IsKept self.old to bytes.now result self.new ⊎ ((kept_of self.new ≡ kept_of self.old) ×
             Grows (W.handed (below_of self.old)) (to, bytes.now) (W.handed (below_of self.new)) ×

@@ -104,6 +104,12 @@ impl Wire for MemoryWire {
         ensures counts { self.new.failures ≡ self.old.failures }
     {}
 
+    fn due(&self, milliseconds: u32) -> u32
+        ensures { result ≡ milliseconds }
+    {
+        milliseconds
+    }
+
     fn send(&mut self, to: u8, bytes: &[u8]) -> bool {
         let kept = self.keep(to, bytes).is_ok();
         if !kept {

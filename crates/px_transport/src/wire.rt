@@ -38,6 +38,11 @@ pub trait Wire {
         ensures quiet { handed self.new ≡ handed self.old }
         ensures counts { failed self.old ≤ failed self.new };
 
+    /// How many of the given number of milliseconds may be waited elsewhere before `poll` is to be called again: fewer
+    /// where the wire has something of its own to send earlier.
+    fn due(&self, milliseconds: u32) -> u32
+        ensures { result ≤ milliseconds };
+
     /// Sends the bytes to a member, or with 255 to whoever sent the datagram that came last. Whether they were sent.
     fn send(&mut self, to: u8, bytes: &[u8]) -> bool
         ensures handed { Grows (handed self.old) (to, bytes.now) (handed self.new) }

@@ -49,16 +49,22 @@ fn pieces_in_any_order_make_the_datagram(rt: HostRuntime) -> Result<(), Fail> {
 }
 
 #[test]
-fn what_is_missing_is_reported_once(rt: HostRuntime) -> Result<(), Fail> {
+fn what_is_missing_is_reported_until_it_comes(rt: HostRuntime) -> Result<(), Fail> {
     let alloc = rt.alloc();
     let sent = datagram(alloc, 3_000)?;
     let mut to = Reassembly::new(alloc);
     assert!(rt; deliver(alloc, &mut to, 7, sent.as_slice(), 2, 100)?.is_none());
     assert!(rt; deliver(alloc, &mut to, 7, sent.as_slice(), 0, 110)?.is_none());
-    assert!(rt; to.due() == Some(130));
-    assert!(rt; to.report(129).is_none());
-    assert!(rt; to.report(130) == Some(PiecesHeld { name: 7, bits: 5 }));
-    assert!(rt; to.report(500).is_none());
+    // the last piece has come
+    assert!(rt; to.due() == Some(115));
+    assert!(rt; to.report(114).is_none());
+    for at in [115, 165, 265, 415, 615, 865] {
+        assert!(rt; to.due() == Some(at));
+        assert!(rt; to.report(at - 1).is_none());
+        assert!(rt; to.report(at) == Some(PiecesHeld { name: 7, bits: 5 }));
+    }
+    assert!(rt; to.due().is_none());
+    assert!(rt; to.report(9_000).is_none());
     let mut bytes = Vec::new(alloc);
     PiecesHeld { name: 7, bits: 5 }.write(&mut bytes)?;
     assert!(rt; bytes.as_slice() == [0, 0, 0, 7, 0, 0, 0, 5].as_slice());

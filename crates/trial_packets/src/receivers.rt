@@ -62,10 +62,10 @@ fn a_datagram_is_given_with_its_last_piece(rt: HostRuntime) -> Result<(), Fail> 
     let first = piece(alloc, 0)?;
     let taken = receiver.take(&packet(2, Kind::Piece, 1), last.as_slice(), 100);
     assert!(rt; matches!(&taken, Taken::Nothing));
-    assert!(rt; receiver.due() == Some(120));
-    assert!(rt; receiver.report(1, 120).is_none());
-    assert!(rt; receiver.report(0, 120) == Some(PiecesHeld { name: 9, bits: 2 }));
-    assert!(rt; receiver.due().is_none());
+    assert!(rt; receiver.due() == Some(105));
+    assert!(rt; receiver.report(1, 105).is_none());
+    assert!(rt; receiver.report(0, 105) == Some(PiecesHeld { name: 9, bits: 2 }));
+    assert!(rt; receiver.due() == Some(155));
     let Taken::Joined(datagram) = receiver.take(&packet(2, Kind::Piece, 2), first.as_slice(), 130)
     else {
         return Err(Fail::new("not given"));

@@ -1,9 +1,9 @@
 -- nothing is kept under that name
 use Rattle.std.proofs.Common.{rules, ◌≡◌, ◌∙◌, ◌<◌, length, None, ap, sym, arith}
 use Rattle.px_pieces.specs.Sending.{cut_with}
-use Rattle.px_packets.specs.Sending.{to_member, again_of}
+use Rattle.px_packets.specs.Sending.{to_member, again_of, burst}
 use Rattle.px_packets.specs.Senders.{outgoing_of}
-use Rattle.px_packets.proofs.Sending.{upto_none, at_index}
+use Rattle.px_packets.proofs.Sending.{upto_none, at_index, take_nil}
 use Rattle.px_packets.proofs.sender.Sender.send_lacked.Goals as goal
 
 pub returns-in_default-clause-sends : goal.returns-in_default-clause-sends
@@ -17,4 +17,5 @@ returns-in_default-clause-sends g c =
     let n : cut_with c.index-outgoing.result.now.sent c.args.held.name ≡ None = search rules in
     let none : cut_with o.sent c.args.held.name ≡ None =
     ap (λ x. cut_with x.sent c.args.held.name) (sym read) ∙ n in
-    upto_none _ _ _ _ _ (λ _. ap (again_of c.args.to c.args.echo c.args.held) none)
+    upto_none _ _ _ _ _ (λ _. ap (λ x. burst os c.args.to (again_of c.args.to c.args.echo c.args.held x)) none
+    ∙ take_nil o.left)

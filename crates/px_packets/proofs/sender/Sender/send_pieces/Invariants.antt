@@ -1,5 +1,5 @@
 -- so far all that are lacked were sent
-use Rattle.std.proofs.Common.{◌≡◌, ◌++◌, List, length}
+use Rattle.std.proofs.Common.{◌≡◌, ◌++◌, List, length, take}
 use Rattle.px_pieces.specs.Pieces.{count_of}
 use Rattle.px_packets.specs.Sending.{Unsealed, Sends, pieces, pieces_from}
 use Rattle.px_packets.specs.Senders.{sealer_of, outgoing_of}
@@ -8,7 +8,8 @@ use Rattle.px_packets.proofs.sender.Sender.send_pieces.Given as goal
 abbrev pub invariant-loop-index : goal.invariant-loop-index
 invariant-loop-index g l = record {
   first : List Unsealed;
-  split : pieces l.to l.echo l.held l.datagram ≡ first ++ pieces_from l.to l.echo l.held l.datagram l.index;
+  split : take l.most (pieces l.to l.echo l.held l.datagram) ≡
+      first ++ take l.left (pieces_from l.to l.echo l.held l.datagram l.index);
   sends : Sends (sealer_of l.fn.self) first (g.W.Wire.handed l.fn.inner) (outgoing_of l.fn.self)
       (g.W.Wire.handed l.inner) (outgoing_of l.self);
   sealer : sealer_of l.self ≡ sealer_of l.fn.self;

@@ -1,8 +1,8 @@
 -- pieces are sent again, if their datagram is kept
-use Rattle.std.proofs.Common.{◌≡◌, subst, sym, refl, false}
+use Rattle.std.proofs.Common.{◌≡◌, ◌∙◌, List, subst, sym, refl, false}
 use Rattle.px_packet.specs.declared.start.Start.{Start}
 use Rattle.px_packets.specs.Receiving.{Hears}
-use Rattle.px_packets.specs.Sending.{SendsUpTo, again}
+use Rattle.px_packets.specs.Sending.{ToMember, Sealer, SendsUpTo, again, refilled_for}
 use Rattle.px_packets.specs.Senders as senders
 use Rattle.px_packets.specs.Wiring.{start_of}
 use Rattle.px_packets.proofs.Sending.{upto_none}
@@ -12,42 +12,60 @@ pub returns-then-not-is_other-clause-does : goal.returns-then-not-is_other-claus
 returns-then-not-is_other-clause-does g c hs h =
     let w = c.args.self.now in
     let s = senders.sealer_of w.sender in
-    let os = senders.outgoing_of w.sender in
-    let below = g.W.Wire.handed w.inner in (
-      record { handed = below; outgoing = os; heard = hs; failures = c.count_sent-self.result },
+    let n = c.refill.new.self in
+    let to = c.args.member in
+    let os = refilled_for (senders.outgoing_of w.sender) to c.args.now in
+    let below = g.W.Wire.handed w.inner in
+    let ps = again os to (start_of hs to) c.args.held in
+    let P : List ToMember → Type 0 = λ x. SendsUpTo s false ps below os below x in (
+      record {
+        handed = below;
+        outgoing = senders.outgoing_of n;
+        heard = hs;
+        failures = c.count_sent-self.result;
+      },
       record {
         is_all = false;
-        sends = upto_none s false _ below os (λ f. absurd cc);
+        sends = subst P (sym c.refill.ensures.refilled) (upto_none s false ps below os (λ f. absurd cc));
         heard_is = refl;
         counts = c.count_sent-self.ensures.counts;
       },
-      record { handed_is = refl; outgoing_is = refl; heard_is = h; failures_is = refl },
+      record {
+        handed_is = refl;
+        outgoing_is = refl;
+        heard_is = subst (λ x. Hears x.start hs w.receiver) (sym c.refill.ensures.rest.0) h;
+        failures_is = refl;
+      },
     )
 
 pub returns-clause-does : goal.returns-clause-does
 returns-clause-does g c hs h =
     let w = c.args.self.now in
     let s = senders.sealer_of w.sender in
-    let os = senders.outgoing_of w.sender in
-    let new = c.send_lacked-sent.new.self in
+    let n = c.refill.new.self in
     let to = c.args.member in
+    let os = refilled_for (senders.outgoing_of w.sender) to c.args.now in
+    let sent = c.send_lacked-sent in
+    let new = senders.outgoing_of sent.new.self in
     let below = g.W.Wire.handed w.inner in
-    let below' = g.W.Wire.handed c.send_lacked-sent.new.inner in
+    let below' = g.W.Wire.handed sent.new.inner in
     let e : c.start_of-echo.result ≡ start_of hs to = c.start_of-echo.ensures _ hs h in
-    let P : Start → Type 0 =
-    λ echo. SendsUpTo s c.send_lacked-sent.result (again os to echo c.args.held) below os below'
-    (senders.outgoing_of new) in (
-      record { handed = below'; outgoing = senders.outgoing_of new; heard = hs; failures = c.count_sent-self-2.result },
+    let P : Sealer → List ToMember → Start → Type 0 =
+    λ x o echo. SendsUpTo x sent.result (again o to echo c.args.held) below o below' new in (
+      record { handed = below'; outgoing = new; heard = hs; failures = c.count_sent-self-2.result },
       record {
-        is_all = c.send_lacked-sent.result;
-        sends = subst P e c.send_lacked-sent.ensures.sends;
+        is_all = sent.result;
+        sends = subst (λ x. P x os (start_of hs to)) c.refill.ensures.rest.0
+            (subst (λ o. P (senders.sealer_of n) o (start_of hs to)) c.refill.ensures.refilled
+            (subst (P (senders.sealer_of n) (senders.outgoing_of n)) e sent.ensures.sends));
         heard_is = refl;
         counts = c.count_sent-self-2.ensures.counts;
       },
       record {
         handed_is = refl;
         outgoing_is = refl;
-        heard_is = subst (λ x. Hears x.start hs w.receiver) (sym c.send_lacked-sent.ensures.rest.0) h;
+        heard_is = subst (λ x. Hears x.start hs w.receiver)
+            (sym (sent.ensures.rest.0 ∙ c.refill.ensures.rest.0)) h;
         failures_is = refl;
       },
     )
