@@ -1,3 +1,0 @@
-pub mod Asking
-mod Asked
-mod Rounds

@@ -1,3 +1,0 @@
-pub mod Addresses
-pub mod Members
-pub mod Asking

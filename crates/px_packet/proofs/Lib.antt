@@ -1,4 +1,0 @@
-mod Apart
-mod Sealing
-mod Headers
-mod Opening

@@ -1,5 +1,0 @@
-pub mod Headers
-pub mod Packets
-pub mod Keyed
-pub mod Laws
-pub mod Examples

@@ -1,4 +1,0 @@
-pub mod Wires
-pub mod Memory
-pub mod Faulty
-pub mod Loopback
