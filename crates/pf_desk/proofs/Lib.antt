@@ -2,3 +2,5 @@ pub mod Budget
 pub mod Logged
 pub mod HitsCounted
 pub mod Places
+mod Digits
+mod Behind

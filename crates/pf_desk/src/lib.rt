@@ -7,7 +7,8 @@
 //! - [`request_in`]: what HTTP's method, target and body ask for, a [`Request`].
 //! - [`Answer`]: HTTP's status and the body.
 //! - [`laws`]: what a verdict meets is bounded.
-//! - `specs/Answers` says what is answered, `specs/Changing` what a change does.
+//! - `specs/Routing` says what a request asks for, `specs/Answers` what is answered, `specs/Changing` what a change
+//!   does.
 //!
 //! Nothing here knows of sockets: who calls moves the bytes, and hands in what it counted ([`Tally`]).
 #![tactic(auto)]

@@ -2,7 +2,9 @@
 use Rattle.std.specs.Prelude.{◌≡◌, ℕ, Bool, true, false, ◌&&◌, List, [], ◌∷◌, Option, IfSome, bytes_eq, codes}
 use Rattle.std.specs.List.{list_any}
 use Rattle.std.specs.Io.KnownBytes.{Appends}
+use Rattle.clap.specs.Words.{Text}
 use Rattle.pf_io.specs.Written.{line}
+use Rattle.pf_kernel_words.specs.Words.{members_named, IsPositionOf}
 use Rattle.pf_kernel.specs.Outputs.{output}
 use Rattle.pf_nft.specs.declared.guard.Member.{Member}
 use Rattle.pf_io.specs.declared.status.Status.{Status}
@@ -27,6 +29,18 @@ Wrote file ms position status.Usage input old new = Unit {0}
 Wrote file ms position status.Memory input old new = Appends old new (line (codes "memory"))
 Wrote file ms position status.Failed input old new = Unit {0}
 
--- the same of these members, for some file of interfaces and some position
-abbrev pub Ran : Option (List Member) → Status → Option (List ℕ) → Option (List ℕ) → Option (List ℕ) → Type 0
-Ran ms ending input old new = (file : Option (List ℕ)) × (position : ℕ) × Wrote file ms position ending input old new
+-- Words that aren't understood name no position, so nothing is said of one there.
+abbrev pub IsAt : List Text → Status → ℕ → Type 0
+IsAt words status.Done position = IsPositionOf words position
+IsAt words status.Refused position = IsPositionOf words position
+IsAt words status.Usage position = Unit {0}
+IsAt words status.Memory position = Unit {0}
+IsAt words status.Failed position = Unit {0}
+
+-- the same of these words, the program's name first: of the members and the position that they name, for some file of
+-- interfaces
+pub record Ran (words : List Text) (ending : Status) (input old new : Option (List ℕ)) : Type 0 where
+  pub file : Option (List ℕ)
+  pub position : ℕ
+  pub at : IsAt words ending position
+  pub wrote : Wrote file (members_named words) position ending input old new

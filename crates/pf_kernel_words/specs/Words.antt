@@ -1,7 +1,10 @@
 -- The words `check --nft`, and which members they name.
-use Rattle.std.specs.Prelude.{true, List, [], ◌∷◌, Option, Some, None, length, nat_lt, codes, bytes_eq}
+use Rattle.std.specs.Prelude.{◌≡◌, ◌<◌, ◌^◌, ℕ, true, List, [], ◌∷◌, Option, Some, None, length, nat_lt, codes}
+use Rattle.std.specs.Prelude.{bytes_eq}
 use Rattle.std.specs.Prelude.{unwrap_or, if◌then◌else◌, pos}
-use Rattle.clap.specs.Words.{App, Row, Rule, Text, new_app, new_rule, with_rule, with_subcommand, subcommand_of, all_of}
+use Rattle.std.specs.Str.Parse.{IsNumeral, digits_value, without_leading_plus}
+use Rattle.clap.specs.Words.{App, Row, Rule, Text, new_app, new_rule, with_rule, with_subcommand, subcommand_of}
+use Rattle.clap.specs.Words.{all_of, one_of}
 use Rattle.clap.specs.declared.builder.action.ArgAction.TheVariants.{Append, Set, SetTrue}
 use Rattle.clap.specs.declared.builder.value_parser.ValueParser.TheVariants.{Signed}
 use Rattle.clap.specs.Lexer.{usize_max}
@@ -79,3 +82,25 @@ named_in (Some (word, rows)) =
 -- the members that the words name, the program's name first; none where they are no members of a cluster
 unfoldable pub members_named : List Text → Option (List Member)
 members_named words = named_in (subcommand_of nft_app words)
+
+-- ---- the position
+
+-- what the words behind a subcommand give as position
+abbrev pub position_text : Option (Text × List Row) → Option Text
+position_text None = None
+position_text (Some (word, rows)) = one_of (codes "position") rows
+
+-- a number of 32 bits that a text spells, where a plus may stand first
+abbrev pub IsSpelled : Text → ℕ → Type 0
+IsSpelled text n = IsNumeral 10 (without_leading_plus text) → digits_value 10 (without_leading_plus text) < 2 ^ 32
+    → n ≡ digits_value 10 (without_leading_plus text)
+
+-- the position that a text spells, 0 without one
+-- Source: pfx(8), check. Example: --position 3 is 3.
+abbrev pub IsPosition : Option Text → ℕ → Type 0
+IsPosition None n = n ≡ 0
+IsPosition (Some text) n = IsSpelled text n
+
+-- the position that the words name, the program's name first
+abbrev pub IsPositionOf : List Text → ℕ → Type 0
+IsPositionOf words n = IsPosition (position_text (subcommand_of nft_app words)) n

@@ -1,9 +1,9 @@
 //! A run of `check --nft`.
 
-ghost use Rattle.std.specs.Prelude.{◌≡◌, [], IfOk, map, option_map, unwrap_or, bytes_eq, codes};
+ghost use Rattle.std.specs.Prelude.{◌≡◌, [], IfOk, IfSome, map, option_map, unwrap_or, bytes_eq, codes};
 ghost use Rattle.std.specs.List.{list_any};
-ghost use Rattle.clap.specs.Words.{found_of, rows_of, all_of, subcommand_rows_of};
-ghost use Rattle.pf_kernel_words.specs.Words.{named_in, members_named};
+ghost use Rattle.clap.specs.Words.{found_of, rows_of, all_of, one_of, subcommand_rows_of};
+ghost use Rattle.pf_kernel_words.specs.Words.{named_in, position_text, IsPosition};
 ghost use Rattle.pf_kernel_words.specs.Running.{asks_nft, Wrote, Ran};
 
 use crate::members::members_in;
@@ -38,29 +38,24 @@ pub fn asks_nft<S: AsStr>(words: &[S]) -> bool
     }
 }
 
-/// What the words say: the file of interfaces, and the position.
-#[derive(Clone, Copy)]
-struct NftWords<'a> {
-    interfaces: &'a str,
-    position: u32,
+/// The position that the words behind a subcommand name, 0 if they name none. `clap` has refused what is no number.
+fn position_in(inner: &ArgMatches<'_>) -> u32
+    ensures { IsPosition (one_of (codes "position") (rows_of (found_of inner.now))) result }
+{
+    inner.get_one::<u32>("position").unwrap_or(0)
 }
 
-/// What the matches of the words say. `clap` has refused a number out of range and words that are missing.
-fn words_of<'a>(matches: &ArgMatches<'a>) -> Option<NftWords<'a>> {
-    let Some(inner) = matches.subcommand_matches("check") else {
-        return None;
-    };
-    let Some(interfaces) = inner.get_str("interfaces") else {
-        return None;
-    };
-    let position = match inner.get_one::<u32>("position") {
-        Some(position) => position,
-        None => 0,
-    };
-    Some(NftWords {
-        interfaces,
-        position,
-    })
+/// The file of interfaces and the position that the words name. `clap` has refused words that lack the file.
+fn words_of<'a>(matches: &ArgMatches<'a>) -> Option<(&'a str, u32)>
+    ensures { IfSome result (λ said. IsPosition (position_text (subcommand_rows_of matches.now)) said.1) }
+{
+    match matches.subcommand() {
+        Some((_word, inner)) => match inner.get_str("interfaces") {
+            Some(interfaces) => Some((interfaces, position_in(inner))),
+            None => None,
+        },
+        None => None,
+    }
 }
 
 /// The words, none where there are none.
@@ -163,7 +158,7 @@ pub fn run_nft<S: AsStr, R: Read, W: Write>(
     reader: &mut R,
     writer: &mut W,
 ) -> Status
-    ensures { Ran (members_named (map S.text words.now)) result (R.remaining reader.old) (W.contents writer.old)
+    ensures { Ran (map S.text words.now) result (R.remaining reader.old) (W.contents writer.old)
         (W.contents writer.new) }
 {
     let Ok(command) = command(alloc) else {
@@ -173,16 +168,16 @@ pub fn run_nft<S: AsStr, R: Read, W: Write>(
         Ok(matches) => matches,
         Err(error) => return misused(alloc, &error, writer),
     };
-    let Some(said) = words_of(&matches) else {
+    let Some((interfaces, position)) = words_of(&matches) else {
         return Status::Usage;
     };
     let Ok(members) = members_of(alloc, &matches) else {
         return out_of_memory(writer);
     };
     let named = lent(&members);
-    match read_file(rt, alloc, said.interfaces) {
-        Ok(Some(text)) => answer(alloc, Some(&text), named, said.position, reader, writer),
-        Ok(None) => answer(alloc, None, named, said.position, reader, writer),
+    match read_file(rt, alloc, interfaces) {
+        Ok(Some(text)) => answer(alloc, Some(&text), named, position, reader, writer),
+        Ok(None) => answer(alloc, None, named, position, reader, writer),
         Err(_) => out_of_memory(writer),
     }
 }

@@ -1,5 +1,5 @@
 use Rattle.std.proofs.Common.{◌∙◌, map}
-use Rattle.pf_kernel_words.proofs.Writing.{memory, misused, named, ran_by}
+use Rattle.pf_kernel_words.proofs.Writing.{memory, misused, named, placed, ran_by}
 use Rattle.pf_kernel_words.proofs.running.run_nft.Goals as goal
 
 pub returns-in-Err : goal.returns-in-Err
@@ -10,15 +10,21 @@ returns-in_default-members_of g c = memory _ _ _ _ _ c.out_of_memory-in_default-
 
 pub returns-in-Ok-Some : goal.returns-in-Ok-Some
 returns-in-Ok-Some g c =
-    let e = named _ (map g.S.AsStr.text c.args.words.now) c.in-Ok-try_get_matches_from.matches _ c.in-Ok.ensures c.in-Ok-try_get_matches_from.ensures.matches
+    let words = map g.S.AsStr.text c.args.words.now in
+    let matches = c.in-Ok-try_get_matches_from.matches in
+    let e = named _ words matches _ c.in-Ok.ensures c.in-Ok-try_get_matches_from.ensures.matches
     (c.lent-named.ensures ∙ c.in-Ok-members_of.ensures) in
-    ran_by _ _ _ _ _ _ _ _ e c.answer.ensures
+    let p = placed _ words matches _ c.in-Ok.ensures c.in-Ok-try_get_matches_from.ensures.matches c.in-Some.ensures in
+    ran_by _ _ _ _ _ _ _ _ e p c.answer.ensures
 
 pub returns-in-Ok-None : goal.returns-in-Ok-None
 returns-in-Ok-None g c =
-    let e = named _ (map g.S.AsStr.text c.args.words.now) c.in-Ok-try_get_matches_from.matches _ c.in-Ok.ensures c.in-Ok-try_get_matches_from.ensures.matches
+    let words = map g.S.AsStr.text c.args.words.now in
+    let matches = c.in-Ok-try_get_matches_from.matches in
+    let e = named _ words matches _ c.in-Ok.ensures c.in-Ok-try_get_matches_from.ensures.matches
     (c.lent-named.ensures ∙ c.in-Ok-members_of.ensures) in
-    ran_by _ _ _ _ _ _ _ _ e c.answer-in-Ok-None.ensures
+    let p = placed _ words matches _ c.in-Ok.ensures c.in-Ok-try_get_matches_from.ensures.matches c.in-Some.ensures in
+    ran_by _ _ _ _ _ _ _ _ e p c.answer-in-Ok-None.ensures
 
 pub returns : goal.returns
 returns g c = memory _ _ _ _ _ c.out_of_memory-in-Err-read_file.ensures
