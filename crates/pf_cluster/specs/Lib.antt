@@ -4,3 +4,5 @@ pub mod Lives
 pub mod Wires
 pub mod Carried
 pub mod Runs
+pub mod Networks
+pub mod Sockets

@@ -1,1 +1,3 @@
 pub mod Following
+pub mod Traffic
+pub mod Layers

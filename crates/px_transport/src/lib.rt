@@ -3,7 +3,7 @@
 //! # Organization
 //!
 //! - [`Wire`]: what a node asks of whoever carries its datagrams, in `specs/Wires`' words.
-//! - [`MemoryWire`]: a wire in memory, which tells all that went over it.
+//! - [`MemoryWire`]: a wire in memory, which keeps all that went over it.
 //! - [`FaultyWire`]: any wire, of which each `k`-th receive and send fails, for tests of lost datagrams.
 //! - [`LoopbackWire`]: any wire, which keeps what a member sends to itself and gives it back.
 //!

@@ -1,6 +1,7 @@
 -- all pieces are sent under its name
 use Rattle.std.proofs.Common.{rules, ◌≡◌, ℕ, List, false, [], ◌∷◌, ◌∙◌, ◌<◌, length, subst, ap, arith, inr}
 use Rattle.std.specs.Prelude.{slice_set}
+use Rattle.px_transport.specs.Wires.{Adds}
 use Rattle.px_pieces.specs.Sending.{name_of}
 use Rattle.px_packets.specs.Sending.{ToMember, SendsUpTo, to_member, named, whole, pieces, is_short, named_for}
 use Rattle.px_packets.specs.Senders.{sealer_of, outgoing_of}
@@ -26,12 +27,13 @@ returns-clause-sends g c =
     c.in-Some.ensures.after in
     let P : ℕ → List ToMember → Type 0 =
     λ n o. SendsUpTo s c.send_pieces.result (pieces a.to a.echo (record { name = n; bits = 0 }) m)
-    (g.W.Wire.handed a.inner.now) o (g.W.Wire.handed c.send_pieces.new.inner) (outgoing_of c.send_pieces.new.self) in
+    (Adds (g.W.Wire.traffic a.inner.now) (g.W.Wire.traffic c.send_pieces.new.inner)) o
+    (outgoing_of c.send_pieces.new.self) in
     let sends : P c.in-Some.name (slice_set os c.from.result c.name.new.self) = c.send_pieces.ensures.sends in
     let all : P (name_of (to_member os a.to).sent m) (named_for os a.to m) =
     subst (P (name_of (to_member os a.to).sent m)) kept
     (subst (λ n. P n (slice_set os c.from.result c.name.new.self)) name sends) in
     inr (upto_if s (is_short m) c.send_pieces.result (whole a.to a.echo m ∷ [])
     (pieces a.to a.echo (record { name = name_of (to_member os a.to).sent m; bits = 0 }) m)
-    (g.W.Wire.handed a.inner.now) os (named_for os a.to m) (g.W.Wire.handed c.send_pieces.new.inner)
+    (g.W.Wire.traffic a.inner.now) os (named_for os a.to m) (g.W.Wire.traffic c.send_pieces.new.inner)
     (outgoing_of c.send_pieces.new.self) (λ f. absurd cc) (λ _. all))

@@ -18,8 +18,8 @@ returns-then-not-send_piece-clause-sends g c =
     let p = piece a.to a.echo a.held.name a.datagram.now i in
     piece_fails (sealer_of a.self.now) (sealer_of c.loop-index.self) c.send_piece.result
     (pieces a.to a.echo a.held a.datagram.now) inv.first (pieces_from a.to a.echo a.held a.datagram.now i) p
-    (pieces_from a.to a.echo a.held a.datagram.now (i + 1)) (g.W.Wire.handed a.inner.now) (outgoing_of a.self.now)
-    (g.W.Wire.handed c.loop-index.inner) (outgoing_of c.loop-index.self) (g.W.Wire.handed c.send_piece.new.inner)
+    (pieces_from a.to a.echo a.held a.datagram.now (i + 1)) (g.W.Wire.traffic a.inner.now) (outgoing_of a.self.now)
+    (g.W.Wire.traffic c.loop-index.inner) (outgoing_of c.loop-index.self) (g.W.Wire.traffic c.send_piece.new.inner)
     (outgoing_of c.send_piece.new.self) inv.split (piece_lacked a.to a.echo a.held a.datagram.now i l lacks)
     inv.sealer failed inv.sends c.send_piece.ensures.sends
 
@@ -39,11 +39,10 @@ loop-index-preserved g c =
           (pieces_from a.to a.echo a.held a.datagram.now (i + 1)) inv.split
           (piece_lacked a.to a.echo a.held a.datagram.now i l lacks);
       sends = piece_sends (sealer_of a.self.now) (sealer_of c.loop-index.self) c.send_piece.result inv.first p
-          (g.W.Wire.handed a.inner.now) (outgoing_of a.self.now) (g.W.Wire.handed c.loop-index.inner)
-          (outgoing_of c.loop-index.self) (g.W.Wire.handed c.send_piece.new.inner)
+          (g.W.Wire.traffic a.inner.now) (outgoing_of a.self.now) (g.W.Wire.traffic c.loop-index.inner)
+          (outgoing_of c.loop-index.self) (g.W.Wire.traffic c.send_piece.new.inner)
           (outgoing_of c.send_piece.new.self) inv.sealer sent inv.sends c.send_piece.ensures.sends;
       sealer = search rules;
       keys = search rules;
-      given = search rules;
       count = inv.count;
     }

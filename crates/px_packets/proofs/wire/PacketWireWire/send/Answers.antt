@@ -1,15 +1,43 @@
 -- the packets of the datagram are handed over
-use Rattle.std.proofs.Common.{rules, ◌≡◌, true, false, subst, refl}
-use Rattle.std.specs.Prelude.{◌⊎◌}
+use Rattle.std.proofs.Common.{rules, ◌≡◌, ◌++◌, true, false, subst, refl, sym, ap, inl}
+use Rattle.std.specs.Prelude.{◌⊎◌, ◌&&◌, IsTrue}
+use Rattle.px_transport.specs.Wires.{Adds, IsQuiet}
+use Rattle.px_packet.specs.Keyed as keyed
 use Rattle.px_packet.specs.declared.start.Start.{Start}
+use Rattle.px_packets.specs.Receiving.{Hears}
 use Rattle.px_packets.specs.Sending.{SendsUpTo, packets_of, kept_with, is_other, can_be_cut}
 use Rattle.px_packets.specs.Senders as senders
-use Rattle.px_packets.specs.Wiring.{start_of, sealer_of}
-use Rattle.px_packets.proofs.Duties.{can_from, cannot_from}
+use Rattle.px_packets.specs.Wiring.{start_of, sealer_of, inner_of, Send}
+use Rattle.px_packets.proofs.Duties.{can_from, cannot_from, call_adds}
+use Rattle.px_packets.proofs.Sending.{sent_with}
 use Rattle.px_packets.proofs.wire.PacketWireWire.send.Goals as goal
 
+pub returns-then-not-is_other-clause-sent : goal.returns-then-not-is_other-clause-sent
+returns-then-not-is_other-clause-sent g c hs h es t = (
+  record {
+    traffic = es;
+    outgoing = senders.outgoing_of c.args.self.now.sender;
+    heard = hs;
+    failures = c.count_sent-self.result;
+  },
+  record {
+    can = λ (f : IsTrue false). absurd cc;
+    cannot = λ f. (refl, refl);
+    sends = inl (refl, refl, refl);
+    heard_is = refl;
+  },
+  record { traffic_is = t; outgoing_is = refl; heard_is = h; failures_is = refl },
+)
+
+pub returns-then-not-is_other-clause-handed : goal.returns-then-not-is_other-clause-handed
+returns-then-not-is_other-clause-handed g c =
+    let w = c.args.self.now in
+    call_adds (g.W.Wire.traffic (inner_of w)) (g.W.Wire.traffic (inner_of w)) w _ _
+    (record { sealer_is = refl; keys_is = refl })
+    (λ hs h es t. let r = returns-then-not-is_other-clause-sent g c hs h es t in (r.0, Send _ _ _ r.1 refl, r.2))
+
 pub returns-clause-sent : goal.returns-clause-sent
-returns-clause-sent g c hs h =
+returns-clause-sent g c hs h es t =
     let w = c.args.self.now in
     let s = sealer_of w in
     let os = senders.outgoing_of w.sender in
@@ -17,17 +45,33 @@ returns-clause-sent g c hs h =
     let m = c.args.bytes.now in
     let sent = c.send-sent in
     let new = senders.outgoing_of sent.new.self in
-    let below = g.W.Wire.handed w.inner in
-    let below' = g.W.Wire.handed sent.new.inner in
+    let below = g.W.Wire.traffic w.inner in
+    let below' = g.W.Wire.traffic sent.new.inner in
     let e : c.start_of-echo.result ≡ start_of hs to = c.start_of-echo.ensures _ hs h in
     let other : is_other s to ≡ true = search rules in
     let P : Start → Type 0 =
-    λ echo. ((sent.result ≡ false) × (below' ≡ below) × (new ≡ os)) ⊎
-    SendsUpTo s sent.result (packets_of os to echo m) below (kept_with os to m) below' new in
-    record {
-      can = can_from (is_other s to) (can_be_cut m) sent.result other (λ f. (sent.ensures.size f).0);
-      cannot = λ f.
-          let x = sent.ensures.size (cannot_from (is_other s to) (can_be_cut m) other f) in (x.1, x.2);
-      sends = subst P e sent.ensures.sends;
-      receiver_is = refl;
-    }
+    λ echo. ((sent.result ≡ false) × IsQuiet below below' × (new ≡ os)) ⊎
+    SendsUpTo s sent.result (packets_of os to echo m) (Adds below below') (kept_with os to m) new in
+    let r = sent_with s (can_be_cut m) sent.result (packets_of os to (start_of hs to) m) below below' os
+    (kept_with os to m) new es t sent.ensures.size (subst P e sent.ensures.sends) in (
+      record { traffic = r.0; outgoing = new; heard = hs; failures = c.count_sent-self-2.result },
+      record {
+        can = can_from (is_other s to) (can_be_cut m) sent.result other (λ f. (sent.ensures.size f).0);
+        cannot = λ f. r.2 (cannot_from (is_other s to) (can_be_cut m) other f);
+        sends = r.3;
+        heard_is = refl;
+      },
+      record {
+        traffic_is = r.1;
+        outgoing_is = refl;
+        heard_is = subst (λ x. Hears x.start hs w.receiver) (sym sent.ensures.rest.0) h;
+        failures_is = refl;
+      },
+    )
+
+pub returns-clause-handed : goal.returns-clause-handed
+returns-clause-handed g c =
+    let w = c.args.self.now in
+    call_adds (g.W.Wire.traffic (inner_of w)) (g.W.Wire.traffic c.send-sent.new.inner) w _ _
+    (record { sealer_is = c.send-sent.ensures.rest.0; keys_is = ap (λ k. keyed.keys_of k) c.send-sent.ensures.rest.1 })
+    (λ hs h es t. let r = returns-clause-sent g c hs h es t in (r.0, Send _ _ _ r.1 refl, r.2))
