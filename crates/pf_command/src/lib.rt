@@ -44,7 +44,6 @@ mod reading;
 pub use action::Action;
 pub use args::pfctl_args;
 pub use fault::CommandFault;
-pub use pf_effect::{Applied, ApplyFault, apply};
 pub use pf_entry::{
     Command, CommandView, EncodeFault, Entry, EntryView, Path, TableName, decode, encode,
 };

@@ -7,7 +7,6 @@ ghost use Rattle.pf_entry.specs.Owned.{addresses_value, command_value};
 ghost use Rattle.pf_command_words.specs.CommandWords.{joined, path_words, table_words, address_word, command_words};
 
 use pf_entry::{Command, Name, TableEntry};
-use pf_scripts::push_number;
 use std::alloc::{AllocError, Global};
 
 /// Puts names behind the text, with slashes between them.
@@ -79,7 +78,8 @@ fn push_load(alloc: Global, out: &mut String, path: &[Name], text: &[u8]) -> Res
 {
     push_path(out, path)?;
     out.push_str("-f - (")?;
-    push_number(alloc, out, text.len() as u64)?;
+    let shown = (text.len() as u64).to_string(alloc)?;
+    out.push_str(shown.as_str())?;
     out.push(')')
 }
 

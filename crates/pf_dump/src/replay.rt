@@ -11,8 +11,9 @@ ghost use Rattle.pf_scripts.specs.inner.Seen.{waiting_of};
 ghost use Rattle.pf_dump.specs.Scripts.{configured};
 ghost use Rattle.pf_dump.specs.inner.Seen.{StepsTo};
 
-use pf_command::{ApplyFault, Command, CommandView, EncodeFault, Entry, apply, decode, encode};
+use pf_command::{Command, CommandView, EncodeFault, Entry, decode, encode};
 use pf_config::Config;
+use pf_effect::{ApplyFault, apply};
 use pf_scripts::{
     Line, Waiting, WordsRead, cut_line, push_bytes, read_words, takes_text, words_in,
 };

@@ -2,7 +2,7 @@
 //!
 //! # Organization
 //!
-//! - [`lab`]: what a script prints.
+//! - [`lab_script`]: what a script prints.
 //!
 //! Within: `numbers`, `asking` and `reading` read a line, `fault` is why one is refused, `bench` is the lab with what
 //! was delivered and shown, `happening` makes events happen, `passes` delivers what waits, `printing`, `messages` and
@@ -46,4 +46,4 @@ mod running;
 mod showing;
 mod stepping;
 
-pub use running::lab;
+pub use running::lab_script;

@@ -96,7 +96,7 @@ fn run_lines(alloc: Global, members: u8, lines: &[u8], out: &mut String) -> Resu
 }
 
 /// What a script of a lab's events prints.
-pub fn lab(alloc: Global, script: &[u8]) -> Result<String, AllocError> {
+pub fn lab_script(alloc: Global, script: &[u8]) -> Result<String, AllocError> {
     let mut out = String::new(alloc);
     match begun(alloc, script)? {
         Some((members, lines)) => run_lines(alloc, members, lines, &mut out)?,

@@ -6,7 +6,7 @@ ghost use Rattle.pf_tool.specs.declared.output.Ending.TheVariants as ending;
 ghost use Rattle.pf_tool.specs.inner.Output.{written};
 
 use crate::output::{Ending, Output};
-use pf_lab_scripts::lab;
+use pf_lab_scripts::lab_script;
 use pf_scripts::ctl;
 use std::alloc::{AllocError, Global};
 
@@ -25,7 +25,7 @@ pub(crate) fn script_output(alloc: Global, input: &[u8]) -> Result<Output, Alloc
 pub(crate) fn lab_output(alloc: Global, input: &[u8]) -> Result<Output, AllocError>
     ensures { IfOk result (λ o. (written o).ending ≡ ending.Done) }
 {
-    let text = lab(alloc, input)?;
+    let text = lab_script(alloc, input)?;
     Ok(Output {
         text,
         ending: Ending::Done,

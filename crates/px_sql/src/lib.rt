@@ -75,3 +75,4 @@ pub use calls::Identity;
 pub use fault::AdoptFault;
 pub use formats::Format;
 pub use keeper::SqlRecords;
+pub use px_records::{FaultyRecords, MemoryRecords, Records, StoreFault, When};
