@@ -1,4 +1,4 @@
-/* Commits into a record's tables through SQLite's own library, with the statements and settings of px_sql: for each
+/* Commits into a record's tables through SQLite's own library, with the statements and settings of px_store: for each
    position the row there is read, then one row is replaced. The words: FILE accept|learn FROM TO BYTES, or
    FILE read TIMES. */
 #include <sqlite3.h>

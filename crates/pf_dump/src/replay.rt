@@ -11,7 +11,7 @@ ghost use Rattle.pf_scripts.specs.inner.Seen.{waiting_of};
 ghost use Rattle.pf_dump.specs.Scripts.{configured};
 ghost use Rattle.pf_dump.specs.inner.Seen.{StepsTo};
 
-use pf_command::{Command, CommandView, EncodeFault, Entry, decode, encode};
+use pf_arguments::{Command, CommandView, EncodeFault, Entry, decode, encode};
 use pf_config::Config;
 use pf_effect::{ApplyFault, apply};
 use pf_scripts::{

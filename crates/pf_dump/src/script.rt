@@ -1,7 +1,7 @@
 //! The commands of a script.
 
 use crate::text::{push_path, push_text, text_paths};
-use pf_command::Command;
+use pf_arguments::Command;
 use pf_command_words::push_command;
 use pf_config::Config;
 use pf_ruleset::{Name, TableEntry};

@@ -8,8 +8,8 @@ use Rattle.std.proofs.lemmas.Bool.Decides.{nat_tests}
 use Rattle.std.proofs.lemmas.Slice.Eq.{slice_eq-Decides}
 use Rattle.pf_addr.specs.declared.addr.Addr.{Addr}
 use Rattle.pf_addr.specs.declared.addr.Addr.TheVariants.{V4, V6}
-use Rattle.pf_nft.specs.declared.guard.Member.{Member}
-use Rattle.pf_nft.specs.contracts.guard.MemberPartialEq.TheImpl.{eq-value}
+use Rattle.nft_rules.specs.declared.guard.Member.{Member}
+use Rattle.nft_rules.specs.contracts.guard.MemberPartialEq.TheImpl.{eq-value}
 
 abbrev member : Addr → ℕ → Member
 member a p = record { address = a; port = p }

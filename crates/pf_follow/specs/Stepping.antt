@@ -4,7 +4,7 @@ use Rattle.std.specs.Prelude.{length, take, drop, not, nat_lt, if◌then◌else�
 use Rattle.std.specs.List.{prefix_len}
 use Rattle.pf_config.specs.Map.{Configuration}
 use Rattle.pf_kernel.specs.Outputs.{Written, config_output}
-use Rattle.pf_nft.specs.declared.guard.Member.{Member}
+use Rattle.nft_rules.specs.declared.guard.Member.{Member}
 use Rattle.pf_follow.specs.declared.kernel.Loaded.{Loaded}
 use Rattle.pf_follow.specs.declared.kernel.Step.{Step}
 use Rattle.pf_follow.specs.declared.kernel.Step.TheVariants as step

@@ -21,7 +21,7 @@
 //!   word.
 //! - The loop ends with its output, at `--turns`, or for lack of memory, and at nothing else: a door where nobody
 //!   answers is asked again, since nodes are restarted.
-//! - It pauses by a read of a stream of its own that times out, as `pf_visit` does: there is no handle for waiting.
+//! - It pauses by a read of a stream of its own that times out, as `cli_ask` does: there is no handle for waiting.
 //! - A line has no position: the answer begins where it was asked from. The mirror says where it stands.
 //! - Where the members listen is read from the node's status, once a second too: a node may be started again with
 //!   other addresses while `follow` runs, and the old guard would cut it off. What is written then has the names of

@@ -12,10 +12,10 @@ use Rattle.std.proofs.lemmas.Str.{IsUtf8-from_ascii, is_utf8-from_IsUtf8, chars-
 use Rattle.std.proofs.lemmas.Str.Ascii.{IsAscii-from_all}
 use Rattle.pf_addr.specs.Blocks.{FitsAddr}
 use Rattle.pf_eval.specs.PacketTexts.{words}
-use Rattle.pf_net.specs.declared.address.Address.{Address}
-use Rattle.pf_net.specs.Addresses.{address_of, shown_address, shown_ip}
+use Rattle.node_udp.specs.declared.address.Address.{Address}
+use Rattle.node_udp.specs.Addresses.{address_of, shown_address, shown_ip}
 use Rattle.pf_scripts.specs.Lines.{lines, words_in, words_if}
-use Rattle.pf_visit.specs.Sending.{is_graphic, has_control, is_plain, change_line}
+use Rattle.cli_ask.specs.Sending.{is_graphic, has_control, is_plain, change_line}
 use Rattle.pf_kernel_words.specs.Words.{member_at, members_at, members_in}
 use Rattle.pf_follow_words.specs.Members.{texts_on, members_or, members_among, members_told, IsAddress, members_line, AreRead}
 

@@ -3,10 +3,10 @@ use Rattle.std.specs.Prelude.{◌≡◌, ◌≤◌, ℕ, List, [], ◌∷◌, �
 use Rattle.std.specs.Prelude.{length, if◌then◌else◌}
 use Rattle.std.specs.List.{AllByRecursion}
 use Rattle.pf_addr.specs.Blocks.{FitsAddr}
-use Rattle.pf_net.specs.declared.address.Address.{Address}
-use Rattle.pf_net.specs.Addresses.{shown_address}
+use Rattle.node_udp.specs.declared.address.Address.{Address}
+use Rattle.node_udp.specs.Addresses.{shown_address}
 use Rattle.pf_scripts.specs.Lines.{ScriptLine, lines, words_in, spaced}
-use Rattle.pf_nft.specs.declared.guard.Member.{Member}
+use Rattle.nft_rules.specs.declared.guard.Member.{Member}
 use Rattle.pf_kernel_words.specs.Words.{member_at, members_in}
 use Rattle.pf_kernel_words.specs.declared.members.TheConstants.{MEMBERS_MAX}
 

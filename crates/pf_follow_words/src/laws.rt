@@ -1,10 +1,10 @@
 //! What holds of the line that names a node's members.
 
 ghost use Rattle.std.specs.Prelude.{List};
-ghost use Rattle.pf_net.specs.declared.address.Address.{Address};
+ghost use Rattle.node_udp.specs.declared.address.Address.{Address};
 ghost use Rattle.pf_follow_words.specs.Members.{AreRead};
 
-use pf_net::shown_is_read;
+use node_udp::shown_is_read;
 
 /// The members of a line of shown addresses are those at these addresses.
 pub fn members_are_read()

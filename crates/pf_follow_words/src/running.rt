@@ -10,7 +10,7 @@ use pf_follow::{Kernel, Mirror, TakeFault};
 use pf_io::{Shown, Status, knock, misused};
 use pf_kernel::machine_in;
 use pf_kernel_words::read_file;
-use pf_visit::{VisitFault, pause, read_at};
+use cli_ask::{VisitFault, pause, read_at};
 use std::alloc::{AllocError, Global};
 use std::convert::AsStr;
 use std::io::Write;

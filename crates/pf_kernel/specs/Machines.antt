@@ -6,7 +6,7 @@ use Rattle.std.specs.Str.{bytes_eq}
 use Rattle.pf_words.specs.Words.{is_interface_text}
 use Rattle.pf_ruleset.specs.Names.{Name}
 use Rattle.pf_eval.specs.PacketTexts.{words}
-use Rattle.pf_nft.specs.Rendering.{Machine, known}
+use Rattle.nft_rules.specs.Rendering.{Machine, known}
 use Rattle.pf_kernel.specs.declared.machines.TheConstants.{INTERFACES_MAX}
 
 -- whether the machine may have one more, of this name: no interface is listed twice

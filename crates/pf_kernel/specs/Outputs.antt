@@ -9,11 +9,11 @@ use Rattle.pf_config.specs.declared.fault.ConfigFault.{ConfigFault}
 use Rattle.pf_config.specs.Map.{Configuration}
 use Rattle.pf_config.specs.Changes.{load_ruleset}
 use Rattle.pf_config.specs.Codes as config
-use Rattle.pf_nft.specs.Rendering.{Machine}
-use Rattle.pf_nft.specs.declared.guard.Member.{Member}
-use Rattle.pf_nft.specs.declared.rendering.RenderFault.{RenderFault}
-use Rattle.pf_nft.specs.Refusing.{fault_code}
-use Rattle.pf_nft_text.specs.Loading.{rendered_lines}
+use Rattle.nft_rules.specs.Rendering.{Machine}
+use Rattle.nft_rules.specs.declared.guard.Member.{Member}
+use Rattle.nft_rules.specs.declared.rendering.RenderFault.{RenderFault}
+use Rattle.nft_rules.specs.Refusing.{fault_code}
+use Rattle.nft_text.specs.Loading.{rendered_lines}
 use Rattle.pf_expansion.specs.Causes.{cause_code}
 use Rattle.pf_kernel.specs.Machines.{machine_in}
 

@@ -12,4 +12,4 @@ mod outputs;
 
 pub use machines::{INTERFACES_MAX, machine_in};
 pub use outputs::{Written, config_output, nft_output};
-pub use pf_nft::Member;
+pub use nft_rules::Member;

@@ -4,13 +4,13 @@ ghost use Rattle.std.specs.Prelude.{◌≡◌, ◌≤◌, ◌<◌, ◌==◌, ◌
 ghost use Rattle.std.specs.Prelude.{option_map, if◌then◌else◌};
 ghost use Rattle.std.specs.List.{list_any, prefix_len};
 ghost use Rattle.std.specs.Str.{bytes_eq};
-ghost use Rattle.pf_nft.specs.Rendering.{known};
-ghost use Rattle.pf_nft.specs.Seen.{machine_of};
+ghost use Rattle.nft_rules.specs.Rendering.{known};
+ghost use Rattle.nft_rules.specs.Seen.{machine_of};
 ghost use Rattle.pf_eval.specs.PacketTexts.{words};
 ghost use Rattle.pf_kernel.specs.Machines.{lines, names_if, with_names, machine_in};
 
 use pf_eval::words_between_blanks;
-use pf_nft::MachineInterface;
+use nft_rules::MachineInterface;
 use pf_ruleset::InterfaceName;
 use std::alloc::{AllocError, Global};
 

@@ -3,20 +3,20 @@
 ghost use Rattle.std.specs.Prelude.{◌≡◌, [], Some, IfOk, option_map};
 ghost use Rattle.pf_ruleset.specs.Rulesets.{ruleset_of};
 ghost use Rattle.pf_config.specs.Changes.{load_ruleset};
-ghost use Rattle.pf_nft.specs.Seen.{machine_of};
+ghost use Rattle.nft_rules.specs.Seen.{machine_of};
 ghost use Rattle.pf_grammar.specs.Reading.{reading};
 ghost use Rattle.pf_grammar.specs.declared.place.Place.TheVariants.{Main};
 ghost use Rattle.pf_words.specs.declared.profile.Profile.TheVariants.{Two};
 ghost use Rattle.pf_kernel.specs.Outputs.{refused, refused_at, nothing_loaded, written_lines, rendered_of};
 ghost use Rattle.pf_kernel.specs.Outputs.{loaded_of, output, config_output};
 ghost use Rattle.pf_kernel.specs.Seen.{written};
-ghost use Rattle.pf_nft_text.specs.Loading.{rendered_lines};
+ghost use Rattle.nft_text.specs.Loading.{rendered_lines};
 
 use crate::machines::machine_in;
 use pf_config::Config;
 use pf_grammar::{ParseFault, Place, Profile, parse};
-use pf_nft::{MachineInterface, Member};
-use pf_nft_text::rendered_lines;
+use nft_rules::{MachineInterface, Member};
+use nft_text::rendered_lines;
 use pf_ruleset::{Path, Ruleset};
 use std::alloc::{AllocError, Global};
 

@@ -1,7 +1,7 @@
 -- One member more.
 use Rattle.std.proofs.Common.{◌≡◌, List, ◌∷◌, [], ◌++◌, Option, Some, None, option_map, refl, ap, append_assoc}
-use Rattle.pf_net.specs.declared.address.Address.{Address}
-use Rattle.pf_nft.specs.declared.guard.Member.{Member}
+use Rattle.node_udp.specs.declared.address.Address.{Address}
+use Rattle.nft_rules.specs.declared.guard.Member.{Member}
 use Rattle.pf_kernel_words.specs.Words.{member_at, and_member}
 
 -- members that were read, before those that are still to be read

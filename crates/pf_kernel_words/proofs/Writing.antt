@@ -8,7 +8,7 @@ use Rattle.pf_io.specs.declared.status.Status.TheVariants.{Done, Refused, Usage,
 use Rattle.pf_io.specs.Written.{line, IsMisused}
 use Rattle.clap.specs.Words.{App, Text, HasMatchesOf, is_simple, subcommand_rows_of}
 use Rattle.clap.specs.declared.parser.matches.ArgMatches.{ArgMatches}
-use Rattle.pf_nft.specs.declared.guard.Member.{Member}
+use Rattle.nft_rules.specs.declared.guard.Member.{Member}
 use Rattle.pf_kernel_words.specs.Running.{Wrote, Ran, IsAt}
 use Rattle.pf_kernel_words.specs.Words.{nft_app, named_in, members_named, position_text, IsPosition, IsPositionOf}
 

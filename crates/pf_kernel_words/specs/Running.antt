@@ -6,7 +6,7 @@ use Rattle.clap.specs.Words.{Text}
 use Rattle.pf_io.specs.Written.{line}
 use Rattle.pf_kernel_words.specs.Words.{members_named, IsPositionOf}
 use Rattle.pf_kernel.specs.Outputs.{output}
-use Rattle.pf_nft.specs.declared.guard.Member.{Member}
+use Rattle.nft_rules.specs.declared.guard.Member.{Member}
 use Rattle.pf_io.specs.declared.status.Status.{Status}
 use Rattle.pf_io.specs.declared.status.Status.TheVariants as status
 

@@ -8,9 +8,9 @@ use Rattle.clap.specs.Words.{all_of, one_of}
 use Rattle.clap.specs.declared.builder.action.ArgAction.TheVariants.{Append, Set, SetTrue}
 use Rattle.clap.specs.declared.builder.value_parser.ValueParser.TheVariants.{Signed}
 use Rattle.clap.specs.Lexer.{usize_max}
-use Rattle.pf_net.specs.declared.address.Address.{Address}
-use Rattle.pf_net.specs.Addresses.{address_of}
-use Rattle.pf_nft.specs.declared.guard.Member.{Member}
+use Rattle.node_udp.specs.declared.address.Address.{Address}
+use Rattle.node_udp.specs.Addresses.{address_of}
+use Rattle.nft_rules.specs.declared.guard.Member.{Member}
 use Rattle.pf_kernel_words.specs.declared.members.TheConstants.{MEMBERS_MAX}
 
 -- ---- members

@@ -1,11 +1,11 @@
 //! Which members texts name.
 
 ghost use Rattle.std.specs.Prelude.{◌≡◌, IfOk, map, option_map};
-ghost use Rattle.pf_net.specs.Addresses.{address_of};
+ghost use Rattle.node_udp.specs.Addresses.{address_of};
 ghost use Rattle.pf_kernel_words.specs.Words.{member_at, members_at, members_in};
 
 use pf_kernel::Member;
-use pf_net::parse_address;
+use node_udp::parse_address;
 use std::alloc::{AllocError, Global};
 
 /// How many members a cluster has at most.

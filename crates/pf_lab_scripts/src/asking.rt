@@ -3,14 +3,14 @@
 ghost use Rattle.std.specs.Prelude.{◌≡◌, map};
 ghost use Rattle.std.specs.Option.{option_copied};
 ghost use Rattle.clap.specs.Words.{found_of, rows_of};
-ghost use Rattle.pf_command.specs.Asked.{given_in, asked};
+ghost use Rattle.pf_arguments.specs.Asked.{given_in, asked};
 ghost use Rattle.pf_lab_scripts.specs.inner.Asking.{change_in, is_allowed, change_of};
 ghost use Rattle.pf_lab_scripts.specs.inner.Seen.{Reads};
 ghost use Rattle.pf_entry.specs.Owned.{command_value};
 
 use crate::fault::{LineFault, UNKNOWN};
 use clap::ArgMatches;
-use pf_command::{Action, Command, from_matches};
+use pf_arguments::{Action, Command, from_matches};
 use pf_scripts::{file_in, is_standard, matches_in};
 use std::alloc::Global;
 

@@ -7,7 +7,7 @@ use Rattle.pf_ruleset.specs.Items.{AnyRule, FilterRule, AnchorRule}
 use Rattle.pf_config.specs.Changes.{is_empty}
 use Rattle.pf_config.specs.Map.{Configuration, Path, rules_at, paths_in}
 use Rattle.pf_config.proofs.Treed.{both_true}
-use Rattle.pf_nft.specs.Deciding.{leads_back, some_leads_back}
+use Rattle.nft_rules.specs.Deciding.{leads_back, some_leads_back}
 use Rattle.pf_laws.specs.Targets.{has_target, have_targets}
 use Rattle.pf_laws.proofs.Depths.{targets_at}
 

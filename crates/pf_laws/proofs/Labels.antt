@@ -11,13 +11,13 @@ use Rattle.pf_ruleset.specs.declared.parts.Direction.TheVariants.{In, Out}
 use Rattle.pf_config.specs.Map.{path_eq}
 use Rattle.std.specs.Str.{bytes_eq}
 use Rattle.pf_config.proofs.Treed.{both_true, bytes_same, path_same}
-use Rattle.pf_nft.specs.Evaluation.{pass_eq, same_chain, same_set, is_chain, is_set}
-use Rattle.pf_nft.specs.declared.subset.Pass.{Pass}
-use Rattle.pf_nft.specs.declared.subset.Pass.TheVariants.{Forward, Backward}
-use Rattle.pf_nft.specs.Subset.{family_eq, ChainName, Base, At, Chain, SetName, NamedSet, NftRuleset}
+use Rattle.nft_rules.specs.Evaluation.{pass_eq, same_chain, same_set, is_chain, is_set}
+use Rattle.nft_rules.specs.declared.subset.Pass.{Pass}
+use Rattle.nft_rules.specs.declared.subset.Pass.TheVariants.{Forward, Backward}
+use Rattle.nft_rules.specs.Subset.{family_eq, ChainName, Base, At, Chain, SetName, NamedSet, NftRuleset}
 use Rattle.pf_addr.specs.declared.addr.Family.{Family}
 use Rattle.pf_addr.specs.declared.addr.Family.TheVariants.{Inet, Inet6}
-use Rattle.pf_nft_text.specs.Texts.{chain_index, set_index, generation, chain_label, set_label}
+use Rattle.nft_text.specs.Texts.{chain_index, set_index, generation, chain_label, set_label}
 use Rattle.pf_laws.specs.Labels.{has_chain, has_set}
 
 -- ---- digits up to a mark that is none

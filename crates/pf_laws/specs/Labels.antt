@@ -1,8 +1,8 @@
 -- Names of chains and sets that stand in a ruleset of nftables.
 use Rattle.std.specs.Prelude.{Bool}
 use Rattle.std.specs.List.{list_any}
-use Rattle.pf_nft.specs.Evaluation.{is_chain, is_set}
-use Rattle.pf_nft.specs.Subset.{ChainName, SetName, NftRuleset}
+use Rattle.nft_rules.specs.Evaluation.{is_chain, is_set}
+use Rattle.nft_rules.specs.Subset.{ChainName, SetName, NftRuleset}
 
 -- the ruleset has a chain of that name
 abbrev pub has_chain : NftRuleset → ChainName → Bool

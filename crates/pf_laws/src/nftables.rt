@@ -4,9 +4,9 @@ ghost use Rattle.std.specs.Prelude.{◌≡◌, ◌≢◌, ◌<◌, ◌^◌, ◌+
 ghost use Rattle.pf_ruleset.specs.declared.parts.Direction.{Direction};
 ghost use Rattle.pf_entry.specs.Entry.{Entry};
 ghost use Rattle.pf_effect.specs.Effect.{after};
-ghost use Rattle.pf_nft.specs.Deciding.{some_leads_back};
-ghost use Rattle.pf_nft.specs.Subset.{ChainName, SetName, NftRuleset};
-ghost use Rattle.pf_nft_text.specs.Texts.{generation, chain_label, set_label};
+ghost use Rattle.nft_rules.specs.Deciding.{some_leads_back};
+ghost use Rattle.nft_rules.specs.Subset.{ChainName, SetName, NftRuleset};
+ghost use Rattle.nft_text.specs.Texts.{generation, chain_label, set_label};
 ghost use Rattle.pf_laws.specs.Labels.{has_chain, has_set};
 ghost use Rattle.pf_laws.specs.Logs.{have_paths};
 

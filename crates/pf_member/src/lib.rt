@@ -2,7 +2,7 @@
 //!
 //! # Organization
 //!
-//! - [`Ended`]: how a run ended. [`open_member`]: a run where there is no wire; pf_door has the others.
+//! - [`Ended`]: how a run ended. [`open_member`]: a run where there is no wire; node_control has the others.
 //! - `specs/Lives` says what becomes of the record and what went over the wire; [`laws`] that this is a life of the
 //!   model, and that runs which follow one another over one store are one life.
 #![tactic(auto)]

@@ -2,10 +2,10 @@
 use Rattle.std.proofs.Common.{◌≡◌, ℕ, Bool, List, ◌++◌, Option, Some, Result, Ok, Err, refl, sym, ap, ◌∙◌, unwrap_or}
 use Rattle.pf_config.specs.Map.{Configuration}
 use Rattle.pf_effect.specs.Effect.{Effect, RefusedCommand, changed}
-use Rattle.pf_command.specs.declared.fault.CommandFault.{CommandFault}
-use Rattle.pf_command.specs.declared.fault.CommandFault.TheVariants.{Memory, Usage, BadPath, BadAddress, TooLong}
-use Rattle.pf_command.specs.Asked.{Asked}
-use Rattle.pf_command.specs.Answers.{FailsAs, command_fault_code}
+use Rattle.pf_arguments.specs.declared.fault.CommandFault.{CommandFault}
+use Rattle.pf_arguments.specs.declared.fault.CommandFault.TheVariants.{Memory, Usage, BadPath, BadAddress, TooLong}
+use Rattle.pf_arguments.specs.Asked.{Asked}
+use Rattle.pf_arguments.specs.Answers.{FailsAs, command_fault_code}
 use Rattle.pf_scripts.specs.Lines.{refused_line}
 use Rattle.pf_scripts.specs.Ctl.{acted, prints, counts_line, change_line}
 use Rattle.pf_scripts.specs.inner.Seen.{Does}

@@ -10,11 +10,11 @@ use Rattle.pf_addr.specs.declared.addr.Addr.{Addr}
 use Rattle.pf_grammar.specs.declared.fault.Refusal.{Refusal}
 use Rattle.pf_grammar.specs.Reading.{reading}
 use Rattle.pf_effect.specs.Effect.{place_at}
-use Rattle.pf_command.specs.declared.fault.CommandFault.{CommandFault}
-use Rattle.pf_command.specs.declared.fault.CommandFault.TheVariants.{Memory, Usage, BadPath, BadAddress, TooLong}
-use Rattle.pf_command.specs.Asked.{Asked, Change, CheckOnly, ShowRules, ShowTables, ShowAnchors, TableShow}
-use Rattle.pf_command.specs.Asked.{TableTest, given_in, asked}
-use Rattle.pf_command.specs.Answers.{FailsAs, command_fault_code}
+use Rattle.pf_arguments.specs.declared.fault.CommandFault.{CommandFault}
+use Rattle.pf_arguments.specs.declared.fault.CommandFault.TheVariants.{Memory, Usage, BadPath, BadAddress, TooLong}
+use Rattle.pf_arguments.specs.Asked.{Asked, Change, CheckOnly, ShowRules, ShowTables, ShowAnchors, TableShow}
+use Rattle.pf_arguments.specs.Asked.{TableTest, given_in, asked}
+use Rattle.pf_arguments.specs.Answers.{FailsAs, command_fault_code}
 use Rattle.pf_scripts.specs.Ctl.{acted, prints, pfctl, at_rows, check_line, is_standard, rows_in}
 use Rattle.pf_scripts.specs.Lines.{refused_line}
 use Rattle.pf_scripts.specs.Listings.{entries_listed, matches_listed}

@@ -6,7 +6,7 @@ use Rattle.clap.specs.Kinds.{Kinds, HasKind}
 use Rattle.clap.specs.declared.error.Error.{Error}
 use Rattle.clap.specs.declared.error.kind.ErrorKind.TheVariants.{OutOfMemory}
 use Rattle.clap.specs.declared.parser.matches.ArgMatches.{ArgMatches}
-use Rattle.pf_command.specs.Options.{pfctl_app}
+use Rattle.pf_arguments.specs.Options.{pfctl_app}
 use Rattle.pf_scripts.specs.Ctl.{rows_in, rows_unless}
 
 simple_and_free : is_simple_and_free pfctl_app ≡ true

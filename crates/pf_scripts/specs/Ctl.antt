@@ -15,10 +15,10 @@ use Rattle.pf_eval.specs.Verdicts.{judgement}
 use Rattle.pf_eval.specs.Seen.{verdict_text}
 use Rattle.pf_entry.specs.Entry.{Command, load, flush_rules, flush_tables, flush_all, add, delete, replace, flush_table}
 use Rattle.pf_effect.specs.Effect.{Effect, RefusedCommand, refused_text, effect, after_command, place_at, empty}
-use Rattle.pf_command.specs.Options.{pfctl_app}
-use Rattle.pf_command.specs.Asked.{Asked, Change, CheckOnly, ShowRules, ShowTables, ShowAnchors, TableShow}
-use Rattle.pf_command.specs.Asked.{TableTest, given_in, asked}
-use Rattle.pf_command.specs.Answers.{command_fault_code}
+use Rattle.pf_arguments.specs.Options.{pfctl_app}
+use Rattle.pf_arguments.specs.Asked.{Asked, Change, CheckOnly, ShowRules, ShowTables, ShowAnchors, TableShow}
+use Rattle.pf_arguments.specs.Asked.{TableTest, given_in, asked}
+use Rattle.pf_arguments.specs.Answers.{command_fault_code}
 use Rattle.pf_scripts.specs.Lines.{ScriptLine, lines, bytes_of, words_in, line, refused_line, spaced, stand_together}
 use Rattle.pf_scripts.specs.Listings.{rules_listed, tables_listed, anchors_listed, entries_listed, matches_listed}
 

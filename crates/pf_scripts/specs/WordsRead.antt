@@ -11,9 +11,9 @@ use Rattle.pf_grammar.specs.Reading.{reading}
 use Rattle.pf_entry.specs.Entry.{Command}
 use Rattle.pf_entry.specs.Owned.{command_value}
 use Rattle.pf_effect.specs.Effect.{refused_text, effect, after_command, place_at}
-use Rattle.pf_command.specs.Asked.{Asked, Change, CheckOnly, ShowRules, ShowTables, ShowAnchors, TableShow}
-use Rattle.pf_command.specs.Asked.{TableTest, given_in, asked}
-use Rattle.pf_command.specs.Answers.{command_fault_code}
+use Rattle.pf_arguments.specs.Asked.{Asked, Change, CheckOnly, ShowRules, ShowTables, ShowAnchors, TableShow}
+use Rattle.pf_arguments.specs.Asked.{TableTest, given_in, asked}
+use Rattle.pf_arguments.specs.Answers.{command_fault_code}
 use Rattle.pf_scripts.specs.declared.words_read.WordsRead.{WordsRead}
 use Rattle.pf_scripts.specs.declared.words_read.WordsRead.TheVariants as rust
 use Rattle.pf_scripts.specs.declared.words_read.ChangeFault.{ChangeFault}

@@ -7,14 +7,14 @@ ghost use Rattle.pf_entry.specs.Entry.{are_names, path_of, rest_fits};
 ghost use Rattle.pf_entry.specs.Owned.{command_value};
 ghost use Rattle.pf_entry.specs.Seen.{command_of};
 ghost use Rattle.pf_effect.specs.Effect.{effect, after_command, place_at};
-ghost use Rattle.pf_command.specs.Asked.{is_too_long};
-ghost use Rattle.pf_command.specs.Answers.{action_value, IsShort};
+ghost use Rattle.pf_arguments.specs.Asked.{is_too_long};
+ghost use Rattle.pf_arguments.specs.Answers.{action_value, IsShort};
 ghost use Rattle.pf_scripts.specs.Ctl.{acted, is_counted, counts_line, change_line, check_line, prints};
 ghost use Rattle.pf_scripts.specs.inner.Seen.{Does};
 
 use crate::listing::{list_anchors, list_entries, list_matches, list_rules, list_tables};
 use crate::printing::{push_line, push_number, push_refusal};
-use pf_command::{Action, Command, CommandView, EncodeFault, Entry, decode, encode};
+use pf_arguments::{Action, Command, CommandView, EncodeFault, Entry, decode, encode};
 use pf_config::Config;
 use pf_effect::{Applied, ApplyFault, apply};
 use pf_entry::BadEntry;

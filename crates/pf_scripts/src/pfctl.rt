@@ -4,7 +4,7 @@ ghost use Rattle.std.specs.Prelude.{◌≡◌, IfOk, OnOk, map, codes, string_by
 ghost use Rattle.std.specs.Option.{option_copied};
 ghost use Rattle.clap.specs.Words.{app_of, found_of, rows_of, first_of};
 ghost use Rattle.clap.specs.declared.builder.command.Command.TheViews.{out-Command};
-ghost use Rattle.pf_command.specs.Options.{pfctl_app};
+ghost use Rattle.pf_arguments.specs.Options.{pfctl_app};
 ghost use Rattle.pf_scripts.specs.Ctl.{pfctl, pfctl_rows, rows_in, takes_text, is_standard, is_input};
 ghost use Rattle.pf_scripts.specs.inner.Seen.{Does};
 
@@ -13,7 +13,7 @@ use crate::lines::stand_together;
 use crate::printing::push_refusal;
 use clap::error::ErrorKind;
 use clap::{ArgMatches, Command};
-use pf_command::{from_matches, pfctl_args};
+use pf_arguments::{from_matches, pfctl_args};
 use pf_config::Config;
 use std::alloc::{AllocError, Global};
 

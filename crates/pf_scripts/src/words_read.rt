@@ -1,6 +1,6 @@
 //! What words give where nothing is changed.
 
-use pf_command::Command;
+use pf_arguments::Command;
 use std::alloc::{AllocError, AllocFailed};
 
 /// What a line of pfctl's words gives where nothing is changed.

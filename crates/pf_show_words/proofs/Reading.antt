@@ -10,11 +10,11 @@ use Rattle.sqlite.proofs.Callers.{IsPlain}
 use Rattle.px_model.specs.Node.{Record}
 use Rattle.px_model.specs.Spelling.{Bytes}
 use Rattle.px_records.specs.declared.records.Records.{Ghosts}
-use Rattle.px_sql.specs.Tables.{schema_3}
-use Rattle.px_sql.specs.Seen.{record_in}
-use Rattle.px_sql.specs.Formats.{record_at}
-use Rattle.px_sql.specs.Adopting.{Began, IsSame}
-use Rattle.px_sql.specs.declared.formats.Format.TheVariants.{Three}
+use Rattle.px_store.specs.Tables.{schema_3}
+use Rattle.px_store.specs.Seen.{record_in}
+use Rattle.px_store.specs.Formats.{record_at}
+use Rattle.px_store.specs.Adopting.{Began, IsSame}
+use Rattle.px_store.specs.declared.formats.Format.TheVariants.{Three}
 use Rattle.pf_stored.specs.Showing.{ShowsLog, ShowsRecord}
 use Rattle.pf_stored.specs.declared.shown.Shown.{Shown}
 use Rattle.pf_stored.specs.declared.shown.Wanted.{Wanted}

@@ -2,7 +2,7 @@
 use Rattle.std.specs.Prelude.{◌≡◌}
 use Rattle.sqlite.specs.State.{State}
 use Rattle.px_records.specs.declared.records.Records.{Ghosts}
-use Rattle.px_sql.specs.Seen.{record_in}
+use Rattle.px_store.specs.Seen.{record_in}
 use Rattle.pf_stored.specs.Showing.{ShowsLog}
 use Rattle.pf_stored.specs.declared.shown.Shown.{Shown}
 use Rattle.pf_stored.specs.declared.shown.Wanted.{Wanted}

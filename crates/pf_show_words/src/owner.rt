@@ -3,8 +3,8 @@
 ghost use Rattle.std.specs.Prelude.{◌≡◌, ◌<◌, IfOk, OnOk};
 ghost use Rattle.sqlite.specs.Held.{state};
 ghost use Rattle.sqlite.specs.State.{HasCleanDisk};
-ghost use Rattle.px_sql.specs.Adopting.{Began, IsSame};
-ghost use Rattle.px_sql.specs.declared.formats.Format.TheVariants.{Three};
+ghost use Rattle.px_store.specs.Adopting.{Began, IsSame};
+ghost use Rattle.px_store.specs.declared.formats.Format.TheVariants.{Three};
 
 use crate::store::Closed;
 use pf_stored::Membership;

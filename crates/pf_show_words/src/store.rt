@@ -3,15 +3,15 @@
 ghost use Rattle.std.specs.Prelude.{◌≡◌, IfOk};
 ghost use Rattle.sqlite.specs.Held.{state};
 ghost use Rattle.sqlite.specs.State.{HasCleanDisk};
-ghost use Rattle.px_sql.specs.Adopting.{Began};
-ghost use Rattle.px_sql.specs.Formats.{record_at};
-ghost use Rattle.px_sql.specs.declared.formats.Format.TheVariants.{Three};
+ghost use Rattle.px_store.specs.Adopting.{Began};
+ghost use Rattle.px_store.specs.Formats.{record_at};
+ghost use Rattle.px_store.specs.declared.formats.Format.TheVariants.{Three};
 ghost use Rattle.pf_show_words.specs.Stores.{ShowsStore};
 
 use crate::owner::owner_of;
 use pf_stored::{Membership, NodeFault, Shown, Wanted, show_record};
 use px_records::Records;
-use px_sql::{AdoptFault, Identity, SqlRecords};
+use px_store::{AdoptFault, Identity, SqlRecords};
 use sqlite::{Alter, Connection};
 use std::alloc::Global;
 

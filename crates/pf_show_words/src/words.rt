@@ -5,7 +5,7 @@ ghost use Rattle.clap.specs.declared.builder.command.Command.TheViews.{out-Comma
 
 use clap::builder::ValueParser;
 use clap::{Arg, ArgAction, Command};
-use pf_command::pfctl_args;
+use pf_arguments::pfctl_args;
 use std::alloc::{AllocError, Global};
 
 /// The most positions.

@@ -3,7 +3,7 @@
 //! # Organization
 //!
 //! - [`turn`]: one datagram is taken, or the clock ticks, and what is to be sent is sent.
-//! - [`round`]: what has come is taken, and the clock ticks when the [`Timer`] says so, which is [`Pace`]. pf_door has
+//! - [`round`]: what has come is taken, and the clock ticks when the [`Timer`] says so, which is [`Pace`]. node_control has
 //!   the loop of such rounds. [`finish`]: what waits to be proposed is worked off.
 //! - [`tick_now`]: the clock ticks.
 //! - [`Room`]: the room that one turn after another uses, and what is sent again. [`RoundCounts`]: what went over the

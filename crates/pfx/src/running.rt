@@ -5,11 +5,11 @@ use crate::version::write_version;
 use pf_follow_words::run_follow;
 use pf_io::Status;
 use pf_kernel_words::{asks_nft, run_nft};
-use pf_node_words::run_net;
+use cli_node::run_net;
 use pf_refusals::REFUSALS;
 use pf_show_words::run_show;
 use pf_tool::run;
-use pf_visit::run_visit;
+use cli_ask::run_visit;
 use std::convert::AsStr;
 use std::io::{Read, Write};
 

@@ -6,7 +6,7 @@
 //! - [`MemoryRecords`]: a record in memory, which never fails.
 //! - [`FaultyRecords`]: any record, with one commit that fails, for tests of what a failure leaves.
 //!
-//! A keeper over SQLite is px_sql's.
+//! A keeper over SQLite is px_store's.
 #![tactic(auto)]
 
 mod faulty;

@@ -1,4 +1,4 @@
--- How the proofs go: Members over wires, and the law over nodes (px_replica to pf_node_words, pf_cluster).
+-- How the proofs go: Members over wires, and the law over nodes (px_replica to cli_node, pf_cluster).
 --
 -- Forms that proved:
 --
@@ -21,7 +21,7 @@
 --   lemma puts one trace behind another (`led_then`), and each list has its own (`Traffic.grows_then`, `brings_then`,
 --   `sent_then`). What a wire gave is a relation of two lists by recursion on the datagrams (`Brings`); the laws above
 --   need only that each message has its datagram (`AreBrought`).
--- - **A trace with a control socket** (pf_door's `Lives`): a node works (`Led`), or it failed in a request and does
+-- - **A trace with a control socket** (node_control's `Lives`): a node works (`Led`), or it failed in a request and does
 --   nothing more (`Broken`, `Lost`); each step of a run is one of four cases.
 -- - **The network's order** (pf_cluster's `Carrying`): each datagram that wires were handed is one that nodes sent
 --   (`Holds`), kept event by event; each member's trace is cut where its parts are (`lived_front`, `live_on`).

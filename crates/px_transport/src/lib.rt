@@ -7,7 +7,7 @@
 //! - [`FaultyWire`]: any wire, of which each `k`-th receive and send fails, for tests of lost datagrams.
 //! - [`LoopbackWire`]: any wire, which keeps what a member sends to itself and gives it back.
 //!
-//! A wire over UDP is pf_net's.
+//! A wire over UDP is node_udp's.
 #![tactic(auto)]
 
 mod cutting;

@@ -10,7 +10,7 @@ use pf_node::{Command, Datagram, Membership, Node, NodeFault};
 use pf_ruleset::Path;
 use px_model::EntryView;
 use px_records::Records;
-use px_sql::{Identity, SqlRecords};
+use px_store::{Identity, SqlRecords};
 use sqlite::{Alter, Connection};
 use std::alloc::Global;
 use std::fmt::Write;

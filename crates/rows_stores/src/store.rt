@@ -5,7 +5,7 @@ use crate::node::walked;
 use crate::said::{say, say_number};
 use crate::step::follow;
 use px_records::{FaultyRecords, MemoryRecords, Records, When};
-use px_sql::{AdoptFault, Identity, SqlRecords};
+use px_store::{AdoptFault, Identity, SqlRecords};
 use sqlite::{Alter, Connection};
 use std::alloc::Global;
 use std::fmt::Write;

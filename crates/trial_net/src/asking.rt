@@ -1,5 +1,5 @@
 use pf_entry::Command;
-use pf_net::{AskAnswer, Membership, ask_once};
+use node_udp::{AskAnswer, Membership, ask_once};
 use pf_ruleset::Path;
 use px_transport::{MemoryWire, Wire};
 use std::alloc::Global;

@@ -1,6 +1,6 @@
 use crate::bench::Bench;
 use pf_addr::Addr;
-use pf_net::{BindFault, UdpWire, parse_address};
+use node_udp::{BindFault, UdpWire, parse_address};
 use px_transport::Wire;
 use std::cell::Cell;
 use std::test::Fail;

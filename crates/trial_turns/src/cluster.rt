@@ -5,7 +5,7 @@ use crate::members::{ask, ask_load, member};
 use pf_addr::parse_prefix;
 use pf_entry::TableName;
 use pf_eval::{parse_packet, show_verdict};
-use pf_net::UdpWire;
+use node_udp::UdpWire;
 use pf_node::{Command, Membership, Node};
 use pf_ruleset::{Path, TableEntry};
 use pf_turn::{Room, turn};

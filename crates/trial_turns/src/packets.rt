@@ -4,7 +4,7 @@ ghost use Rattle.std.specs.Prelude.{◌<◌};
 
 use crate::listing::listing;
 use crate::members::{ask_load, member};
-use pf_net::UdpWire;
+use node_udp::UdpWire;
 use pf_node::{Membership, Node};
 use pf_turn::{Room, turn};
 use px_packet::{PacketKeys, Start};

@@ -3,11 +3,11 @@
 ghost use Rattle.std.specs.Prelude.{IfOk};
 ghost use Rattle.sqlite.specs.Held.{state};
 ghost use Rattle.sqlite.specs.State.{HasCleanDisk};
-ghost use Rattle.px_sql.specs.Formats.{record_at};
-ghost use Rattle.px_sql.specs.Adopting.{Began};
-ghost use Rattle.px_sql.specs.View.{connection_of, IsOpened};
+ghost use Rattle.px_store.specs.Formats.{record_at};
+ghost use Rattle.px_store.specs.Adopting.{Began};
+ghost use Rattle.px_store.specs.View.{connection_of, IsOpened};
 
-use px_sql::{AdoptFault, Format, Identity, SqlRecords};
+use px_store::{AdoptFault, Format, Identity, SqlRecords};
 use sqlite::{Alter, Connection};
 use std::alloc::Global;
 

@@ -3,9 +3,9 @@ use Rattle.std.specs.Prelude.{ℕ, Bool, true, false, List, [], Option, Some, No
 use Rattle.std.specs.Prelude.{unwrap_or, if◌then◌else◌}
 use Rattle.clap.specs.Words.{Text, Row, first_of}
 use Rattle.pf_entry.specs.Entry as entry
-use Rattle.pf_command.specs.Asked.{Asked, Change, CheckOnly, ShowRules, ShowTables, ShowAnchors, TableShow, TableTest}
-use Rattle.pf_command.specs.Asked.{given_in, asked}
-use Rattle.pf_command.specs.Answers.{command_fault_code}
+use Rattle.pf_arguments.specs.Asked.{Asked, Change, CheckOnly, ShowRules, ShowTables, ShowAnchors, TableShow, TableTest}
+use Rattle.pf_arguments.specs.Asked.{given_in, asked}
+use Rattle.pf_arguments.specs.Answers.{command_fault_code}
 use Rattle.pf_scripts.specs.Ctl.{is_standard, rows_in}
 
 -- a change, or the number of the refusal

@@ -1,4 +1,4 @@
-use Rattle.pf_visit.proofs.Lines.{args_read, text_read}
+use Rattle.cli_ask.proofs.Lines.{args_read, text_read}
 use Rattle.pf_follow_words.proofs.Told.{are_read}
 use Rattle.pf_follow_words.proofs.laws.members_are_read.Goals as goal
 

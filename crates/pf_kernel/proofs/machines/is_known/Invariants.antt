@@ -1,8 +1,8 @@
 use Rattle.std.proofs.Common.{◌≡◌, drop}
 use Rattle.std.specs.List.{list_any}
 use Rattle.std.specs.Str.{bytes_eq}
-use Rattle.pf_nft.specs.Rendering.{known}
-use Rattle.pf_nft.specs.Seen.{machine_of}
+use Rattle.nft_rules.specs.Rendering.{known}
+use Rattle.nft_rules.specs.Seen.{machine_of}
 use Rattle.pf_kernel.proofs.machines.is_known.Given as goal
 
 abbrev pub invariant-loop-interface : goal.invariant-loop-interface

@@ -1,6 +1,6 @@
 use Rattle.std.proofs.Common.{◌≡◌, length, map}
 use Rattle.pf_eval.specs.PacketTexts.{words}
-use Rattle.pf_nft.specs.Seen.{machine_of}
+use Rattle.nft_rules.specs.Seen.{machine_of}
 use Rattle.pf_kernel.specs.Machines.{lines, machine_with, machine_in}
 use Rattle.pf_kernel.proofs.machines.machine_in.Given as goal
 

@@ -1,5 +1,5 @@
 use Rattle.std.proofs.Common.{◌≡◌, ◌++◌, List, map, drop, option_map}
-use Rattle.pf_nft.specs.declared.guard.Member.{Member}
+use Rattle.nft_rules.specs.declared.guard.Member.{Member}
 use Rattle.pf_kernel_words.specs.Words.{members_at}
 use Rattle.pf_kernel_words.proofs.members.members_at.Given as goal
 

@@ -1,5 +1,5 @@
 -- what opened the store says so
-use Rattle.px_sql.specs.declared.formats.Format.TheVariants.{Three}
+use Rattle.px_store.specs.declared.formats.Format.TheVariants.{Three}
 use Rattle.pf_show_words.proofs.store.taken.Goals as goal
 
 pub returns-in-Ok-clause-clean : goal.returns-in-Ok-clause-clean

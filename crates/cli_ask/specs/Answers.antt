@@ -1,0 +1,42 @@
+-- What a node's answer says of what was asked for.
+use Rattle.std.specs.Prelude.{ℕ, ◌==◌, ◌&&◌, Bool, List, [], ◌∷◌, not, nat_lt, length, take, drop, codes, if◌then◌else◌}
+use Rattle.std.specs.List.{prefix_len, starts_with}
+use Rattle.cli_ask.specs.declared.call.Kind.{Kind}
+use Rattle.cli_ask.specs.declared.call.Kind.TheVariants as kind
+
+-- whether a text begins with this one
+abbrev pub begins : (text front : List ℕ) → Bool
+begins text front = starts_with (λ a b. a == b) text front
+
+-- how long the first line is, and the first word
+abbrev pub line_len : List ℕ → ℕ
+line_len text = prefix_len (λ b. not (b == 10)) text
+
+abbrev pub word_len : List ℕ → ℕ
+word_len text = prefix_len (λ b. not (b == 32)) text
+
+-- what is behind the first byte
+abbrev pub behind_first : List ℕ → List ℕ
+behind_first [] = []
+behind_first (b ∷ bytes) = bytes
+
+-- what became of a command: what is behind the line `asked N.NUMBER`, if that comes first
+-- Example: 2 of 3 match doesn't.
+abbrev pub outcome_behind : List ℕ → List ℕ
+outcome_behind body = if begins body (codes "asked ") then behind_first (drop (line_len body) body) else body
+
+-- of addresses that were looked up all are in the table, as `3 of 3 match` says: a number, and behind " of " the same
+abbrev pub all_match : List ℕ → Bool
+all_match body =
+    let n : ℕ = word_len body in
+    begins (drop n body) (codes " of ") && (begins (drop 4 (drop n body)) (take n body)
+    && begins (drop n (drop 4 (drop n body))) (codes " "))
+
+-- an answer, by HTTP's status and its body, says that what was asked for was done
+abbrev pub is_done : Kind → (code : ℕ) → (body : List ℕ) → Bool
+is_done kind.Read code body = nat_lt code 300
+is_done kind.List code body = nat_lt code 300
+is_done kind.Test code body = nat_lt code 300
+is_done kind.TableTest code body = nat_lt code 300 && all_match body
+is_done kind.Sync code body = nat_lt code 300 && not (begins (outcome_behind body) (codes "refused"))
+is_done kind.Change code body = nat_lt code 300 && not (begins (outcome_behind body) (codes "refused"))

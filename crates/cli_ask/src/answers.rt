@@ -1,0 +1,75 @@
+//! What a node's answer says of what was asked for.
+
+ghost use Rattle.std.specs.Prelude.{◌≡◌, ◌≤◌, length};
+ghost use Rattle.cli_ask.specs.Answers.{all_match, behind_first, is_done, line_len, outcome_behind, word_len};
+
+use crate::call::Kind;
+
+/// How long the first line is, without its newline.
+#[tactic(auto, using(crate::proofs::Fronts::line_len_le))]
+fn line_len(text: &[u8]) -> usize
+    ensures value { result ≡ line_len text.now }
+    ensures within { result ≤ length text.now }
+{
+    text.iter().take_while(|b| **b != b'\n').count()
+}
+
+/// How long the first word is.
+#[tactic(auto, using(crate::proofs::Fronts::word_len_le))]
+fn word_len(text: &[u8]) -> usize
+    ensures value { result ≡ word_len text.now }
+    ensures within { result ≤ length text.now }
+{
+    text.iter().take_while(|b| **b != b' ').count()
+}
+
+/// What is behind the first byte.
+fn behind_first(text: &[u8]) -> &[u8]
+    ensures { result.now ≡ behind_first text.now }
+{
+    match text {
+        [_, rest @ ..] => rest,
+        [] => &[],
+    }
+}
+
+/// What became of a command: what is behind the line `asked N.NUMBER`, if that comes first.
+pub(crate) fn outcome_behind(body: &[u8]) -> &[u8]
+    ensures { result.now ≡ outcome_behind body.now }
+{
+    if !body.starts_with(b"asked ") {
+        return body;
+    }
+    let (_, rest) = body.split_at(line_len(body));
+    behind_first(rest)
+}
+
+/// Whether all addresses that were looked up are in the table, as `3 of 3 match` says.
+fn all_match(body: &[u8]) -> bool
+    ensures { result ≡ all_match body.now }
+{
+    let (word, rest) = body.split_at(word_len(body));
+    if !rest.starts_with(b" of ") {
+        return false;
+    }
+    let (_, rest) = rest.split_at(4);
+    if !rest.starts_with(word) {
+        return false;
+    }
+    let (_, rest) = rest.split_at(word.len());
+    rest.starts_with(b" ")
+}
+
+/// Whether an answer, by HTTP's status and its body, says that what was asked for was done.
+pub(crate) fn is_done(kind: Kind, code: u16, body: &[u8]) -> bool
+    ensures { result ≡ is_done kind code body.now }
+{
+    match kind {
+        Kind::Read => code < 300,
+        Kind::List => code < 300,
+        Kind::Test => code < 300,
+        Kind::TableTest => code < 300 && all_match(body),
+        Kind::Sync => code < 300 && !outcome_behind(body).starts_with(b"refused"),
+        Kind::Change => code < 300 && !outcome_behind(body).starts_with(b"refused"),
+    }
+}

@@ -1,0 +1,72 @@
+//! What words of a change are refused for before a node is asked.
+
+use clap::ArgMatches;
+use pf_arguments::{Action, Command, from_matches};
+use pf_grammar::{ParseFault, Place, Profile, parse};
+use std::alloc::{AllocError, Global};
+
+/// Why words aren't asked of a node.
+#[derive(Clone, Copy, PartialEq, Eq)]
+pub(crate) struct Refused {
+    /// The number of the refusal.
+    pub(crate) code: u8,
+    /// The line of a refused text, 0 where there is none.
+    pub(crate) line: u64,
+}
+
+/// What the text is refused for at its place.
+fn refused_text(
+    alloc: Global,
+    place: Place,
+    profile: Profile,
+    text: &[u8],
+) -> Result<Option<Refused>, AllocError> {
+    match parse(alloc, text, place, profile) {
+        Ok(_rules) => Ok(None),
+        Err(ParseFault::Memory) => Err(AllocError),
+        Err(ParseFault::Refused(refusal)) => Ok(Some(Refused {
+            code: refusal.cause.code(),
+            line: refusal.line,
+        })),
+    }
+}
+
+/// What a command is refused for whatever is at the node: a text that the grammar refuses.
+pub(crate) fn refused_command(
+    alloc: Global,
+    command: &Command,
+) -> Result<Option<Refused>, AllocError> {
+    match command {
+        Command::Load {
+            path,
+            profile,
+            text,
+        } => {
+            let place = if path.names().is_empty() {
+                Place::Main
+            } else {
+                Place::Anchor
+            };
+            refused_text(alloc, place, *profile, text.as_slice())
+        }
+        _ => Ok(None),
+    }
+}
+
+/// What pfctl's arguments are refused for before a node is asked, as `ctl` refuses them: 40, 24, 1 to 3, 41, and of the
+/// text that they load 10 to 19, with its line. What reads a text and doesn't load it is 40.
+pub(crate) fn refused_args(
+    alloc: Global,
+    matches: &ArgMatches<'_>,
+    text: &[u8],
+) -> Result<Option<Refused>, AllocError> {
+    match from_matches(alloc, matches, text) {
+        Ok(Action::Change(command)) => refused_command(alloc, &command),
+        Ok(Action::CheckOnly(_)) => Ok(Some(Refused { code: 40, line: 0 })),
+        Ok(_) => Ok(None),
+        Err(fault) => match fault.code() {
+            Some(code) => Ok(Some(Refused { code, line: 0 })),
+            None => Err(AllocError),
+        },
+    }
+}

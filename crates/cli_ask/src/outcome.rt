@@ -1,0 +1,74 @@
+//! What a run of `ask` gives.
+
+ghost use Rattle.std.specs.Prelude.{◌≡◌, IfOk, string_bytes};
+ghost use Rattle.pf_scripts.specs.Lines.{refused_line};
+ghost use Rattle.cli_ask.specs.Outcomes.{Wrote, answer_status};
+
+use crate::answers::is_done;
+use crate::call::Kind;
+use crate::checking::Refused;
+use crate::exchange::Reply;
+use pf_io::{Status, out_of_memory};
+use pf_scripts::push_refusal;
+use std::alloc::{AllocError, Global};
+use std::io::Write;
+
+/// What a run gives.
+pub(crate) enum Outcome {
+    /// The answer to a request of that kind.
+    Answered(Kind, Reply),
+    /// A refusal, with the line of a refused text.
+    Refused(Refused),
+    /// Memory ran out.
+    Memory,
+    /// The input couldn't be read.
+    Unread,
+}
+
+/// A refusal without a line.
+pub(crate) fn refused(code: u8) -> Outcome {
+    Outcome::Refused(Refused { code, line: 0 })
+}
+
+/// The line of a refusal.
+fn refusal_line(alloc: Global, refused: Refused) -> Result<String, AllocError>
+    ensures { IfOk result (λ line. string_bytes line ≡ refused_line refused.code refused.line) }
+{
+    let mut line = String::new(alloc);
+    push_refusal(alloc, &mut line, refused.code, refused.line)?;
+    Ok(line)
+}
+
+/// How a run with this answer ends: `Done` where what was asked for was done.
+fn answer_status(kind: Kind, reply: &Reply) -> Status
+    ensures { result ≡ answer_status kind reply.now }
+{
+    if is_done(kind, reply.code, reply.body.as_slice()) {
+        Status::Done
+    } else {
+        Status::Refused
+    }
+}
+
+/// Writes what a run gives.
+pub(crate) fn write_outcome<W: Write>(alloc: Global, outcome: Outcome, writer: &mut W) -> Status
+    ensures { Wrote result outcome (W.contents writer.old) (W.contents writer.new) }
+{
+    match outcome {
+        Outcome::Answered(kind, reply) => match writer.write_all(reply.body.as_slice()) {
+            Ok(()) => answer_status(kind, &reply),
+            Err(_) => Status::Failed,
+        },
+        Outcome::Refused(refused) => {
+            let Ok(line) = refusal_line(alloc, refused) else {
+                return out_of_memory(writer);
+            };
+            match writer.write_all(line.as_bytes()) {
+                Ok(()) => Status::Refused,
+                Err(_) => Status::Failed,
+            }
+        }
+        Outcome::Memory => out_of_memory(writer),
+        Outcome::Unread => Status::Failed,
+    }
+}

@@ -1,0 +1,127 @@
+//! The word `ask` with `--door`, as `clap` reads it.
+
+ghost use Rattle.std.specs.Prelude.{◌≡◌, IfOk, false};
+ghost use Rattle.clap.specs.declared.builder.command.Command.TheViews.{out-Command};
+
+use clap::builder::ValueParser;
+use clap::{Arg, ArgAction, Command};
+use pf_arguments::pfctl_args;
+use std::alloc::{AllocError, Global};
+
+/// The longest wait, in seconds.
+const WAIT_MAX: u64 = 3_600;
+
+/// The most positions.
+pub(crate) const POSITIONS: u64 = 1_000_000;
+
+/// The last line of a script that can be named.
+const LINES: u64 = 4_294_967_295;
+
+/// What help says of each option, and below them.
+const DOOR: &str = "The Unix socket at which the node answers operators";
+
+const WAIT: &str = "Seconds to wait for what comes of it, 0 to 3600";
+
+const AT: &str = "The node answers once it has applied so many positions, 0 to 1000000";
+
+const UNCHECKED: &str =
+    "Words and a text are asked as they are; else what is wrong with them is told before the node is asked";
+
+const SCRIPT: &str =
+    "A file (- the input) of changes in the form of ctl's, each asked once what came of the one before it is known";
+
+const FROM: &str = "With --script: the number of the first line that is asked";
+
+const BELOW: &str = "Words of a change, or of a listing; or, without pfctl's options:
+  test PACKET..    the verdicts for packets        request N.NUMBER  what became of a request
+  log [FROM]       what was learned                status            how the node is
+  health           ok, behind, alone or failed     metrics           numbers for Prometheus
+  sync             asks what changes nothing       stop              ends the node
+A refusal is refused CODE; 85 nobody answers at the door, 86 the answer is none.";
+
+/// An option with a value.
+fn valued<'a>(alloc: Global, name: &'a str, help: &'a str) -> Arg<'a>
+    ensures local { result.global ≡ false }
+{
+    Arg::new(alloc, name)
+        .long(name)
+        .action(ArgAction::Set)
+        .help(help)
+}
+
+/// Adds one option.
+fn with<'a>(command: Command<'a>, arg: Arg<'a>) -> Result<Command<'a>, AllocError>
+    requires command { (out-Command command).has_globals ≡ false }
+    requires arg { arg.global ≡ false }
+    ensures local { IfOk result (λ c. (out-Command c).has_globals ≡ false) }
+{
+    command.arg(arg)
+}
+
+/// `--wait S`
+fn with_wait<'a>(alloc: Global, command: Command<'a>) -> Result<Command<'a>, AllocError>
+    requires command { (out-Command command).has_globals ≡ false }
+    ensures local { IfOk result (λ c. (out-Command c).has_globals ≡ false) }
+{
+    with(
+        command,
+        valued(alloc, "wait", WAIT).value_parser(ValueParser::Unsigned(0, WAIT_MAX)),
+    )
+}
+
+/// `--at A`
+fn with_at<'a>(alloc: Global, command: Command<'a>) -> Result<Command<'a>, AllocError>
+    requires command { (out-Command command).has_globals ≡ false }
+    ensures local { IfOk result (λ c. (out-Command c).has_globals ≡ false) }
+{
+    with(
+        command,
+        valued(alloc, "at", AT).value_parser(ValueParser::Unsigned(0, POSITIONS)),
+    )
+}
+
+/// `--unchecked`
+fn with_unchecked<'a>(alloc: Global, command: Command<'a>) -> Result<Command<'a>, AllocError>
+    requires command { (out-Command command).has_globals ≡ false }
+    ensures local { IfOk result (λ c. (out-Command c).has_globals ≡ false) }
+{
+    let unchecked = Arg::new(alloc, "unchecked")
+        .long("unchecked")
+        .action(ArgAction::SetTrue)
+        .help(UNCHECKED);
+    with(command, unchecked)
+}
+
+/// `--script FILE [--from LINE]`
+fn with_script<'a>(alloc: Global, command: Command<'a>) -> Result<Command<'a>, AllocError>
+    requires command { (out-Command command).has_globals ≡ false }
+    ensures local { IfOk result (λ c. (out-Command c).has_globals ≡ false) }
+{
+    let command = with(command, valued(alloc, "script", SCRIPT))?;
+    with(
+        command,
+        valued(alloc, "from", FROM).value_parser(ValueParser::Unsigned(1, LINES)),
+    )
+}
+
+/// `ask --door PATH [--wait S] [--at A] [--unchecked] WORDS`, or with `--script FILE [--from LINE]` in their place
+fn ask_command<'a>(alloc: Global) -> Result<Command<'a>, AllocError>
+    ensures local { IfOk result (λ c. (out-Command c).has_globals ≡ false) }
+{
+    let ask = Command::new(alloc, "ask")
+        .about("Asks a node at its door")
+        .after_help(BELOW);
+    let command = with(ask, valued(alloc, "door", DOOR).required(true))?;
+    let command = with_wait(alloc, command)?;
+    let command = with_at(alloc, command)?;
+    let command = with_unchecked(alloc, command)?;
+    let command = with_script(alloc, command)?;
+    pfctl_args(alloc, command)
+}
+
+/// The program's words with a door.
+pub(crate) fn command<'a>(alloc: Global) -> Result<Command<'a>, AllocError> {
+    let ask = ask_command(alloc)?;
+    let command = Command::new(alloc, "pfx").subcommand(ask)?;
+    Ok(command.subcommand_required(true))
+}

@@ -1,0 +1,163 @@
+-- With what a run ends: neither 93 nor 94, which are of a store before it is opened.
+use Rattle.std.proofs.Common.{◌≡◌, ◌⊎◌, ◌↔◌, ℕ, Result, Ok, Err, Bool, true, false, Option, Some, None, refl, sym, subst, ap, ◌∙◌, inl, inr, arith}
+use Rattle.std.specs.Prelude.{if◌then◌else◌, nat_lt, IsSome, IsTrue, OnErr}
+use Rattle.px_records.specs.declared.records.Records.{Ghosts}
+use Rattle.px_wire.specs.declared.membership.Membership.{Membership}
+use Rattle.px_replica.specs.declared.fault.NodeFault.{NodeFault}
+use Rattle.px_replica.specs.declared.fault.NodeFault.TheVariants as fault
+use Rattle.pf_member.specs.declared.ended.Ended.{Ended}
+use Rattle.pf_member.specs.declared.ended.Ended.TheVariants as ended
+use Rattle.cli_node.specs.declared.outcome.Outcome.{Outcome}
+use Rattle.cli_node.specs.declared.outcome.Outcome.TheVariants.{Front, Asked, Key, Refused, RefusedLine, NoAnswer}
+use Rattle.cli_node.specs.declared.outcome.Outcome.TheVariants.{Sound, Made, Memory, Unread}
+use Rattle.cli_node.specs.inner.Outcomes.{outcome_of, ending_of, ended_outcome, first_of, checked, is_refused}
+use Rattle.cli_node.specs.inner.Outcomes.{ComesOpenOr, IsWireless}
+use Rattle.cli_node.specs.inner.Stores.{IsStoreless}
+use Rattle.cli_node.proofs.Stores.{other, by_memory, sound}
+
+-- any other number
+of_number : (code : ℕ) → (code ≡ 93 → ⊥) → (code ≡ 94 → ⊥) → (file new : Bool) → IsStoreless file new (Refused code)
+of_number code f g file new = other file new code f g
+
+as_is : (o p : Outcome) → o ≡ p → ((file new : Bool) → IsStoreless file new p) → (file new : Bool) → IsStoreless file new o
+as_is o p e h file new = subst (λ (x : Outcome). IsStoreless file new x) (sym e) (h file new)
+
+n40 : (file new : Bool) → IsStoreless file new (Refused 40)
+n40 = of_number 40 (λ b. omega (arith, b)) (λ b. omega (arith, b))
+
+n41 : (file new : Bool) → IsStoreless file new (Refused 41)
+n41 = of_number 41 (λ b. omega (arith, b)) (λ b. omega (arith, b))
+
+n60 : (file new : Bool) → IsStoreless file new (Refused 60)
+n60 = of_number 60 (λ b. omega (arith, b)) (λ b. omega (arith, b))
+
+n61 : (file new : Bool) → IsStoreless file new (Refused 61)
+n61 = of_number 61 (λ b. omega (arith, b)) (λ b. omega (arith, b))
+
+n62 : (file new : Bool) → IsStoreless file new (Refused 62)
+n62 = of_number 62 (λ b. omega (arith, b)) (λ b. omega (arith, b))
+
+n70 : (file new : Bool) → IsStoreless file new (Refused 70)
+n70 = of_number 70 (λ b. omega (arith, b)) (λ b. omega (arith, b))
+
+n72 : (file new : Bool) → IsStoreless file new (Refused 72)
+n72 = of_number 72 (λ b. omega (arith, b)) (λ b. omega (arith, b))
+
+n80 : (file new : Bool) → IsStoreless file new (Refused 80)
+n80 = of_number 80 (λ b. omega (arith, b)) (λ b. omega (arith, b))
+
+n82 : (file new : Bool) → IsStoreless file new (Refused 82)
+n82 = of_number 82 (λ b. omega (arith, b)) (λ b. omega (arith, b))
+
+n83 : (file new : Bool) → IsStoreless file new (Refused 83)
+n83 = of_number 83 (λ b. omega (arith, b)) (λ b. omega (arith, b))
+
+n84 : (file new : Bool) → IsStoreless file new (Refused 84)
+n84 = of_number 84 (λ b. omega (arith, b)) (λ b. omega (arith, b))
+
+n95 : (file new : Bool) → IsStoreless file new (Refused 95)
+n95 = of_number 95 (λ b. omega (arith, b)) (λ b. omega (arith, b))
+
+fronts : (n a : ℕ) (file new : Bool) → IsStoreless file new (Front n a)
+fronts n a file new = record { missing = λ e. absurd (cc); there = λ e. absurd (cc) }
+
+of_fault : (e : NodeFault) (file new : Bool) → IsStoreless file new (outcome_of e)
+of_fault fault.Memory file new = by_memory file new
+of_fault fault.TooLong file new = n41 file new
+of_fault fault.Full file new = n60 file new
+of_fault fault.BallotsSpent file new = n61 file new
+of_fault fault.PositionsSpent file new = n62 file new
+of_fault fault.Store file new = n70 file new
+of_fault fault.BadStore file new = n72 file new
+of_fault fault.Failed file new = n80 file new
+
+of_ended : (without : Outcome) (how : Ended) → ((file new : Bool) → IsStoreless file new without) → (file new : Bool) →
+    IsStoreless file new (ended_outcome without how)
+of_ended without (ended.Front n a) h file new = fronts n a file new
+of_ended without (ended.Fault e) h file new = of_fault e file new
+of_ended without ended.NoWire h file new = h file new
+of_ended without ended.NoControlSocket h file new = n84 file new
+of_ended without ended.NoPort h file new = n82 file new
+
+wireless : (o : Outcome) → IsWireless o → (file new : Bool) → IsStoreless file new o
+wireless o (inl e) = as_is o Memory e by_memory
+wireless o (inr e) = as_is o (Refused 82) e n82
+
+pub of_run : {R : Type 0} (G : Ghosts R) (m : Membership) (given back : R) (o : Outcome) → ComesOpenOr G m given o back →
+    (file new : Bool) → IsStoreless file new o
+of_run G m given back o (inl (w, v, how, without, runs, is, none)) =
+    as_is o (ended_outcome without how) is (of_ended without how (wireless without none))
+of_run G m given back o (inr (none, same)) = wireless o none
+
+-- what it failed of
+pub of_ending : (o : Outcome) (n : ℕ) → ((file new : Bool) → IsStoreless file new o) → (file new : Bool) →
+    IsStoreless file new (ending_of o n)
+of_ending o n h file new =
+    (elim (is_refused 80 o) as (λ q. IsStoreless file new (if q then (if nat_lt 0 n then Refused 70 else Refused 72) else o)) [
+      | true ↦ (elim (nat_lt 0 n) as (λ q. IsStoreless file new (if q then Refused 70 else Refused 72)) [
+        | true ↦ n70 file new
+        | false ↦ n72 file new
+      ])
+      | false ↦ h file new
+    ])
+
+-- ---- what a start would be refused for
+
+first : (file new : Bool) (o p : Outcome) → IsStoreless file new o → IsStoreless file new p → IsStoreless file new (first_of o p)
+first file new (Front n a) p h k = h
+first file new (Asked n k) p h l = h
+first file new (Key k) p h l = h
+first file new (Refused c) p h k = h
+first file new (RefusedLine c l) p h k = h
+first file new NoAnswer p h k = h
+first file new Sound p h k = k
+first file new Made p h k = h
+first file new Memory p h k = h
+first file new Unread p h k = h
+
+of_place : (o : Outcome) → (o ≡ Sound) ⊎ (o ≡ Refused 40) → (file new : Bool) → IsStoreless file new o
+of_place o (inl e) = as_is o Sound e sound
+of_place o (inr e) = as_is o (Refused 40) e n40
+
+of_key : (o : Outcome) → (o ≡ Sound) ⊎ ((o ≡ Memory) ⊎ (o ≡ Refused 83)) → (file new : Bool) → IsStoreless file new o
+of_key o (inl e) = as_is o Sound e sound
+of_key o (inr (inl e)) = as_is o Memory e by_memory
+of_key o (inr (inr e)) = as_is o (Refused 83) e n83
+
+of_starts : (o : Outcome) → (o ≡ Sound) ⊎ ((o ≡ Memory) ⊎ (o ≡ Refused 95)) → (file new : Bool) → IsStoreless file new o
+of_starts o (inl e) = as_is o Sound e sound
+of_starts o (inr (inl e)) = as_is o Memory e by_memory
+of_starts o (inr (inr e)) = as_is o (Refused 95) e n95
+
+-- the packets of a node can't be sealed
+pub unsealed : {X : Type 0} (r : Result X Outcome) (outcome : Outcome) → r ≡ Err outcome →
+    OnErr r ((r ≡ Err Memory) ⊎ (r ≡ Err (Refused 95))) → (file new : Bool) → IsStoreless file new outcome
+unsealed (Ok x) outcome is h file new = absurd (cc)
+unsealed (Err o) outcome is (inl e) file new = let same : outcome ≡ Memory = cc in rw same (by_memory file new)
+unsealed (Err o) outcome is (inr e) file new = let same : outcome ≡ Refused 95 = cc in rw same (n95 file new)
+
+of_addresses : (o : Outcome) → (o ≡ Sound) ⊎ (o ≡ Refused 82) → (file new : Bool) → IsStoreless file new o
+of_addresses o (inl e) = as_is o Sound e sound
+of_addresses o (inr e) = as_is o (Refused 82) e n82
+
+pub of_check : (file new : Bool) (place key other store starts addresses : Outcome) →
+    (place ≡ Sound) ⊎ (place ≡ Refused 40) →
+    (key ≡ Sound) ⊎ ((key ≡ Memory) ⊎ (key ≡ Refused 83)) → (other ≡ Sound) ⊎ ((other ≡ Memory) ⊎ (other ≡ Refused 83)) →
+    IsStoreless file new store → (starts ≡ Sound) ⊎ ((starts ≡ Memory) ⊎ (starts ≡ Refused 95)) →
+    (addresses ≡ Sound) ⊎ (addresses ≡ Refused 82) →
+    IsStoreless file new (checked place (first_of key other) store starts addresses)
+of_check file new place key other store starts addresses p k q s t a =
+    first file new place _ (of_place place p file new)
+    (first file new (first_of key other) _ (first file new key other (of_key key k file new) (of_key other q file new))
+    (first file new store _ s (first file new starts addresses (of_starts starts t file new)
+    (of_addresses addresses a file new))))
+
+pub none_of : {X : Type 0} (m : Option X) (b : Bool) → IsSome m ↔ IsTrue b → b ≡ false → m ≡ None
+none_of None b h e = refl
+none_of (Some x) b h e =
+    let t : IsTrue b = h.0 refl in absurd (let f : IsTrue false = subst (λ (q : Bool). IsTrue q) e t in cc)
+
+-- the numbers are the first that is asked
+pub place_first : (place keys store starts addresses : Outcome) → place ≡ Refused 40 →
+    checked place keys store starts addresses ≡ Refused 40
+place_first place keys store starts addresses e = ap (λ (o : Outcome). checked o keys store starts addresses) e

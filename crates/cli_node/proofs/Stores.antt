@@ -1,0 +1,198 @@
+-- What keeps a node from its store.
+use Rattle.std.proofs.Common.{◌≡◌, ◌≢◌, ◌⊎◌, cond, Bool, true, false, ℕ, Result, Ok, Err, refl, sym, subst, ◌∙◌, inl, inr, arith}
+use Rattle.std.specs.Prelude.{OnErr, if◌then◌else◌}
+use Rattle.px_store.specs.declared.fault.AdoptFault.{AdoptFault}
+use Rattle.px_store.specs.declared.fault.AdoptFault.TheVariants as adopt
+use Rattle.cli_node.specs.declared.outcome.Outcome.{Outcome}
+use Rattle.cli_node.specs.declared.outcome.Outcome.TheVariants.{Memory, Refused, Sound}
+use Rattle.cli_node.specs.declared.store.Found.{Found}
+use Rattle.cli_node.specs.declared.store.Found.TheVariants as found
+use Rattle.cli_node.specs.declared.store.Opening.{Opening}
+use Rattle.cli_node.specs.declared.store.Opening.TheVariants.{Opens, Makes, Refuses}
+use Rattle.cli_node.specs.inner.Outcomes.{adopt_outcome}
+use Rattle.cli_node.specs.inner.Stores.{IsNone, IsRefused, IsOpening, IsStoreless}
+
+-- refusals of one outcome have one number
+same_number : (a b : ℕ) → Refused a ≡ Refused b → a ≡ b
+same_number a b e = cc
+
+same_refusal : (a b : ℕ) → Refuses a ≡ Refuses b → a ≡ b
+same_refusal a b e = cc
+
+-- what is refused with another number is neither 93 nor 94
+pub other : (file new : Bool) (code : ℕ) → (code ≡ 93 → ⊥) → (code ≡ 94 → ⊥) → IsStoreless file new (Refused code)
+other file new code f g = record {
+  missing = λ e. absurd (f (same_number code 93 e));
+  there = λ e. absurd (g (same_number code 94 e));
+}
+
+-- ---- what becomes of what is there
+
+abbrev pub table : (file new : Bool) → Found → Opening
+table file new found.Nothing = if new then Makes else (if file then Refuses 93 else Makes)
+table file new found.Empty = if new then Opens else (if file then Refuses 93 else Opens)
+table file new found.Store = if new then Refuses 94 else Opens
+table file new found.Other = Refuses 70
+
+makes : (file new : Bool) → (file ≡ true → new ≡ false → ⊥) → IsOpening file new found.Nothing Makes
+makes file new not_so = record {
+  kept = λ a b m. not_so a b;
+  blank = λ a b o. absurd (not_so a b);
+  made = λ m. refl;
+  opened = λ o. absurd (cc);
+  held = λ n s. absurd (cc);
+  lost = λ a b n. absurd (not_so a b);
+  refused = λ code r. absurd (cc);
+}
+
+opens_empty : (file new : Bool) → (file ≡ true → new ≡ false → ⊥) → IsOpening file new found.Empty Opens
+opens_empty file new not_so = record {
+  kept = λ a b m. not_so a b;
+  blank = λ a b o. absurd (not_so a b);
+  made = λ m. absurd (cc);
+  opened = λ o. inr refl;
+  held = λ n s. absurd (cc);
+  lost = λ a b n. absurd (not_so a b);
+  refused = λ code r. absurd (cc);
+}
+
+loses : (f : Found) → IsNone f → IsOpening true false f (Refuses 93)
+loses f none = record {
+  kept = λ a b m. cc;
+  blank = λ a b o. absurd (cc);
+  made = λ m. absurd (cc);
+  opened = λ o. absurd (cc);
+  held = λ n s. absurd (cc);
+  lost = λ a b n. refl;
+  refused = λ code r. inl (sym (same_refusal 93 code r), refl, refl, none);
+}
+
+keeps : (file : Bool) → IsOpening file true found.Store (Refuses 94)
+keeps file = record {
+  kept = λ a b m. cc;
+  blank = λ a b o. absurd (cc);
+  made = λ m. absurd (cc);
+  opened = λ o. absurd (cc);
+  held = λ n s. refl;
+  lost = λ a b n. absurd (cc);
+  refused = λ code r. inr (inl (sym (same_refusal 94 code r), refl, refl));
+}
+
+no_store : IsNone found.Store → ⊥
+no_store (inl e) = cc
+no_store (inr e) = cc
+
+no_other : IsNone found.Other → ⊥
+no_other (inl e) = cc
+no_other (inr e) = cc
+
+opens_store : (file : Bool) → IsOpening file false found.Store Opens
+opens_store file = record {
+  kept = λ a b m. cc;
+  blank = λ a b o. refl;
+  made = λ m. absurd (cc);
+  opened = λ o. inl refl;
+  held = λ n s. absurd (cc);
+  lost = λ a b n. absurd (no_store n);
+  refused = λ code r. absurd (cc);
+}
+
+none_there : (file new : Bool) → IsOpening file new found.Other (Refuses 70)
+none_there file new = record {
+  kept = λ a b m. cc;
+  blank = λ a b o. absurd (cc);
+  made = λ m. absurd (cc);
+  opened = λ o. absurd (cc);
+  held = λ n s. absurd (cc);
+  lost = λ a b n. absurd (no_other n);
+  refused = λ code r. inr (inr (sym (same_refusal 70 code r), refl));
+}
+
+by_table : (file new : Bool) (f : Found) → IsOpening file new f (table file new f)
+by_table true false found.Nothing = loses found.Nothing (inl refl)
+by_table false false found.Nothing = makes false false (λ a b. cc)
+by_table file true found.Nothing = makes file true (λ a b. cc)
+by_table true false found.Empty = loses found.Empty (inr refl)
+by_table false false found.Empty = opens_empty false false (λ a b. cc)
+by_table file true found.Empty = opens_empty file true (λ a b. cc)
+by_table file true found.Store = keeps file
+by_table file false found.Store = opens_store file
+by_table file new found.Other = none_there file new
+
+pub is_opening : (file new : Bool) (f : Found) (o : Opening) → o ≡ table file new f → IsOpening file new f o
+is_opening file new f o e = subst (λ (x : Opening). IsOpening file new f x) (sym e) (by_table file new f)
+
+by_refused : (file new : Bool) (f : Found) (code : ℕ) → IsRefused file new f code → IsStoreless file new (Refused code)
+by_refused file new f code (inl w) = record {
+  missing = λ e. (w.1, w.2);
+  there = λ e. let a : code ≡ 93 = w.0 in let b : code ≡ 94 = same_number code 94 e in absurd (omega (arith, a, b));
+}
+by_refused file new f code (inr (inl w)) = record {
+  missing = λ e. let a : code ≡ 94 = w.0 in let b : code ≡ 93 = same_number code 93 e in absurd (omega (arith, a, b));
+  there = λ e. w.1;
+}
+by_refused file new f code (inr (inr w)) =
+    let a : code ≡ 70 = w.0 in
+    other file new code (λ b. absurd (omega (arith, a, b))) (λ b. absurd (omega (arith, a, b)))
+
+-- what is there
+pub by_opening : (file new : Bool) (f : Found) (o : Opening) (code : ℕ) → IsOpening file new f o → o ≡ Refuses code →
+    IsStoreless file new (Refused code)
+by_opening file new f o code is e = by_refused file new f code (is.refused code e)
+
+not_80 : (file new : Bool) (f : Found) (code : ℕ) → IsRefused file new f code → Refused code ≢ Refused 80
+not_80 file new f code (inl w) e = let a : code ≡ 93 = w.0 in let b : code ≡ 80 = same_number code 80 e in omega (arith, a, b)
+not_80 file new f code (inr (inl w)) e = let a : code ≡ 94 = w.0 in let b : code ≡ 80 = same_number code 80 e in omega (arith, a, b)
+not_80 file new f code (inr (inr w)) e = let a : code ≡ 70 = w.0 in let b : code ≡ 80 = same_number code 80 e in omega (arith, a, b)
+
+pub unfailed_opening : (file new : Bool) (f : Found) (o : Opening) (code : ℕ) → IsOpening file new f o → o ≡ Refuses code →
+    Refused code ≢ Refused 80
+unfailed_opening file new f o code is e = not_80 file new f code (is.refused code e)
+
+-- want of memory
+pub by_memory : (file new : Bool) → IsStoreless file new Memory
+by_memory file new = record { missing = λ e. absurd (cc); there = λ e. absurd (cc) }
+
+-- nothing is refused
+pub sound : (file new : Bool) → IsStoreless file new Sound
+sound file new = record { missing = λ e. absurd (cc); there = λ e. absurd (cc) }
+
+-- the system, or the database, where it refuses the file
+pub refused_70 : (file new : Bool) → IsStoreless file new (Refused 70)
+refused_70 file new = other file new 70 (λ b. absurd (omega (arith, b))) (λ b. absurd (omega (arith, b)))
+
+pub by_file : {C : Type 0} (file new : Bool) (r : Result C Outcome) (outcome : Outcome) → r ≡ Err outcome →
+    OnErr r ((r ≡ Err Memory) ⊎ (r ≡ Err (Refused 70))) → IsStoreless file new outcome
+by_file file new (Ok c) outcome is h = absurd (cc)
+by_file file new (Err o) outcome is (inl h) =
+    let same : outcome ≡ Memory = cc in rw same (by_memory file new)
+by_file file new (Err o) outcome is (inr h) =
+    let same : outcome ≡ Refused 70 = cc in rw same (refused_70 file new)
+
+-- what its rows say
+pub by_fault : (file new : Bool) (e : AdoptFault) → IsStoreless file new (adopt_outcome e)
+by_fault file new adopt.Memory = by_memory file new
+by_fault file new adopt.Failed = refused_70 file new
+by_fault file new adopt.StoreVersion = other file new 73 (λ b. absurd (omega (arith, b))) (λ b. absurd (omega (arith, b)))
+by_fault file new adopt.BadStore = other file new 72 (λ b. absurd (omega (arith, b))) (λ b. absurd (omega (arith, b)))
+by_fault file new adopt.WrongNode = other file new 71 (λ b. absurd (omega (arith, b))) (λ b. absurd (omega (arith, b)))
+
+pub by_read : (file new : Bool) (o : Outcome) → (o ≡ Memory) ⊎ (o ≡ Refused 70) → IsStoreless file new o
+by_read file new o (inl e) = subst (λ (x : Outcome). IsStoreless file new x) (sym e) (by_memory file new)
+by_read file new o (inr e) = subst (λ (x : Outcome). IsStoreless file new x) (sym e) (refused_70 file new)
+
+-- the outcome of a store that isn't taken is none of a failed node
+pub unfailed_fault : (e : AdoptFault) → adopt_outcome e ≢ Refused 80
+unfailed_fault adopt.Memory e = cc
+unfailed_fault adopt.Failed e = let b : 70 ≡ 80 = same_number 70 80 e in omega (arith, b)
+unfailed_fault adopt.StoreVersion e = let b : 73 ≡ 80 = same_number 73 80 e in omega (arith, b)
+unfailed_fault adopt.BadStore e = let b : 72 ≡ 80 = same_number 72 80 e in omega (arith, b)
+unfailed_fault adopt.WrongNode e = let b : 71 ≡ 80 = same_number 71 80 e in omega (arith, b)
+
+pub unfailed_file : {C : Type 0} (r : Result C Outcome) (outcome : Outcome) → r ≡ Err outcome →
+    OnErr r ((r ≡ Err Memory) ⊎ (r ≡ Err (Refused 70))) → outcome ≢ Refused 80
+unfailed_file (Ok c) outcome is h e = cc
+unfailed_file (Err o) outcome is (inl h) e = let same : outcome ≡ Memory = cc in cc
+unfailed_file (Err o) outcome is (inr h) e =
+    let same : outcome ≡ Refused 70 = cc in
+    let b : 70 ≡ 80 = same_number 70 80 (sym same ∙ e) in omega (arith, b)

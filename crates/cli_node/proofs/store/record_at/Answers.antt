@@ -1,0 +1,10 @@
+use Rattle.std.proofs.Common.{sym, subst}
+use Rattle.cli_node.specs.declared.outcome.Outcome.{Outcome}
+use Rattle.cli_node.specs.inner.Stores.{IsStoreless}
+use Rattle.cli_node.proofs.Stores.{by_fault}
+use Rattle.cli_node.proofs.store.record_at.Goals as goal
+
+pub returns-in-Err-adopt-clause-refused : goal.returns-in-Err-adopt-clause-refused
+returns-in-Err-adopt-clause-refused c =
+    subst (λ (o : Outcome). IsStoreless c.args.words.is_from_file c.args.words.is_new o) (sym c.untaken.ensures)
+    (by_fault c.args.words.is_from_file c.args.words.is_new c.in-Err-adopt.fault)

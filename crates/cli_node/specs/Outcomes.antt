@@ -1,0 +1,51 @@
+-- What a run of node, ask or key writes.
+use Rattle.std.specs.Prelude.{◌≡◌, ℕ, List, [], ◌∷◌, ◌++◌, Option, Some, None, codes, decimal}
+use Rattle.std.specs.Io.KnownBytes.{Appends}
+use Rattle.px_key.specs.Texts.{key_text}
+use Rattle.pf_io.specs.declared.status.Status.{Status}
+use Rattle.pf_io.specs.declared.status.Status.TheVariants as status
+use Rattle.pf_io.specs.Written.{line}
+use Rattle.cli_node.specs.declared.outcome.Outcome.{Outcome}
+use Rattle.cli_node.specs.declared.outcome.Outcome.TheVariants.{Front, Asked, Key, Refused, RefusedLine, NoAnswer}
+use Rattle.cli_node.specs.declared.outcome.Outcome.TheVariants.{Sound, Made, Memory, Unread}
+
+-- what a run writes of its outcome, a line; nothing of a key that is in a file, and where the words were not read
+abbrev pub line_of : Outcome → List ℕ
+line_of (Front front applied) = line (codes "front " ++ decimal front ++ codes " applied " ++ decimal applied)
+line_of (Asked node number) = line (codes "asked " ++ decimal node ++ codes "." ++ decimal number)
+line_of (Key key) = key_text key
+line_of (Refused code) = line (codes "refused " ++ decimal code)
+line_of (RefusedLine code at) = line (codes "refused " ++ decimal code ++ codes " line " ++ decimal at)
+line_of NoAnswer = line (codes "no answer")
+line_of Sound = line (codes "ok")
+line_of Memory = line (codes "memory")
+line_of Made = []
+line_of Unread = []
+
+-- how a run with this outcome ends
+abbrev pub status_of : Outcome → Status
+status_of (Front front applied) = status.Done
+status_of (Asked node number) = status.Done
+status_of (Key key) = status.Done
+status_of (Refused code) = status.Refused
+status_of (RefusedLine code at) = status.Refused
+status_of NoAnswer = status.Refused
+status_of Sound = status.Done
+status_of Made = status.Done
+status_of Memory = status.Memory
+status_of Unread = status.Failed
+
+-- the outcome's line is written; where memory ran out that alone; of a write that failed nothing is said
+abbrev pub Wrote : Status → Outcome → Option (List ℕ) → Option (List ℕ) → Type 0
+Wrote status.Memory outcome old new = Appends old new (line (codes "memory"))
+Wrote status.Failed outcome old new = Unit {0}
+Wrote ending outcome old new = (ending ≡ status_of outcome) × Appends old new (line_of outcome)
+
+-- a run that came to an outcome wrote it; without one the words weren't understood, or memory ran out
+abbrev pub Ran : Status → Option Outcome → Option (List ℕ) → Option (List ℕ) → Type 0
+Ran ending (Some outcome) old new = Wrote ending outcome old new
+Ran status.Done None old new = ⊥
+Ran status.Refused None old new = ⊥
+Ran status.Usage None old new = Unit {0}
+Ran status.Memory None old new = Appends old new (line (codes "memory"))
+Ran status.Failed None old new = Unit {0}

@@ -1,0 +1,46 @@
+-- Whether a node's store is opened or made.
+use Rattle.std.specs.Prelude.{◌≡◌, ◌≢◌, ◌⊎◌, ◌||◌, not, ℕ, Bool, true, false}
+use Rattle.cli_node.specs.declared.outcome.Outcome.{Outcome}
+use Rattle.cli_node.specs.declared.outcome.Outcome.TheVariants.{Refused}
+use Rattle.cli_node.specs.declared.store.Found.{Found}
+use Rattle.cli_node.specs.declared.store.Found.TheVariants as found
+use Rattle.cli_node.specs.declared.store.Opening.{Opening}
+use Rattle.cli_node.specs.declared.store.Opening.TheVariants.{Opens, Makes, Refuses}
+use Rattle.cli_node.specs.declared.store.TheConstants.{NO_STORE, FILE_IS_THERE}
+
+-- no store is there: nothing, or a file without a byte
+abbrev pub IsNone : Found → Type 0
+IsNone f = (f ≡ found.Nothing) ⊎ (f ≡ found.Empty)
+
+-- whether a start makes a store there
+abbrev pub is_made : (is_from_file is_new : Bool) → Found → Bool
+is_made file new found.Nothing = new || not file
+is_made file new found.Empty = new || not file
+is_made file new found.Store = false
+is_made file new found.Other = false
+
+-- Why what is there is refused: a store is lost where settings come from a file and none is to be made; there is one
+-- where one is to be made; or it is no file.
+abbrev pub IsRefused : (is_from_file is_new : Bool) → Found → (code : ℕ) → Type 0
+IsRefused file new f code =
+    ((code ≡ NO_STORE) × (file ≡ true) × (new ≡ false) × IsNone f)
+    ⊎ (((code ≡ FILE_IS_THERE) × (new ≡ true) × (f ≡ found.Store)) ⊎ ((code ≡ 70) × (f ≡ found.Other)))
+
+-- What becomes of what is there.
+pub record IsOpening (is_from_file is_new : Bool) (f : Found) (o : Opening) : Type 0 where
+  -- a start by a file of settings never makes a store, and of no empty file either
+  pub kept : is_from_file ≡ true → is_new ≡ false → o ≢ Makes
+  pub blank : is_from_file ≡ true → is_new ≡ false → o ≡ Opens → f ≡ found.Store
+  -- a store is made where nothing is, whatever is asked, and opened where a file is
+  pub made : o ≡ Makes → f ≡ found.Nothing
+  pub opened : o ≡ Opens → (f ≡ found.Store) ⊎ (f ≡ found.Empty)
+  -- with --new one that is there is kept as it is
+  pub held : is_new ≡ true → f ≡ found.Store → o ≡ Refuses FILE_IS_THERE
+  pub lost : is_from_file ≡ true → is_new ≡ false → IsNone f → o ≡ Refuses NO_STORE
+  pub refused : (code : ℕ) → o ≡ Refuses code → IsRefused is_from_file is_new f code
+
+-- What keeps a node from its store: 93 only where settings come from a file and none is to be made, 94 only where one
+-- is.
+pub record IsStoreless (is_from_file is_new : Bool) (outcome : Outcome) : Type 0 where
+  pub missing : outcome ≡ Refused NO_STORE → (is_from_file ≡ true) × (is_new ≡ false)
+  pub there : outcome ≡ Refused FILE_IS_THERE → is_new ≡ true

@@ -1,0 +1,209 @@
+//! The word `ask`: a command asked of a node.
+
+ghost use Rattle.std.specs.Prelude.{◌≡◌, ◌<◌, ◌⊎◌, ◌↔◌, Err, Ok, false, IfSome, IfOk, OnErr, IsSome, IsTrue};
+ghost use Rattle.clap.specs.Words.{found_of, rows_of};
+ghost use Rattle.pf_entry.specs.Owned.{command_value};
+ghost use Rattle.pf_arguments.specs.Asked.{asked, given_in, Change};
+ghost use Rattle.cli_node.specs.declared.outcome.Outcome.TheVariants.{Memory, Refused, Unread};
+ghost use Rattle.cli_node.specs.inner.Places.{has_place, waits_of};
+ghost use Rattle.cli_node.specs.declared.ask.TheConstants.{ASKER};
+
+use crate::outcome::{Outcome, answer_outcome, fault_outcome};
+use clap::ArgMatches;
+use pf_arguments::{Action, Command, from_matches};
+use pf_io::{InputFault, read_all};
+use node_udp::{BindFault, Membership, UdpWire, ask_once};
+use px_transport::Wire;
+use std::alloc::Global;
+use std::fs;
+use std::io::Read;
+
+/// The number of whoever is no member.
+const ASKER: u8 = 255;
+
+/// How long each wait for an answer is, in milliseconds.
+const WAIT_MS: u32 = 200;
+
+/// What the own words of `ask` say.
+#[derive(Clone, Copy)]
+pub(crate) struct AskWords<'a> {
+    /// Where the node listens.
+    pub(crate) to: &'a str,
+    pub(crate) cluster: u32,
+    /// How many members the cluster has.
+    pub(crate) members: u8,
+    /// The number of the node that is asked.
+    pub(crate) node: u8,
+    /// How many waits of a fifth of a second there are for an answer.
+    pub(crate) waits: u32,
+}
+
+/// How many waits so many seconds are, one at least; without a number there are five.
+fn waits_of(seconds: Option<u16>) -> u32
+    ensures { result ≡ waits_of seconds }
+{
+    match seconds {
+        Some(seconds) => (5 * u32::from(seconds)).max(1),
+        None => 5,
+    }
+}
+
+impl<'a> AskWords<'a> {
+    /// What the matches of the words say. `clap` has refused numbers out of range and words that are missing.
+    pub(crate) fn of(matches: &ArgMatches<'a>) -> Option<AskWords<'a>> {
+        let Some(to) = matches.get_str("to") else {
+            return None;
+        };
+        let Some(cluster) = matches.get_one::<u32>("cluster") else {
+            return None;
+        };
+        let Some(members) = matches.get_one::<u8>("members") else {
+            return None;
+        };
+        let Some(node) = matches.get_one::<u8>("node") else {
+            return None;
+        };
+        Some(AskWords {
+            to,
+            cluster,
+            members,
+            node,
+            waits: waits_of(matches.get_one::<u16>("wait")),
+        })
+    }
+}
+
+/// The text of a file.
+fn read_file(rt: &HostRuntime, alloc: Global, path: &str) -> Result<Vec<u8>, Outcome>
+    ensures { OnErr result ((result ≡ Err Memory) ⊎ (result ≡ Err (Refused 40))) }
+{
+    let Ok(mut file) = fs::open(rt, path) else {
+        return Err(Outcome::Refused(40));
+    };
+    match read_all(alloc, &mut file) {
+        Ok(text) => Ok(text),
+        Err(InputFault::Memory) => Err(Outcome::Memory),
+        Err(InputFault::Failed | InputFault::TooLong) => Err(Outcome::Refused(40)),
+    }
+}
+
+/// The input.
+fn read_input<R: Read>(alloc: Global, reader: &mut R) -> Result<Vec<u8>, Outcome>
+    ensures whole { IfOk result (λ text. IfSome (R.remaining reader.old) (λ input. text.items ≡ input)) }
+    ensures why { OnErr result ((result ≡ Err Memory) ⊎ (result ≡ Err Unread)) }
+{
+    match read_all(alloc, reader) {
+        Ok(text) => Ok(text),
+        Err(InputFault::Memory) => Err(Outcome::Memory),
+        Err(InputFault::Failed | InputFault::TooLong) => Err(Outcome::Unread),
+    }
+}
+
+/// The text that `-f` names: of the input for `-`, else of a file; none without `-f`.
+fn text_for<R: Read>(
+    rt: &HostRuntime,
+    alloc: Global,
+    matches: &ArgMatches<'_>,
+    reader: &mut R,
+) -> Result<Vec<u8>, Outcome> {
+    match matches.get_str("file") {
+        Some("-") => read_input(alloc, reader),
+        Some(path) => read_file(rt, alloc, path),
+        None => Ok(Vec::new(alloc)),
+    }
+}
+
+/// The change that the words ask for.
+fn change_in(alloc: Global, matches: &ArgMatches<'_>, text: &[u8]) -> Result<Command, Outcome>
+    ensures { IfOk result (λ command. asked (given_in (rows_of (found_of matches.now))) text.now ≡
+        Ok (Change (command_value command))) }
+{
+    match from_matches(alloc, matches, text) {
+        Ok(Action::Change(command)) => Ok(command),
+        Ok(_) => Err(Outcome::Refused(40)),
+        Err(fault) => match fault.code() {
+            Some(code) => Err(Outcome::Refused(code)),
+            None => Err(Outcome::Memory),
+        },
+    }
+}
+
+/// The asker's wire.
+fn bind(rt: &HostRuntime, alloc: Global, to: &str) -> Result<UdpWire<HostRuntime>, Outcome>
+    ensures { OnErr result ((result ≡ Err Memory) ⊎ (result ≡ Err (Refused 82))) }
+{
+    match UdpWire::bind(rt, alloc, &[to], ASKER, WAIT_MS) {
+        Ok(wire) => Ok(wire),
+        Err(BindFault::Memory) => Err(Outcome::Memory),
+        Err(BindFault::NoSocket) => Err(Outcome::Refused(82)),
+    }
+}
+
+/// What the node answers to the command over a wire.
+fn asked_over<W: Wire>(
+    alloc: Global,
+    words: AskWords<'_>,
+    m: &Membership,
+    command: &Command,
+    wire: &mut W,
+) -> Outcome
+    requires asker { m.now.me ≡ ASKER }
+    requires member { words.node < m.now.members }
+{
+    match ask_once(alloc, m, words.node, command, words.waits, wire) {
+        Ok(answer) => answer_outcome(words.node, answer),
+        Err(fault) => fault_outcome(fault),
+    }
+}
+
+/// Who is asked: the cluster and how many members it has, and nobody of them; none where the node is none of them.
+fn membership(words: AskWords<'_>) -> Option<Membership>
+    ensures some { IfSome result (λ m. (m.cluster ≡ words.entry.cluster) × (m.members ≡ words.entry.members) ×
+        (m.me ≡ ASKER)) }
+    ensures none { IsSome result ↔ IsTrue (has_place words.entry.node words.entry.members) }
+{
+    if words.node >= words.members {
+        return None;
+    }
+    Membership::new(words.cluster, words.members, ASKER)
+}
+
+/// What the node answers to a command.
+fn asked(
+    rt: &HostRuntime,
+    alloc: Global,
+    words: AskWords<'_>,
+    m: &Membership,
+    command: &Command,
+) -> Outcome
+    requires asker { m.now.me ≡ ASKER }
+    requires member { words.node < m.now.members }
+{
+    match bind(rt, alloc, words.to) {
+        Ok(mut wire) => asked_over(alloc, words, m, command, &mut wire),
+        Err(outcome) => outcome,
+    }
+}
+
+/// What `ask` comes to: 40 of its numbers, the faults of the action, and 82, in this order; then the answer.
+pub(crate) fn ask_outcome<R: Read>(
+    rt: &HostRuntime,
+    alloc: Global,
+    words: AskWords<'_>,
+    matches: &ArgMatches<'_>,
+    reader: &mut R,
+) -> Outcome
+    ensures { has_place words.entry.node words.entry.members ≡ false → result ≡ Refused 40 }
+{
+    let Some(m) = membership(words) else {
+        return Outcome::Refused(40);
+    };
+    let text = match text_for(rt, alloc, matches, reader) {
+        Ok(text) => text,
+        Err(outcome) => return outcome,
+    };
+    match change_in(alloc, matches, &text) {
+        Ok(command) => asked(rt, alloc, words, &m, &command),
+        Err(outcome) => outcome,
+    }
+}

@@ -1,0 +1,337 @@
+//! The word `node` with `--check`: whether a node could be started. Nothing is made or changed.
+
+ghost use Rattle.std.specs.Prelude.{◌≡◌, ◌⊎◌, Bool, Err, false, length, OnErr};
+ghost use Rattle.cli_node.specs.declared.outcome.Outcome.{Outcome};
+ghost use Rattle.cli_node.specs.declared.outcome.Outcome.TheVariants.{Memory, Refused, Sound};
+ghost use Rattle.cli_node.specs.inner.Outcomes.{checked, first_of};
+ghost use Rattle.cli_node.specs.inner.Places.{has_place};
+ghost use Rattle.cli_node.specs.inner.Stores.{IsStoreless};
+
+use crate::faults::{owner_of, say_closed, say_figures, say_place, say_storeless, say_unknown};
+use crate::key::key_in;
+use crate::node::{NodeWords, figures_at, membership};
+use crate::outcome::Outcome;
+use crate::sealing::of_starts;
+use crate::store::{
+    Found, Opening, failed_outcome, found_at, identity_of, is_made, opening_of, untaken,
+};
+use pf_io::{Shown, open_regular};
+use pf_member::Membership;
+use px_store::{AdoptFault, SqlRecords};
+use sqlite::{Connection, Error, ErrorCode, File, FileStore};
+use sqlite_resolve::CompileError;
+use std::alloc::Global;
+use std::fs;
+use std::io::Read;
+
+/// How a database begins.
+const HEAD: &[u8] = b"SQLite format 3\0";
+
+/// The first of two outcomes that is no `Sound`.
+fn first_of(one: Outcome, other: Outcome) -> Outcome
+    ensures { result ≡ first_of one other }
+{
+    match one {
+        Outcome::Sound => other,
+        _ => one,
+    }
+}
+
+/// What a start would be refused for, of what is refused of its numbers, its keys, its store, its starts and its
+/// addresses: the first, in the order in which a start asks.
+fn checked(
+    place: Outcome,
+    keys: Outcome,
+    store: Outcome,
+    starts: Outcome,
+    addresses: Outcome,
+) -> Outcome
+    ensures { result ≡ checked place keys store starts addresses }
+{
+    first_of(
+        place,
+        first_of(keys, first_of(store, first_of(starts, addresses))),
+    )
+}
+
+/// Whether a store has no table yet, so that a node that is started makes them.
+fn has_no_table(
+    rt: &HostRuntime,
+    path: &str,
+    conn: &mut Connection<FileStore<File>>,
+) -> Result<bool, Outcome>
+    ensures { OnErr result ((result ≡ Err Memory) ⊎ (result ≡ Err (Refused 70))) }
+{
+    match conn.query_row("SELECT count(*) FROM sqlite_schema", &[]) {
+        Ok(row) => Ok(row.get::<u32>(0) == Ok(0)),
+        Err(error) => Err(failed_outcome(rt, path, error)),
+    }
+}
+
+/// The format that a store says, 0 where that is none of a node's; none of a store that says nothing yet, in which a
+/// node that is started writes it.
+fn format_of(
+    rt: &HostRuntime,
+    path: &str,
+    conn: &mut Connection<FileStore<File>>,
+) -> Result<Option<u32>, Outcome>
+    ensures { OnErr result ((result ≡ Err Memory) ⊎ (result ≡ Err (Refused 70))) }
+{
+    match conn.query_row("SELECT format FROM meta", &[]) {
+        Ok(row) => Ok(Some(row.get::<u32>(0).unwrap_or(0))),
+        Err(Error::QueryReturnedNoRows) => Ok(None),
+        Err(Error::SqlInputError(CompileError::OutOfMemory)) => Err(Outcome::Memory),
+        Err(Error::SqlInputError(_)) => match has_no_table(rt, path, conn) {
+            Ok(true) => Ok(None),
+            Ok(false) => Ok(Some(0)),
+            Err(outcome) => Err(outcome),
+        },
+        Err(error) => Err(failed_outcome(rt, path, error)),
+    }
+}
+
+/// What is refused of a store of format 3, which is taken as a node takes it: that writes nothing.
+#[tactic(auto, using(crate::proofs::Stores::by_fault, crate::proofs::Stores::sound))]
+fn adopted(
+    rt: &HostRuntime,
+    alloc: Global,
+    words: NodeWords<'_, '_, '_>,
+    m: Membership,
+    conn: Connection<FileStore<File>>,
+) -> Outcome
+    ensures { (file new : Bool) → IsStoreless file new result }
+{
+    match SqlRecords::adopt(alloc, conn, identity_of(m)) {
+        Ok(_records) => Outcome::Sound,
+        Err((fault, conn)) => {
+            let mut conn = conn;
+            untaken(rt, words.store, m, fault, &mut conn)
+        }
+    }
+}
+
+/// What is refused of a store of an older format, which a node brings to 3: it is asked whose it is.
+#[tactic(auto, using(crate::proofs::Stores::by_fault, crate::proofs::Stores::by_read, crate::proofs::Stores::sound))]
+fn owned(
+    rt: &HostRuntime,
+    words: NodeWords<'_, '_, '_>,
+    m: Membership,
+    conn: &mut Connection<FileStore<File>>,
+) -> Outcome
+    ensures { (file new : Bool) → IsStoreless file new result }
+{
+    match owner_of(conn) {
+        Ok((cluster, members, node)) => {
+            if cluster == m.cluster()
+                && members == u32::from(m.members())
+                && node == u32::from(m.me())
+            {
+                Outcome::Sound
+            } else {
+                untaken(rt, words.store, m, AdoptFault::WrongNode, conn)
+            }
+        }
+        Err(error) => failed_outcome(rt, words.store, error),
+    }
+}
+
+/// What is refused of a store that is open.
+#[tactic(auto, using(crate::proofs::Stores::by_fault, crate::proofs::Stores::by_file, crate::proofs::Stores::sound))]
+fn judged(
+    rt: &HostRuntime,
+    alloc: Global,
+    words: NodeWords<'_, '_, '_>,
+    m: Membership,
+    conn: Connection<FileStore<File>>,
+) -> Outcome
+    ensures { (file new : Bool) → IsStoreless file new result }
+{
+    let mut conn = conn;
+    match format_of(rt, words.store, &mut conn) {
+        Ok(None) => Outcome::Sound,
+        Ok(Some(3)) => adopted(rt, alloc, words, m, conn),
+        Ok(Some(1 | 2)) => owned(rt, words, m, &mut conn),
+        Ok(Some(_)) => untaken(rt, words.store, m, AdoptFault::StoreVersion, &mut conn),
+        Err(outcome) => outcome,
+    }
+}
+
+/// Whether a file begins as a database does, or has no byte, as a store has whose writes are all beside it.
+fn is_database(rt: &HostRuntime, path: &str) -> bool {
+    let Ok(mut file) = open_regular(rt, path) else {
+        return false;
+    };
+    let mut head = [0u8; 16];
+    match file.metadata() {
+        Ok(about) => about.len() == 0
+            || file.read_exact(&mut head).is_ok() && head.as_slice() == HEAD,
+        Err(_) => false,
+    }
+}
+
+/// What is refused of a store that stands there; nothing of one that a node has open, nor of one without its log of
+/// writes, which an opening makes.
+#[tactic(auto, using(crate::proofs::Stores::by_read, crate::proofs::Stores::by_memory, crate::proofs::Stores::refused_70, crate::proofs::Stores::sound))]
+fn looked_at(
+    rt: &HostRuntime,
+    alloc: Global,
+    words: NodeWords<'_, '_, '_>,
+    m: Membership,
+) -> Outcome
+    ensures { (file new : Bool) → IsStoreless file new result }
+{
+    let Ok(log) = format!(in alloc; "{}-wal", words.store) else {
+        return Outcome::Memory;
+    };
+    if !is_database(rt, words.store) {
+        say_closed(rt, words.store, &"it is no database");
+        return Outcome::Refused(70);
+    }
+    if !fs::exists(rt, log.as_str()).unwrap_or(false) {
+        let _said = eprintln!(rt;
+            "pfx: info: store {}: its write-ahead log (-wal) is missing, so its contents aren't checked",
+            Shown(words.store)
+        );
+        return Outcome::Sound;
+    }
+    match Connection::open(rt, words.store) {
+        Ok(conn) => judged(rt, alloc, words, m, conn),
+        Err(Error::SqliteFailure(ErrorCode::DatabaseBusy)) => {
+            let _said = eprintln!(rt;
+                "pfx: info: store {}: a node has it open, so it isn't looked at",
+                Shown(words.store)
+            );
+            Outcome::Sound
+        }
+        Err(error) => failed_outcome(rt, words.store, error),
+    }
+}
+
+/// What is refused of what stands where the words name a store.
+#[tactic(auto, using(crate::proofs::Stores::by_opening, crate::proofs::Stores::sound))]
+fn of_found(
+    rt: &HostRuntime,
+    alloc: Global,
+    words: NodeWords<'_, '_, '_>,
+    m: Option<Membership>,
+    found: Found,
+) -> Outcome
+    ensures { IsStoreless words.entry.is_from_file words.entry.is_new result }
+{
+    match opening_of(words.is_from_file, words.is_new, found) {
+        Opening::Makes => Outcome::Sound,
+        Opening::Opens => match (found, m) {
+            (Found::Store, Some(m)) => looked_at(rt, alloc, words, m),
+            _ => Outcome::Sound,
+        },
+        Opening::Refuses(code) => {
+            say_storeless(rt, words.store, code);
+            Outcome::Refused(code)
+        }
+    }
+}
+
+/// What is refused of the store that the words name.
+#[tactic(auto, using(crate::proofs::Stores::by_memory))]
+fn of_store(
+    rt: &HostRuntime,
+    alloc: Global,
+    words: NodeWords<'_, '_, '_>,
+    m: Option<Membership>,
+) -> Outcome
+    ensures { IsStoreless words.entry.is_from_file words.entry.is_new result }
+{
+    match found_at(rt, alloc, words.store) {
+        Ok(found) => of_found(rt, alloc, words, m, found),
+        Err(_) => Outcome::Memory,
+    }
+}
+
+/// What is refused of the file of starts, where a node with these words would need one.
+fn starts_of(
+    rt: &HostRuntime,
+    alloc: Global,
+    words: NodeWords<'_, '_, '_>,
+    m: Option<Membership>,
+) -> Outcome
+    ensures { (result ≡ Sound) ⊎ ((result ≡ Memory) ⊎ (result ≡ Refused 95)) }
+{
+    match found_at(rt, alloc, words.store) {
+        Ok(found) => of_starts(
+            rt,
+            alloc,
+            words,
+            m,
+            is_made(words.is_from_file, words.is_new, found),
+        ),
+        Err(_) => Outcome::Memory,
+    }
+}
+
+/// What is refused of the numbers that the words name.
+fn of_place(rt: &HostRuntime, words: NodeWords<'_, '_, '_>, m: Option<Membership>) -> Outcome
+    ensures none { m ≡ None → result ≡ Refused 40 }
+    ensures some { (result ≡ Sound) ⊎ (result ≡ Refused 40) }
+{
+    match m {
+        Some(_) => Outcome::Sound,
+        None => {
+            say_place(rt, words);
+            Outcome::Refused(40)
+        }
+    }
+}
+
+/// What is refused of one key's file, if there is one.
+fn of_key(
+    rt: &HostRuntime,
+    alloc: Global,
+    words: NodeWords<'_, '_, '_>,
+    path: Option<&str>,
+) -> Outcome
+    ensures { (result ≡ Sound) ⊎ ((result ≡ Memory) ⊎ (result ≡ Refused 83)) }
+{
+    let Some(path) = path else {
+        return Outcome::Sound;
+    };
+    match key_in(rt, alloc, words, path) {
+        Ok(_) => Outcome::Sound,
+        Err(outcome) => outcome,
+    }
+}
+
+/// What is refused of the addresses that the words name.
+fn of_addresses(rt: &HostRuntime, words: NodeWords<'_, '_, '_>) -> Outcome
+    ensures { (result ≡ Sound) ⊎ (result ≡ Refused 82) }
+{
+    if !say_unknown(rt, words) {
+        return Outcome::Refused(82);
+    }
+    match figures_at(words) {
+        Ok(_) => Outcome::Sound,
+        Err(outcome) => {
+            say_figures(rt, words.metrics.unwrap_or(""));
+            outcome
+        }
+    }
+}
+
+/// What a start with these words would be refused for, as far as settings, keys, addresses and store tell: all is said
+/// on standard error, and the first answered, in the order of a start: 40, 83, 93, 94, the store's refusals, 95, 82.
+pub(crate) fn check_outcome(
+    rt: &HostRuntime,
+    alloc: Global,
+    words: NodeWords<'_, '_, '_>,
+) -> Outcome
+    ensures place { has_place words.entry.me (length words.entry.members.now) ≡ false → result ≡ Refused 40 }
+    ensures store { IsStoreless words.entry.is_from_file words.entry.is_new result }
+{
+    let m = membership(words);
+    let place = of_place(rt, words, m);
+    let key = of_key(rt, alloc, words, words.key);
+    let other = of_key(rt, alloc, words, words.other_key);
+    let store = of_store(rt, alloc, words, m);
+    let starts = starts_of(rt, alloc, words, m);
+    let addresses = of_addresses(rt, words);
+    checked(place, first_of(key, other), store, starts, addresses)
+}

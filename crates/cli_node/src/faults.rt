@@ -1,0 +1,161 @@
+//! What a node says on standard error of why it isn't started, or ends: which file or address, and what the system
+//! said.
+
+use crate::node::NodeWords;
+use pf_io::Shown;
+use pf_member::Membership;
+use px_store::AdoptFault;
+use sqlite::{Alter, Connection};
+use std::fmt::Display;
+use std::fs::{self, OpenOptions};
+use std::io::{self, Error, ErrorKind};
+use std::net::{TcpListener, ToSocketAddrs, UdpSocket};
+
+/// Why a node can't read and write a file, as the system says it; none where it can.
+fn why_closed(rt: &HostRuntime, path: &str) -> io::Result<()> {
+    if !fs::metadata(rt, path)?.is_file() {
+        return Err(Error::new(ErrorKind::InvalidInput, "it isn't a regular file"));
+    }
+    let _opened = OpenOptions::new().read(true).write(true).open(rt, path)?;
+    Ok(())
+}
+
+/// Says why a store isn't opened: what the system says of its file, else what the database says.
+pub(crate) fn say_closed<E: Display>(rt: &HostRuntime, path: &str, why: &E) {
+    let path = Shown(path);
+    match why_closed(rt, path.0) {
+        Ok(()) => {
+            let _said = eprintln!(rt; "pfx: error: store {path}: {why}");
+        }
+        Err(error) => {
+            let _said = eprintln!(rt; "pfx: error: store {path}: {error}");
+        }
+    }
+}
+
+/// Says of a store why nothing is opened or made.
+pub(crate) fn say_storeless(rt: &HostRuntime, path: &str, code: u8) {
+    let path = Shown(path);
+    match code {
+        93 => {
+            let _said = eprintln!(rt;
+                "pfx: error: store {path} isn't there: --new makes one, for a node that never ran; else it is lost"
+            );
+        }
+        94 => {
+            let _said = eprintln!(rt;
+                "pfx: error: store {path} is there: a node is started on it without --new"
+            );
+        }
+        _ => say_closed(rt, path.0, &"it isn't a regular file"),
+    }
+}
+
+/// Whose a store is: its cluster, how many members that has, and the node.
+pub(crate) fn owner_of<S: Alter>(
+    conn: &mut Connection<S>,
+) -> Result<(u32, u32, u32), sqlite::Error> {
+    let row = conn.query_row("SELECT cluster, members, node FROM meta", &[])?;
+    Ok((row.get::<u32>(0)?, row.get::<u32>(1)?, row.get::<u32>(2)?))
+}
+
+/// Says why a store isn't taken.
+pub(crate) fn say_judged<S: Alter>(
+    rt: &HostRuntime,
+    path: &str,
+    m: Membership,
+    fault: AdoptFault,
+    conn: &mut Connection<S>,
+) {
+    let path = Shown(path);
+    if fault == AdoptFault::WrongNode {
+        if let Ok((cluster, members, node)) = owner_of(conn) {
+            let _said = eprintln!(rt;
+                "pfx: error: store {path} is of node {node} of {members}, cluster {cluster}; this is node {} of {}, \
+                 cluster {}",
+                m.me(),
+                m.members(),
+                m.cluster()
+            );
+            return;
+        }
+    }
+    let _said = eprintln!(rt; "pfx: error: store {path}: {fault}");
+}
+
+/// Says which number is none of a member's.
+pub(crate) fn say_place(rt: &HostRuntime, words: NodeWords<'_, '_, '_>) {
+    let _said = eprintln!(rt;
+        "pfx: error: node {} of {} members: there are 1 to 15, and they count from 0",
+        words.me,
+        words.members.len()
+    );
+}
+
+/// Says of the members' addresses which the system doesn't know. Whether it knows all.
+pub(crate) fn say_unknown(rt: &HostRuntime, words: NodeWords<'_, '_, '_>) -> bool {
+    let mut are_known = true;
+    for member in words.members {
+        if let Err(error) = (*member).to_socket_addrs(rt) {
+            are_known = false;
+            let _said = eprintln!(rt; "pfx: error: address {}: {error}", Shown(*member));
+        }
+    }
+    are_known
+}
+
+/// Says why a port of figures isn't had.
+pub(crate) fn say_figures(rt: &HostRuntime, figures: &str) {
+    match TcpListener::bind(rt, figures) {
+        Ok(_bound) => {
+            let _said = eprintln!(rt;
+                "pfx: error: figures {}: no port of this machine alone",
+                Shown(figures)
+            );
+        }
+        Err(error) => {
+            let _said = eprintln!(rt; "pfx: error: figures {}: {error}", Shown(figures));
+        }
+    }
+}
+
+/// Says why there is no socket: of the members', or, where these can be had, of figures.
+fn say_unbound(rt: &HostRuntime, words: NodeWords<'_, '_, '_>) {
+    let Some(own) = words.members.get(usize::from(words.me)) else {
+        return;
+    };
+    if let Err(error) = UdpSocket::bind(rt, *own) {
+        let _said = eprintln!(rt; "pfx: error: address {}: {error}", Shown(*own));
+        return;
+    }
+    match words.metrics {
+        Some(figures) => say_figures(rt, figures),
+        None => {
+            let _said = eprintln!(rt;
+                "pfx: error: of the addresses one has no port, or is of another family than the first"
+            );
+        }
+    }
+}
+
+/// Says of a refusal that ends a run which file or address it is of.
+pub(crate) fn say_why(rt: &HostRuntime, words: NodeWords<'_, '_, '_>, code: u8) {
+    match code {
+        70 => say_closed(rt, words.store, &"a change couldn't be written, or read"),
+        72 => {
+            let _said = eprintln!(rt; "pfx: error: store {}: a bad row", Shown(words.store));
+        }
+        82 => if say_unknown(rt, words) {
+            say_unbound(rt, words);
+        },
+        84 => {
+            if let Some(door) = words.door {
+                let _said = eprintln!(rt;
+                    "pfx: error: {}: another node answers there, something else stands there, or the system refuses it",
+                    Shown(door)
+                );
+            }
+        }
+        _ => {}
+    }
+}

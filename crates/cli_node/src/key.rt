@@ -1,0 +1,161 @@
+//! The keys that the words of `node` name, and new ones.
+
+ghost use Rattle.std.specs.Prelude.{◌≡◌, ◌⊎◌, ◌==◌, ◌/◌, Err, OnErr};
+ghost use Rattle.node_udp.specs.Addresses.{address_of};
+ghost use Rattle.cli_node.specs.declared.outcome.Outcome.TheVariants.{Memory, Refused};
+ghost use Rattle.cli_node.specs.inner.Places.{is_loopback, is_loopback_ip};
+
+use crate::node::NodeWords;
+use crate::outcome::Outcome;
+use crate::store::FILE_IS_THERE;
+use pf_addr::Addr;
+use pf_io::{Shown, make_private, open_regular};
+use node_udp::parse_address;
+use px_key::{KeyFault, key_text, new_key, read_cluster_key};
+use std::alloc::Global;
+use std::fs;
+use std::io::{self, ErrorKind, Write};
+
+/// A key's file that is none, or can't be read or made.
+const BAD_KEY: u8 = 83;
+
+/// The keys of a cluster's tags: the one that a node seals with, and another under which it hears too.
+#[derive(Clone, Copy)]
+pub(crate) struct Keys {
+    pub(crate) key: [u8; 32],
+    pub(crate) other: Option<[u8; 32]>,
+}
+
+/// What a file is refused for, said on standard error too.
+fn key_refused(rt: &HostRuntime, path: &str, fault: KeyFault) -> Outcome
+    ensures { (result ≡ Memory) ⊎ (result ≡ Refused 83) }
+{
+    if fault == KeyFault::Memory {
+        return Outcome::Memory;
+    }
+    match open_regular(rt, path) {
+        Ok(_opened) => {
+            let _said = eprintln!(rt; "pfx: error: key {}: {fault}", Shown(path));
+        }
+        Err(error) => {
+            let _said = eprintln!(rt; "pfx: error: key {}: {error}", Shown(path));
+        }
+    }
+    Outcome::Refused(BAD_KEY)
+}
+
+/// The key of the cluster's tags that the secret in a file makes.
+pub(crate) fn key_in(
+    rt: &HostRuntime,
+    alloc: Global,
+    words: NodeWords<'_, '_, '_>,
+    path: &str,
+) -> Result<[u8; 32], Outcome>
+    ensures { OnErr result ((result ≡ Err Memory) ⊎ (result ≡ Err (Refused 83))) }
+{
+    match read_cluster_key(rt, alloc, path, words.cluster, words.members) {
+        Ok(key) => Ok(key),
+        Err(fault) => Err(key_refused(rt, path, fault)),
+    }
+}
+
+/// The keys that the words name, if they do: 83 where a file can't be read or has none, or where others may read it.
+pub(crate) fn keys_for(
+    rt: &HostRuntime,
+    alloc: Global,
+    words: NodeWords<'_, '_, '_>,
+) -> Result<Option<Keys>, Outcome>
+    ensures { OnErr result ((result ≡ Err Memory) ⊎ (result ≡ Err (Refused 83))) }
+{
+    let Some(path) = words.key else {
+        return Ok(None);
+    };
+    let key = match key_in(rt, alloc, words, path) {
+        Ok(key) => key,
+        Err(outcome) => return Err(outcome),
+    };
+    let Some(path) = words.other_key else {
+        return Ok(Some(Keys { key, other: None }));
+    };
+    match key_in(rt, alloc, words, path) {
+        Ok(other) => Ok(Some(Keys {
+            key,
+            other: Some(other),
+        })),
+        Err(outcome) => Err(outcome),
+    }
+}
+
+/// Whether an address is one at which this machine alone is heard.
+fn is_loopback_ip(ip: Addr) -> bool
+    ensures { result ≡ is_loopback_ip ip }
+{
+    match ip {
+        Addr::V4(bits) => bits / 0x100_0000 == 127,
+        Addr::V6(bits) => bits == 1,
+    }
+}
+
+/// Whether the text is such an address and a port; a name isn't.
+fn is_loopback(text: &str) -> bool
+    ensures { result ≡ is_loopback (address_of text.now) }
+{
+    match parse_address(text) {
+        Some(address) => is_loopback_ip(address.ip),
+        None => false,
+    }
+}
+
+/// Says on standard error that the datagrams of a node carry no tag, where others than this machine may send it some.
+pub(crate) fn warn_unsealed(rt: &HostRuntime, words: NodeWords<'_, '_, '_>) {
+    let Some(own) = words.members.get(usize::from(words.me)) else {
+        return;
+    };
+    if words.key.is_some() || words.is_unsealed || is_loopback(own) {
+        return;
+    }
+    let _said = eprintln!(rt;
+        "pfx: warning: no key: whoever can send datagrams to {} can change what this cluster learns (unless \
+         --unsealed)",
+        Shown(*own)
+    );
+}
+
+/// Writes a key into a new file, which its owner alone may read.
+fn write_key(rt: &HostRuntime, path: &str, text: &str) -> io::Result<()> {
+    let mut file = make_private(rt, path)?;
+    let written = file.write_all(text.as_bytes());
+    if written.is_err() {
+        let _gone = fs::remove_file(rt, path);
+    }
+    written
+}
+
+/// What a new key comes to that is to be in a file: 94 where one is there, 83 where the system refuses it.
+fn kept(rt: &HostRuntime, alloc: Global, path: &str, key: &[u8; 32]) -> Outcome {
+    let Ok(text) = key_text(alloc, key) else {
+        return Outcome::Memory;
+    };
+    match write_key(rt, path, text.as_str()) {
+        Ok(()) => Outcome::Made,
+        Err(error) => {
+            let _said = eprintln!(rt; "pfx: error: key {}: {error}", Shown(path));
+            if error.kind() == ErrorKind::AlreadyExists {
+                Outcome::Refused(FILE_IS_THERE)
+            } else {
+                Outcome::Refused(BAD_KEY)
+            }
+        }
+    }
+}
+
+/// A new key, of the system's random source: written out, or in a file where one is named.
+pub(crate) fn key_outcome(rt: &HostRuntime, alloc: Global, file: Option<&str>) -> Outcome {
+    let Ok(key) = new_key(rt) else {
+        return Outcome::Unread;
+    };
+    match file {
+        Some(path) => kept(rt, alloc, path, &key),
+        None => Outcome::Key(key),
+    }
+}

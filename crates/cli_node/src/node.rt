@@ -1,0 +1,525 @@
+//! The word `node`: a node over UDP.
+
+ghost use Rattle.std.specs.Prelude.{◌≡◌, ◌≢◌, ◌<◌, ◌≤◌, ◌⊎◌, ◌↔◌, Err, false, length, IfSome, OnErr, IsSome, IsTrue};
+ghost use Rattle.std.specs.Prelude.{ℕ, Bool, Some, None, IfOk, option_map, option_and_then};
+ghost use Rattle.toml.specs.Data.{as_str, get_member};
+ghost use Rattle.px_seal.specs.Hmac.{key_block};
+ghost use Rattle.px_packet.specs.Packets.{packet_key};
+ghost use Rattle.px_packet.specs.Keyed.{and_key};
+ghost use Rattle.px_packets.specs.Wiring.{keys_of, sealer_of};
+ghost use Rattle.pf_node_file.specs.Files.{settings_of};
+ghost use Rattle.pf_node_file.specs.Settings.{number_of};
+ghost use Rattle.cli_node.specs.declared.outcome.Outcome.TheVariants.{Memory, Refused};
+ghost use Rattle.cli_node.specs.inner.Outcomes.{ComesTo, ComesOpen, ComesOpenOr};
+ghost use Rattle.cli_node.specs.inner.Stores.{IsStoreless};
+ghost use Rattle.cli_node.specs.inner.Places.{is_count, has_place, turns_or_all, chosen};
+
+use crate::events::{say_end, say_start};
+use crate::faults::say_place;
+use crate::key::{Keys, keys_for, warn_unsealed};
+use crate::outcome::{Outcome, ended_outcome, ending_of};
+use crate::sealing::{Sealing, sealing_for};
+use crate::store::{Found, found_at, is_made, record_at};
+use clap::ArgMatches;
+use node_control::{DoorPlace, Observer, run_member};
+use pf_member::{Membership, open_member};
+use node_udp::{Address, BindFault, UdpWire};
+use pf_node_file::NodeFile;
+use px_packet::PacketKeys;
+use px_packets::PacketWire;
+use px_records::Records;
+use px_store::SqlRecords;
+use px_transport::{LoopbackWire, Wire};
+use sqlite::{File, FileStore};
+use std::alloc::{AllocError, Global};
+use std::net::SocketAddr;
+
+/// How long a turn waits for a datagram, in milliseconds.
+const WAIT_MS: u32 = 100;
+
+/// What the words of `node` say.
+#[derive(Clone, Copy)]
+pub(crate) struct NodeWords<'m, 'w, 'a> {
+    /// This node's number.
+    pub(crate) me: u8,
+    pub(crate) cluster: u32,
+    /// The file of its store.
+    pub(crate) store: &'a str,
+    /// Whether settings come from a file, so that a store is made where that is asked for and not else.
+    pub(crate) is_from_file: bool,
+    /// Whether the store is to be made.
+    pub(crate) is_new: bool,
+    pub(crate) turns: u64,
+    /// The file of the cluster's key, if datagrams carry its tag, and that of another that is heard too.
+    pub(crate) key: Option<&'a str>,
+    pub(crate) other_key: Option<&'a str>,
+    /// Whether a missing file of starts is made, beside a store that isn't new too.
+    pub(crate) makes_starts: bool,
+    /// Whether something below seals datagrams.
+    pub(crate) is_unsealed: bool,
+    /// Where operators ask, if there is a door.
+    pub(crate) door: Option<&'a str>,
+    /// Where figures are told over TCP, if they are.
+    pub(crate) metrics: Option<&'a str>,
+    /// Whether only warnings and errors are said.
+    pub(crate) is_quiet: bool,
+    /// Where the members listen, in order.
+    pub(crate) members: &'m [&'w str],
+}
+
+/// The text of an option, that of the file where it isn't given.
+fn text_or<'g: 's, 's>(given: Option<&'g str>, file: &'s NodeFile, name: &str) -> Option<&'s str>
+    ensures { option_map (λ t. t.now) result ≡ chosen (option_map (λ t. t.now) given.entry)
+        (option_and_then as_str (get_member name.now (settings_of file.now))) }
+{
+    match given {
+        Some(text) => Some(text),
+        None => file.text(name),
+    }
+}
+
+/// The number of an option, that of the file where it isn't given.
+fn number_or(given: Option<u32>, file: &NodeFile, name: &str) -> Option<u32>
+    ensures given { (n : ℕ) → given ≡ Some n → result ≡ Some n }
+    ensures file { given ≡ None → IfSome result (λ n.
+        option_and_then number_of (get_member name.now (settings_of file.now)) ≡ Some n) }
+    ensures kept { given ≡ None → (n : ℕ) →
+        option_and_then number_of (get_member name.now (settings_of file.now)) ≡ Some n → n ≤ 4294967295 →
+        result ≡ Some n }
+{
+    if given.is_some() {
+        return given;
+    }
+    match file.number(name) {
+        Some(number) => u32::try_from(number).ok(),
+        None => None,
+    }
+}
+
+/// So many turns, or as many as there can be.
+fn turns_or_all(turns: Option<u32>) -> u64
+    ensures { result ≡ turns_or_all turns }
+{
+    match turns {
+        Some(turns) => u64::from(turns),
+        None => u64::MAX,
+    }
+}
+
+impl<'m, 'w, 'a> NodeWords<'m, 'w, 'a> {
+    /// What the matches of the words and a file of settings say, with these members; none where one of them is wanting.
+    /// `clap` has refused numbers out of range.
+    pub(crate) fn of<'g: 'a>(
+        matches: &ArgMatches<'g>,
+        file: &'a NodeFile,
+        members: &'m [&'w str],
+    ) -> Option<NodeWords<'m, 'w, 'a>> {
+        let Some(me) = number_or(matches.get_one::<u32>("me"), file, "me") else {
+            return None;
+        };
+        let Ok(me) = u8::try_from(me) else {
+            return None;
+        };
+        let Some(cluster) = number_or(matches.get_one::<u32>("cluster"), file, "cluster") else {
+            return None;
+        };
+        let Some(store) = text_or(matches.get_str("store"), file, "store") else {
+            return None;
+        };
+        Some(NodeWords {
+            me,
+            cluster,
+            store,
+            is_from_file: matches.get_str("config").is_some(),
+            is_new: matches.get_flag("new"),
+            turns: turns_or_all(matches.get_one::<u32>("turns")),
+            key: text_or(matches.get_str("key"), file, "key"),
+            other_key: text_or(matches.get_str("other-key"), file, "other-key"),
+            makes_starts: matches.get_flag("new-starts"),
+            is_unsealed: matches.get_flag("unsealed") || file.flag("unsealed"),
+            door: text_or(matches.get_str("door"), file, "door"),
+            metrics: text_or(matches.get_str("metrics"), file, "metrics"),
+            is_quiet: matches.get_flag("quiet") || file.flag("quiet"),
+            members,
+        })
+    }
+
+    /// Whether commands are heard by datagrams: where these carry no tag of a key, and there is no control socket.
+    fn hears_asks(self) -> bool {
+        self.key.is_none() && self.door.is_none()
+    }
+
+    /// Whether each setting has the one that it wants: a second key and new starts a key, figures a door.
+    pub(crate) fn is_whole(self) -> bool {
+        (self.other_key.is_none() && !self.makes_starts || self.key.is_some())
+            && (self.metrics.is_none() || self.door.is_some())
+    }
+}
+
+/// How many members there are, if 1 to 15.
+fn count(members: &[&str]) -> Option<u8>
+    ensures some { IfSome result (λ n. n ≡ length members.now) }
+    ensures none { IsSome result ↔ IsTrue (is_count (length members.now)) }
+{
+    let n = members.len();
+    if n >= 1 && n <= 15 {
+        Some(n as u8)
+    } else {
+        None
+    }
+}
+
+/// The cluster, how many members it has, and which one this is; none where the number is none of theirs.
+pub(crate) fn membership(words: NodeWords<'_, '_, '_>) -> Option<Membership>
+    ensures some { IfSome result (λ m. (m.cluster ≡ words.entry.cluster) × (m.me ≡ words.entry.me) ×
+        (m.members ≡ length words.entry.members.now)) }
+    ensures here { IfSome result (λ m. m.me < m.members) }
+    ensures none { IsSome result ↔
+        IsTrue (has_place words.entry.me (length words.entry.members.now)) }
+{
+    let Some(members) = count(words.members) else {
+        return None;
+    };
+    if words.me >= members {
+        return None;
+    }
+    Membership::new(words.cluster, members, words.me)
+}
+
+/// The member's wire. Where asks aren't heard, none comes from elsewhere than a member's address.
+fn bind(
+    rt: &HostRuntime,
+    alloc: Global,
+    words: NodeWords<'_, '_, '_>,
+) -> Result<UdpWire<HostRuntime>, Outcome>
+    ensures { OnErr result ((result ≡ Err Memory) ⊎ (result ≡ Err (Refused 82))) }
+{
+    match UdpWire::bind(rt, alloc, words.members, words.me, WAIT_MS) {
+        Ok(wire) => {
+            let mut wire = wire;
+            if !words.hears_asks() {
+                wire.hear_members();
+            }
+            Ok(wire)
+        }
+        Err(BindFault::Memory) => Err(Outcome::Memory),
+        Err(BindFault::NoSocket) => Err(Outcome::Refused(82)),
+    }
+}
+
+/// The wire whose packets are sealed with a key.
+fn sealed(
+    rt: &HostRuntime,
+    alloc: Global,
+    m: Membership,
+    wire: Result<UdpWire<HostRuntime>, Outcome>,
+    sealing: Sealing,
+) -> Result<PacketWire<UdpWire<HostRuntime>, HostRuntime>, Outcome>
+    requires { OnErr wire ((wire ≡ Err Memory) ⊎ (wire ≡ Err (Refused 82))) }
+    ensures refused { OnErr result ((result ≡ Err Memory) ⊎ (result ≡ Err (Refused 82))) }
+    ensures sealer { IfOk result (λ w. sealer_of w ≡ record {
+      cluster = m.cluster;
+      members = m.members;
+      me = m.me;
+      start = sealing.start;
+      key = key_block (packet_key sealing.keys.key);
+    }) }
+    ensures keys { IfOk result (λ w. keys_of w ≡ and_key (key_block (packet_key sealing.keys.key))
+        (option_map (λ k. key_block (packet_key k)) sealing.keys.other)) }
+{
+    let wire = match wire {
+        Ok(wire) => wire,
+        Err(outcome) => return Err(outcome),
+    };
+    let keys = sealing.keys;
+    let packets = PacketKeys::new(&keys.key, keys.other.as_ref());
+    match PacketWire::new(
+        alloc,
+        wire,
+        *rt,
+        packets,
+        m.cluster(),
+        m.members(),
+        m.me(),
+        sealing.start,
+    ) {
+        Ok(wire) => Ok(wire),
+        Err(_) => Err(Outcome::Memory),
+    }
+}
+
+/// The wire that keeps what the member sends to itself, and the observer of its run.
+fn observed<W: Wire + Drop>(
+    alloc: Global,
+    words: NodeWords<'_, '_, '_>,
+    m: Membership,
+    wire: Result<W, Outcome>,
+) -> Result<(LoopbackWire<W>, Observer), Outcome>
+    requires { OnErr wire ((wire ≡ Err Memory) ⊎ (wire ≡ Err (Refused 82))) }
+    ensures { OnErr result ((result ≡ Err Memory) ⊎ (result ≡ Err (Refused 82))) }
+{
+    let wire = match wire {
+        Ok(wire) => LoopbackWire::new(alloc, wire, m.me()),
+        Err(outcome) => return Err(outcome),
+    };
+    match Observer::new(alloc, m, words.key.is_some(), words.is_quiet) {
+        Ok(observer) => Ok((wire, observer)),
+        Err(_) => Err(Outcome::Memory),
+    }
+}
+
+/// The run of a member over a wire, with a control socket at the place if there is one; without a wire its record is
+/// opened alone. What the member sends to itself doesn't go over the wire.
+fn run_over<R: Records, W: Wire + Drop>(
+    rt: &HostRuntime,
+    alloc: Global,
+    words: NodeWords<'_, '_, '_>,
+    m: Membership,
+    records: R,
+    wire: Result<W, Outcome>,
+    place: Option<DoorPlace<'_>>,
+) -> (Outcome, R)
+    requires members { R.members records ≡ m.members }
+    requires here { m.me < m.members }
+    requires refused { OnErr wire ((wire ≡ Err Memory) ⊎ (wire ≡ Err (Refused 82))) }
+    ensures hosted { ComesOpen R.Records m records result.0 result.1 }
+    ensures turns { place.entry ≡ None → ComesTo R.Records m records result.0 result.1 }
+{
+    match observed(alloc, words, m, wire) {
+        Ok((wire, observer)) => {
+            let mut wire = wire;
+            let mut observer = observer;
+            let (ended, records) = run_member(
+                rt,
+                alloc,
+                m,
+                records,
+                &mut wire,
+                &mut observer,
+                words.hears_asks(),
+                place,
+                words.turns,
+            );
+            (ended_outcome(ended, Outcome::Memory), records)
+        }
+        Err(outcome) => {
+            let (ended, records) = open_member(alloc, m, records);
+            (ended_outcome(ended, outcome), records)
+        }
+    }
+}
+
+/// The run of a member over a socket, without a control socket.
+fn run_node<R: Records>(
+    rt: &HostRuntime,
+    alloc: Global,
+    words: NodeWords<'_, '_, '_>,
+    m: Membership,
+    records: R,
+    sealing: Option<Sealing>,
+) -> (Outcome, R)
+    requires members { R.members records ≡ m.members }
+    requires here { m.me < m.members }
+    ensures hosted { ComesOpen R.Records m records result.0 result.1 }
+    ensures turns { ComesTo R.Records m records result.0 result.1 }
+{
+    let wire = bind(rt, alloc, words);
+    match sealing {
+        Some(sealing) => {
+            let wire = sealed(rt, alloc, m, wire, sealing);
+            run_over(rt, alloc, words, m, records, wire, None)
+        }
+        None => run_over(rt, alloc, words, m, records, wire, None),
+    }
+}
+
+/// Where figures are told over TCP, if they are: 82 for what is no address at which this machine alone is heard, with a
+/// port.
+pub(crate) fn figures_at(words: NodeWords<'_, '_, '_>) -> Result<Option<SocketAddr>, Outcome>
+    ensures { OnErr result (result ≡ Err (Refused 82)) }
+{
+    let Some(text) = words.metrics else {
+        return Ok(None);
+    };
+    match text.parse::<SocketAddr>() {
+        Ok(address) => {
+            if address.ip().is_loopback() && address.port() != 0 {
+                Ok(Some(address))
+            } else {
+                Err(Outcome::Refused(82))
+            }
+        }
+        Err(_) => Err(Outcome::Refused(82)),
+    }
+}
+
+/// Addresses with a blank between two.
+fn addresses_text(alloc: Global, addresses: &[Address]) -> Result<String, AllocError> {
+    let mut text = String::new(alloc);
+    for address in addresses {
+        if !text.is_empty() {
+            text.push(' ')?;
+        }
+        let one = address.to_string(alloc)?;
+        text.push_str(one.as_str())?;
+    }
+    Ok(text)
+}
+
+/// The run of a member with a control socket at the path. What is asked by datagrams isn't heard.
+fn run_at_door<R: Records>(
+    rt: &HostRuntime,
+    alloc: Global,
+    words: NodeWords<'_, '_, '_>,
+    path: &str,
+    m: Membership,
+    records: R,
+    sealing: Option<Sealing>,
+) -> (Outcome, R)
+    requires members { R.members records ≡ m.members }
+    requires here { m.me < m.members }
+    ensures { ComesOpenOr R.Records m records result.0 result.1 }
+{
+    let wire = match bind(rt, alloc, words) {
+        Ok(wire) => wire,
+        Err(outcome) => return (outcome, records),
+    };
+    let figures = match figures_at(words) {
+        Ok(figures) => figures,
+        Err(outcome) => return (outcome, records),
+    };
+    let Ok(members) = addresses_text(alloc, wire.peers()) else {
+        return (Outcome::Memory, records);
+    };
+    let place = Some(DoorPlace {
+        path,
+        figures,
+        members: members.as_str(),
+        fd: wire.raw_fd(),
+    });
+    match sealing {
+        Some(sealing) => {
+            let wire = sealed(rt, alloc, m, Ok(wire), sealing);
+            run_over(rt, alloc, words, m, records, wire, place)
+        }
+        None => run_over(rt, alloc, words, m, records, Ok(wire), place),
+    }
+}
+
+/// The run of a member over its record and a socket.
+fn run_member_in<R: Records>(
+    rt: &HostRuntime,
+    alloc: Global,
+    words: NodeWords<'_, '_, '_>,
+    m: Membership,
+    records: R,
+    sealing: Option<Sealing>,
+) -> (Outcome, R)
+    requires members { R.members records ≡ m.members }
+    requires here { m.me < m.members }
+    ensures hosted { ComesOpenOr R.Records m records result.0 result.1 }
+    ensures turns { words.entry.door ≡ None → ComesTo R.Records m records result.0 result.1 }
+{
+    match words.door {
+        Some(path) => run_at_door(rt, alloc, words, path, m, records, sealing),
+        None => run_node(rt, alloc, words, m, records, sealing),
+    }
+}
+
+/// The run of a member over its record, which is closed, whatever came of it; what a node has committed stands also
+/// where closing fails. A node whose store failed ends with that (70, 72), whoever asked for the change.
+fn run_on(
+    rt: &HostRuntime,
+    alloc: Global,
+    words: NodeWords<'_, '_, '_>,
+    m: Membership,
+    records: SqlRecords<FileStore<File>>,
+    sealing: Option<Sealing>,
+) -> Outcome
+    requires members { ⟦<SqlRecords<FileStore<File>> as Records>⟧.members records ≡ m.members }
+    requires here { m.me < m.members }
+    ensures why { result ≢ Refused 80 }
+    ensures store { (file new : Bool) → IsStoreless file new result }
+{
+    say_start(rt, words);
+    let (outcome, records) = run_member_in(rt, alloc, words, m, records, sealing);
+    let outcome = ending_of(outcome, records.failures());
+    say_end(rt, words, outcome);
+    let _closed = records.release().close();
+    outcome
+}
+
+/// The run of a member over its record, where its packets can be sealed; else the record is closed: 95.
+fn run_sealed(
+    rt: &HostRuntime,
+    alloc: Global,
+    words: NodeWords<'_, '_, '_>,
+    m: Membership,
+    records: SqlRecords<FileStore<File>>,
+    keys: Option<Keys>,
+) -> Outcome
+    requires members { ⟦<SqlRecords<FileStore<File>> as Records>⟧.members records ≡ m.members }
+    requires here { m.me < m.members }
+    ensures ending { result ≢ Refused 80 }
+    ensures store { (file new : Bool) → IsStoreless file new result }
+{
+    match sealing_for(rt, alloc, words, m, keys, false) {
+        Ok(sealing) => run_on(rt, alloc, words, m, records, sealing),
+        Err(outcome) => {
+            let _closed = records.release().close();
+            outcome
+        }
+    }
+}
+
+/// What a node over a new store comes to: its file of starts is made before its store, so that no store is without one.
+/// 95, the store's refusals, 82, 84, and the first refusal of a turn, in this order.
+fn run_new(
+    rt: &HostRuntime,
+    alloc: Global,
+    words: NodeWords<'_, '_, '_>,
+    m: Membership,
+    found: Found,
+    keys: Option<Keys>,
+) -> Outcome
+    requires here { m.me < m.members }
+    ensures ending { result ≢ Refused 80 }
+    ensures store { IsStoreless words.entry.is_from_file words.entry.is_new result }
+{
+    let sealing = match sealing_for(rt, alloc, words, m, keys, true) {
+        Ok(sealing) => sealing,
+        Err(outcome) => return outcome,
+    };
+    match record_at(rt, alloc, words, m, found) {
+        Ok(records) => run_on(rt, alloc, words, m, records, sealing),
+        Err(outcome) => outcome,
+    }
+}
+
+/// What `node` comes to: 40 of its numbers, 83, 93, 94, the store's refusals, 95, 82, 84, and the first refusal of a
+/// turn, in this order.
+pub(crate) fn node_outcome(rt: &HostRuntime, alloc: Global, words: NodeWords<'_, '_, '_>) -> Outcome
+    ensures place { has_place words.entry.me (length words.entry.members.now) ≡ false → result ≡ Refused 40 }
+    ensures ending { result ≢ Refused 80 }
+    ensures store { IsStoreless words.entry.is_from_file words.entry.is_new result }
+{
+    let Some(m) = membership(words) else {
+        say_place(rt, words);
+        return Outcome::Refused(40);
+    };
+    let keys = match keys_for(rt, alloc, words) {
+        Ok(keys) => keys,
+        Err(outcome) => return outcome,
+    };
+    warn_unsealed(rt, words);
+    let Ok(found) = found_at(rt, alloc, words.store) else {
+        return Outcome::Memory;
+    };
+    if is_made(words.is_from_file, words.is_new, found) {
+        return run_new(rt, alloc, words, m, found, keys);
+    }
+    match record_at(rt, alloc, words, m, found) {
+        Ok(records) => run_sealed(rt, alloc, words, m, records, keys),
+        Err(outcome) => outcome,
+    }
+}

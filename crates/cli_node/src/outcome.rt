@@ -1,0 +1,182 @@
+//! What a run of `node`, `ask` or `key` comes to.
+
+ghost use Rattle.std.specs.Prelude.{◌≡◌, ◌≢◌, IfOk, string_bytes};
+ghost use Rattle.cli_node.specs.declared.outcome.Outcome.TheVariants.{Front, Asked, Refused, RefusedLine};
+ghost use Rattle.cli_node.specs.Outcomes.{line_of, status_of, Wrote};
+ghost use Rattle.cli_node.specs.inner.Outcomes.{outcome_of, ending_of, answer_outcome, ended_outcome};
+
+use pf_io::{Status, out_of_memory};
+use pf_member::Ended;
+use node_udp::AskAnswer;
+use px_key::key_text;
+use px_replica::NodeFault;
+use std::alloc::{AllocError, Global};
+use std::io::Write;
+
+/// What a run comes to.
+#[derive(Clone, Copy, PartialEq, Eq)]
+pub(crate) enum Outcome {
+    /// All turns were made: how many positions are learned without a gap, and how many are applied.
+    Front { front: u32, applied: u32 },
+    /// The node took the command in, as this request of its own.
+    Asked { node: u8, number: u64 },
+    /// A new key.
+    Key([u8; 32]),
+    /// The number of the refusal.
+    Refused(u8),
+    /// The number of the refusal, and the line of the file of settings.
+    RefusedLine { code: u8, line: u64 },
+    /// No answer came.
+    NoAnswer,
+    /// A node could be started, as far as was looked.
+    Sound,
+    /// A key's file is made.
+    Made,
+    /// Memory ran out.
+    Memory,
+    /// The input, or the system's random source, couldn't be read.
+    Unread,
+}
+
+/// `front F applied A`
+fn front_line(alloc: Global, front: u32, applied: u32) -> Result<String, AllocError>
+    ensures { IfOk result (λ text. string_bytes text ≡ line_of (Front front applied)) }
+{
+    let mut text = String::new(alloc);
+    text.push_str("front ")?;
+    text.push_str(front.to_string(alloc)?.as_str())?;
+    text.push_str(" applied ")?;
+    text.push_str(applied.to_string(alloc)?.as_str())?;
+    text.push('\n')?;
+    Ok(text)
+}
+
+/// `asked N.NUMBER`
+fn asked_line(alloc: Global, node: u8, number: u64) -> Result<String, AllocError>
+    ensures { IfOk result (λ text. string_bytes text ≡ line_of (Asked node number)) }
+{
+    let mut text = String::new(alloc);
+    text.push_str("asked ")?;
+    text.push_str(node.to_string(alloc)?.as_str())?;
+    text.push('.')?;
+    text.push_str(number.to_string(alloc)?.as_str())?;
+    text.push('\n')?;
+    Ok(text)
+}
+
+/// `refused CODE line L`
+fn refused_line(alloc: Global, code: u8, at: u64) -> Result<String, AllocError>
+    ensures { IfOk result (λ text. string_bytes text ≡ line_of (RefusedLine code at)) }
+{
+    let mut text = String::new(alloc);
+    text.push_str("refused ")?;
+    text.push_str(code.to_string(alloc)?.as_str())?;
+    text.push_str(" line ")?;
+    text.push_str(at.to_string(alloc)?.as_str())?;
+    text.push('\n')?;
+    Ok(text)
+}
+
+/// The line of an outcome; none is written where something couldn't be read.
+fn line_of(alloc: Global, outcome: Outcome) -> Result<String, AllocError>
+    ensures { IfOk result (λ text. string_bytes text ≡ line_of outcome) }
+{
+    match outcome {
+        Outcome::Front { front, applied } => front_line(alloc, front, applied),
+        Outcome::Asked { node, number } => asked_line(alloc, node, number),
+        Outcome::Key(key) => key_text(alloc, &key),
+        Outcome::Refused(code) => format!(in alloc; "refused {code}\n"),
+        Outcome::RefusedLine { code, line } => refused_line(alloc, code, line),
+        Outcome::NoAnswer => format!(in alloc; "no answer\n"),
+        Outcome::Sound => format!(in alloc; "ok\n"),
+        Outcome::Memory => format!(in alloc; "memory\n"),
+        Outcome::Made => Ok(String::new(alloc)),
+        Outcome::Unread => Ok(String::new(alloc)),
+    }
+}
+
+/// How a run ends whose line is written.
+fn status_of(outcome: Outcome) -> Status
+    ensures { result ≡ status_of outcome }
+{
+    match outcome {
+        Outcome::Front { .. } => Status::Done,
+        Outcome::Asked { .. } => Status::Done,
+        Outcome::Key(_) => Status::Done,
+        Outcome::Refused(_) => Status::Refused,
+        Outcome::RefusedLine { .. } => Status::Refused,
+        Outcome::NoAnswer => Status::Refused,
+        Outcome::Sound => Status::Done,
+        Outcome::Made => Status::Done,
+        Outcome::Memory => Status::Memory,
+        Outcome::Unread => Status::Failed,
+    }
+}
+
+/// Writes the line of an outcome.
+pub(crate) fn write_outcome<W: Write>(alloc: Global, outcome: Outcome, writer: &mut W) -> Status
+    ensures { Wrote result outcome (W.contents writer.old) (W.contents writer.new) }
+{
+    let Ok(line) = line_of(alloc, outcome) else {
+        return out_of_memory(writer);
+    };
+    match writer.write_all(line.as_bytes()) {
+        Ok(()) => status_of(outcome),
+        Err(_) => Status::Failed,
+    }
+}
+
+/// What a fault of a node comes to.
+pub(crate) fn fault_outcome(fault: NodeFault) -> Outcome
+    ensures { result ≡ outcome_of fault }
+{
+    match fault {
+        NodeFault::Memory => Outcome::Memory,
+        NodeFault::TooLong => Outcome::Refused(41),
+        NodeFault::Full => Outcome::Refused(60),
+        NodeFault::BallotsSpent => Outcome::Refused(61),
+        NodeFault::PositionsSpent => Outcome::Refused(62),
+        NodeFault::Store => Outcome::Refused(70),
+        NodeFault::BadStore => Outcome::Refused(72),
+        NodeFault::Failed => Outcome::Refused(80),
+    }
+}
+
+/// What a run comes to whose store has so many failures: a node that had failed ends with what it failed of, 70 or 72.
+pub(crate) fn ending_of(outcome: Outcome, failures: u64) -> Outcome
+    ensures is { result ≡ ending_of outcome failures }
+    ensures why { result ≢ Refused 80 }
+{
+    match outcome {
+        Outcome::Refused(80) => if failures > 0 {
+            Outcome::Refused(70)
+        } else {
+            Outcome::Refused(72)
+        },
+        _ => outcome,
+    }
+}
+
+/// What a member's run comes to; `without` where there was no wire.
+pub(crate) fn ended_outcome(ended: Ended, without: Outcome) -> Outcome
+    ensures { result ≡ ended_outcome without ended }
+{
+    match ended {
+        Ended::Front { front, applied } => Outcome::Front { front, applied },
+        Ended::Fault(fault) => fault_outcome(fault),
+        Ended::NoWire => without,
+        Ended::NoControlSocket => Outcome::Refused(84),
+        Ended::NoPort => Outcome::Refused(82),
+    }
+}
+
+/// What the answer of a node comes to.
+pub(crate) fn answer_outcome(node: u8, answer: AskAnswer) -> Outcome
+    ensures { result ≡ answer_outcome node answer }
+{
+    match answer {
+        AskAnswer::Asked(number) => Outcome::Asked { node, number },
+        AskAnswer::Refused(code) => Outcome::Refused(code),
+        AskAnswer::NoAnswer => Outcome::NoAnswer,
+    }
+}

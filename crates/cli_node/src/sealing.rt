@@ -1,0 +1,109 @@
+//! How a node's packets are sealed: its keys, and this start of it.
+
+ghost use Rattle.std.specs.Prelude.{◌≡◌, ◌⊎◌, ◌<◌, Err, OnErr, IfOk, IfSome, option_map};
+ghost use Rattle.cli_node.specs.declared.outcome.Outcome.TheVariants.{Memory, Refused, Sound};
+
+use crate::key::Keys;
+use crate::node::NodeWords;
+use crate::outcome::Outcome;
+use pf_io::Shown;
+use pf_member::Membership;
+use px_packet::Start;
+use px_starts::{RaiseFault, raise_start, starts_in, starts_path};
+use std::alloc::Global;
+
+/// A file of starts that is missing or damaged, or can't be written.
+const BAD_STARTS: u8 = 95;
+
+/// How a node's packets are sealed.
+#[derive(Clone, Copy)]
+pub(crate) struct Sealing {
+    pub(crate) keys: Keys,
+    /// This start of the node.
+    pub(crate) start: Start,
+}
+
+/// The outcome of a file of starts that can't be used; why is logged.
+fn starts_refused(rt: &HostRuntime, path: &str, fault: RaiseFault) -> Outcome
+    ensures { (result ≡ Memory) ⊎ (result ≡ Refused 95) }
+{
+    if fault == RaiseFault::Memory {
+        return Outcome::Memory;
+    }
+    let _said = eprintln!(rt; "pfx: error: starts {}: {fault}", Shown(path));
+    Outcome::Refused(BAD_STARTS)
+}
+
+/// This start of a node with keys, written into the file beside its store first. The file is made with a store that is
+/// new, and where that is asked for.
+fn start_of(
+    rt: &HostRuntime,
+    alloc: Global,
+    words: NodeWords<'_, '_, '_>,
+    m: Membership,
+    is_new: bool,
+) -> Result<Start, Outcome>
+    requires here { m.me < m.members }
+    ensures { OnErr result ((result ≡ Err Memory) ⊎ (result ≡ Err (Refused 95))) }
+{
+    let Ok(path) = starts_path(alloc, words.store) else {
+        return Err(Outcome::Memory);
+    };
+    let may_be_made = is_new || words.makes_starts;
+    match raise_start(rt, alloc, path.as_str(), m.members(), m.me(), may_be_made) {
+        Ok(start) => Ok(start),
+        Err(fault) => Err(starts_refused(rt, path.as_str(), fault)),
+    }
+}
+
+/// How the node's packets are sealed, where it has keys: 95 where its file of starts can't be used.
+pub(crate) fn sealing_for(
+    rt: &HostRuntime,
+    alloc: Global,
+    words: NodeWords<'_, '_, '_>,
+    m: Membership,
+    keys: Option<Keys>,
+    is_new: bool,
+) -> Result<Option<Sealing>, Outcome>
+    requires here { m.me < m.members }
+    ensures refused { OnErr result ((result ≡ Err Memory) ⊎ (result ≡ Err (Refused 95))) }
+    ensures keys { IfOk result (λ s. option_map (λ x. x.keys) s ≡ keys) }
+{
+    let Some(keys) = keys else {
+        return Ok(None);
+    };
+    match start_of(rt, alloc, words, m, is_new) {
+        Ok(start) => Ok(Some(Sealing { keys, start })),
+        Err(outcome) => Err(outcome),
+    }
+}
+
+/// What is refused of the file of starts beside a store, where one has to be there; it is read and not changed.
+pub(crate) fn of_starts(
+    rt: &HostRuntime,
+    alloc: Global,
+    words: NodeWords<'_, '_, '_>,
+    m: Option<Membership>,
+    is_new: bool,
+) -> Outcome
+    ensures { (result ≡ Sound) ⊎ ((result ≡ Memory) ⊎ (result ≡ Refused 95)) }
+{
+    let Some(m) = m else {
+        return Outcome::Sound;
+    };
+    if words.key.is_none() {
+        return Outcome::Sound;
+    }
+    let Ok(path) = starts_path(alloc, words.store) else {
+        return Outcome::Memory;
+    };
+    match starts_in(rt, alloc, path.as_str(), m.members()) {
+        Ok(_known) => Outcome::Sound,
+        Err(RaiseFault::Missing) => if is_new || words.makes_starts {
+            Outcome::Sound
+        } else {
+            starts_refused(rt, path.as_str(), RaiseFault::Missing)
+        },
+        Err(fault) => starts_refused(rt, path.as_str(), fault),
+    }
+}

@@ -1,0 +1,235 @@
+//! A node's store: opened where it is, and made where it may be.
+
+ghost use Rattle.std.specs.Prelude.{◌≡◌, ◌≢◌, ◌⊎◌, Err, IfOk, IfErr, OnErr, true, false};
+ghost use Rattle.cli_node.specs.declared.outcome.Outcome.TheVariants.{Memory, Refused};
+ghost use Rattle.cli_node.specs.declared.store.TheConstants.{NO_STORE, FILE_IS_THERE};
+ghost use Rattle.cli_node.specs.inner.Outcomes.{adopt_outcome};
+ghost use Rattle.cli_node.specs.inner.Stores.{IsOpening, IsStoreless, is_made};
+
+use crate::faults::{say_closed, say_judged, say_storeless};
+use crate::node::NodeWords;
+use crate::outcome::Outcome;
+use pf_io::make_private;
+use pf_member::Membership;
+use px_records::Records;
+use px_store::{AdoptFault, Identity, SqlRecords};
+use sqlite::{Alter, Connection, Error, ErrorCode, File, FileStore};
+use std::alloc::{AllocError, Global};
+use std::fs;
+use std::io::ErrorKind;
+
+/// A store that isn't there.
+const NO_STORE: u8 = 93;
+
+/// A file that is to be made and is there.
+pub(crate) const FILE_IS_THERE: u8 = 94;
+
+/// What stands where a store is named.
+#[derive(Clone, Copy, PartialEq, Eq)]
+pub(crate) enum Found {
+    /// Nothing.
+    Nothing,
+    /// A file without a byte, and without a log of writes.
+    Empty,
+    /// A file with bytes.
+    Store,
+    /// What is no file, or the system doesn't say.
+    Other,
+}
+
+/// What becomes of it.
+#[derive(Clone, Copy, PartialEq, Eq)]
+pub(crate) enum Opening {
+    /// It is opened.
+    Opens,
+    /// A store is made.
+    Makes,
+    /// The number of the refusal.
+    Refuses(u8),
+}
+
+/// What becomes of what stands there. Where settings come from a file a store is made with `--new` alone (93), which
+/// wants none there (94).
+#[tactic(auto, using(crate::proofs::Stores::is_opening))]
+pub(crate) fn opening_of(is_from_file: bool, is_new: bool, found: Found) -> Opening
+    ensures { IsOpening is_from_file is_new found result }
+{
+    match found {
+        Found::Nothing => if is_new || !is_from_file {
+            Opening::Makes
+        } else {
+            Opening::Refuses(NO_STORE)
+        },
+        Found::Empty => if is_new || !is_from_file {
+            Opening::Opens
+        } else {
+            Opening::Refuses(NO_STORE)
+        },
+        Found::Store => if is_new {
+            Opening::Refuses(FILE_IS_THERE)
+        } else {
+            Opening::Opens
+        },
+        Found::Other => Opening::Refuses(70),
+    }
+}
+
+/// Whether a file has no byte, or isn't there.
+fn is_empty(rt: &HostRuntime, path: &str) -> bool {
+    match fs::metadata(rt, path) {
+        Ok(found) => found.len() == 0,
+        Err(_) => true,
+    }
+}
+
+/// What stands at a path.
+pub(crate) fn found_at(rt: &HostRuntime, alloc: Global, path: &str) -> Result<Found, AllocError> {
+    match fs::metadata(rt, path) {
+        Ok(found) => {
+            if !found.is_file() {
+                return Ok(Found::Other);
+            }
+            let log = format!(in alloc; "{path}-wal")?;
+            if found.len() == 0 && is_empty(rt, log.as_str()) {
+                Ok(Found::Empty)
+            } else {
+                Ok(Found::Store)
+            }
+        }
+        Err(error) => if error.kind() == ErrorKind::NotFound {
+            Ok(Found::Nothing)
+        } else {
+            Ok(Found::Other)
+        },
+    }
+}
+
+/// The outcome of a store that isn't taken.
+fn adopt_outcome(fault: AdoptFault) -> Outcome
+    ensures { result ≡ adopt_outcome fault }
+{
+    match fault.code() {
+        Some(code) => Outcome::Refused(code),
+        None => Outcome::Memory,
+    }
+}
+
+/// What a store comes to that isn't taken; why is said on standard error.
+pub(crate) fn untaken<S: Alter>(
+    rt: &HostRuntime,
+    path: &str,
+    m: Membership,
+    fault: AdoptFault,
+    conn: &mut Connection<S>,
+) -> Outcome
+    ensures { result ≡ adopt_outcome fault }
+{
+    say_judged(rt, path, m, fault, conn);
+    adopt_outcome(fault)
+}
+
+/// Whom the store of a member belongs to.
+pub(crate) fn identity_of(m: Membership) -> Identity
+    ensures { result.members ≡ m.members }
+{
+    Identity {
+        cluster: m.cluster(),
+        members: m.members(),
+        node: m.me(),
+    }
+}
+
+/// The outcome of a database that the system or its own code doesn't open or read; why is said on standard error.
+pub(crate) fn failed_outcome(rt: &HostRuntime, path: &str, error: Error) -> Outcome
+    ensures { (result ≡ Memory) ⊎ (result ≡ Refused 70) }
+{
+    match error {
+        Error::SqliteFailure(ErrorCode::OutOfMemory) => Outcome::Memory,
+        _ => {
+            say_closed(rt, path, &error);
+            Outcome::Refused(70)
+        }
+    }
+}
+
+/// The database in a file.
+fn open_file(rt: &HostRuntime, path: &str) -> Result<Connection<FileStore<File>>, Outcome>
+    ensures { OnErr result ((result ≡ Err Memory) ⊎ (result ≡ Err (Refused 70))) }
+{
+    match Connection::open(rt, path) {
+        Ok(conn) => Ok(conn),
+        Err(error) => Err(failed_outcome(rt, path, error)),
+    }
+}
+
+/// The database in a file that isn't there yet, which its owner alone may read.
+fn make_file(rt: &HostRuntime, path: &str) -> Result<Connection<FileStore<File>>, Outcome>
+    ensures { OnErr result ((result ≡ Err Memory) ⊎ (result ≡ Err (Refused 70))) }
+{
+    match make_private(rt, path) {
+        Ok(_made) => open_file(rt, path),
+        Err(error) => {
+            say_closed(rt, path, &error);
+            Err(Outcome::Refused(70))
+        }
+    }
+}
+
+/// Whether a start makes a store there, of nothing or of a file without a byte.
+pub(crate) fn is_made(is_from_file: bool, is_new: bool, found: Found) -> bool
+    ensures { result ≡ is_made is_from_file is_new found }
+{
+    match found {
+        Found::Nothing | Found::Empty => is_new || !is_from_file,
+        Found::Store | Found::Other => false,
+    }
+}
+
+/// The database where a store is named, by what becomes of what stands there.
+#[tactic(auto, using(crate::proofs::Stores::by_opening, crate::proofs::Stores::by_file))]
+fn open_store(
+    rt: &HostRuntime,
+    words: NodeWords<'_, '_, '_>,
+    found: Found,
+) -> Result<Connection<FileStore<File>>, Outcome>
+    ensures refused { IfErr result (IsStoreless words.entry.is_from_file words.entry.is_new) }
+    ensures lost { words.entry.is_from_file ≡ true → words.entry.is_new ≡ false →
+        (found ≡ Found.Nothing) ⊎ (found ≡ Found.Empty) → result ≡ Err (Refused NO_STORE) }
+    ensures held { words.entry.is_new ≡ true → found ≡ Found.Store → result ≡ Err (Refused FILE_IS_THERE) }
+    ensures unfailed { OnErr result (result ≢ Err (Refused 80)) }
+{
+    match opening_of(words.is_from_file, words.is_new, found) {
+        Opening::Opens => open_file(rt, words.store),
+        Opening::Makes => make_file(rt, words.store),
+        Opening::Refuses(code) => {
+            say_storeless(rt, words.store, code);
+            Err(Outcome::Refused(code))
+        }
+    }
+}
+
+/// The record of a member in the store that its words name, where that was found: 93, 94, 70, 73, 72 and 71, in this
+/// order.
+pub(crate) fn record_at(
+    rt: &HostRuntime,
+    alloc: Global,
+    words: NodeWords<'_, '_, '_>,
+    m: Membership,
+    found: Found,
+) -> Result<SqlRecords<FileStore<File>>, Outcome>
+    ensures members { IfOk result (λ r. ⟦<SqlRecords<FileStore<File>> as Records>⟧.members r ≡ m.members) }
+    ensures refused { IfErr result (IsStoreless words.entry.is_from_file words.entry.is_new) }
+    ensures unfailed { OnErr result (result ≢ Err (Refused 80)) }
+{
+    let conn = match open_store(rt, words, found) {
+        Ok(conn) => conn,
+        Err(outcome) => return Err(outcome),
+    };
+    match SqlRecords::adopt(alloc, conn, identity_of(m)) {
+        Ok(records) => Ok(records),
+        Err((fault, conn)) => {
+            let mut conn = conn;
+            Err(untaken(rt, words.store, m, fault, &mut conn))
+        }
+    }
+}

@@ -1,0 +1,145 @@
+//! What a rule asks of a packet, as lists of matches of which one has to hold.
+
+ghost use Rattle.std.specs.Prelude.{◌≡◌, ◌++◌, ◌∷◌, [], IfOk, OnOk, map};
+ghost use Rattle.std.specs.List.{flat_map};
+ghost use Rattle.nft_rules.specs.Alternatives.{both_families, both_protocols, joined, both};
+ghost use Rattle.nft_rules.specs.Seen.{match_of};
+ghost use Rattle.nft_rules.specs.inner.Asked.{alternative_of};
+
+use crate::subset::Match;
+use pf_addr::Family;
+use std::alloc::{AllocError, Global};
+
+/// What is asked of the protocol.
+#[derive(Clone, Copy, PartialEq, Eq)]
+pub enum Protocol {
+    /// Nothing.
+    AnyProtocol,
+    /// That it is this one.
+    Only(u8),
+    /// That it isn't TCP.
+    NotTcp,
+}
+
+/// What is asked of the family and of the protocol, and what else.
+#[derive(Drop)]
+pub(crate) struct Alternative<'c> {
+    pub(crate) family: Option<Family>,
+    pub(crate) protocol: Protocol,
+    pub(crate) tests: Vec<Match<'c>>,
+}
+
+/// What both ask of the family, none if it can't hold.
+fn both_families(one: Option<Family>, other: Option<Family>) -> Option<Option<Family>>
+    ensures { result ≡ both_families one other }
+{
+    match (one, other) {
+        (None, family) => Some(family),
+        (Some(family), None) => Some(Some(family)),
+        (Some(Family::Inet), Some(Family::Inet)) => Some(Some(Family::Inet)),
+        (Some(Family::Inet6), Some(Family::Inet6)) => Some(Some(Family::Inet6)),
+        (Some(Family::Inet), Some(Family::Inet6)) | (Some(Family::Inet6), Some(Family::Inet)) =>
+            None,
+    }
+}
+
+/// What both ask of the protocol, none if it can't hold.
+fn both_protocols(one: Protocol, other: Protocol) -> Option<Protocol>
+    ensures { result ≡ both_protocols one other }
+{
+    match (one, other) {
+        (Protocol::AnyProtocol, protocol) => Some(protocol),
+        (Protocol::Only(n), Protocol::AnyProtocol) => Some(Protocol::Only(n)),
+        (Protocol::Only(n), Protocol::Only(m)) => if n == m {
+            Some(Protocol::Only(n))
+        } else {
+            None
+        },
+        (Protocol::Only(n), Protocol::NotTcp) => if n == 6 {
+            None
+        } else {
+            Some(Protocol::Only(n))
+        },
+        (Protocol::NotTcp, Protocol::AnyProtocol) => Some(Protocol::NotTcp),
+        (Protocol::NotTcp, Protocol::Only(n)) => if n == 6 {
+            None
+        } else {
+            Some(Protocol::Only(n))
+        },
+        (Protocol::NotTcp, Protocol::NotTcp) => Some(Protocol::NotTcp),
+    }
+}
+
+/// Puts the same matches behind those that are there.
+pub(crate) fn push_matches<'c>(
+    all: &mut Vec<Match<'c>>,
+    more: &[Match<'c>],
+) -> Result<(), AllocError>
+    ensures { OnOk result (map match_of all.new.items ≡ map match_of all.old.items ++ map match_of more.now) }
+{
+    for test in more {
+        all.push(test.copied()?)?;
+    }
+    Ok(())
+}
+
+/// Puts what both ask behind what is there, unless it can't hold.
+fn push_both<'c>(
+    alloc: Global,
+    all: &mut Vec<Alternative<'c>>,
+    one: &Alternative<'c>,
+    other: &Alternative<'c>,
+) -> Result<(), AllocError>
+    ensures { OnOk result (map alternative_of all.new.items
+        ≡ map alternative_of all.old.items ++ joined (alternative_of one.now) (alternative_of other.now)) }
+{
+    let Some(family) = both_families(one.family, other.family) else {
+        return Ok(());
+    };
+    let Some(protocol) = both_protocols(one.protocol, other.protocol) else {
+        return Ok(());
+    };
+    let mut tests = Vec::new(alloc);
+    push_matches(&mut tests, &one.tests)?;
+    push_matches(&mut tests, &other.tests)?;
+    all.push(Alternative {
+        family,
+        protocol,
+        tests,
+    })?;
+    Ok(())
+}
+
+/// Puts one joined to each of the others behind what is there.
+fn push_each<'c>(
+    alloc: Global,
+    all: &mut Vec<Alternative<'c>>,
+    one: &Alternative<'c>,
+    others: &[Alternative<'c>],
+) -> Result<(), AllocError>
+    ensures { OnOk result (map alternative_of all.new.items
+        ≡ map alternative_of all.old.items
+        ++ flat_map (joined (alternative_of one.now)) (map alternative_of others.now)) }
+{
+    for other in others {
+        push_both(alloc, all, one, other)?;
+    }
+    Ok(())
+}
+
+/// One of these and one of those.
+#[tactic(auto, unfolding(crate::specs::Alternatives::both))]
+pub(crate) fn both<'c>(
+    alloc: Global,
+    these: &[Alternative<'c>],
+    those: &[Alternative<'c>],
+) -> Result<Vec<Alternative<'c>>, AllocError>
+    ensures { IfOk result (λ v. map alternative_of v.items
+        ≡ both (map alternative_of these.now) (map alternative_of those.now)) }
+{
+    let mut all = Vec::new(alloc);
+    for one in these {
+        push_each(alloc, &mut all, one, those)?;
+    }
+    Ok(all)
+}

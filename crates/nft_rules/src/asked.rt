@@ -1,0 +1,347 @@
+//! What each condition of a rule asks.
+
+ghost use Rattle.std.specs.Prelude.{◌≡◌, ◌∷◌, [], IfOk, map};
+ghost use Rattle.nft_rules.specs.Rendering.{always, direction_alternatives, family_alternatives, protocol_alternatives};
+ghost use Rattle.nft_rules.specs.Rendering.{type_alternatives, masked_by, flag_alternatives, on_some};
+ghost use Rattle.nft_rules.specs.Rendering.{interface_alternatives, ports_from, ports_but, port_span, of_protocol};
+ghost use Rattle.nft_rules.specs.Rendering.{on_ports, port_alternatives};
+ghost use Rattle.nft_rules.specs.Rendering.{such_alternatives, end_alternatives, alternatives};
+ghost use Rattle.nft_rules.specs.Seen.{match_of, machine_of};
+ghost use Rattle.nft_rules.specs.inner.Asked.{alternative_of};
+
+use crate::alternative::{Alternative, Protocol, both};
+use crate::hosts::host_alternatives;
+use crate::machine::{MachineInterface, interfaces_meant};
+use crate::subset::{Match, Side};
+use pf_addr::Family;
+use pf_config::Config;
+use pf_ruleset::{Conditions, Direction, FlagTest, Interface, InterfaceName, Name, PortTest};
+use pf_words::TcpFlags;
+use std::alloc::{AllocError, Global};
+use std::rc::Rc;
+
+/// One alternative.
+pub(crate) fn single<'c>(
+    alloc: Global,
+    family: Option<Family>,
+    protocol: Protocol,
+    tests: Vec<Match<'c>>,
+) -> Result<Vec<Alternative<'c>>, AllocError>
+    ensures { IfOk result (λ v. map alternative_of v.items
+        ≡ record { family = family; protocol = protocol; tests = map match_of tests.entry.items } ∷ []) }
+{
+    let mut all = Vec::new(alloc);
+    all.push(Alternative {
+        family,
+        protocol,
+        tests,
+    })?;
+    Ok(all)
+}
+
+/// Nothing is asked.
+pub(crate) fn always<'c>(alloc: Global) -> Result<Vec<Alternative<'c>>, AllocError>
+    ensures { IfOk result (λ v. map alternative_of v.items ≡ always ∷ []) }
+{
+    single(alloc, None, Protocol::AnyProtocol, Vec::new(alloc))
+}
+
+/// One test of packets of this protocol.
+fn of_protocol<'c>(
+    alloc: Global,
+    number: u8,
+    test: Match<'c>,
+) -> Result<Vec<Alternative<'c>>, AllocError>
+    ensures { IfOk result (λ v. map alternative_of v.items ≡ of_protocol number (match_of test.entry) ∷ []) }
+{
+    let mut tests = Vec::new(alloc);
+    tests.push(test)?;
+    single(alloc, None, Protocol::Only(number), tests)
+}
+
+fn direction_alternatives<'c>(
+    alloc: Global,
+    direction: Direction,
+    wanted: Option<Direction>,
+) -> Result<Vec<Alternative<'c>>, AllocError>
+    ensures { IfOk result (λ v. map alternative_of v.items ≡ direction_alternatives direction wanted) }
+{
+    match (wanted, direction) {
+        (None, _) | (Some(Direction::In), Direction::In) | (Some(Direction::Out), Direction::Out) =>
+            always(alloc),
+        (Some(Direction::In), Direction::Out) | (Some(Direction::Out), Direction::In) => Ok(
+            Vec::new(alloc),
+        ),
+    }
+}
+
+fn family_alternatives<'c>(
+    alloc: Global,
+    family: Option<Family>,
+) -> Result<Vec<Alternative<'c>>, AllocError>
+    ensures { IfOk result (λ v. map alternative_of v.items ≡ family_alternatives family) }
+{
+    single(alloc, family, Protocol::AnyProtocol, Vec::new(alloc))
+}
+
+fn protocol_alternatives<'c>(
+    alloc: Global,
+    protocol: Option<u8>,
+) -> Result<Vec<Alternative<'c>>, AllocError>
+    ensures { IfOk result (λ v. map alternative_of v.items ≡ protocol_alternatives protocol) }
+{
+    match protocol {
+        None => always(alloc),
+        Some(number) => single(alloc, None, Protocol::Only(number), Vec::new(alloc)),
+    }
+}
+
+fn type_alternatives<'c>(
+    alloc: Global,
+    wanted: Option<u8>,
+) -> Result<Vec<Alternative<'c>>, AllocError>
+    ensures { IfOk result (λ v. map alternative_of v.items ≡ type_alternatives wanted) }
+{
+    match wanted {
+        None => always(alloc),
+        Some(number) => of_protocol(alloc, 1, Match::OfType(number)),
+    }
+}
+
+/// Of the flags in the mask those that are to be set.
+fn masked_by(mask: TcpFlags, flags: TcpFlags) -> TcpFlags
+    ensures { result ≡ masked_by mask flags }
+{
+    TcpFlags {
+        fin: flags.fin && mask.fin,
+        syn: flags.syn && mask.syn,
+        rst: flags.rst && mask.rst,
+        psh: flags.psh && mask.psh,
+        ack: flags.ack && mask.ack,
+        urg: flags.urg && mask.urg,
+        ece: flags.ece && mask.ece,
+        cwr: flags.cwr && mask.cwr,
+    }
+}
+
+/// Flags are asked of TCP packets alone.
+fn flag_alternatives<'c>(alloc: Global, test: FlagTest) -> Result<Vec<Alternative<'c>>, AllocError>
+    ensures { IfOk result (λ v. map alternative_of v.items ≡ flag_alternatives test) }
+{
+    match test {
+        FlagTest::Any => always(alloc),
+        FlagTest::Just { set, of } => {
+            let value = masked_by(of, set);
+            let mut all = of_protocol(alloc, 6, Match::WithFlags { mask: of, value })?;
+            all.push(Alternative {
+                family: None,
+                protocol: Protocol::NotTcp,
+                tests: Vec::new(alloc),
+            })?;
+            Ok(all)
+        }
+    }
+}
+
+/// A packet on one of these interfaces, of which there may be none.
+pub(crate) fn on_some<'c>(
+    alloc: Global,
+    names: Vec<InterfaceName>,
+) -> Result<Vec<Alternative<'c>>, AllocError>
+    ensures { IfOk result (λ v. map alternative_of v.items ≡ on_some names.items) }
+{
+    if names.is_empty() {
+        return Ok(Vec::new(alloc));
+    }
+    let names = Rc::new(alloc, names)?;
+    let mut tests = Vec::new(alloc);
+    tests.push(Match::OnInterface {
+        names,
+        negated: false,
+    })?;
+    single(alloc, None, Protocol::AnyProtocol, tests)
+}
+
+fn interface_alternatives<'c>(
+    alloc: Global,
+    machine: &[MachineInterface],
+    wanted: &Option<Interface>,
+) -> Result<Vec<Alternative<'c>>, AllocError>
+    ensures { IfOk result (λ v. map alternative_of v.items
+        ≡ interface_alternatives (machine_of machine.now) wanted.now) }
+{
+    match wanted {
+        None => always(alloc),
+        Some(interface) => on_some(alloc, interfaces_meant(alloc, machine, interface)?),
+    }
+}
+
+/// From one port to another, or, negated, every other.
+#[derive(Clone, Copy)]
+pub(crate) struct PortSpan {
+    pub(crate) low: u16,
+    pub(crate) high: u16,
+    pub(crate) negated: bool,
+}
+
+fn ports_from(low: u16, high: u16) -> Option<PortSpan>
+    ensures { result ≡ ports_from low high }
+{
+    Some(PortSpan {
+        low,
+        high,
+        negated: false,
+    })
+}
+
+fn ports_but(low: u16, high: u16) -> Option<PortSpan>
+    ensures { result ≡ ports_but low high }
+{
+    Some(PortSpan {
+        low,
+        high,
+        negated: true,
+    })
+}
+
+/// The ports that pass, none if none does.
+fn port_span(test: PortTest) -> Option<PortSpan>
+    ensures { result ≡ port_span test }
+{
+    match test {
+        PortTest::Equal(n) => ports_from(n, n),
+        PortTest::NotEqual(n) => ports_but(n, n),
+        PortTest::Less(n) => if n == 0 { None } else { ports_from(0, n - 1) },
+        PortTest::LessEqual(n) => ports_from(0, n),
+        PortTest::Greater(n) => ports_but(0, n),
+        PortTest::GreaterEqual(n) => ports_from(n, 65535),
+        PortTest::FromTo(a, b) => if a <= b { ports_from(a, b) } else { None },
+        PortTest::Between(a, b) => if a < b && a + 1 < b {
+            ports_from(a + 1, b - 1)
+        } else {
+            None
+        },
+        PortTest::Outside(a, b) => if a <= b {
+            ports_but(a, b)
+        } else {
+            ports_from(0, 65535)
+        },
+    }
+}
+
+/// TCP and UDP have ports.
+fn port_alternatives<'c>(
+    alloc: Global,
+    side: Side,
+    wanted: Option<PortTest>,
+) -> Result<Vec<Alternative<'c>>, AllocError>
+    ensures { IfOk result (λ v. map alternative_of v.items ≡ port_alternatives side wanted) }
+{
+    let Some(test) = wanted else {
+        return always(alloc);
+    };
+    let Some(span) = port_span(test) else {
+        return Ok(Vec::new(alloc));
+    };
+    let PortSpan { low, high, negated } = span;
+    let mut all = of_protocol(
+        alloc,
+        6,
+        Match::AtPort {
+            side,
+            low,
+            high,
+            negated,
+        },
+    )?;
+    let mut tests = Vec::new(alloc);
+    tests.push(Match::AtPort {
+        side,
+        low,
+        high,
+        negated,
+    })?;
+    all.push(Alternative {
+        family: None,
+        protocol: Protocol::Only(17),
+        tests,
+    })?;
+    Ok(all)
+}
+
+/// What is asked of the packet itself.
+#[tactic(auto, unfolding(crate::specs::Rendering::such_alternatives))]
+fn such_alternatives<'c>(
+    alloc: Global,
+    machine: &[MachineInterface],
+    direction: Direction,
+    rule: &Conditions,
+) -> Result<Vec<Alternative<'c>>, AllocError>
+    ensures { IfOk result (λ v. map alternative_of v.items
+        ≡ such_alternatives (machine_of machine.now) direction rule.now) }
+{
+    let ways = direction_alternatives(alloc, direction, rule.direction)?;
+    let families = both(alloc, &ways, &family_alternatives(alloc, rule.family)?)?;
+    let protocols = both(
+        alloc,
+        &families,
+        &protocol_alternatives(alloc, rule.protocol)?,
+    )?;
+    let types = both(
+        alloc,
+        &protocols,
+        &type_alternatives(alloc, rule.icmp_type)?,
+    )?;
+    let flags = both(alloc, &types, &flag_alternatives(alloc, rule.flags)?)?;
+    both(
+        alloc,
+        &flags,
+        &interface_alternatives(alloc, machine, &rule.interface)?,
+    )
+}
+
+/// What is asked of its two ends.
+#[tactic(auto, unfolding(crate::specs::Rendering::end_alternatives))]
+fn end_alternatives<'c>(
+    alloc: Global,
+    config: &'c Config,
+    path: &'c [Name],
+    rule: &'c Conditions,
+) -> Result<Vec<Alternative<'c>>, AllocError>
+    ensures { IfOk result (λ v. map alternative_of v.items ≡ end_alternatives config.now path.now rule.now) }
+{
+    let first = port_alternatives(alloc, Side::Source, rule.source_port)?;
+    let ports = both(
+        alloc,
+        &first,
+        &port_alternatives(alloc, Side::Destination, rule.destination_port)?,
+    )?;
+    let sources = host_alternatives(alloc, config, path, Side::Source, &rule.source)?;
+    let left = both(alloc, &ports, &sources)?;
+    let destinations = host_alternatives(
+        alloc,
+        config,
+        path,
+        Side::Destination,
+        &rule.destination,
+    )?;
+    both(alloc, &left, &destinations)
+}
+
+/// What a rule at a path asks, for packets of a direction.
+#[tactic(auto, unfolding(crate::specs::Rendering::alternatives))]
+pub(crate) fn alternatives<'c>(
+    alloc: Global,
+    config: &'c Config,
+    machine: &[MachineInterface],
+    direction: Direction,
+    path: &'c [Name],
+    rule: &'c Conditions,
+) -> Result<Vec<Alternative<'c>>, AllocError>
+    ensures { IfOk result (λ v. map alternative_of v.items
+        ≡ alternatives config.now (machine_of machine.now) direction path.now rule.now) }
+{
+    let such = such_alternatives(alloc, machine, direction, rule)?;
+    let ends = end_alternatives(alloc, config, path, rule)?;
+    both(alloc, &such, &ends)
+}

@@ -1,0 +1,70 @@
+//! Of how many rules a packet may be asked.
+
+ghost use Rattle.std.specs.Prelude.{◌≡◌, map, find, option_map};
+ghost use Rattle.nft_rules.specs.Evaluation.{is_chain};
+ghost use Rattle.nft_rules.specs.Refusing.{asked_by, most_asked};
+ghost use Rattle.nft_rules.specs.inner.Left.{minus};
+ghost use Rattle.nft_rules.specs.Seen.{chain_name_of, chain_of, statement_of, ruleset_of};
+
+use crate::names::same_chain;
+use crate::subset::{Chain, ChainName, NftRuleset, Statement};
+
+/// The first of these chains that has the name.
+fn chain_named<'r, 'c>(chains: &'r [Chain<'c>], name: ChainName<'c>) -> Option<&'r Chain<'c>>
+    ensures { option_map (λ c. chain_of c.now) result
+        ≡ find (is_chain (chain_name_of name.entry)) (map chain_of chains.now) }
+{
+    for chain in chains {
+        if same_chain(chain.name, name) {
+            return Some(chain);
+        }
+    }
+    None
+}
+
+/// What is left of that many questions, behind a rule that does this; none if they aren't enough.
+#[cycle(asking)]
+#[tactic(auto, using(crate::proofs::Refused::one_rule))]
+fn left_behind<'r, 'c>(
+    whole: &'r NftRuleset<'c>,
+    depth: u8,
+    statement: Statement<'c>,
+    left: u32,
+) -> Option<u32>
+    ensures { result ≡ minus left (asked_by (most_asked depth (ruleset_of whole.now)) (statement_of statement.entry)) }
+{
+    if left == 0 {
+        return None;
+    }
+    match statement {
+        Statement::Ends { .. } => Some(left - 1),
+        Statement::Jump(chain) => left_after(whole, depth, chain, left - 1),
+    }
+}
+
+/// What is left of that many questions, behind a chain; none if they aren't enough.
+#[cycle(asking)]
+#[tactic(auto, using(crate::proofs::Refused::some_rules))]
+pub(crate) fn left_after<'r, 'c>(
+    whole: &'r NftRuleset<'c>,
+    depth: u8,
+    name: ChainName<'c>,
+    left: u32,
+) -> Option<u32>
+    ensures { result ≡ minus left (most_asked depth (ruleset_of whole.now) (chain_name_of name.entry)) }
+{
+    if depth == 0 {
+        return Some(left);
+    }
+    let Some(chain) = chain_named(&whole.chains, name) else {
+        return Some(left);
+    };
+    let mut now = left;
+    for rule in &chain.rules {
+        let Some(next) = left_behind(whole, depth - 1, rule.statement, now) else {
+            return None;
+        };
+        now = next;
+    }
+    Some(now)
+}

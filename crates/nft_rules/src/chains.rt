@@ -1,0 +1,249 @@
+//! The chains of a path.
+
+ghost use Rattle.std.specs.Prelude.{◌≡◌, ◌≤◌, ◌+◌, ◌++◌, IfOk, OnOk, length, map};
+ghost use Rattle.nft_rules.specs.Rendering.{alternatives, outcome_of, filter_rules, anchor_chains, forward_rule};
+ghost use Rattle.nft_rules.specs.Rendering.{backward_rule, forward_rules, backward_rules, forward_chain, backward_chain};
+ghost use Rattle.pf_config.specs.declared.config.TheConstants.{RULES_MAX};
+ghost use Rattle.pf_ruleset.specs.Items.{AnchorRule};
+ghost use Rattle.pf_ruleset.specs.Seen.{heading_of, rule_of};
+ghost use Rattle.nft_rules.specs.Seen.{chain_name_of, chain_of, machine_of, nft_rule_of};
+
+use crate::asked::alternatives;
+use crate::machine::MachineInterface;
+use crate::rules::{push_jumps, push_rules};
+use crate::subset::{Chain, ChainName, NftRule, Note, Outcome, Pass, Statement};
+use crate::targets::{chained_targets, push_backward, push_forward};
+use pf_config::Config;
+use pf_ruleset::{Action, AnchorHeading, Direction, Item, Name, Rule};
+use std::alloc::{AllocError, Global};
+
+/// What the rules of a path are rendered for: the configuration, the machine and the direction.
+#[derive(Clone, Copy)]
+pub(crate) struct Place<'c> {
+    pub(crate) alloc: Global,
+    pub(crate) config: &'c Config,
+    pub(crate) machine: &'c [MachineInterface],
+    pub(crate) direction: Direction,
+    pub(crate) path: &'c [Name],
+}
+
+fn outcome_of(action: Action) -> Outcome
+    ensures { result ≡ outcome_of action }
+{
+    match action {
+        Action::Pass => Outcome::Accept,
+        Action::Drop => Outcome::Drop,
+        Action::Return => Outcome::Reject,
+    }
+}
+
+/// Puts the rules of a filter rule behind those that are there.
+fn push_filter<'c>(
+    place: Place<'c>,
+    index: u32,
+    rule: &'c Rule,
+    rules: &mut Vec<NftRule<'c>>,
+) -> Result<(), AllocError>
+    ensures { OnOk result (map nft_rule_of rules.new.items ≡ map nft_rule_of rules.old.items
+        ++ filter_rules (alternatives place.entry.config.now (machine_of place.entry.machine.now) place.entry.direction
+        place.entry.path.now rule.now.conditions) place.entry.path.now index rule.now) }
+{
+    let asked = alternatives(
+        place.alloc,
+        place.config,
+        place.machine,
+        place.direction,
+        place.path,
+        &rule.conditions,
+    )?;
+    let note = Note::Spot {
+        path: place.path,
+        index,
+    };
+    let statement = Statement::Ends {
+        outcome: outcome_of(rule.action),
+        note,
+    };
+    push_rules(place.alloc, rules, &asked, statement)
+}
+
+/// The chains to which an anchor rule leads forwards; within a quick one the last hit ends the evaluation too.
+fn chains_forward<'c>(
+    place: Place<'c>,
+    heading: &'c AnchorHeading,
+) -> Result<Vec<ChainName<'c>>, AllocError>
+    ensures { IfOk result (λ v. map chain_name_of v.items
+        ≡ anchor_chains place.entry.config.now place.entry.path.now (heading_of heading.now)) }
+{
+    let paths = chained_targets(place.alloc, place.config, place.path, &heading.target)?;
+    let mut chains = Vec::new(place.alloc);
+    push_forward(&mut chains, &paths)?;
+    if !heading.quick {
+        return Ok(chains);
+    }
+    push_backward(&mut chains, &paths)?;
+    Ok(chains)
+}
+
+/// Puts the jumps of an anchor rule forwards behind the rules that are there.
+fn push_forward_anchor<'c>(
+    place: Place<'c>,
+    index: u32,
+    heading: &'c AnchorHeading,
+    rules: &mut Vec<NftRule<'c>>,
+) -> Result<(), AllocError>
+    ensures { OnOk result (map nft_rule_of rules.new.items ≡ map nft_rule_of rules.old.items
+        ++ forward_rule place.entry.config.now (machine_of place.entry.machine.now) place.entry.direction
+        place.entry.path.now index (AnchorRule (heading_of heading.now))) }
+{
+    let asked = alternatives(
+        place.alloc,
+        place.config,
+        place.machine,
+        place.direction,
+        place.path,
+        &heading.conditions,
+    )?;
+    let chains = chains_forward(place, heading)?;
+    push_jumps(place.alloc, rules, &asked, &chains)
+}
+
+/// Puts the jumps of an anchor rule backwards behind the rules that are there: none of a quick one.
+fn push_backward_anchor<'c>(
+    place: Place<'c>,
+    index: u32,
+    heading: &'c AnchorHeading,
+    rules: &mut Vec<NftRule<'c>>,
+) -> Result<(), AllocError>
+    ensures { OnOk result (map nft_rule_of rules.new.items ≡ map nft_rule_of rules.old.items
+        ++ backward_rule place.entry.config.now (machine_of place.entry.machine.now) place.entry.direction
+        place.entry.path.now index (AnchorRule (heading_of heading.now))) }
+{
+    if heading.quick {
+        return Ok(());
+    }
+    let asked = alternatives(
+        place.alloc,
+        place.config,
+        place.machine,
+        place.direction,
+        place.path,
+        &heading.conditions,
+    )?;
+    let paths = chained_targets(place.alloc, place.config, place.path, &heading.target)?;
+    let mut chains = Vec::new(place.alloc);
+    push_backward(&mut chains, &paths)?;
+    push_jumps(place.alloc, rules, &asked, &chains)
+}
+
+/// Puts what may end the evaluation at a rule behind the rules that are there.
+#[tactic(auto, using(crate::proofs::Targeted::forward_filter, crate::proofs::Targeted::forward_anchor))]
+fn push_forward_rule<'c>(
+    place: Place<'c>,
+    index: u32,
+    item: &'c Item,
+    rules: &mut Vec<NftRule<'c>>,
+) -> Result<(), AllocError>
+    ensures { OnOk result (map nft_rule_of rules.new.items ≡ map nft_rule_of rules.old.items
+        ++ forward_rule place.entry.config.now (machine_of place.entry.machine.now) place.entry.direction
+        place.entry.path.now index (rule_of item.now)) }
+{
+    match item {
+        Item::Filter(rule) => {
+            if !rule.quick {
+                return Ok(());
+            }
+            push_filter(place, index, rule, rules)
+        }
+        Item::Anchor(anchor) => push_forward_anchor(place, index, &anchor.heading, rules),
+    }
+}
+
+/// Puts what doesn't end the evaluation at a rule behind the rules that are there.
+#[tactic(auto, using(crate::proofs::Targeted::backward_filter, crate::proofs::Targeted::backward_anchor))]
+fn push_backward_rule<'c>(
+    place: Place<'c>,
+    index: u32,
+    item: &'c Item,
+    rules: &mut Vec<NftRule<'c>>,
+) -> Result<(), AllocError>
+    ensures { OnOk result (map nft_rule_of rules.new.items ≡ map nft_rule_of rules.old.items
+        ++ backward_rule place.entry.config.now (machine_of place.entry.machine.now) place.entry.direction
+        place.entry.path.now index (rule_of item.now)) }
+{
+    match item {
+        Item::Filter(rule) => {
+            if rule.quick {
+                return Ok(());
+            }
+            push_filter(place, index, rule, rules)
+        }
+        Item::Anchor(anchor) => push_backward_anchor(place, index, &anchor.heading, rules),
+    }
+}
+
+/// Puts what may end the evaluation at these rules, of which the first has this index, behind the rules that are there.
+pub(crate) fn push_forward_rules<'c>(
+    place: Place<'c>,
+    index: u32,
+    items: &'c [Item],
+    rules: &mut Vec<NftRule<'c>>,
+) -> Result<(), AllocError>
+    requires { index + length items.now ≤ RULES_MAX }
+    ensures { OnOk result (map nft_rule_of rules.new.items ≡ map nft_rule_of rules.old.items
+        ++ forward_rules (forward_rule place.entry.config.now (machine_of place.entry.machine.now)
+        place.entry.direction place.entry.path.now) index (map rule_of items.now)) }
+{
+    let [item, rest @ ..] = items else {
+        return Ok(());
+    };
+    push_forward_rule(place, index, item, rules)?;
+    push_forward_rules(place, index + 1, rest, rules)
+}
+
+/// Puts what doesn't end the evaluation at these rules, the last one's first, behind the rules that are there.
+pub(crate) fn push_backward_rules<'c>(
+    place: Place<'c>,
+    index: u32,
+    items: &'c [Item],
+    rules: &mut Vec<NftRule<'c>>,
+) -> Result<(), AllocError>
+    requires { index + length items.now ≤ RULES_MAX }
+    ensures { OnOk result (map nft_rule_of rules.new.items ≡ map nft_rule_of rules.old.items
+        ++ backward_rules (backward_rule place.entry.config.now (machine_of place.entry.machine.now)
+        place.entry.direction place.entry.path.now) index (map rule_of items.now)) }
+{
+    let [item, rest @ ..] = items else {
+        return Ok(());
+    };
+    push_backward_rules(place, index + 1, rest, rules)?;
+    push_backward_rule(place, index, item, rules)
+}
+
+/// The chain of a path that holds what may end the evaluation.
+pub(crate) fn forward_chain<'c>(place: Place<'c>) -> Result<Chain<'c>, AllocError>
+    ensures { IfOk result (λ v. chain_of v ≡ forward_chain place.entry.config.now (machine_of place.entry.machine.now)
+        place.entry.direction place.entry.path.now) }
+{
+    let mut rules = Vec::new(place.alloc);
+    push_forward_rules(place, 0, place.config.items(place.path), &mut rules)?;
+    let name = ChainName::At {
+        pass: Pass::Forward,
+        path: place.path,
+    };
+    Ok(Chain { name, rules })
+}
+
+/// The chain of a path that holds the rest.
+pub(crate) fn backward_chain<'c>(place: Place<'c>) -> Result<Chain<'c>, AllocError>
+    ensures { IfOk result (λ v. chain_of v ≡ backward_chain place.entry.config.now (machine_of place.entry.machine.now)
+        place.entry.direction place.entry.path.now) }
+{
+    let mut rules = Vec::new(place.alloc);
+    push_backward_rules(place, 0, place.config.items(place.path), &mut rules)?;
+    let name = ChainName::At {
+        pass: Pass::Backward,
+        path: place.path,
+    };
+    Ok(Chain { name, rules })
+}

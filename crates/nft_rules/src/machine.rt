@@ -1,0 +1,150 @@
+//! The interfaces of a machine.
+
+ghost use Rattle.std.specs.Prelude.{◌≡◌, ◌≤◌, IfOk, length, map, option_map};
+ghost use Rattle.std.specs.List.{list_any};
+ghost use Rattle.std.specs.Str.{bytes_eq};
+ghost use Rattle.pf_eval.specs.Packets.{without_digits};
+ghost use Rattle.nft_rules.specs.Rendering.{groups_in, names_of, names_in, interfaces_with, is_meant, is_skipped};
+ghost use Rattle.nft_rules.specs.Seen.{machine_of};
+
+use pf_ruleset::{Interface, InterfaceName};
+use std::alloc::{AllocError, Global};
+
+/// An interface of the machine, and its groups.
+#[derive(Drop)]
+pub struct MachineInterface {
+    /// Its name.
+    pub name: InterfaceName,
+    /// The groups that it is in.
+    pub groups: Vec<InterfaceName>,
+}
+
+/// The groups of an interface, if it is the machine's.
+fn groups_in<'m>(
+    machine: &'m [MachineInterface],
+    name: &InterfaceName,
+) -> Option<&'m [InterfaceName]>
+    ensures { option_map (λ g. g.now) result ≡ groups_in (machine_of machine.now) name.now }
+{
+    for interface in machine {
+        if interface.name == *name {
+            return Some(&interface.groups);
+        }
+    }
+    None
+}
+
+/// The name without the digits at its end.
+#[tactic(auto, using(pf_eval::proofs::Digits::no_digit, pf_eval::proofs::Digits::one_digit))]
+fn without_digits(name: &[u8]) -> &[u8]
+    ensures { result.now ≡ without_digits name.now }
+{
+    let mut rest = name;
+    while let [front @ .., last] = rest {
+        if !last.is_ascii_digit() {
+            return rest;
+        }
+        rest = front;
+    }
+    rest
+}
+
+/// Whether the name is among these.
+fn is_among(names: &[InterfaceName], name: &[u8]) -> bool
+    ensures { result ≡ list_any (λ n. bytes_eq n name.now) names.now }
+{
+    for other in names {
+        if other.as_bytes() == name {
+            return true;
+        }
+    }
+    false
+}
+
+/// Whether the machine's interface may be named so: by its name, by that without the digits at its end, or by a group.
+fn is_named(machine: &[MachineInterface], interface: &InterfaceName, name: &[u8]) -> bool
+    ensures { result ≡ list_any (λ n. bytes_eq n name.now) (names_in (machine_of machine.now) interface.now) }
+{
+    let own = interface.as_bytes();
+    if own == name || without_digits(own) == name {
+        return true;
+    }
+    match groups_in(machine, interface) {
+        Some(groups) => is_among(groups, name),
+        None => false,
+    }
+}
+
+/// Whether a rule on this interface, group or stem, or on what isn't, is meant for the machine's interface.
+fn is_meant(machine: &[MachineInterface], interface: &InterfaceName, wanted: &Interface) -> bool
+    ensures { result ≡ is_meant wanted.now (names_in (machine_of machine.now) interface.now) }
+{
+    let found = is_named(machine, interface, wanted.name.as_bytes());
+    if wanted.negated { !found } else { found }
+}
+
+/// Whether the machine's interface is skipped.
+#[tactic(auto, unfolding(crate::specs::Rendering::is_skipped))]
+fn is_skipped(
+    skip: &[InterfaceName],
+    machine: &[MachineInterface],
+    interface: &InterfaceName,
+) -> bool
+    ensures { result ≡ is_skipped skip.now (names_in (machine_of machine.now) interface.now) }
+{
+    for name in skip {
+        if is_named(machine, interface, name.as_bytes()) {
+            return true;
+        }
+    }
+    false
+}
+
+/// The machine's interfaces for which a rule on this one is meant.
+pub(crate) fn interfaces_meant(
+    alloc: Global,
+    machine: &[MachineInterface],
+    wanted: &Interface,
+) -> Result<Vec<InterfaceName>, AllocError>
+    ensures { IfOk result (λ v. v.items ≡ interfaces_with (is_meant wanted.now) (machine_of machine.now)) }
+{
+    let mut names = Vec::new(alloc);
+    for interface in machine {
+        if is_meant(machine, &interface.name, wanted) {
+            names.push(interface.name.copied())?;
+        }
+    }
+    Ok(names)
+}
+
+/// The machine's interfaces that are skipped.
+pub(crate) fn interfaces_skipped(
+    alloc: Global,
+    machine: &[MachineInterface],
+    skip: &[InterfaceName],
+) -> Result<Vec<InterfaceName>, AllocError>
+    ensures { IfOk result (λ v. v.items ≡ interfaces_with (is_skipped skip.now) (machine_of machine.now)) }
+{
+    let mut names = Vec::new(alloc);
+    for interface in machine {
+        if !is_skipped(skip, machine, &interface.name) {
+            continue;
+        }
+        names.push(interface.name.copied())?;
+    }
+    Ok(names)
+}
+
+/// The names of all interfaces of the machine.
+pub(crate) fn known(
+    alloc: Global,
+    machine: &[MachineInterface],
+) -> Result<Vec<InterfaceName>, AllocError>
+    ensures { IfOk result (λ v. v.items ≡ map (λ i. i.0) (machine_of machine.now)) }
+{
+    let mut names = Vec::new(alloc);
+    for interface in machine {
+        names.push(interface.name.copied())?;
+    }
+    Ok(names)
+}

@@ -1,0 +1,102 @@
+//! Rules that do one thing under each of some alternatives.
+
+ghost use Rattle.std.specs.Prelude.{◌≡◌, ◌++◌, ◌∷◌, [], IfOk, OnOk, map};
+ghost use Rattle.nft_rules.specs.Alternatives.{matches_of};
+ghost use Rattle.nft_rules.specs.Rendering.{with_statement, jump_each, jump_rules};
+ghost use Rattle.nft_rules.specs.Seen.{match_of, statement_of, chain_name_of, nft_rule_of};
+ghost use Rattle.nft_rules.specs.inner.Asked.{alternative_of};
+
+use crate::alternative::{Alternative, Protocol, push_matches};
+use crate::subset::{ChainName, Match, NftRule, Statement};
+use std::alloc::{AllocError, Global};
+
+/// The matches as a rule has them: the family and the protocol stand first.
+fn matches_of<'c>(
+    alloc: Global,
+    alternative: &Alternative<'c>,
+) -> Result<Vec<Match<'c>>, AllocError>
+    ensures { IfOk result (λ v. map match_of v.items ≡ matches_of (alternative_of alternative.now)) }
+{
+    let mut all = Vec::new(alloc);
+    if let Some(family) = alternative.family {
+        all.push(Match::OfFamily(family))?;
+    }
+    match alternative.protocol {
+        Protocol::AnyProtocol => {}
+        Protocol::Only(number) => all.push(Match::OfProtocol {
+            number,
+            negated: false,
+        })?,
+        Protocol::NotTcp => all.push(Match::OfProtocol {
+            number: 6,
+            negated: true,
+        })?,
+    }
+    push_matches(&mut all, &alternative.tests)?;
+    Ok(all)
+}
+
+/// Puts a rule behind those that are there.
+#[tactic(auto, unfolding(crate::specs::Rendering::with_statement))]
+fn push_rule<'c>(
+    alloc: Global,
+    rules: &mut Vec<NftRule<'c>>,
+    alternative: &Alternative<'c>,
+    statement: Statement<'c>,
+) -> Result<(), AllocError>
+    ensures { OnOk result (map nft_rule_of rules.new.items ≡ map nft_rule_of rules.old.items
+        ++ with_statement (statement_of statement.entry) (alternative_of alternative.now) ∷ []) }
+{
+    let matches = matches_of(alloc, alternative)?;
+    rules.push(NftRule { matches, statement })?;
+    Ok(())
+}
+
+/// Puts a rule with this statement for each alternative behind those that are there.
+pub(crate) fn push_rules<'c>(
+    alloc: Global,
+    rules: &mut Vec<NftRule<'c>>,
+    alternatives: &[Alternative<'c>],
+    statement: Statement<'c>,
+) -> Result<(), AllocError>
+    ensures { OnOk result (map nft_rule_of rules.new.items ≡ map nft_rule_of rules.old.items
+        ++ map (with_statement (statement_of statement.entry)) (map alternative_of alternatives.now)) }
+{
+    for alternative in alternatives {
+        push_rule(alloc, rules, alternative, statement)?;
+    }
+    Ok(())
+}
+
+#[tactic(auto, unfolding(crate::specs::Rendering::jump_each))]
+/// Puts a jump to each chain, in their order, under one alternative behind the rules that are there.
+fn push_each<'c>(
+    alloc: Global,
+    rules: &mut Vec<NftRule<'c>>,
+    alternative: &Alternative<'c>,
+    chains: &[ChainName<'c>],
+) -> Result<(), AllocError>
+    ensures { OnOk result (map nft_rule_of rules.new.items ≡ map nft_rule_of rules.old.items
+        ++ jump_each (map chain_name_of chains.now) (alternative_of alternative.now)) }
+{
+    for chain in chains {
+        push_rule(alloc, rules, alternative, Statement::Jump(*chain))?;
+    }
+    Ok(())
+}
+
+/// Puts the jumps to these chains under each alternative behind the rules that are there.
+pub(crate) fn push_jumps<'c>(
+    alloc: Global,
+    rules: &mut Vec<NftRule<'c>>,
+    alternatives: &[Alternative<'c>],
+    chains: &[ChainName<'c>],
+) -> Result<(), AllocError>
+    ensures { OnOk result (map nft_rule_of rules.new.items ≡ map nft_rule_of rules.old.items
+        ++ jump_rules (map alternative_of alternatives.now) (map chain_name_of chains.now)) }
+{
+    for alternative in alternatives {
+        push_each(alloc, rules, alternative, chains)?;
+    }
+    Ok(())
+}

@@ -1,0 +1,222 @@
+//! The part of nftables in which a configuration is written (nft(8)).
+
+ghost use Rattle.std.specs.Prelude.{◌≡◌, IfOk};
+ghost use Rattle.nft_rules.specs.Seen.{match_of};
+
+use pf_addr::Family;
+use pf_ruleset::{InterfaceName, Name};
+use pf_words::TcpFlags;
+use std::alloc::AllocError;
+use std::rc::Rc;
+
+/// Of the two ends of a packet.
+#[derive(Clone, Copy, PartialEq, Eq)]
+pub enum Side {
+    /// Where it comes from.
+    Source,
+    /// Where it goes.
+    Destination,
+}
+
+/// Of the chains of a path one holds what may end the evaluation, forwards, and one the rest, backwards.
+#[derive(Clone, Copy, PartialEq, Eq)]
+pub enum Pass {
+    /// Quick rules, and what anchor rules evaluate.
+    Forward,
+    /// Rules that aren't quick, the last one first.
+    Backward,
+}
+
+/// What is done with a packet.
+#[derive(Clone, Copy, PartialEq, Eq)]
+pub enum Outcome {
+    /// `accept`.
+    Accept,
+    /// `drop`.
+    Drop,
+    /// `reject`: with tcp reset, or icmpx port-unreachable.
+    Reject,
+}
+
+/// From the first number to the last.
+#[derive(Clone, Copy, PartialEq, Eq)]
+pub struct Interval {
+    /// The first.
+    pub low: u128,
+    /// The last.
+    pub high: u128,
+}
+
+/// The name of a set: whose table it holds, and of which family the addresses are.
+#[derive(Clone, Copy)]
+pub struct SetName<'c> {
+    /// The path of the table's anchor.
+    pub owner: &'c [Name],
+    /// The table's name.
+    pub table: &'c str,
+    /// The family.
+    pub family: Family,
+}
+
+/// A set of addresses.
+#[derive(Drop)]
+pub struct NamedSet<'c> {
+    /// Its name.
+    pub name: SetName<'c>,
+    /// Its elements, which rise and don't meet.
+    pub elements: Vec<Interval>,
+}
+
+/// A place among addresses.
+#[derive(Clone, Copy)]
+pub enum Where<'c> {
+    /// `low-high`.
+    From { low: u128, high: u128 },
+    /// `@name`.
+    InSet(SetName<'c>),
+}
+
+/// An expression that matches (nft(8), PAYLOAD EXPRESSIONS, META EXPRESSIONS).
+#[derive(Drop)]
+pub enum Match<'c> {
+    /// `iifname { .. }` of packets in, `oifname { .. }` of packets out.
+    OnInterface {
+        names: Rc<Vec<InterfaceName>>,
+        negated: bool,
+    },
+    /// `meta nfproto`.
+    OfFamily(Family),
+    /// `meta l4proto`.
+    OfProtocol {
+        number: u8,
+        negated: bool,
+    },
+    /// `ip saddr`, `ip6 saddr`, `ip daddr`, `ip6 daddr`.
+    AtAddress {
+        side: Side,
+        family: Family,
+        place: Where<'c>,
+        negated: bool,
+    },
+    /// `th sport`, `th dport`.
+    AtPort {
+        side: Side,
+        low: u16,
+        high: u16,
+        negated: bool,
+    },
+    /// `tcp flags & mask == value`.
+    WithFlags {
+        mask: TcpFlags,
+        value: TcpFlags,
+    },
+    /// The first byte of an ICMP header: `@th,0,8`.
+    OfType(u8),
+}
+
+impl<'c> Match<'c> {
+    /// The same match once more. A growth that is refused is the error.
+    pub(crate) fn copied(&self) -> Result<Match<'c>, AllocError>
+        ensures { IfOk result (λ m. match_of m ≡ match_of self.now) }
+    {
+        let copy = match self {
+            Match::OnInterface { names, negated } => {
+                return Ok(Match::OnInterface {
+                    names: names.clone()?,
+                    negated: *negated,
+                });
+            }
+            Match::OfFamily(family) => Match::OfFamily(*family),
+            Match::OfProtocol { number, negated } => Match::OfProtocol {
+                number: *number,
+                negated: *negated,
+            },
+            Match::AtAddress {
+                side,
+                family,
+                place,
+                negated,
+            } => Match::AtAddress {
+                side: *side,
+                family: *family,
+                place: *place,
+                negated: *negated,
+            },
+            Match::AtPort {
+                side,
+                low,
+                high,
+                negated,
+            } => Match::AtPort {
+                side: *side,
+                low: *low,
+                high: *high,
+                negated: *negated,
+            },
+            Match::WithFlags { mask, value } => Match::WithFlags {
+                mask: *mask,
+                value: *value,
+            },
+            Match::OfType(number) => Match::OfType(*number),
+        };
+        Ok(copy)
+    }
+}
+
+/// The name of a chain.
+#[derive(Clone, Copy)]
+pub enum ChainName<'c> {
+    /// The chain at the hook.
+    Base,
+    /// One of the two of a path.
+    At { pass: Pass, path: &'c [Name] },
+}
+
+/// What a rule's counter and comment say.
+#[derive(Clone, Copy)]
+pub enum Note<'c> {
+    /// A packet on an interface that the machine's list lacks.
+    Unknown,
+    /// One on a skipped interface.
+    Skip,
+    /// One that no rule matches.
+    Default,
+    /// `path@index`.
+    Spot { path: &'c [Name], index: u32 },
+}
+
+/// What a rule does with packets that it matches (nft(8), VERDICT STATEMENT).
+#[derive(Clone, Copy)]
+pub enum Statement<'c> {
+    /// The packet is decided.
+    Ends { outcome: Outcome, note: Note<'c> },
+    /// It goes to another chain, and, where that decides nothing, on.
+    Jump(ChainName<'c>),
+}
+
+/// A rule.
+#[derive(Drop)]
+pub struct NftRule<'c> {
+    /// What must all hold.
+    pub matches: Vec<Match<'c>>,
+    /// What is done then.
+    pub statement: Statement<'c>,
+}
+
+/// A chain.
+#[derive(Drop)]
+pub struct Chain<'c> {
+    /// Its name.
+    pub name: ChainName<'c>,
+    /// Its rules.
+    pub rules: Vec<NftRule<'c>>,
+}
+
+/// A ruleset: of one direction.
+#[derive(Drop)]
+pub struct NftRuleset<'c> {
+    /// The sets that its rules name.
+    pub sets: Vec<NamedSet<'c>>,
+    /// Its chains, that at the hook first.
+    pub chains: Vec<Chain<'c>>,
+}

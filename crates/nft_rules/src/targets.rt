@@ -1,0 +1,162 @@
+//! The chains to which an anchor rule leads.
+
+ghost use Rattle.std.specs.Prelude.{◌≡◌, ◌++◌, ◌∷◌, [], IfOk, OnOk, map, filter};
+ghost use Rattle.pf_ruleset.specs.Seen.{target_of};
+ghost use Rattle.pf_config.specs.Trees.{paths_of, shared};
+ghost use Rattle.nft_rules.specs.Rendering.{is_chained, chained_targets, forward_chains, backward_chains};
+ghost use Rattle.nft_rules.specs.inner.Rendering.{is_member};
+ghost use Rattle.nft_rules.specs.Seen.{chain_name_of};
+
+use crate::subset::{ChainName, Pass};
+use pf_config::{Anchor, Config};
+use pf_ruleset::{Name, PATH_MAX, Target};
+use std::alloc::{AllocError, Global};
+use std::rc::Rc;
+
+/// Whether a jump may lead to the path: some rule is there, and it has 8 names at most.
+#[tactic(auto, using(crate::proofs::Targeted::any_rules))]
+fn is_chained(config: &Config, path: &[Name]) -> bool
+    ensures { result ≡ is_chained config.now path.now }
+{
+    path.len() <= PATH_MAX && !config.items(path).is_empty()
+}
+
+/// Puts the path behind those that are there, if a jump may lead to it.
+fn push_chained<'c>(
+    config: &'c Config,
+    paths: &mut Vec<&'c [Name]>,
+    path: &'c [Name],
+) -> Result<(), AllocError>
+    ensures { OnOk result (map (λ p. p.now) paths.new.items
+        ≡ map (λ p. p.now) paths.old.items ++ filter (is_chained config.now) (path.now ∷ [])) }
+{
+    if is_chained(config, path) {
+        paths.push(path)?;
+    }
+    Ok(())
+}
+
+/// Puts the chains of these paths behind those that are there.
+pub(crate) fn push_forward<'c>(
+    chains: &mut Vec<ChainName<'c>>,
+    paths: &[&'c [Name]],
+) -> Result<(), AllocError>
+    ensures { OnOk result (map chain_name_of chains.new.items
+        ≡ map chain_name_of chains.old.items ++ forward_chains (map (λ p. p.now) paths.now)) }
+{
+    for path in paths {
+        chains.push(ChainName::At {
+            pass: Pass::Forward,
+            path,
+        })?;
+    }
+    Ok(())
+}
+
+/// Puts the chains of these paths behind those that are there, the last path's first.
+#[tactic(auto, using(crate::proofs::Targeted::first_last))]
+pub(crate) fn push_backward<'c>(
+    chains: &mut Vec<ChainName<'c>>,
+    paths: &[&'c [Name]],
+) -> Result<(), AllocError>
+    ensures { OnOk result (map chain_name_of chains.new.items
+        ≡ map chain_name_of chains.old.items ++ backward_chains (map (λ p. p.now) paths.now)) }
+{
+    let [path, rest @ ..] = paths else {
+        return Ok(());
+    };
+    push_backward(chains, rest)?;
+    chains.push(ChainName::At {
+        pass: Pass::Backward,
+        path,
+    })?;
+    Ok(())
+}
+
+/// Puts the paths of these anchors, but for unnamed blocks, behind those that are there, if a jump may lead to them.
+fn push_members<'c>(
+    config: &'c Config,
+    paths: &mut Vec<&'c [Name]>,
+    kids: &'c [Rc<Anchor>],
+) -> Result<(), AllocError>
+    ensures { OnOk result (map (λ p. p.now) paths.new.items
+        ≡ map (λ p. p.now) paths.old.items
+        ++ filter (is_chained config.now) (filter is_member (paths_of (shared kids.now)))) }
+{
+    for kid in kids {
+        push_member(config, paths, kid)?;
+    }
+    Ok(())
+}
+
+/// Puts the path of the anchor, unless it is an unnamed block, behind those that are there, if a jump may lead to it.
+fn push_member<'c>(
+    config: &'c Config,
+    paths: &mut Vec<&'c [Name]>,
+    kid: &'c Anchor,
+) -> Result<(), AllocError>
+    ensures { OnOk result (map (λ p. p.now) paths.new.items
+        ≡ map (λ p. p.now) paths.old.items ++ filter (is_chained config.now) (filter is_member (kid.now.names ∷ []))) }
+{
+    if kid.is_unnamed() {
+        return Ok(());
+    }
+    push_chained(config, paths, kid.names())
+}
+
+/// Puts the path of the anchor there behind those that are there, if a jump may lead to it.
+#[tactic(auto, using(crate::proofs::Targeted::path_there, crate::proofs::Targeted::none_there))]
+fn push_anchor<'c>(
+    config: &'c Config,
+    paths: &mut Vec<&'c [Name]>,
+    path: &[Name],
+) -> Result<(), AllocError>
+    ensures { OnOk result (map (λ p. p.now) paths.new.items
+        ≡ map (λ p. p.now) paths.old.items ++ filter (is_chained config.now) (path.now ∷ [])) }
+{
+    match config.anchor(path) {
+        None => Ok(()),
+        Some(anchor) => push_chained(config, paths, anchor.names()),
+    }
+}
+
+/// A path, and names behind it.
+fn joined(alloc: Global, path: &[Name], names: &[Name]) -> Result<Vec<Name>, AllocError>
+    ensures { IfOk result (λ v. v.items ≡ path.now ++ names.now) }
+{
+    let mut all = Vec::new(alloc);
+    push_names(alloc, &mut all, path)?;
+    push_names(alloc, &mut all, names)?;
+    Ok(all)
+}
+
+/// Puts the same names behind those that are there.
+fn push_names(alloc: Global, all: &mut Vec<Name>, names: &[Name]) -> Result<(), AllocError>
+    ensures { OnOk result (all.new.items ≡ all.old.items ++ names.now) }
+{
+    for name in names {
+        all.push(name.copied(alloc)?)?;
+    }
+    Ok(())
+}
+
+/// The paths that an anchor rule evaluates and to which a jump may lead, in their order.
+#[tactic(auto, using(crate::proofs::Targeted::named_paths))]
+pub(crate) fn chained_targets<'c>(
+    alloc: Global,
+    config: &'c Config,
+    path: &[Name],
+    target: &Target,
+) -> Result<Vec<&'c [Name]>, AllocError>
+    ensures { IfOk result (λ v. map (λ p. p.now) v.items
+        ≡ chained_targets config.now path.now (target_of target.now)) }
+{
+    let names = joined(alloc, path, &target.names)?;
+    let mut paths = Vec::new(alloc);
+    if target.children {
+        push_members(config, &mut paths, config.kids(&names))?;
+    } else {
+        push_anchor(config, &mut paths, &names)?;
+    }
+    Ok(paths)
+}

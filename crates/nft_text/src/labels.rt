@@ -1,0 +1,99 @@
+//! The names of chains and sets in a text.
+
+ghost use Rattle.std.specs.Prelude.{◌≡◌, Some, map};
+ghost use Rattle.nft_rules.specs.Seen.{chain_name_of, chain_of, set_name_of, named_set_of, ruleset_of};
+ghost use Rattle.nft_text.specs.Texts.{chain_index, set_index, generation, chain_label, set_label};
+
+use nft_rules::{Chain, ChainName, NamedSet, NftRuleset, SetName, same_chain, same_set};
+use pf_ruleset::Direction;
+use std::fmt::{self, Display};
+
+/// How many chains are before the first of that name.
+fn chain_index<'c>(chains: &[Chain<'c>], name: ChainName<'c>) -> usize
+    ensures { result ≡ chain_index (chain_name_of name.entry) (map chain_of chains.now) }
+{
+    let mut index = 0usize;
+    for chain in chains {
+        if same_chain(chain.name, name) {
+            return index;
+        }
+        index += 1;
+    }
+    index
+}
+
+/// How many sets are before the first of that name.
+fn set_index<'c>(sets: &[NamedSet<'c>], name: SetName<'c>) -> usize
+    ensures { result ≡ set_index (set_name_of name.entry) (map named_set_of sets.now) }
+{
+    let mut index = 0usize;
+    for set in sets {
+        if same_set(set.name, name) {
+            return index;
+        }
+        index += 1;
+    }
+    index
+}
+
+/// What a text is of: a ruleset, its direction, and the position in the names.
+#[derive(Clone, Copy)]
+pub(crate) struct Whole<'r, 'c> {
+    pub(crate) position: u32,
+    pub(crate) direction: Direction,
+    pub(crate) parts: &'r NftRuleset<'c>,
+}
+
+/// What names of a position begin with.
+#[derive(Clone, Copy)]
+pub(crate) struct Generation(pub(crate) u32);
+
+impl fmt::Display for Generation {
+    ghost output = { λ g. Some (generation g.0) };
+
+    fn fmt<W: fmt::Write>(&self, f: &mut fmt::Formatter<W>) -> fmt::Result {
+        f.write_str("g")?;
+        f.write(self.0)?;
+        f.write_str("_")
+    }
+}
+
+/// The name of a chain.
+#[derive(Clone, Copy)]
+pub(crate) struct ChainLabel<'r, 'c> {
+    pub(crate) whole: Whole<'r, 'c>,
+    pub(crate) name: ChainName<'c>,
+}
+
+impl fmt::Display for ChainLabel<'_, '_> {
+    ghost output = { λ x. Some (chain_label x.whole.position x.whole.direction (ruleset_of x.whole.parts.now)
+        (chain_name_of x.name)) };
+
+    fn fmt<W: fmt::Write>(&self, f: &mut fmt::Formatter<W>) -> fmt::Result {
+        let index = chain_index(&self.whole.parts.chains, self.name);
+        Generation(self.whole.position).fmt(f)?;
+        match self.whole.direction {
+            Direction::In => f.write_str("i")?,
+            Direction::Out => f.write_str("o")?,
+        }
+        f.write(index)
+    }
+}
+
+/// The name of a set.
+#[derive(Clone, Copy)]
+pub(crate) struct SetLabel<'r, 'c> {
+    pub(crate) whole: Whole<'r, 'c>,
+    pub(crate) name: SetName<'c>,
+}
+
+impl fmt::Display for SetLabel<'_, '_> {
+    ghost output = { λ x. Some (set_label x.whole.position (ruleset_of x.whole.parts.now) (set_name_of x.name)) };
+
+    fn fmt<W: fmt::Write>(&self, f: &mut fmt::Formatter<W>) -> fmt::Result {
+        let index = set_index(&self.whole.parts.sets, self.name);
+        Generation(self.whole.position).fmt(f)?;
+        f.write_str("s")?;
+        f.write(index)
+    }
+}

@@ -1,0 +1,54 @@
+-- Requests at a desk, one after another.
+use Rattle.std.proofs.Common.{◌≡◌, ℕ, zero, suc, Bool, true, false, List, [], ◌∷◌, refl, sym, ap, subst, inl, inr}
+use Rattle.http.specs.declared.request.Request.{Request}
+use Rattle.http_server.specs.Exchange.{Call, Chain}
+use Rattle.http_server.specs.declared.response.Response.{Response}
+use Rattle.px_records.specs.declared.records.Records.{Ghosts}
+use Rattle.pf_desk.specs.declared.desk.Desk.{Desk}
+use Rattle.pf_desk.specs.declared.request.Request as asked
+use Rattle.node_control.specs.inner.Handling.{IsHandled, PassedOnIf, is_asked}
+use Rattle.node_control.specs.inner.Runs.{Asks, AreAsked}
+use Rattle.node_control.specs.declared.clerk.Clerk.{Clerk}
+
+pub asked_none : {R : Type 0} {G : Ghosts R} (s t : Desk R G) → t ≡ s → AreAsked s t
+asked_none s t e = (zero, e)
+
+asks_then : {R : Type 0} {G : Ghosts R} (m n : ℕ) (s t u : Desk R G) → Asks m s t → Asks n t u → AreAsked s u
+asks_then {R} {G} m zero s t u a e = (m, subst (λ (d : Desk R G). Asks m s d) (sym e) a)
+asks_then m (suc n) s t u a (w, b, k) =
+    let c = asks_then m n s t w a b in (suc c.0, (w, c.1, k))
+
+pub asked_then : {R : Type 0} {G : Ghosts R} (s t u : Desk R G) → AreAsked s t → AreAsked t u → AreAsked s u
+asked_then s t u (m, a) (n, b) = asks_then m n s t u a b
+
+-- what became of one request that was understood
+passed_on : {R : Type 0} {G : Ghosts R} (b : Bool) (c d : Clerk R G) (request : asked.Request) (r : Response) →
+    PassedOnIf b c d request r → AreAsked c.desk d.desk
+passed_on true c d request r answered = (
+  suc zero,
+  (
+    c.desk,
+    refl,
+    record {
+      counted = c.tally;
+      request = request;
+      answer = answered.answer;
+      answers = answered.answers;
+    },
+  ),
+)
+passed_on false c d request r turned = asked_none c.desk d.desk turned.still
+
+-- and of one
+handled : {R : Type 0} {G : Ghosts R} (c d : Clerk R G) (r : Response) → IsHandled c d r → AreAsked c.desk d.desk
+handled c d r (inl (request, passed)) = passed_on (is_asked c request) c d request r passed
+handled c d r (inr misread) = asked_none c.desk d.desk misread.still
+
+-- a chain of calls of a clerk
+pub chained : {R : Type 0} {G : Ghosts R} (answers : Clerk R G → Request (List ℕ) → Response → Clerk R G → Type 0) →
+    ((c d : Clerk R G) (q : Request (List ℕ)) (r : Response) → answers c q r d → IsHandled c d r) →
+    (c d : Clerk R G) (calls : List Call) → Chain answers c calls d → AreAsked c.desk d.desk
+chained {R} {G} answers are c d [] e = asked_none c.desk d.desk (ap (λ (k : Clerk R G). k.desk) e)
+chained answers are c d (k ∷ calls) (next, one, rest) =
+    asked_then c.desk next.desk d.desk (handled c next k.1 (are c next k.0 k.1 one))
+    (chained answers are next d calls rest)

@@ -1,0 +1,11 @@
+-- with the heads that are left, what is known of proposals is what it is with all
+use Rattle.std.proofs.Common.{◌≡◌, drop}
+use Rattle.node_control.specs.inner.Watching.{proposed_after}
+use Rattle.node_control.proofs.observer.Observer.count.Given as goal
+
+abbrev pub invariant-loop-head : goal.invariant-loop-head
+invariant-loop-head l = record {
+  front : l.self.front ≡ l.fn.self.front;
+  now : l.self.now ≡ l.fn.self.now;
+  proposed : proposed_after l.fn.self.front l.fn.self.now (drop l.head-index l.heads) l.self.proposed ≡ proposed_after l.fn.self.front l.fn.self.now l.fn.heads l.fn.self.proposed;
+}

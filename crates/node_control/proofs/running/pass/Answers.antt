@@ -1,0 +1,33 @@
+-- turns, and the requests behind them
+use Rattle.std.proofs.Common.{None, refl}
+use Rattle.pf_turn.proofs.Chains.{served_then}
+use Rattle.pf_turn.proofs.Hosting.{hosted_served, hosted_on}
+use Rattle.node_control.proofs.Rounds.{still}
+use Rattle.node_control.proofs.running.pass.Goals as goal
+
+pub returns-in-Err-clause-hosted : goal.returns-in-Err-clause-hosted
+returns-in-Err-clause-hosted g c = hosted_served _ _ _ c.in-Err.ensures.served
+
+pub returns-else-not-serve-clause-hosted : goal.returns-else-not-serve-clause-hosted
+returns-else-not-serve-clause-hosted g c =
+    hosted_on _ _ _ c.serve.ensures.asks.0 (hosted_served _ _ None c.in-Ok.ensures.served) c.serve.ensures.asks.1 refl refl refl refl refl
+
+pub returns-then-not-serve-clause-hosted : goal.returns-then-not-serve-clause-hosted
+returns-then-not-serve-clause-hosted g c =
+    hosted_on _ _ _ c.serve.ensures.asks.0 (hosted_served _ _ None c.in-Ok.ensures.served) c.serve.ensures.asks.1
+    c.wait.ensures.given c.wait.ensures.quiet refl refl refl
+
+pub returns-in-Err-clause-turns : goal.returns-in-Err-clause-turns
+returns-in-Err-clause-turns g c none = (c.in-Err.ensures.served, none)
+
+pub returns-else-not-serve-clause-turns : goal.returns-else-not-serve-clause-turns
+returns-else-not-serve-clause-turns g c none = (
+  served_then _ _ _ None c.in-Ok.ensures.served (still g.W.Wire _ _ _ _ c.round.new.room (c.serve.ensures.none none).0 refl refl),
+  (c.serve.ensures.none none).1,
+)
+
+pub returns-then-not-serve-clause-turns : goal.returns-then-not-serve-clause-turns
+returns-then-not-serve-clause-turns g c none = (
+  served_then _ _ _ None c.in-Ok.ensures.served (still g.W.Wire _ _ _ _ c.round.new.room (c.serve.ensures.none none).0 c.wait.ensures.given c.wait.ensures.quiet),
+  c.wait.ensures.none (c.serve.ensures.none none).1,
+)

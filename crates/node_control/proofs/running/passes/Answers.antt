@@ -1,0 +1,21 @@
+-- one round more
+use Rattle.std.proofs.Common.{refl}
+use Rattle.pf_turn.proofs.Chains.{served_none, same_all}
+use Rattle.pf_turn.proofs.Hosting.{hosted_none, hosted_then}
+use Rattle.node_control.proofs.Rounds.{turns_then}
+use Rattle.node_control.proofs.running.passes.Goals as goal
+
+pub loop-round-init : goal.loop-round-init
+loop-round-init g c = record { hosted = hosted_none _ _ refl; turns = λ none. (served_none _ _ (same_all _), none) }
+
+pub loop-round-preserved : goal.loop-round-preserved
+loop-round-preserved g c = record {
+  hosted = hosted_then _ _ _ _ c.loop-round.invariant.hosted c.in-Ok.ensures.hosted;
+  turns = λ none. turns_then _ _ _ _ _ _ (c.loop-round.invariant.turns none) c.in-Ok.ensures.turns;
+}
+
+pub returns-in-Err-clause-hosted : goal.returns-in-Err-clause-hosted
+returns-in-Err-clause-hosted g c = hosted_then _ _ _ _ c.loop-round.invariant.hosted c.in-Err.ensures.hosted
+
+pub returns-in-Err-clause-turns : goal.returns-in-Err-clause-turns
+returns-in-Err-clause-turns g c none = turns_then _ _ _ _ _ _ (c.loop-round.invariant.turns none) c.in-Err.ensures.turns

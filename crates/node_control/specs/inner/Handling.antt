@@ -1,0 +1,99 @@
+-- What becomes of a request that came as HTTP.
+use Rattle.std.specs.Prelude.{◌≡◌, ◌⊎◌, ◌≤◌, ◌&&◌, ◌||◌, ℕ, Bool, true, false, not, List, [], ◌∷◌, ◌++◌, codes}
+use Rattle.std.specs.Prelude.{if◌then◌else◌}
+use Rattle.http.specs.declared.request.Request as http
+use Rattle.http_server.specs.Exchange.{Call, Chain}
+use Rattle.http_server.specs.declared.response.Response.{Response}
+use Rattle.px_records.specs.declared.records.Records.{Ghosts}
+use Rattle.pf_desk.specs.declared.desk.Desk.{Desk}
+use Rattle.pf_desk.specs.declared.request.Read.{Read}
+use Rattle.pf_desk.specs.declared.request.Read.TheVariants as read
+use Rattle.pf_desk.specs.declared.request.Request.{Request}
+use Rattle.pf_desk.specs.declared.request.Request.TheVariants as request
+use Rattle.pf_desk.specs.declared.tally.Tally.{Tally}
+use Rattle.pf_desk.specs.Answers.{AnswerValue}
+use Rattle.pf_desk.specs.Requests.{Answers}
+use Rattle.node_control.specs.declared.clerk.Clerk.{Clerk}
+
+-- a response says an answer, its status and its body; or it is 503 without one, where memory is wanting for that
+abbrev pub Says : Response → AnswerValue → Type 0
+Says r a = ((r.status ≡ a.code) × (r.body.items ≡ a.body)) ⊎ ((r.status ≡ 503) × (r.body.items ≡ []))
+
+-- the desk answered the request, over what was counted, and the response says that answer
+pub record IsAnswered {R : Type 0} {G : Ghosts R} (s t : Desk R G) (counted : Tally) (request : Request)
+    (r : Response) : Type 0 where
+  pub answer : AnswerValue
+  pub answers : Answers s t counted request answer
+  pub says : Says r answer
+
+-- nothing was asked and nothing changes; the response says this answer
+pub record IsTurnedAway {R : Type 0} {G : Ghosts R} (s t : Desk R G) (a : AnswerValue) (r : Response) : Type 0 where
+  pub still : t ≡ s
+  pub says : Says r a
+
+-- nothing was asked and nothing changes; the response is one for what isn't understood: 400 to 499, or 503 without a
+-- body when out of memory
+pub record IsMisread {R : Type 0} {G : Ghosts R} (s t : Desk R G) (r : Response) : Type 0 where
+  pub still : t ≡ s
+  pub refuses : ((400 ≤ r.status) × (r.status ≤ 499)) ⊎ ((r.status ≡ 503) × (r.body.items ≡ []))
+
+-- ---- who is answered
+
+abbrev pub is_of_health : Read → Bool
+is_of_health read.Health = true
+is_of_health read.Ready = true
+is_of_health other = false
+
+-- what is answered also where all seats are taken
+abbrev pub is_urgent : Request → Bool
+is_urgent (request.Change words text) = false
+is_urgent (request.Read at r) = is_of_health r
+is_urgent request.Stop = true
+
+abbrev pub is_change : Request → Bool
+is_change (request.Change words text) = true
+is_change (request.Read at r) = false
+is_change request.Stop = false
+
+abbrev pub is_read : Request → Bool
+is_read (request.Change words text) = false
+is_read (request.Read at r) = true
+is_read request.Stop = false
+
+-- whether there is a connection for the request: where all are taken, there is one for what is urgent
+abbrev pub is_seated : {R : Type 0} {G : Ghosts R} → Clerk R G → Request → Bool
+is_seated c request = not c.is_spare || is_urgent request
+
+-- Whether a request that was understood is answered: where there is a connection for it; a change unless the node is
+-- catching up; and where figures alone are served, what only reads.
+abbrev pub is_asked : {R : Type 0} {G : Ghosts R} → Clerk R G → Request → Bool
+is_asked c request =
+    is_seated c request &&
+    (if c.is_scraped then is_read request else not (c.is_listening && is_change request))
+
+-- what a request is answered that is to come again, and one that isn't served there
+abbrev pub waiting : AnswerValue
+waiting = record { code = 503; body = codes "waiting" ++ 10 ∷ [] }
+
+abbrev pub not_found : AnswerValue
+not_found = record { code = 404; body = [] }
+
+-- what it is answered else
+abbrev pub away : {R : Type 0} {G : Ghosts R} → Clerk R G → Request → AnswerValue
+away c request = if c.is_scraped && is_seated c request then not_found else waiting
+
+-- a request that was understood is answered, or is answered so and nothing changes
+abbrev pub PassedOnIf : {R : Type 0} {G : Ghosts R} → Bool → (c d : Clerk R G) → Request → Response → Type 0
+PassedOnIf true c d request r = IsAnswered c.desk d.desk c.tally request r
+PassedOnIf false c d request r = IsTurnedAway c.desk d.desk (away c request) r
+
+abbrev pub IsPassedOn : {R : Type 0} {G : Ghosts R} → (c d : Clerk R G) → Request → Response → Type 0
+IsPassedOn c d request r = PassedOnIf (is_asked c request) c d request r
+
+-- one request was understood, or none
+abbrev pub IsHandled : {R : Type 0} {G : Ghosts R} → (c d : Clerk R G) → Response → Type 0
+IsHandled c d r = ((request : Request) × IsPassedOn c d request r) ⊎ IsMisread c.desk d.desk r
+
+-- a service handled requests, one after another
+abbrev pub Handles : {S : Type 0} → (S → http.Request (List ℕ) → Response → S → Type 0) → (old new : S) → Type 0
+Handles answers old new = (calls : List Call) × Chain answers old calls new

@@ -1,0 +1,58 @@
+-- What is told of how a node stands, from what came over its wire.
+use Rattle.std.specs.Prelude.{ℕ, ◌-◌, ◌/◌, ◌==◌, ◌&&◌, Bool, true, false, List, [], ◌∷◌, Option, Some, None}
+use Rattle.std.specs.Prelude.{nat_le, nat_lt}
+use Rattle.std.specs.Prelude.{if◌then◌else◌}
+use Rattle.px_wire.specs.declared.head.Head.{Head}
+use Rattle.px_wire.specs.declared.kind.Kind.{Kind}
+use Rattle.px_wire.specs.declared.kind.Kind.TheVariants as kinds
+use Rattle.node_control.specs.declared.observer.TheConstants.{PROPOSED}
+
+-- the position at which the sender of a message of this kind, which is about this position, proposes a command
+abbrev pub proposal_by : Kind → (position : Option ℕ) → Option ℕ
+proposal_by kinds.Prepare p = p
+proposal_by kinds.PrepareAll p = p
+proposal_by kinds.Accept p = p
+proposal_by kinds.Vote p = None
+proposal_by kinds.Need p = None
+proposal_by kinds.Learned p = None
+proposal_by kinds.Promise p = None
+proposal_by kinds.PromiseAll p = None
+proposal_by kinds.Nack p = None
+proposal_by kinds.Ask p = None
+proposal_by kinds.Asked p = None
+proposal_by kinds.AskRefused p = None
+
+-- the same by a head
+abbrev pub proposal_in : Head → Option ℕ
+proposal_in h = proposal_by h.kind h.position
+
+-- a proposal is kept where it isn't below the front; an older one stands else
+abbrev pub proposed_then : (front now : ℕ) → Option ℕ → (was : Option (ℕ × ℕ)) → Option (ℕ × ℕ)
+proposed_then front now None was = was
+proposed_then front now (Some p) was = if nat_le front p then Some (p, now) else was
+
+-- the same with a message of this head, which counts where another member sent it
+abbrev pub proposed_by : (front now : ℕ) → Head → (was : Option (ℕ × ℕ)) → Option (ℕ × ℕ)
+proposed_by front now h was = if h.from == h.to then was else proposed_then front now (proposal_in h) was
+
+-- the same with these, one after the other
+abbrev pub proposed_after : (front now : ℕ) → List Head → (was : Option (ℕ × ℕ)) → Option (ℕ × ℕ)
+proposed_after front now [] was = was
+proposed_after front now (h ∷ hs) was = proposed_after front now hs (proposed_by front now h was)
+
+-- another member proposes a command at the front or beyond it
+abbrev pub is_proposed : (front now : ℕ) → Option (ℕ × ℕ) → Bool
+is_proposed front now None = false
+is_proposed front now (Some (p, at)) = nat_le front p && nat_lt (now - at) PROPOSED
+
+-- since when commands have waited while the front stood
+abbrev pub stood_since : (has_moved waits : Bool) → Option ℕ → (now : ℕ) → Option ℕ
+stood_since has_moved false since now = None
+stood_since true true since now = Some now
+stood_since false true None now = Some now
+stood_since false true (Some t) now = Some t
+
+-- so many whole seconds, none where nothing stands
+abbrev pub seconds_since : Option ℕ → (now : ℕ) → ℕ
+seconds_since None now = 0
+seconds_since (Some t) now = (now - t) / 1000000

@@ -1,0 +1,378 @@
+//! Requests as the desk has them, and its answers as HTTP has them.
+
+ghost use Rattle.std.specs.Prelude.{◌≡◌, [], true, false, IfOk, OnErr, OnOk, string_bytes};
+ghost use Rattle.http_server.specs.Response.{IsBlank};
+ghost use Rattle.pf_desk.specs.Answers.{answer_value};
+ghost use Rattle.node_control.specs.inner.Handling.{Says, IsAnswered, IsTurnedAway, IsMisread, IsPassedOn, IsHandled};
+ghost use Rattle.node_control.specs.inner.Handling.{is_urgent, is_change, is_read, waiting, not_found};
+
+use bytes::{BufMut, Bytes};
+use http::{HeaderName, HeaderValue, StatusCode};
+use http_server::{Response, Service};
+use pf_desk::{Answer, Desk, Read, Request, Routed, Tally, request_in, status_of};
+use pf_node::Node;
+use px_records::Records;
+use std::alloc::{AllocError, Global};
+
+/// A desk as a service: what comes as HTTP is asked of the desk.
+#[derive(Drop)]
+pub(crate) struct Clerk<R: Records> {
+    pub(crate) desk: Desk<R>,
+    /// What was counted.
+    pub(crate) tally: Tally,
+    /// Whether the node takes no change in now, since it lacks entries that others have.
+    pub(crate) is_listening: bool,
+    /// Whether what comes now came where figures alone are told, and nothing is changed.
+    pub(crate) is_scraped: bool,
+    /// Whether what comes now came at the seat that is kept for `health` and `stop`.
+    pub(crate) is_spare: bool,
+    /// How many requests were answered, those for figures too.
+    pub(crate) answered: u64,
+    pub(crate) alloc: Global,
+}
+
+/// The kind of a plain text.
+const TEXT: &str = "text/plain; charset=utf-8";
+
+/// The kind of text that a request is answered with.
+fn content_type(request: &Request) -> &'static str {
+    match request {
+        Request::Read { at: _, read } => match read {
+            Read::Metrics => "text/plain; version=0.0.4",
+            Read::Status { json: true } => "application/json",
+            _ => TEXT,
+        },
+        _ => TEXT,
+    }
+}
+
+/// Whether the field `Accept` names JSON.
+fn accepts_json(request: &http::Request<Bytes>) -> bool {
+    match request.headers().get("accept") {
+        Some(value) => value.as_bytes() == b"application/json".as_slice(),
+        None => false,
+    }
+}
+
+/// Whether the path is one of figures.
+fn is_of_figures(path: &str) -> bool {
+    matches!(path, "/metrics" | "/healthz" | "/readyz")
+}
+
+/// Whether the request is answered when all seats are taken.
+fn is_urgent(request: &Request) -> bool
+    ensures { result ≡ is_urgent request.now }
+{
+    match request {
+        Request::Stop => true,
+        Request::Read { at: _, read } => matches!(read, Read::Health | Read::Ready),
+        Request::Change { .. } => false,
+    }
+}
+
+/// Whether a change is asked for.
+fn is_change(request: &Request) -> bool
+    ensures { result ≡ is_change request.now }
+{
+    match request {
+        Request::Change { .. } => true,
+        Request::Read { .. } | Request::Stop => false,
+    }
+}
+
+/// Adds a field.
+fn add_text(
+    alloc: Global,
+    response: &mut Response,
+    name: &[u8],
+    text: &str,
+) -> Result<(), AllocError>
+    ensures status { OnOk result (response.new.status ≡ response.old.status) }
+    ensures body { OnOk result (response.new.body.items ≡ response.old.body.items) }
+{
+    let Ok(name) = HeaderName::from_bytes(alloc, name) else {
+        return Err(AllocError);
+    };
+    let Ok(value) = HeaderValue::from_str(alloc, text) else {
+        return Err(AllocError);
+    };
+    response.add_header(name, value)
+}
+
+/// Adds a field with a number.
+fn add_number(
+    alloc: Global,
+    response: &mut Response,
+    name: &[u8],
+    number: u64,
+) -> Result<(), AllocError>
+    ensures status { OnOk result (response.new.status ≡ response.old.status) }
+    ensures body { OnOk result (response.new.body.items ≡ response.old.body.items) }
+{
+    let text = number.to_string(alloc)?;
+    add_text(alloc, response, name, text.as_str())
+}
+
+/// The line of a refusal.
+fn refused(alloc: Global, code: u8) -> Result<String, AllocError> {
+    format!(in alloc; "refused {code}\n")
+}
+
+impl<R: Records> Clerk<R> {
+    /// The handler of a node's requests.
+    pub(crate) fn new(alloc: Global, node: Node<R>, tally: Tally) -> Clerk<R>
+        ensures { result.desk.node ≡ node }
+    {
+        Clerk {
+            desk: Desk::new(alloc, node),
+            tally,
+            is_listening: true,
+            is_scraped: false,
+            is_spare: false,
+            answered: 0,
+            alloc,
+        }
+    }
+
+    /// The node, with which the handler ends.
+    pub(crate) fn close(self) -> Node<R>
+        ensures { result ≡ self.desk.node }
+    {
+        let Clerk {
+            desk,
+            tally: _,
+            is_listening: _,
+            is_scraped: _,
+            is_spare: _,
+            answered: _,
+            alloc: _,
+        } = self;
+        desk.close()
+    }
+
+    /// Says which node answers, and after how many positions.
+    fn add_standing(&self, response: &mut Response) -> Result<(), AllocError>
+        ensures status { OnOk result (response.new.status ≡ response.old.status) }
+        ensures body { OnOk result (response.new.body.items ≡ response.old.body.items) }
+    {
+        let node = &self.desk.node;
+        let me = node.membership().me();
+        let applied = u64::from(node.applied());
+        add_number(self.alloc, response, b"pfx-node", u64::from(me))?;
+        add_number(self.alloc, response, b"pfx-applied", applied)?;
+        add_number(self.alloc, response, b"pfx-front", u64::from(node.front()))
+    }
+
+    /// Adds the fields of an answer.
+    fn add_fields(&self, code: u16, kind: &str, response: &mut Response) -> Result<(), AllocError>
+        ensures status { OnOk result (response.new.status ≡ response.old.status) }
+        ensures body { OnOk result (response.new.body.items ≡ response.old.body.items) }
+    {
+        self.add_standing(response)?;
+        add_text(self.alloc, response, b"content-type", kind)?;
+        if code == 503 {
+            add_text(self.alloc, response, b"retry-after", "1")?;
+        }
+        Ok(())
+    }
+
+    /// Fills a response with an answer.
+    fn fill(&self, answer: &Answer, kind: &str, response: &mut Response) -> Result<(), AllocError>
+        requires { IsBlank response.old }
+        ensures status { OnOk result (response.new.status ≡ answer.now.code) }
+        ensures body { OnOk result (response.new.body.items ≡ string_bytes answer.now.body) }
+    {
+        let Ok(status) = StatusCode::from_u16(answer.code) else {
+            return Err(AllocError);
+        };
+        response.status = status;
+        self.add_fields(answer.code, kind, response)?;
+        response.body.put_slice(answer.body.as_bytes())
+    }
+
+    /// Writes an answer; where memory is wanting for that it is 503 alone, since what was asked may be done.
+    fn write(&self, answer: &Answer, kind: &str, response: &mut Response)
+        requires { IsBlank response.old }
+        ensures { Says response.new (answer_value answer.now) }
+    {
+        if self.fill(answer, kind, response).is_err() {
+            response.clear();
+            response.status = StatusCode::SERVICE_UNAVAILABLE;
+        }
+    }
+
+    /// Counts an answer.
+    pub(crate) fn count(&mut self, status: u16)
+        ensures desk { self.new.desk ≡ self.old.desk }
+        ensures scraped { self.new.is_scraped ≡ self.old.is_scraped }
+    {
+        self.answered = self.answered.wrapping_add(1);
+        if self.is_scraped {
+            return;
+        }
+        if status < 400 {
+            self.tally.served = self.tally.served.saturating_add(1);
+        } else if status < 500 {
+            self.tally.refused = self.tally.refused.saturating_add(1);
+        } else {
+            self.tally.unavailable = self.tally.unavailable.saturating_add(1);
+        }
+    }
+
+    /// Asks the desk.
+    fn ask(&mut self, request: &Request, response: &mut Response) -> Result<(), AllocError>
+        requires { IsBlank response.old }
+        ensures answered { OnOk result
+            (IsAnswered self.old.desk self.new.desk self.old.tally request.now response.new) }
+        ensures memory { OnErr result (self.new ≡ self.old) }
+        ensures scraped { self.new.is_scraped ≡ self.old.is_scraped }
+    {
+        let answer = self.desk.answer(request, &self.tally)?;
+        self.write(&answer, content_type(request), response);
+        self.count(response.status.as_u16());
+        Ok(())
+    }
+
+    /// Asks nothing: this is answered.
+    fn turn_away(&mut self, answer: &Answer, response: &mut Response)
+        requires { IsBlank response.old }
+        ensures away { IsTurnedAway self.old.desk self.new.desk (answer_value answer.now) response.new }
+        ensures scraped { self.new.is_scraped ≡ self.old.is_scraped }
+    {
+        self.write(answer, TEXT, response);
+        self.count(response.status.as_u16());
+    }
+
+    /// Asks nothing, since what came isn't understood: that is answered with HTTP's status, 400 to 499.
+    fn misread(&mut self, code: u16, body: String, response: &mut Response)
+        requires { IsBlank response.old }
+        ensures misread { IsMisread self.old.desk self.new.desk response.new }
+        ensures scraped { self.new.is_scraped ≡ self.old.is_scraped }
+    {
+        let answer = Answer {
+            code: code.max(400).min(499),
+            body,
+        };
+        self.turn_away(&answer, response);
+    }
+
+    /// Asks nothing: what is asked isn't served here.
+    fn not_found(&mut self, response: &mut Response)
+        requires { IsBlank response.old }
+        ensures away { IsTurnedAway self.old.desk self.new.desk not_found response.new }
+        ensures scraped { self.new.is_scraped ≡ self.old.is_scraped }
+    {
+        let answer = Answer {
+            code: 404,
+            body: String::new(self.alloc),
+        };
+        self.turn_away(&answer, response);
+    }
+
+    /// Asks nothing now: the client is to ask again.
+    fn put_off(&mut self, response: &mut Response) -> Result<(), AllocError>
+        requires { IsBlank response.old }
+        ensures away { OnOk result (IsTurnedAway self.old.desk self.new.desk waiting response.new) }
+        ensures still { self.new.desk ≡ self.old.desk }
+        ensures memory { OnErr result (self.new ≡ self.old) }
+        ensures scraped { self.new.is_scraped ≡ self.old.is_scraped }
+    {
+        let answer = Answer {
+            code: 503,
+            body: String::from_str(self.alloc, "waiting\n")?,
+        };
+        self.turn_away(&answer, response);
+        Ok(())
+    }
+
+    /// Reads, where figures alone are served.
+    fn look(&mut self, request: &Request, response: &mut Response) -> Result<(), AllocError>
+        requires { IsBlank response.old }
+        ensures read { is_read request.now ≡ true → OnOk result
+            (IsAnswered self.old.desk self.new.desk self.old.tally request.now response.new) }
+        ensures other { is_read request.now ≡ false → OnOk result
+            (IsTurnedAway self.old.desk self.new.desk not_found response.new) }
+        ensures still { self.new.desk ≡ self.old.desk }
+        ensures memory { OnErr result (self.new ≡ self.old) }
+        ensures scraped { self.new.is_scraped ≡ self.old.is_scraped }
+    {
+        match request {
+            Request::Read { at: _, read: _ } => self.ask(request, response),
+            Request::Change { .. } | Request::Stop => {
+                self.not_found(response);
+                Ok(())
+            }
+        }
+    }
+
+    /// Handles a request that was understood: a change isn't asked while the node is catching up, and at the last
+    /// connection nothing is but `health` and `stop`.
+    fn pass_on(&mut self, request: &Request, response: &mut Response) -> Result<(), AllocError>
+        requires { IsBlank response.old }
+        ensures passed { OnOk result (IsPassedOn self.old self.new request.now response.new) }
+        ensures still { self.old.is_scraped ≡ true → self.new.desk ≡ self.old.desk }
+        ensures memory { OnErr result (self.new ≡ self.old) }
+        ensures scraped { self.new.is_scraped ≡ self.old.is_scraped }
+    {
+        if self.is_spare && !is_urgent(request) {
+            return self.put_off(response);
+        }
+        if self.is_scraped {
+            return self.look(request, response);
+        }
+        if self.is_listening && is_change(request) {
+            return self.put_off(response);
+        }
+        self.ask(request, response)
+    }
+
+    /// Handles a request.
+    fn handle(
+        &mut self,
+        request: &http::Request<Bytes>,
+        response: &mut Response,
+    ) -> Result<(), AllocError>
+        requires { IsBlank response.old }
+        ensures handled { OnOk result (IsHandled self.old self.new response.new) }
+        ensures still { self.old.is_scraped ≡ true → self.new.desk ≡ self.old.desk }
+        ensures memory { OnErr result (self.new ≡ self.old) }
+        ensures scraped { self.new.is_scraped ≡ self.old.is_scraped }
+    {
+        let uri = request.uri();
+        if self.is_scraped && !is_of_figures(uri.path()) {
+            let body = String::new(self.alloc);
+            self.misread(404, body, response);
+            return Ok(());
+        }
+        let body: &[u8] = request.body();
+        let query = uri.query().unwrap_or("");
+        let is_json = accepts_json(request);
+        let method = request.method().as_str();
+        match request_in(self.alloc, method, uri.path(), query, body, is_json)? {
+            Routed::Asked(asked) => self.pass_on(&asked, response),
+            Routed::Refused(code) => {
+                let body = String::new(self.alloc);
+                self.misread(code, body, response);
+                Ok(())
+            }
+            Routed::Unread(code) => {
+                let body = refused(self.alloc, code)?;
+                self.misread(status_of(code), body, response);
+                Ok(())
+            }
+        }
+    }
+}
+
+impl<R: Records> Service for Clerk<R> {
+    ghost answers = { λ old request response new. IsHandled old new response
+        × (old.is_scraped ≡ true → new.desk ≡ old.desk) × (new.is_scraped ≡ old.is_scraped) };
+
+    fn call(
+        &mut self,
+        request: &http::Request<Bytes>,
+        response: &mut Response,
+    ) -> Result<(), AllocError> {
+        self.handle(request, response)
+    }
+}

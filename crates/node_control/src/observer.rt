@@ -1,0 +1,394 @@
+//! What is seen of a node as it runs.
+
+ghost use Rattle.std.specs.Prelude.{◌≡◌, ◌==◌, ◌||◌, not, IfOk, string_bytes};
+ghost use Rattle.node_control.specs.inner.Watching.{proposal_in, proposed_by, proposed_after, proposed_then};
+ghost use Rattle.node_control.specs.inner.Watching.{is_proposed, stood_since, seconds_since};
+
+use crate::hearing::Hearing;
+use pf_desk::{PeerTally, Tally};
+use pf_turn::{Progress, RoundCounts};
+use px_wire::{Head, Kind, Membership};
+use std::alloc::{AllocError, Global};
+use std::io::Eprint;
+
+/// How long another member's proposal counts, in microseconds: it is made again after some 4 seconds at most.
+pub const PROPOSED: u64 = 6_000_000;
+
+/// How often what members show is kept to be compared later, in microseconds.
+const SAMPLED: u64 = 1_000_000;
+
+/// From how many bytes on a datagram doesn't fit a packet.
+const LARGE: usize = 1_401;
+
+/// What was counted of another member; times in microseconds.
+#[derive(Clone, Copy)]
+struct Row {
+    node: u8,
+    /// When it was heard last.
+    heard: Option<u64>,
+    datagrams_in: u64,
+    datagrams_out: u64,
+    /// A position below which some member has learned all, as its messages show; and as they had shown when that was
+    /// looked at last, and the two times before.
+    shown: u32,
+    earlier: [u32; 3],
+}
+
+/// What is seen of a node as it runs: counters of what went over its wire, by other member and in all, since when it
+/// has waited for its front to move, and who is heard. After each round it is shown the heads of the messages that the
+/// node took and what went over the wire; it looks at no datagram.
+#[derive(Drop)]
+pub struct Observer {
+    rows: Vec<Row>,
+    unsent: u64,
+    dropped: u64,
+    ignored: u64,
+    /// How many datagrams came in this round.
+    came: u32,
+    now: u64,
+    /// When what members showed was kept last.
+    sampled: u64,
+    /// The node's front after the last round.
+    front: u32,
+    /// Since when commands have waited and the front stood.
+    since: Option<u64>,
+    /// The position that another member proposed at last, and when.
+    proposed: Option<(u32, u64)>,
+    outrun: u64,
+    large: usize,
+    has_packets: bool,
+    hearing: Hearing,
+}
+
+/// The position at which the sender of a message with this head proposes a command, if it does.
+fn proposal_in(head: &Head) -> Option<u32>
+    ensures { result ≡ proposal_in head.now }
+{
+    match head.kind {
+        Kind::Prepare | Kind::PrepareAll | Kind::Accept => head.position,
+        Kind::Vote
+        | Kind::Need
+        | Kind::Learned
+        | Kind::Promise
+        | Kind::PromiseAll
+        | Kind::Nack
+        | Kind::Ask
+        | Kind::Asked
+        | Kind::AskRefused => None,
+    }
+}
+
+/// The proposal at the front or beyond it that is known, with one that comes now.
+fn proposed_then(
+    front: u32,
+    now: u64,
+    proposal: Option<u32>,
+    was: Option<(u32, u64)>,
+) -> Option<(u32, u64)>
+    ensures { result ≡ proposed_then front now proposal was }
+{
+    match proposal {
+        Some(position) => {
+            if front <= position {
+                Some((position, now))
+            } else {
+                was
+            }
+        }
+        None => was,
+    }
+}
+
+/// Whether another member proposes a command at the front or beyond it.
+fn is_proposed(front: u32, now: u64, proposed: Option<(u32, u64)>) -> bool
+    ensures { result ≡ is_proposed front now proposed }
+{
+    match proposed {
+        Some((position, at)) => front <= position && now.saturating_sub(at) < PROPOSED,
+        None => false,
+    }
+}
+
+/// Since when commands have waited while the front stood.
+fn stood_since(has_moved: bool, waits: bool, since: Option<u64>, now: u64) -> Option<u64>
+    ensures { result ≡ stood_since has_moved waits since now }
+{
+    if !waits {
+        return None;
+    }
+    if has_moved {
+        return Some(now);
+    }
+    match since {
+        Some(since) => Some(since),
+        None => Some(now),
+    }
+}
+
+/// How many whole seconds have passed since then.
+fn seconds_since(since: Option<u64>, now: u64) -> u64
+    ensures { result ≡ seconds_since since now }
+{
+    match since {
+        Some(since) => now.saturating_sub(since) / 1_000_000,
+        None => 0,
+    }
+}
+
+/// Keeps what members have shown by now.
+fn sample(rows: &mut Vec<Row>) {
+    for i in 0..rows.len() {
+        if let Some(row) = rows.get_mut(i) {
+            row.sample();
+        }
+    }
+}
+
+/// Counts what was handed over for each other member.
+fn count_sent(rows: &mut Vec<Row>, counts: &RoundCounts) {
+    for i in 0..rows.len() {
+        if let Some(row) = rows.get_mut(i) {
+            row.count_sent(counts);
+        }
+    }
+}
+
+/// A row for each member but this one.
+fn first_rows(alloc: Global, m: Membership) -> Result<Vec<Row>, AllocError> {
+    let mut rows = Vec::new(alloc);
+    for node in 0..m.members() {
+        if node != m.me() {
+            rows.push(Row {
+                node,
+                heard: None,
+                datagrams_in: 0,
+                datagrams_out: 0,
+                shown: 0,
+                earlier: [0; 3],
+            })?;
+        }
+    }
+    Ok(rows)
+}
+
+impl Row {
+    /// What is told of the member, at this time.
+    fn told(&self, now: u64) -> PeerTally {
+        let [_, _, shown] = self.earlier;
+        PeerTally {
+            node: self.node,
+            heard: match self.heard {
+                Some(_) => Some(seconds_since(self.heard, now)),
+                None => None,
+            },
+            datagrams_in: self.datagrams_in,
+            datagrams_out: self.datagrams_out,
+            shown,
+        }
+    }
+
+    /// Counts what was handed over for it.
+    fn count_sent(&mut self, counts: &RoundCounts) {
+        if let Some(sent) = counts.sent.get(usize::from(self.node)) {
+            self.datagrams_out = self.datagrams_out.saturating_add(u64::from(*sent));
+        }
+    }
+
+    /// Keeps what the member has shown by now.
+    fn sample(&mut self) {
+        let [last, before, _] = self.earlier;
+        self.earlier = [self.shown, last, before];
+    }
+}
+
+impl Observer {
+    /// The observer of this member, which has seen nothing; whether datagrams go in packets, so that none is too long
+    /// for one, and whether it warns alone, and tells nothing else, on standard error.
+    pub fn new(
+        alloc: Global,
+        m: Membership,
+        has_packets: bool,
+        is_quiet: bool,
+    ) -> Result<Observer, AllocError> {
+        let rows = first_rows(alloc, m)?;
+        Ok(Observer {
+            rows,
+            unsent: 0,
+            dropped: 0,
+            ignored: 0,
+            came: 0,
+            now: 0,
+            sampled: 0,
+            front: 0,
+            since: None,
+            proposed: None,
+            outrun: 0,
+            large: 0,
+            has_packets,
+            hearing: Hearing::new(m, is_quiet),
+        })
+    }
+
+    /// What is counted as a node starts: a row for each other member, and nothing that came. The members listen there.
+    pub fn first_tally(&self, alloc: Global, members: &str) -> Result<Tally, AllocError>
+        ensures { IfOk result (λ t. (t.stood ≡ 0) × (string_bytes t.members ≡ members.now)) }
+    {
+        let mut peers = Vec::new(alloc);
+        for row in &self.rows {
+            peers.push(row.told(0))?;
+        }
+        Ok(Tally {
+            up: 0,
+            peers,
+            stood: 0,
+            outrun: 0,
+            large: 0,
+            members: String::from_str(alloc, members)?,
+            unsent: 0,
+            dropped: 0,
+            ignored: 0,
+            turns: 0,
+            ticks: 0,
+            seats: 0,
+            served: 0,
+            refused: 0,
+            unavailable: 0,
+        })
+    }
+
+    /// A round begins, at this time in microseconds since the start, of a node with this front, at which commands wait
+    /// or don't.
+    pub(crate) fn begin(&mut self, now: u64, front: u32, is_waiting: bool) {
+        self.now = now;
+        if now >= self.sampled.saturating_add(SAMPLED) {
+            self.sampled = now;
+            sample(&mut self.rows);
+        }
+        self.stand(front, is_waiting);
+    }
+
+    /// Notes the node's front, and whether commands wait.
+    fn stand(&mut self, front: u32, is_waiting: bool)
+        ensures front { self.new.front ≡ front }
+        ensures since { self.new.since ≡ stood_since (not (front == self.old.front))
+            (is_waiting || is_proposed front self.old.now self.old.proposed) self.old.since self.old.now }
+    {
+        let has_moved = front != self.front;
+        if has_moved {
+            self.front = front;
+            self.outrun = 0;
+            self.large = 0;
+        }
+        let waits = is_waiting || is_proposed(front, self.now, self.proposed);
+        self.since = stood_since(has_moved, waits, self.since, self.now);
+    }
+
+    /// Tells what was counted of the other members.
+    fn tell_peers(&self, peers: &mut Vec<PeerTally>) {
+        for i in 0..self.rows.len() {
+            if let (Some(peer), Some(row)) = (peers.get_mut(i), self.rows.get(i)) {
+                *peer = row.told(self.now);
+            }
+        }
+    }
+
+    /// Tells what was counted, after a round that came to this. A turn that neither took a datagram nor is to be
+    /// followed by a wait was a tick.
+    pub(crate) fn tell(&self, tally: &mut Tally, made: Progress)
+        ensures stood { tally.new.stood ≡ seconds_since self.entry.now.since self.entry.now.now }
+        ensures outrun { tally.new.outrun ≡ self.entry.now.outrun }
+        ensures large { tally.new.large ≡ self.entry.now.large }
+    {
+        tally.up = self.now / 1_000_000;
+        tally.stood = seconds_since(self.since, self.now);
+        tally.outrun = self.outrun;
+        tally.large = self.large as u64;
+        tally.unsent = self.unsent;
+        tally.dropped = self.dropped;
+        tally.ignored = self.ignored;
+        tally.turns = tally.turns.saturating_add(u64::from(made.turns));
+        if made.wait == 0 && made.turns > self.came {
+            tally.ticks = tally.ticks.saturating_add(1);
+        }
+        self.tell_peers(&mut tally.peers);
+    }
+
+    /// The place of a member's row.
+    fn row_of(&self, node: u8) -> Option<usize> {
+        self.rows.iter().position(|row| row.node == node)
+    }
+
+    /// Counts a datagram of a member, with the position that it shows.
+    fn count_from(&mut self, from: u8, shown: u32)
+        ensures round { (self.new.front ≡ self.old.front) × (self.new.now ≡ self.old.now) }
+        ensures proposed { self.new.proposed ≡ self.old.proposed }
+    {
+        let Some(place) = self.row_of(from) else {
+            return;
+        };
+        let now = self.now;
+        let Some(row) = self.rows.get_mut(place) else {
+            return;
+        };
+        row.heard = Some(now);
+        row.datagrams_in = row.datagrams_in.saturating_add(1);
+        row.shown = row.shown.max(shown);
+    }
+
+    /// Notes what a member's message says of proposals: another's, or that this one's was refused by a higher round.
+    fn note(&mut self, head: &Head)
+        ensures round { (self.new.front ≡ self.old.front) × (self.new.now ≡ self.old.now) }
+        ensures proposed { self.new.proposed ≡ proposed_by self.old.front self.old.now head.now self.old.proposed }
+    {
+        if head.from == head.to {
+            return;
+        }
+        self.proposed = proposed_then(self.front, self.now, proposal_in(head), self.proposed);
+        if head.kind == Kind::Nack {
+            self.outrun = self.outrun.saturating_add(1);
+        }
+    }
+
+    /// Counts what went over the wire in a round.
+    fn count_round(&mut self, taken: usize, counts: &RoundCounts)
+        ensures round { (self.new.front ≡ self.old.front) × (self.new.now ≡ self.old.now) }
+        ensures proposed { self.new.proposed ≡ self.old.proposed }
+    {
+        self.came = counts.came;
+        self.unsent = self.unsent.saturating_add(u64::from(counts.unsent));
+        self.dropped = self.dropped.saturating_add(u64::from(counts.dropped));
+        let known = u64::from(counts.dropped)
+            .saturating_add(u64::from(counts.answered))
+            .saturating_add(taken as u64);
+        let ignored = u64::from(counts.came).saturating_sub(known);
+        self.ignored = self.ignored.saturating_add(ignored);
+        if counts.longest >= LARGE && !self.has_packets {
+            self.large = self.large.max(counts.longest);
+        }
+    }
+
+    /// Counts what went over the wire in a round, in which the node took the messages with these heads.
+    pub(crate) fn count(&mut self, heads: &[Head], counts: &RoundCounts)
+        ensures proposed { self.new.proposed ≡ proposed_after self.old.front self.old.now heads.now self.old.proposed }
+    {
+        self.count_round(heads.len(), counts);
+        count_sent(&mut self.rows, counts);
+        for head in heads {
+            self.count_from(head.from, head.learned_below());
+            self.note(head);
+        }
+    }
+
+    /// Tells on standard error what is to be told of who was heard in a round, after which the node lacks entries that
+    /// others have, or not.
+    pub(crate) fn hear<RT: Eprint>(
+        &mut self,
+        rt: &RT,
+        heads: &[Head],
+        counts: &RoundCounts,
+        is_lacking: bool,
+    ) {
+        self.hearing.look(rt, heads, counts, self.now);
+        self.hearing.note_lack(rt, is_lacking, self.now);
+    }
+}

@@ -1,0 +1,23 @@
+-- One address more.
+use Rattle.std.proofs.Common.{◌≡◌, ◌∙◌, ◌<◌, ◌+◌, List, ℕ, [], ◌∷◌, ◌++◌, length, map, take, get_or, ap, sym, subst}
+use Rattle.std.proofs.lemmas.List.{take_more, map-append}
+use Rattle.node_udp.specs.declared.address.Address.{Address}
+use Rattle.node_udp.specs.Addresses.{IsFound, AreFound}
+
+pub one_more : (texts : List (List ℕ)) (rest : List Address) (text : List ℕ) (a : Address) → AreFound texts rest →
+    IsFound text a → AreFound (texts ++ text ∷ []) (rest ++ a ∷ [])
+one_more [] [] text a all one = (one, tt)
+one_more [] (b ∷ rest) text a all one = absurd all
+one_more (t ∷ texts) [] text a all one = absurd all
+one_more (t ∷ texts) (b ∷ rest) text a all one = (all.0, one_more texts rest text a all.1 one)
+
+-- of the texts up to a place, and of the one there
+pub found_more : {V : Type 0} (f : V → List ℕ) (xs : List V) (i : ℕ) (d : V) (rest : List Address) (a : Address)
+    (now : List Address) → i < length xs → AreFound (map f (take i xs)) rest → IsFound (f (get_or xs i d)) a →
+    now ≡ rest ++ a ∷ [] → AreFound (map f (take (i + 1) xs)) now
+found_more f xs i d rest a now h all one e =
+    let P : List (List ℕ) → Type 0 = λ ts. AreFound ts (rest ++ a ∷ []) in
+    let Q : List Address → Type 0 = λ found. AreFound (map f (take (i + 1) xs)) found in
+    let split : map f (take (i + 1) xs) ≡ map f (take i xs) ++ f (get_or xs i d) ∷ [] =
+    ap (map f) (take_more xs i d h) ∙ map-append f (take i xs) (get_or xs i d ∷ []) in
+    subst Q (sym e) (subst P (sym split) (one_more (map f (take i xs)) rest (f (get_or xs i d)) a all one))

@@ -1,0 +1,75 @@
+-- A command asked of a node from outside.
+use Rattle.std.specs.Prelude.{◌≡◌, ◌⊎◌, ℕ, zero, suc, ◌==◌, List, Option, Some, None, if◌then◌else◌}
+use Rattle.pf_entry.specs.declared.command.Command.{Command}
+use Rattle.pf_entry.specs.Entry as entries
+use Rattle.pf_entry.specs.Entry.{spelling}
+use Rattle.pf_entry.specs.Owned.{command_value}
+use Rattle.px_wire.specs.Message.{Group, Lent, Message, DatagramBytes}
+use Rattle.px_wire.specs.Message.{prepare, promise, accept, vote, nack, need, learned, ask, asked, ask_refused}
+use Rattle.px_wire.specs.Message.{prepare_all, promise_all}
+use Rattle.px_transport.specs.Wires.{Gives}
+use Rattle.node_udp.specs.declared.answer.AskAnswer.{AskAnswer}
+use Rattle.node_udp.specs.declared.answer.AskAnswer.TheVariants.{Asked, Refused, NoAnswer}
+
+-- ---- what is sent
+
+-- the command, with the token 1 of one who is no member
+abbrev pub asked_entry : Command → entries.Entry
+asked_entry c = record { origin = 255; number = 1; command = command_value c }
+
+-- the entry that stands for a command asked from outside, of number 1, with the bytes that spell it
+abbrev pub lent_ask : Command → Lent
+lent_ask c = record { origin = 255; number = 1; bytes = spelling (asked_entry c) }
+
+-- the bytes spell an Ask of the command for the node
+abbrev pub IsAsk : Group → (node : ℕ) → Command → List ℕ → Type 0
+IsAsk g node c bytes = DatagramBytes g 255 node (ask (lent_ask c)) bytes
+
+-- ---- what is answered
+
+-- what a message answers to the token 1
+abbrev pub ask_answer : Message → Option AskAnswer
+ask_answer (asked t k) = if t == 1 then Some (Asked k) else None
+ask_answer (ask_refused t c) = if t == 1 then Some (Refused c) else None
+ask_answer (prepare b p) = None
+ask_answer (promise b p a) = None
+ask_answer (accept b p e) = None
+ask_answer (vote b p e) = None
+ask_answer (nack b p q) = None
+ask_answer (need p) = None
+ask_answer (learned p e) = None
+ask_answer (ask e) = None
+ask_answer (prepare_all b p) = None
+ask_answer (promise_all b p top a) = None
+
+-- the bytes spell a message of the node to one who is no member, and that is the answer
+abbrev pub IsAnswer : Group → (node : ℕ) → List ℕ → AskAnswer → Type 0
+IsAnswer g node bytes a = (x : Message) × DatagramBytes g node 255 x bytes × (ask_answer x ≡ Some a)
+
+-- nothing came, or something else
+abbrev pub IsPassedOver : Group → (node : ℕ) → Option (List ℕ) → Type 0
+IsPassedOver g node None = Unit {0}
+IsPassedOver g node (Some bytes) = (a : AskAnswer) → IsAnswer g node bytes a → ⊥
+
+-- this came, and is the answer
+abbrev pub IsTheAnswer : Group → (node : ℕ) → Option (List ℕ) → AskAnswer → Type 0
+IsTheAnswer g node None a = ⊥
+IsTheAnswer g node (Some bytes) a = IsAnswer g node bytes a
+
+-- the answer that this is, or none
+abbrev pub Answers : Group → (node : ℕ) → Option (List ℕ) → Option AskAnswer → Type 0
+Answers g node came None = IsPassedOver g node came
+Answers g node came (Some a) = IsTheAnswer g node came a
+
+-- one wait, of what the wire gave before and after it: the answer, or none
+abbrev pub Hears : Group → (node : ℕ) → (given : Option (List (List ℕ))) → Option AskAnswer →
+    (given' : Option (List (List ℕ))) → Type 0
+Hears g node given r given' = (came : Option (List ℕ)) × Gives given came given' × Answers g node came r
+
+-- so many waits at most: the first answer ends them
+unfoldable pub Listens : Group → (node waits : ℕ) → (given : Option (List (List ℕ))) → AskAnswer →
+    (given' : Option (List (List ℕ))) → Type 0
+Listens g node zero given a given' = (a ≡ NoAnswer) × (given' ≡ given)
+Listens g node (suc n) given a given' =
+    Hears g node given (Some a) given'
+    ⊎ ((next : Option (List (List ℕ))) × Hears g node given None next × Listens g node n next a given')

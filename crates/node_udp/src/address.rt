@@ -1,0 +1,166 @@
+//! The address of a member.
+
+ghost use Rattle.std.specs.Prelude.{◌≡◌, Some};
+ghost use Rattle.std.specs.List.{prefix_len};
+ghost use Rattle.pf_addr.specs.Spelling.{addr_of};
+ghost use Rattle.pf_words.specs.Words.{number_of};
+ghost use Rattle.node_udp.specs.Addresses.{address_of, four_of, six_of, four_in, six_in, joined};
+ghost use Rattle.node_udp.specs.Addresses.{is_no_colon, is_no_bracket, shown_address};
+
+use pf_addr::{Addr, parse_bytes};
+use pf_words::parse_decimal;
+use std::fmt;
+use std::net::{IpAddr, Ipv4Addr, Ipv6Addr, SocketAddr};
+
+/// Where a member listens.
+#[derive(Clone, Copy, PartialEq, Eq)]
+pub struct Address {
+    /// The IP address.
+    pub ip: Addr,
+    /// 1 to 65535.
+    pub port: u16,
+}
+
+impl fmt::Display for Address {
+    ghost output = { λ a. Some (shown_address a) };
+
+    fn fmt<W: fmt::Write>(&self, f: &mut fmt::Formatter<W>) -> fmt::Result {
+        let ip = self.ip;
+        let port = self.port;
+        match ip {
+            Addr::V4(_) => write!(f, "{ip}:{port}"),
+            Addr::V6(_) => write!(f, "[{ip}]:{port}"),
+        }
+    }
+}
+
+/// How many bytes stand before the first colon.
+pub(crate) fn before_colon(text: &[u8]) -> usize
+    ensures { result ≡ prefix_len is_no_colon text.now }
+{
+    text.iter().take_while(|b| **b != b':').count()
+}
+
+/// How many bytes stand before the first closing bracket.
+fn before_bracket(text: &[u8]) -> usize
+    ensures { result ≡ prefix_len is_no_bracket text.now }
+{
+    text.iter().take_while(|b| **b != b']').count()
+}
+
+/// An IPv4 address.
+fn four(text: &[u8]) -> Option<Addr>
+    ensures { result ≡ four_in (addr_of text.now) }
+{
+    match parse_bytes(text) {
+        Ok(Addr::V4(bits)) => Some(Addr::V4(bits)),
+        Ok(Addr::V6(_)) => None,
+        Err(_) => None,
+    }
+}
+
+/// An IPv6 address.
+fn six(text: &[u8]) -> Option<Addr>
+    ensures { result ≡ six_in (addr_of text.now) }
+{
+    match parse_bytes(text) {
+        Ok(Addr::V4(_)) => None,
+        Ok(Addr::V6(bits)) => Some(Addr::V6(bits)),
+        Err(_) => None,
+    }
+}
+
+/// The address and the port that this text is.
+fn with_port(ip: Option<Addr>, port: &[u8]) -> Option<Address>
+    ensures { result ≡ joined ip (number_of 5 65535 port.now) }
+{
+    let Some(ip) = ip else {
+        return None;
+    };
+    let Some(port) = parse_decimal(port, 5, u16::MAX) else {
+        return None;
+    };
+    if port == 0 {
+        return None;
+    }
+    Some(Address { ip, port })
+}
+
+/// An IPv4 address, `:` and a port.
+#[tactic(auto, unfolding(crate::specs::Addresses::four_of))]
+fn parse_four(text: &[u8]) -> Option<Address>
+    ensures { result ≡ four_of text.now }
+{
+    let colon = before_colon(text);
+    if colon == text.len() {
+        return None;
+    }
+    with_port(four(&text[..colon]), &text[colon + 1..])
+}
+
+/// An IPv6 address, `]:` and a port.
+#[tactic(auto, unfolding(crate::specs::Addresses::six_of))]
+fn parse_six(text: &[u8]) -> Option<Address>
+    ensures { result ≡ six_of text.now }
+{
+    let end = before_bracket(text);
+    if end >= text.len() || text.get(end + 1) != Some(&b':') {
+        return None;
+    }
+    with_port(six(&text[..end]), &text[end + 2..])
+}
+
+/// An IP address, `:` and a port 1 to 65535 in 1 to 5 digits; `None` for every other text. An IPv6 address stands in
+/// brackets, as in `[2001:db8::1]:4711` (RFC 3986, 3.2.2).
+#[tactic(auto, unfolding(crate::specs::Addresses::address_of))]
+pub fn parse_address(text: &str) -> Option<Address>
+    ensures { result ≡ address_of text.now }
+{
+    let text = text.as_bytes();
+    match text.split_first() {
+        Some((first, behind)) => {
+            if *first == b'[' {
+                parse_six(behind)
+            } else {
+                parse_four(text)
+            }
+        }
+        None => parse_four(text),
+    }
+}
+
+/// The address as the system has it.
+pub(crate) fn bits_of(ip: IpAddr) -> Addr {
+    match ip {
+        IpAddr::V4(four) => Addr::V4(four.to_bits()),
+        IpAddr::V6(six) => Addr::V6(six.to_bits()),
+    }
+}
+
+impl Address {
+    /// The same as a socket takes it.
+    pub(crate) fn socket(self) -> SocketAddr {
+        let ip = match self.ip {
+            Addr::V4(bits) => IpAddr::V4(Ipv4Addr::from_bits(bits)),
+            Addr::V6(bits) => IpAddr::V6(Ipv6Addr::from_bits(bits)),
+        };
+        SocketAddr::new(ip, self.port)
+    }
+
+    /// Any free port of this machine, for datagrams to this address.
+    pub(crate) fn any_port(self) -> SocketAddr {
+        let ip = match self.ip {
+            Addr::V4(_) => IpAddr::V4(Ipv4Addr::UNSPECIFIED),
+            Addr::V6(_) => IpAddr::V6(Ipv6Addr::UNSPECIFIED),
+        };
+        SocketAddr::new(ip, 0)
+    }
+
+    /// What a socket says of where a datagram came from.
+    pub(crate) fn of_socket(from: SocketAddr) -> Address {
+        Address {
+            ip: bits_of(from.ip()),
+            port: from.port(),
+        }
+    }
+}

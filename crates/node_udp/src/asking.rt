@@ -1,0 +1,178 @@
+//! A command asked of a node from outside.
+
+ghost use Rattle.std.specs.Prelude.{◌≡◌, ◌⊎◌, ◌<◌, Err, Some, false, IfOk, IfSome, OnOk, OnErr, IsSome, IsTrue};
+ghost use Rattle.std.specs.Prelude.{ℕ, List};
+ghost use Rattle.pf_entry.specs.Entry.{EntryBytes};
+ghost use Rattle.pf_entry.specs.Owned.{is_over};
+ghost use Rattle.pf_entry.specs.declared.limits.TheConstants.{ASKER};
+ghost use Rattle.px_wire.specs.Message.{group};
+ghost use Rattle.px_wire.specs.Seen.{lent_of, message_of};
+ghost use Rattle.px_transport.specs.Wires.{Grows};
+ghost use Rattle.node_udp.specs.Asking.{asked_entry, lent_ask, IsAsk, ask_answer, Answers, Hears, Listens};
+
+use crate::answer::AskAnswer;
+use pf_entry::{ASKER, Command, EncodeFault, encode_asked};
+use px_model::EntryView;
+use px_replica::NodeFault;
+use px_transport::Wire;
+use px_wire::{Membership, Message, MessageView, decode, encode};
+use std::alloc::Global;
+
+/// By what an answer is known.
+const TOKEN: u64 = 1;
+
+/// More than the bytes of an answer and of a tag behind it, so that a longer datagram is never taken for one.
+const ANSWER_ROOM: usize = 96;
+
+/// The bytes of the command as it is asked.
+fn asked_bytes(alloc: Global, command: &Command) -> Result<Vec<u8>, NodeFault>
+    ensures spelled { IfOk result (λ v. EntryBytes (asked_entry command.now) v.items) }
+    ensures long { result ≡ Err NodeFault.TooLong → IsTrue (is_over (asked_entry command.now)) }
+    ensures short { OnOk result (is_over (asked_entry command.now) ≡ false) }
+    ensures why { OnErr result ((result ≡ Err NodeFault.TooLong) ⊎ (result ≡ Err NodeFault.Memory)) }
+{
+    match encode_asked(alloc, ASKER, TOKEN, command) {
+        Ok(bytes) => Ok(bytes),
+        Err(EncodeFault::Memory) => Err(NodeFault::Memory),
+        Err(EncodeFault::TooLong) => Err(NodeFault::TooLong),
+    }
+}
+
+/// The entry that the bytes of a command spell.
+fn asked_view<'a>(command: &Command, bytes: &'a [u8]) -> Option<EntryView<'a>>
+    requires { EntryBytes (asked_entry command.now) bytes.now }
+    ensures some { IsSome result }
+    ensures lent { IfSome result (λ e. lent_of e ≡ lent_ask command.now) }
+{
+    let _command = command;
+    EntryView::read(bytes)
+}
+
+/// The datagram that asks the node.
+fn ask_bytes(
+    alloc: Global,
+    m: &Membership,
+    node: u8,
+    command: &Command,
+) -> Result<Vec<u8>, NodeFault>
+    requires asker { m.now.me ≡ ASKER }
+    requires member { node < m.now.members }
+    ensures spelled { IfOk result (λ v. IsAsk (group m.now) node command.now v.items) }
+    ensures long { result ≡ Err NodeFault.TooLong → IsTrue (is_over (asked_entry command.now)) }
+    ensures short { OnOk result (is_over (asked_entry command.now) ≡ false) }
+    ensures why { OnErr result ((result ≡ Err NodeFault.TooLong) ⊎ (result ≡ Err NodeFault.Memory)) }
+{
+    let bytes = match asked_bytes(alloc, command) {
+        Ok(bytes) => bytes,
+        Err(fault) => return Err(fault),
+    };
+    match asked_view(command, bytes.as_slice()) {
+        Some(entry) => match encode(alloc, m, node, &Message::Ask { entry }) {
+            Ok(datagram) => Ok(datagram),
+            Err(_) => Err(NodeFault::Memory),
+        },
+        None => unreachable!(),
+    }
+}
+
+/// What a message answers to the token.
+fn ask_answer(message: &MessageView) -> Option<AskAnswer>
+    ensures { result ≡ ask_answer (message_of message.now) }
+{
+    match message {
+        Message::Asked { token, number } => {
+            if *token == TOKEN {
+                Some(AskAnswer::Asked(*number))
+            } else {
+                None
+            }
+        }
+        Message::AskRefused { token, code } => {
+            if *token == TOKEN {
+                Some(AskAnswer::Refused(*code))
+            } else {
+                None
+            }
+        }
+        Message::Prepare { .. } | Message::PrepareAll { .. } => None,
+        Message::Promise { .. } | Message::PromiseAll { .. } => None,
+        Message::Accept { .. } | Message::Vote { .. } => None,
+        Message::Nack { .. } | Message::Need { .. } => None,
+        Message::Learned { .. } | Message::Ask { .. } => None,
+    }
+}
+
+/// What a datagram answers, if the node sent it and it answers.
+fn answer_in(m: &Membership, node: u8, bytes: &[u8]) -> Option<AskAnswer>
+    requires { m.now.me ≡ ASKER }
+    ensures { Answers (group m.now) node (Some bytes.now) result }
+{
+    match decode(m, bytes) {
+        Ok((from, message)) => {
+            if from == node {
+                ask_answer(&message)
+            } else {
+                None
+            }
+        }
+        Err(_) => None,
+    }
+}
+
+/// Waits once: the node's answer, if it comes.
+fn listen<W: Wire>(m: &Membership, node: u8, wire: &mut W) -> Option<AskAnswer>
+    requires { m.now.me ≡ ASKER }
+    ensures heard { Hears (group m.now) node (W.given wire.old) result (W.given wire.new) }
+    ensures quiet { W.handed wire.new ≡ W.handed wire.old }
+{
+    let mut room = [0u8; ANSWER_ROOM];
+    match wire.recv(&mut room) {
+        Some(n) => answer_in(m, node, &room[..n]),
+        None => None,
+    }
+}
+
+/// Waits so many times at most: the node's first answer.
+fn listen_on<W: Wire>(m: &Membership, node: u8, waits: u32, wire: &mut W) -> AskAnswer
+    requires { m.now.me ≡ ASKER }
+    ensures heard { Listens (group m.now) node waits (W.given wire.old) result (W.given wire.new) }
+    ensures quiet { W.handed wire.new ≡ W.handed wire.old }
+{
+    for _wait in 0..waits {
+        if let Some(answer) = listen(m, node, wire) {
+            return answer;
+        }
+    }
+    AskAnswer::NoAnswer
+}
+
+/// Asks a node to take a command in: one datagram, and then so many waits at most for its answer. What else comes is
+/// passed over, and counts as a wait.
+///
+/// `m` is an asker's, of whom 255 is the number. `TooLong` (41) where no entry of the command has a spelling, and
+/// `Memory`: then nothing is sent. No other fault comes.
+pub fn ask_once<W: Wire>(
+    alloc: Global,
+    m: &Membership,
+    node: u8,
+    command: &Command,
+    waits: u32,
+    wire: &mut W,
+) -> Result<AskAnswer, NodeFault>
+    requires asker { m.now.me ≡ ASKER }
+    requires member { node < m.now.members }
+    ensures sent { OnOk result ((bytes : List ℕ) × IsAsk (group m.now) node command.now bytes ×
+        Grows (W.handed wire.old) (node, bytes) (W.handed wire.new)) }
+    ensures heard { IfOk result (λ a. Listens (group m.now) node waits (W.given wire.old) a (W.given wire.new)) }
+    ensures silent { OnErr result ((W.handed wire.new ≡ W.handed wire.old) × (W.given wire.new ≡ W.given wire.old)) }
+    ensures long { result ≡ Err NodeFault.TooLong → IsTrue (is_over (asked_entry command.now)) }
+    ensures short { OnOk result (is_over (asked_entry command.now) ≡ false) }
+    ensures why { OnErr result ((result ≡ Err NodeFault.TooLong) ⊎ (result ≡ Err NodeFault.Memory)) }
+{
+    let bytes = match ask_bytes(alloc, m, node, command) {
+        Ok(bytes) => bytes,
+        Err(fault) => return Err(fault),
+    };
+    let _sent = wire.send(node, bytes.as_slice());
+    Ok(listen_on(m, node, waits, wire))
+}

@@ -1,0 +1,95 @@
+//! Where a member listens, by its host's name.
+
+ghost use Rattle.std.specs.Prelude.{◌≡◌, None, IfSome};
+ghost use Rattle.std.specs.List.{list_all, prefix_len};
+ghost use Rattle.pf_words.specs.Words.{number_of};
+ghost use Rattle.node_udp.specs.Addresses.{address_of, host_port, used_port, is_host, is_host_byte, IsFound};
+
+use crate::address::{Address, before_colon, bits_of, parse_address};
+use pf_addr::Addr;
+use pf_words::parse_decimal;
+use std::net::{Net, SocketAddr, ToSocketAddrs};
+
+/// Whether the byte may stand in a host's name.
+fn is_host_byte(b: u8) -> bool
+    ensures { result ≡ is_host_byte b }
+{
+    b.is_ascii_alphanumeric() || b == b'-' || b == b'.'
+}
+
+/// Whether each byte may stand there.
+fn are_host_bytes(text: &[u8]) -> bool
+    ensures { result ≡ list_all is_host_byte text.now }
+{
+    text.iter().all(|b| is_host_byte(*b))
+}
+
+/// Whether the text has the form of a host's name.
+fn is_host(text: &[u8]) -> bool
+    ensures { result ≡ is_host text.now }
+{
+    match text {
+        [first, rest @ ..] => first.is_ascii_alphabetic() && are_host_bytes(rest),
+        [] => false,
+    }
+}
+
+/// A port in 1 to 5 digits that isn't 0.
+fn used_port(text: &[u8]) -> Option<u16>
+    ensures { result ≡ used_port (number_of 5 65535 text.now) }
+{
+    match parse_decimal(text, 5, u16::MAX) {
+        Some(port) => { if port == 0 { None } else { Some(port) } }
+        None => None,
+    }
+}
+
+/// The port of a host's name, `:` and a port.
+#[tactic(auto, unfolding(crate::specs::Addresses::host_port))]
+fn host_port(text: &[u8]) -> Option<u16>
+    ensures { result ≡ host_port text.now }
+{
+    let colon = before_colon(text);
+    if colon == text.len() || !is_host(&text[..colon]) {
+        return None;
+    }
+    used_port(&text[colon + 1..])
+}
+
+/// The first IPv4 address that the system says of the name, else the first of any kind.
+fn look_up<R: Net>(rt: &R, host: &str, port: u16) -> Option<Addr> {
+    let Ok(found) = (host, port).to_socket_addrs(rt) else {
+        return None;
+    };
+    let mut first = None;
+    for address in found {
+        let ip = bits_of(address.ip());
+        if let SocketAddr::V4(_) = address {
+            return Some(ip);
+        }
+        if first.is_none() {
+            first = Some(ip);
+        }
+    }
+    first
+}
+
+/// The address that the text is, or what the system says of the host's name in it.
+pub(crate) fn find<R: Net>(rt: &R, text: &str) -> Option<Address>
+    ensures found { IfSome result (λ a. IsFound text.now a) }
+    ensures written { result ≡ None → address_of text.now ≡ None }
+{
+    if let Some(address) = parse_address(text) {
+        return Some(address);
+    }
+    let Some(port) = host_port(text.as_bytes()) else {
+        return None;
+    };
+    let Some((host, _)) = text.split_once(':') else {
+        return None;
+    };
+    match look_up(rt, host, port) {
+        Some(ip) => Some(Address { ip, port }),
+        None => None,
+    }
+}

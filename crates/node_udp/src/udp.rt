@@ -1,0 +1,428 @@
+//! Datagrams over a UDP socket.
+
+ghost use Rattle.std.specs.Prelude.{◌≡◌, ◌⊎◌, ◌<◌, ◌≤◌, ◌==◌, Some, None, Err, IfOk, IfSome, OnErr, IsTrue};
+ghost use Rattle.std.specs.Prelude.{map, length};
+ghost use Rattle.node_udp.specs.declared.udp.BindFault.TheVariants.{Memory};
+ghost use Rattle.node_udp.specs.Addresses.{AreFound};
+ghost use Rattle.node_udp.specs.Members.{peers_of, me_of, strangers_of, Drops};
+
+use crate::address::Address;
+use crate::host::find;
+use pf_entry::ASKER;
+use px_transport::Wire;
+use px_wire::Head;
+use std::alloc::{AllocError, AllocFailed, Global};
+use std::io::ErrorKind;
+use std::net::{IpAddr, Ipv4Addr, Net, SocketAddr, UdpSocket};
+use std::os::fd::{AsRawFd, RawFd};
+use std::time::{Clock, Duration, Instant};
+use thiserror::Error;
+
+/// The part of a member's wait that the time between two receives counts as at most.
+const PART: u32 = 64;
+
+/// Why there is no wire.
+#[derive(Clone, Copy, Debug, PartialEq, Eq, Error)]
+pub enum BindFault {
+    /// A growth was refused.
+    #[error("out of memory")]
+    Memory,
+    /// 82: an address is none, or the system refuses the socket.
+    #[error("no socket")]
+    NoSocket,
+}
+
+impl From<AllocError> for BindFault {
+    ghost from_gives = { λ _ e. e ≡ Memory };
+
+    fn from(_e: AllocError) -> BindFault {
+        BindFault::Memory
+    }
+}
+
+impl<T: Drop> From<AllocFailed<T>> for BindFault {
+    ghost from_gives = { λ _ e. e ≡ Memory };
+
+    fn from(_e: AllocFailed<T>) -> BindFault {
+        BindFault::Memory
+    }
+}
+
+/// Datagrams over a UDP socket (RFC 768). What came and what was sent it doesn't tell: they are datagrams on their way
+/// through a network, which may lose, repeat and reorder them.
+///
+/// Each receive of an asker waits on its own. A member's wait goes on from receive to receive until it has passed, and
+/// then none is answered, whatever has come: that stays for the next receive, with which a new wait begins. Of the time
+/// between two receives no more than a 64th of the wait counts, so that slow turns alone end none before 64 datagrams.
+///
+/// A datagram that comes from elsewhere than a member's address is given as an empty one, which is nobody's, and is
+/// counted, unless it has a head ([`Head::read`]) whose sender is 255, one who asks. With [`UdpWire::hear_members`] its
+/// address alone decides, and no byte of it is looked at.
+#[derive(Drop)]
+pub struct UdpWire<C> {
+    socket: UdpSocket,
+    clock: C,
+    peers: Vec<Address>,
+    me: u8,
+    wait: Duration,
+    /// How much of a member's wait is left.
+    left: Duration,
+    /// When a member received the last datagram of this wait.
+    since: Option<Instant>,
+    /// Where the datagram given last came from.
+    last: Option<SocketAddr>,
+    /// How long the socket waits, where it does.
+    timeout: Duration,
+    is_blocking: bool,
+    /// Whether who asks is heard, from wherever.
+    hears_asks: bool,
+    strangers: u64,
+    failures: u64,
+}
+
+/// The addresses of the texts.
+fn addresses<R: Net>(rt: &R, alloc: Global, texts: &[&str]) -> Result<Vec<Address>, BindFault>
+    ensures all { IfOk result (λ v. AreFound (map (λ t. t.now) texts.now) v.items) }
+{
+    let mut peers = Vec::new(alloc);
+    for text in texts {
+        let Some(address) = find(rt, text) else {
+            return Err(BindFault::NoSocket);
+        };
+        peers.push(address)?;
+    }
+    Ok(peers)
+}
+
+/// Where a member listens, or an asker: at any free port, with addresses of the kind that the first is of.
+fn own_address(peers: &[Address], me: u8) -> Option<SocketAddr> {
+    if me != ASKER {
+        return match peers.get(usize::from(me)) {
+            Some(address) => Some(address.socket()),
+            None => None,
+        };
+    }
+    match peers.first() {
+        Some(address) => Some(address.any_port()),
+        None => Some(SocketAddr::new(IpAddr::V4(Ipv4Addr::UNSPECIFIED), 0)),
+    }
+}
+
+/// The clock's reading, for a member.
+fn reading<C: Clock>(clock: &C, me: u8) -> Option<Instant> {
+    if me == ASKER {
+        return None;
+    }
+    match Instant::now(clock) {
+        Ok(now) => Some(now),
+        Err(_) => None,
+    }
+}
+
+/// Whether a datagram is of one who asks and is no member, by its head.
+fn is_asking(datagram: &[u8]) -> bool {
+    match Head::read(datagram) {
+        Some(head) => head.from == ASKER,
+        None => false,
+    }
+}
+
+impl<R: Net + Clock + Copy> UdpWire<R> {
+    /// A wire of a member, which listens at its address of these, or with 255 of an asker on any free port, of whom the
+    /// first address takes every send. A wait is so many milliseconds long.
+    ///
+    /// An address is as `parse_address` reads it, or a host's name, `:` and a port; names are looked up here, once.
+    /// `NoSocket` where one is neither, or where the system knows no such name or refuses the socket.
+    pub fn bind(
+        rt: &R,
+        alloc: Global,
+        addrs: &[&str],
+        me: u8,
+        wait_ms: u32,
+    ) -> Result<UdpWire<R>, BindFault>
+        requires wait { 0 < wait_ms }
+        ensures peers { IfOk result (λ w. AreFound (map (λ t. t.now) addrs.now) (peers_of w)) }
+        ensures me { IfOk result (λ w. me_of w ≡ me) }
+        ensures strangers { IfOk result (λ w. strangers_of w ≡ 0) }
+    {
+        let peers = addresses(rt, alloc, addrs)?;
+        let Some(own) = own_address(peers.as_slice(), me) else {
+            return Err(BindFault::NoSocket);
+        };
+        let Ok(socket) = UdpSocket::bind(rt, own) else {
+            return Err(BindFault::NoSocket);
+        };
+        let wait = Duration::from_millis(u64::from(wait_ms));
+        if socket.set_read_timeout(Some(wait)).is_err() {
+            return Err(BindFault::NoSocket);
+        }
+        Ok(UdpWire {
+            socket,
+            clock: *rt,
+            peers,
+            me,
+            wait,
+            left: wait,
+            since: None,
+            last: None,
+            timeout: wait,
+            is_blocking: true,
+            hears_asks: true,
+            strangers: 0,
+            failures: 0,
+        })
+    }
+}
+
+impl<C> UdpWire<C> {
+    /// Where each member listens, as it was found when the wire was made.
+    pub fn peers(&self) -> &[Address]
+        ensures { result.now ≡ peers_of self.now }
+    {
+        self.peers.as_slice()
+    }
+
+    /// The socket's descriptor, for whoever waits for several.
+    pub fn raw_fd(&self) -> RawFd {
+        self.socket.as_raw_fd()
+    }
+
+    /// From now on members alone are heard, by their addresses.
+    pub fn hear_members(&mut self)
+        ensures strangers { strangers_of self.new ≡ strangers_of self.old }
+        ensures peers { peers_of self.new ≡ peers_of self.old }
+        ensures me { me_of self.new ≡ me_of self.old }
+    {
+        self.hears_asks = false;
+    }
+
+    /// How many datagrams were dropped that came from elsewhere than a member's address, up to 2^64 - 1.
+    pub fn strangers(&self) -> u64
+        ensures { result ≡ strangers_of self.now }
+    {
+        self.strangers
+    }
+
+    /// Counts a fault.
+    fn count_failure(&mut self)
+        ensures failures { self.old.failures ≤ self.new.failures }
+        ensures strangers { self.new.strangers ≡ self.old.strangers }
+    {
+        self.failures = self.failures.saturating_add(1);
+    }
+
+    /// Counts what a receive or a wait met, unless nothing came in time.
+    fn met(&mut self, kind: ErrorKind)
+        ensures failures { self.old.failures ≤ self.new.failures }
+        ensures strangers { self.new.strangers ≡ self.old.strangers }
+    {
+        if kind != ErrorKind::WouldBlock && kind != ErrorKind::TimedOut {
+            self.count_failure();
+        }
+    }
+
+    /// Whether the socket waits from now on, or doesn't, as is asked.
+    fn set_blocking(&mut self, is_blocking: bool) -> bool
+        ensures failures { self.old.failures ≤ self.new.failures }
+        ensures strangers { self.new.strangers ≡ self.old.strangers }
+    {
+        if self.is_blocking != is_blocking {
+            if self.socket.set_nonblocking(!is_blocking).is_err() {
+                self.count_failure();
+                return false;
+            }
+            self.is_blocking = is_blocking;
+        }
+        true
+    }
+
+    /// Whether the socket waits so long from now on.
+    fn set_timeout(&mut self, timeout: Duration) -> bool
+        ensures failures { self.old.failures ≤ self.new.failures }
+        ensures strangers { self.new.strangers ≡ self.old.strangers }
+    {
+        if self.timeout != timeout {
+            if self.socket.set_read_timeout(Some(timeout)).is_err() {
+                self.count_failure();
+                return false;
+            }
+            self.timeout = timeout;
+        }
+        true
+    }
+
+    /// Whether a datagram is heard: it comes from a member's address, or is of one who asks, where such are heard.
+    fn is_heard(&self, from: SocketAddr, datagram: &[u8]) -> bool {
+        self.peers.as_slice().contains(&Address::of_socket(from))
+            || (self.hears_asks && is_asking(datagram))
+    }
+
+    /// What is given of a datagram that came: all its bytes, or none of a stranger's, which is counted.
+    fn admit(&mut self, from: SocketAddr, datagram: &[u8]) -> usize
+        ensures failures { self.new.failures ≡ self.old.failures }
+        ensures fits { result ≤ length datagram.now }
+        ensures dropped { Drops (strangers_of self.old) (Some result) (strangers_of self.new) }
+    {
+        if self.is_heard(from, datagram) {
+            self.last = Some(from);
+            return datagram.len();
+        }
+        self.strangers = self.strangers.saturating_add(1);
+        0
+    }
+}
+
+impl<C: Clock> UdpWire<C> {
+    /// The clock's reading, for a member.
+    fn now(&self) -> Option<Instant> {
+        reading(&self.clock, self.me)
+    }
+
+    /// Takes the time between two readings off what is left of the wait, or the most that counts.
+    fn pass(&mut self, from: Option<Instant>, to: Option<Instant>, most: Duration)
+        ensures failures { self.new.failures ≡ self.old.failures }
+        ensures strangers { self.new.strangers ≡ self.old.strangers }
+    {
+        if let (Some(from), Some(to)) = (from, to) {
+            let passed = to.duration_since(from).min(most);
+            self.left = self.left.saturating_sub(passed);
+        }
+    }
+
+    /// Ends the wait.
+    fn end_wait(&mut self)
+        ensures failures { self.new.failures ≡ self.old.failures }
+        ensures strangers { self.new.strangers ≡ self.old.strangers }
+    {
+        self.left = self.wait;
+        self.since = None;
+    }
+
+    /// Whether any of the wait is left. The socket waits no longer than that.
+    fn is_waiting(&mut self, now: Option<Instant>) -> bool
+        ensures failures { self.old.failures ≤ self.new.failures }
+        ensures strangers { self.new.strangers ≡ self.old.strangers }
+    {
+        if self.me != ASKER {
+            self.pass(self.since, now, self.wait / PART);
+            if self.left.is_zero() {
+                return false;
+            }
+        }
+        let _is_blocking = self.set_blocking(true);
+        let timeout = if self.me == ASKER {
+            self.wait
+        } else {
+            self.left
+        };
+        let _is_set = self.set_timeout(timeout);
+        true
+    }
+
+    /// Where a datagram for this member goes.
+    fn address(&self, to: u8) -> Option<SocketAddr> {
+        if self.me != ASKER && to == ASKER {
+            return self.last;
+        }
+        let place = if self.me == ASKER { 0 } else { usize::from(to) };
+        match self.peers.get(place) {
+            Some(address) => Some(address.socket()),
+            None => None,
+        }
+    }
+
+    /// Whether all of the bytes were sent there.
+    fn sent_to(&self, bytes: &[u8], to: SocketAddr) -> bool {
+        match self.socket.send_to(bytes, to) {
+            Ok(n) => n == bytes.len(),
+            Err(_) => false,
+        }
+    }
+}
+
+impl<C: Clock> Wire for UdpWire<C> {
+    ghost given = { λ w. None };
+
+    ghost handed = { λ w. None };
+
+    ghost failed = { λ w. w.failures };
+
+    fn recv(&mut self, into: &mut [u8]) -> Option<usize>
+        ensures dropped { Drops (strangers_of self.old) result (strangers_of self.new) }
+        ensures fits { IfSome result (λ n. n ≤ length into.new) }
+        ensures given { Unit {0} }
+        ensures quiet { Unit {0} }
+        ensures counts { self.old.failures ≤ self.new.failures }
+    {
+        let began = self.now();
+        if !self.is_waiting(began) {
+            self.end_wait();
+            return None;
+        }
+        match self.socket.recv_from(into) {
+            Ok((n, from)) => {
+                self.since = self.now();
+                self.pass(began, self.since, self.wait);
+                Some(self.admit(from, &into[..n]))
+            }
+            Err(error) => {
+                self.met(error.kind());
+                self.end_wait();
+                None
+            }
+        }
+    }
+
+    fn poll(&mut self, into: &mut [u8]) -> Option<usize>
+        ensures dropped { Drops (strangers_of self.old) result (strangers_of self.new) }
+        ensures fits { IfSome result (λ n. n ≤ length into.new) }
+        ensures given { Unit {0} }
+        ensures quiet { Unit {0} }
+        ensures counts { self.old.failures ≤ self.new.failures }
+    {
+        if !self.set_blocking(false) {
+            return None;
+        }
+        match self.socket.recv_from(into) {
+            Ok((n, from)) => Some(self.admit(from, &into[..n])),
+            Err(error) => {
+                self.met(error.kind());
+                None
+            }
+        }
+    }
+
+    fn wait(&mut self, milliseconds: u32) {
+        if milliseconds == 0 || !self.set_blocking(true) {
+            return;
+        }
+        if !self.set_timeout(Duration::from_millis(u64::from(milliseconds))) {
+            return;
+        }
+        let mut room = [0u8; 1];
+        if let Err(error) = self.socket.peek_from(&mut room) {
+            self.met(error.kind());
+        }
+    }
+
+    fn due(&self, milliseconds: u32) -> u32
+        ensures { result ≡ milliseconds }
+    {
+        milliseconds
+    }
+
+    fn send(&mut self, to: u8, bytes: &[u8]) -> bool {
+        let sent = match self.address(to) {
+            Some(there) => self.sent_to(bytes, there),
+            None => false,
+        };
+        if !sent {
+            self.failures = self.failures.saturating_add(1);
+        }
+        sent
+    }
+
+    fn failures(&self) -> u64 {
+        self.failures
+    }
+}

@@ -1,0 +1,201 @@
+//! From matches to what they ask for.
+
+ghost use Rattle.std.specs.Prelude.{◌≡◌, IfOk, map, length, true};
+ghost use Rattle.std.specs.Option.{option_copied};
+ghost use Rattle.clap.specs.Words.{found_of, rows_of};
+ghost use Rattle.pf_entry.specs.Owned.{command_value};
+ghost use Rattle.pf_arguments.specs.Asked.{given_in, asked, change, whole_action, table_action, whole_asked, table_asked};
+ghost use Rattle.pf_arguments.specs.Asked.{path_given, table_given, may_have};
+ghost use Rattle.pf_arguments.specs.Answers.{Answers, IsShort};
+ghost use Rattle.pf_arguments.specs.inner.Answers.{given_of, PathGiven};
+
+use crate::action::Action;
+use crate::addresses::{addresses, entries};
+use crate::chosen::{TableWord, WholeWord, Word, word_of};
+use crate::fault::CommandFault;
+use crate::given::Given;
+use clap::ArgMatches;
+use pf_config::{ConfigFault, parse_path};
+use pf_entry::{Command, EncodeFault, Entry, Path, Profile, SomeAddresses, TableName, encode};
+use std::alloc::{AllocError, Global};
+
+/// The command, unless no entry of it has a spelling.
+fn change(alloc: Global, command: Command) -> Result<Action, CommandFault>
+    ensures answer { Answers result (change (command_value command)) }
+    ensures short { IfOk result IsShort }
+{
+    let entry = Entry {
+        origin: 0,
+        number: 0,
+        command,
+    };
+    match encode(alloc, &entry) {
+        Ok(_bytes) => Ok(Action::Change(entry.command)),
+        Err(EncodeFault::TooLong) => Err(CommandFault::TooLong),
+        Err(EncodeFault::Memory) => Err(CommandFault::Memory),
+    }
+}
+
+/// The path of `-a`, the main ruleset's without it.
+fn path_given(alloc: Global, given: Given<'_, '_>) -> Result<Path, CommandFault>
+    ensures { PathGiven result (path_given (given_of given.entry)) }
+{
+    let text = given.path.unwrap_or("");
+    match parse_path(alloc, text) {
+        Ok(path) => Ok(path),
+        Err(ConfigFault::Memory) => Err(CommandFault::Memory),
+        Err(_) => Err(CommandFault::BadPath),
+    }
+}
+
+/// The name of `-t`, if it is a table's name.
+fn table_given(alloc: Global, given: Given<'_, '_>) -> Result<Option<TableName>, AllocError>
+    ensures { IfOk result (λ name. name ≡ table_given (given_of given.entry)) }
+{
+    match given.table {
+        Some(text) => TableName::new(alloc, text.as_bytes()),
+        None => Ok(None),
+    }
+}
+
+/// What is done with an anchor as a whole.
+fn whole_action(
+    alloc: Global,
+    word: WholeWord,
+    path: Path,
+    text: &[u8],
+) -> Result<Action, CommandFault>
+    ensures answer { Answers result (whole_action word path text.now) }
+    ensures short { IfOk result IsShort }
+{
+    match word {
+        WholeWord::Load => {
+            let text = Vec::from_slice(alloc, text)?;
+            change(
+                alloc,
+                Command::Load {
+                    path,
+                    profile: Profile::Two,
+                    text,
+                },
+            )
+        }
+        WholeWord::Check => Ok(Action::CheckOnly(path)),
+        WholeWord::FlushRules => change(alloc, Command::FlushRules { path }),
+        WholeWord::FlushTables => change(alloc, Command::FlushTables { path }),
+        WholeWord::FlushAll => change(alloc, Command::FlushAll { path }),
+        WholeWord::ShowRules => Ok(Action::ShowRules(path)),
+        WholeWord::ShowTables => Ok(Action::ShowTables(path)),
+        WholeWord::ShowAnchors => Ok(Action::ShowAnchors),
+    }
+}
+
+/// What is done with a table.
+fn table_action(
+    alloc: Global,
+    word: TableWord,
+    path: Path,
+    table: TableName,
+    words: &[&str],
+) -> Result<Action, CommandFault>
+    requires { may_have word (length words.now) ≡ true }
+    ensures answer { Answers result (table_action word path table (map (λ w. w.now) words.now)) }
+    ensures short { IfOk result IsShort }
+{
+    match word {
+        TableWord::Add => {
+            let items = entries(alloc, words)?;
+            let addresses = SomeAddresses { items };
+            change(
+                alloc,
+                Command::Add {
+                    path,
+                    table,
+                    addresses,
+                },
+            )
+        }
+        TableWord::Delete => {
+            let items = entries(alloc, words)?;
+            let addresses = SomeAddresses { items };
+            change(
+                alloc,
+                Command::Delete {
+                    path,
+                    table,
+                    addresses,
+                },
+            )
+        }
+        TableWord::Replace => {
+            let addresses = entries(alloc, words)?;
+            change(
+                alloc,
+                Command::Replace {
+                    path,
+                    table,
+                    addresses,
+                },
+            )
+        }
+        TableWord::Flush => change(alloc, Command::FlushTable { path, table }),
+        TableWord::Show => Ok(Action::TableShow(path, table)),
+        TableWord::Test => {
+            let list = addresses(alloc, words)?;
+            Ok(Action::TableTest(path, table, list))
+        }
+    }
+}
+
+/// The action of a word that isn't on a table: neither `-t` nor addresses stand beside it.
+fn whole_asked(
+    alloc: Global,
+    word: WholeWord,
+    given: Given<'_, '_>,
+    text: &[u8],
+) -> Result<Action, CommandFault>
+    ensures answer { Answers result (whole_asked word (given_of given.entry) text.now) }
+    ensures short { IfOk result IsShort }
+{
+    if given.table.is_some() || !given.addresses.is_empty() {
+        return Err(CommandFault::Usage);
+    }
+    let path = path_given(alloc, given)?;
+    whole_action(alloc, word, path, text)
+}
+
+/// The action of a word on a table: `-t` names it, and there are as many addresses as may be.
+fn table_asked(alloc: Global, word: TableWord, given: Given<'_, '_>) -> Result<Action, CommandFault>
+    ensures answer { Answers result (table_asked word (table_given (given_of given.entry)) (given_of given.entry)) }
+    ensures short { IfOk result IsShort }
+{
+    let Some(table) = table_given(alloc, given)? else {
+        return Err(CommandFault::Usage);
+    };
+    if !word.may_have(given.addresses.len()) {
+        return Err(CommandFault::Usage);
+    }
+    let path = path_given(alloc, given)?;
+    table_action(alloc, word, path, table, given.addresses)
+}
+
+/// What the matches of pfctl's words ask for; `text` is what the file of `-f` has.
+///
+/// Faults in this order: 40 of options that don't go together, 24 of a path, 1 to 3 of an address (where several have
+/// one, the lowest), 41 of a change that is too long for an entry. A text is loaded by the second profile.
+#[tactic(auto, unfolding(crate::specs::Asked::asked))]
+pub fn from_matches(
+    alloc: Global,
+    matches: &ArgMatches<'_>,
+    text: &[u8],
+) -> Result<Action, CommandFault>
+    ensures answer { Answers result (asked (given_in (rows_of (found_of matches.now))) text.now) }
+    ensures short { IfOk result IsShort }
+{
+    let given = Given::of(matches);
+    match word_of(given) {
+        None => Err(CommandFault::Usage),
+        Some(Word::Whole(word)) => whole_asked(alloc, word, given, text),
+        Some(Word::OnTable(word)) => table_asked(alloc, word, given),
+    }
+}

@@ -1,6 +1,0 @@
--- the requests at the door
-use Rattle.pf_door.proofs.Asked.{asks_some}
-use Rattle.pf_door.proofs.running.serve.Goals as goal
-
-pub returns-in-Some-clause-asks : goal.returns-in-Some-clause-asks
-returns-in-Some-clause-asks g c = asks_some _ _ c.serve.ensures

@@ -1,0 +1,84 @@
+-- Which stores are refused, and with what: first the format is asked for, then rows that no node writes, then the
+-- owner.
+use Rattle.std.specs.Prelude.{◌≡◌, ℕ, ◌^◌, Bool, true, false, ◌&&◌, ◌||◌, List, [], ◌∷◌, Option, Some}
+use Rattle.std.specs.Prelude.{None}
+use Rattle.std.specs.Prelude.{nat_eq, nat_le, nat_lt, not, if◌then◌else◌}
+use Rattle.sqlite_value.specs.Order.{Row, column}
+use Rattle.sqlite.specs.Tree.{Trees}
+use Rattle.px_store.specs.Seen.{is_number, number_in, is_key, is_ballot, seen, meta_columns, floor_columns}
+use Rattle.px_store.specs.Formats.{trees_at, number_of}
+use Rattle.px_store.specs.declared.formats.Format.{Format}
+use Rattle.px_store.specs.declared.formats.Format.TheVariants.{Three}
+use Rattle.px_store.specs.declared.calls.Identity.{Identity}
+use Rattle.px_store.specs.declared.fault.AdoptFault.{AdoptFault}
+use Rattle.px_store.specs.declared.fault.AdoptFault.TheVariants.{StoreVersion, BadStore, WrongNode}
+
+-- there is a row
+abbrev pub has_rows : List Row → Bool
+has_rows [] = false
+has_rows (r ∷ rows) = true
+
+-- ---- the row for the whole node: id, format, cluster, members, node, round, number
+
+-- the row says that the store has this format
+abbrev pub says_format : ℕ → Row → Bool
+says_format format r = is_number (column r 1) && nat_eq (number_in (column r 1)) format
+
+-- a cluster of 1 to 15 members, and one of them
+abbrev pub is_member_of : (cluster members node : ℕ) → Bool
+is_member_of cluster members node =
+    nat_le cluster 4294967295 && (nat_le 1 members && (nat_le members 15 && nat_lt node members))
+
+-- the row says of which cluster of 1 to 15 members the node is, and which of them
+abbrev pub says_member : Row → Bool
+says_member r = is_number (column r 2) && (is_number (column r 3) && (is_number (column r 4) &&
+    is_member_of (number_in (column r 2)) (number_in (column r 3)) (number_in (column r 4))))
+
+-- a round and a number that a node may reach
+abbrev pub says_numbers : Row → Bool
+says_numbers r = is_number (column r 5) && (is_number (column r 6) &&
+    (nat_lt (number_in (column r 5)) (2 ^ 48) && nat_le (number_in (column r 6)) (2 ^ 48)))
+
+-- the node that opens is this one, of this cluster with that many members
+abbrev pub is_owner : Identity → (cluster members node : ℕ) → Bool
+is_owner i cluster members node =
+    nat_eq cluster i.cluster && (nat_eq members i.members && nat_eq node i.node)
+
+-- the row says that the store belongs to the node that opens
+abbrev pub says_owner : Identity → Row → Bool
+says_owner i r = is_owner i (number_in (column r 2)) (number_in (column r 3)) (number_in (column r 4))
+
+-- ---- the floor: id, ballot
+
+-- no row, or one with the ballot of a member
+abbrev pub are_floor_rows : (members : ℕ) → List Row → Bool
+are_floor_rows members [] = true
+are_floor_rows members (r ∷ []) =
+    is_key 1 (column r 0) && (is_number (column r 1) && is_ballot members (number_in (column r 1)))
+are_floor_rows members (r ∷ x ∷ more) = false
+
+-- ---- the refusal
+
+-- with one row for the whole node: 73 for another format, else 72 for a bad row or floor, else 71 for another owner
+abbrev pub row_refusal : (format : ℕ) → Identity → (floor : List Row) → Row → Option AdoptFault
+row_refusal format i floor r =
+    if not (says_format format r) then Some StoreVersion
+    else (if not (says_member r && says_numbers r && are_floor_rows (number_in (column r 3)) floor) then Some BadStore
+    else (if says_owner i r then None else Some WrongNode))
+
+-- A store without the row for the whole node has nothing else either.
+abbrev pub refusal_of : (format : ℕ) → Identity → (meta floor : List Row) → (has_more : Bool) →
+    Option AdoptFault
+refusal_of format i [] floor has_more = if has_rows floor || has_more then Some BadStore else None
+refusal_of format i (r ∷ []) floor has_more = row_refusal format i floor r
+refusal_of format i (r ∷ x ∷ more) floor has_more = Some BadStore
+
+-- what a node is answered about these rows of a store with the tables of a format
+abbrev pub refusal : Format → Identity → Trees → Option AdoptFault
+refusal f i db = refusal_of (number_of f) i (seen meta_columns (db 0) 1) (seen floor_columns (trees_at f db 2) 1)
+    (has_rows (db 1) || has_rows (trees_at f db 3))
+
+-- the rows of a store of format 3 that is this node's
+pub record IsOwn (i : Identity) (db : Trees) : Type 0 where
+  pub row : has_rows (seen meta_columns (db 0) 1) ≡ true
+  pub taken : refusal Three i db ≡ None

@@ -1,0 +1,248 @@
+//! The statements: a row of format 3 is put by one call, and rows of each format are asked for by another.
+
+ghost use Rattle.std.specs.Prelude.{◌≡◌, ◌<◌, pos, true, [], Err, IfOk, IfErr, IsTrue};
+ghost use Rattle.sqlite.specs.Held.{state};
+ghost use Rattle.sqlite.specs.State.{HasCleanDisk, Survives, Executes, CommitsBy};
+ghost use Rattle.sqlite.specs.State.{Shown, FailsToQuery, CommitsShowing};
+ghost use Rattle.px_store.specs.inner.Effect.{LeavesOld, Serves};
+ghost use Rattle.px_store.specs.Formats.{has_table};
+ghost use Rattle.px_store.specs.Adopting.{Began};
+ghost use Rattle.px_store.specs.inner.Questions.{asked_by, given_with, table_of, Looked};
+ghost use Rattle.px_store.specs.inner.NewRows.{text_of, params_of, AreIntegers, Wrote};
+ghost use Rattle.px_store.specs.declared.reading.TheConstants.{INTEGERS};
+
+use crate::formats::Format;
+use sqlite::{Alter, Connection, Error, ErrorCode, Row, params};
+
+/// Whom a store belongs to.
+#[derive(Clone, Copy, PartialEq, Eq)]
+pub struct Identity {
+    pub cluster: u32,
+    pub members: u8,
+    pub node: u8,
+}
+
+/// Why a statement failed: for lack of memory, with nothing changed and the connection serving, or else.
+#[derive(Clone, Copy, PartialEq, Eq)]
+pub(crate) enum Trouble {
+    Memory,
+    Failed,
+}
+
+pub(crate) fn signed(n: u64) -> i64
+    requires { n < INTEGERS }
+    ensures { result ≡ pos n }
+{
+    n as i64
+}
+
+fn is_memory(error: &Error) -> bool {
+    matches!(error, Error::SqliteFailure(ErrorCode::OutOfMemory))
+}
+
+/// Whether memory ran out and the connection still serves: it reads an empty text.
+pub(crate) fn cause_of<S: Alter>(conn: &mut Connection<S>, error: Error) -> Trouble
+    ensures serves { HasCleanDisk (state S.Store conn.new) → result ≡ Trouble.Memory →
+        Serves (state S.Store conn.old) (state S.Store conn.new) }
+    ensures clean { HasCleanDisk (state S.Store conn.new) → HasCleanDisk (state S.Store conn.old) }
+    ensures crash { HasCleanDisk (state S.Store conn.new) →
+        LeavesOld (state S.Store conn.old) (state S.Store conn.new) }
+{
+    if !is_memory(&error) {
+        return Trouble::Failed;
+    }
+    match conn.prepare("") {
+        Ok(_probe) => Trouble::Memory,
+        Err(_) => Trouble::Failed,
+    }
+}
+
+/// A row that is put in the place of the one with its key. The entry of a slot, or of what is learned, stands beside
+/// it, as bytes.
+#[derive(Clone, Copy)]
+pub(crate) enum NewRow {
+    /// The row for the whole node, with what identifies the node beside it.
+    Meta {
+        round: u64,
+        number: u64,
+    },
+    Slot {
+        position: u32,
+        promised: u64,
+        ballot: u64,
+    },
+    Floor {
+        ballot: u64,
+    },
+    Learned {
+        position: u32,
+    },
+}
+
+/// Runs the statement that puts a row.
+fn run<S: Alter>(
+    conn: &mut Connection<S>,
+    identity: Identity,
+    row: NewRow,
+    bytes: &[u8],
+) -> Result<usize, Error>
+    requires fits { AreIntegers row }
+    ensures runs { HasCleanDisk (state S.Store conn.new) → Executes (text_of row) (params_of identity row bytes.now)
+        (state S.Store conn.old) (state S.Store conn.new) result }
+    ensures survives { Survives (state S.Store conn.old) (state S.Store conn.new)
+        (CommitsBy (text_of row) (params_of identity row bytes.now) (state S.Store conn.old)) }
+{
+    match row {
+        NewRow::Meta { round, number } => {
+            let round = signed(round);
+            let number = signed(number);
+            conn.execute(
+                "INSERT OR REPLACE INTO meta VALUES (1, 3, ?1, ?2, ?3, ?4, ?5)",
+                params![
+                    identity.cluster,
+                    u32::from(identity.members),
+                    u32::from(identity.node),
+                    round,
+                    number
+                ],
+            )
+        }
+        NewRow::Slot {
+            position,
+            promised,
+            ballot,
+        } => {
+            let promised = signed(promised);
+            let ballot = signed(ballot);
+            conn.execute(
+                "INSERT OR REPLACE INTO slots VALUES (?1, ?2, ?3, ?4)",
+                params![position, promised, ballot, bytes],
+            )
+        }
+        NewRow::Floor { ballot } => {
+            let ballot = signed(ballot);
+            conn.execute(
+                "INSERT OR REPLACE INTO floor VALUES (1, ?1)",
+                params![ballot],
+            )
+        }
+        NewRow::Learned { position } => conn.execute(
+            "INSERT OR REPLACE INTO learned VALUES (?1, ?2)",
+            params![position, bytes],
+        ),
+    }
+}
+
+/// Puts a row, in a transaction of its own. The identity is in the row for the whole node alone, the bytes in those
+/// of slots and of what is learned.
+pub(crate) fn put<S: Alter>(
+    conn: &mut Connection<S>,
+    identity: Identity,
+    row: NewRow,
+    bytes: &[u8],
+) -> Result<(), Trouble>
+    requires fits { AreIntegers row }
+    ensures clean { HasCleanDisk (state S.Store conn.new) → HasCleanDisk (state S.Store conn.old) }
+    ensures wrote { HasCleanDisk (state S.Store conn.new) → Began Format.Three (state S.Store conn.old) →
+        IsTrue (state S.Store conn.old).is_open → Wrote identity row bytes.now result (state S.Store conn.old)
+        (state S.Store conn.new) }
+{
+    // for the proof: no transaction is open
+    let _settled = conn.is_autocommit();
+    match run(conn, identity, row, bytes) {
+        Ok(_) => Ok(()),
+        Err(error) => Err(cause_of(conn, error)),
+    }
+}
+
+/// A statement that only reads.
+#[derive(Clone, Copy)]
+pub(crate) enum Question {
+    /// The row for the whole node.
+    Meta,
+    Floor,
+    Slot { position: u32 },
+    Learned { position: u32 },
+    /// The key of the last slot with a proposal.
+    Top,
+    /// The key of the last learned entry.
+    End,
+    /// The key of the last slot.
+    LastSlot,
+}
+
+impl Question {
+    /// The table that it asks, the first being 0.
+    pub(crate) fn table(self) -> u64
+        ensures { result ≡ table_of self }
+    {
+        match self {
+            Question::Meta => 0,
+            Question::Floor => 2,
+            Question::Slot { position: _ } => 1,
+            Question::Learned { position: _ } => 3,
+            Question::Top => 1,
+            Question::End => 3,
+            Question::LastSlot => 1,
+        }
+    }
+}
+
+/// Runs the statement.
+fn ask<S: Alter>(conn: &mut Connection<S>, question: Question) -> Result<Vec<Row>, Error>
+    ensures ok { HasCleanDisk (state S.Store conn.new) → IfOk result (λ rows. Shown (asked_by question)
+        (given_with question) (state S.Store conn.old) (state S.Store conn.new) rows.items) }
+    ensures err { HasCleanDisk (state S.Store conn.new) → IfErr result (FailsToQuery (asked_by question)
+        (given_with question) (state S.Store conn.old) (state S.Store conn.new)) }
+    ensures survives { Survives (state S.Store conn.old) (state S.Store conn.new)
+        (CommitsShowing (asked_by question) (given_with question) (state S.Store conn.old)) }
+{
+    match question {
+        Question::Meta => conn.query_all(
+            "SELECT id, format, cluster, members, node, round, number FROM meta WHERE id = ?1",
+            params![1u32],
+        ),
+        Question::Floor => conn.query_all(
+            "SELECT id, ballot FROM floor WHERE id = ?1",
+            params![1u32],
+        ),
+        Question::Slot { position } => conn.query_all(
+            "SELECT position, promised, ballot, entry FROM slots WHERE position = ?1",
+            params![position],
+        ),
+        Question::Learned { position } => conn.query_all(
+            "SELECT position, entry FROM learned WHERE position = ?1",
+            params![position],
+        ),
+        Question::Top => conn.query_all(
+            "SELECT position FROM slots WHERE ballot > 0 ORDER BY position DESC LIMIT 1",
+            &[],
+        ),
+        Question::End => conn.query_all(
+            "SELECT position FROM learned ORDER BY position DESC LIMIT 1",
+            &[],
+        ),
+        Question::LastSlot => conn.query_all(
+            "SELECT position FROM slots ORDER BY position DESC LIMIT 1",
+            &[],
+        ),
+    }
+}
+
+/// Reads rows of a store that has their table.
+pub(crate) fn get<S: Alter>(
+    conn: &mut Connection<S>,
+    question: Question,
+) -> Result<Vec<Row>, Trouble>
+    ensures clean { HasCleanDisk (state S.Store conn.new) → HasCleanDisk (state S.Store conn.old) }
+    ensures looked { HasCleanDisk (state S.Store conn.new) → (f : Format) → Began f (state S.Store conn.old) →
+        has_table (table_of question) f ≡ true → Looked question result (state S.Store conn.old)
+        (state S.Store conn.new) }
+{
+    // for the proof: no transaction is open
+    let _settled = conn.is_autocommit();
+    match ask(conn, question) {
+        Ok(rows) => Ok(rows),
+        Err(error) => Err(cause_of(conn, error)),
+    }
+}

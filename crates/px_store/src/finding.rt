@@ -1,0 +1,300 @@
+//! What a store holds as it is found.
+ghost use Rattle.std.specs.Prelude.{◌≡◌, ◌<◌, ◌≤◌, ◌^◌, ℕ, false, [], ◌∷◌, length};
+ghost use Rattle.std.specs.Prelude.{◌⊎◌, IfOk, OnOk, OnErr, IfErr, Ok, Err, Some, None, true, ◌&&◌, ◌||◌};
+ghost use Rattle.sqlite.specs.Held.{state};
+ghost use Rattle.sqlite.specs.State.{HasCleanDisk};
+ghost use Rattle.sqlite_value.specs.Order.{column};
+ghost use Rattle.px_store.specs.Seen.{seen, meta_columns, floor_columns, number_at, number_in};
+ghost use Rattle.px_store.specs.inner.Effect.{LeavesOld, IsAlike, IsStill};
+ghost use Rattle.px_store.specs.Formats.{trees_at, has_table};
+ghost use Rattle.px_store.specs.Adopting.{Began, IsSame, IsVerdict};
+ghost use Rattle.px_store.specs.Judging.{has_rows, says_format, says_member, says_numbers, is_member_of};
+ghost use Rattle.px_store.specs.inner.Judging.{rows_in};
+ghost use Rattle.px_store.specs.Judging.{is_owner, row_refusal, refusal_of};
+ghost use Rattle.px_store.specs.inner.Questions.{Answers, table_of};
+ghost use Rattle.px_store.specs.declared.reading.TheConstants.{NUMBERS};
+
+use crate::calls::{Identity, Question, Trouble, get};
+use crate::fault::AdoptFault;
+use crate::formats::Format;
+use crate::reading::{NUMBERS, ReadFault, floor_in_rows, number};
+use sqlite::{Alter, Connection, Row};
+
+/// What the row for the whole node says, or nothing.
+#[derive(Clone, Copy, PartialEq, Eq)]
+pub(crate) struct Found {
+    pub(crate) has_row: bool,
+    pub(crate) cluster: u64,
+    pub(crate) members: u8,
+    pub(crate) node: u64,
+    pub(crate) round: u64,
+    pub(crate) number: u64,
+}
+
+/// The rows that answer a question, where the format has its table.
+pub(crate) fn look<S: Alter>(
+    conn: &mut Connection<S>,
+    format: Format,
+    question: Question,
+) -> Result<Option<Vec<Row>>, AdoptFault>
+    ensures why { OnErr result ((result ≡ Err AdoptFault.Memory) ⊎ (result ≡ Err AdoptFault.Failed)) }
+    ensures rows { HasCleanDisk (state S.Store conn.new) → Began format (state S.Store conn.old) →
+        IfOk result (λ rows. Answers question (trees_at format (state S.Store conn.old).now.trees) (rows_in rows)) }
+    ensures clean { HasCleanDisk (state S.Store conn.new) → HasCleanDisk (state S.Store conn.old) }
+    ensures stays { HasCleanDisk (state S.Store conn.new) → Began format (state S.Store conn.old) →
+        OnOk result (IsSame (state S.Store conn.old) (state S.Store conn.new)) }
+    ensures still { HasCleanDisk (state S.Store conn.new) → Began format (state S.Store conn.old) →
+        has_table (table_of question) format ≡ true →
+        OnOk result (IsStill (state S.Store conn.old) (state S.Store conn.new)) }
+    ensures crash { HasCleanDisk (state S.Store conn.new) → Began format (state S.Store conn.old) →
+        LeavesOld (state S.Store conn.old) (state S.Store conn.new) }
+{
+    if !format.has_table(question.table()) {
+        return Ok(None);
+    }
+    match get(conn, question) {
+        Ok(rows) => Ok(Some(rows)),
+        Err(Trouble::Memory) => Err(AdoptFault::Memory),
+        Err(Trouble::Failed) => Err(AdoptFault::Failed),
+    }
+}
+
+/// Whether the row says this format.
+fn says_format(row: &Row, format: u64) -> Result<bool, AdoptFault>
+    ensures value { IfOk result (λ b. b ≡ says_format format row.now) }
+    ensures why { OnErr result (result ≡ Err AdoptFault.Memory) }
+{
+    match number(row, 1) {
+        Ok(found) => Ok(found == format),
+        Err(ReadFault::Memory) => Err(AdoptFault::Memory),
+        Err(ReadFault::Bad) => Ok(false),
+    }
+}
+
+/// Whether there is such a member of such a cluster.
+fn is_member_of(cluster: u64, members: u64, node: u64) -> bool
+    ensures { result ≡ is_member_of cluster members node }
+{
+    cluster <= 4_294_967_295 && 1 <= members && members <= 15 && node < members
+}
+
+/// What the row for the whole node says, if a node writes such a row.
+fn found_in_row(row: &Row) -> Result<Found, ReadFault>
+    ensures good { OnOk result ((says_member row.now && says_numbers row.now) ≡ true) }
+    ensures bad { result ≡ Err ReadFault.Bad → (says_member row.now && says_numbers row.now) ≡ false }
+    ensures member { IfOk result (λ f. number_in (column row.now 3) ≡ f.members) }
+    ensures cluster { IfOk result (λ f. number_in (column row.now 2) ≡ f.cluster) }
+    ensures node { IfOk result (λ f. number_in (column row.now 4) ≡ f.node) }
+    ensures round { IfOk result (λ f. number_at 5 (row.now ∷ []) ≡ f.round) }
+    ensures number { IfOk result (λ f. number_at 6 (row.now ∷ []) ≡ f.number) }
+    ensures low { IfOk result (λ f. f.round < NUMBERS) }
+    ensures most { IfOk result (λ f. f.number ≤ NUMBERS) }
+{
+    let cluster = number(row, 2)?;
+    let members = number(row, 3)?;
+    let node = number(row, 4)?;
+    if !is_member_of(cluster, members, node) {
+        return Err(ReadFault::Bad);
+    }
+    let round = number(row, 5)?;
+    let counted = number(row, 6)?;
+    if round >= NUMBERS || counted > NUMBERS {
+        return Err(ReadFault::Bad);
+    }
+    Ok(Found {
+        has_row: true,
+        cluster,
+        members: members as u8,
+        node,
+        round,
+        number: counted,
+    })
+}
+
+/// Whether the store has a slot.
+fn some_slot<S: Alter>(conn: &mut Connection<S>, format: Format) -> Result<bool, AdoptFault>
+    ensures why { OnErr result ((result ≡ Err AdoptFault.Memory) ⊎ (result ≡ Err AdoptFault.Failed)) }
+    ensures value { HasCleanDisk (state S.Store conn.new) → Began format (state S.Store conn.old) →
+        IfOk result (λ b. b ≡ has_rows ((state S.Store conn.old).now.trees 1)) }
+    ensures clean { HasCleanDisk (state S.Store conn.new) → HasCleanDisk (state S.Store conn.old) }
+    ensures stays { HasCleanDisk (state S.Store conn.new) → Began format (state S.Store conn.old) →
+        OnOk result (IsSame (state S.Store conn.old) (state S.Store conn.new)) }
+    ensures crash { HasCleanDisk (state S.Store conn.new) → Began format (state S.Store conn.old) →
+        LeavesOld (state S.Store conn.old) (state S.Store conn.new) }
+{
+    let rows = look(conn, format, Question::LastSlot)?;
+    Ok(has_rows(rows_in(&rows)))
+}
+
+/// Whether the store has a learned entry.
+fn some_entry<S: Alter>(conn: &mut Connection<S>, format: Format) -> Result<bool, AdoptFault>
+    ensures why { OnErr result ((result ≡ Err AdoptFault.Memory) ⊎ (result ≡ Err AdoptFault.Failed)) }
+    ensures value { HasCleanDisk (state S.Store conn.new) → Began format (state S.Store conn.old) →
+        IfOk result (λ b. b ≡ has_rows (trees_at format (state S.Store conn.old).now.trees 3)) }
+    ensures clean { HasCleanDisk (state S.Store conn.new) → HasCleanDisk (state S.Store conn.old) }
+    ensures stays { HasCleanDisk (state S.Store conn.new) → Began format (state S.Store conn.old) →
+        OnOk result (IsSame (state S.Store conn.old) (state S.Store conn.new)) }
+    ensures crash { HasCleanDisk (state S.Store conn.new) → Began format (state S.Store conn.old) →
+        LeavesOld (state S.Store conn.old) (state S.Store conn.new) }
+{
+    let rows = look(conn, format, Question::End)?;
+    Ok(has_rows(rows_in(&rows)))
+}
+
+/// Whether there is a row.
+fn has_rows(rows: &[Row]) -> bool
+    ensures { result ≡ has_rows rows.now }
+{
+    match rows {
+        [] => false,
+        _ => true,
+    }
+}
+
+/// What a store holds, as far as taking it looks at that.
+#[derive(Drop)]
+pub(crate) struct Read {
+    meta: Option<Vec<Row>>,
+    floor: Option<Vec<Row>>,
+    has_slot: bool,
+    has_entry: bool,
+}
+
+/// Reads a store that has the tables of a format.
+pub(crate) fn read_store<S: Alter>(
+    conn: &mut Connection<S>,
+    format: Format,
+) -> Result<Read, AdoptFault>
+    ensures rows { HasCleanDisk (state S.Store conn.new) → Began format (state S.Store conn.old) →
+        IfOk result (λ r. IsAlike (seen meta_columns ((state S.Store conn.old).now.trees 0) 1) (rows_in r.meta)) }
+    ensures floors { HasCleanDisk (state S.Store conn.new) → Began format (state S.Store conn.old) →
+        IfOk result (λ r. IsAlike (seen floor_columns (trees_at format (state S.Store conn.old).now.trees 2) 1)
+        (rows_in r.floor)) }
+    ensures slots { HasCleanDisk (state S.Store conn.new) → Began format (state S.Store conn.old) →
+        IfOk result (λ r. r.has_slot ≡ has_rows ((state S.Store conn.old).now.trees 1)) }
+    ensures entries { HasCleanDisk (state S.Store conn.new) → Began format (state S.Store conn.old) →
+        IfOk result (λ r. r.has_entry ≡ has_rows (trees_at format (state S.Store conn.old).now.trees 3)) }
+    ensures why { OnErr result ((result ≡ Err AdoptFault.Memory) ⊎ (result ≡ Err AdoptFault.Failed)) }
+    ensures clean { HasCleanDisk (state S.Store conn.new) → HasCleanDisk (state S.Store conn.old) }
+    ensures stays { HasCleanDisk (state S.Store conn.new) → Began format (state S.Store conn.old) →
+        OnOk result (IsSame (state S.Store conn.old) (state S.Store conn.new)) }
+    ensures crash { HasCleanDisk (state S.Store conn.new) → Began format (state S.Store conn.old) →
+        LeavesOld (state S.Store conn.old) (state S.Store conn.new) }
+{
+    let meta = look(conn, format, Question::Meta)?;
+    let floor = look(conn, format, Question::Floor)?;
+    let has_slot = some_slot(conn, format)?;
+    let has_entry = some_entry(conn, format)?;
+    Ok(Read {
+        meta,
+        floor,
+        has_slot,
+        has_entry,
+    })
+}
+
+/// Whether the row says this owner.
+fn is_owner(found: &Found, identity: Identity) -> bool
+    ensures { result ≡ is_owner identity found.now.cluster found.now.members found.now.node }
+{
+    found.cluster == u64::from(identity.cluster)
+        && found.members == identity.members
+        && found.node == u64::from(identity.node)
+}
+
+/// Judges a store that has a row for the whole node: 73, 72, 71, in this order.
+fn judge_row(row: &Row, floor: &[Row], format: u64, identity: Identity) -> Result<Found, AdoptFault>
+    ensures taken { OnOk result (row_refusal format identity floor.now row.now ≡ None) }
+    ensures refused { IfErr result (λ e. IsVerdict e → row_refusal format identity floor.now row.now ≡ Some e) }
+    ensures round { IfOk result (λ f. number_at 5 (row.now ∷ []) ≡ f.round) }
+    ensures number { IfOk result (λ f. number_at 6 (row.now ∷ []) ≡ f.number) }
+    ensures low { IfOk result (λ f. f.round < NUMBERS) }
+    ensures most { IfOk result (λ f. f.number ≤ NUMBERS) }
+{
+    if !says_format(row, format)? {
+        return Err(AdoptFault::StoreVersion);
+    }
+    let found = match found_in_row(row) {
+        Ok(found) => found,
+        Err(ReadFault::Memory) => return Err(AdoptFault::Memory),
+        Err(ReadFault::Bad) => return Err(AdoptFault::BadStore),
+    };
+    match floor_in_rows(floor, found.members) {
+        Ok(_) => {}
+        Err(ReadFault::Memory) => return Err(AdoptFault::Memory),
+        Err(ReadFault::Bad) => return Err(AdoptFault::BadStore),
+    }
+    if !is_owner(&found, identity) {
+        return Err(AdoptFault::WrongNode);
+    }
+    Ok(found)
+}
+
+/// Judges a store: 73, 72, 71, in this order.
+fn judge_rows(
+    meta: &[Row],
+    floor: &[Row],
+    has_more: bool,
+    format: u64,
+    identity: Identity,
+) -> Result<Found, AdoptFault>
+    ensures taken { OnOk result (refusal_of format identity meta.now floor.now has_more ≡ None) }
+    ensures refused { IfErr result (λ e. IsVerdict e →
+        refusal_of format identity meta.now floor.now has_more ≡ Some e) }
+    ensures few { IfOk result (λ f. length meta.now < 2) }
+    ensures round { IfOk result (λ f. number_at 5 meta.now ≡ f.round) }
+    ensures number { IfOk result (λ f. number_at 6 meta.now ≡ f.number) }
+    ensures low { IfOk result (λ f. f.round < NUMBERS) }
+    ensures most { IfOk result (λ f. f.number ≤ NUMBERS) }
+{
+    match meta {
+        [] => {
+            if has_rows(floor) || has_more {
+                return Err(AdoptFault::BadStore);
+            }
+            Ok(Found {
+                has_row: false,
+                cluster: 0,
+                members: 0,
+                node: 0,
+                round: 0,
+                number: 0,
+            })
+        }
+        [row] => judge_row(row, floor, format, identity),
+        _ => Err(AdoptFault::BadStore),
+    }
+}
+
+/// The rows that were read, if that table was asked.
+pub(crate) fn rows_in(rows: &Option<Vec<Row>>) -> &[Row]
+    ensures { result.now ≡ rows_in rows.now }
+{
+    match rows {
+        Some(rows) => rows.as_slice(),
+        None => &[],
+    }
+}
+
+/// Judges a store: 73, 72, 71, in this order.
+pub(crate) fn judge(read: &Read, format: u64, identity: Identity) -> Result<Found, AdoptFault>
+    ensures taken { OnOk result (refusal_of format identity (rows_in read.now.meta) (rows_in read.now.floor)
+        (read.now.has_slot || read.now.has_entry) ≡ None) }
+    ensures refused { IfErr result (λ e. IsVerdict e →
+        refusal_of format identity (rows_in read.now.meta) (rows_in read.now.floor)
+        (read.now.has_slot || read.now.has_entry) ≡ Some e) }
+    ensures few { IfOk result (λ f. length (rows_in read.now.meta) < 2) }
+    ensures round { IfOk result (λ f. number_at 5 (rows_in read.now.meta) ≡ f.round) }
+    ensures number { IfOk result (λ f. number_at 6 (rows_in read.now.meta) ≡ f.number) }
+    ensures low { IfOk result (λ f. f.round < NUMBERS) }
+    ensures most { IfOk result (λ f. f.number ≤ NUMBERS) }
+{
+    let has_more = read.has_slot || read.has_entry;
+    judge_rows(
+        rows_in(&read.meta),
+        rows_in(&read.floor),
+        has_more,
+        format,
+        identity,
+    )
+}

@@ -1,0 +1,21 @@
+//! The keeper and what stays true of it.
+ghost use Rattle.sqlite.specs.Held.{state};
+ghost use Rattle.px_store.specs.inner.Ready.{IsReady, IsReady-prop, AreBounded, AreBounded-prop};
+
+use crate::calls::Identity;
+use px_model::Meta;
+use sqlite::{Alter, Connection};
+use std::alloc::Global;
+
+/// The record in a database.
+#[derive(Drop)]
+pub struct SqlRecords<S: Alter> {
+    pub(crate) conn: Connection<S>,
+    pub(crate) identity: Identity,
+    pub(crate) meta: Meta,
+    pub(crate) failures: u64,
+    pub(crate) alloc: Global,
+    ghost bounds: { AreBounded identity meta } by { AreBounded-prop identity meta },
+    ghost ready: { IsReady failures identity meta (state S.Store conn) } by { IsReady-prop failures identity meta
+        (state S.Store conn) },
+}

@@ -1,0 +1,214 @@
+//! The statements that make a store, or bring one of an older format to format 3.
+ghost use Rattle.std.specs.Prelude.{◌≡◌, ◌<◌, ◌^◌, false, [], IsTrue, OnOk};
+ghost use Rattle.sqlite.specs.Held.{state};
+ghost use Rattle.sqlite.specs.State.{HasCleanDisk, ExecutesInside, Survives};
+ghost use Rattle.px_store.specs.Tables.{no_schema, schema_1, schema_2, schema_3};
+ghost use Rattle.px_store.specs.inner.Tables.{meta_schema, put_meta, meta_params};
+ghost use Rattle.px_store.specs.inner.Effect.{LeavesOld};
+ghost use Rattle.px_store.specs.Formats.{schema_at, trees_at};
+ghost use Rattle.px_store.specs.Adopting.{AreBrought, LeavesOr};
+ghost use Rattle.px_store.specs.inner.Making.{Grows, PutsMeta, Brought, Raised, with_floor};
+ghost use Rattle.px_store.specs.declared.reading.TheConstants.{INTEGERS};
+
+use crate::calls::{Identity, signed};
+use crate::formats::Format;
+use sqlite::{Alter, Connection, Error, Transaction, params};
+
+fn make_meta<S: Alter>(tx: &mut Transaction<'_, S>) -> Result<(), Error>
+    ensures same_reference { tx.new.conn.ghost_name ≡ tx.old.conn.ghost_name }
+    ensures clean { HasCleanDisk (state S.Store tx.new.conn.now) → HasCleanDisk (state S.Store tx.old.conn.now) }
+    ensures crash { HasCleanDisk (state S.Store tx.new.conn.now) →
+        LeavesOld (state S.Store tx.old.conn.now) (state S.Store tx.new.conn.now) }
+    ensures made { HasCleanDisk (state S.Store tx.new.conn.now) →
+        IsTrue (state S.Store tx.old.conn.now).in_transaction →
+        (state S.Store tx.old.conn.now).now.schema ≡ no_schema →
+        OnOk result (Grows no_schema meta_schema 0 (state S.Store tx.old.conn.now) (state S.Store tx.new.conn.now)) }
+{
+    tx.execute(
+        "CREATE TABLE meta (id INTEGER PRIMARY KEY CHECK (id = 1), format INTEGER NOT NULL, cluster INTEGER NOT NULL, members INTEGER NOT NULL, node INTEGER NOT NULL, round INTEGER NOT NULL, number INTEGER NOT NULL) STRICT",
+        &[],
+    )?;
+    Ok(())
+}
+
+fn make_slots<S: Alter>(tx: &mut Transaction<'_, S>) -> Result<(), Error>
+    ensures same_reference { tx.new.conn.ghost_name ≡ tx.old.conn.ghost_name }
+    ensures clean { HasCleanDisk (state S.Store tx.new.conn.now) → HasCleanDisk (state S.Store tx.old.conn.now) }
+    ensures crash { HasCleanDisk (state S.Store tx.new.conn.now) →
+        LeavesOld (state S.Store tx.old.conn.now) (state S.Store tx.new.conn.now) }
+    ensures made { HasCleanDisk (state S.Store tx.new.conn.now) →
+        IsTrue (state S.Store tx.old.conn.now).in_transaction →
+        (state S.Store tx.old.conn.now).now.schema ≡ meta_schema →
+        OnOk result (Grows meta_schema schema_1 1 (state S.Store tx.old.conn.now) (state S.Store tx.new.conn.now)) }
+{
+    tx.execute(
+        "CREATE TABLE slots (position INTEGER PRIMARY KEY, promised INTEGER NOT NULL, ballot INTEGER NOT NULL, entry BLOB NOT NULL) STRICT",
+        &[],
+    )?;
+    Ok(())
+}
+
+fn make_floor<S: Alter>(tx: &mut Transaction<'_, S>) -> Result<(), Error>
+    ensures same_reference { tx.new.conn.ghost_name ≡ tx.old.conn.ghost_name }
+    ensures clean { HasCleanDisk (state S.Store tx.new.conn.now) → HasCleanDisk (state S.Store tx.old.conn.now) }
+    ensures crash { HasCleanDisk (state S.Store tx.new.conn.now) →
+        LeavesOld (state S.Store tx.old.conn.now) (state S.Store tx.new.conn.now) }
+    ensures made { HasCleanDisk (state S.Store tx.new.conn.now) →
+        IsTrue (state S.Store tx.old.conn.now).in_transaction →
+        (state S.Store tx.old.conn.now).now.schema ≡ schema_1 →
+        OnOk result (Grows schema_1 schema_2 2 (state S.Store tx.old.conn.now) (state S.Store tx.new.conn.now)) }
+{
+    tx.execute(
+        "CREATE TABLE floor (id INTEGER PRIMARY KEY CHECK (id = 1), ballot INTEGER NOT NULL) STRICT",
+        &[],
+    )?;
+    Ok(())
+}
+
+fn make_learned<S: Alter>(tx: &mut Transaction<'_, S>) -> Result<(), Error>
+    ensures same_reference { tx.new.conn.ghost_name ≡ tx.old.conn.ghost_name }
+    ensures clean { HasCleanDisk (state S.Store tx.new.conn.now) → HasCleanDisk (state S.Store tx.old.conn.now) }
+    ensures crash { HasCleanDisk (state S.Store tx.new.conn.now) →
+        LeavesOld (state S.Store tx.old.conn.now) (state S.Store tx.new.conn.now) }
+    ensures made { HasCleanDisk (state S.Store tx.new.conn.now) →
+        IsTrue (state S.Store tx.old.conn.now).in_transaction →
+        (state S.Store tx.old.conn.now).now.schema ≡ schema_2 →
+        OnOk result (Grows schema_2 schema_3 3 (state S.Store tx.old.conn.now) (state S.Store tx.new.conn.now)) }
+{
+    tx.execute(
+        "CREATE TABLE learned (position INTEGER PRIMARY KEY, entry BLOB NOT NULL) STRICT",
+        &[],
+    )?;
+    Ok(())
+}
+
+fn run_row<S: Alter>(
+    tx: &mut Transaction<'_, S>,
+    identity: Identity,
+    round: u64,
+    number: u64,
+) -> Result<usize, Error>
+    requires round { round < INTEGERS }
+    requires number { number < INTEGERS }
+    ensures same_reference { tx.new.conn.ghost_name ≡ tx.old.conn.ghost_name }
+    ensures runs { HasCleanDisk (state S.Store tx.new.conn.now) →
+        IsTrue (state S.Store tx.old.conn.now).in_transaction →
+        ExecutesInside 0 put_meta (meta_params identity.cluster identity.members identity.node round number)
+        (state S.Store tx.old.conn.now) (state S.Store tx.new.conn.now) result }
+    ensures survives { Survives (state S.Store tx.old.conn.now) (state S.Store tx.new.conn.now) (λ _. ⊥) }
+{
+    let round = signed(round);
+    let number = signed(number);
+    tx.execute(
+        "INSERT OR REPLACE INTO meta VALUES (1, 3, ?1, ?2, ?3, ?4, ?5)",
+        params![
+            identity.cluster,
+            u32::from(identity.members),
+            u32::from(identity.node),
+            round,
+            number
+        ],
+    )
+}
+
+fn set_row<S: Alter>(
+    tx: &mut Transaction<'_, S>,
+    identity: Identity,
+    round: u64,
+    number: u64,
+) -> Result<(), Error>
+    requires round { round < INTEGERS }
+    requires number { number < INTEGERS }
+    ensures same_reference { tx.new.conn.ghost_name ≡ tx.old.conn.ghost_name }
+    ensures clean { HasCleanDisk (state S.Store tx.new.conn.now) → HasCleanDisk (state S.Store tx.old.conn.now) }
+    ensures crash { HasCleanDisk (state S.Store tx.new.conn.now) →
+        LeavesOld (state S.Store tx.old.conn.now) (state S.Store tx.new.conn.now) }
+    ensures put { HasCleanDisk (state S.Store tx.new.conn.now) →
+        IsTrue (state S.Store tx.old.conn.now).in_transaction →
+        (state S.Store tx.old.conn.now).now.schema ≡ schema_3 →
+        OnOk result (PutsMeta identity round number (state S.Store tx.old.conn.now) (state S.Store tx.new.conn.now)) }
+{
+    run_row(tx, identity, round, number)?;
+    Ok(())
+}
+
+/// Makes the table of the floor, where the format lacks it.
+fn add_floor<S: Alter>(tx: &mut Transaction<'_, S>, format: Format) -> Result<(), Error>
+    ensures same_reference { tx.new.conn.ghost_name ≡ tx.old.conn.ghost_name }
+    ensures clean { HasCleanDisk (state S.Store tx.new.conn.now) → HasCleanDisk (state S.Store tx.old.conn.now) }
+    ensures crash { HasCleanDisk (state S.Store tx.new.conn.now) →
+        LeavesOld (state S.Store tx.old.conn.now) (state S.Store tx.new.conn.now) }
+    ensures made { HasCleanDisk (state S.Store tx.new.conn.now) →
+        IsTrue (state S.Store tx.old.conn.now).in_transaction →
+        (state S.Store tx.old.conn.now).now.schema ≡ schema_at format → OnOk result (Raised format (with_floor format)
+        (state S.Store tx.old.conn.now) (state S.Store tx.new.conn.now)) }
+{
+    if format.has_table(2) {
+        return Ok(());
+    }
+    make_floor(tx)
+}
+
+/// Makes the table of what is learned, where a format that has a floor lacks it.
+fn add_learned<S: Alter>(tx: &mut Transaction<'_, S>, format: Format) -> Result<(), Error>
+    ensures same_reference { tx.new.conn.ghost_name ≡ tx.old.conn.ghost_name }
+    ensures clean { HasCleanDisk (state S.Store tx.new.conn.now) → HasCleanDisk (state S.Store tx.old.conn.now) }
+    ensures crash { HasCleanDisk (state S.Store tx.new.conn.now) →
+        LeavesOld (state S.Store tx.old.conn.now) (state S.Store tx.new.conn.now) }
+    ensures made { HasCleanDisk (state S.Store tx.new.conn.now) →
+        IsTrue (state S.Store tx.old.conn.now).in_transaction →
+        (state S.Store tx.old.conn.now).now.schema ≡ schema_at (with_floor format) →
+        OnOk result (Raised (with_floor format) Format.Three (state S.Store tx.old.conn.now)
+        (state S.Store tx.new.conn.now)) }
+{
+    if format.has_table(3) {
+        return Ok(());
+    }
+    make_learned(tx)
+}
+
+/// Makes the tables and the row of an empty store, in one transaction.
+pub(crate) fn make_anew<S: Alter>(conn: &mut Connection<S>, identity: Identity) -> Result<(), Error>
+    requires auto { (state S.Store conn.old).in_transaction ≡ false }
+    ensures clean { HasCleanDisk (state S.Store conn.new) → HasCleanDisk (state S.Store conn.old) }
+    ensures stop { HasCleanDisk (state S.Store conn.new) → (state S.Store conn.old).now.schema ≡ no_schema →
+        LeavesOr (AreBrought identity 0 0 [] [] []) (state S.Store conn.old) (state S.Store conn.new) }
+    ensures made { HasCleanDisk (state S.Store conn.new) → (state S.Store conn.old).now.schema ≡ no_schema →
+        OnOk result (Brought identity 0 0 [] [] [] (state S.Store conn.new)) }
+{
+    let mut tx = conn.transaction();
+    make_meta(&mut tx)?;
+    make_slots(&mut tx)?;
+    make_floor(&mut tx)?;
+    make_learned(&mut tx)?;
+    set_row(&mut tx, identity, 0, 0)?;
+    tx.commit()
+}
+
+/// Makes what a store of a format lacks, and sets its row, in one transaction.
+pub(crate) fn make_rest<S: Alter>(
+    conn: &mut Connection<S>,
+    identity: Identity,
+    format: Format,
+    round: u64,
+    number: u64,
+) -> Result<(), Error>
+    requires auto { (state S.Store conn.old).in_transaction ≡ false }
+    requires round { round < INTEGERS }
+    requires number { number < INTEGERS }
+    ensures clean { HasCleanDisk (state S.Store conn.new) → HasCleanDisk (state S.Store conn.old) }
+    ensures stop { HasCleanDisk (state S.Store conn.new) → (state S.Store conn.old).now.schema ≡ schema_at format →
+        LeavesOr (AreBrought identity round number ((state S.Store conn.old).now.trees 1)
+        (trees_at format (state S.Store conn.old).now.trees 2) (trees_at format (state S.Store conn.old).now.trees 3))
+        (state S.Store conn.old) (state S.Store conn.new) }
+    ensures made { HasCleanDisk (state S.Store conn.new) → (state S.Store conn.old).now.schema ≡ schema_at format →
+        OnOk result (Brought identity round number ((state S.Store conn.old).now.trees 1)
+        (trees_at format (state S.Store conn.old).now.trees 2) (trees_at format (state S.Store conn.old).now.trees 3)
+        (state S.Store conn.new)) }
+{
+    let mut tx = conn.transaction();
+    add_floor(&mut tx, format)?;
+    add_learned(&mut tx, format)?;
+    set_row(&mut tx, identity, round, number)?;
+    tx.commit()
+}

@@ -1,0 +1,334 @@
+//! What the rows of an answer say.
+
+ghost use Rattle.std.specs.Prelude.{◌≡◌, ◌≢◌, ℕ, true, false, [], ◌∷◌, Err, IfOk, OnOk, OnErr};
+ghost use Rattle.std.specs.Prelude.{◌<◌, ◌≤◌, ◌^◌};
+ghost use Rattle.sqlite_value.specs.Order.{column};
+ghost use Rattle.px_model.specs.Bounds.{AnyCommand};
+ghost use Rattle.px_model.specs.Step.{positions};
+ghost use Rattle.px_model.specs.Entries.{entry_of as stands_for};
+ghost use Rattle.px_model.specs.Seen.{slot_of};
+ghost use Rattle.px_model.specs.Fits.{EntryFits, SlotFits};
+ghost use Rattle.px_store.specs.Entries.{is_entry, entry_of};
+ghost use Rattle.px_store.specs.Seen.{is_number, is_blob, number_in, bytes_in, is_ballot, is_none_or_ballot};
+ghost use Rattle.px_store.specs.Seen.{is_proposal, is_slot, is_slot_row, are_slot_rows, slot_in};
+ghost use Rattle.px_store.specs.inner.Seen.{slot_with};
+ghost use Rattle.px_store.specs.Seen.{is_learned_row, are_learned_rows, learned_in};
+ghost use Rattle.px_store.specs.inner.Seen.{IsEndOf, Tells, IsMetaIn};
+ghost use Rattle.px_store.specs.inner.Seen.{IsFloorIn};
+ghost use Rattle.px_store.specs.inner.Bytes.{read_in, is_entry_in};
+ghost use Rattle.px_store.specs.Judging.{are_floor_rows};
+ghost use Rattle.px_store.specs.declared.reading.TheConstants.{NUMBERS};
+
+use crate::calls::Identity;
+use px_model::{Entry, EntryView, Proposal, Slot};
+use px_records::StoreFault;
+use sqlite::{Error, ErrorCode, Row};
+use std::alloc::Global;
+
+/// Rounds and the numbers of entries are below it.
+pub(crate) const NUMBERS: u64 = 281_474_976_710_656;
+
+/// The integers of a store are below it.
+pub(crate) const INTEGERS: u64 = 9_223_372_036_854_775_808;
+
+/// Why a row isn't read: for lack of memory, or since no commit writes it.
+#[derive(Clone, Copy, PartialEq, Eq)]
+pub(crate) enum ReadFault {
+    Memory,
+    Bad,
+}
+
+/// The columns of a slot.
+#[derive(Drop)]
+pub(crate) struct SlotRow {
+    pub(crate) promised: u64,
+    pub(crate) ballot: u64,
+    pub(crate) entry: Vec<u8>,
+}
+
+fn fault_of(error: &Error) -> ReadFault
+    ensures { result ≡ ReadFault.Bad → error.now ≢ Error.SqliteFailure ErrorCode.OutOfMemory }
+{
+    match error {
+        Error::SqliteFailure(ErrorCode::OutOfMemory) => ReadFault::Memory,
+        _ => ReadFault::Bad,
+    }
+}
+
+pub(crate) fn number(row: &Row, at: usize) -> Result<u64, ReadFault>
+    ensures ok { IfOk result (λ n. is_number (column row.now at) ≡ true) }
+    ensures value { IfOk result (λ n. number_in (column row.now at) ≡ n) }
+    ensures bad { result ≡ Err ReadFault.Bad → is_number (column row.now at) ≡ false }
+{
+    match row.get::<u64>(at) {
+        Ok(n) => Ok(n),
+        Err(error) => Err(fault_of(&error)),
+    }
+}
+
+fn bytes(row: &Row, at: usize) -> Result<Vec<u8>, ReadFault>
+    ensures ok { IfOk result (λ b. is_blob (column row.now at) ≡ true) }
+    ensures value { IfOk result (λ b. bytes_in (column row.now at) ≡ b.items) }
+    ensures bad { result ≡ Err ReadFault.Bad → is_blob (column row.now at) ≡ false }
+{
+    match row.get::<Vec<u8>>(at) {
+        Ok(b) => Ok(b),
+        Err(error) => Err(fault_of(&error)),
+    }
+}
+
+/// Whether the bytes spell an entry that a member took in, as far as its first ten bytes say so.
+#[tactic(auto, unfolding(crate::specs::Entries::is_entry))]
+pub(crate) fn is_entry_by(bytes: &[u8], members: u8) -> bool
+    ensures { result ≡ is_entry members bytes.now }
+{
+    match EntryView::read(bytes) {
+        Some(view) => view.origin() < members && view.number() < NUMBERS,
+        None => false,
+    }
+}
+
+/// Whether the ballot has a round from 1 on, and a member.
+fn is_ballot_by(ballot: u64, members: u8) -> bool
+    ensures { result ≡ is_ballot members ballot }
+{
+    ballot / 256 >= 1 && ballot / 256 < NUMBERS && ballot % 256 < u64::from(members)
+}
+
+fn is_promised_by(ballot: u64, members: u8) -> bool
+    ensures { result ≡ is_none_or_ballot members ballot }
+{
+    ballot == 0 || is_ballot_by(ballot, members)
+}
+
+fn is_proposal_by(ballot: u64, entry: &[u8], members: u8) -> bool
+    ensures { result ≡ is_proposal members ballot entry.now }
+{
+    if ballot == 0 {
+        return entry.len() == 0;
+    }
+    is_ballot_by(ballot, members) && is_entry_by(entry, members)
+}
+
+fn is_slot_by(promised: u64, ballot: u64, entry: &[u8], members: u8) -> bool
+    ensures { result ≡ is_slot members promised ballot entry.now }
+{
+    is_promised_by(promised, members)
+        && ballot <= promised
+        && is_proposal_by(ballot, entry, members)
+}
+
+#[tactic(auto, using(crate::proofs::Above::slot_one))]
+fn slot_in_row(row: &Row, members: u8, position: u32) -> Result<SlotRow, ReadFault>
+    ensures good { IfOk result (λ s. is_slot_row members position row.now ≡ true) }
+    ensures value { IfOk result (λ s. slot_with s.promised s.ballot s.entry.items ≡ slot_in (row.now ∷ [])) }
+    ensures fits { IfOk result (λ s. is_slot members s.promised s.ballot s.entry.items ≡ true) }
+    ensures bad { result ≡ Err ReadFault.Bad → is_slot_row members position row.now ≡ false }
+{
+    let key = number(row, 0)?;
+    if key != u64::from(position) {
+        return Err(ReadFault::Bad);
+    }
+    let promised = number(row, 1)?;
+    let ballot = number(row, 2)?;
+    let entry = bytes(row, 3)?;
+    if !is_slot_by(promised, ballot, entry.as_slice(), members) {
+        return Err(ReadFault::Bad);
+    }
+    Ok(SlotRow {
+        promised,
+        ballot,
+        entry,
+    })
+}
+
+/// The slot of an answer: with no row it is empty, with one it is that row.
+pub(crate) fn slot_in_rows(
+    rows: &[Row],
+    members: u8,
+    position: u32,
+    alloc: Global,
+) -> Result<SlotRow, ReadFault>
+    ensures good { IfOk result (λ s. are_slot_rows members position rows.now ≡ true) }
+    ensures value { IfOk result (λ s. slot_with s.promised s.ballot s.entry.items ≡ slot_in rows.now) }
+    ensures fits { IfOk result (λ s. is_slot members s.promised s.ballot s.entry.items ≡ true) }
+    ensures bad { result ≡ Err ReadFault.Bad → are_slot_rows members position rows.now ≡ false }
+{
+    match rows {
+        [] => Ok(SlotRow {
+            promised: 0,
+            ballot: 0,
+            entry: Vec::new(alloc),
+        }),
+        [row] => slot_in_row(row, members, position),
+        _ => Err(ReadFault::Bad),
+    }
+}
+
+fn entry_in_row(row: &Row, members: u8, position: u32) -> Result<Vec<u8>, ReadFault>
+    ensures good { IfOk result (λ e. is_learned_row members position row.now ≡ true) }
+    ensures value { IfOk result (λ e. bytes_in (column row.now 1) ≡ e.items) }
+    ensures fits { IfOk result (λ e. is_entry members e.items ≡ true) }
+    ensures bad { result ≡ Err ReadFault.Bad → is_learned_row members position row.now ≡ false }
+{
+    let key = number(row, 0)?;
+    if key != u64::from(position) {
+        return Err(ReadFault::Bad);
+    }
+    let entry = bytes(row, 1)?;
+    if !is_entry_by(entry.as_slice(), members) {
+        return Err(ReadFault::Bad);
+    }
+    Ok(entry)
+}
+
+/// The learned entry of an answer.
+pub(crate) fn entry_in_rows(
+    rows: &[Row],
+    members: u8,
+    position: u32,
+) -> Result<Option<Vec<u8>>, ReadFault>
+    ensures good { IfOk result (λ e. are_learned_rows members position rows.now ≡ true) }
+    ensures value { IfOk result (λ e. read_in e ≡ learned_in rows.now) }
+    ensures fits { IfOk result (λ e. is_entry_in members e ≡ true) }
+    ensures bad { result ≡ Err ReadFault.Bad → are_learned_rows members position rows.now ≡ false }
+{
+    match rows {
+        [] => Ok(None),
+        [row] => Ok(Some(entry_in_row(row, members, position)?)),
+        _ => Err(ReadFault::Bad),
+    }
+}
+
+/// One more than the position of an answer, or 0 with no row.
+pub(crate) fn end_in_rows(rows: &[Row]) -> Result<u32, ReadFault>
+    ensures value { IfOk result (λ t. IsEndOf rows.now t) }
+    ensures bad { result ≡ Err ReadFault.Bad → (t : ℕ) → IsEndOf rows.now t → ⊥ }
+    ensures within { IfOk result (λ t. t ≤ positions) }
+{
+    match rows {
+        [] => Ok(0),
+        [row] => {
+            let position = number(row, 0)?;
+            if position >= 1_000_000 {
+                return Err(ReadFault::Bad);
+            }
+            Ok(position as u32 + 1)
+        }
+        _ => Err(ReadFault::Bad),
+    }
+}
+
+/// The numbers of the row for the whole node.
+#[derive(Clone, Copy, PartialEq, Eq)]
+pub(crate) struct Numbers {
+    pub(crate) round: u64,
+    pub(crate) number: u64,
+}
+
+fn expect_number(row: &Row, at: usize, wanted: u64) -> Result<(), ReadFault>
+    ensures { OnOk result (Tells row.now at wanted) }
+{
+    if number(row, at)? != wanted {
+        return Err(ReadFault::Bad);
+    }
+    Ok(())
+}
+
+fn meta_in_row(row: &Row, identity: Identity) -> Result<Numbers, ReadFault>
+    ensures value { IfOk result (λ m. IsMetaIn identity.cluster identity.members identity.node m.round m.number
+        (row.now ∷ [])) }
+    ensures round { IfOk result (λ m. m.round < NUMBERS) }
+    ensures number { IfOk result (λ m. m.number ≤ NUMBERS) }
+{
+    expect_number(row, 0, 1)?;
+    expect_number(row, 1, 3)?;
+    expect_number(row, 2, u64::from(identity.cluster))?;
+    expect_number(row, 3, u64::from(identity.members))?;
+    expect_number(row, 4, u64::from(identity.node))?;
+    let round = number(row, 5)?;
+    let counted = number(row, 6)?;
+    if round >= NUMBERS || counted > NUMBERS {
+        return Err(ReadFault::Bad);
+    }
+    Ok(Numbers {
+        round,
+        number: counted,
+    })
+}
+
+/// What the row for the whole node says, which must be one of format 3 and of this node.
+pub(crate) fn meta_in_rows(rows: &[Row], identity: Identity) -> Result<Numbers, ReadFault>
+    ensures value { IfOk result (λ m. IsMetaIn identity.cluster identity.members identity.node m.round m.number
+        rows.now) }
+    ensures round { IfOk result (λ m. m.round < NUMBERS) }
+    ensures number { IfOk result (λ m. m.number ≤ NUMBERS) }
+{
+    match rows {
+        [row] => meta_in_row(row, identity),
+        _ => Err(ReadFault::Bad),
+    }
+}
+
+/// The floor of an answer: with no row it is 0.
+pub(crate) fn floor_in_rows(rows: &[Row], members: u8) -> Result<u64, ReadFault>
+    ensures value { IfOk result (λ b. IsFloorIn b rows.now) }
+    ensures fits { IfOk result (λ b. is_none_or_ballot members b ≡ true) }
+    ensures good { OnOk result (are_floor_rows members rows.now ≡ true) }
+    ensures bad { result ≡ Err ReadFault.Bad → are_floor_rows members rows.now ≡ false }
+{
+    match rows {
+        [] => Ok(0),
+        [row] => {
+            if number(row, 0)? != 1 {
+                return Err(ReadFault::Bad);
+            }
+            let ballot = number(row, 1)?;
+            if !is_ballot_by(ballot, members) {
+                return Err(ReadFault::Bad);
+            }
+            Ok(ballot)
+        }
+        _ => Err(ReadFault::Bad),
+    }
+}
+
+/// The entry that good bytes spell. The bytes are copied.
+#[tactic(auto, using(crate::proofs::Spelled::entry_fits, crate::proofs::Spelled::shows))]
+pub(crate) fn entry_from(alloc: Global, bytes: &[u8], members: u8) -> Result<Entry, StoreFault>
+    requires { is_entry members bytes.now ≡ true }
+    ensures value { IfOk result (λ e. stands_for e ≡ entry_of bytes.now) }
+    ensures fits { IfOk result (λ e. EntryFits AnyCommand members (stands_for e)) }
+    ensures why { OnErr result (result ≡ Err StoreFault.Memory) }
+{
+    let Some(view) = EntryView::read(bytes) else {
+        return Err(StoreFault::Memory);
+    };
+    match Entry::from_view(alloc, &view) {
+        Ok(entry) => Ok(entry),
+        Err(_) => Err(StoreFault::Memory),
+    }
+}
+
+/// The slot that a good row shows.
+pub(crate) fn slot_from(alloc: Global, row: &SlotRow, members: u8) -> Result<Slot, StoreFault>
+    requires { is_slot members row.now.promised row.now.ballot row.now.entry.items ≡ true }
+    ensures value { IfOk result (λ s. slot_of s ≡ slot_with row.now.promised row.now.ballot row.now.entry.items) }
+    ensures fits { IfOk result (λ s. SlotFits AnyCommand members (slot_of s)) }
+    ensures why { OnErr result (result ≡ Err StoreFault.Memory) }
+{
+    if row.ballot == 0 {
+        return Ok(Slot {
+            promised: row.promised,
+            accepted: None,
+        });
+    }
+    let entry = entry_from(alloc, row.entry.as_slice(), members)?;
+    Ok(Slot {
+        promised: row.promised,
+        accepted: Some(Proposal {
+            ballot: row.ballot,
+            entry,
+        }),
+    })
+}

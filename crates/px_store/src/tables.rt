@@ -1,0 +1,299 @@
+//! Whose tables a schema has.
+ghost use Rattle.std.specs.Prelude.{◌≡◌, ◌<◌, ◌-◌, ◌↔◌, List, [], ◌∷◌, length, pos, None, Some, IfSome, IsTrue};
+ghost use Rattle.sqlite_value.specs.declared.value.Value.TheVariants.{Null, Int};
+ghost use Rattle.sqlite_sql.specs.Term.{lit, col};
+ghost use Rattle.sqlite_schema.specs.Code.{term_to, op_term};
+ghost use Rattle.sqlite_schema.specs.declared.schema.Column.{Column};
+ghost use Rattle.px_store.specs.Tables as tables;
+ghost use Rattle.px_store.specs.Tables.{column_of, key_column, number_column, bytes_column, sheet};
+ghost use Rattle.px_store.specs.Tables.{key_is_one, only_row, with_tables, no_schema};
+ghost use Rattle.px_store.specs.Formats.{schema_at};
+ghost use Rattle.px_store.specs.inner.Tables.{IsPlain};
+
+use crate::formats::Format;
+use sqlite_schema::code::{Op, Terms};
+use sqlite_schema::schema::{Column, Kind, Schema, Table};
+use sqlite_sql::ops::{BinaryOp, CompareOp};
+use sqlite_value::keys::Collation;
+use sqlite_value::value::Value;
+
+fn is_null(value: &Value) -> bool
+    ensures { IsTrue result ↔ (value.now ≡ Null) }
+{
+    matches!(value, Value::Null)
+}
+
+/// Whether a column has this name, kind and no other rule than whether it is without NULL.
+fn is_column(column: &Column, name: &[u8], kind: Kind, not_null: bool) -> bool
+    ensures { IsTrue result ↔ (column.now ≡ column_of name.now kind not_null) }
+{
+    column.name.as_slice() == name
+        && column.kind == kind
+        && column.is_strict
+        && column.not_null == not_null
+        && is_null(&column.default)
+        && column.collation == Collation::Binary
+}
+
+/// Whether it is a column of integers without NULL.
+fn is_number(column: &Column, name: &[u8]) -> bool
+    ensures { IsTrue result ↔ (column.now ≡ number_column name.now) }
+{
+    is_column(column, name, Kind::Integer, true)
+}
+
+/// Whether it is a column of blobs without NULL.
+fn is_bytes(column: &Column, name: &[u8]) -> bool
+    ensures { IsTrue result ↔ (column.now ≡ bytes_column name.now) }
+{
+    is_column(column, name, Kind::Blob, true)
+}
+
+/// Whether it is the column of a key.
+fn is_key_column(column: &Column, name: &[u8]) -> bool
+    ensures { IsTrue result ↔ (column.now ≡ key_column name.now) }
+{
+    is_column(column, name, Kind::Integer, false)
+}
+
+/// The node at a place, where its operands are read to a depth.
+fn node_at(nodes: &[Op], depth: usize, at: usize) -> Option<&Op>
+    ensures none { result ≡ None → term_to nodes.now depth at ≡ lit Null }
+    ensures some { IfSome result (λ op. (0 < depth) ×
+        (term_to nodes.now depth at ≡ op_term (term_to nodes.now (depth - 1)) op.now)) }
+{
+    if depth == 0 || at >= nodes.len() {
+        return None;
+    }
+    Some(&nodes[at])
+}
+
+/// Whether the term is the key of a row.
+fn is_key(nodes: &[Op], depth: usize, at: usize) -> bool
+    ensures { IsTrue result ↔ (term_to nodes.now depth at ≡ col 1 0) }
+{
+    match node_at(nodes, depth, at) {
+        Some(Op::Column(slot, column)) => *slot == 1 && *column == 0,
+        _ => false,
+    }
+}
+
+/// Whether the term is 1.
+fn is_one(nodes: &[Op], depth: usize, at: usize) -> bool
+    ensures { IsTrue result ↔ (term_to nodes.now depth at ≡ lit (Int (pos 1))) }
+{
+    match node_at(nodes, depth, at) {
+        Some(Op::Literal(Value::Int(n))) => *n == 1,
+        _ => false,
+    }
+}
+
+/// Whether the term says that the key is 1.
+fn is_key_one(nodes: &[Op], depth: usize, at: usize) -> bool
+    ensures { IsTrue result ↔ (term_to nodes.now depth at ≡ key_is_one) }
+{
+    match node_at(nodes, depth, at) {
+        Some(Op::Binary(BinaryOp::Compare(CompareOp::Eq, Collation::Binary), a, b)) => {
+            is_key(nodes, depth - 1, *a) && is_one(nodes, depth - 1, *b)
+        }
+        _ => false,
+    }
+}
+
+/// Whether there is no check.
+fn is_unchecked(checks: &Terms) -> bool
+    ensures { IsTrue result ↔ (checks.now ≡ []) }
+{
+    checks.roots.is_empty()
+}
+
+/// Whether the one check is that the key is 1.
+fn is_only_row(checks: &Terms) -> bool
+    ensures { IsTrue result ↔ (checks.now ≡ only_row) }
+{
+    let nodes = checks.nodes.as_slice();
+    match checks.roots.as_slice() {
+        [root] => is_key_one(nodes, nodes.len(), *root),
+        _ => false,
+    }
+}
+
+/// Whether a list of places is the key alone.
+fn is_key_alone(places: &[usize]) -> bool
+    ensures { IsTrue result ↔ (places.now ≡ 0 ∷ []) }
+{
+    match places {
+        [place] => *place == 0,
+        _ => false,
+    }
+}
+
+/// Whether no column is computed, or has a default that reads the time.
+fn is_plain(table: &Table) -> bool
+    ensures { IsTrue result ↔ IsPlain table.now }
+{
+    table.computed.is_empty()
+        && table.stamps.places.is_empty()
+        && is_unchecked(&table.stamps.terms)
+        && table.stamps.formats.is_empty()
+}
+
+/// Whether a table has no other rules than those of its key, its columns and its checks.
+fn is_sheet(table: &Table, name: &[u8], tree: u32) -> bool
+    ensures { IsTrue result ↔ (table.now ≡ sheet name.now tree table.now.columns table.now.checks) }
+{
+    table.name.as_slice() == name
+        && table.tree == tree
+        && table.key == Some(0)
+        && is_key_alone(table.primary.as_slice())
+        && table.uniques.is_empty()
+        && table.orders.is_empty()
+        && table.references.is_empty()
+        && is_plain(table)
+        && !table.is_counted
+}
+
+fn is_meta(table: &Table) -> bool
+    ensures { IsTrue result ↔ (table.now ≡ tables.meta) }
+{
+    match table.columns.as_slice() {
+        [id, format, cluster, members, node, round, number] => {
+            is_sheet(table, b"meta", 0)
+                && is_only_row(&table.checks)
+                && is_key_column(id, b"id")
+                && is_number(format, b"format")
+                && is_number(cluster, b"cluster")
+                && is_number(members, b"members")
+                && is_number(node, b"node")
+                && is_number(round, b"round")
+                && is_number(number, b"number")
+        }
+        _ => false,
+    }
+}
+
+/// The columns behind the first, if that is one of this name and kind.
+fn behind<'a>(
+    columns: &'a [Column],
+    name: &[u8],
+    kind: Kind,
+    not_null: bool,
+) -> Option<&'a [Column]>
+    ensures some { IfSome result (λ rest. columns.now ≡ column_of name.now kind not_null ∷ rest.now) }
+    ensures none { result ≡ None → (rest : List Column) → columns.now ≡ column_of name.now kind not_null ∷ rest → ⊥ }
+{
+    match columns {
+        [first, rest @ ..] => {
+            if is_column(first, name, kind, not_null) {
+                Some(rest)
+            } else {
+                None
+            }
+        }
+        [] => None,
+    }
+}
+
+fn are_slot_columns(columns: &[Column]) -> bool
+    ensures { IsTrue result ↔ (columns.now ≡ (tables.slots).columns) }
+{
+    let Some(behind_position) = behind(columns, b"position", Kind::Integer, false) else {
+        return false;
+    };
+    let Some(behind_promised) = behind(behind_position, b"promised", Kind::Integer, true) else {
+        return false;
+    };
+    match behind_promised {
+        [ballot, entry] => is_number(ballot, b"ballot") && is_bytes(entry, b"entry"),
+        _ => false,
+    }
+}
+
+fn is_slots(table: &Table) -> bool
+    ensures { IsTrue result ↔ (table.now ≡ tables.slots) }
+{
+    is_sheet(table, b"slots", 1)
+        && is_unchecked(&table.checks)
+        && are_slot_columns(table.columns.as_slice())
+}
+
+fn is_floor(table: &Table) -> bool
+    ensures { IsTrue result ↔ (table.now ≡ tables.floor) }
+{
+    match table.columns.as_slice() {
+        [id, ballot] => {
+            is_sheet(table, b"floor", 2)
+                && is_only_row(&table.checks)
+                && is_key_column(id, b"id")
+                && is_number(ballot, b"ballot")
+        }
+        _ => false,
+    }
+}
+
+fn is_learned(table: &Table) -> bool
+    ensures { IsTrue result ↔ (table.now ≡ tables.learned) }
+{
+    match table.columns.as_slice() {
+        [position, entry] => {
+            is_sheet(table, b"learned", 3)
+                && is_unchecked(&table.checks)
+                && is_key_column(position, b"position")
+                && is_bytes(entry, b"entry")
+        }
+        _ => false,
+    }
+}
+
+/// The format whose tables these are.
+fn format_of(found: &[Table]) -> Option<Format>
+    ensures is { IfSome result (λ f. found.now ≡ (schema_at f).tables) }
+    ensures all { (f : Format) → found.now ≡ (schema_at f).tables → result ≡ Some f }
+{
+    match found {
+        [meta, slots] => {
+            if is_meta(meta) && is_slots(slots) {
+                return Some(Format::One);
+            }
+            None
+        }
+        [meta, slots, floor] => {
+            if is_meta(meta) && is_slots(slots) && is_floor(floor) {
+                return Some(Format::Two);
+            }
+            None
+        }
+        [meta, slots, floor, learned] => {
+            if is_meta(meta) && is_slots(slots) && is_floor(floor) && is_learned(learned) {
+                return Some(Format::Three);
+            }
+            None
+        }
+        _ => None,
+    }
+}
+
+/// Whether a schema has nothing but tables.
+fn has_tables_alone(schema: &Schema) -> bool
+    ensures { IsTrue result ↔ (schema.now ≡ with_tables schema.now.tables) }
+{
+    schema.indexes.is_empty() && schema.views.is_empty()
+}
+
+/// Whether a schema has nothing at all.
+pub(crate) fn has_none(schema: &Schema) -> bool
+    ensures { IsTrue result ↔ (schema.now ≡ no_schema) }
+{
+    has_tables_alone(schema) && schema.tables.is_empty()
+}
+
+/// The format of which a schema has the tables, and nothing else.
+pub(crate) fn format_in(schema: &Schema) -> Option<Format>
+    ensures is { IfSome result (λ f. schema.now ≡ schema_at f) }
+    ensures all { (f : Format) → schema.now ≡ schema_at f → result ≡ Some f }
+{
+    if !has_tables_alone(schema) {
+        return None;
+    }
+    format_of(schema.tables.as_slice())
+}
