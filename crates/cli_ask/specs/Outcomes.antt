@@ -1,8 +1,8 @@
 -- What a run of `ask` writes, and how it ends.
 use Rattle.std.specs.Prelude.{◌≡◌, ℕ, List, [], Option, codes, if◌then◌else◌}
 use Rattle.std.specs.Io.KnownBytes.{Appends}
-use Rattle.pf_io.specs.declared.status.Status.{Status}
-use Rattle.pf_io.specs.declared.status.Status.TheVariants as status
+use Rattle.cli_io.specs.declared.status.Status.{Status}
+use Rattle.cli_io.specs.declared.status.Status.TheVariants as status
 use Rattle.pf_scripts.specs.Lines.{line, refused_line}
 use Rattle.cli_ask.specs.Answers.{is_done}
 use Rattle.cli_ask.specs.declared.call.Kind.{Kind}

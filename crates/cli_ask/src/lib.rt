@@ -29,7 +29,7 @@ mod visiting;
 mod words;
 
 pub use exchange::{Reply, VisitFault, read_at};
-pub use pf_io::Status;
+pub use cli_io::Status;
 pub use running::run_visit;
 pub use sending::change_line;
 pub use visiting::pause;

@@ -8,7 +8,7 @@ use crate::answers::is_done;
 use crate::call::Kind;
 use crate::checking::Refused;
 use crate::exchange::Reply;
-use pf_io::{Status, out_of_memory};
+use cli_io::{Status, out_of_memory};
 use pf_scripts::push_refusal;
 use std::alloc::{AllocError, Global};
 use std::io::Write;

@@ -10,7 +10,7 @@ use crate::telling::tell_left;
 use crate::visiting::visit;
 use crate::words::command;
 use clap::ArgMatches;
-use pf_io::{InputFault, Status, misused, out_of_memory, read_all};
+use cli_io::{InputFault, Status, misused, out_of_memory, read_all};
 use std::alloc::{AllocError, Global};
 use std::convert::AsStr;
 use std::fs;

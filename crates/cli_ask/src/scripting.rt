@@ -5,7 +5,7 @@ use crate::exchange::VisitFault;
 use crate::script::{Change, Left, ScriptFault, next_change};
 use crate::telling::{tell_left, tell_line};
 use crate::visiting::visit;
-use pf_io::{Status, out_of_memory};
+use cli_io::{Status, out_of_memory};
 use std::alloc::{AllocError, Global};
 use std::io::Write;
 

@@ -5,8 +5,8 @@ use Rattle.px_records.specs.declared.records.Records.{Ghosts}
 use Rattle.px_wire.specs.declared.membership.Membership.{Membership}
 use Rattle.px_replica.specs.declared.fault.NodeFault.{NodeFault}
 use Rattle.px_replica.specs.declared.fault.NodeFault.TheVariants as fault
-use Rattle.pf_member.specs.declared.ended.Ended.{Ended}
-use Rattle.pf_member.specs.declared.ended.Ended.TheVariants as ended
+use Rattle.node_loop.specs.declared.ended.Ended.{Ended}
+use Rattle.node_loop.specs.declared.ended.Ended.TheVariants as ended
 use Rattle.cli_node.specs.declared.outcome.Outcome.{Outcome}
 use Rattle.cli_node.specs.declared.outcome.Outcome.TheVariants.{Front, Asked, Key, Refused, RefusedLine, NoAnswer}
 use Rattle.cli_node.specs.declared.outcome.Outcome.TheVariants.{Sound, Made, Memory, Unread}

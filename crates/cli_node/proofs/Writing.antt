@@ -1,8 +1,8 @@
 -- What is wrong with the words is written without an outcome.
 use Rattle.std.proofs.Common.{List, ℕ, Option, None}
-use Rattle.pf_io.specs.declared.status.Status.{Status}
-use Rattle.pf_io.specs.declared.status.Status.TheVariants.{Done, Refused, Usage, Memory, Failed}
-use Rattle.pf_io.specs.Written.{IsMisused}
+use Rattle.cli_io.specs.declared.status.Status.{Status}
+use Rattle.cli_io.specs.declared.status.Status.TheVariants.{Done, Refused, Usage, Memory, Failed}
+use Rattle.cli_io.specs.Written.{IsMisused}
 use Rattle.cli_node.specs.Outcomes.{Ran}
 
 pub misused : (s : Status) (old new : Option (List ℕ)) → IsMisused s old new → Ran s None old new

@@ -1,10 +1,10 @@
 -- What a run of node, ask or key writes.
 use Rattle.std.specs.Prelude.{◌≡◌, ℕ, List, [], ◌∷◌, ◌++◌, Option, Some, None, codes, decimal}
 use Rattle.std.specs.Io.KnownBytes.{Appends}
-use Rattle.px_key.specs.Texts.{key_text}
-use Rattle.pf_io.specs.declared.status.Status.{Status}
-use Rattle.pf_io.specs.declared.status.Status.TheVariants as status
-use Rattle.pf_io.specs.Written.{line}
+use Rattle.cli_files.specs.KeyTexts.{key_text}
+use Rattle.cli_io.specs.declared.status.Status.{Status}
+use Rattle.cli_io.specs.declared.status.Status.TheVariants as status
+use Rattle.cli_io.specs.Written.{line}
 use Rattle.cli_node.specs.declared.outcome.Outcome.{Outcome}
 use Rattle.cli_node.specs.declared.outcome.Outcome.TheVariants.{Front, Asked, Key, Refused, RefusedLine, NoAnswer}
 use Rattle.cli_node.specs.declared.outcome.Outcome.TheVariants.{Sound, Made, Memory, Unread}

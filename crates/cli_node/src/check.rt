@@ -15,8 +15,8 @@ use crate::sealing::of_starts;
 use crate::store::{
     Found, Opening, failed_outcome, found_at, identity_of, is_made, opening_of, untaken,
 };
-use pf_io::{Shown, open_regular};
-use pf_member::Membership;
+use cli_io::{Shown, open_regular};
+use node_loop::Membership;
 use px_store::{AdoptFault, SqlRecords};
 use sqlite::{Connection, Error, ErrorCode, File, FileStore};
 use sqlite_resolve::CompileError;

@@ -3,7 +3,7 @@
 use crate::faults::say_why;
 use crate::node::NodeWords;
 use crate::outcome::Outcome;
-use pf_io::Shown;
+use cli_io::Shown;
 
 /// Says that a node begins, and with what.
 pub(crate) fn say_start(rt: &HostRuntime, words: NodeWords<'_, '_, '_>) {

@@ -2,8 +2,8 @@
 //! said.
 
 use crate::node::NodeWords;
-use pf_io::Shown;
-use pf_member::Membership;
+use cli_io::Shown;
+use node_loop::Membership;
 use px_store::AdoptFault;
 use sqlite::{Alter, Connection};
 use std::fmt::Display;

@@ -22,5 +22,5 @@ mod settings;
 mod store;
 mod words;
 
-pub use pf_io::Status;
+pub use cli_io::Status;
 pub use running::run_net;

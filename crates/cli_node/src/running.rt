@@ -10,7 +10,7 @@ use crate::outcome::{Outcome, write_outcome};
 use crate::settings::settled_outcome;
 use crate::words::command;
 use clap::ArgMatches;
-use pf_io::{Status, misused, out_of_memory};
+use cli_io::{Status, misused, out_of_memory};
 use std::alloc::Global;
 use std::convert::AsStr;
 use std::io::{Read, Write};

@@ -7,7 +7,7 @@
 use pf_config::Config;
 use pf_eval::{PacketFault, parse_packet, show_verdict, verdict};
 use pf_grammar::{ParseFault, Place, Profile, parse, show};
-use pf_ruleset::{Path, Ruleset};
+use pf_rules::{Path, Ruleset};
 use std::alloc::Global;
 use std::io;
 use std::process::ExitCode;

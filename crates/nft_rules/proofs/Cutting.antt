@@ -13,8 +13,8 @@ use Rattle.pf_addr.specs.declared.addr.Family.{Family}
 use Rattle.pf_addr.specs.declared.addr.Family.TheVariants.{Inet, Inet6}
 use Rattle.pf_addr.specs.Blocks.{agree, front, cleared, width, family_of}
 use Rattle.pf_addr.specs.Order.{bits_of}
-use Rattle.pf_ruleset.specs.declared.ruleset.TableEntry.{TableEntry}
-use Rattle.pf_table.specs.Tables.{contains, no_longer, in_table}
+use Rattle.pf_rules.specs.declared.ruleset.TableEntry.{TableEntry}
+use Rattle.pf_tables.specs.Tables.{contains, no_longer, in_table}
 use Rattle.nft_rules.specs.Subset.{family_eq}
 use Rattle.nft_rules.specs.Cuts.{is_within, address, top, first_of, last_of, put_number, ends, cuts, span, spans, elements}
 

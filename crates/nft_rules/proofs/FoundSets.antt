@@ -6,8 +6,8 @@ use Rattle.std.specs.Map.{lookup}
 use Rattle.std.specs.Str.{bytes_eq}
 use Rattle.pf_addr.specs.declared.addr.Family.{Family}
 use Rattle.pf_addr.specs.declared.addr.Family.TheVariants.{Inet, Inet6}
-use Rattle.pf_ruleset.specs.Names.{Name}
-use Rattle.pf_table.specs.Tables.{TableValue}
+use Rattle.pf_rules.specs.Names.{Name}
+use Rattle.pf_tables.specs.Tables.{TableValue}
 use Rattle.pf_config.specs.Map.{Configuration, AnchorValue, Path, path_eq, anchor_at, tables_in, tables_at, table_at, table_names, paths_in, or_else}
 use Rattle.nft_rules.specs.Subset.{SetName, Interval, NamedSet}
 use Rattle.nft_rules.specs.Cuts.{elements}

@@ -13,7 +13,7 @@ use Rattle.pf_addr.specs.Order.{bits_of}
 use Rattle.pf_eval.specs.PacketTexts.{same_family}
 use Rattle.pf_eval.specs.Matching.{of_family, if_there}
 use Rattle.pf_config.specs.Map.{Configuration, or_else}
-use Rattle.pf_ruleset.specs.declared.parts.Direction.{Direction}
+use Rattle.pf_rules.specs.declared.parts.Direction.{Direction}
 use Rattle.nft_rules.specs.Subset.{Source, Destination, Decision, Base, NftRuleset}
 use Rattle.nft_rules.specs.Evaluation.{run}
 use Rattle.nft_rules.specs.Rendering.{Machine}

@@ -2,15 +2,15 @@
 use Rattle.std.proofs.Common.{◌≡◌, ℕ, suc, ◌+◌, ◌-◌, true, false, List, ◌∷◌, Option, Some, None, Ok, Err, refl, sym, ap, ◌∙◌, arith, inl, inr}
 use Rattle.std.specs.Prelude.{nat_lt, nat_le, is_none, find, if◌then◌else◌}
 use Rattle.std.proofs.lemmas.Bool.{cases_lt, lt-ltb, le-ltb, le-leb, lt-leb}
-use Rattle.pf_ruleset.specs.Items.{AnchorRule}
-use Rattle.pf_ruleset.specs.Seen.{rule_of, heading_of}
-use Rattle.pf_ruleset.specs.declared.rule.Rule.{Rule}
-use Rattle.pf_ruleset.specs.declared.item.AnchorRule as anchored
-use Rattle.pf_ruleset.specs.declared.item.Item.{Item}
-use Rattle.pf_ruleset.specs.declared.item.Item as item
+use Rattle.pf_rules.specs.Items.{AnchorRule}
+use Rattle.pf_rules.specs.Seen.{rule_of, heading_of}
+use Rattle.pf_rules.specs.declared.rule.Rule.{Rule}
+use Rattle.pf_rules.specs.declared.item.AnchorRule as anchored
+use Rattle.pf_rules.specs.declared.item.Item.{Item}
+use Rattle.pf_rules.specs.declared.item.Item as item
 use Rattle.nft_rules.specs.Subset.{ChainName, Statement, Ends, Jump, NftRule, NftRuleset}
 use Rattle.nft_rules.specs.Evaluation.{is_chain, rules_in}
-use Rattle.pf_ruleset.specs.declared.parts.Direction.{Direction}
+use Rattle.pf_rules.specs.declared.parts.Direction.{Direction}
 use Rattle.pf_config.specs.Map.{Configuration}
 use Rattle.nft_rules.specs.Rendering.{Machine, rendered}
 use Rattle.nft_rules.specs.Deciding.{leads_back, some_leads_back}

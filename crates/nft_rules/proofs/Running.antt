@@ -4,10 +4,10 @@ use Rattle.std.specs.Prelude.{not, nat_le, find, filter, if◌then◌else◌}
 use Rattle.std.specs.List.{list_any, list_all}
 use Rattle.std.specs.Str.{bytes_eq}
 use Rattle.std.proofs.lemmas.Bool.{false≢true, true≢false}
-use Rattle.pf_ruleset.specs.declared.rule.Rule.{Rule}
-use Rattle.pf_ruleset.specs.declared.parts.Direction.{Direction}
-use Rattle.pf_ruleset.specs.Names.{Name, begins_below}
-use Rattle.pf_ruleset.specs.Items.{AnyRule, FilterRule, AnchorRule, Target}
+use Rattle.pf_rules.specs.declared.rule.Rule.{Rule}
+use Rattle.pf_rules.specs.declared.parts.Direction.{Direction}
+use Rattle.pf_rules.specs.Names.{Name, begins_below}
+use Rattle.pf_rules.specs.Items.{AnyRule, FilterRule, AnchorRule, Target}
 use Rattle.pf_config.specs.Map.{Configuration, AnchorValue, Path, path_eq, anchor_at, paths_in, rules_in as rules_of, rules_at, kids, followed_by, or_else}
 use Rattle.pf_config.specs.Changes.{is_empty}
 use Rattle.pf_config.specs.Trees.{last_name}

@@ -2,21 +2,21 @@
 use Rattle.std.proofs.Common.{◌≡◌, ℕ, ◌&&◌, true, false, List, [], ◌∷◌, ◌++◌, map, length, reverse, Option, Some, None, refl, sym, ap, ◌∙◌, rules, option_map}
 use Rattle.std.specs.Prelude.{not, nat_le, filter, if◌then◌else◌}
 use Rattle.std.proofs.lemmas.List.{map-append, reverse-append}
-use Rattle.pf_ruleset.specs.Names.{Name, begins_below}
-use Rattle.pf_ruleset.specs.Items.{AnyRule, FilterRule, AnchorRule, Heading, rule_in}
-use Rattle.pf_ruleset.specs.Seen.{rule_of, heading_of, items_of, with_block}
-use Rattle.pf_ruleset.proofs.Carried.{anchor_is}
-use Rattle.pf_ruleset.specs.declared.item.Item.{Item}
+use Rattle.pf_rules.specs.Names.{Name, begins_below}
+use Rattle.pf_rules.specs.Items.{AnyRule, FilterRule, AnchorRule, Heading, rule_in}
+use Rattle.pf_rules.specs.Seen.{rule_of, heading_of, items_of, with_block}
+use Rattle.pf_rules.proofs.Carried.{anchor_is}
+use Rattle.pf_rules.specs.declared.item.Item.{Item}
 use Rattle.pf_config.specs.Changes.{is_empty}
 use Rattle.pf_config.specs.Map.{Configuration, Path, rules_at, followed_by}
 use Rattle.pf_config.specs.Trees.{AnchorTree, anchor_in, last_name}
 use Rattle.pf_config.proofs.Descents.{no_rules_found}
 use Rattle.pf_eval.proofs.Anchors.{anchor_names}
 use Rattle.nft_rules.specs.Subset.{At, Backward}
-use Rattle.pf_ruleset.specs.declared.rule.Rule.{Rule}
-use Rattle.pf_ruleset.specs.declared.parts.Direction.{Direction}
-use Rattle.pf_ruleset.specs.declared.item.AnchorRule as anchored
-use Rattle.pf_ruleset.specs.declared.item.Item as item
+use Rattle.pf_rules.specs.declared.rule.Rule.{Rule}
+use Rattle.pf_rules.specs.declared.parts.Direction.{Direction}
+use Rattle.pf_rules.specs.declared.item.AnchorRule as anchored
+use Rattle.pf_rules.specs.declared.item.Item as item
 use Rattle.nft_rules.specs.Rendering.{backward_chains, is_chained, Machine, alternatives, filter_rules, forward_rule}
 use Rattle.nft_rules.specs.Rendering.{backward_rule}
 use Rattle.nft_rules.specs.inner.Rendering.{is_member}

@@ -9,8 +9,8 @@ use Rattle.pf_addr.specs.declared.addr.Family.{Family}
 use Rattle.pf_addr.specs.declared.addr.Family.TheVariants.{Inet, Inet6}
 use Rattle.pf_addr.specs.Blocks.{Block, cleared, width, family_of}
 use Rattle.pf_addr.specs.Order.{bits_of}
-use Rattle.pf_ruleset.specs.declared.ruleset.TableEntry.{TableEntry}
-use Rattle.pf_table.specs.Tables.{in_table}
+use Rattle.pf_rules.specs.declared.ruleset.TableEntry.{TableEntry}
+use Rattle.pf_tables.specs.Tables.{in_table}
 use Rattle.nft_rules.specs.Subset.{Interval, family_eq}
 
 -- the address of that number

@@ -2,14 +2,14 @@
 use Rattle.std.specs.Prelude.{◌≡◌, ◌==◌, ◌&&◌, Bool, true, false, List, Some, nat_le, not}
 use Rattle.std.specs.List.{list_any}
 use Rattle.pf_addr.specs.Blocks.{FitsAddr}
-use Rattle.pf_ruleset.specs.Items.{AnyRule, FilterRule, AnchorRule}
+use Rattle.pf_rules.specs.Items.{AnyRule, FilterRule, AnchorRule}
 use Rattle.pf_config.specs.Changes.{is_empty}
 use Rattle.pf_config.specs.Map.{Configuration, rules_at, paths_in}
 use Rattle.pf_eval.specs.Packets.{PacketValue}
 use Rattle.pf_eval.specs.PacketTexts.{same_family, has_ports, is_there_if, only_if}
 use Rattle.pf_eval.specs.Matching.{if_set}
 use Rattle.pf_eval.specs.Verdicts.{judgement}
-use Rattle.pf_ruleset.specs.declared.parts.Direction.{Direction}
+use Rattle.pf_rules.specs.declared.parts.Direction.{Direction}
 use Rattle.nft_rules.specs.Subset.{Base, NftRuleset}
 use Rattle.nft_rules.specs.Evaluation.{run}
 use Rattle.nft_rules.specs.Rendering.{Machine, groups_in, decision_of}

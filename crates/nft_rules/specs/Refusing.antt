@@ -2,7 +2,7 @@
 use Rattle.std.specs.Prelude.{◌≡◌, ◌⊎◌, ℕ, zero, suc, ◌+◌, Bool, List, [], ◌∷◌, Option, Some, None, Result, Ok, Err}
 use Rattle.std.specs.Prelude.{find, nat_lt, if◌then◌else◌}
 use Rattle.pf_config.specs.Map.{Configuration}
-use Rattle.pf_ruleset.specs.declared.parts.Direction.{Direction}
+use Rattle.pf_rules.specs.declared.parts.Direction.{Direction}
 use Rattle.nft_rules.specs.Subset.{ChainName, Base, Statement, Ends, Jump, NftRule, NftRuleset}
 use Rattle.nft_rules.specs.Evaluation.{is_chain, rules_in}
 use Rattle.nft_rules.specs.Rendering.{Machine, rendered}

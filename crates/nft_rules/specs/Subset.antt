@@ -3,8 +3,8 @@
 use Rattle.std.specs.Prelude.{ℕ, Bool, true, false, List}
 use Rattle.pf_addr.specs.declared.addr.Family.{Family}
 use Rattle.pf_addr.specs.declared.addr.Family.TheVariants.{Inet, Inet6}
-use Rattle.pf_words.specs.declared.flags.TcpFlags.{TcpFlags}
-use Rattle.pf_ruleset.specs.Names.{Name}
+use Rattle.pf_rules.specs.declared.flags.TcpFlags.{TcpFlags}
+use Rattle.pf_rules.specs.Names.{Name}
 use Rattle.pf_config.specs.Map.{Path}
 -- from the first number to the last
 pub use Rattle.nft_rules.specs.declared.subset.Interval.{Interval}

@@ -15,8 +15,8 @@ use crate::machine::{MachineInterface, interfaces_meant};
 use crate::subset::{Match, Side};
 use pf_addr::Family;
 use pf_config::Config;
-use pf_ruleset::{Conditions, Direction, FlagTest, Interface, InterfaceName, Name, PortTest};
-use pf_words::TcpFlags;
+use pf_rules::{Conditions, Direction, FlagTest, Interface, InterfaceName, Name, PortTest};
+use pf_rules::TcpFlags;
 use std::alloc::{AllocError, Global};
 use std::rc::Rc;
 

@@ -12,7 +12,7 @@ use crate::machine::{MachineInterface, interfaces_skipped, known};
 use crate::rules::{push_jumps, push_rules};
 use crate::subset::{Chain, ChainName, Match, NftRule, Note, Outcome, Pass, Statement};
 use pf_config::Config;
-use pf_ruleset::InterfaceName;
+use pf_rules::InterfaceName;
 use std::alloc::{AllocError, Global};
 use std::rc::Rc;
 

@@ -4,8 +4,8 @@ ghost use Rattle.std.specs.Prelude.{◌≡◌, ◌≤◌, ◌+◌, ◌++◌, IfO
 ghost use Rattle.nft_rules.specs.Rendering.{alternatives, outcome_of, filter_rules, anchor_chains, forward_rule};
 ghost use Rattle.nft_rules.specs.Rendering.{backward_rule, forward_rules, backward_rules, forward_chain, backward_chain};
 ghost use Rattle.pf_config.specs.declared.config.TheConstants.{RULES_MAX};
-ghost use Rattle.pf_ruleset.specs.Items.{AnchorRule};
-ghost use Rattle.pf_ruleset.specs.Seen.{heading_of, rule_of};
+ghost use Rattle.pf_rules.specs.Items.{AnchorRule};
+ghost use Rattle.pf_rules.specs.Seen.{heading_of, rule_of};
 ghost use Rattle.nft_rules.specs.Seen.{chain_name_of, chain_of, machine_of, nft_rule_of};
 
 use crate::asked::alternatives;
@@ -14,7 +14,7 @@ use crate::rules::{push_jumps, push_rules};
 use crate::subset::{Chain, ChainName, NftRule, Note, Outcome, Pass, Statement};
 use crate::targets::{chained_targets, push_backward, push_forward};
 use pf_config::Config;
-use pf_ruleset::{Action, AnchorHeading, Direction, Item, Name, Rule};
+use pf_rules::{Action, AnchorHeading, Direction, Item, Name, Rule};
 use std::alloc::{AllocError, Global};
 
 /// What the rules of a path are rendered for: the configuration, the machine and the direction.

@@ -14,7 +14,7 @@ use crate::asked::always;
 use crate::subset::{Match, SetName, Side, Where};
 use pf_addr::{Addr, Family, Prefix};
 use pf_config::Config;
-use pf_ruleset::{Addresses, Host, Name};
+use pf_rules::{Addresses, Host, Name};
 use std::alloc::{AllocError, Global};
 
 /// Whose table a rule at a path names: the path's own, else main's.

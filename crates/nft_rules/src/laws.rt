@@ -3,8 +3,8 @@
 ghost use Rattle.std.specs.Prelude.{List, Option, Some, ℕ, false, ◌≡◌, ◌≤◌};
 ghost use Rattle.std.specs.List.{list_any};
 ghost use Rattle.pf_addr.specs.declared.addr.Family.{Family};
-ghost use Rattle.pf_ruleset.specs.declared.ruleset.TableEntry.{TableEntry};
-ghost use Rattle.pf_table.specs.Tables.{in_table};
+ghost use Rattle.pf_rules.specs.declared.ruleset.TableEntry.{TableEntry};
+ghost use Rattle.pf_tables.specs.Tables.{in_table};
 ghost use Rattle.pf_config.specs.Map.{Configuration};
 ghost use Rattle.pf_eval.specs.Packets.{PacketValue};
 ghost use Rattle.pf_eval.specs.Verdicts.{judgement};

@@ -7,7 +7,7 @@ ghost use Rattle.pf_eval.specs.Packets.{without_digits};
 ghost use Rattle.nft_rules.specs.Rendering.{groups_in, names_of, names_in, interfaces_with, is_meant, is_skipped};
 ghost use Rattle.nft_rules.specs.Seen.{machine_of};
 
-use pf_ruleset::{Interface, InterfaceName};
+use pf_rules::{Interface, InterfaceName};
 use std::alloc::{AllocError, Global};
 
 /// An interface of the machine, and its groups.

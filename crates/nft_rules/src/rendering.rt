@@ -2,7 +2,7 @@
 
 ghost use Rattle.std.specs.Prelude.{◌≡◌, ◌++◌, IfOk, List, OnOk, map, Some};
 ghost use Rattle.std.specs.List.{list_any};
-ghost use Rattle.pf_ruleset.specs.Seen.{rule_of};
+ghost use Rattle.pf_rules.specs.Seen.{rule_of};
 ghost use Rattle.pf_config.specs.Map.{rules_at, paths_in};
 ghost use Rattle.nft_rules.specs.Rendering.{rendered, chains_of, sets_of, forward_chain, backward_chain};
 ghost use Rattle.nft_rules.specs.Deciding.{DecidesAs, DecidesBehindGuard, leads_back, some_leads_back};
@@ -18,7 +18,7 @@ use crate::machine::MachineInterface;
 use crate::sets::sets_of;
 use crate::subset::{Chain, ChainName, NftRuleset};
 use pf_config::Config;
-use pf_ruleset::{Direction, Item, Name};
+use pf_rules::{Direction, Item, Name};
 use std::alloc::{AllocError, AllocFailed, Global};
 
 /// Of how many rules a packet may be asked at most: rules of nftables, one after the other.

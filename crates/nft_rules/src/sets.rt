@@ -9,7 +9,7 @@ use crate::elements::elements;
 use crate::subset::{NamedSet, SetName};
 use pf_addr::Family;
 use pf_config::Config;
-use pf_ruleset::Name;
+use pf_rules::Name;
 use std::alloc::{AllocError, Global};
 
 /// The set of a table's addresses of one family.

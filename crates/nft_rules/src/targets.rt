@@ -1,7 +1,7 @@
 //! The chains to which an anchor rule leads.
 
 ghost use Rattle.std.specs.Prelude.{◌≡◌, ◌++◌, ◌∷◌, [], IfOk, OnOk, map, filter};
-ghost use Rattle.pf_ruleset.specs.Seen.{target_of};
+ghost use Rattle.pf_rules.specs.Seen.{target_of};
 ghost use Rattle.pf_config.specs.Trees.{paths_of, shared};
 ghost use Rattle.nft_rules.specs.Rendering.{is_chained, chained_targets, forward_chains, backward_chains};
 ghost use Rattle.nft_rules.specs.inner.Rendering.{is_member};
@@ -9,7 +9,7 @@ ghost use Rattle.nft_rules.specs.Seen.{chain_name_of};
 
 use crate::subset::{ChainName, Pass};
 use pf_config::{Anchor, Config};
-use pf_ruleset::{Name, PATH_MAX, Target};
+use pf_rules::{Name, PATH_MAX, Target};
 use std::alloc::{AllocError, Global};
 use std::rc::Rc;
 

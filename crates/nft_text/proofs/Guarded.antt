@@ -13,7 +13,7 @@ use Rattle.pf_addr.specs.declared.addr.Family.TheVariants.{Inet, Inet6}
 use Rattle.nft_rules.specs.declared.guard.Member.{Member}
 use Rattle.pf_addr.specs.declared.addr.Family.{Family}
 use Rattle.nft_rules.specs.declared.subset.Side.TheVariants.{Source, Destination}
-use Rattle.pf_ruleset.specs.declared.parts.Direction.{Direction}
+use Rattle.pf_rules.specs.declared.parts.Direction.{Direction}
 use Rattle.nft_rules.specs.Subset.{NftRuleset, Base}
 use Rattle.nft_rules.specs.Guard.{ToChain, hook_of, has_family, AtMember, AtHome, OfUdp, IsLater, IsTooBig, GuardMatch, GuardRule, family_rules, link_rules}
 use Rattle.nft_text.specs.Texts.{generation, later_text, too_big_text, guard_match_text, guard_rule_text, members_text, jump_text, members_gone}

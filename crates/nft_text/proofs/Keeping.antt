@@ -1,10 +1,10 @@
 -- Whether a rule keeps state.
 use Rattle.std.proofs.Common.{◌≡◌, ◌&&◌, false, sym, ap, ◌∙◌}
-use Rattle.pf_ruleset.specs.Seen.{rule_of}
-use Rattle.pf_ruleset.specs.declared.rule.Rule.{Rule}
-use Rattle.pf_ruleset.specs.declared.item.AnchorRule as anchored
-use Rattle.pf_ruleset.specs.declared.item.Item.{Item}
-use Rattle.pf_ruleset.specs.declared.item.Item as item
+use Rattle.pf_rules.specs.Seen.{rule_of}
+use Rattle.pf_rules.specs.declared.rule.Rule.{Rule}
+use Rattle.pf_rules.specs.declared.item.AnchorRule as anchored
+use Rattle.pf_rules.specs.declared.item.Item.{Item}
+use Rattle.pf_rules.specs.declared.item.Item as item
 use Rattle.nft_rules.proofs.Targeted.{filter_rule, anchor_rule}
 use Rattle.nft_text.specs.States.{passes, keeps_state}
 

@@ -1,6 +1,6 @@
 -- What is loaded of a configuration.
 use Rattle.std.specs.Prelude.{ℕ, Bool, List, Result, Ok, Err}
-use Rattle.pf_ruleset.specs.declared.parts.Direction.TheVariants.{In, Out}
+use Rattle.pf_rules.specs.declared.parts.Direction.TheVariants.{In, Out}
 use Rattle.pf_config.specs.Map.{Configuration}
 use Rattle.nft_rules.specs.Subset.{NftRuleset}
 use Rattle.nft_rules.specs.Rendering.{Machine}

@@ -1,9 +1,9 @@
 -- Whether a rule keeps state.
 use Rattle.std.specs.Prelude.{Bool, true, false, ◌&&◌}
 use Rattle.std.specs.List.{list_any}
-use Rattle.pf_ruleset.specs.declared.rule.Action.{Action}
-use Rattle.pf_ruleset.specs.declared.rule.Action.TheVariants.{Pass, Drop, Return}
-use Rattle.pf_ruleset.specs.Items.{AnyRule, FilterRule, AnchorRule}
+use Rattle.pf_rules.specs.declared.rule.Action.{Action}
+use Rattle.pf_rules.specs.declared.rule.Action.TheVariants.{Pass, Drop, Return}
+use Rattle.pf_rules.specs.Items.{AnyRule, FilterRule, AnchorRule}
 use Rattle.pf_config.specs.Map.{Configuration, rules_at, paths_in}
 
 -- the action is pass

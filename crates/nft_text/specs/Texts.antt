@@ -6,10 +6,10 @@ use Rattle.std.specs.List.{flat_map, prefix_len}
 use Rattle.pf_addr.specs.declared.addr.Family.{Family}
 use Rattle.pf_addr.specs.declared.addr.Family.TheVariants.{Inet, Inet6}
 use Rattle.pf_addr.specs.Shown.{shown_addr}
-use Rattle.pf_words.specs.declared.flags.TcpFlags.{TcpFlags}
-use Rattle.pf_ruleset.specs.declared.parts.Direction.{Direction}
-use Rattle.pf_ruleset.specs.declared.parts.Direction.TheVariants.{In, Out}
-use Rattle.pf_ruleset.specs.Names.{Name}
+use Rattle.pf_rules.specs.declared.flags.TcpFlags.{TcpFlags}
+use Rattle.pf_rules.specs.declared.parts.Direction.{Direction}
+use Rattle.pf_rules.specs.declared.parts.Direction.TheVariants.{In, Out}
+use Rattle.pf_rules.specs.Names.{Name}
 use Rattle.pf_config.specs.Map.{Path}
 use Rattle.nft_rules.specs.Cuts.{address, top}
 use Rattle.nft_rules.specs.Evaluation.{is_set, is_chain}

@@ -3,7 +3,7 @@
 ghost use Rattle.std.specs.Prelude.{◌≡◌, ◌≤◌};
 ghost use Rattle.nft_text.specs.Texts.{weight, flags_byte};
 
-use pf_words::TcpFlags;
+use pf_rules::TcpFlags;
 
 fn weight(set: bool, number: u8) -> u8
     ensures value { result ≡ weight set number }

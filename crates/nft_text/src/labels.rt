@@ -5,7 +5,7 @@ ghost use Rattle.nft_rules.specs.Seen.{chain_name_of, chain_of, set_name_of, nam
 ghost use Rattle.nft_text.specs.Texts.{chain_index, set_index, generation, chain_label, set_label};
 
 use nft_rules::{Chain, ChainName, NamedSet, NftRuleset, SetName, same_chain, same_set};
-use pf_ruleset::Direction;
+use pf_rules::Direction;
 use std::fmt::{self, Display};
 
 /// How many chains are before the first of that name.

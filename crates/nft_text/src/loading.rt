@@ -17,7 +17,7 @@ use crate::set_lines::{SetTexts, SetsGone};
 use crate::states::some_keep_state;
 use pf_config::Config;
 use nft_rules::{ChainName, MachineInterface, Member, NftRuleset, RenderFault, render};
-use pf_ruleset::Direction;
+use pf_rules::Direction;
 use std::alloc::{AllocError, Global};
 use std::fmt::{self, Display};
 

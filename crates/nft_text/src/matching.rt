@@ -11,7 +11,7 @@ use crate::labels::{SetLabel, Whole};
 use crate::numbers::IntervalText;
 use pf_addr::Family;
 use nft_rules::{Match, Side, Where};
-use pf_ruleset::{Direction, InterfaceName};
+use pf_rules::{Direction, InterfaceName};
 use std::fmt::{self, Display};
 
 /// What turns a match round, if it is turned round.

@@ -9,7 +9,7 @@ ghost use Rattle.nft_text.specs.Texts.{match_text, rule_text};
 use crate::labels::{ChainLabel, Generation, Whole};
 use crate::matching::MatchText;
 use nft_rules::{Match, NftRule, Note, Outcome, Statement};
-use pf_ruleset::Name;
+use pf_rules::Name;
 use std::fmt::{self, Display};
 
 /// Whether names, each with a slash, take no more than that many bytes.

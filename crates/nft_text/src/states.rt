@@ -2,12 +2,12 @@
 
 ghost use Rattle.std.specs.Prelude.{◌≡◌, map};
 ghost use Rattle.std.specs.List.{list_any};
-ghost use Rattle.pf_ruleset.specs.Seen.{rule_of};
+ghost use Rattle.pf_rules.specs.Seen.{rule_of};
 ghost use Rattle.pf_config.specs.Map.{rules_at};
 ghost use Rattle.nft_text.specs.States.{passes, keeps_state};
 
 use pf_config::Config;
-use pf_ruleset::{Action, Item, Name};
+use pf_rules::{Action, Item, Name};
 
 fn passes(action: Action) -> bool
     ensures { result ≡ passes action }

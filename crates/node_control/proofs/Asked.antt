@@ -5,15 +5,15 @@ use Rattle.px_replica.specs.declared.state.Replica.{Replica}
 use Rattle.pf_entry.specs.Entry as entries
 use Rattle.pf_node.specs.Nodes.{replica_of, applied_of}
 use Rattle.pf_node.specs.declared.state.Node.{Node}
-use Rattle.pf_turn.specs.Hosting.{AskedOnce, AskedTimes, AsksSome}
-use Rattle.pf_desk.specs.Answers.{AnswerValue}
-use Rattle.pf_desk.specs.Changing.{bytes_of, Changes, ChangesIf, has_position}
-use Rattle.pf_desk.specs.Requests.{Answers, IsChange}
-use Rattle.pf_desk.specs.declared.changing.Changed.{Changed}
-use Rattle.pf_desk.specs.declared.desk.Desk.{Desk}
-use Rattle.pf_desk.specs.declared.request.Request.{Request}
-use Rattle.pf_desk.specs.declared.request.Request.TheVariants as request
-use Rattle.pf_desk.specs.declared.tally.Tally.{Tally}
+use Rattle.node_loop.specs.Hosting.{AskedOnce, AskedTimes, AsksSome}
+use Rattle.node_requests.specs.Answers.{AnswerValue}
+use Rattle.node_requests.specs.Changing.{bytes_of, Changes, ChangesIf, has_position}
+use Rattle.node_requests.specs.Requests.{Answers, IsChange}
+use Rattle.node_requests.specs.declared.changing.Changed.{Changed}
+use Rattle.node_requests.specs.declared.desk.Desk.{Desk}
+use Rattle.node_requests.specs.declared.request.Request.{Request}
+use Rattle.node_requests.specs.declared.request.Request.TheVariants as request
+use Rattle.node_requests.specs.declared.tally.Tally.{Tally}
 use Rattle.node_control.specs.inner.Runs.{Asks, AreAsked}
 
 -- Nothing was asked of the node, or a command was, once; what is applied stays.

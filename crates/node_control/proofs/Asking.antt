@@ -4,8 +4,8 @@ use Rattle.http.specs.declared.request.Request.{Request}
 use Rattle.http_server.specs.Exchange.{Call, Chain}
 use Rattle.http_server.specs.declared.response.Response.{Response}
 use Rattle.px_records.specs.declared.records.Records.{Ghosts}
-use Rattle.pf_desk.specs.declared.desk.Desk.{Desk}
-use Rattle.pf_desk.specs.declared.request.Request as asked
+use Rattle.node_requests.specs.declared.desk.Desk.{Desk}
+use Rattle.node_requests.specs.declared.request.Request as asked
 use Rattle.node_control.specs.inner.Handling.{IsHandled, PassedOnIf, is_asked}
 use Rattle.node_control.specs.inner.Runs.{Asks, AreAsked}
 use Rattle.node_control.specs.declared.clerk.Clerk.{Clerk}

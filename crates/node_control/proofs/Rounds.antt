@@ -7,15 +7,15 @@ use Rattle.px_replica.specs.declared.state.Replica.{Replica}
 use Rattle.px_transport.specs.declared.wire.Wire as wires
 use Rattle.pf_node.specs.Nodes.{replica_of, learned_by, applied_of}
 use Rattle.pf_node.specs.declared.state.Node.{Node}
-use Rattle.pf_turn.specs.Hosting.{Hosted}
-use Rattle.px_resend.specs.Resends.{kept_of, requests_of}
-use Rattle.pf_turn.specs.Turns.{Stand, Served, standing}
-use Rattle.pf_turn.specs.declared.room.Room.{Room}
-use Rattle.pf_turn.proofs.Chains.{same_is, served_none, served_then}
-use Rattle.pf_member.specs.Lives.{Buffers, new_buffers, told_by, stands, Tells, Serves, Hosts}
-use Rattle.pf_member.specs.declared.ended.Ended.{Ended}
-use Rattle.pf_member.proofs.Hosted.{tells}
-use Rattle.pf_desk.specs.declared.desk.Desk.{Desk}
+use Rattle.node_loop.specs.Hosting.{Hosted}
+use Rattle.node_loop.specs.Resends.{kept_of, requests_of}
+use Rattle.node_loop.specs.Turns.{Stand, Served, standing}
+use Rattle.node_loop.specs.declared.room.Room.{Room}
+use Rattle.node_loop.proofs.Chains.{same_is, served_none, served_then}
+use Rattle.node_loop.specs.Lives.{Buffers, new_buffers, told_by, stands, Tells, Serves, Hosts}
+use Rattle.node_loop.specs.declared.ended.Ended.{Ended}
+use Rattle.node_loop.proofs.Hosted.{tells}
+use Rattle.node_requests.specs.declared.desk.Desk.{Desk}
 
 -- nothing was asked, and the wire is as it was
 pub still : {R W : Type 0} {G : Ghosts R} (H : wires.Ghosts W) (s t : Desk R G) (w v : W) (room : Room) → t ≡ s → H.given v ≡ H.given w →

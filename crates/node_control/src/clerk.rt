@@ -2,14 +2,14 @@
 
 ghost use Rattle.std.specs.Prelude.{◌≡◌, [], true, false, IfOk, OnErr, OnOk, string_bytes};
 ghost use Rattle.http_server.specs.Response.{IsBlank};
-ghost use Rattle.pf_desk.specs.Answers.{answer_value};
+ghost use Rattle.node_requests.specs.Answers.{answer_value};
 ghost use Rattle.node_control.specs.inner.Handling.{Says, IsAnswered, IsTurnedAway, IsMisread, IsPassedOn, IsHandled};
 ghost use Rattle.node_control.specs.inner.Handling.{is_urgent, is_change, is_read, waiting, not_found};
 
 use bytes::{BufMut, Bytes};
 use http::{HeaderName, HeaderValue, StatusCode};
 use http_server::{Response, Service};
-use pf_desk::{Answer, Desk, Read, Request, Routed, Tally, request_in, status_of};
+use node_requests::{Answer, Desk, Read, Request, Routed, Tally, request_in, status_of};
 use pf_node::Node;
 use px_records::Records;
 use std::alloc::{AllocError, Global};

@@ -9,7 +9,7 @@ use crate::seat::{Look, Seat};
 use crate::stream::{Listener, Stream};
 use mio::unix::SourceFd;
 use mio::{Events, Interest, Poll, Token};
-use pf_desk::Health;
+use node_requests::Health;
 use px_records::Records;
 use std::alloc::{AllocError, Global};
 use std::fs::{self, DirBuilder, Files, Permissions};

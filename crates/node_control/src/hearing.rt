@@ -1,6 +1,6 @@
 //! Who is heard, on standard error.
 
-use pf_turn::RoundCounts;
+use node_loop::RoundCounts;
 use px_wire::{Head, Membership};
 use std::io::Eprint;
 

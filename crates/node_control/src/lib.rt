@@ -4,7 +4,7 @@
 //!
 //! - [`run_member`]: a member's run over its record, with a control socket or without one. There is no other loop.
 //! - [`DoorPlace`]: where the control socket is. Behind it bytes are moved and nothing else; `http_server` reads
-//!   requests and writes answers, and pf_desk says what is answered.
+//!   requests and writes answers, and node_requests says what is answered.
 //! - [`Observer`]: what is seen of the node as it runs, for the desk's figures and for warnings on standard error.
 //!
 //! Whoever may open the socket's file may ask: its mode, 0660, and the folder that it lies in say who.

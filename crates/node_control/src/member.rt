@@ -4,15 +4,15 @@ ghost use Rattle.std.specs.Prelude.{◌≡◌, ◌<◌, ℕ, None, Ok, IfErr};
 ghost use Rattle.px_model.specs.Step.{front};
 ghost use Rattle.px_replica.specs.Faults.{fault_of};
 ghost use Rattle.pf_node.specs.Nodes.{learned_by, applied_of};
-ghost use Rattle.pf_member.specs.Lives.{HostTells, HostedRuns, Hosts, Runs, Serves, Tells, told_by};
+ghost use Rattle.node_loop.specs.Lives.{HostTells, HostedRuns, Hosts, Runs, Serves, Tells, told_by};
 
 use crate::clerk::Clerk;
 use crate::door::{Door, DoorFault};
 use crate::observer::Observer;
 use crate::running::pass_on;
-use pf_member::{Ended, Membership};
+use node_loop::{Ended, Membership};
 use pf_node::Node;
-use pf_turn::{NodeFault, Room, Wire};
+use node_loop::{NodeFault, Room, Wire};
 use px_records::Records;
 use std::alloc::Global;
 use std::fs::Files;
@@ -162,12 +162,12 @@ where
 
 /// A member's run over its record: the record is opened, turns are made over the wire, and the record is given back.
 ///
-/// The node takes what comes as it comes, and its clock ticks when its pace says so ([`pf_turn::round`]). Where there
+/// The node takes what comes as it comes, and its clock ticks when its pace says so ([`node_loop::round`]). Where there
 /// is a place, requests come in at a control socket there, and between two rounds one at most is answered; each change
 /// of the node's health is a line on standard error. Asks by datagrams are heard or not. The run ends after the given
 /// number of turns, where each datagram counts for one, and so do each tick and each wait, of a tenth of a second at
 /// most; with the first fault of the node's calls; or once an operator asked for that and has the answer. Before it
-/// ends, what waits to be proposed is worked off ([`pf_turn::finish`]).
+/// ends, what waits to be proposed is worked off ([`node_loop::finish`]).
 pub fn run_member<R: Records, W: Wire, RT>(
     rt: &RT,
     alloc: Global,

@@ -2,7 +2,7 @@
 
 use crate::clerk::Clerk;
 use httpdate::HttpDate;
-use pf_desk::{Health, counted};
+use node_requests::{Health, counted};
 use px_records::Records;
 use std::io::Eprint;
 use std::time::{Clock, SystemTime};

@@ -5,8 +5,8 @@ ghost use Rattle.node_control.specs.inner.Watching.{proposal_in, proposed_by, pr
 ghost use Rattle.node_control.specs.inner.Watching.{is_proposed, stood_since, seconds_since};
 
 use crate::hearing::Hearing;
-use pf_desk::{PeerTally, Tally};
-use pf_turn::{Progress, RoundCounts};
+use node_requests::{PeerTally, Tally};
+use node_loop::{Progress, RoundCounts};
 use px_wire::{Head, Kind, Membership};
 use std::alloc::{AllocError, Global};
 use std::io::Eprint;

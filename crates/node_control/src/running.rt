@@ -2,13 +2,13 @@
 
 ghost use Rattle.std.specs.Prelude.{◌≡◌, None};
 ghost use Rattle.px_replica.specs.Faults.{fault_of};
-ghost use Rattle.pf_turn.specs.Hosting.{AsksSome, Hosted};
-ghost use Rattle.pf_turn.specs.Turns.{Served, standing};
+ghost use Rattle.node_loop.specs.Hosting.{AsksSome, Hosted};
+ghost use Rattle.node_loop.specs.Turns.{Served, standing};
 
 use crate::clerk::Clerk;
 use crate::door::Door;
 use crate::observer::Observer;
-use pf_turn::{NodeFault, Pace, Room, Timer, Wire, finish, microseconds, round};
+use node_loop::{NodeFault, Pace, Room, Timer, Wire, finish, microseconds, round};
 use px_records::Records;
 use std::io::Eprint;
 use std::time::{Clock, Instant};

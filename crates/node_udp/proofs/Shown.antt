@@ -19,7 +19,7 @@ use Rattle.pf_addr.specs.Spelling.{addr_of, has_colon, as_four, as_six, eight_of
 use Rattle.pf_addr.proofs.Again.{addr_again}
 use Rattle.pf_addr.proofs.Marks.{Apart, apart_from}
 use Rattle.pf_addr.proofs.Plain.{IsAddressByte, address_plain, address_some}
-use Rattle.pf_words.specs.Words.{decimal_value, number_of}
+use Rattle.pf_rules.specs.Words.{decimal_value, number_of}
 use Rattle.node_udp.specs.declared.address.Address.{Address}
 use Rattle.node_udp.specs.Addresses.{address_of, four_of, six_of, joined, shown_ip, shown_address}
 

@@ -8,7 +8,7 @@ use Rattle.pf_addr.specs.declared.addr.Addr.TheVariants.{V4, V6}
 use Rattle.pf_addr.specs.declared.fault.AddrFault.{AddrFault}
 use Rattle.pf_addr.specs.Shown.{shown_addr}
 use Rattle.pf_addr.specs.Spelling.{addr_of}
-use Rattle.pf_words.specs.Words.{number_of}
+use Rattle.pf_rules.specs.Words.{number_of}
 use Rattle.node_udp.specs.declared.address.Address.{Address}
 
 -- any byte but `:`

@@ -3,12 +3,12 @@
 ghost use Rattle.std.specs.Prelude.{◌≡◌, Some};
 ghost use Rattle.std.specs.List.{prefix_len};
 ghost use Rattle.pf_addr.specs.Spelling.{addr_of};
-ghost use Rattle.pf_words.specs.Words.{number_of};
+ghost use Rattle.pf_rules.specs.Words.{number_of};
 ghost use Rattle.node_udp.specs.Addresses.{address_of, four_of, six_of, four_in, six_in, joined};
 ghost use Rattle.node_udp.specs.Addresses.{is_no_colon, is_no_bracket, shown_address};
 
 use pf_addr::{Addr, parse_bytes};
-use pf_words::parse_decimal;
+use pf_rules::parse_decimal;
 use std::fmt;
 use std::net::{IpAddr, Ipv4Addr, Ipv6Addr, SocketAddr};
 

@@ -2,12 +2,12 @@
 
 ghost use Rattle.std.specs.Prelude.{◌≡◌, None, IfSome};
 ghost use Rattle.std.specs.List.{list_all, prefix_len};
-ghost use Rattle.pf_words.specs.Words.{number_of};
+ghost use Rattle.pf_rules.specs.Words.{number_of};
 ghost use Rattle.node_udp.specs.Addresses.{address_of, host_port, used_port, is_host, is_host_byte, IsFound};
 
 use crate::address::{Address, before_colon, bits_of, parse_address};
 use pf_addr::Addr;
-use pf_words::parse_decimal;
+use pf_rules::parse_decimal;
 use std::net::{Net, SocketAddr, ToSocketAddrs};
 
 /// Whether the byte may stand in a host's name.

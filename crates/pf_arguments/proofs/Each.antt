@@ -8,7 +8,7 @@ use Rattle.std.proofs.lemmas.Bool.{eqb-true}
 use Rattle.std.proofs.lemmas.List.{length-map}
 use Rattle.pf_addr.specs.Spelling.{prefix_of}
 use Rattle.pf_arguments.specs.Asked.{lower, before, each, entry_of, signed}
-use Rattle.pf_ruleset.specs.declared.ruleset.TableEntry as rust
+use Rattle.pf_rules.specs.declared.ruleset.TableEntry as rust
 use Rattle.pf_entry.specs.Seen.{address_of}
 use Rattle.pf_entry.specs.Owned.{addresses_value}
 use Rattle.pf_arguments.specs.declared.fault.CommandFault.{CommandFault}

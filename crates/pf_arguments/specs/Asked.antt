@@ -8,9 +8,9 @@ use Rattle.pf_addr.specs.declared.fault.AddrFault.{AddrFault}
 use Rattle.pf_addr.specs.Spelling.{addr_of, prefix_of}
 use Rattle.pf_addr.specs.Blocks.{Block}
 use Rattle.pf_addr.specs.Faults.{fault_code}
-use Rattle.pf_words.specs.declared.profile.Profile.TheVariants as profile
-use Rattle.pf_words.specs.Words.{is_table_name}
-use Rattle.pf_ruleset.specs.Names.{Name, name_if}
+use Rattle.pf_rules.specs.declared.profile.Profile.TheVariants as profile
+use Rattle.pf_rules.specs.Words.{is_table_name}
+use Rattle.pf_rules.specs.Names.{Name, name_if}
 use Rattle.pf_config.specs.PathTexts.{path_of}
 use Rattle.pf_entry.specs.Entry as entry
 use Rattle.pf_entry.specs.Owned.{is_over}

@@ -7,7 +7,7 @@ ghost use Rattle.pf_arguments.specs.inner.Answers.{entry_read, vec_read, Reads, 
 
 use crate::fault::CommandFault;
 use pf_addr::{Addr, AddrFault, parse_addr, parse_prefix};
-use pf_ruleset::TableEntry;
+use pf_rules::TableEntry;
 use std::alloc::Global;
 
 /// Whether `!` stands first, and what is behind it, or all of the word.

@@ -12,11 +12,11 @@
 //!   wanting behind it. A table is therefore made twice for a command on it.
 //! - The two flushes of `-F all` are one call of a configuration, for the same reason.
 //! - `pf_arguments` has the name that the project's scope gives to what reads pfctl's words; the commands themselves
-//!   are pf_entry's, and what they do pf_effect's.
+//!   are pf_entry's, and what they do pf_command's.
 //! - `apply` asks of its caller that the command's names, table and addresses are such as entries may have.
 //!   `decode` gives just such views.
 //! - A path's text is read by a function of `pf_config`, beside its refusal 24; the type of paths is
-//!   `pf_ruleset`'s.
+//!   `pf_rules`'s.
 //! - A value of `-F`, `-T` or `-s` that is none of its values is 40, as is a name of `-t` that is no table's, and
 //!   so are `-h` and `--help` in a script.
 //! - A change is too long (41) where its entry of origin 0 and number 0 has no spelling: an entry's length doesn't

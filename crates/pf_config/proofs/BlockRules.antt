@@ -5,13 +5,13 @@ use Rattle.std.specs.declared.rc.Rc.{Rc}
 use Rattle.std.specs.List.{list_any}
 use Rattle.std.proofs.lemmas.List.{append_assoc}
 use Rattle.std.proofs.lemmas.Bool.{ltb-false}
-use Rattle.pf_ruleset.specs.declared.item.Item.{Item, Anchor}
-use Rattle.pf_ruleset.specs.declared.item.AnchorRule.{AnchorRule}
-use Rattle.pf_ruleset.specs.Items.{AnyRule, ItemValue, Heading, Blocks, list_of, values_of, rule_in}
-use Rattle.pf_ruleset.specs.inner.Items.{is_overfull, any_overfull}
-use Rattle.pf_ruleset.specs.Seen.{heading_of, item_of, items_of, rule_of, with_block}
-use Rattle.pf_ruleset.proofs.Carried.{anchor_is}
-use Rattle.pf_ruleset.specs.Names.{Name}
+use Rattle.pf_rules.specs.declared.item.Item.{Item, Anchor}
+use Rattle.pf_rules.specs.declared.item.AnchorRule.{AnchorRule}
+use Rattle.pf_rules.specs.Items.{AnyRule, ItemValue, Heading, Blocks, list_of, values_of, rule_in}
+use Rattle.pf_rules.specs.inner.Items.{is_overfull, any_overfull}
+use Rattle.pf_rules.specs.Seen.{heading_of, item_of, items_of, rule_of, with_block}
+use Rattle.pf_rules.proofs.Carried.{anchor_is}
+use Rattle.pf_rules.specs.Names.{Name}
 use Rattle.pf_config.specs.Map.{Configuration, Path}
 use Rattle.pf_config.specs.Changes.{Block, Definition, blocks_of, blocks_in, load}
 

@@ -1,13 +1,13 @@
 -- What is asked of an item to place it is asked of its rule.
 use Rattle.std.proofs.Common.{◌≡◌, true, Option, Some, None, List, refl, sym, ap, ◌∙◌, rules}
 use Rattle.std.specs.Prelude.{not, option_map}
-use Rattle.pf_ruleset.specs.Items.{FilterRule, AnchorRule, Heading, rule_in}
-use Rattle.pf_ruleset.specs.declared.rule.Rule.{Rule}
-use Rattle.pf_ruleset.specs.declared.item.AnchorRule as anchored
-use Rattle.pf_ruleset.specs.declared.item.Item as item
-use Rattle.pf_ruleset.specs.declared.item.Item.{Item}
-use Rattle.pf_ruleset.specs.Seen.{heading_of, items_of, rule_of, with_block}
-use Rattle.pf_ruleset.proofs.Carried.{anchor_is}
+use Rattle.pf_rules.specs.Items.{FilterRule, AnchorRule, Heading, rule_in}
+use Rattle.pf_rules.specs.declared.rule.Rule.{Rule}
+use Rattle.pf_rules.specs.declared.item.AnchorRule as anchored
+use Rattle.pf_rules.specs.declared.item.Item as item
+use Rattle.pf_rules.specs.declared.item.Item.{Item}
+use Rattle.pf_rules.specs.Seen.{heading_of, items_of, rule_of, with_block}
+use Rattle.pf_rules.proofs.Carried.{anchor_is}
 use Rattle.pf_config.specs.Orders.{may_stop, is_other}
 
 filter_rule : (r : Rule) → rule_of (item.Filter r) ≡ FilterRule r

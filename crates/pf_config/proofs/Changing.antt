@@ -4,14 +4,14 @@ use Rattle.std.specs.declared.rc.Rc.{Rc}
 use Rattle.std.specs.Prelude.{if◌then◌else◌, find, nat_lt, not, unwrap_or, is_some, Result, MatchResult}
 use Rattle.std.proofs.Math.ListN.{set}
 use Rattle.std.proofs.lemmas.Bool.Decides.{nat_tests}
-use Rattle.pf_ruleset.specs.declared.ruleset.TableEntry.{TableEntry}
-use Rattle.pf_ruleset.specs.Names.{Name}
-use Rattle.pf_ruleset.specs.Items.{AnyRule}
-use Rattle.pf_table.specs.declared.edits.Edit.{Edit}
-use Rattle.pf_table.specs.declared.edits.Edit.TheVariants.{Insert, Remove}
-use Rattle.pf_table.specs.Tables.{TableValue}
-use Rattle.pf_table.specs.Contents.{put_entry, unlisted, with_entries, without_entries}
-use Rattle.pf_table.proofs.OneEdit.{few_put}
+use Rattle.pf_rules.specs.declared.ruleset.TableEntry.{TableEntry}
+use Rattle.pf_rules.specs.Names.{Name}
+use Rattle.pf_rules.specs.Items.{AnyRule}
+use Rattle.pf_tables.specs.declared.edits.Edit.{Edit}
+use Rattle.pf_tables.specs.declared.edits.Edit.TheVariants.{Insert, Remove}
+use Rattle.pf_tables.specs.Tables.{TableValue}
+use Rattle.pf_tables.specs.Contents.{put_entry, unlisted, with_entries, without_entries}
+use Rattle.pf_tables.proofs.OneEdit.{few_put}
 use Rattle.pf_config.specs.declared.fault.ConfigFault.TheVariants.{AnchorsFull, ConstTable, TableFull}
 use Rattle.pf_config.specs.Map.{Configuration, AnchorValue, Path, anchor_at, rules_in, tables_in, tables_at, table_at, named}
 use Rattle.pf_config.specs.Changes.{is_empty, with_table, with_contents, tables_before, tables_behind, set_table, set_filled, fill, drain, new_table, add, delete}

@@ -6,9 +6,9 @@ use Rattle.std.specs.Str.{bytes_eq}
 use Rattle.std.proofs.lemmas.Bool.{cases_lt}
 use Rattle.std.proofs.lemmas.Bool.Decides.{nat_tests}
 use Rattle.std.proofs.lemmas.List.Elements.{filter-append}
-use Rattle.pf_ruleset.specs.Names.{Name, is_before}
-use Rattle.pf_ruleset.specs.Items.{AnyRule}
-use Rattle.pf_table.specs.Tables.{TableValue}
+use Rattle.pf_rules.specs.Names.{Name, is_before}
+use Rattle.pf_rules.specs.Items.{AnyRule}
+use Rattle.pf_tables.specs.Tables.{TableValue}
 use Rattle.pf_config.specs.Map.{AnchorValue, Path, name_after}
 use Rattle.pf_config.specs.Changes.{is_empty, is_nothing, unless_nothing, is_some_unnamed, without_unnamed, refers, refer, is_used, used_alone, used_tables, tidied_of}
 use Rattle.pf_config.specs.Trees.{AnchorTree, below, own_entry, last_name, IsKid, AreKids, and_then}

@@ -3,8 +3,8 @@ use Rattle.std.proofs.Common.{◌≡◌, ◌+◌, ◌||◌, true, ◌++◌, leng
 use Rattle.std.specs.Prelude.{nat_lt}
 use Rattle.std.specs.List.{list_any}
 use Rattle.std.proofs.lemmas.List.Folds.{list_any-append}
-use Rattle.pf_ruleset.specs.Items.{ItemValue, ItemValues, Filters, Anchors, Blocks, no_items, one_more, values_of}
-use Rattle.pf_ruleset.specs.Rulesets as rulesets
+use Rattle.pf_rules.specs.Items.{ItemValue, ItemValues, Filters, Anchors, Blocks, no_items, one_more, values_of}
+use Rattle.pf_rules.specs.Rulesets as rulesets
 use Rattle.pf_config.specs.declared.fault.ConfigFault.TheVariants.{BadPath}
 use Rattle.pf_config.specs.Map.{Configuration, Path}
 use Rattle.pf_config.specs.Changes.{blocks_of, blocks_in, is_too_deep, load, load_ruleset}

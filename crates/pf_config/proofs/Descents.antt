@@ -3,7 +3,7 @@ use Rattle.std.proofs.Common.{◌≡◌, true, false, cond, List, [], ◌∷◌,
 use Rattle.std.specs.Prelude.{fold, map}
 use Rattle.std.specs.List.{starts_with}
 use Rattle.std.specs.Str.{bytes_eq}
-use Rattle.pf_ruleset.specs.Names.{Name}
+use Rattle.pf_rules.specs.Names.{Name}
 use Rattle.pf_config.specs.Map.{AnchorValue, Path, anchor_at, path_eq, rules_in, tables_in, names_after, put_name, followed_by}
 use Rattle.pf_config.specs.Trees.{AnchorTree, part_below, some_part, child_at, and_then, tree_at, anchor_in}
 use Rattle.pf_config.proofs.PathFronts.{starts_with_both, own_front}

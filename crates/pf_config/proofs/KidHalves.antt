@@ -9,7 +9,7 @@ use Rattle.std.specs.Cmp.Lexicographic.{slice_cmp}
 use Rattle.std.proofs.lemmas.Cmp.{nat_list_eq_equiv}
 use Rattle.std.proofs.lemmas.Map.Lookups.{exact_bytes}
 use Rattle.std.proofs.lemmas.Map.Text.{is_eq-slice_cmp}
-use Rattle.pf_ruleset.specs.Names.{Name, is_before}
+use Rattle.pf_rules.specs.Names.{Name, is_before}
 use Rattle.pf_config.specs.Map.{Path}
 use Rattle.pf_config.specs.Trees.{AnchorTree, AreKids, shared, last_name}
 use Rattle.pf_config.specs.inner.Trees.{is_named}

@@ -11,9 +11,9 @@ use Rattle.std.proofs.lemmas.Cmp.{nat_list_cmp_total}
 use Rattle.std.proofs.lemmas.Map.Lookups.{exact_bytes}
 use Rattle.std.proofs.lemmas.List.{length-map, drop-map, take-map}
 use Rattle.std.proofs.lemmas.List.Elements.{filter-append}
-use Rattle.pf_ruleset.specs.Names.{Name, is_before}
-use Rattle.pf_ruleset.specs.Items.{AnyRule}
-use Rattle.pf_table.specs.Tables.{TableValue}
+use Rattle.pf_rules.specs.Names.{Name, is_before}
+use Rattle.pf_rules.specs.Items.{AnyRule}
+use Rattle.pf_tables.specs.Tables.{TableValue}
 use Rattle.pf_config.specs.Map.{Path}
 use Rattle.pf_config.specs.Changes.{is_empty}
 use Rattle.pf_config.specs.Trees.{AnchorTree, shared, below, own_entry, last_name, AreKids, child_at}

@@ -6,11 +6,11 @@ use Rattle.std.specs.List.{list_all, filter_map}
 use Rattle.std.specs.Ordering.{is_lt, ordering_reverse}
 use Rattle.std.proofs.lemmas.Cmp.{nat_list_cmp_total, tied_itself}
 use Rattle.std.proofs.lemmas.Map.Lookups.{exact_bytes}
-use Rattle.pf_ruleset.specs.Names.{Name, is_before}
+use Rattle.pf_rules.specs.Names.{Name, is_before}
 use Rattle.std.specs.List.{starts_with}
 use Rattle.std.specs.Str.{bytes_eq}
-use Rattle.pf_ruleset.specs.Items.{AnyRule}
-use Rattle.pf_table.specs.Tables.{TableValue}
+use Rattle.pf_rules.specs.Items.{AnyRule}
+use Rattle.pf_tables.specs.Tables.{TableValue}
 use Rattle.pf_config.specs.Changes.{is_empty}
 use Rattle.pf_config.specs.Trees.{AnchorTree, below, own_entry, last_name, AreKids, part_below, paths_of}
 use Rattle.pf_config.proofs.Treed.{begins, kid_begins, bytes_same, same_bytes}

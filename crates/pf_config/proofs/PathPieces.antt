@@ -3,8 +3,8 @@ use Rattle.std.proofs.Common.{◌≡◌, ◌==◌, ℕ, ◌+◌, ◌-◌, ◌<�
 use Rattle.std.specs.Prelude.{if◌then◌else◌, not}
 use Rattle.std.specs.List.{list_all}
 use Rattle.std.proofs.lemmas.List.{take_more, get_or-drop}
-use Rattle.pf_words.specs.Words.{is_anchor_text}
-use Rattle.pf_ruleset.specs.Names.{is_path_name, path_if, begins_below}
+use Rattle.pf_rules.specs.Words.{is_anchor_text}
+use Rattle.pf_rules.specs.Names.{is_path_name, path_if, begins_below}
 use Rattle.pf_config.specs.PathTexts.{pieces, pieces_from, some_path}
 use Rattle.pf_config.specs.inner.PathTexts.{names_if}
 

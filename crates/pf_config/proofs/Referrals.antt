@@ -10,7 +10,7 @@ use Rattle.std.specs.BTreeSet.{BTreeSet, UpdatesBy, Updates, contains_by}
 use Rattle.std.proofs.lemmas.Cmp.{eq_by_cmp_equiv, nat_list_cmp_total, nat_list_eq_equiv}
 use Rattle.std.proofs.lemmas.Slice.Eq.{bytes_eq-Decides}
 use Rattle.std.proofs.lemmas.Map.Text.{is_eq-slice_cmp}
-use Rattle.pf_ruleset.specs.Names.{Name}
+use Rattle.pf_rules.specs.Names.{Name}
 use Rattle.pf_config.specs.SkippedNames.{is_listed}
 use Rattle.pf_config.specs.inner.Referring.{names_in, Gains, AreJust}
 

@@ -3,9 +3,9 @@ use Rattle.std.proofs.Common.{◌≡◌, ℕ, false, ◌&&◌, List, map, Some, 
 use Rattle.std.specs.Prelude.{slice_get, option_map}
 use Rattle.std.proofs.lemmas.Bool.{and_parts, false_from_ne_true}
 use Rattle.std.proofs.lemmas.Option.{slice_get-map}
-use Rattle.pf_intervals.specs.declared.row.Row.{Row}
-use Rattle.pf_intervals.specs.Intervals.{is_within}
-use Rattle.pf_intervals.specs.Rows.{Marks, HasPlace}
+use Rattle.pf_tables.specs.declared.row.Row.{Row}
+use Rattle.pf_tables.specs.Intervals.{is_within}
+use Rattle.pf_tables.specs.Rows.{Marks, HasPlace}
 use Rattle.pf_config.specs.declared.candidate.Candidate.{Candidate}
 use Rattle.pf_config.specs.Searches.{source_of, destination_of, port_of, may_pass}
 

@@ -13,7 +13,7 @@ use Rattle.std.proofs.lemmas.List.Folds.{list_any-append}
 use Rattle.std.proofs.lemmas.List.Sorted.{list_any-IsPermutation}
 use Rattle.std.proofs.lemmas.List.MinMax.{ranks_by}
 use Rattle.std.proofs.lemmas.Map.Text.{is_eq-slice_cmp}
-use Rattle.pf_ruleset.specs.Names.{Name, is_before}
+use Rattle.pf_rules.specs.Names.{Name, is_before}
 use Rattle.pf_config.specs.SkippedNames.{is_listed}
 use Rattle.pf_config.specs.inner.RisingNames.{AreRising, IsIndex}
 use Rattle.pf_config.proofs.Treed.{both_true, before_other, bytes_same, never}

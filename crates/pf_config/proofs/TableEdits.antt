@@ -10,11 +10,11 @@ use Rattle.std.proofs.Math.ListN.{set}
 use Rattle.std.proofs.lemmas.List.Elements.{filter-append}
 use Rattle.std.proofs.lemmas.Cmp.{nat_list_cmp_total, tied_itself}
 use Rattle.std.proofs.lemmas.Map.Lookups.{exact_bytes}
-use Rattle.pf_ruleset.specs.Names.{Name, is_before}
-use Rattle.pf_ruleset.specs.declared.ruleset.TableEntry.{TableEntry}
-use Rattle.pf_table.specs.declared.edits.Edit.{Edit}
-use Rattle.pf_table.specs.Contents.{edited}
-use Rattle.pf_table.specs.Tables.{TableValue}
+use Rattle.pf_rules.specs.Names.{Name, is_before}
+use Rattle.pf_rules.specs.declared.ruleset.TableEntry.{TableEntry}
+use Rattle.pf_tables.specs.declared.edits.Edit.{Edit}
+use Rattle.pf_tables.specs.Contents.{edited}
+use Rattle.pf_tables.specs.Tables.{TableValue}
 use Rattle.pf_config.specs.Map.{named}
 use Rattle.pf_config.specs.Changes.{with_table, with_contents, tables_before, tables_behind}
 use Rattle.pf_config.specs.Ordered.{AreOrdered}

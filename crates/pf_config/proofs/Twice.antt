@@ -5,9 +5,9 @@ use Rattle.std.specs.Prelude.{if◌then◌else◌, fold}
 use Rattle.std.specs.Ordering.{is_lt, nat_cmp}
 use Rattle.std.specs.Cmp.Lexicographic.{slice_cmp}
 use Rattle.std.proofs.lemmas.Cmp.{tied_itself}
-use Rattle.pf_ruleset.specs.Names.{Name}
-use Rattle.pf_ruleset.specs.Items.{AnyRule}
-use Rattle.pf_table.specs.Tables.{TableValue}
+use Rattle.pf_rules.specs.Names.{Name}
+use Rattle.pf_rules.specs.Items.{AnyRule}
+use Rattle.pf_tables.specs.Tables.{TableValue}
 use Rattle.pf_config.specs.Map.{AnchorValue, Path, path_eq, anchor_at, rules_in, tables_in}
 use Rattle.pf_config.specs.Changes.{is_empty, is_path_before, anchors_before, anchors_behind, with_anchor, with_tables, without_unnamed, placed, tidied, loaded, defined, Block, Definition}
 use Rattle.pf_config.specs.Trees.{own_entry}

@@ -3,9 +3,9 @@ use Rattle.std.proofs.Common.{◌≡◌, Bool, true, false, ◌&&◌, ◌||◌, 
 use Rattle.std.specs.Prelude.{if◌then◌else◌}
 use Rattle.std.specs.List.{list_any, starts_with}
 use Rattle.std.specs.Str.{bytes_eq}
-use Rattle.pf_ruleset.specs.Names.{Name, begins_below}
-use Rattle.pf_ruleset.specs.Items.{AnyRule}
-use Rattle.pf_table.specs.Tables.{TableValue}
+use Rattle.pf_rules.specs.Names.{Name, begins_below}
+use Rattle.pf_rules.specs.Items.{AnyRule}
+use Rattle.pf_tables.specs.Tables.{TableValue}
 use Rattle.pf_config.specs.Map.{AnchorValue, Path, name_after, names_after}
 use Rattle.pf_config.specs.Changes.{is_empty}
 use Rattle.pf_config.specs.Trees.{AnchorTree, below, own_entry, last_name, AreKids, anchor_in}

@@ -6,20 +6,20 @@ use Rattle.std.specs.List.{list_any}
 use Rattle.std.specs.Str.{bytes_eq}
 use Rattle.std.specs.Ordering.{is_lt, nat_cmp}
 use Rattle.std.specs.Cmp.Lexicographic.{slice_cmp}
-use Rattle.pf_ruleset.specs.declared.parts.Addresses.TheVariants.{Prefix, Range, Table}
-use Rattle.pf_ruleset.specs.declared.parts.Host.{Host}
-use Rattle.pf_ruleset.specs.declared.parts.Host.TheVariants.{Any, In, NotIn}
-use Rattle.pf_ruleset.specs.declared.rule.Conditions.{Conditions}
-use Rattle.pf_ruleset.specs.declared.ruleset.TableEntry.{TableEntry}
-use Rattle.pf_ruleset.specs.Names.{Name, begins_below, is_before}
-use Rattle.pf_ruleset.specs.Items.{AnyRule, ItemValue, ItemValues, Filters, Anchors, Blocks, no_items, one_more}
-use Rattle.pf_ruleset.specs.Items.{conditions_of, rule_in, list_of, values_of}
-use Rattle.pf_ruleset.specs.Rulesets as rulesets
+use Rattle.pf_rules.specs.declared.parts.Addresses.TheVariants.{Prefix, Range, Table}
+use Rattle.pf_rules.specs.declared.parts.Host.{Host}
+use Rattle.pf_rules.specs.declared.parts.Host.TheVariants.{Any, In, NotIn}
+use Rattle.pf_rules.specs.declared.rule.Conditions.{Conditions}
+use Rattle.pf_rules.specs.declared.ruleset.TableEntry.{TableEntry}
+use Rattle.pf_rules.specs.Names.{Name, begins_below, is_before}
+use Rattle.pf_rules.specs.Items.{AnyRule, ItemValue, ItemValues, Filters, Anchors, Blocks, no_items, one_more}
+use Rattle.pf_rules.specs.Items.{conditions_of, rule_in, list_of, values_of}
+use Rattle.pf_rules.specs.Rulesets as rulesets
 use Rattle.pf_config.specs.declared.fault.ConfigFault.{ConfigFault}
 use Rattle.pf_config.specs.declared.fault.ConfigFault.TheVariants.{NoTable, ConstTable, TableFull, AnchorsFull, BadPath}
 use Rattle.pf_config.specs.declared.fault.ConfigFault.TheVariants.{Memory}
-use Rattle.pf_table.specs.Tables.{TableValue}
-use Rattle.pf_table.specs.Contents.{with_entries, contents_of, without_entries}
+use Rattle.pf_tables.specs.Tables.{TableValue}
+use Rattle.pf_tables.specs.Contents.{with_entries, contents_of, without_entries}
 use Rattle.pf_config.specs.Map.{Configuration, AnchorValue, Path, anchor_at, rules_in, tables_in, named}
 use Rattle.pf_config.specs.Map.{table_at, tables_at, name_after}
 

@@ -5,9 +5,9 @@ use Rattle.std.specs.List.{starts_with, filter_map}
 use Rattle.std.specs.Str.{bytes_eq}
 use Rattle.std.specs.Map.{lookup}
 use Rattle.std.specs.Cmp.Lexicographic.{pointwise}
-use Rattle.pf_ruleset.specs.Names.{Name, is_before}
-use Rattle.pf_ruleset.specs.Items.{AnyRule}
-use Rattle.pf_table.specs.Tables.{TableValue}
+use Rattle.pf_rules.specs.Names.{Name, is_before}
+use Rattle.pf_rules.specs.Items.{AnyRule}
+use Rattle.pf_tables.specs.Tables.{TableValue}
 
 -- main is the empty path
 abbrev pub Path : Type 0

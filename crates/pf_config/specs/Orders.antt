@@ -3,16 +3,16 @@ use Rattle.std.specs.Prelude.{◌≡◌, ℕ, ◌+◌, ◌-◌, ◌*◌, ◌/◌
 use Rattle.std.specs.Prelude.{if◌then◌else◌, reverse, min}
 use Rattle.pf_addr.specs.declared.addr.Addr.{Addr}
 use Rattle.pf_addr.specs.declared.addr.Addr.TheVariants.{V4, V6}
-use Rattle.pf_ruleset.specs.declared.parts.Addresses.{Addresses}
-use Rattle.pf_ruleset.specs.declared.parts.Addresses.TheVariants.{Prefix, Range, Table}
-use Rattle.pf_ruleset.specs.declared.parts.Host.{Host}
-use Rattle.pf_ruleset.specs.declared.parts.Host.TheVariants.{Any, In, NotIn}
-use Rattle.pf_ruleset.specs.declared.parts.PortTest.{PortTest}
-use Rattle.pf_ruleset.specs.declared.parts.PortTest.TheVariants.{Equal, NotEqual, Less, LessEqual, Greater}
-use Rattle.pf_ruleset.specs.declared.parts.PortTest.TheVariants.{GreaterEqual, FromTo, Between, Outside}
-use Rattle.pf_ruleset.specs.declared.rule.Conditions.{Conditions}
-use Rattle.pf_ruleset.specs.Items.{AnyRule, FilterRule, AnchorRule, conditions_of}
-use Rattle.pf_intervals.specs.declared.interval.Interval.{Interval}
+use Rattle.pf_rules.specs.declared.parts.Addresses.{Addresses}
+use Rattle.pf_rules.specs.declared.parts.Addresses.TheVariants.{Prefix, Range, Table}
+use Rattle.pf_rules.specs.declared.parts.Host.{Host}
+use Rattle.pf_rules.specs.declared.parts.Host.TheVariants.{Any, In, NotIn}
+use Rattle.pf_rules.specs.declared.parts.PortTest.{PortTest}
+use Rattle.pf_rules.specs.declared.parts.PortTest.TheVariants.{Equal, NotEqual, Less, LessEqual, Greater}
+use Rattle.pf_rules.specs.declared.parts.PortTest.TheVariants.{GreaterEqual, FromTo, Between, Outside}
+use Rattle.pf_rules.specs.declared.rule.Conditions.{Conditions}
+use Rattle.pf_rules.specs.Items.{AnyRule, FilterRule, AnchorRule, conditions_of}
+use Rattle.pf_tables.specs.declared.interval.Interval.{Interval}
 use Rattle.pf_config.specs.declared.candidate.Sieve.{Sieve}
 use Rattle.pf_config.specs.declared.candidate.Candidate.{Candidate}
 

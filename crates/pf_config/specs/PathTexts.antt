@@ -1,7 +1,7 @@
 -- Paths as text: names between slashes, none for the main ruleset.
 use Rattle.std.specs.Prelude.{◌≡◌, ℕ, List, [], ◌∷◌, ◌++◌, ◌==◌, Option, Some, None, Result, Ok}
 use Rattle.std.specs.Prelude.{Err, if◌then◌else◌}
-use Rattle.pf_ruleset.specs.Names.{Name, path_if}
+use Rattle.pf_rules.specs.Names.{Name, path_if}
 use Rattle.pf_config.specs.declared.fault.ConfigFault.{ConfigFault}
 use Rattle.pf_config.specs.declared.fault.ConfigFault.TheVariants.{NoTable, ConstTable, TableFull, AnchorsFull, BadPath}
 use Rattle.pf_config.specs.declared.fault.ConfigFault.TheVariants.{Memory}

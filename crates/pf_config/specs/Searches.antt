@@ -1,11 +1,11 @@
 -- The candidates that may let a packet's numbers pass.
 use Rattle.std.specs.Prelude.{◌≡◌, ℕ, ◌&&◌, Bool, List, map, Option, Some}
-use Rattle.pf_intervals.specs.declared.interval.Interval.{Interval}
-use Rattle.pf_intervals.specs.declared.classes.Classes.{Classes}
-use Rattle.pf_intervals.specs.declared.row.Row.{Row}
-use Rattle.pf_intervals.specs.Intervals.{is_within}
-use Rattle.pf_intervals.specs.Rows.{Marks}
-use Rattle.pf_intervals.specs.Classes.{IsClassesOf}
+use Rattle.pf_tables.specs.declared.interval.Interval.{Interval}
+use Rattle.pf_tables.specs.declared.classes.Classes.{Classes}
+use Rattle.pf_tables.specs.declared.row.Row.{Row}
+use Rattle.pf_tables.specs.Intervals.{is_within}
+use Rattle.pf_tables.specs.Rows.{Marks}
+use Rattle.pf_tables.specs.Classes.{IsClassesOf}
 use Rattle.pf_config.specs.declared.candidate.Candidate.{Candidate}
 
 -- the candidate's interval for the first 32 bits of the source address

@@ -2,7 +2,7 @@
 use Rattle.std.specs.Prelude.{Bool, List}
 use Rattle.std.specs.List.{list_any}
 use Rattle.std.specs.Str.{bytes_eq}
-use Rattle.pf_ruleset.specs.Names.{Name}
+use Rattle.pf_rules.specs.Names.{Name}
 
 -- the name is among these
 abbrev pub is_listed : Name → List Name → Bool

@@ -5,9 +5,9 @@ use Rattle.std.specs.Prelude.{map}
 use Rattle.std.specs.List.{list_all, starts_with}
 use Rattle.std.specs.Str.{bytes_eq}
 use Rattle.std.specs.declared.rc.Rc.{Rc}
-use Rattle.pf_ruleset.specs.Names.{Name, is_before}
-use Rattle.pf_ruleset.specs.Items.{AnyRule}
-use Rattle.pf_table.specs.Tables.{TableValue}
+use Rattle.pf_rules.specs.Names.{Name, is_before}
+use Rattle.pf_rules.specs.Items.{AnyRule}
+use Rattle.pf_tables.specs.Tables.{TableValue}
 use Rattle.pf_config.specs.Map.{AnchorValue, Path}
 use Rattle.pf_config.specs.Changes.{is_empty, unless_nothing}
 

@@ -4,8 +4,8 @@ ghost use Rattle.std.specs.Prelude.{◌≡◌, ◌≤◌, ◌&&◌, ◌++◌, []
 ghost use Rattle.std.specs.Prelude.{fold, length};
 ghost use Rattle.std.specs.List.{list_any};
 ghost use Rattle.std.specs.Option.{option_copied};
-ghost use Rattle.pf_ruleset.specs.Seen.{rule_of};
-ghost use Rattle.pf_ruleset.specs.Names.{is_before, begins_below};
+ghost use Rattle.pf_rules.specs.Seen.{rule_of};
+ghost use Rattle.pf_rules.specs.Names.{is_before, begins_below};
 ghost use Rattle.pf_config.specs.Map.{anchor_at, rules_in, tables_in, named, put_name, names_after, followed_by};
 ghost use Rattle.pf_config.specs.Map.{paths_in};
 ghost use Rattle.pf_config.specs.Changes.{is_empty, without_unnamed, refer, tidied_of};
@@ -30,8 +30,8 @@ use crate::paths::copied_path;
 use crate::referred::Referred;
 use crate::tables::{Tables, named};
 use crate::unused::{any_unused, items_refer, used_tables};
-use pf_ruleset::{Item, Name, TableEntry, TableName};
-use pf_table::{Edit, Table};
+use pf_rules::{Item, Name, TableEntry, TableName};
+use pf_tables::{Edit, Table};
 use std::alloc::{AllocError, Global};
 use std::cmp::Ordering;
 use std::marker::Model;
@@ -49,7 +49,7 @@ pub struct Anchor {
 
 impl Model for Anchor {
     ghost use Rattle.std.specs.Prelude.{map, length, ◌≤◌, ◌++◌};
-    ghost use Rattle.pf_ruleset.specs.Seen.{rule_of};
+    ghost use Rattle.pf_rules.specs.Seen.{rule_of};
     ghost use Rattle.pf_config.specs.Trees.{AnchorTree, own_entry, below, shared, AreKids, weight};
     ghost use Rattle.pf_config.specs.Orders.{IsOrder};
     ghost use Rattle.pf_config.specs.inner.TreeFalls.{shared_lighter};

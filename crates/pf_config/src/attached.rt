@@ -8,7 +8,7 @@ ghost use Rattle.std.specs.Option.{option_copied};
 use crate::anchor::Anchor;
 use crate::config::Config;
 use crate::walk::descend;
-use pf_ruleset::Name;
+use pf_rules::Name;
 use std::rc::Rc;
 
 impl Config {

@@ -4,14 +4,14 @@ ghost use Rattle.std.specs.Prelude.{◌≡◌, ◌≤◌, ◌++◌, ◌∷◌, [
 ghost use Rattle.std.specs.Prelude.{find, option_map, length, take, drop, IfSome, is_some};
 ghost use Rattle.std.specs.List.{list_any};
 ghost use Rattle.std.specs.Option.{option_copied};
-ghost use Rattle.pf_ruleset.specs.Names.{begins_below};
+ghost use Rattle.pf_rules.specs.Names.{begins_below};
 ghost use Rattle.pf_config.specs.Trees.{shared, last_name};
 ghost use Rattle.pf_config.specs.inner.Trees.{is_named, kids_before, kids_behind, some_kid, anchors_of, passes};
 ghost use Rattle.pf_config.specs.inner.KidOrder.{AreInOrder};
 
 use crate::anchor::Anchor;
 use crate::paths::followed_by;
-use pf_ruleset::Name;
+use pf_rules::Name;
 use std::alloc::{AllocError, Global};
 use std::cmp::Ordering;
 use std::rc::Rc;

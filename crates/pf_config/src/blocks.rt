@@ -2,14 +2,14 @@
 
 ghost use Rattle.std.specs.Prelude.{◌≡◌, ◌≤◌, ◌++◌, false, length, IfOk, OnOk};
 ghost use Rattle.std.specs.List.{list_any};
-ghost use Rattle.pf_ruleset.specs.Items.{values_of};
-ghost use Rattle.pf_ruleset.specs.inner.Items.{is_overfull};
-ghost use Rattle.pf_ruleset.specs.Seen.{item_of, items_of};
+ghost use Rattle.pf_rules.specs.Items.{values_of};
+ghost use Rattle.pf_rules.specs.inner.Items.{is_overfull};
+ghost use Rattle.pf_rules.specs.Seen.{item_of, items_of};
 ghost use Rattle.pf_config.specs.Changes.{blocks_of, blocks_in};
 
 use crate::paths::joined;
 use crate::placing::Placing;
-use pf_ruleset::{Item, Name};
+use pf_rules::{Item, Name};
 use std::alloc::{AllocError, Global};
 use std::rc::Rc;
 

@@ -4,7 +4,7 @@ ghost use Rattle.std.specs.Prelude.{◌≡◌, IfOk, map};
 ghost use Rattle.pf_config.specs.Searches.{source_of, destination_of, port_of, AreCompiled};
 
 use crate::candidate::Candidate;
-use pf_intervals::{Classes, Interval, PLACES_MAX, Row};
+use pf_tables::{Classes, Interval, PLACES_MAX, Row};
 use std::alloc::{AllocError, Global};
 use std::marker::Model;
 

@@ -2,7 +2,7 @@
 //! tables and the anchors off the changed path with the old one, and is the old one where nothing goes.
 
 ghost use Rattle.std.specs.Prelude.{◌≡◌, ◌≤◌, [], IfOk, map, length};
-ghost use Rattle.pf_ruleset.specs.Seen.{rule_of};
+ghost use Rattle.pf_rules.specs.Seen.{rule_of};
 ghost use Rattle.pf_config.specs.Map.{anchor_at, rules_in, tables_in};
 ghost use Rattle.pf_config.specs.Changes.{with_tables, with_rules, placed, tidied, without_unnamed};
 ghost use Rattle.pf_config.specs.inner.Trees.{any_unnamed};
@@ -13,7 +13,7 @@ use crate::own_rules::OwnRules;
 use crate::referred::gathered;
 use crate::tables::Tables;
 use crate::walk::descend;
-use pf_ruleset::{Item, Name};
+use pf_rules::{Item, Name};
 use std::alloc::{AllocError, Global};
 use std::rc::Rc;
 

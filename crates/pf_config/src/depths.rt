@@ -1,12 +1,12 @@
 //! How deep the blocks of a text stand.
 
 ghost use Rattle.std.specs.Prelude.{◌≡◌, ◌≤◌, ◌||◌, length, nat_lt};
-ghost use Rattle.pf_ruleset.specs.Items.{values_of};
-ghost use Rattle.pf_ruleset.specs.Seen.{item_of, items_of};
+ghost use Rattle.pf_rules.specs.Items.{values_of};
+ghost use Rattle.pf_rules.specs.Seen.{item_of, items_of};
 ghost use Rattle.pf_config.specs.inner.Depths.{any_deep, is_deep};
 ghost use Rattle.pf_config.specs.declared.depths.TheConstants.{DEEPEST};
 
-use pf_ruleset::{Item, Name};
+use pf_rules::{Item, Name};
 
 /// How deep a path may be.
 pub(crate) const DEEPEST: usize = 8;

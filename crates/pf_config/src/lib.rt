@@ -47,7 +47,7 @@
 //!   through an unnamed block, is a path like others there. No command has one, since its path is a `Path` or is
 //!   decoded from bytes that spell none; so the law that a log leaves a map of paths of 8 names at most asks it of
 //!   the log's entries.
-//! - **Laws over the definitions of several crates are in pf_laws**, on which nothing stands: they are proved
+//! - **Laws over the definitions of several crates are in pfx_laws**, on which nothing stands: they are proved
 //!   beside the crates that use the definitions, and no crate is proved again for them.
 #![tactic(auto)]
 
@@ -83,6 +83,6 @@ pub use candidate_list::{CandidateList, Search};
 pub use config::{Config, RULES_MAX};
 pub use fault::ConfigFault;
 pub use path_text::parse_path;
-pub use pf_intervals::{Interval, is_within};
-pub use pf_table::Table;
+pub use pf_tables::{Interval, is_within};
+pub use pf_tables::Table;
 pub use sieve::front_bits;

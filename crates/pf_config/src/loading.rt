@@ -14,8 +14,8 @@ use crate::own_rules::OwnRules;
 use crate::placing::Placing;
 use crate::table_change::put_among;
 use crate::tables::{Tables, copied_tables, named};
-use pf_ruleset::{TableDef, TableName};
-use pf_table::Table;
+use pf_rules::{TableDef, TableName};
+use pf_tables::Table;
 use std::alloc::{AllocError, Global};
 
 /// Whether one of the blocks is too deep.

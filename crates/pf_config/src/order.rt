@@ -1,7 +1,7 @@
 //! The order in which a verdict walks over the rules of a path. It is made once, where the rules take their place.
 
 ghost use Rattle.std.specs.Prelude.{◌≡◌, ◌≤◌, IfOk, length, map};
-ghost use Rattle.pf_ruleset.specs.Seen.{rule_of};
+ghost use Rattle.pf_rules.specs.Seen.{rule_of};
 ghost use Rattle.pf_config.specs.Orders.{may_stop, is_other, candidate_at, stops_of, others_of};
 ghost use Rattle.pf_config.specs.declared.config.TheConstants.{RULES_MAX};
 
@@ -9,7 +9,7 @@ use crate::candidate::Candidate;
 use crate::candidate_list::CandidateList;
 use crate::places::Places;
 use crate::sieve::sieve_of;
-use pf_ruleset::Item;
+use pf_rules::Item;
 use std::alloc::{AllocError, Global};
 
 /// The rules that may end the evaluation, the first one first, and those that aren't quick, the last one first. And

@@ -1,14 +1,14 @@
 //! An anchor's own entry: the rules and tables at its path.
 
 ghost use Rattle.std.specs.Prelude.{◌≡◌, ◌&&◌, ◌++◌, OnOk, map, not};
-ghost use Rattle.pf_ruleset.specs.Seen.{rule_of};
+ghost use Rattle.pf_rules.specs.Seen.{rule_of};
 ghost use Rattle.pf_config.specs.Map.{name_after, paths_in};
 ghost use Rattle.pf_config.specs.Changes.{is_empty, is_some_unnamed};
 ghost use Rattle.pf_config.specs.Trees.{own_entry};
 ghost use Rattle.pf_config.specs.inner.Trees.{any_unnamed, are_apart, room_after, own_count};
 
-use pf_ruleset::{Item, Name, TableName};
-use pf_table::Table;
+use pf_rules::{Item, Name, TableName};
+use pf_tables::Table;
 use std::alloc::AllocError;
 
 /// Puts an anchor's own path behind those that are there, if it has an entry.

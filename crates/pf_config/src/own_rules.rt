@@ -1,12 +1,12 @@
 //! The rules of a path, with their order.
 
 ghost use Rattle.std.specs.Prelude.{◌≡◌, ◌≤◌, IfOk, length, map};
-ghost use Rattle.pf_ruleset.specs.Seen.{rule_of};
+ghost use Rattle.pf_rules.specs.Seen.{rule_of};
 ghost use Rattle.pf_config.specs.Orders.{IsOrder};
 ghost use Rattle.pf_config.specs.declared.config.TheConstants.{RULES_MAX};
 
 use crate::order::{Order, order_of};
-use pf_ruleset::Item;
+use pf_rules::Item;
 use std::alloc::{AllocError, Global};
 use std::rc::Rc;
 

@@ -5,7 +5,7 @@ ghost use Rattle.pf_config.specs.PathTexts.{pieces, path_of, PathAnswers};
 ghost use Rattle.pf_config.specs.inner.PathTexts.{names_if};
 
 use crate::fault::ConfigFault;
-use pf_ruleset::{Name, Path};
+use pf_rules::{Name, Path};
 use std::alloc::{AllocError, Global};
 
 /// What stands between the slashes.

@@ -2,7 +2,7 @@
 
 ghost use Rattle.std.specs.Prelude.{◌≡◌, ◌++◌, ◌∷◌, [], IfOk};
 
-use pf_ruleset::Name;
+use pf_rules::Name;
 use std::alloc::{AllocError, Global};
 
 /// The names once more.

@@ -1,6 +1,6 @@
 //! Where the anchors may stand that anchor rules lead to: guesses, on which nothing depends but time.
 
-use pf_ruleset::Item;
+use pf_rules::Item;
 use std::alloc::{AllocError, Global};
 
 /// For each rule of a path, the place of its target's first name among those of all anchor rules there, in byte order.

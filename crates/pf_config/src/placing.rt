@@ -1,10 +1,10 @@
 //! Rules and the path that they are loaded at.
 
 ghost use Rattle.std.specs.Prelude.{◌≡◌, ◌≤◌, IfOk, map, length};
-ghost use Rattle.pf_ruleset.specs.Seen.{rule_of};
+ghost use Rattle.pf_rules.specs.Seen.{rule_of};
 ghost use Rattle.pf_config.specs.declared.config.TheConstants.{RULES_MAX};
 
-use pf_ruleset::{Item, Name};
+use pf_rules::{Item, Name};
 use std::alloc::AllocError;
 use std::marker::Model;
 use std::rc::Rc;
@@ -18,7 +18,7 @@ pub(crate) struct Placing {
 
 impl Model for Placing {
     ghost use Rattle.std.specs.Prelude.{map, length, ◌≤◌};
-    ghost use Rattle.pf_ruleset.specs.Seen.{rule_of};
+    ghost use Rattle.pf_rules.specs.Seen.{rule_of};
     ghost use Rattle.pf_config.specs.Changes.{Block};
 
     ghost Value = { Block };

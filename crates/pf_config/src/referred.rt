@@ -3,14 +3,14 @@
 ghost use Rattle.std.specs.Prelude.{◌≡◌, [], map, IfOk, OnOk};
 ghost use Rattle.std.specs.List.{list_any};
 ghost use Rattle.std.specs.Str.{bytes_eq};
-ghost use Rattle.pf_ruleset.specs.Seen.{rule_of};
+ghost use Rattle.pf_rules.specs.Seen.{rule_of};
 ghost use Rattle.pf_config.specs.Changes.{is_at_table, conditions_refer, refers};
 ghost use Rattle.pf_config.specs.SkippedNames.{is_listed};
 ghost use Rattle.pf_config.specs.inner.Referring.{Gains, AreJust, KnowsAll, is_fleeting};
 
 use crate::anchor::Anchor;
-use pf_ruleset::{Addresses, Conditions, Host, Item, TableName};
-use pf_table::Table;
+use pf_rules::{Addresses, Conditions, Host, Item, TableName};
+use pf_tables::Table;
 use std::alloc::{AllocError, Global};
 use std::collections::BTreeSet;
 use std::marker::Model;
@@ -26,7 +26,7 @@ pub(crate) struct Referred {
 
 impl Model for Referred {
     ghost use Rattle.std.specs.Prelude.{List};
-    ghost use Rattle.pf_ruleset.specs.Names.{Name};
+    ghost use Rattle.pf_rules.specs.Names.{Name};
     ghost use Rattle.pf_config.specs.inner.Referring.{names_in};
 
     ghost Value = { List Name };

@@ -4,7 +4,7 @@ ghost use Rattle.std.specs.Prelude.{◌≡◌, [], IfOk};
 ghost use Rattle.pf_config.specs.SkippedNames.{is_listed};
 ghost use Rattle.pf_config.specs.inner.RisingNames.{AreRising};
 
-use pf_ruleset::InterfaceName;
+use pf_rules::InterfaceName;
 use std::alloc::{AllocError, Global};
 use std::cmp::Ordering;
 use std::marker::Model;
@@ -19,7 +19,7 @@ pub(crate) struct Skipped {
 
 impl Model for Skipped {
     ghost use Rattle.std.specs.Prelude.{List};
-    ghost use Rattle.pf_ruleset.specs.Names.{Name};
+    ghost use Rattle.pf_rules.specs.Names.{Name};
     ghost use Rattle.pf_config.specs.inner.RisingNames.{IsIndex};
 
     ghost Value = { List Name };

@@ -8,8 +8,8 @@ ghost use Rattle.pf_config.specs.inner.TableChanges.{edited_table, edited_in, ha
 ghost use Rattle.pf_config.specs.inner.TableChanges.{StandsAt, BelongsAt};
 
 use crate::config::ENTRIES_MAX;
-use pf_ruleset::{TableEntry, TableName};
-use pf_table::{Edit, Table};
+use pf_rules::{TableEntry, TableName};
+use pf_tables::{Edit, Table};
 use std::alloc::{AllocError, Global};
 
 /// Whether an edit leaves a table no fuller than it may be.

@@ -8,8 +8,8 @@ ghost use Rattle.pf_config.specs.inner.TableChanges.{edited_in, ChangesIf};
 ghost use Rattle.pf_config.specs.Ordered.{AreOrdered};
 
 use crate::table_change::{edit_among, place_of, put_among};
-use pf_ruleset::{TableEntry, TableName};
-use pf_table::{Edit, Table};
+use pf_rules::{TableEntry, TableName};
+use pf_tables::{Edit, Table};
 use std::alloc::{AllocError, Global};
 use std::marker::Model;
 use std::rc::Rc;
@@ -22,8 +22,8 @@ pub(crate) struct Tables {
 
 impl Model for Tables {
     ghost use Rattle.std.specs.Prelude.{List};
-    ghost use Rattle.pf_ruleset.specs.Names.{Name};
-    ghost use Rattle.pf_table.specs.Tables.{TableValue};
+    ghost use Rattle.pf_rules.specs.Names.{Name};
+    ghost use Rattle.pf_tables.specs.Tables.{TableValue};
     ghost use Rattle.pf_config.specs.Ordered.{AreOrdered};
 
     ghost Value = { List (Name × TableValue) };

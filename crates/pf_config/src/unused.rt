@@ -2,7 +2,7 @@
 
 ghost use Rattle.std.specs.Prelude.{◌≡◌, [], IfOk, filter, map};
 ghost use Rattle.std.specs.List.{list_any};
-ghost use Rattle.pf_ruleset.specs.Seen.{rule_of};
+ghost use Rattle.pf_rules.specs.Seen.{rule_of};
 ghost use Rattle.pf_config.specs.Changes.{is_at_table, conditions_refer, refers, is_used, used_tables};
 ghost use Rattle.pf_config.specs.inner.Trees.{is_idle};
 ghost use Rattle.pf_config.specs.Ordered.{AreOrdered};
@@ -11,8 +11,8 @@ ghost use Rattle.pf_config.specs.inner.Referring.{KnowsAll, goes_by, stays_by};
 use crate::anchor::Anchor;
 use crate::referred::{FEW, Referred};
 use crate::tables::{Tables, copied_table};
-use pf_ruleset::{Addresses, Conditions, Host, Item, Name, TableName};
-use pf_table::Table;
+use pf_rules::{Addresses, Conditions, Host, Item, Name, TableName};
+use pf_tables::Table;
 use std::alloc::{AllocError, Global};
 
 /// Whether the host is the table of that name.

@@ -5,7 +5,7 @@ ghost use Rattle.std.specs.Option.{option_copied};
 ghost use Rattle.pf_config.specs.Trees.{tree_at};
 
 use crate::anchor::Anchor;
-use pf_ruleset::Name;
+use pf_rules::Name;
 
 /// The anchor at a path below this one.
 pub(crate) fn descend<'c>(from: &'c Anchor, rest: &[Name]) -> Option<&'c Anchor>

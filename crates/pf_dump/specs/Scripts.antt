@@ -1,10 +1,10 @@
 -- The configuration that a script leaves.
 use Rattle.std.specs.Prelude.{ℕ, List, [], ◌∷◌, Option, Some, None}
 use Rattle.pf_config.specs.Map.{Configuration}
-use Rattle.pf_effect.specs.Effect.{empty}
+use Rattle.pf_command.specs.Effect.{empty}
 use Rattle.pf_scripts.specs.Lines.{ScriptLine, lines}
 use Rattle.pf_scripts.specs.Ctl.{WaitingWords, pfctl, stepped}
-use Rattle.pf_compare.specs.Contents.{IsSame}
+use Rattle.pf_dump.specs.Contents.{IsSame}
 
 -- the end of the script ends a text
 -- Example: pfctl -f - and pass, without a line ., loads pass.

@@ -5,7 +5,7 @@ ghost use Rattle.pf_dump.specs.Scripts.{Gives};
 
 use crate::replay::replayed;
 use crate::script::script_of;
-use pf_compare::is_same;
+use crate::same::is_same;
 use pf_config::Config;
 use std::alloc::{AllocError, Global};
 

@@ -1,4 +1,4 @@
-//! A configuration as a script that makes it anew.
+//! A configuration as a script that makes it again, and whether two configurations are the same.
 //!
 //! # Organization
 //!
@@ -7,17 +7,26 @@
 //! - [`gives`]: whether a script, done on an empty configuration, gives a configuration.
 //! - [`push_text`]: the text of a path alone, as `pfctl -a PATH -f -` reads it; [`text_paths`]: the paths that have
 //!   one.
+//! - [`is_same`]: whether two configurations skip the same interfaces, and have the same rules and tables at the same
+//!   paths.
 //!
-//! A script is made by no clause's word: what is made is done, and what it gives is compared with the configuration.
+//! Within: `replay` does a script, `text` writes the text of a path, `script` the commands; `same` compares paths and
+//! tables, `same_rules` rules, `same_parts` their parts.
 //!
-//! Within: `replay` does a script, `text` writes the text of a path, `script` the commands; pf_compare compares.
+//! # Why
+//!
+//! - A script is made by no clause's word: what is made is done, and what it gives is compared with the configuration.
 #![tactic(auto)]
 
 mod dumping;
 mod replay;
+mod same;
+mod same_parts;
+mod same_rules;
 mod script;
 mod text;
 
 pub use dumping::{dump, gives};
+pub use same::is_same;
 pub use script::push_change;
 pub use text::{push_path, push_text, text_paths};

@@ -4,7 +4,7 @@ ghost use Rattle.std.specs.Prelude.{◌≡◌, true, Some, IfOk, IfSome, OnOk, m
 ghost use Rattle.pf_entry.specs.Entry.{are_names, path_of, rest_fits};
 ghost use Rattle.pf_entry.specs.Owned.{command_value};
 ghost use Rattle.pf_entry.specs.Seen.{command_of};
-ghost use Rattle.pf_effect.specs.Effect.{after_command};
+ghost use Rattle.pf_command.specs.Effect.{after_command};
 ghost use Rattle.pf_scripts.specs.Ctl.{pfctl, pfctl_line, at_words, stepped};
 ghost use Rattle.pf_scripts.specs.Seen.{line_of};
 ghost use Rattle.pf_scripts.specs.inner.Seen.{waiting_of};
@@ -13,7 +13,7 @@ ghost use Rattle.pf_dump.specs.inner.Seen.{StepsTo};
 
 use pf_arguments::{Command, CommandView, EncodeFault, Entry, decode, encode};
 use pf_config::Config;
-use pf_effect::{ApplyFault, apply};
+use pf_command::{ApplyFault, apply};
 use pf_scripts::{
     Line, Waiting, WordsRead, cut_line, push_bytes, read_words, takes_text, words_in,
 };

@@ -2,9 +2,9 @@
 
 use crate::text::{push_path, push_text, text_paths};
 use pf_arguments::Command;
-use pf_command_words::push_command;
+use pf_command::push_command;
 use pf_config::Config;
-use pf_ruleset::{Name, TableEntry};
+use pf_rules::{Name, TableEntry};
 use std::alloc::{AllocError, Global};
 
 /// How many bytes a text has at most, so that an entry has room for it.

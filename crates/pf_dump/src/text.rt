@@ -1,7 +1,7 @@
 //! The text of a path.
 
 use pf_config::{Config, Table};
-use pf_ruleset::{AnchorHeading, Item, Name};
+use pf_rules::{AnchorHeading, Item, Name};
 use pf_show::show_items;
 use std::alloc::{AllocError, Global};
 

@@ -1,9 +1,9 @@
 -- Names are short enough for a length of one byte.
 use Rattle.std.proofs.Common.{◌≡◌, ℕ, ◌<◌, true, List, length, arith}
 use Rattle.std.proofs.lemmas.Bool.{and_parts, leb-true}
-use Rattle.pf_words.specs.declared.profile.Profile.{Profile}
-use Rattle.pf_words.specs.Words.{is_anchor_text, is_table_text, is_table_name}
-use Rattle.pf_ruleset.specs.Names.{is_path_name}
+use Rattle.pf_rules.specs.declared.profile.Profile.{Profile}
+use Rattle.pf_rules.specs.Words.{is_anchor_text, is_table_text, is_table_name}
+use Rattle.pf_rules.specs.Names.{is_path_name}
 
 pub anchor_short : (name : List ℕ) → is_anchor_text name ≡ true → length name < 256
 unfolding is_anchor_text

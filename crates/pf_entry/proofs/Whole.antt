@@ -6,8 +6,8 @@ use Rattle.std.specs.Int.{w32, w64, to_be_bytes}
 use Rattle.std.proofs.lemmas.Bool.{ltb-true, lt-ltb, leb-true, eqb-true}
 use Rattle.std.proofs.lemmas.Bool.Decides.{nat_tests}
 use Rattle.std.proofs.lemmas.List.{length-append, append-nil, nil_from_length}
-use Rattle.pf_words.specs.declared.profile.Profile.{Profile}
-use Rattle.pf_words.specs.declared.profile.Profile.TheVariants.{One, Two}
+use Rattle.pf_rules.specs.declared.profile.Profile.{Profile}
+use Rattle.pf_rules.specs.declared.profile.Profile.TheVariants.{One, Two}
 use Rattle.pf_entry.specs.Entry.{Address, Command, load, flush_rules, flush_tables, flush_all, add, delete, replace, flush_table, Entry, counted, path, addresses, format, kind, path_of, rest, spelling, is_table, is_origin, are_names, are_addresses, rest_fits, Fits, EntryBytes}
 use Rattle.pf_entry.specs.Reading.{◌>>=◌, only, byte_at, number_at, text_at, table_at, path_at, list_at, load_at, change_at, add_at, delete_at, replace_at, flush_table_at, rest_at, command_at, asked_at, entry_at, reading}
 use Rattle.pf_entry.proofs.Takes.{IsBytes, bind_ok, only_ok, guard_ok, chosen, some_is, both_true, and_true, Takes, Takes-then, byte_takes, wide32, wide64, number_takes, number_again, text_takes, text_again, table_takes, table_again, path_takes, path_again}

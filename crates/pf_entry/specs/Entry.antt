@@ -7,10 +7,10 @@ use Rattle.std.specs.Int.{w16, w32, w64, to_be_bytes}
 use Rattle.pf_addr.specs.declared.addr.Addr.{Addr}
 use Rattle.pf_addr.specs.declared.addr.Addr.TheVariants.{V4, V6}
 use Rattle.pf_addr.specs.Blocks.{Block, is_block}
-use Rattle.pf_words.specs.declared.profile.Profile.{Profile}
-use Rattle.pf_words.specs.Words.{is_table_name}
-use Rattle.pf_ruleset.specs.Names.{is_path_name}
-use Rattle.pf_words.specs.declared.profile.Profile.TheVariants.{One, Two}
+use Rattle.pf_rules.specs.declared.profile.Profile.{Profile}
+use Rattle.pf_rules.specs.Words.{is_table_name}
+use Rattle.pf_rules.specs.Names.{is_path_name}
+use Rattle.pf_rules.specs.declared.profile.Profile.TheVariants.{One, Two}
 
 -- a prefix, or what isn't in it
 pub record Address : Type 0 where

@@ -1,6 +1,6 @@
 -- What an entry is, without where it is in memory.
 use Rattle.std.specs.Prelude.{Bool, false, nat_lt, List, length, map, ◌||◌}
-use Rattle.pf_ruleset.specs.declared.ruleset.TableEntry as rust_address
+use Rattle.pf_rules.specs.declared.ruleset.TableEntry as rust_address
 use Rattle.pf_entry.specs.declared.command.Command as rust_command
 use Rattle.pf_entry.specs.declared.command.Command.TheVariants as owned
 use Rattle.pf_entry.specs.declared.command.Entry as rust_entry

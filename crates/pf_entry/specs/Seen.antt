@@ -1,6 +1,6 @@
 -- What views show, without where it is in memory.
 use Rattle.std.specs.Prelude.{ℕ, List}
-use Rattle.pf_ruleset.specs.declared.ruleset.TableEntry as rust
+use Rattle.pf_rules.specs.declared.ruleset.TableEntry as rust
 use Rattle.pf_entry.specs.declared.view.Names.{Names}
 use Rattle.pf_entry.specs.declared.view.Addresses.{Addresses}
 use Rattle.pf_entry.specs.declared.view.CommandView.{CommandView}

@@ -3,8 +3,8 @@
 ghost use Rattle.std.specs.Prelude.{◌<◌, ◌^◌, IsTrue, length};
 ghost use Rattle.pf_entry.specs.Entry.{is_origin};
 
-use pf_ruleset::{Path, TableEntry, TableName};
-use pf_words::Profile;
+use pf_rules::{Path, TableEntry, TableName};
+use pf_rules::Profile;
 
 /// One address or more.
 #[derive(Drop)]

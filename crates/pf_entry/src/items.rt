@@ -2,7 +2,7 @@
 
 use crate::reading::{address_at, name_at};
 use crate::view::{Addresses, Names};
-use pf_ruleset::TableEntry;
+use pf_rules::TableEntry;
 
 impl<'a> Iterator for Names<'a> {
     type Item = &'a [u8];

@@ -7,7 +7,7 @@ ghost use Rattle.pf_entry.specs.Owned.{addresses_value, command_value, entry_val
 
 use crate::command::{Command, Entry, SomeAddresses};
 use crate::view::{Addresses, CommandView, EntryView, Names};
-use pf_ruleset::{Name, Path, TableEntry, TableName};
+use pf_rules::{Name, Path, TableEntry, TableName};
 use std::alloc::{AllocError, Global};
 
 fn name_owned(alloc: Global, bytes: &[u8]) -> Result<Name, AllocError>

@@ -3,7 +3,7 @@
 ghost use Rattle.std.specs.Prelude.{◌≡◌, option_map};
 ghost use Rattle.std.specs.Int.{w16, w32, w64};
 ghost use Rattle.pf_entry.specs.Entry.{is_name, is_origin};
-ghost use Rattle.pf_ruleset.specs.Names.{begins_below};
+ghost use Rattle.pf_rules.specs.Names.{begins_below};
 ghost use Rattle.pf_entry.specs.Reading.{byte_at, number_at, text_at, counted_at, name_at, names_at, path_at, table_at};
 ghost use Rattle.pf_entry.specs.Reading.{sign_at, base_at, address_at, addresses_at, list_at, load_at, change_at};
 ghost use Rattle.pf_entry.specs.Reading.{add_at, delete_at, replace_at, flush_table_at, rest_at, command_at, asked_at};
@@ -13,8 +13,8 @@ ghost use Rattle.pf_entry.specs.Seen.{address_of, names_of, addresses_of, comman
 use crate::limits::{ADDRESSES, ASKER, ENTRY_BYTES, HALF, LAST_MEMBER, NAMES, NUMBERS};
 use crate::view::{Addresses, CommandView, EntryView, Names};
 use pf_addr::{Addr, Prefix};
-use pf_ruleset::TableEntry;
-use pf_words::{Profile, is_anchor_text, is_table_name};
+use pf_rules::TableEntry;
+use pf_rules::{Profile, is_anchor_text, is_table_name};
 
 fn byte_at(bytes: &[u8]) -> Option<(u8, &[u8])>
     ensures { option_map (λ x. (x.0, x.1.now)) result ≡ byte_at bytes.now }

@@ -3,7 +3,7 @@
 ghost use Rattle.std.specs.Prelude.{IsTrue, is_some};
 ghost use Rattle.pf_entry.specs.Reading.{names_at, addresses_at};
 
-use pf_words::Profile;
+use pf_rules::Profile;
 
 /// Names that begin some bytes, each with its length. As an iterator it gives them in order.
 #[derive(Clone, Copy)]

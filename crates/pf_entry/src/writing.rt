@@ -14,8 +14,8 @@ use crate::command::{Command, Entry};
 use crate::limits::{ADDRESSES, ENTRY_BYTES, HALF};
 use crate::numbers::{put_u16, put_u32, put_u64};
 use pf_addr::Addr;
-use pf_ruleset::{Path, TableEntry, TableName};
-use pf_words::Profile;
+use pf_rules::{Path, TableEntry, TableName};
+use pf_rules::Profile;
 use std::alloc::AllocError;
 
 /// A length of one byte, and the bytes.

@@ -7,9 +7,9 @@ use Rattle.pf_config.specs.Map.{Configuration, Path, or_else, rules_at, rules_in
 use Rattle.pf_config.specs.Trees.{AnchorTree, tree_at}
 use Rattle.pf_config.specs.declared.candidate.Candidate.{Candidate}
 use Rattle.pf_config.specs.Orders.{may_stop, is_other, candidate_at, candidates, sieve_of, stops_of, others_of}
-use Rattle.pf_ruleset.specs.Items.{AnyRule, FilterRule, AnchorRule, Heading, Target, conditions_of}
-use Rattle.pf_ruleset.specs.declared.item.Item.{Item}
-use Rattle.pf_ruleset.specs.Seen.{rule_of}
+use Rattle.pf_rules.specs.Items.{AnyRule, FilterRule, AnchorRule, Heading, Target, conditions_of}
+use Rattle.pf_rules.specs.declared.item.Item.{Item}
+use Rattle.pf_rules.specs.Seen.{rule_of}
 use Rattle.pf_eval.specs.Packets.{PacketValue}
 use Rattle.pf_eval.specs.Matching.{Tables, matches}
 use Rattle.pf_eval.specs.Verdicts.{Spot, tables_in}

@@ -4,9 +4,9 @@ use Rattle.std.specs.Prelude.{not, if◌then◌else◌, filter, nat_le}
 use Rattle.std.specs.List.{flat_map}
 use Rattle.pf_config.specs.Map.{Configuration, Path, or_else, rules_at, kids, followed_by}
 use Rattle.pf_config.specs.Trees.{last_name}
-use Rattle.pf_ruleset.specs.Names.{Name, begins_below}
-use Rattle.pf_ruleset.specs.Items.{AnyRule, FilterRule, AnchorRule, Heading, Target}
-use Rattle.pf_ruleset.specs.declared.rule.Rule.{Rule}
+use Rattle.pf_rules.specs.Names.{Name, begins_below}
+use Rattle.pf_rules.specs.Items.{AnyRule, FilterRule, AnchorRule, Heading, Target}
+use Rattle.pf_rules.specs.declared.rule.Rule.{Rule}
 use Rattle.pf_eval.specs.Packets.{PacketValue}
 use Rattle.pf_eval.specs.Matching.{Tables, matches}
 use Rattle.pf_eval.specs.Verdicts.{Hit, Spot, stop_last, marked, rule_hits, hits_with, hits, member_hits, not_too_deep, target_hits, tables_in}

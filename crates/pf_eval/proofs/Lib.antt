@@ -1,4 +1,4 @@
--- How the proofs go: pf_words, pf_intervals, pf_eval, pf_refusals, pf_tool.
+-- How the proofs go: pf_rules, pf_tables, pf_eval, cli_io, pf_tool.
 --
 -- ---- Forms
 --
@@ -34,7 +34,7 @@
 -- - An interval is a first number and a width, asked by `wrapping_sub`, one compare: what is open needs no fact on the
 --   packet's numbers. A definition's numbers have no bound, so keys and first numbers are `min n 4294967295` there; the
 --   code's `u32` is that by itself.
--- - **Compiled intervals** (pf_intervals): what is proved is one way alone, that a bit is set wherever an interval holds
+-- - **Compiled intervals** (pf_tables): what is proved is one way alone, that a bit is set wherever an interval holds
 --   the number. So buckets may be any cut of the numbers, bounds needn't even rise, and an interval that goes round past
 --   the greatest number is no case of its own (`meets`: the bucket's first number is in the interval, or the interval's
 --   first one in the bucket). `Column::row` halves with the invariant that the bucket's bound is at most the number and

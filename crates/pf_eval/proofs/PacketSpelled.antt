@@ -4,12 +4,12 @@ use Rattle.std.specs.Prelude.{bytes_eq, ◌≢◌}
 use Rattle.std.proofs.lemmas.Bool.{false≢true}
 use Rattle.std.proofs.lemmas.List.{append-nil}
 use Rattle.std.proofs.lemmas.Slice.Eq.{bytes_eq-Decides}
-use Rattle.pf_ruleset.specs.declared.parts.Direction.{Direction}
-use Rattle.pf_ruleset.specs.declared.parts.Direction.TheVariants.{In, Out}
-use Rattle.pf_ruleset.specs.Names.{Name}
-use Rattle.pf_words.specs.declared.flags.TcpFlags.{TcpFlags}
-use Rattle.pf_words.specs.declared.profile.Profile.TheVariants.{One}
-use Rattle.pf_words.specs.Words.{is_interface_name, protocol_of, flags_of}
+use Rattle.pf_rules.specs.declared.parts.Direction.{Direction}
+use Rattle.pf_rules.specs.declared.parts.Direction.TheVariants.{In, Out}
+use Rattle.pf_rules.specs.Names.{Name}
+use Rattle.pf_rules.specs.declared.flags.TcpFlags.{TcpFlags}
+use Rattle.pf_rules.specs.declared.profile.Profile.TheVariants.{One}
+use Rattle.pf_rules.specs.Words.{is_interface_name, protocol_of, flags_of}
 use Rattle.pf_eval.specs.Packets.{PacketValue}
 use Rattle.pf_eval.specs.PacketTexts.{Word, Read, ◌>>=◌, begins, word_at, word_after, value, keyed, optional, direction_of, name_of, address_of, port_number_of, type_number_of, put_name, groups_at, End, end_at, agrees, said_flags, at_end, packet_at, words, has_outer_blank, packet_of}
 use Rattle.pf_eval.specs.PacketGrammar.{IsKeyed, Keyed, IsOptional, Missing, Present, IsDirection, InWord, OutWord, AreGroups, NoGroup, OneGroup, IsEnd, EndOf, IsPacket, IsPacketText}

@@ -5,7 +5,7 @@ use Rattle.std.proofs.Math.Seq.{drop-length}
 use Rattle.std.proofs.Math.ListN.{drop_of_length-le}
 use Rattle.std.proofs.lemmas.Option.{slice_get-get_or}
 use Rattle.std.proofs.lemmas.Bool.{and_left, cases_lt}
-use Rattle.pf_ruleset.specs.Items.{AnyRule}
+use Rattle.pf_rules.specs.Items.{AnyRule}
 use Rattle.pf_config.specs.declared.candidate.Candidate.{Candidate}
 use Rattle.pf_config.specs.declared.candidate_list.Search.{Search}
 use Rattle.pf_config.specs.Map.{or_else}

@@ -7,17 +7,17 @@ use Rattle.std.proofs.Math.Nat.{mod-lt, div-one, div-div-eq-div-mul}
 use Rattle.pf_addr.specs.Blocks.{agree, in_range}
 use Rattle.pf_addr.specs.declared.addr.Addr.{Addr}
 use Rattle.pf_addr.specs.declared.addr.Addr.TheVariants.{V4, V6}
-use Rattle.pf_ruleset.specs.declared.parts.Addresses.TheVariants.{Prefix, Range, Table}
-use Rattle.pf_ruleset.specs.declared.parts.Host.{Host}
-use Rattle.pf_ruleset.specs.declared.parts.Host.TheVariants.{Any, In, NotIn}
-use Rattle.pf_ruleset.specs.declared.parts.PortTest.{PortTest}
-use Rattle.pf_ruleset.specs.declared.parts.PortTest.TheVariants.{Equal, NotEqual, Less, LessEqual, Greater}
-use Rattle.pf_ruleset.specs.declared.parts.PortTest.TheVariants.{GreaterEqual, FromTo, Between, Outside}
-use Rattle.pf_ruleset.specs.declared.rule.Conditions.{Conditions}
+use Rattle.pf_rules.specs.declared.parts.Addresses.TheVariants.{Prefix, Range, Table}
+use Rattle.pf_rules.specs.declared.parts.Host.{Host}
+use Rattle.pf_rules.specs.declared.parts.Host.TheVariants.{Any, In, NotIn}
+use Rattle.pf_rules.specs.declared.parts.PortTest.{PortTest}
+use Rattle.pf_rules.specs.declared.parts.PortTest.TheVariants.{Equal, NotEqual, Less, LessEqual, Greater}
+use Rattle.pf_rules.specs.declared.parts.PortTest.TheVariants.{GreaterEqual, FromTo, Between, Outside}
+use Rattle.pf_rules.specs.declared.rule.Conditions.{Conditions}
 use Rattle.pf_config.specs.Orders.{everything, around, between, front_bits, set_interval, host_interval, test_interval, port_interval, sieve_of}
 use Rattle.pf_eval.specs.Packets.{PacketValue}
 use Rattle.pf_eval.specs.Matching.{Tables, at_host, in_addresses, port_passes, if_set, if_there, direction_eq, of_family, is_such, is_between, matches}
-use Rattle.pf_intervals.specs.Intervals.{is_within}
+use Rattle.pf_tables.specs.Intervals.{is_within}
 use Rattle.pf_eval.specs.inner.Sieves.{port_or_0, key_of, passes}
 
 -- ---- numbers within intervals

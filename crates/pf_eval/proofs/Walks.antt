@@ -4,13 +4,13 @@ use Rattle.std.specs.Prelude.{if◌then◌else◌, nat_le, option_map}
 use Rattle.std.specs.declared.rc.Rc.{Rc}
 use Rattle.pf_config.specs.Map.{Configuration, Path, or_else, rules_at, kids, followed_by}
 use Rattle.pf_config.specs.Trees.{AnchorTree, paths_of, shared}
-use Rattle.pf_ruleset.specs.Items.{AnyRule, FilterRule, AnchorRule, Heading, Target, rule_in}
-use Rattle.pf_ruleset.specs.declared.rule.Rule.{Rule}
-use Rattle.pf_ruleset.specs.declared.item.AnchorRule as anchored
-use Rattle.pf_ruleset.specs.declared.item.Item as item
-use Rattle.pf_ruleset.specs.declared.item.Item.{Item}
-use Rattle.pf_ruleset.specs.Seen.{heading_of, items_of, rule_of, with_block}
-use Rattle.pf_ruleset.proofs.Carried.{anchor_is}
+use Rattle.pf_rules.specs.Items.{AnyRule, FilterRule, AnchorRule, Heading, Target, rule_in}
+use Rattle.pf_rules.specs.declared.rule.Rule.{Rule}
+use Rattle.pf_rules.specs.declared.item.AnchorRule as anchored
+use Rattle.pf_rules.specs.declared.item.Item as item
+use Rattle.pf_rules.specs.declared.item.Item.{Item}
+use Rattle.pf_rules.specs.Seen.{heading_of, items_of, rule_of, with_block}
+use Rattle.pf_rules.proofs.Carried.{anchor_is}
 use Rattle.pf_eval.specs.Packets.{PacketValue}
 use Rattle.pf_eval.specs.Matching.{Tables, matches}
 use Rattle.pf_eval.specs.Verdicts.{Spot, no_tables}

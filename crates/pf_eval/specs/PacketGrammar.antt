@@ -4,12 +4,12 @@ use Rattle.std.specs.Prelude.{◌≡◌, ◌≢◌, ℕ, true, List, [], ◌∷�
 use Rattle.std.specs.Prelude.{not}
 use Rattle.std.specs.List.{list_all}
 use Rattle.pf_addr.specs.declared.addr.Addr.{Addr}
-use Rattle.pf_ruleset.specs.declared.parts.Direction.{Direction}
-use Rattle.pf_ruleset.specs.declared.parts.Direction.TheVariants.{In, Out}
-use Rattle.pf_ruleset.specs.Names.{Name}
-use Rattle.pf_words.specs.declared.flags.TcpFlags.{TcpFlags}
-use Rattle.pf_words.specs.declared.profile.Profile.TheVariants.{One}
-use Rattle.pf_words.specs.Words.{is_interface_name, protocol_of, flags_of}
+use Rattle.pf_rules.specs.declared.parts.Direction.{Direction}
+use Rattle.pf_rules.specs.declared.parts.Direction.TheVariants.{In, Out}
+use Rattle.pf_rules.specs.Names.{Name}
+use Rattle.pf_rules.specs.declared.flags.TcpFlags.{TcpFlags}
+use Rattle.pf_rules.specs.declared.profile.Profile.TheVariants.{One}
+use Rattle.pf_rules.specs.Words.{is_interface_name, protocol_of, flags_of}
 use Rattle.pf_eval.specs.Packets.{PacketValue}
 use Rattle.pf_eval.specs.PacketTexts.{Word, is_blank, name_of, address_of, port_number_of, type_number_of, End, agrees}
 use Rattle.pf_eval.specs.PacketTexts.{said_flags}

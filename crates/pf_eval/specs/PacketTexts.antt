@@ -6,11 +6,11 @@ use Rattle.std.specs.Result.{result_ok}
 use Rattle.pf_addr.specs.declared.addr.Addr.{Addr}
 use Rattle.pf_addr.specs.declared.addr.Addr.TheVariants.{V4, V6}
 use Rattle.pf_addr.specs.Spelling.{addr_of}
-use Rattle.pf_ruleset.specs.declared.parts.Direction.{Direction}
-use Rattle.pf_ruleset.specs.declared.parts.Direction.TheVariants.{In, Out}
-use Rattle.pf_words.specs.declared.flags.TcpFlags.{TcpFlags}
-use Rattle.pf_words.specs.declared.profile.Profile.TheVariants.{One}
-use Rattle.pf_words.specs.Words.{is_interface_name, protocol_of, number_of, flags_of, no_flags}
+use Rattle.pf_rules.specs.declared.parts.Direction.{Direction}
+use Rattle.pf_rules.specs.declared.parts.Direction.TheVariants.{In, Out}
+use Rattle.pf_rules.specs.declared.flags.TcpFlags.{TcpFlags}
+use Rattle.pf_rules.specs.declared.profile.Profile.TheVariants.{One}
+use Rattle.pf_rules.specs.Words.{is_interface_name, protocol_of, number_of, flags_of, no_flags}
 use Rattle.pf_eval.specs.Packets.{PacketValue}
 
 -- ---- words

@@ -1,9 +1,9 @@
 -- What a verdict of the code stands for, and how it is shown.
 use Rattle.std.specs.Prelude.{ℕ, List, [], ◌∷◌, ◌++◌, Some, None, codes, decimal}
 use Rattle.std.specs.List.{flat_map}
-use Rattle.pf_ruleset.specs.declared.rule.Action.{Action}
-use Rattle.pf_ruleset.specs.declared.rule.Action.TheVariants as act
-use Rattle.pf_ruleset.specs.Names.{Name}
+use Rattle.pf_rules.specs.declared.rule.Action.{Action}
+use Rattle.pf_rules.specs.declared.rule.Action.TheVariants as act
+use Rattle.pf_rules.specs.Names.{Name}
 use Rattle.pf_eval.specs.declared.answer.Spot as code
 use Rattle.pf_eval.specs.declared.answer.Verdict.{Verdict}
 use Rattle.pf_eval.specs.declared.answer.Verdict.TheVariants as verdict

@@ -4,9 +4,9 @@ use Rattle.std.specs.Prelude.{ℕ, zero, suc, ◌+◌, Bool, true, List, [], ◌
 use Rattle.std.specs.Prelude.{map, length, filter, not, nat_le, if◌then◌else◌}
 use Rattle.std.specs.List.{list_any, flat_map}
 use Rattle.std.specs.Str.{bytes_eq}
-use Rattle.pf_ruleset.specs.declared.rule.Action.{Action}
-use Rattle.pf_ruleset.specs.Names.{Name, begins_below}
-use Rattle.pf_ruleset.specs.Items.{AnyRule, FilterRule, AnchorRule, Target}
+use Rattle.pf_rules.specs.declared.rule.Action.{Action}
+use Rattle.pf_rules.specs.Names.{Name, begins_below}
+use Rattle.pf_rules.specs.Items.{AnyRule, FilterRule, AnchorRule, Target}
 use Rattle.pf_config.specs.Map.{Configuration, Path, rules_at, table_for, kids, followed_by, or_else}
 use Rattle.pf_eval.specs.Packets.{PacketValue, interfaces}
 use Rattle.pf_eval.specs.Matching.{Tables, matches}

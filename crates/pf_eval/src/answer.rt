@@ -1,6 +1,6 @@
 //! What is answered about a packet.
 
-use pf_ruleset::Name;
+use pf_rules::Name;
 
 /// Where the deciding rule stands: the path of its anchor, which has no name where that is the main ruleset, and the
 /// rule's place among the anchor's rules in their expanded order, from 0.

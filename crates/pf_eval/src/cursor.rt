@@ -9,15 +9,15 @@ ghost use Rattle.pf_eval.specs.PacketTexts.{is_blank, begins, word_at, word_afte
 ghost use Rattle.pf_eval.specs.inner.PacketTexts.{is_empty};
 ghost use Rattle.pf_eval.specs.PacketTexts.{direction_of, name_of, address_of, port_number_of, type_number_of};
 ghost use Rattle.pf_eval.specs.PacketTexts.{groups_at, end_at, words};
-ghost use Rattle.pf_words.specs.Words.{protocol_of, flags_of};
+ghost use Rattle.pf_rules.specs.Words.{protocol_of, flags_of};
 ghost use Rattle.pf_eval.specs.declared.fault.PacketFault.TheVariants.{Memory};
 ghost use Rattle.pf_eval.specs.inner.Cursors.{left, end_of, Reads, ReadsAll};
 
 use crate::fault::PacketFault;
 use crate::word::{behind, first_word};
 use pf_addr::{Addr, parse_bytes};
-use pf_ruleset::{Direction, InterfaceName};
-use pf_words::{
+use pf_rules::{Direction, InterfaceName};
+use pf_rules::{
     Profile, TcpFlags, is_reserved, is_same_word, parse_decimal, parse_flags, parse_protocol,
 };
 use std::alloc::Global;
@@ -108,7 +108,7 @@ impl<'t> Cursor<'t> {
     }
 
     /// The name of an interface.
-    #[tactic(auto, unfolding(crate::specs::PacketTexts::value, pf_words::specs::Words::is_interface_name))]
+    #[tactic(auto, unfolding(crate::specs::PacketTexts::value, pf_rules::specs::Words::is_interface_name))]
     fn name(&mut self) -> Option<InterfaceName>
         ensures read { Reads result (left self.new) (value name_of (left self.old)) }
         ensures taken { IsSome result → length (left self.new) < length (left self.old) }

@@ -1,7 +1,7 @@
 //! The verdict for a packet.
 
 ghost use Rattle.std.specs.Prelude.{◌≡◌, [], map};
-ghost use Rattle.pf_ruleset.specs.Seen.{rule_of};
+ghost use Rattle.pf_rules.specs.Seen.{rule_of};
 ghost use Rattle.pf_eval.specs.Verdicts.{Decided, judgement, flat_judgement, is_skipped, hits, last_spot};
 ghost use Rattle.pf_eval.specs.Seen.{judgement_of};
 ghost use Rattle.pf_eval.specs.inner.TwoWalks.{spot_in};
@@ -14,7 +14,7 @@ use crate::packet::Packet;
 use crate::skipping;
 use crate::stops::first_stop;
 use pf_config::Config;
-use pf_ruleset::{Action, InterfaceName, Ruleset};
+use pf_rules::{Action, InterfaceName, Ruleset};
 
 /// How deep rules nest: the main ruleset, and the rules of paths of up to 8 names.
 const NESTED: u8 = 9;

@@ -1,7 +1,7 @@
 //! The two walks over rules that stand alone, without tables and anchors.
 
 ghost use Rattle.std.specs.Prelude.{◌≡◌, ◌≤◌, [], length, map};
-ghost use Rattle.pf_ruleset.specs.Seen.{rule_of};
+ghost use Rattle.pf_rules.specs.Seen.{rule_of};
 ghost use Rattle.pf_eval.specs.Verdicts.{hits_with, last_spot, no_tables, no_hits};
 ghost use Rattle.pf_eval.specs.inner.TwoWalks.{first_rule, last_rule, flat_stop, flat_last, spot_in};
 ghost use Rattle.pf_config.specs.declared.config.TheConstants.{RULES_MAX};
@@ -9,7 +9,7 @@ ghost use Rattle.pf_config.specs.declared.config.TheConstants.{RULES_MAX};
 use crate::hit::{Hit, other_hit, quick_hit};
 use crate::packet::Packet;
 use crate::scope::nowhere;
-use pf_ruleset::Item;
+use pf_rules::Item;
 
 /// The hit of a quick filter rule.
 #[inline(always)]

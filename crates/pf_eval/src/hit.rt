@@ -7,7 +7,7 @@ ghost use Rattle.pf_eval.specs.inner.TwoWalks.{rule_spot, quick_spot, other_spot
 use crate::matching::matches;
 use crate::packet::Packet;
 use crate::scope::Scope;
-use pf_ruleset::{Action, Name, Rule};
+use pf_rules::{Action, Name, Rule};
 
 /// A filter rule that matches: its place, and what it does.
 #[derive(Clone, Copy)]

@@ -1,7 +1,7 @@
 //! What a packet is asked for by the sieves of rules.
 
 use pf_addr::Addr;
-use pf_ruleset::Direction;
+use pf_rules::Direction;
 
 /// What few compares ask of a packet, made once for all rules of a walk.
 #[derive(Clone, Copy)]

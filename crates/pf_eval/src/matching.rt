@@ -9,10 +9,10 @@ ghost use Rattle.pf_eval.specs.Matching.{if_set, if_there};
 use crate::packet::Packet;
 use crate::scope::Scope;
 use pf_addr::{Addr, Family};
-use pf_ruleset::{
+use pf_rules::{
     Addresses, Conditions, Direction, FlagTest, Host, Interface, PortTest, TableName,
 };
-use pf_words::TcpFlags;
+use pf_rules::TcpFlags;
 
 /// Whether each condition holds of the packet; those are asked first that cost least.
 #[tactic(auto, unfolding(crate::specs::Matching::matches))]

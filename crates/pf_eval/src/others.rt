@@ -1,8 +1,8 @@
 //! The second walk, from the back: the last hit of the rules that aren't quick.
 
 ghost use Rattle.std.specs.Prelude.{◌≡◌, slice_get};
-ghost use Rattle.pf_ruleset.specs.Items.{AnchorRule};
-ghost use Rattle.pf_ruleset.specs.Seen.{heading_of, rule_of};
+ghost use Rattle.pf_rules.specs.Items.{AnchorRule};
+ghost use Rattle.pf_rules.specs.Seen.{heading_of, rule_of};
 ghost use Rattle.pf_config.specs.Map.{rules_at};
 ghost use Rattle.pf_config.specs.Trees.{paths_of, shared};
 ghost use Rattle.pf_eval.specs.inner.TwoWalks.{shallow, in_member, called_last, candidate_spot};
@@ -15,7 +15,7 @@ use crate::packet::Packet;
 use crate::scope::scope_at;
 use crate::sieving::{key_of, next_passing};
 use pf_config::{Anchor, CandidateList, Config};
-use pf_ruleset::{AnchorHeading, Item};
+use pf_rules::{AnchorHeading, Item};
 use std::rc::Rc;
 
 /// How deep a path may be.

@@ -11,8 +11,8 @@ use crate::fault::PacketFault;
 use crate::packet::{Packet, stem};
 use crate::word::has_outer_blank;
 use pf_addr::Addr;
-use pf_ruleset::InterfaceName;
-use pf_words::TcpFlags;
+use pf_rules::InterfaceName;
+use pf_rules::TcpFlags;
 use std::alloc::Global;
 
 /// How many groups a packet's interface is in at most.

@@ -5,7 +5,7 @@ ghost use Rattle.pf_eval.specs.inner.Seen.{tables_of};
 ghost use Rattle.pf_eval.specs.Verdicts.{no_tables, tables_in};
 
 use pf_config::Config;
-use pf_ruleset::Name;
+use pf_rules::Name;
 
 /// The anchor whose rules are evaluated, and the configuration that has its tables; without one there is no table.
 #[derive(Clone, Copy)]

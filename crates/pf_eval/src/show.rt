@@ -4,7 +4,7 @@ ghost use Rattle.std.specs.Prelude.{◌≡◌, IfOk, Some, string_bytes};
 ghost use Rattle.pf_eval.specs.Seen.{judgement_of, path_text, shown_spot, spot_of, verdict_text};
 
 use crate::answer::{Spot, Verdict};
-use pf_ruleset::Name;
+use pf_rules::Name;
 use std::alloc::{AllocError, Global};
 use std::fmt;
 
@@ -49,7 +49,7 @@ impl fmt::Display for PathText<'_> {
 struct Place<'a>(Spot<'a>);
 
 impl fmt::Display for Place<'_> {
-    ghost use Rattle.pf_ruleset.specs.declared.rule.Action.TheVariants.{Pass};
+    ghost use Rattle.pf_rules.specs.declared.rule.Action.TheVariants.{Pass};
 
     ghost output = { λ p. Some (shown_spot (spot_of Pass p.0)) };
 

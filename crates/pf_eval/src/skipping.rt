@@ -7,7 +7,7 @@ ghost use Rattle.pf_eval.specs.Verdicts.{is_skipped};
 
 use crate::packet::Packet;
 use pf_config::Config;
-use pf_ruleset::InterfaceName;
+use pf_rules::InterfaceName;
 
 /// Whether one of the names is one of a skipped interface.
 fn any_skipped(config: &Config, names: &[InterfaceName]) -> bool

@@ -1,8 +1,8 @@
 //! The first walk: the first hit that ends the evaluation. It goes over the quick filter rules and the anchor rules.
 
 ghost use Rattle.std.specs.Prelude.{◌≡◌, slice_get};
-ghost use Rattle.pf_ruleset.specs.Items.{AnchorRule};
-ghost use Rattle.pf_ruleset.specs.Seen.{heading_of, rule_of};
+ghost use Rattle.pf_rules.specs.Items.{AnchorRule};
+ghost use Rattle.pf_rules.specs.Seen.{heading_of, rule_of};
 ghost use Rattle.pf_config.specs.Map.{anchor_at, rules_at, rules_in};
 ghost use Rattle.pf_config.specs.Orders.{stops_of};
 ghost use Rattle.pf_config.specs.Trees.{paths_of, shared};
@@ -17,7 +17,7 @@ use crate::packet::Packet;
 use crate::scope::scope_at;
 use crate::sieving::{key_of, next_passing};
 use pf_config::{Anchor, CandidateList, Config};
-use pf_ruleset::{AnchorHeading, Item};
+use pf_rules::{AnchorHeading, Item};
 use std::rc::Rc;
 
 /// The first hit in an anchor that ends the evaluation, where anchor rules nest less deep than this.

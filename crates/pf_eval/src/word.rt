@@ -6,7 +6,7 @@ ghost use Rattle.std.specs.List.{list_all};
 ghost use Rattle.pf_eval.specs.inner.Cursors.{cut_words, begins_plain};
 ghost use Rattle.pf_eval.specs.PacketTexts.{begins, is_blank, ended, has_outer_blank, words};
 
-use pf_words::is_same_word;
+use pf_rules::is_same_word;
 use std::alloc::{AllocError, Global};
 
 /// Whether the byte is a space or a tab.

@@ -1,8 +1,8 @@
 -- Numbers of rules, of which no more than 1,025 are told apart.
 use Rattle.std.proofs.Common.{◌≡◌, ℕ, suc, ◌-◌, ◌^◌, ◌==◌, ◌&&◌, Bool, true, false, not, cond, List, [], ◌∷◌, length, min, refl, sym, arith}
 use Rattle.std.proofs.lemmas.Bool.Decides.{nat_tests}
-use Rattle.pf_ruleset.specs.declared.parts.FlagTest.{FlagTest}
-use Rattle.pf_conditions.specs.Conditions.{ConditionsText}
+use Rattle.pf_rules.specs.declared.parts.FlagTest.{FlagTest}
+use Rattle.pf_statements.specs.Conditions.{ConditionsText}
 use Rattle.pf_expansion.specs.Causes.{is_empty, is_too_wide, has_no_combination}
 use Rattle.pf_expansion.specs.Expansion.{combined}
 use Rattle.pf_expansion.specs.Blocks.{rule_count}

@@ -1,10 +1,10 @@
 -- As many rules as there are conditions.
 use Rattle.std.proofs.Common.{◌≡◌, ◌+◌, ◌≤◌, ◌++◌, ◌∷◌, [], ℕ, List, length, map, ap, arith}
 use Rattle.std.proofs.lemmas.List.{length-map, map-append}
-use Rattle.pf_ruleset.specs.declared.item.AnchorHeading.{AnchorHeading}
-use Rattle.pf_ruleset.specs.declared.rule.Conditions.{Conditions}
-use Rattle.pf_ruleset.specs.Items.{Heading}
-use Rattle.pf_ruleset.specs.Seen.{heading_of}
+use Rattle.pf_rules.specs.declared.item.AnchorHeading.{AnchorHeading}
+use Rattle.pf_rules.specs.declared.rule.Conditions.{Conditions}
+use Rattle.pf_rules.specs.Items.{Heading}
+use Rattle.pf_rules.specs.Seen.{heading_of}
 
 pub as_many : {X Y : Type 0} (f : X → Y) (xs : List X) (before : ℕ) → before + length xs ≤ 1024 → before + length (map f xs) ≤ 1024
 as_many f xs before h = omega (arith, h, length-map xs f)

@@ -3,10 +3,10 @@ use Rattle.std.proofs.Common.{◌≡◌, List, [], ◌∷◌, Option, Some, None
 use Rattle.std.specs.List.{flat_map}
 use Rattle.pf_addr.specs.declared.addr.Family.{Family}
 use Rattle.pf_addr.specs.declared.addr.Family.TheVariants.{Inet, Inet6}
-use Rattle.pf_ruleset.specs.declared.parts.FlagTest.{FlagTest}
-use Rattle.pf_ruleset.specs.declared.rule.Conditions.{Conditions}
-use Rattle.pf_conditions.specs.declared.written.WrittenType.{WrittenType}
-use Rattle.pf_conditions.specs.Conditions.{ConditionsText}
+use Rattle.pf_rules.specs.declared.parts.FlagTest.{FlagTest}
+use Rattle.pf_rules.specs.declared.rule.Conditions.{Conditions}
+use Rattle.pf_statements.specs.declared.conditions.WrittenType.{WrittenType}
+use Rattle.pf_statements.specs.Conditions.{ConditionsText}
 use Rattle.pf_expansion.specs.Expansion.{Combination, with_family, occurring, host_family, conditions_if, conditions_at, choices, by_type, by_destination_port}
 use Rattle.pf_expansion.specs.inner.Chosen.{host_families}
 

@@ -6,8 +6,8 @@ use Rattle.std.specs.List.{AllByRecursion, list_all}
 use Rattle.std.proofs.lemmas.Bool.Decides.{nat_tests}
 use Rattle.std.proofs.lemmas.Fmt.{digits_decimal, length-decimal-le}
 use Rattle.std.proofs.lemmas.Str.Parse.{IsNumeralModel, numerals_by_fold, IsDigitsTest, FoldsDigits}
-use Rattle.pf_words.specs.Words.{decimal_value, is_anchor_byte, is_anchor_text}
-use Rattle.pf_ruleset.specs.Names.{Name, name_if}
+use Rattle.pf_rules.specs.Words.{decimal_value, is_anchor_byte, is_anchor_text}
+use Rattle.pf_rules.specs.Names.{Name, name_if}
 use Rattle.pf_expansion.specs.Anchors.{given_name}
 
 abbrev IsDigit : ℕ → Type 0

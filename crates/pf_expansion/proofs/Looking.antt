@@ -9,7 +9,7 @@ use Rattle.std.proofs.lemmas.Bool.{false≢true}
 use Rattle.std.proofs.lemmas.Cmp.{nat_eq_equiv}
 use Rattle.std.proofs.lemmas.List.{map-append, append-nil}
 use Rattle.std.proofs.lemmas.List.Folds.{list_any-append}
-use Rattle.pf_ruleset.specs.Items.{ItemValue, ItemValues, Filters, Anchors, Blocks, no_items, one_more}
+use Rattle.pf_rules.specs.Items.{ItemValue, ItemValues, Filters, Anchors, Blocks, no_items, one_more}
 use Rattle.pf_expansion.specs.Blocks.{Path, paths_in, paths_within}
 use Rattle.pf_expansion.specs.inner.Numbers.{Steps, walk, is_in, is_marked, has_again}
 use Rattle.pf_expansion.proofs.Stepping.{is_eq_nat}

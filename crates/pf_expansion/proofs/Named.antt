@@ -11,7 +11,7 @@ use Rattle.std.proofs.lemmas.Cmp.{eq_by_cmp_equiv, nat_list_cmp_total, nat_list_
 use Rattle.std.proofs.lemmas.List.Folds.{list_any-append}
 use Rattle.std.proofs.lemmas.Map.Text.{is_eq-slice_cmp}
 use Rattle.std.proofs.lemmas.Slice.Eq.{bytes_eq-Decides}
-use Rattle.pf_ruleset.specs.Rulesets.{TableValue}
+use Rattle.pf_rules.specs.Rulesets.{TableValue}
 use Rattle.pf_expansion.specs.Tables.{is_defined}
 use Rattle.pf_expansion.specs.inner.Tables.{AreNames}
 

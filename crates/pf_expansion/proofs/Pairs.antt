@@ -7,11 +7,11 @@ use Rattle.std.proofs.lemmas.List.{length-map}
 use Rattle.std.proofs.lemmas.Bool.{cases_lt, lt-ltb}
 use Rattle.pf_addr.specs.declared.addr.Family.{Family}
 use Rattle.pf_tokens.specs.Lists.{Elements}
-use Rattle.pf_ruleset.specs.declared.parts.FlagTest.{FlagTest}
-use Rattle.pf_ruleset.specs.declared.parts.Host.{Host}
-use Rattle.pf_ruleset.specs.declared.rule.Conditions.{Conditions}
-use Rattle.pf_conditions.specs.declared.written.WrittenType.{WrittenType}
-use Rattle.pf_conditions.specs.Conditions.{ConditionsText}
+use Rattle.pf_rules.specs.declared.parts.FlagTest.{FlagTest}
+use Rattle.pf_rules.specs.declared.parts.Host.{Host}
+use Rattle.pf_rules.specs.declared.rule.Conditions.{Conditions}
+use Rattle.pf_statements.specs.declared.conditions.WrittenType.{WrittenType}
+use Rattle.pf_statements.specs.Conditions.{ConditionsText}
 use Rattle.pf_expansion.specs.Causes.{is_too_wide}
 use Rattle.pf_expansion.specs.Expansion.{Combination, families, occurring, host_family, conditions_if, conditions_at, choices, by_type, by_destination_port, by_destination, by_source_port, by_source, by_protocol, by_interface, nothing_chosen, combined, count_of, combinations}
 use Rattle.pf_expansion.specs.inner.Counts.{listed_family, is_of_one, count_hosts, pairs_from, all_of}

@@ -15,7 +15,7 @@ use Rattle.std.proofs.lemmas.Bool.Decides.{nat_tests, Decides-eqb}
 use Rattle.std.proofs.lemmas.Cmp.{eq_by_cmp_equiv, nat_cmp_total, nat_list_cmp_total, then_total, on_total}
 use Rattle.std.proofs.lemmas.Map.Text.{is_eq-slice_cmp}
 use Rattle.std.proofs.lemmas.Slice.Eq.{bytes_eq-Decides}
-use Rattle.pf_ruleset.specs.Names.{Name}
+use Rattle.pf_rules.specs.Names.{Name}
 use Rattle.pf_expansion.specs.inner.Numbers.{Steps, step_from, is_within, AreWithin, AreApart, Grows}
 
 -- ---- keys

@@ -8,8 +8,8 @@ use Rattle.std.specs.BTreeSet.{BTreeSet, contains}
 use Rattle.std.proofs.lemmas.Bool.{false≢true, and_parts, and_from, false_from_ne_true}
 use Rattle.std.proofs.lemmas.Bool.Decides.{Decides-eqb}
 use Rattle.std.proofs.lemmas.Slice.Eq.{bytes_eq-Decides}
-use Rattle.pf_ruleset.specs.Names.{Name}
-use Rattle.pf_ruleset.specs.Items.{ItemValue, values_of}
+use Rattle.pf_rules.specs.Names.{Name}
+use Rattle.pf_rules.specs.Items.{ItemValue, values_of}
 use Rattle.pf_statements.specs.Statements.{ItemText}
 use Rattle.pf_expansion.specs.Blocks.{Path, item_paths, paths_within, same_path, any_among, comes_again, is_twice, unnamed_in}
 use Rattle.pf_expansion.specs.inner.Numbers.{Steps, step_from, next_of, walk, number_of, is_within, AreWithin, AreApart, is_in, is_marked, has_again, AreNumbered}

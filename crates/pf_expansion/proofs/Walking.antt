@@ -3,7 +3,7 @@ use Rattle.std.proofs.Common.{◌≡◌, ℕ, ◌+◌, ◌<◌, [], ◌∷◌, �
 use Rattle.std.proofs.Math.Seq.{take-suc}
 use Rattle.std.proofs.lemmas.List.Sums.{fold-append}
 use Rattle.pf_expansion.proofs.Stepping.{not_none}
-use Rattle.pf_ruleset.specs.Names.{Name}
+use Rattle.pf_rules.specs.Names.{Name}
 use Rattle.pf_expansion.specs.Blocks.{Path}
 use Rattle.pf_expansion.specs.inner.Numbers.{Steps, step_from, next_of, walk, Grows}
 

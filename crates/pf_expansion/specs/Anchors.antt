@@ -2,11 +2,11 @@
 use Rattle.std.specs.Prelude.{ℕ, ◌&&◌, Bool, false, not, List, [], ◌∷◌, map, drop, Option, Some, None, nat_le, bytes_eq}
 use Rattle.std.specs.List.{list_any}
 use Rattle.std.specs.Fmt.{decimal}
-use Rattle.pf_words.specs.Words.{number_of}
-use Rattle.pf_ruleset.specs.Names.{Name, begins_below}
-use Rattle.pf_ruleset.specs.Items.{Target, Heading}
-use Rattle.pf_ruleset.specs.declared.parts.FlagTest.{FlagTest}
-use Rattle.pf_ruleset.specs.declared.rule.Conditions.{Conditions}
+use Rattle.pf_rules.specs.Words.{number_of}
+use Rattle.pf_rules.specs.Names.{Name, begins_below}
+use Rattle.pf_rules.specs.Items.{Target, Heading}
+use Rattle.pf_rules.specs.declared.parts.FlagTest.{FlagTest}
+use Rattle.pf_rules.specs.declared.rule.Conditions.{Conditions}
 use Rattle.pf_statements.specs.Anchors.{AnchorText}
 use Rattle.pf_expansion.specs.declared.cause.Cause.{Cause}
 use Rattle.pf_expansion.specs.Expansion.{tested_flags, combined}

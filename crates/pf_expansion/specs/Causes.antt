@@ -6,12 +6,12 @@ use Rattle.pf_tokens.specs.Lists.{Elements}
 use Rattle.pf_expansion.specs.declared.cause.Cause.{Cause}
 use Rattle.pf_expansion.specs.declared.cause.Cause.TheVariants.{Lexical, Macro, Syntax, Ports, NoCombination, Reserved}
 use Rattle.pf_expansion.specs.declared.cause.Cause.TheVariants.{Twice, SetHere, TooMany, IcmpType}
-use Rattle.pf_conditions.specs.declared.written.Protocol.{Protocol}
-use Rattle.pf_conditions.specs.declared.written.WrittenPort.{WrittenPort}
-use Rattle.pf_conditions.specs.declared.written.WrittenType.{WrittenType}
+use Rattle.pf_statements.specs.declared.conditions.Protocol.{Protocol}
+use Rattle.pf_statements.specs.declared.conditions.WrittenPort.{WrittenPort}
+use Rattle.pf_statements.specs.declared.conditions.WrittenType.{WrittenType}
 use Rattle.pf_statements.specs.Statements.{RuleText}
-use Rattle.pf_conditions.specs.Conditions.{ConditionsText}
-use Rattle.pf_ruleset.specs.declared.parts.FlagTest.{FlagTest}
+use Rattle.pf_statements.specs.Conditions.{ConditionsText}
+use Rattle.pf_rules.specs.declared.parts.FlagTest.{FlagTest}
 use Rattle.pf_expansion.specs.Expansion.{combined, combinations, rule_flags}
 
 -- the numbers by which the causes are shown

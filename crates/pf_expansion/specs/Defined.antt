@@ -1,6 +1,6 @@
 -- The tables that a text has defined so far.
 use Rattle.std.specs.Prelude.{List, map}
-use Rattle.pf_ruleset.specs.Rulesets.{TableValue, table_of}
+use Rattle.pf_rules.specs.Rulesets.{TableValue, table_of}
 use Rattle.pf_expansion.specs.declared.defined_tables.DefinedTables.{DefinedTables}
 
 -- the tables that a text has defined so far, in the order of their definitions

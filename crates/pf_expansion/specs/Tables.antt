@@ -6,9 +6,9 @@ use Rattle.std.specs.Str.{bytes_eq}
 use Rattle.std.specs.Ordering.{is_eq}
 use Rattle.pf_addr.specs.Order.{prefix_cmp}
 use Rattle.pf_tokens.specs.Lists.{Elements}
-use Rattle.pf_ruleset.specs.Names.{Name}
-use Rattle.pf_ruleset.specs.Rulesets.{TableValue}
-use Rattle.pf_ruleset.specs.declared.ruleset.TableEntry.{TableEntry}
+use Rattle.pf_rules.specs.Names.{Name}
+use Rattle.pf_rules.specs.Rulesets.{TableValue}
+use Rattle.pf_rules.specs.declared.ruleset.TableEntry.{TableEntry}
 use Rattle.pf_statements.specs.Tables.{TableText}
 use Rattle.pf_expansion.specs.declared.cause.Cause.{Cause}
 use Rattle.pf_expansion.specs.declared.cause.Cause.TheVariants.{Twice, TooMany}

@@ -2,8 +2,8 @@
 
 ghost use Rattle.std.specs.Prelude.{◌≡◌, ◌+◌, ◌≤◌, map, length, IfOk, IfErr, None, Some};
 ghost use Rattle.std.specs.List.{list_any};
-ghost use Rattle.pf_ruleset.specs.Names.{begins_below};
-ghost use Rattle.pf_ruleset.specs.Seen.{heading_of, target_of};
+ghost use Rattle.pf_rules.specs.Names.{begins_below};
+ghost use Rattle.pf_rules.specs.Seen.{heading_of, target_of};
 ghost use Rattle.pf_statements.specs.Seen.{anchor_text_of};
 ghost use Rattle.pf_expansion.specs.Anchors.{heading_from, headings, is_reserved, anchor_causes};
 ghost use Rattle.pf_expansion.specs.Causes.{lowest};
@@ -13,7 +13,7 @@ use crate::block_names::is_misnamed;
 use crate::cause::Cause;
 use crate::judge::judge_conditions;
 use crate::rules::tested_flags;
-use pf_ruleset::{AnchorHeading, Conditions, Name, Target};
+use pf_rules::{AnchorHeading, Conditions, Name, Target};
 use pf_statements::WrittenAnchor;
 use std::alloc::{AllocError, Global};
 

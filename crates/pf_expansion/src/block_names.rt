@@ -1,7 +1,7 @@
 //! The names that unnamed blocks are given, and which rules may use them.
 
 ghost use Rattle.std.specs.Prelude.{◌≡◌, ◌<◌, ◌^◌, IfOk, option_map};
-ghost use Rattle.pf_ruleset.specs.Seen.{item_of, items_of, target_of};
+ghost use Rattle.pf_rules.specs.Seen.{item_of, items_of, target_of};
 ghost use Rattle.pf_statements.specs.Seen.{item_text_of, item_texts_of};
 ghost use Rattle.pf_expansion.specs.Anchors.{given_name, is_given, is_given_alone, is_misnamed};
 ghost use Rattle.pf_expansion.specs.Blocks.{block_misnamed, given_target, is_reserved_name, is_unnamed};
@@ -9,9 +9,9 @@ ghost use Rattle.pf_expansion.specs.Blocks.{item_misnamed, next_unnamed, target_
 ghost use Rattle.pf_expansion.specs.Blocks.{unnamed_in, unnamed_with};
 
 use crate::anchors::is_reserved;
-use pf_ruleset::{Item, Name, Target};
+use pf_rules::{Item, Name, Target};
 use pf_statements::WrittenItem;
-use pf_words::parse_decimal;
+use pf_rules::parse_decimal;
 use std::alloc::{AllocError, Global};
 
 /// The most unnamed blocks that are distinguished: a statement has no more tokens.

@@ -4,15 +4,15 @@ ghost use Rattle.std.specs.Prelude.{◌≡◌, ◌++◌, ◌∷◌, [], ℕ, Som
 ghost use Rattle.std.specs.List.{list_any};
 ghost use Rattle.std.specs.Ordering.{nat_cmp};
 ghost use Rattle.std.specs.BTreeSet.{contains};
-ghost use Rattle.pf_ruleset.specs.Items.{values_of};
-ghost use Rattle.pf_ruleset.specs.Seen.{item_of, items_of};
+ghost use Rattle.pf_rules.specs.Items.{values_of};
+ghost use Rattle.pf_rules.specs.Seen.{item_of, items_of};
 ghost use Rattle.pf_statements.specs.Seen.{item_text_of, item_texts_of};
 ghost use Rattle.pf_expansion.specs.Blocks.{Path, block_paths, is_twice, item_paths, paths_in, paths_within};
 ghost use Rattle.pf_expansion.specs.inner.Numbers.{AreNumbered, has_again, is_marked};
 
 use crate::block_names::{target_or_given, unnamed_after, unnamed_in};
 use crate::numbers::Numbers;
-use pf_ruleset::{AnchorHeading, Item};
+use pf_rules::{AnchorHeading, Item};
 use pf_statements::WrittenItem;
 use std::alloc::{AllocError, Global};
 use std::collections::BTreeSet;

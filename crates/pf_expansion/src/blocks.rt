@@ -1,9 +1,9 @@
 //! What anchor rules with blocks give, and why one is refused.
 
 ghost use Rattle.std.specs.Prelude.{◌≡◌, ◌++◌, map, IfErr, IfOk, None, OnOk, Some};
-ghost use Rattle.pf_ruleset.specs.declared.rule.Rule.{Rule as IRule};
-ghost use Rattle.pf_ruleset.specs.Items.{Anchors, Filters, Heading as IHeading, values_of};
-ghost use Rattle.pf_ruleset.specs.Seen.{heading_of, item_of, items_of};
+ghost use Rattle.pf_rules.specs.declared.rule.Rule.{Rule as IRule};
+ghost use Rattle.pf_rules.specs.Items.{Anchors, Filters, Heading as IHeading, values_of};
+ghost use Rattle.pf_rules.specs.Seen.{heading_of, item_of, items_of};
 ghost use Rattle.pf_statements.specs.Seen.{anchor_text_of, heading_text_of, item_text_of, item_texts_of, text_of};
 ghost use Rattle.pf_expansion.specs.Anchors.{headings};
 ghost use Rattle.pf_expansion.specs.Blocks.{block_causes, block_values, carried, item_values, named, unnamed_in};
@@ -17,7 +17,7 @@ use crate::cause::Cause;
 use crate::expand::combined;
 use crate::judged::item_judged;
 use crate::rules::{rule_flags, rules_with, tested_flags};
-use pf_ruleset::{AnchorHeading, Item, Policy, Rule};
+use pf_rules::{AnchorHeading, Item, Policy, Rule};
 use pf_statements::{WrittenAnchor, WrittenHeading, WrittenItem, WrittenRule};
 use std::alloc::{AllocError, Global};
 

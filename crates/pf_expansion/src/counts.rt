@@ -1,16 +1,16 @@
 //! How many conditions the lists of a rule give, counted without making them.
 
 ghost use Rattle.std.specs.Prelude.{◌≡◌, ◌^◌, ◌-◌, false, length, min};
-ghost use Rattle.pf_ruleset.specs.declared.parts.FlagTest.{FlagTest};
-ghost use Rattle.pf_conditions.specs.Seen.{conditions_of, list_of};
+ghost use Rattle.pf_rules.specs.declared.parts.FlagTest.{FlagTest};
+ghost use Rattle.pf_statements.specs.ConditionsSeen.{conditions_of, list_of};
 ghost use Rattle.pf_expansion.specs.Causes.{is_too_wide};
 ghost use Rattle.pf_expansion.specs.Expansion.{combined, count_of};
 ghost use Rattle.pf_expansion.specs.inner.Counts.{is_of_one, count_hosts, pairs_from, all_of};
 
 use crate::expand::{host_family, with_family};
 use pf_addr::Family;
-use pf_conditions::WrittenConditions;
-use pf_ruleset::Host;
+use pf_statements::WrittenConditions;
+use pf_rules::Host;
 use pf_tokens::Listed;
 
 /// How many elements are to be combined: one where there is no list.

@@ -1,10 +1,10 @@
 //! The tables that a text has defined so far.
 
 ghost use Rattle.std.specs.Prelude.{map};
-ghost use Rattle.pf_ruleset.specs.Rulesets.{table_of};
+ghost use Rattle.pf_rules.specs.Rulesets.{table_of};
 ghost use Rattle.pf_expansion.specs.inner.Tables.{AreNames};
 
-use pf_ruleset::{TableDef, TableName};
+use pf_rules::{TableDef, TableName};
 use std::alloc::{AllocError, Global};
 use std::collections::BTreeSet;
 
@@ -18,7 +18,7 @@ pub struct DefinedTables {
 
 impl DefinedTables {
     ghost use Rattle.std.specs.Prelude.{◌≡◌, ◌++◌, ◌∷◌, [], map, OnOk};
-    ghost use Rattle.pf_ruleset.specs.Rulesets.{table_of};
+    ghost use Rattle.pf_rules.specs.Rulesets.{table_of};
     ghost use Rattle.pf_expansion.specs.Tables.{is_defined};
     ghost use Rattle.pf_expansion.specs.Defined.{tables_of};
 

@@ -7,11 +7,11 @@ ghost use Rattle.pf_expansion.specs.Expansion.{addresses_family, host_family, ty
 ghost use Rattle.pf_expansion.specs.Expansion.{families, number_in, test_in, type_in, conditions_with, conditions_at};
 ghost use Rattle.pf_expansion.specs.Expansion.{by_type, by_destination_port, by_destination, by_source_port, by_source};
 ghost use Rattle.pf_expansion.specs.Expansion.{by_protocol, by_interface, combined};
-ghost use Rattle.pf_conditions.specs.Seen.{conditions_of};
+ghost use Rattle.pf_statements.specs.ConditionsSeen.{conditions_of};
 
 use pf_addr::Family;
-use pf_conditions::{Protocol, WrittenConditions, WrittenPort, WrittenType};
-use pf_ruleset::{Addresses, Conditions, FlagTest, Host, Interface, PortTest};
+use pf_statements::{Protocol, WrittenConditions, WrittenPort, WrittenType};
+use pf_rules::{Addresses, Conditions, FlagTest, Host, Interface, PortTest};
 use std::alloc::{AllocError, Global};
 
 /// What is chosen from each list.

@@ -7,15 +7,15 @@ ghost use Rattle.pf_expansion.specs.Causes.{is_bad_port, has_ports, is_bad_type,
 ghost use Rattle.pf_expansion.specs.Causes.{is_deep, is_deep_list, says_ports, bad_ports, is_too_wide, has_deep_list};
 ghost use Rattle.pf_expansion.specs.Causes.{bad_types, lowest, condition_causes};
 ghost use Rattle.pf_expansion.specs.Expansion.{combinations, combined};
-ghost use Rattle.pf_conditions.specs.Seen.{list_of, conditions_of};
+ghost use Rattle.pf_statements.specs.ConditionsSeen.{list_of, conditions_of};
 ghost use Rattle.pf_tokens.specs.Lists.{elements_of};
 ghost use Rattle.pf_expansion.specs.declared.judge.TheConstants.{MOST_RULES};
 
 use crate::cause::Cause;
 use crate::counts::{count_combined, count_of};
 use crate::expand::combined;
-use pf_conditions::{Protocol, WrittenConditions, WrittenPort, WrittenType};
-use pf_ruleset::{Conditions, FlagTest};
+use pf_statements::{Protocol, WrittenConditions, WrittenPort, WrittenType};
+use pf_rules::{Conditions, FlagTest};
 use pf_tokens::Listed;
 use std::alloc::{AllocError, Global};
 

@@ -1,15 +1,15 @@
 //! What is wrong with rules, at every depth of their blocks.
 
 ghost use Rattle.std.specs.Prelude.{◌≡◌};
-ghost use Rattle.pf_ruleset.specs.declared.parts.FlagTest.{FlagTest};
-ghost use Rattle.pf_conditions.specs.Seen.{conditions_of};
+ghost use Rattle.pf_rules.specs.declared.parts.FlagTest.{FlagTest};
+ghost use Rattle.pf_statements.specs.ConditionsSeen.{conditions_of};
 ghost use Rattle.pf_statements.specs.Seen.{item_text_of, item_texts_of};
 ghost use Rattle.pf_expansion.specs.Blocks.{both, conditions_judged, item_judged, block_judged, nothing_wrong};
 ghost use Rattle.pf_expansion.specs.Blocks.{rule_count, ruleset_judged};
 
 use crate::counts::count_combined;
 use crate::judge::{bad_ports, bad_types, has_deep_list, is_too_wide};
-use pf_conditions::WrittenConditions;
+use pf_statements::WrittenConditions;
 use pf_statements::WrittenItem;
 
 /// One rule more than a ruleset may have.

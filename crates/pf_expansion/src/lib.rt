@@ -2,7 +2,7 @@
 //!
 //! # Organization
 //!
-//! - [`judge_rule`]: one [`Rule`](pf_ruleset::Rule) for each combination of what a rule lists, or the lowest [`Cause`]
+//! - [`judge_rule`]: one [`Rule`](pf_rules::Rule) for each combination of what a rule lists, or the lowest [`Cause`]
 //!   that refuses it.
 //! - [`judge_anchor`]: the same of an anchor rule.
 //! - [`judge_block`]: the same of an anchor rule with a block.

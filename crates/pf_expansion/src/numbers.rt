@@ -2,7 +2,7 @@
 
 ghost use Rattle.pf_expansion.specs.inner.Numbers.{AreApart, AreWithin};
 
-use pf_ruleset::Name;
+use pf_rules::Name;
 use std::alloc::{AllocError, Global};
 use std::collections::BTreeMap;
 

@@ -1,7 +1,7 @@
 //! Tables that a text defines.
 
 ghost use Rattle.std.specs.Prelude.{◌≡◌, option_map, IfOk, IfErr, OnOk, None, Some};
-ghost use Rattle.pf_ruleset.specs.Rulesets.{table_of};
+ghost use Rattle.pf_rules.specs.Rulesets.{table_of};
 ghost use Rattle.pf_statements.specs.Seen.{table_text_of};
 ghost use Rattle.pf_expansion.specs.Causes.{lowest};
 ghost use Rattle.pf_expansion.specs.Defined.{tables_of};
@@ -12,7 +12,7 @@ use crate::cause::Cause;
 use crate::defined_tables::DefinedTables;
 use crate::judge::is_deep;
 use pf_addr::{Addr, Prefix};
-use pf_ruleset::{TableDef, TableEntry};
+use pf_rules::{TableDef, TableEntry};
 use pf_statements::WrittenTable;
 use std::alloc::{AllocError, Global};
 use std::collections::BTreeSet;

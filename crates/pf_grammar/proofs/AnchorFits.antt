@@ -3,20 +3,20 @@ use Rattle.std.proofs.Common.{◌≡◌, ℕ, ◌≤◌, ◌&&◌, Bool, true, f
 use Rattle.std.specs.List.{AllByRecursion}
 use Rattle.pf_addr.specs.Spelling.{pieces}
 use Rattle.pf_addr.specs.declared.addr.Family.{Family}
-use Rattle.pf_words.specs.declared.profile.Profile.{Profile}
-use Rattle.pf_words.specs.Words.{is_anchor_text}
+use Rattle.pf_rules.specs.declared.profile.Profile.{Profile}
+use Rattle.pf_rules.specs.Words.{is_anchor_text}
 use Rattle.pf_tokens.specs.Tokens.{Token}
 use Rattle.pf_tokens.specs.Lists.{Elements}
 use Rattle.pf_tokens.specs.inner.Shorter.{bind_some, some_is}
-use Rattle.pf_ruleset.specs.Names.{Name, name_if}
-use Rattle.pf_ruleset.specs.Items.{Target}
-use Rattle.pf_ruleset.specs.declared.parts.FlagTest.{FlagTest}
-use Rattle.pf_ruleset.specs.declared.rule.Conditions.{Conditions}
-use Rattle.pf_conditions.specs.declared.written.Protocol.{Protocol}
-use Rattle.pf_conditions.specs.declared.written.WrittenType.{WrittenType}
-use Rattle.pf_conditions.specs.Conditions.{ConditionsText}
-use Rattle.pf_conditions.specs.Targets.{is_star, in_front, names_of, target_with, target_of}
-use Rattle.pf_conditions.proofs.PiecesSpelled.{if_so_is}
+use Rattle.pf_rules.specs.Names.{Name, name_if}
+use Rattle.pf_rules.specs.Items.{Target}
+use Rattle.pf_rules.specs.declared.parts.FlagTest.{FlagTest}
+use Rattle.pf_rules.specs.declared.rule.Conditions.{Conditions}
+use Rattle.pf_statements.specs.declared.conditions.Protocol.{Protocol}
+use Rattle.pf_statements.specs.declared.conditions.WrittenType.{WrittenType}
+use Rattle.pf_statements.specs.Conditions.{ConditionsText}
+use Rattle.pf_statements.specs.Targets.{is_star, in_front, names_of, target_with, target_of}
+use Rattle.pf_statements.proofs.PiecesSpelled.{if_so_is}
 use Rattle.pf_statements.specs.Anchors.{AnchorText, HeadingText, anchor_with}
 use Rattle.pf_statements.proofs.AnchorsSpelled.{heading_with as heading_text_with, anchor_heading}
 use Rattle.pf_statements.specs.Grammar.{IsTarget, TargetWord, TargetString, IsAnchor, IsHeading, IsOptional, LeftOut, Given}

@@ -2,19 +2,19 @@
 use Rattle.std.proofs.Common.{◌≡◌, ℕ, ◌<◌, true, false, List, [], ◌∷◌, ◌++◌, length, map, Option, Some, None, Result, Ok, refl, sym, ap, subst, ◌∙◌, arith}
 use Rattle.std.specs.Prelude.{codes}
 use Rattle.std.proofs.lemmas.List.{append-nil}
-use Rattle.pf_words.specs.declared.profile.Profile.{Profile}
+use Rattle.pf_rules.specs.declared.profile.Profile.{Profile}
 use Rattle.pf_tokens.specs.Tokens.{Token, Word, Quoted}
 use Rattle.pf_tokens.specs.Reading.{with_statement}
-use Rattle.pf_ruleset.specs.declared.rule.Action.TheVariants as act
-use Rattle.pf_ruleset.specs.declared.parts.FlagTest.{FlagTest}
-use Rattle.pf_ruleset.specs.declared.parts.FlagTest.TheVariants as flags
-use Rattle.pf_ruleset.specs.declared.parts.Policy.{Policy}
-use Rattle.pf_ruleset.specs.declared.rule.Rule.{Rule}
-use Rattle.pf_ruleset.specs.Names.{Name}
-use Rattle.pf_ruleset.specs.Items.{Target, Heading, ItemValue, Filters, Blocks}
-use Rattle.pf_ruleset.specs.Items as item
-use Rattle.pf_ruleset.specs.Rulesets.{TableValue}
-use Rattle.pf_conditions.specs.Grammar.{IsBehind, Missing, Behind, IsFlags}
+use Rattle.pf_rules.specs.declared.rule.Action.TheVariants as act
+use Rattle.pf_rules.specs.declared.parts.FlagTest.{FlagTest}
+use Rattle.pf_rules.specs.declared.parts.FlagTest.TheVariants as flags
+use Rattle.pf_rules.specs.declared.parts.Policy.{Policy}
+use Rattle.pf_rules.specs.declared.rule.Rule.{Rule}
+use Rattle.pf_rules.specs.Names.{Name}
+use Rattle.pf_rules.specs.Items.{Target, Heading, ItemValue, Filters, Blocks}
+use Rattle.pf_rules.specs.Items as item
+use Rattle.pf_rules.specs.Rulesets.{TableValue}
+use Rattle.pf_statements.specs.ConditionGrammar.{IsBehind, Missing, Behind, IsFlags}
 use Rattle.pf_statements.specs.Anchors.{AnchorText}
 use Rattle.pf_statements.specs.Statements.{Statement, Anchors, value_of}
 use Rattle.pf_statements.specs.Grammar.{IsAnchor, TargetString, AnchorStatement}

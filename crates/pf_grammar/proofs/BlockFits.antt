@@ -4,16 +4,16 @@ use Rattle.std.specs.Prelude.{nat_lt}
 use Rattle.std.specs.List.{AllByRecursion, list_any}
 use Rattle.std.proofs.lemmas.Bool.{false≢true, or_parts}
 use Rattle.std.proofs.lemmas.Bool.Decides.{nat_tests}
-use Rattle.pf_words.specs.declared.profile.Profile.{Profile}
+use Rattle.pf_rules.specs.declared.profile.Profile.{Profile}
 use Rattle.pf_tokens.specs.Tokens.{Token}
-use Rattle.pf_conditions.specs.Conditions.{ConditionsText}
-use Rattle.pf_conditions.proofs.BehindSpelled.{same_word}
-use Rattle.pf_ruleset.specs.declared.parts.FlagTest.{FlagTest}
-use Rattle.pf_ruleset.specs.declared.parts.Policy.{Policy}
-use Rattle.pf_ruleset.specs.declared.rule.Rule.{Rule}
-use Rattle.pf_ruleset.specs.declared.rule.Conditions.{Conditions}
-use Rattle.pf_ruleset.specs.Names.{Name, begins_below}
-use Rattle.pf_ruleset.specs.Items.{Target, Heading, ItemValue, Filters, Anchors, list_of, values_of}
+use Rattle.pf_statements.specs.Conditions.{ConditionsText}
+use Rattle.pf_statements.proofs.BehindSpelled.{same_word}
+use Rattle.pf_rules.specs.declared.parts.FlagTest.{FlagTest}
+use Rattle.pf_rules.specs.declared.parts.Policy.{Policy}
+use Rattle.pf_rules.specs.declared.rule.Rule.{Rule}
+use Rattle.pf_rules.specs.declared.rule.Conditions.{Conditions}
+use Rattle.pf_rules.specs.Names.{Name, begins_below}
+use Rattle.pf_rules.specs.Items.{Target, Heading, ItemValue, Filters, Anchors, list_of, values_of}
 use Rattle.pf_statements.specs.Anchors.{AnchorText, HeadingText, anchor_with}
 use Rattle.pf_statements.specs.Statements.{ItemText, ItemTexts, no_texts, one_text, is_wild}
 use Rattle.pf_statements.specs.Grammar.{IsHeading, IsItem, ARule, AnAnchor, ABlock, AreItems, NoItem, EmptyLine, OneItem}

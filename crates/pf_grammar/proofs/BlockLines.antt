@@ -6,7 +6,7 @@ use Rattle.std.proofs.lemmas.Bool.{false≢true}
 use Rattle.std.proofs.lemmas.Bool.Decides.{nat_tests}
 use Rattle.std.proofs.lemmas.List.{append-nil}
 use Rattle.std.proofs.lemmas.List.Sums.{fold-append}
-use Rattle.pf_words.specs.declared.profile.Profile.{Profile}
+use Rattle.pf_rules.specs.declared.profile.Profile.{Profile}
 use Rattle.pf_tokens.specs.declared.symbol.Symbol.TheVariants.{Open, Close}
 use Rattle.pf_tokens.specs.declared.fault.ReadingFault.{ReadingFault}
 use Rattle.pf_tokens.specs.declared.fault.ReadingFault.TheVariants.{Lexical, UnknownMacro, TooMany}
@@ -15,10 +15,10 @@ use Rattle.pf_tokens.specs.Macros.{flattened, is_definition, depth_after, depth_
 use Rattle.pf_tokens.specs.Faults.{reading_fault, or_fault, is_bad, is_unknown}
 use Rattle.pf_tokens.specs.Parsing.{tokens_of}
 use Rattle.pf_tokens.specs.Reading.{◌>>=◌, with_statement, reading_from}
-use Rattle.pf_ruleset.specs.declared.parts.Policy.{Policy}
-use Rattle.pf_ruleset.specs.Names.{Name}
-use Rattle.pf_ruleset.specs.Rulesets.{TableValue}
-use Rattle.pf_ruleset.specs.Items.{Target, Heading, ItemValue, ItemValues, Filters, Anchors, Blocks, no_items, one_more}
+use Rattle.pf_rules.specs.declared.parts.Policy.{Policy}
+use Rattle.pf_rules.specs.Names.{Name}
+use Rattle.pf_rules.specs.Rulesets.{TableValue}
+use Rattle.pf_rules.specs.Items.{Target, Heading, ItemValue, ItemValues, Filters, Anchors, Blocks, no_items, one_more}
 use Rattle.pf_show.specs.Shown.{line as shown_line, heading_parts, block_parts, block_target, target_part, target_text, shown_item, shown_block}
 use Rattle.pf_expansion.specs.Blocks.{is_unnamed}
 use Rattle.pf_grammar.specs.declared.fault.Refusal.{Refusal}

@@ -3,11 +3,11 @@ use Rattle.std.proofs.Common.{◌≡◌, ℕ, ◌||◌, false, List, [], ◌∷�
 use Rattle.std.specs.List.{AllByRecursion}
 use Rattle.std.proofs.lemmas.Bool.{false≢true}
 use Rattle.std.proofs.lemmas.List.{append-nil}
-use Rattle.pf_words.specs.declared.profile.Profile.{Profile}
-use Rattle.pf_ruleset.specs.declared.parts.Policy.{Policy}
-use Rattle.pf_ruleset.specs.declared.rule.Rule.{Rule}
-use Rattle.pf_ruleset.specs.declared.rule.Conditions.{Conditions}
-use Rattle.pf_ruleset.specs.Items.{Heading, ItemValue, ItemValues, Filters, Anchors, Blocks, values_of}
+use Rattle.pf_rules.specs.declared.profile.Profile.{Profile}
+use Rattle.pf_rules.specs.declared.parts.Policy.{Policy}
+use Rattle.pf_rules.specs.declared.rule.Rule.{Rule}
+use Rattle.pf_rules.specs.declared.rule.Conditions.{Conditions}
+use Rattle.pf_rules.specs.Items.{Heading, ItemValue, ItemValues, Filters, Anchors, Blocks, values_of}
 use Rattle.pf_statements.specs.Anchors.{AnchorText}
 use Rattle.pf_statements.specs.Statements.{ItemText, RuleItem, AnchorItem, BlockItem, ItemTexts, no_texts, one_text}
 use Rattle.pf_expansion.specs.declared.judged.Judged.{Judged}

@@ -5,12 +5,12 @@ use Rattle.std.specs.List.{list_any}
 use Rattle.std.proofs.lemmas.Bool.{or_parts}
 use Rattle.std.proofs.lemmas.Bool.Decides.{nat_tests}
 use Rattle.std.proofs.lemmas.List.{length-append, length-map}
-use Rattle.pf_ruleset.specs.declared.parts.FlagTest.{FlagTest}
-use Rattle.pf_ruleset.specs.declared.parts.Policy.{Policy}
-use Rattle.pf_ruleset.specs.declared.rule.Rule.{Rule}
-use Rattle.pf_ruleset.specs.Items.{Heading, ItemValue, ItemValues, Filters, Anchors, list_of, values_of}
-use Rattle.pf_ruleset.specs.inner.Items.{is_overfull, any_overfull}
-use Rattle.pf_conditions.specs.Conditions.{ConditionsText}
+use Rattle.pf_rules.specs.declared.parts.FlagTest.{FlagTest}
+use Rattle.pf_rules.specs.declared.parts.Policy.{Policy}
+use Rattle.pf_rules.specs.declared.rule.Rule.{Rule}
+use Rattle.pf_rules.specs.Items.{Heading, ItemValue, ItemValues, Filters, Anchors, list_of, values_of}
+use Rattle.pf_rules.specs.inner.Items.{is_overfull, any_overfull}
+use Rattle.pf_statements.specs.Conditions.{ConditionsText}
 use Rattle.pf_statements.specs.Anchors.{AnchorText}
 use Rattle.pf_statements.specs.Statements.{RuleText, ItemText, RuleItem, AnchorItem, BlockItem, ItemTexts, no_texts, one_text}
 use Rattle.pf_expansion.specs.declared.judged.Judged.{Judged}

@@ -3,27 +3,27 @@ use Rattle.std.proofs.Common.{◌≡◌, ℕ, ◌+◌, ◌<◌, ◌==◌, ◌&&�
 use Rattle.std.specs.Prelude.{is_some, not, nat_lt, flat_map, map}
 use Rattle.std.proofs.lemmas.List.{append-nil}
 use Rattle.std.proofs.lemmas.Bool.Decides.{nat_tests}
-use Rattle.pf_words.specs.declared.profile.Profile.{Profile}
-use Rattle.pf_ruleset.specs.declared.rule.Action.{Action}
-use Rattle.pf_ruleset.specs.declared.rule.Action.TheVariants as act
-use Rattle.pf_ruleset.specs.declared.parts.Policy.{Policy}
-use Rattle.pf_ruleset.specs.declared.parts.Policy.TheVariants as policy
-use Rattle.pf_ruleset.specs.declared.parts.Interface.{Interface}
-use Rattle.pf_ruleset.specs.declared.parts.PortTest.{PortTest}
-use Rattle.pf_ruleset.specs.declared.parts.FlagTest.{FlagTest}
-use Rattle.pf_ruleset.specs.declared.parts.FlagTest.TheVariants as flags
-use Rattle.pf_ruleset.specs.declared.rule.Rule.{Rule}
-use Rattle.pf_ruleset.specs.declared.rule.Conditions.{Conditions}
+use Rattle.pf_rules.specs.declared.profile.Profile.{Profile}
+use Rattle.pf_rules.specs.declared.rule.Action.{Action}
+use Rattle.pf_rules.specs.declared.rule.Action.TheVariants as act
+use Rattle.pf_rules.specs.declared.parts.Policy.{Policy}
+use Rattle.pf_rules.specs.declared.parts.Policy.TheVariants as policy
+use Rattle.pf_rules.specs.declared.parts.Interface.{Interface}
+use Rattle.pf_rules.specs.declared.parts.PortTest.{PortTest}
+use Rattle.pf_rules.specs.declared.parts.FlagTest.{FlagTest}
+use Rattle.pf_rules.specs.declared.parts.FlagTest.TheVariants as flags
+use Rattle.pf_rules.specs.declared.rule.Rule.{Rule}
+use Rattle.pf_rules.specs.declared.rule.Conditions.{Conditions}
 use Rattle.pf_grammar.specs.declared.place.Place.{Place}
-use Rattle.pf_conditions.specs.declared.written.WrittenPort.{WrittenPort}
-use Rattle.pf_conditions.specs.declared.written.WrittenType.{WrittenType}
+use Rattle.pf_statements.specs.declared.conditions.WrittenPort.{WrittenPort}
+use Rattle.pf_statements.specs.declared.conditions.WrittenType.{WrittenType}
 use Rattle.pf_statements.specs.Statements.{Rules}
 use Rattle.pf_expansion.specs.Expansion.{choices, type_family, resolved, keeps_state, tested_flags, Combination, nothing_chosen, number_in, test_in, type_in, conditions_with, conditions_at, rule_flags, rule_with, by_type, by_destination_port, by_destination, by_source_port, by_source, by_protocol, by_interface, combined, expanded, count_of, combinations}
 use Rattle.pf_expansion.specs.Causes.{any_listed, all_listed, is_deep_list, is_bad_port, has_ports, bad_ports, is_too_wide, has_no_combination, has_deep_list, has_too_many, is_bad_type, is_icmp, bad_types}
-use Rattle.pf_ruleset.specs.Items.{ItemValue}
+use Rattle.pf_rules.specs.Items.{ItemValue}
 use Rattle.pf_grammar.specs.Causes.{statement_cause}
 use Rattle.pf_grammar.proofs.Told.{FitsRule, FitsIf, FitsType, FitsState, ported, one_if, written_action, written_flags, written_state, written_protocol, written_conditions, written}
-use Rattle.pf_ruleset.specs.Rulesets.{TableValue}
+use Rattle.pf_rules.specs.Rulesets.{TableValue}
 
 -- ---- one combination
 

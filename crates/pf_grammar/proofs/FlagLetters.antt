@@ -3,8 +3,8 @@ use Rattle.std.proofs.Common.{◌≡◌, ℕ, ◌==◌, ◌||◌, Bool, true, fa
 use Rattle.std.specs.Prelude.{nat_lt}
 use Rattle.std.specs.List.{list_all}
 use Rattle.std.proofs.lemmas.Bool.Decides.{nat_tests}
-use Rattle.pf_words.specs.declared.flags.TcpFlags.{TcpFlags}
-use Rattle.pf_words.specs.Words.{has, is_letter, flags_with, flags_of}
+use Rattle.pf_rules.specs.declared.flags.TcpFlags.{TcpFlags}
+use Rattle.pf_rules.specs.Words.{has, is_letter, flags_with, flags_of}
 use Rattle.pf_show.specs.Shown.{letter, letters}
 
 other : (b : Bool) (c x : ℕ) (rest : List ℕ) → (c == x) ≡ false → has x (letter b c ++ rest) ≡ has x rest

@@ -4,7 +4,7 @@ use Rattle.std.specs.Prelude.{codes, flat_map, nat_lt}
 use Rattle.std.specs.List.{AllByRecursion}
 use Rattle.std.proofs.lemmas.Bool.Decides.{nat_tests}
 use Rattle.std.proofs.lemmas.List.{append-nil, length-append}
-use Rattle.pf_words.specs.declared.profile.Profile.{Profile}
+use Rattle.pf_rules.specs.declared.profile.Profile.{Profile}
 use Rattle.pf_tokens.specs.declared.symbol.Symbol.TheVariants.{Open, Close, Equals}
 use Rattle.pf_tokens.specs.declared.fault.ReadingFault.{ReadingFault}
 use Rattle.pf_tokens.specs.Tokens.{Token, Word, Quoted, Mark, Newline, Placed}
@@ -12,12 +12,12 @@ use Rattle.pf_tokens.specs.Macros.{is_definition, replaced}
 use Rattle.pf_tokens.specs.Faults.{reading_fault}
 use Rattle.pf_tokens.specs.Productions.{begins_symbol}
 use Rattle.pf_tokens.specs.Reading.{◌>>=◌, statement_judged, with_statement, reading_from}
-use Rattle.pf_ruleset.specs.declared.parts.Policy.{Policy}
-use Rattle.pf_ruleset.specs.Names.{Name}
-use Rattle.pf_ruleset.specs.Rulesets.{TableValue}
-use Rattle.pf_ruleset.specs.Items.{Heading, ItemValue, ItemValues, Filters, Blocks, values_of}
-use Rattle.pf_ruleset.specs.Items as item
-use Rattle.pf_conditions.proofs.Fronts.{rank, no_symbol}
+use Rattle.pf_rules.specs.declared.parts.Policy.{Policy}
+use Rattle.pf_rules.specs.Names.{Name}
+use Rattle.pf_rules.specs.Rulesets.{TableValue}
+use Rattle.pf_rules.specs.Items.{Heading, ItemValue, ItemValues, Filters, Blocks, values_of}
+use Rattle.pf_rules.specs.Items as item
+use Rattle.pf_statements.proofs.Fronts.{rank, no_symbol}
 use Rattle.pf_statements.specs.Statements.{Statement, AnchorBlocks, value_of}
 use Rattle.pf_statements.specs.Grammar.{BlockStatement, EmptyLine}
 use Rattle.pf_statements.proofs.StatementsSpelled.{statement_reads}

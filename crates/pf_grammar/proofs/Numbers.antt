@@ -6,9 +6,9 @@ use Rattle.std.specs.Char.{is_ascii_digit}
 use Rattle.std.proofs.lemmas.Bool.Decides.{nat_tests}
 use Rattle.std.proofs.lemmas.Fmt.{digits_decimal, digits_value-decimal, decimal_nonempty, length-decimal-le}
 use Rattle.std.proofs.lemmas.Str.Parse.{IsNumeralModel, numerals_by_fold, IsDigitsTest, FoldsDigits}
-use Rattle.pf_words.specs.declared.profile.Profile.{Profile}
-use Rattle.pf_words.specs.declared.profile.Profile.TheVariants.{One, Two}
-use Rattle.pf_words.specs.Words.{decimal_value, number_of, Named, named, protocols, protocol_of, services, port_of, icmp_types, icmp_type_of, common_reserved, is_among, is_reserved}
+use Rattle.pf_rules.specs.declared.profile.Profile.{Profile}
+use Rattle.pf_rules.specs.declared.profile.Profile.TheVariants.{One, Two}
+use Rattle.pf_rules.specs.Words.{decimal_value, number_of, Named, named, protocols, protocol_of, services, port_of, icmp_types, icmp_type_of, common_reserved, is_among, is_reserved}
 
 -- ---- digits
 

@@ -8,21 +8,21 @@ use Rattle.pf_addr.specs.declared.addr.Addr.{Addr}
 use Rattle.pf_addr.specs.Blocks.{Span, span_of, is_span, FitsAddr, Block}
 use Rattle.pf_addr.specs.Spelling.{cut_at}
 use Rattle.pf_addr.proofs.Made.{block_fits, addr_fits, FitsBlock}
-use Rattle.pf_words.specs.declared.profile.Profile.{Profile}
+use Rattle.pf_rules.specs.declared.profile.Profile.{Profile}
 use Rattle.pf_tokens.specs.Tokens.{Token}
 use Rattle.pf_tokens.specs.inner.Shorter.{some_is}
-use Rattle.pf_ruleset.specs.declared.parts.Addresses.{Addresses}
-use Rattle.pf_ruleset.specs.declared.parts.Host.{Host}
-use Rattle.pf_ruleset.specs.declared.parts.PortTest.{PortTest}
-use Rattle.pf_ruleset.specs.declared.parts.PortTest.TheVariants.{Equal, NotEqual, Less, LessEqual, Greater, GreaterEqual, FromTo, Between, Outside}
-use Rattle.pf_words.specs.declared.flags.TcpFlags.{TcpFlags}
-use Rattle.pf_ruleset.specs.declared.parts.FlagTest.{FlagTest}
-use Rattle.pf_conditions.specs.declared.written.Protocol.{Protocol}
-use Rattle.pf_conditions.specs.declared.written.WrittenPort.{WrittenPort}
-use Rattle.pf_conditions.specs.declared.written.WrittenType.{WrittenType}
-use Rattle.pf_words.specs.Words.{decimal_value, is_decimal, number_of, Named, named, or_else, protocols, protocol_of, services, port_of, icmp_types, icmp_type_of, has, is_letter, are_letters, flags_with, flags_of, no_flags, is_within}
-use Rattle.pf_conditions.specs.Conditions.{one_port, two_ports, lone_word, lone_test, colon_parts}
-use Rattle.pf_conditions.specs.Grammar.{IsProtocol, ProtocolWord, IsPrefix, WholeAddress, CutAddress, TableSign, IsSet, PrefixSet, RangeSet, TableSet, IsHost, AnyWord, HostIn, HostNotIn, EqualsSign, NotEqualSign, LessSign, LessEqualSign, GreaterSign, GreaterEqualSign, BetweenSign, OutsideSign, IsPort, PortAlone, PortCompared, PortBounds, IsFlags, AnyFlags, NoneOf, SomeOf, IsType, TypeWord}
+use Rattle.pf_rules.specs.declared.parts.Addresses.{Addresses}
+use Rattle.pf_rules.specs.declared.parts.Host.{Host}
+use Rattle.pf_rules.specs.declared.parts.PortTest.{PortTest}
+use Rattle.pf_rules.specs.declared.parts.PortTest.TheVariants.{Equal, NotEqual, Less, LessEqual, Greater, GreaterEqual, FromTo, Between, Outside}
+use Rattle.pf_rules.specs.declared.flags.TcpFlags.{TcpFlags}
+use Rattle.pf_rules.specs.declared.parts.FlagTest.{FlagTest}
+use Rattle.pf_statements.specs.declared.conditions.Protocol.{Protocol}
+use Rattle.pf_statements.specs.declared.conditions.WrittenPort.{WrittenPort}
+use Rattle.pf_statements.specs.declared.conditions.WrittenType.{WrittenType}
+use Rattle.pf_rules.specs.Words.{decimal_value, is_decimal, number_of, Named, named, or_else, protocols, protocol_of, services, port_of, icmp_types, icmp_type_of, has, is_letter, are_letters, flags_with, flags_of, no_flags, is_within}
+use Rattle.pf_statements.specs.Conditions.{one_port, two_ports, lone_word, lone_test, colon_parts}
+use Rattle.pf_statements.specs.ConditionGrammar.{IsProtocol, ProtocolWord, IsPrefix, WholeAddress, CutAddress, TableSign, IsSet, PrefixSet, RangeSet, TableSet, IsHost, AnyWord, HostIn, HostNotIn, EqualsSign, NotEqualSign, LessSign, LessEqualSign, GreaterSign, GreaterEqualSign, BetweenSign, OutsideSign, IsPort, PortAlone, PortCompared, PortBounds, IsFlags, AnyFlags, NoneOf, SomeOf, IsType, TypeWord}
 use Rattle.pf_show.specs.Shown.{letter, letters}
 use Rattle.pf_grammar.proofs.Numbers.{lt_is}
 use Rattle.pf_grammar.proofs.Told.{FitsAddresses, FitsHost, FitsTest, FitsIf, FitsFlags}

@@ -1,6 +1,6 @@
 -- Names of anchors that no unnamed block has.
 use Rattle.std.proofs.Common.{◌≡◌, ℕ, false, refl}
-use Rattle.pf_ruleset.specs.Items.{Target}
+use Rattle.pf_rules.specs.Items.{Target}
 use Rattle.pf_expansion.specs.Anchors.{is_reserved, is_misnamed}
 
 -- a name of another form is allowed anywhere

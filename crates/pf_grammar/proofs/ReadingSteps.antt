@@ -2,7 +2,7 @@
 use Rattle.std.proofs.Common.{◌≡◌, ℕ, ◌+◌, ◌<◌, ◌≤◌, Bool, true, false, List, [], ◌∷◌, ◌++◌, length, map, drop, Option, Some, None, option_map, Result, Ok, Err, refl, sym, ap, subst, ◌∙◌, ◌||◌, arith, length-append}
 use Rattle.std.proofs.lemmas.Bool.{false≢true}
 use Rattle.std.proofs.lemmas.List.{map-append, length-map}
-use Rattle.pf_words.specs.declared.profile.Profile.{Profile}
+use Rattle.pf_rules.specs.declared.profile.Profile.{Profile}
 use Rattle.pf_tokens.specs.declared.defining.DefinitionFault.{DefinitionFault}
 use Rattle.pf_tokens.specs.declared.defining.DefinitionFault.TheVariants as defining
 use Rattle.pf_tokens.specs.declared.fault.ReadingFault.{ReadingFault}
@@ -20,13 +20,13 @@ use Rattle.pf_expansion.specs.declared.cause.Cause.{Cause}
 use Rattle.pf_grammar.specs.declared.fault.ParseFault.{ParseFault}
 use Rattle.pf_grammar.specs.declared.fault.ParseFault.TheVariants as faults
 use Rattle.pf_grammar.specs.declared.fault.Refusal.{Refusal}
-use Rattle.pf_ruleset.specs.declared.parts.Policy.{Policy}
-use Rattle.pf_ruleset.specs.declared.rule.Rule.{Rule}
-use Rattle.pf_ruleset.specs.declared.item.Item.{Item}
-use Rattle.pf_ruleset.specs.Items.{ItemValue, Heading}
-use Rattle.pf_ruleset.specs.inner.Items.{is_overfull}
-use Rattle.pf_ruleset.specs.Items as item
-use Rattle.pf_ruleset.specs.Seen.{item_of, items_of}
+use Rattle.pf_rules.specs.declared.parts.Policy.{Policy}
+use Rattle.pf_rules.specs.declared.rule.Rule.{Rule}
+use Rattle.pf_rules.specs.declared.item.Item.{Item}
+use Rattle.pf_rules.specs.Items.{ItemValue, Heading}
+use Rattle.pf_rules.specs.inner.Items.{is_overfull}
+use Rattle.pf_rules.specs.Items as item
+use Rattle.pf_rules.specs.Seen.{item_of, items_of}
 use Rattle.std.specs.List.{list_any}
 use Rattle.pf_expansion.specs.Anchors.{headings, heading_with, anchor_flags, anchor_causes, is_misnamed}
 use Rattle.pf_statements.specs.Anchors.{AnchorText}
@@ -36,8 +36,8 @@ use Rattle.pf_grammar.specs.declared.place.Place.{Place}
 use Rattle.pf_statements.specs.Statements.{Statement, Sets, Rules, SetPolicy, SetSkip, RuleText, Tables, Anchors, AnchorBlocks, BlockItem}
 use Rattle.pf_expansion.specs.Expansion.{expanded, combined, rule_flags, rule_with}
 use Rattle.pf_expansion.specs.Causes.{has_too_many, bad_ports, has_no_combination, bad_types, lowest, rule_causes, condition_causes}
-use Rattle.pf_ruleset.specs.declared.parts.FlagTest.{FlagTest}
-use Rattle.pf_conditions.specs.Conditions.{ConditionsText}
+use Rattle.pf_rules.specs.declared.parts.FlagTest.{FlagTest}
+use Rattle.pf_statements.specs.Conditions.{ConditionsText}
 use Rattle.pf_grammar.specs.Causes.{setting_causes, statement_cause}
 use Rattle.pf_grammar.specs.Reading.{Sofar, judge, macros_of, answered, after_statement, defined, statement_outcome, unless_fault, nothing, reading, ruleset_if, Fails}
 use Rattle.pf_grammar.specs.inner.Gathering.{Judges}

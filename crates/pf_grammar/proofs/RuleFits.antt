@@ -3,34 +3,34 @@ use Rattle.std.proofs.Common.{◌≡◌, ℕ, ◌≤◌, ◌&&◌, ◌||◌, Boo
 use Rattle.std.specs.Prelude.{is_some, is_none, not, flat_map}
 use Rattle.std.specs.List.{AllByRecursion, list_any, list_all}
 use Rattle.std.proofs.lemmas.Bool.{false≢true}
-use Rattle.pf_words.specs.declared.profile.Profile.{Profile}
+use Rattle.pf_rules.specs.declared.profile.Profile.{Profile}
 use Rattle.pf_tokens.specs.Tokens.{Token}
 use Rattle.pf_tokens.specs.Lists.{Elements}
 use Rattle.pf_tokens.specs.inner.Shorter.{some_is}
-use Rattle.pf_ruleset.specs.declared.parts.Policy.{Policy}
-use Rattle.pf_ruleset.specs.declared.parts.Policy.TheVariants as policy
+use Rattle.pf_rules.specs.declared.parts.Policy.{Policy}
+use Rattle.pf_rules.specs.declared.parts.Policy.TheVariants as policy
 use Rattle.pf_addr.specs.declared.addr.Family.{Family}
 use Rattle.pf_addr.specs.declared.addr.Family.TheVariants.{Inet, Inet6}
-use Rattle.pf_ruleset.specs.declared.parts.Interface.{Interface}
-use Rattle.pf_ruleset.specs.declared.parts.FlagTest.{FlagTest}
+use Rattle.pf_rules.specs.declared.parts.Interface.{Interface}
+use Rattle.pf_rules.specs.declared.parts.FlagTest.{FlagTest}
 use Rattle.pf_statements.specs.declared.written.WrittenAction.{WrittenAction}
 use Rattle.pf_statements.specs.declared.written.WrittenAction.TheVariants.{Pass, Block as Blocks}
-use Rattle.pf_conditions.specs.declared.written.Protocol.{Protocol}
-use Rattle.pf_conditions.specs.declared.written.WrittenPort.{WrittenPort}
-use Rattle.pf_conditions.specs.declared.written.WrittenType.{WrittenType}
-use Rattle.pf_words.specs.Words.{is_interface_name, is_within}
-use Rattle.pf_conditions.specs.Conditions.{Ends, any_end}
+use Rattle.pf_statements.specs.declared.conditions.Protocol.{Protocol}
+use Rattle.pf_statements.specs.declared.conditions.WrittenPort.{WrittenPort}
+use Rattle.pf_statements.specs.declared.conditions.WrittenType.{WrittenType}
+use Rattle.pf_rules.specs.Words.{is_interface_name, is_within}
+use Rattle.pf_statements.specs.Conditions.{Ends, any_end}
 use Rattle.pf_statements.specs.Statements.{Options, no_options, RuleText, has_types}
 use Rattle.pf_tokens.specs.ListGrammar.{IsSome}
-use Rattle.pf_conditions.specs.Grammar.{IsBehind, Missing, Behind, IsPort, IsPart, PartHosts, PartPorts, IsHosts, NoHosts, AllWord, FromPart, ToPart, FromToParts, IsTypes, TypeAlone, TypeList}
+use Rattle.pf_statements.specs.ConditionGrammar.{IsBehind, Missing, Behind, IsPort, IsPart, PartHosts, PartPorts, IsHosts, NoHosts, AllWord, FromPart, ToPart, FromToParts, IsTypes, TypeAlone, TypeList}
 use Rattle.pf_statements.specs.Grammar.{IsOptions, NoOption, FlagsOption, StateOption, TypesOption, IsRule}
 use Rattle.pf_expansion.specs.Expansion.{choices, host_family, type_family, with_family, occurring, resolved, keeps_state, tested_flags, Combination, nothing_chosen, number_in, test_in, type_in, rule_flags, rule_with, conditions_with, families, conditions_if, conditions_at, by_type, by_destination_port, by_destination, by_source_port, by_source, by_protocol, by_interface, combined, expanded}
 use Rattle.pf_expansion.specs.Causes.{any_listed, all_listed, is_bad_port, has_ports, says_ports, bad_ports, is_bad_type, is_icmp, bad_types}
 use Rattle.pf_grammar.proofs.Made.{interface_fits, some_fits, list_fits}
 use Rattle.pf_grammar.proofs.PartsFit.{host_fits, port_fits, protocol_fits, type_fits, type_of_fits, flags_fit}
 use Rattle.pf_grammar.proofs.Told.{FitsHost, FitsTest, FitsIf, FitsFlags, FitsState, FitsType, FitsConditions, FitsRule, ported}
-use Rattle.pf_ruleset.specs.declared.rule.Conditions.{Conditions}
-use Rattle.pf_conditions.specs.Conditions.{ConditionsText}
+use Rattle.pf_rules.specs.declared.rule.Conditions.{Conditions}
+use Rattle.pf_statements.specs.Conditions.{ConditionsText}
 
 -- ---- what a written rule is
 

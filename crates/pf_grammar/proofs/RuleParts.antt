@@ -12,29 +12,29 @@ use Rattle.pf_addr.specs.Blocks.{Block, width, FitsAddr, IsBlock}
 use Rattle.pf_addr.specs.Shown.{shown_addr, shown_prefix}
 use Rattle.pf_addr.proofs.Made.{FitsBlock}
 use Rattle.pf_addr.proofs.Plain.{IsAddressByte, address_plain, address_some}
-use Rattle.pf_words.specs.declared.profile.Profile.{Profile}
+use Rattle.pf_rules.specs.declared.profile.Profile.{Profile}
 use Rattle.pf_tokens.specs.declared.symbol.Symbol.TheVariants as mark
 use Rattle.pf_tokens.specs.Tokens.{Token, Mark, is_word_byte, Placed, Word}
-use Rattle.pf_ruleset.specs.declared.rule.Action.{Action}
-use Rattle.pf_ruleset.specs.declared.rule.Action.TheVariants as act
-use Rattle.pf_ruleset.specs.declared.parts.Direction.{Direction}
-use Rattle.pf_ruleset.specs.declared.parts.Direction.TheVariants.{In, Out}
+use Rattle.pf_rules.specs.declared.rule.Action.{Action}
+use Rattle.pf_rules.specs.declared.rule.Action.TheVariants as act
+use Rattle.pf_rules.specs.declared.parts.Direction.{Direction}
+use Rattle.pf_rules.specs.declared.parts.Direction.TheVariants.{In, Out}
 use Rattle.pf_addr.specs.declared.addr.Family.{Family}
 use Rattle.pf_addr.specs.declared.addr.Family.TheVariants.{Inet, Inet6}
-use Rattle.pf_ruleset.specs.declared.parts.Interface.{Interface}
-use Rattle.pf_ruleset.specs.declared.parts.Addresses.{Addresses}
-use Rattle.pf_ruleset.specs.declared.parts.Addresses.TheVariants.{Prefix, Range, Table}
-use Rattle.pf_ruleset.specs.declared.parts.Host.{Host}
-use Rattle.pf_ruleset.specs.declared.parts.Host.TheVariants as host
-use Rattle.pf_ruleset.specs.declared.parts.PortTest.{PortTest}
-use Rattle.pf_ruleset.specs.declared.parts.PortTest.TheVariants.{Equal, NotEqual, Less, LessEqual, Greater, GreaterEqual, FromTo, Between, Outside}
-use Rattle.pf_words.specs.declared.flags.TcpFlags.{TcpFlags}
-use Rattle.pf_ruleset.specs.declared.parts.FlagTest.{FlagTest}
-use Rattle.pf_ruleset.specs.declared.parts.FlagTest.TheVariants as flags
-use Rattle.pf_ruleset.specs.declared.rule.Rule.{Rule}
-use Rattle.pf_words.specs.Words.{is_interface_text, is_interface_name, is_table_text, is_table_name, is_table_byte, is_anchor_byte, begins_with_letter}
+use Rattle.pf_rules.specs.declared.parts.Interface.{Interface}
+use Rattle.pf_rules.specs.declared.parts.Addresses.{Addresses}
+use Rattle.pf_rules.specs.declared.parts.Addresses.TheVariants.{Prefix, Range, Table}
+use Rattle.pf_rules.specs.declared.parts.Host.{Host}
+use Rattle.pf_rules.specs.declared.parts.Host.TheVariants as host
+use Rattle.pf_rules.specs.declared.parts.PortTest.{PortTest}
+use Rattle.pf_rules.specs.declared.parts.PortTest.TheVariants.{Equal, NotEqual, Less, LessEqual, Greater, GreaterEqual, FromTo, Between, Outside}
+use Rattle.pf_rules.specs.declared.flags.TcpFlags.{TcpFlags}
+use Rattle.pf_rules.specs.declared.parts.FlagTest.{FlagTest}
+use Rattle.pf_rules.specs.declared.parts.FlagTest.TheVariants as flags
+use Rattle.pf_rules.specs.declared.rule.Rule.{Rule}
+use Rattle.pf_rules.specs.Words.{is_interface_text, is_interface_name, is_table_text, is_table_name, is_table_byte, is_anchor_byte, begins_with_letter}
 use Rattle.pf_tokens.specs.ListGrammar.{sign}
-use Rattle.pf_conditions.specs.Grammar.{key}
+use Rattle.pf_statements.specs.ConditionGrammar.{key}
 use Rattle.pf_show.specs.Shown.{action_parts, direction_parts, quick_parts, negated_part, negated_parts, interface_parts, family_parts, protocol_parts, addresses_parts, host_parts, test_parts, port_parts, end_parts, ends_parts, type_parts, letter, letters, flags_text, flags_parts, state_parts, condition_parts, rule_parts, line as shown_line}
 use Rattle.pf_grammar.proofs.Numbers.{IsDigit, Digits, decimal_digits, decimal_there}
 use Rattle.pf_grammar.proofs.Told.{FitsAddresses, FitsHost, FitsTest, FitsIf, FitsFlags, FitsType, FitsRule, action_tokens, direction_tokens, quick_tokens, negated_tokens, interface_tokens, family_tokens, protocol_tokens, length_tokens, addresses_tokens, host_tokens, test_tokens, port_tokens, end_tokens, both_tokens, ends_tokens, type_tokens, letters_token, test_of_tokens, flags_tokens, state_tokens, option_tokens, rule_tokens, prefix_tokens, table_tokens}

@@ -2,7 +2,7 @@
 use Rattle.std.proofs.Common.{◌≡◌, ℕ, ◌+◌, ◌<◌, ◌≤◌, true, false, List, [], ◌∷◌, ◌++◌, length, map, Option, Some, None, Result, Ok, refl, ap, ◌∙◌, arith}
 use Rattle.std.specs.Prelude.{codes}
 use Rattle.std.specs.List.{AllByRecursion}
-use Rattle.pf_words.specs.declared.profile.Profile.{Profile}
+use Rattle.pf_rules.specs.declared.profile.Profile.{Profile}
 use Rattle.pf_tokens.specs.declared.symbol.Symbol.TheVariants.{Open, Close}
 use Rattle.pf_tokens.specs.Tokens.{Token, Word, Mark}
 use Rattle.pf_tokens.specs.Macros.{depth_behind}
@@ -11,14 +11,14 @@ use Rattle.pf_tokens.specs.Faults.{reading_fault}
 use Rattle.pf_tokens.specs.Lists.{Elements}
 use Rattle.pf_tokens.specs.Reading.{◌>>=◌, reading_from}
 use Rattle.pf_grammar.specs.declared.fault.Refusal.{Refusal}
-use Rattle.pf_ruleset.specs.declared.parts.Policy.{Policy}
+use Rattle.pf_rules.specs.declared.parts.Policy.{Policy}
 use Rattle.pf_grammar.specs.declared.place.Place.TheVariants.{Main}
-use Rattle.pf_ruleset.specs.Names.{Name}
-use Rattle.pf_words.specs.Words.{is_interface_name}
+use Rattle.pf_rules.specs.Names.{Name}
+use Rattle.pf_rules.specs.Words.{is_interface_name}
 use Rattle.pf_statements.specs.Statements.{SetSkip, Statement, Sets, value_of}
 use Rattle.pf_grammar.specs.Causes.{statement_cause}
 use Rattle.pf_tokens.specs.ListGrammar.{IsElements, LastOne, OneMore, NoComma, Braces, Listed}
-use Rattle.pf_conditions.specs.Grammar.{IsInterfaceName, NameWord}
+use Rattle.pf_statements.specs.ConditionGrammar.{IsInterfaceName, NameWord}
 use Rattle.pf_statements.specs.Grammar.{SkipSetting, SetStatement}
 use Rattle.pf_grammar.specs.Reading.{Sofar, macros_of, judge, statement_outcome, answered}
 use Rattle.pf_show.specs.Shown.{skip_line}

@@ -7,8 +7,8 @@ use Rattle.std.proofs.lemmas.List.{append-nil}
 use Rattle.pf_addr.specs.Blocks.{Block}
 use Rattle.pf_addr.specs.Shown.{shown_prefix}
 use Rattle.pf_addr.proofs.Made.{FitsBlock}
-use Rattle.pf_words.specs.declared.profile.Profile.{Profile}
-use Rattle.pf_words.specs.Words.{is_table_name}
+use Rattle.pf_rules.specs.declared.profile.Profile.{Profile}
+use Rattle.pf_rules.specs.Words.{is_table_name}
 use Rattle.pf_tokens.specs.declared.symbol.Symbol.TheVariants.{Open, Close, Not, Less, Greater}
 use Rattle.pf_tokens.specs.Tokens.{Token, Word, Mark}
 use Rattle.pf_tokens.specs.Macros.{depth_behind}
@@ -16,12 +16,12 @@ use Rattle.pf_tokens.specs.Blanks.{blanked}
 use Rattle.pf_tokens.specs.Faults.{reading_fault}
 use Rattle.pf_tokens.specs.Lists.{Elements}
 use Rattle.pf_tokens.specs.Reading.{◌>>=◌, reading_from}
-use Rattle.pf_ruleset.specs.declared.parts.Policy.{Policy}
-use Rattle.pf_ruleset.specs.declared.ruleset.TableEntry.{TableEntry}
-use Rattle.pf_ruleset.specs.Names.{Name}
-use Rattle.pf_ruleset.specs.Rulesets.{TableValue}
+use Rattle.pf_rules.specs.declared.parts.Policy.{Policy}
+use Rattle.pf_rules.specs.declared.ruleset.TableEntry.{TableEntry}
+use Rattle.pf_rules.specs.Names.{Name}
+use Rattle.pf_rules.specs.Rulesets.{TableValue}
 use Rattle.pf_tokens.specs.ListGrammar.{IsElements, LastOne, OneMore, NoComma, Braces}
-use Rattle.pf_conditions.specs.Grammar.{key, TableSign}
+use Rattle.pf_statements.specs.ConditionGrammar.{key, TableSign}
 use Rattle.pf_statements.specs.Tables.{TableText, new_table}
 use Rattle.pf_statements.specs.Statements.{Statement, Tables, value_of}
 use Rattle.pf_statements.specs.Grammar.{IsEntry, EntryIn, EntryOut, NoNewline, AreEntries, NoEntries, SomeEntries, AreTableOptions, NoTableOption, PersistOption, ConstOption, EntriesOption, TableOptions, TableStatement}

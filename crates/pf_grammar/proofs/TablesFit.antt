@@ -4,14 +4,14 @@ use Rattle.std.specs.Prelude.{nat_lt}
 use Rattle.std.specs.List.{AllByRecursion, list_any}
 use Rattle.std.proofs.lemmas.Bool.{false≢true}
 use Rattle.std.proofs.lemmas.Bool.Decides.{nat_tests}
-use Rattle.pf_words.specs.declared.profile.Profile.{Profile}
-use Rattle.pf_words.specs.Words.{is_table_name}
+use Rattle.pf_rules.specs.declared.profile.Profile.{Profile}
+use Rattle.pf_rules.specs.Words.{is_table_name}
 use Rattle.pf_tokens.specs.Tokens.{Token}
 use Rattle.pf_tokens.specs.Lists.{Elements}
-use Rattle.pf_ruleset.specs.declared.ruleset.TableEntry.{TableEntry}
-use Rattle.pf_ruleset.specs.Names.{Name}
-use Rattle.pf_ruleset.specs.Rulesets.{TableValue}
-use Rattle.pf_conditions.specs.Grammar.{IsTable, TableSign}
+use Rattle.pf_rules.specs.declared.ruleset.TableEntry.{TableEntry}
+use Rattle.pf_rules.specs.Names.{Name}
+use Rattle.pf_rules.specs.Rulesets.{TableValue}
+use Rattle.pf_statements.specs.ConditionGrammar.{IsTable, TableSign}
 use Rattle.pf_statements.specs.Tables.{TableText, new_table}
 use Rattle.pf_statements.specs.Grammar.{IsEntry, EntryIn, EntryOut, AreEntries, NoEntries, SomeEntries, AreTableOptions, NoTableOption, PersistOption, ConstOption, CountersOption, EntriesOption, IsTableText, TableOptions}
 use Rattle.pf_expansion.specs.Tables.{same_prefix, with_first, first_of_each, table_value, is_defined, is_too_long}

@@ -10,12 +10,12 @@ use Rattle.std.proofs.lemmas.List.{append-nil, length-append, take_at, drop_at}
 use Rattle.std.proofs.lemmas.Slice.Eq.{bytes_eq-Decides}
 use Rattle.pf_addr.specs.Spelling.{pieces}
 use Rattle.pf_addr.proofs.Marks.{Apart, pieces_mark, pieces_last}
-use Rattle.pf_words.specs.Words.{is_table_byte, is_anchor_byte, is_anchor_text}
+use Rattle.pf_rules.specs.Words.{is_table_byte, is_anchor_byte, is_anchor_text}
 use Rattle.pf_tokens.specs.Tokens.{Quoted, Letter, letters, line_after, is_quoted_byte, Front, front, quoted_closed, tokens_behind, Placed}
 use Rattle.pf_tokens.specs.Productions.{◌>>=◌}
-use Rattle.pf_ruleset.specs.Names.{Name}
-use Rattle.pf_ruleset.specs.Items.{Target}
-use Rattle.pf_conditions.specs.Targets.{names_of, target_with, target_of}
+use Rattle.pf_rules.specs.Names.{Name}
+use Rattle.pf_rules.specs.Items.{Target}
+use Rattle.pf_statements.specs.Targets.{names_of, target_with, target_of}
 use Rattle.pf_show.specs.Shown.{slashed, children_text, target_text, target_part}
 use Rattle.pf_grammar.proofs.Parts.{lexed, at_line, bytes_of, letter_at, front_lexes, letter_first, bytes_word, behind_all, length_letters, IsPart}
 

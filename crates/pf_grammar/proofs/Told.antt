@@ -8,49 +8,49 @@ use Rattle.pf_addr.specs.Spelling.{cut_at, before_front}
 use Rattle.pf_addr.specs.Shown.{shown_addr}
 use Rattle.pf_addr.proofs.Again.{addr_again, block_again}
 use Rattle.pf_addr.proofs.Made.{FitsBlock}
-use Rattle.pf_words.specs.declared.profile.Profile.{Profile}
+use Rattle.pf_rules.specs.declared.profile.Profile.{Profile}
 use Rattle.pf_tokens.specs.declared.symbol.Symbol.TheVariants as mark
 use Rattle.pf_tokens.specs.Tokens.{Token}
 use Rattle.pf_tokens.specs.Lists.{Elements}
-use Rattle.pf_ruleset.specs.declared.rule.Action.{Action}
-use Rattle.pf_ruleset.specs.declared.rule.Action.TheVariants as act
-use Rattle.pf_ruleset.specs.declared.parts.Policy.TheVariants as policy
-use Rattle.pf_ruleset.specs.declared.parts.Direction.{Direction}
-use Rattle.pf_ruleset.specs.declared.parts.Direction.TheVariants.{In, Out}
+use Rattle.pf_rules.specs.declared.rule.Action.{Action}
+use Rattle.pf_rules.specs.declared.rule.Action.TheVariants as act
+use Rattle.pf_rules.specs.declared.parts.Policy.TheVariants as policy
+use Rattle.pf_rules.specs.declared.parts.Direction.{Direction}
+use Rattle.pf_rules.specs.declared.parts.Direction.TheVariants.{In, Out}
 use Rattle.pf_addr.specs.declared.addr.Family.{Family}
 use Rattle.pf_addr.specs.declared.addr.Family.TheVariants.{Inet, Inet6}
-use Rattle.pf_ruleset.specs.declared.parts.Interface.{Interface}
-use Rattle.pf_ruleset.specs.declared.parts.Addresses.{Addresses}
-use Rattle.pf_ruleset.specs.declared.parts.Addresses.TheVariants.{Prefix, Range, Table}
-use Rattle.pf_ruleset.specs.declared.parts.Host.{Host}
-use Rattle.pf_ruleset.specs.declared.parts.Host.TheVariants as host
-use Rattle.pf_ruleset.specs.declared.parts.PortTest.{PortTest}
-use Rattle.pf_ruleset.specs.declared.parts.PortTest.TheVariants.{Equal, NotEqual, Less, LessEqual, Greater, GreaterEqual, FromTo, Between, Outside}
-use Rattle.pf_words.specs.declared.flags.TcpFlags.{TcpFlags}
-use Rattle.pf_ruleset.specs.declared.parts.FlagTest.{FlagTest}
-use Rattle.pf_ruleset.specs.declared.parts.FlagTest.TheVariants as flags
-use Rattle.pf_ruleset.specs.declared.rule.Rule.{Rule}
+use Rattle.pf_rules.specs.declared.parts.Interface.{Interface}
+use Rattle.pf_rules.specs.declared.parts.Addresses.{Addresses}
+use Rattle.pf_rules.specs.declared.parts.Addresses.TheVariants.{Prefix, Range, Table}
+use Rattle.pf_rules.specs.declared.parts.Host.{Host}
+use Rattle.pf_rules.specs.declared.parts.Host.TheVariants as host
+use Rattle.pf_rules.specs.declared.parts.PortTest.{PortTest}
+use Rattle.pf_rules.specs.declared.parts.PortTest.TheVariants.{Equal, NotEqual, Less, LessEqual, Greater, GreaterEqual, FromTo, Between, Outside}
+use Rattle.pf_rules.specs.declared.flags.TcpFlags.{TcpFlags}
+use Rattle.pf_rules.specs.declared.parts.FlagTest.{FlagTest}
+use Rattle.pf_rules.specs.declared.parts.FlagTest.TheVariants as flags
+use Rattle.pf_rules.specs.declared.rule.Rule.{Rule}
 use Rattle.pf_statements.specs.declared.written.WrittenAction.{WrittenAction}
 use Rattle.pf_statements.specs.declared.written.WrittenAction.TheVariants.{Pass, Block as Blocks}
-use Rattle.pf_conditions.specs.declared.written.Protocol.{Protocol}
-use Rattle.pf_conditions.specs.declared.written.WrittenPort.{WrittenPort}
-use Rattle.pf_conditions.specs.declared.written.WrittenType.{WrittenType}
-use Rattle.pf_words.specs.Words.{is_interface_name, is_table_name, is_within, no_flags, flags_with, flags_of, is_reserved, port_of}
-use Rattle.pf_conditions.specs.Conditions.{Ends, one_port, two_ports, lone_test, colon_parts}
+use Rattle.pf_statements.specs.declared.conditions.Protocol.{Protocol}
+use Rattle.pf_statements.specs.declared.conditions.WrittenPort.{WrittenPort}
+use Rattle.pf_statements.specs.declared.conditions.WrittenType.{WrittenType}
+use Rattle.pf_rules.specs.Words.{is_interface_name, is_table_name, is_within, no_flags, flags_with, flags_of, is_reserved, port_of}
+use Rattle.pf_statements.specs.Conditions.{Ends, one_port, two_ports, lone_test, colon_parts}
 use Rattle.pf_statements.specs.Statements.{Options, no_options, RuleText, has_types, may_keep}
 use Rattle.pf_tokens.specs.ListGrammar.{sign, IsSome, One}
-use Rattle.pf_conditions.specs.Grammar.{key, IsBehind, Missing, Behind, NameWord, IsInterface, OnInterface, NotOnInterface, IsFamily, NoFamily, InetWord, Inet6Word, IsProtocol, ProtocolWord, IsPrefix, WholeAddress, CutAddress, TableSign, IsSet, PrefixSet, RangeSet, TableSet, IsHost, AnyWord, HostIn, HostNotIn, EqualsSign, NotEqualSign, LessSign, LessEqualSign, GreaterSign, GreaterEqualSign, BetweenSign, OutsideSign, IsPort, PortAlone, PortCompared, PortBounds, IsPart, PartHosts, IsHosts, AllWord, FromToParts, IsFlags, AnyFlags, NoneOf, SomeOf, IsTypes, TypeAlone}
+use Rattle.pf_statements.specs.ConditionGrammar.{key, IsBehind, Missing, Behind, NameWord, IsInterface, OnInterface, NotOnInterface, IsFamily, NoFamily, InetWord, Inet6Word, IsProtocol, ProtocolWord, IsPrefix, WholeAddress, CutAddress, TableSign, IsSet, PrefixSet, RangeSet, TableSet, IsHost, AnyWord, HostIn, HostNotIn, EqualsSign, NotEqualSign, LessSign, LessEqualSign, GreaterSign, GreaterEqualSign, BetweenSign, OutsideSign, IsPort, PortAlone, PortCompared, PortBounds, IsPart, PartHosts, IsHosts, AllWord, FromToParts, IsFlags, AnyFlags, NoneOf, SomeOf, IsTypes, TypeAlone}
 use Rattle.pf_statements.specs.Grammar.{DropWord, ReturnWord, IsAction, PassWord, BlockSaid, IsDirection, NoDirection, InWord, OutWord, IsSaid, Unsaid, Said, NoWord, KeepWord, IsOptions, NoOption, FlagsOption, StateOption, TypesOption, IsRule}
 use Rattle.pf_expansion.specs.Expansion.{host_family, type_family, occurring}
 use Rattle.pf_show.specs.Shown.{letters}
 use Rattle.pf_grammar.proofs.Numbers.{lt_is, IsDigit, Digits, BeginsDigit, decimal_digits, decimal_there, protocol_again, port_again, type_again, digit_free, decimal_begins}
-use Rattle.pf_conditions.proofs.Fronts.{rank}
+use Rattle.pf_statements.proofs.Fronts.{rank}
 use Rattle.pf_statements.proofs.OptionsSpelled.{rule_rank}
 use Rattle.pf_grammar.proofs.FlagLetters.{flags_again, flags_with_again}
-use Rattle.pf_ruleset.specs.declared.rule.Conditions.{Conditions}
-use Rattle.pf_conditions.specs.Conditions.{CommonText, ConditionsText}
-use Rattle.pf_conditions.specs.Grammar.{IsCommon}
-use Rattle.pf_conditions.proofs.CommonSpelled.{four_parts}
+use Rattle.pf_rules.specs.declared.rule.Conditions.{Conditions}
+use Rattle.pf_statements.specs.Conditions.{CommonText, ConditionsText}
+use Rattle.pf_statements.specs.ConditionGrammar.{IsCommon}
+use Rattle.pf_statements.proofs.CommonSpelled.{four_parts}
 
 -- ---- what a rule of a ruleset is
 

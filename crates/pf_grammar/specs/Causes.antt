@@ -10,10 +10,10 @@ use Rattle.pf_grammar.specs.declared.place.Place.TheVariants.{Main, Anchor}
 use Rattle.pf_statements.specs.Statements.{Statement, Sets, Rules, Setting, SetPolicy, SetSkip, Tables, Anchors}
 use Rattle.pf_statements.specs.Statements.{AnchorBlocks, BlockItem}
 use Rattle.pf_expansion.specs.Blocks.{block_causes, unnamed_in}
-use Rattle.pf_ruleset.specs.Items.{ItemValue}
+use Rattle.pf_rules.specs.Items.{ItemValue}
 use Rattle.pf_expansion.specs.Anchors.{anchor_causes}
 use Rattle.pf_expansion.specs.Tables.{table_causes}
-use Rattle.pf_ruleset.specs.Rulesets.{TableValue}
+use Rattle.pf_rules.specs.Rulesets.{TableValue}
 
 -- a fault while a statement is read
 abbrev pub cause_of : ReadingFault → Cause

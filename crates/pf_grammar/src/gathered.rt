@@ -1,14 +1,14 @@
 //! What the statements of a text so far give, and what one more changes.
 
 ghost use Rattle.std.specs.Prelude.{◌≡◌, ◌++◌, map, OnOk};
-ghost use Rattle.pf_ruleset.specs.declared.rule.Rule.{Rule as IRule};
-ghost use Rattle.pf_ruleset.specs.Items.{Anchors, Filters, Heading as IHeading};
-ghost use Rattle.pf_ruleset.specs.Seen.{heading_of, items_of};
+ghost use Rattle.pf_rules.specs.declared.rule.Rule.{Rule as IRule};
+ghost use Rattle.pf_rules.specs.Items.{Anchors, Filters, Heading as IHeading};
+ghost use Rattle.pf_rules.specs.Seen.{heading_of, items_of};
 ghost use Rattle.pf_grammar.specs.Reading.{nothing};
 ghost use Rattle.pf_grammar.specs.inner.Gathering.{sofar_of, with_change};
 
 use pf_expansion::DefinedTables;
-use pf_ruleset::{AnchorHeading, InterfaceName, Item, Policy, Rule, TableDef};
+use pf_rules::{AnchorHeading, InterfaceName, Item, Policy, Rule, TableDef};
 use pf_tokens::{Macro, Macros};
 use std::alloc::{AllocError, Global};
 

@@ -1,12 +1,12 @@
 //! Laws over the definitions.
 
-ghost use Rattle.pf_ruleset.specs.Rulesets.{RulesetValue};
+ghost use Rattle.pf_rules.specs.Rulesets.{RulesetValue};
 ghost use Rattle.pf_grammar.specs.Again.{FitsStatement};
 ghost use Rattle.pf_grammar.specs.Reading.{reading};
 ghost use Rattle.std.specs.List.{AllByRecursion};
 ghost use Rattle.pf_show.specs.Shown.{shown};
 ghost use Rattle.pf_grammar.specs.declared.place.Place.{Place as IPlace};
-ghost use Rattle.pf_words.specs.declared.profile.Profile.{Profile as IProfile};
+ghost use Rattle.pf_rules.specs.declared.profile.Profile.{Profile as IProfile};
 ghost use Rattle.std.specs.Prelude.{List, Ok, length, ◌≡◌, ◌≤◌, ℕ};
 
 /// A ruleset that a text gives is what its shown text gives at the same place and profile, where the line of the

@@ -27,7 +27,7 @@
 //!   65,536 tokens and is refused. The law of the round trip says so by its premise; the form of the line leaves no
 //!   other way. The same holds of a rule whose block is shown in more tokens than that, which a text of fewer can
 //!   give: a list is shown as one rule for each of its elements.
-//! - **Words for numbers and names** are read by pf_words for texts of rules and for packets alike, from tables
+//! - **Words for numbers and names** are read by pf_rules for texts of rules and for packets alike, from tables
 //!   that the definition and the code both have as lists.
 //! - **A packet text has no blank at either end**; between its words there may be several spaces or tabs. Its ports
 //!   have one to five digits and its types one to three, leading zeros allowed.
@@ -50,14 +50,14 @@ pub use fault::{ParseFault, Refusal};
 pub use laws::reading_again;
 pub use pf_addr::Family;
 pub use pf_expansion::Cause;
-pub use pf_ruleset::{
+pub use pf_rules::{
     Action, Addresses, AnchorHeading, AnchorRule, Conditions, Direction, FlagTest, Host, Interface,
     InterfaceName, Item, Name, Policy, PortTest, Rule, Ruleset, TableDef, TableEntry, TableName,
     Target,
 };
 pub use pf_show::{show, show_items};
 pub use pf_statements::reads_the_grammar;
-pub use pf_words::{
+pub use pf_rules::{
     Profile, TcpFlags, is_interface_name, is_reserved, parse_decimal, parse_flags, parse_icmp_type,
     parse_port, parse_protocol,
 };

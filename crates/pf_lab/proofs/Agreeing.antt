@@ -9,7 +9,7 @@ use Rattle.px_model.proofs.Reading.{bytes_equality}
 use Rattle.px_model.proofs.Runs.{always_agree, always_once, always_kept}
 use Rattle.px_model.proofs.States.{always_same_state}
 use Rattle.pf_config.specs.Map.{Configuration}
-use Rattle.pf_effect.specs.Effect.{empty}
+use Rattle.pf_command.specs.Effect.{empty}
 use Rattle.pf_eval.specs.Verdicts.{judgement}
 use Rattle.px_replica.specs.Made.{same}
 use Rattle.pf_node.specs.Applied.{entry_applied, after}

@@ -3,3 +3,4 @@ pub mod Taking
 pub mod Agreeing
 pub mod Learnings
 pub mod Outcomes
+pub mod Digits

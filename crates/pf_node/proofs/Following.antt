@@ -7,7 +7,7 @@ use Rattle.px_model.specs.Law.{next_state}
 use Rattle.px_model.specs.Spelling.{Bytes}
 use Rattle.px_model.proofs.Plans.{below_front}
 use Rattle.pf_config.specs.Map.{Configuration}
-use Rattle.pf_effect.specs.Effect.{Effect, RefusedCommand, changed}
+use Rattle.pf_command.specs.Effect.{Effect, RefusedCommand, changed}
 use Rattle.pf_node.specs.Applied.{entry_applied, after}
 
 -- one entry more

@@ -6,7 +6,7 @@ use Rattle.px_model.specs.Spelling.{Bytes, spelled}
 use Rattle.pf_config.specs.Map.{Configuration}
 use Rattle.pf_entry.specs.Entry as entries
 use Rattle.pf_entry.specs.Reading.{reading}
-use Rattle.pf_effect.specs.Effect.{after_command, empty}
+use Rattle.pf_command.specs.Effect.{after_command, empty}
 
 -- the configuration after a command that was read, if one was
 abbrev pub after_read : Configuration → Option entries.Entry → Configuration

@@ -6,7 +6,7 @@ use Rattle.px_model.specs.Spelling.{Bytes, spelled}
 use Rattle.pf_config.specs.Map.{Configuration}
 use Rattle.pf_entry.specs.Entry as entries
 use Rattle.pf_entry.specs.Reading.{reading}
-use Rattle.pf_effect.specs.Effect.{Effect, RefusedCommand, effect}
+use Rattle.pf_command.specs.Effect.{Effect, RefusedCommand, effect}
 use Rattle.pf_node.specs.declared.outcomes.Outcome.{Outcome}
 use Rattle.pf_node.specs.declared.outcomes.Outcome.TheVariants.{Done, Refused, NoCommand}
 use Rattle.pf_node.specs.Applied.{after}

@@ -1,7 +1,7 @@
 //! What is learned is applied in order.
 
 ghost use Rattle.std.specs.Prelude.{◌≡◌, ◌≤◌, Some, IfOk, OnOk, OnErr, length, true};
-ghost use Rattle.pf_effect.specs.Effect.{after_command, effect};
+ghost use Rattle.pf_command.specs.Effect.{after_command, effect};
 ghost use Rattle.pf_entry.specs.Entry.{are_names, path_of, rest_fits};
 ghost use Rattle.pf_entry.specs.Reading.{reading};
 ghost use Rattle.pf_entry.specs.Seen.{command_of};
@@ -15,7 +15,7 @@ ghost use Rattle.pf_node.specs.inner.Outcomes.{outcomes_below};
 
 use crate::outcomes::{Outcome, Outcomes};
 use pf_config::Config;
-use pf_effect::{ApplyFault, apply};
+use pf_command::{ApplyFault, apply};
 use pf_entry::{CommandView, decode};
 use px_model::Entry;
 use px_records::Records;

@@ -1,7 +1,7 @@
 -- What a command does, as it is answered.
 use Rattle.std.proofs.Common.{◌≡◌, ℕ, Bool, List, ◌++◌, Option, Some, Result, Ok, Err, refl, sym, ap, ◌∙◌, unwrap_or}
 use Rattle.pf_config.specs.Map.{Configuration}
-use Rattle.pf_effect.specs.Effect.{Effect, RefusedCommand, changed}
+use Rattle.pf_command.specs.Effect.{Effect, RefusedCommand, changed}
 use Rattle.pf_arguments.specs.declared.fault.CommandFault.{CommandFault}
 use Rattle.pf_arguments.specs.declared.fault.CommandFault.TheVariants.{Memory, Usage, BadPath, BadAddress, TooLong}
 use Rattle.pf_arguments.specs.Asked.{Asked}

@@ -1,4 +1,4 @@
--- How the proofs go: Commands, words and scripts (pf_effect, pf_arguments, pf_scripts).
+-- How the proofs go: Commands, words and scripts (pf_command, pf_arguments, pf_scripts).
 --
 -- Forms that proved:
 --

@@ -2,14 +2,14 @@
 use Rattle.std.proofs.Common.{◌≡◌, ℕ, Bool, true, false, List, Option, Some, None, Result, Ok, Err, refl, sym, ap, unwrap_or}
 use Rattle.std.specs.Prelude.{codes, if◌then◌else◌}
 use Rattle.clap.specs.Words.{Text, Row, first_of}
-use Rattle.pf_words.specs.declared.profile.Profile.TheVariants.{Two}
-use Rattle.pf_ruleset.specs.Rulesets.{RulesetValue}
-use Rattle.pf_table.specs.Tables.{TableValue}
+use Rattle.pf_rules.specs.declared.profile.Profile.TheVariants.{Two}
+use Rattle.pf_rules.specs.Rulesets.{RulesetValue}
+use Rattle.pf_tables.specs.Tables.{TableValue}
 use Rattle.pf_config.specs.Map.{Configuration, table_at}
 use Rattle.pf_addr.specs.declared.addr.Addr.{Addr}
 use Rattle.pf_grammar.specs.declared.fault.Refusal.{Refusal}
 use Rattle.pf_grammar.specs.Reading.{reading}
-use Rattle.pf_effect.specs.Effect.{place_at}
+use Rattle.pf_command.specs.Effect.{place_at}
 use Rattle.pf_arguments.specs.declared.fault.CommandFault.{CommandFault}
 use Rattle.pf_arguments.specs.declared.fault.CommandFault.TheVariants.{Memory, Usage, BadPath, BadAddress, TooLong}
 use Rattle.pf_arguments.specs.Asked.{Asked, Change, CheckOnly, ShowRules, ShowTables, ShowAnchors, TableShow}

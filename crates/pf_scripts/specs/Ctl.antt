@@ -4,8 +4,8 @@ use Rattle.std.specs.Prelude.{Result, Ok, Err, codes, decimal, unwrap_or, bytes_
 use Rattle.std.specs.Prelude.{if◌then◌else◌}
 use Rattle.clap.specs.Words.{Text, Row, matches_of, first_of, fault_of}
 use Rattle.clap.specs.Kinds.{Kinds}
-use Rattle.pf_words.specs.declared.profile.Profile.TheVariants.{Two}
-use Rattle.pf_ruleset.specs.Rulesets.{RulesetValue}
+use Rattle.pf_rules.specs.declared.profile.Profile.TheVariants.{Two}
+use Rattle.pf_rules.specs.Rulesets.{RulesetValue}
 use Rattle.pf_config.specs.Map.{Configuration, table_at}
 use Rattle.pf_grammar.specs.declared.fault.Refusal.{Refusal}
 use Rattle.pf_grammar.specs.Reading.{reading}
@@ -14,7 +14,7 @@ use Rattle.pf_eval.specs.PacketTexts.{packet_of}
 use Rattle.pf_eval.specs.Verdicts.{judgement}
 use Rattle.pf_eval.specs.Seen.{verdict_text}
 use Rattle.pf_entry.specs.Entry.{Command, load, flush_rules, flush_tables, flush_all, add, delete, replace, flush_table}
-use Rattle.pf_effect.specs.Effect.{Effect, RefusedCommand, refused_text, effect, after_command, place_at, empty}
+use Rattle.pf_command.specs.Effect.{Effect, RefusedCommand, refused_text, effect, after_command, place_at, empty}
 use Rattle.pf_arguments.specs.Options.{pfctl_app}
 use Rattle.pf_arguments.specs.Asked.{Asked, Change, CheckOnly, ShowRules, ShowTables, ShowAnchors, TableShow}
 use Rattle.pf_arguments.specs.Asked.{TableTest, given_in, asked}

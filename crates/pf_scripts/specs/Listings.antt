@@ -4,7 +4,7 @@ use Rattle.std.specs.Prelude.{count_by}
 use Rattle.std.specs.List.{flat_map}
 use Rattle.pf_addr.specs.declared.addr.Addr.{Addr}
 use Rattle.pf_show.specs.Shown.{entry_part, shown_items}
-use Rattle.pf_table.specs.Tables.{TableValue, in_table}
+use Rattle.pf_tables.specs.Tables.{TableValue, in_table}
 use Rattle.pf_config.specs.Map.{Configuration, AnchorValue, Path, rules_at, table_names}
 use Rattle.pf_scripts.specs.Lines.{line, refused_line}
 use Rattle.pf_scripts.specs.Orders.{entries_in_order, lines_in_order}

@@ -2,15 +2,15 @@
 use Rattle.std.specs.Prelude.{◌≡◌, ℕ, List, Option, Some, None, Result, Ok, Err, codes, unwrap_or, string_bytes}
 use Rattle.std.specs.Prelude.{if◌then◌else◌}
 use Rattle.clap.specs.Words.{Text, Row, first_of}
-use Rattle.pf_words.specs.declared.profile.Profile.TheVariants.{Two}
-use Rattle.pf_ruleset.specs.Rulesets.{RulesetValue}
-use Rattle.pf_table.specs.Tables.{TableValue}
+use Rattle.pf_rules.specs.declared.profile.Profile.TheVariants.{Two}
+use Rattle.pf_rules.specs.Rulesets.{RulesetValue}
+use Rattle.pf_tables.specs.Tables.{TableValue}
 use Rattle.pf_config.specs.Map.{Configuration, table_at}
 use Rattle.pf_grammar.specs.declared.fault.Refusal.{Refusal}
 use Rattle.pf_grammar.specs.Reading.{reading}
 use Rattle.pf_entry.specs.Entry.{Command}
 use Rattle.pf_entry.specs.Owned.{command_value}
-use Rattle.pf_effect.specs.Effect.{refused_text, effect, after_command, place_at}
+use Rattle.pf_command.specs.Effect.{refused_text, effect, after_command, place_at}
 use Rattle.pf_arguments.specs.Asked.{Asked, Change, CheckOnly, ShowRules, ShowTables, ShowAnchors, TableShow}
 use Rattle.pf_arguments.specs.Asked.{TableTest, given_in, asked}
 use Rattle.pf_arguments.specs.Answers.{command_fault_code}

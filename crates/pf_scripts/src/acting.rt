@@ -2,11 +2,11 @@
 
 ghost use Rattle.std.specs.Prelude.{◌≡◌, ◌++◌, OnOk, Ok, true, false, string_bytes};
 ghost use Rattle.pf_grammar.specs.Reading.{reading};
-ghost use Rattle.pf_words.specs.declared.profile.Profile.TheVariants.{Two};
+ghost use Rattle.pf_rules.specs.declared.profile.Profile.TheVariants.{Two};
 ghost use Rattle.pf_entry.specs.Entry.{are_names, path_of, rest_fits};
 ghost use Rattle.pf_entry.specs.Owned.{command_value};
 ghost use Rattle.pf_entry.specs.Seen.{command_of};
-ghost use Rattle.pf_effect.specs.Effect.{effect, after_command, place_at};
+ghost use Rattle.pf_command.specs.Effect.{effect, after_command, place_at};
 ghost use Rattle.pf_arguments.specs.Asked.{is_too_long};
 ghost use Rattle.pf_arguments.specs.Answers.{action_value, IsShort};
 ghost use Rattle.pf_scripts.specs.Ctl.{acted, is_counted, counts_line, change_line, check_line, prints};
@@ -16,10 +16,10 @@ use crate::listing::{list_anchors, list_entries, list_matches, list_rules, list_
 use crate::printing::{push_line, push_number, push_refusal};
 use pf_arguments::{Action, Command, CommandView, EncodeFault, Entry, decode, encode};
 use pf_config::Config;
-use pf_effect::{Applied, ApplyFault, apply};
+use pf_command::{Applied, ApplyFault, apply};
 use pf_entry::BadEntry;
 use pf_grammar::{ParseFault, Place, Profile, parse};
-use pf_ruleset::Name;
+use pf_rules::Name;
 use std::alloc::{AllocError, Global};
 
 /// Whether a command's counts are printed: it changes one table.

@@ -3,10 +3,10 @@
 ghost use Rattle.std.specs.Prelude.{◌≡◌, IfOk, Ok, map, string_bytes};
 ghost use Rattle.std.specs.Option.{option_copied};
 ghost use Rattle.clap.specs.Words.{found_of, rows_of};
-ghost use Rattle.pf_words.specs.declared.profile.Profile.TheVariants.{Two};
+ghost use Rattle.pf_rules.specs.declared.profile.Profile.TheVariants.{Two};
 ghost use Rattle.pf_grammar.specs.Reading.{reading};
 ghost use Rattle.pf_entry.specs.Owned.{command_value};
-ghost use Rattle.pf_effect.specs.Effect.{place_at};
+ghost use Rattle.pf_command.specs.Effect.{place_at};
 ghost use Rattle.pf_arguments.specs.Asked.{given_in, asked};
 ghost use Rattle.pf_arguments.specs.Answers.{action_value};
 ghost use Rattle.pf_scripts.specs.Ctl.{pfctl};
@@ -26,7 +26,7 @@ use pf_addr::Addr;
 use pf_arguments::{Action, Command, from_matches};
 use pf_config::{Config, Table};
 use pf_grammar::{ParseFault, Profile, parse};
-use pf_ruleset::Name;
+use pf_rules::Name;
 use std::alloc::{AllocError, Global};
 
 /// Reads a text and loads nothing.

@@ -1,11 +1,11 @@
 -- Lines of anchor rules as their parts, one behind another.
 use Rattle.std.proofs.Common.{◌≡◌, ℕ, Bool, true, false, List, [], ◌∷◌, ◌++◌, map, refl, sym, ap, ◌∙◌, append_assoc, codes}
 use Rattle.std.specs.List.{flat_map}
-use Rattle.pf_ruleset.specs.Names.{Name}
-use Rattle.pf_ruleset.specs.Items.{Heading}
-use Rattle.pf_ruleset.specs.declared.item.Item.{Item}
-use Rattle.pf_ruleset.specs.Items.{Blocks, values_of}
-use Rattle.pf_ruleset.specs.Seen.{items_of, rule_of}
+use Rattle.pf_rules.specs.Names.{Name}
+use Rattle.pf_rules.specs.Items.{Heading}
+use Rattle.pf_rules.specs.declared.item.Item.{Item}
+use Rattle.pf_rules.specs.Items.{Blocks, values_of}
+use Rattle.pf_rules.specs.Seen.{items_of, rule_of}
 use Rattle.pf_show.specs.Shown.{line, more_parts, slashed, children_text, target_part, heading_parts, anchor_parts, block_target, block_parts, shown_items, shown_item, shown_block, shown_rules}
 use Rattle.pf_show.specs.inner.Spaced.{spaced, text_if, item_line, item_text, slash_name}
 use Rattle.pf_show.proofs.Spacing.{spaced_append, more_is}

@@ -1,14 +1,14 @@
 -- Lines as their parts, one behind another.
 use Rattle.std.proofs.Common.{◌≡◌, ℕ, Bool, true, false, List, [], ◌∷◌, ◌++◌, refl, sym, ap, ◌∙◌, ◌≤◌, length, arith, append_assoc, ◌&&◌, Option, Some, None, codes, if◌then◌else◌}
-use Rattle.pf_ruleset.specs.declared.rule.Action.{Action}
-use Rattle.pf_ruleset.specs.declared.rule.Action.TheVariants.{Pass, Drop, Return}
-use Rattle.pf_ruleset.specs.declared.parts.Host.{Host}
-use Rattle.pf_ruleset.specs.declared.parts.Host.TheVariants as host
-use Rattle.pf_ruleset.specs.declared.parts.PortTest.{PortTest}
-use Rattle.pf_ruleset.specs.declared.rule.Rule.{Rule}
-use Rattle.pf_ruleset.specs.declared.rule.Conditions.{Conditions}
+use Rattle.pf_rules.specs.declared.rule.Action.{Action}
+use Rattle.pf_rules.specs.declared.rule.Action.TheVariants.{Pass, Drop, Return}
+use Rattle.pf_rules.specs.declared.parts.Host.{Host}
+use Rattle.pf_rules.specs.declared.parts.Host.TheVariants as host
+use Rattle.pf_rules.specs.declared.parts.PortTest.{PortTest}
+use Rattle.pf_rules.specs.declared.rule.Rule.{Rule}
+use Rattle.pf_rules.specs.declared.rule.Conditions.{Conditions}
 use Rattle.pf_show.specs.Shown.{Part, end_parts, ends_parts, action_parts, interface_parts, family_parts, protocol_parts, type_parts, direction_parts, quick_parts, condition_parts, flags_parts, state_parts, rule_parts, more_parts, line, letter, skip_line}
-use Rattle.pf_ruleset.specs.Names.{Name}
+use Rattle.pf_rules.specs.Names.{Name}
 use Rattle.std.specs.List.{flat_map}
 use Rattle.pf_show.specs.inner.Spaced.{spaced, joined, text_if, is_any_end}
 

@@ -1,9 +1,9 @@
 -- Lines of tables as their parts, one behind another.
 use Rattle.std.proofs.Common.{◌≡◌, ℕ, Bool, true, false, List, [], ◌∷◌, ◌++◌, map, refl, sym, ap, ◌∙◌, append_assoc, Option, Some, None, codes}
 use Rattle.std.specs.List.{flat_map}
-use Rattle.pf_ruleset.specs.declared.ruleset.TableDef.{TableDef}
-use Rattle.pf_ruleset.specs.declared.ruleset.TableEntry.{TableEntry}
-use Rattle.pf_ruleset.specs.Rulesets.{TableValue, table_of}
+use Rattle.pf_rules.specs.declared.ruleset.TableDef.{TableDef}
+use Rattle.pf_rules.specs.declared.ruleset.TableEntry.{TableEntry}
+use Rattle.pf_rules.specs.Rulesets.{TableValue, table_of}
 use Rattle.pf_show.specs.Shown.{Part, entry_part, entries_parts, word_parts, table_sign, table_parts, table_lines, more_parts, line}
 use Rattle.pf_show.specs.inner.Spaced.{spaced, spaced_entry, table_line}
 use Rattle.pf_show.proofs.Spacing.{spaced_append, more_is}

@@ -2,31 +2,31 @@
 use Rattle.std.specs.Prelude.{ℕ, Bool, true, false, List, [], ◌∷◌, ◌++◌, Option, Some, None, codes, decimal}
 use Rattle.std.specs.Prelude.{map, if◌then◌else◌}
 use Rattle.pf_addr.specs.Shown.{shown_addr, shown_prefix}
-use Rattle.pf_ruleset.specs.declared.rule.Action.{Action}
-use Rattle.pf_ruleset.specs.declared.rule.Action.TheVariants.{Pass, Drop, Return}
-use Rattle.pf_ruleset.specs.declared.parts.Direction.{Direction}
-use Rattle.pf_ruleset.specs.declared.parts.Direction.TheVariants.{In, Out}
+use Rattle.pf_rules.specs.declared.rule.Action.{Action}
+use Rattle.pf_rules.specs.declared.rule.Action.TheVariants.{Pass, Drop, Return}
+use Rattle.pf_rules.specs.declared.parts.Direction.{Direction}
+use Rattle.pf_rules.specs.declared.parts.Direction.TheVariants.{In, Out}
 use Rattle.pf_addr.specs.declared.addr.Family.{Family}
 use Rattle.pf_addr.specs.declared.addr.Family.TheVariants.{Inet, Inet6}
-use Rattle.pf_ruleset.specs.declared.parts.Interface.{Interface}
-use Rattle.pf_ruleset.specs.declared.parts.Addresses.{Addresses}
-use Rattle.pf_ruleset.specs.declared.parts.Addresses.TheVariants.{Prefix, Range, Table}
-use Rattle.pf_ruleset.specs.declared.parts.Host.{Host}
-use Rattle.pf_ruleset.specs.declared.parts.Host.TheVariants as host
-use Rattle.pf_ruleset.specs.declared.parts.PortTest.{PortTest}
-use Rattle.pf_ruleset.specs.declared.parts.PortTest.TheVariants.{Equal, NotEqual, Less, LessEqual, Greater}
-use Rattle.pf_ruleset.specs.declared.parts.PortTest.TheVariants.{GreaterEqual, FromTo, Between, Outside}
-use Rattle.pf_words.specs.declared.flags.TcpFlags.{TcpFlags}
-use Rattle.pf_ruleset.specs.declared.parts.FlagTest.{FlagTest}
-use Rattle.pf_ruleset.specs.declared.parts.FlagTest.TheVariants as flags
-use Rattle.pf_ruleset.specs.declared.rule.Conditions.{Conditions}
-use Rattle.pf_ruleset.specs.declared.rule.Rule.{Rule}
-use Rattle.pf_ruleset.specs.Items.{Target, Heading, AnyRule, FilterRule, AnchorRule, ItemValue, Filters}
-use Rattle.pf_ruleset.specs.Items.{Anchors, Blocks}
-use Rattle.pf_ruleset.specs.Items.{ItemValues, no_items, one_more}
-use Rattle.pf_ruleset.specs.Names.{Name, begins_below}
-use Rattle.pf_ruleset.specs.Rulesets.{RulesetValue, TableValue}
-use Rattle.pf_ruleset.specs.declared.ruleset.TableEntry.{TableEntry}
+use Rattle.pf_rules.specs.declared.parts.Interface.{Interface}
+use Rattle.pf_rules.specs.declared.parts.Addresses.{Addresses}
+use Rattle.pf_rules.specs.declared.parts.Addresses.TheVariants.{Prefix, Range, Table}
+use Rattle.pf_rules.specs.declared.parts.Host.{Host}
+use Rattle.pf_rules.specs.declared.parts.Host.TheVariants as host
+use Rattle.pf_rules.specs.declared.parts.PortTest.{PortTest}
+use Rattle.pf_rules.specs.declared.parts.PortTest.TheVariants.{Equal, NotEqual, Less, LessEqual, Greater}
+use Rattle.pf_rules.specs.declared.parts.PortTest.TheVariants.{GreaterEqual, FromTo, Between, Outside}
+use Rattle.pf_rules.specs.declared.flags.TcpFlags.{TcpFlags}
+use Rattle.pf_rules.specs.declared.parts.FlagTest.{FlagTest}
+use Rattle.pf_rules.specs.declared.parts.FlagTest.TheVariants as flags
+use Rattle.pf_rules.specs.declared.rule.Conditions.{Conditions}
+use Rattle.pf_rules.specs.declared.rule.Rule.{Rule}
+use Rattle.pf_rules.specs.Items.{Target, Heading, AnyRule, FilterRule, AnchorRule, ItemValue, Filters}
+use Rattle.pf_rules.specs.Items.{Anchors, Blocks}
+use Rattle.pf_rules.specs.Items.{ItemValues, no_items, one_more}
+use Rattle.pf_rules.specs.Names.{Name, begins_below}
+use Rattle.pf_rules.specs.Rulesets.{RulesetValue, TableValue}
+use Rattle.pf_rules.specs.declared.ruleset.TableEntry.{TableEntry}
 
 -- the bytes of a line that stand together, without a blank between them
 abbrev pub Part : Type 0

@@ -3,13 +3,13 @@
 ghost use Rattle.std.specs.Prelude.{◌≡◌, ◌++◌, Some, codes};
 ghost use Rattle.std.specs.Fmt.{WritesOnOk};
 ghost use Rattle.std.specs.List.{flat_map};
-ghost use Rattle.pf_ruleset.specs.Seen.{heading_of, target_of};
+ghost use Rattle.pf_rules.specs.Seen.{heading_of, target_of};
 ghost use Rattle.pf_show.specs.Shown.{slashed, target_part, heading_parts, anchor_parts, is_unnamed, block_target};
 ghost use Rattle.pf_show.specs.Shown.{block_parts, line};
 ghost use Rattle.pf_show.specs.inner.Spaced.{spaced, item_line, item_text, slash_name};
 
 use crate::shown::{ConditionParts, DirectionPart, FlagsParts, QuickPart, RuleLine, text_if};
-use pf_ruleset::{Action, AnchorHeading, Item, Name, Target};
+use pf_rules::{Action, AnchorHeading, Item, Name, Target};
 use std::fmt::{self, Display};
 
 /// Names, each behind a slash.

@@ -1,22 +1,22 @@
 //! A ruleset as text: a line for each part, its words between single blanks.
 
 ghost use Rattle.std.specs.Prelude.{◌≡◌, Some, IfOk, map, string_bytes};
-ghost use Rattle.pf_ruleset.specs.Rulesets.{ruleset_of};
+ghost use Rattle.pf_rules.specs.Rulesets.{ruleset_of};
 ghost use Rattle.pf_show.specs.Shown.{direction_parts, quick_parts, action_parts, interface_parts, family_parts};
 ghost use Rattle.pf_show.specs.Shown.{protocol_parts, host_parts, test_parts, port_parts, end_parts, ends_parts};
 ghost use Rattle.pf_show.specs.Shown.{type_parts, letters, flags_text, flags_parts, state_parts, condition_parts};
 ghost use Rattle.pf_show.specs.Shown.{rule_parts, line, skip_line, shown_items, shown};
 ghost use Rattle.pf_show.specs.inner.Spaced.{spaced, joined, text_if, is_any_end};
-ghost use Rattle.pf_ruleset.specs.Seen.{rule_of};
+ghost use Rattle.pf_rules.specs.Seen.{rule_of};
 
 use crate::items::{ItemLines, ItemTexts};
 use crate::tables::TableLines;
 use pf_addr::Family;
-use pf_ruleset::{
+use pf_rules::{
     Action, Addresses, Conditions, Direction, FlagTest, Host, Interface, InterfaceName, Item,
     PortTest, Rule, Ruleset,
 };
-use pf_words::TcpFlags;
+use pf_rules::TcpFlags;
 use std::alloc::{AllocError, Global};
 use std::fmt::{self, Display};
 

@@ -4,7 +4,7 @@ ghost use Rattle.std.specs.Prelude.{Some};
 ghost use Rattle.pf_show.specs.Shown.{entries_parts, word_parts};
 ghost use Rattle.pf_show.specs.inner.Spaced.{spaced, spaced_entry, table_line};
 
-use pf_ruleset::{TableDef, TableEntry};
+use pf_rules::{TableDef, TableEntry};
 use std::fmt;
 
 /// Entries, each behind a blank.

@@ -2,26 +2,26 @@
 use Rattle.std.proofs.Common.{◌≡◌, ℕ, ◌<◌, ◌≤◌, Bool, true, false, cond, List, [], ◌∷◌, ◌++◌, length, Option, Some, None, refl, sym, ap, subst, ◌∙◌, append_assoc, arith}
 use Rattle.std.specs.Prelude.{codes}
 use Rattle.std.proofs.lemmas.List.{length-append}
-use Rattle.pf_words.specs.declared.profile.Profile.{Profile}
-use Rattle.pf_words.specs.declared.profile.Profile.TheVariants.{One, Two}
-use Rattle.pf_words.specs.Words.{common_reserved, is_among, is_reserved}
+use Rattle.pf_rules.specs.declared.profile.Profile.{Profile}
+use Rattle.pf_rules.specs.declared.profile.Profile.TheVariants.{One, Two}
+use Rattle.pf_rules.specs.Words.{common_reserved, is_among, is_reserved}
 use Rattle.pf_tokens.specs.Tokens.{Token, Word, Quoted, Macro, Mark, Newline, Bad}
 use Rattle.pf_tokens.specs.Productions.{◌>>=◌, starts, option_at}
 use Rattle.pf_tokens.specs.inner.Shorter.{bind_some, some_is}
 use Rattle.pf_addr.specs.declared.addr.Family.{Family}
-use Rattle.pf_ruleset.specs.Items.{Target}
-use Rattle.pf_ruleset.specs.declared.parts.Direction.{Direction}
-use Rattle.pf_ruleset.specs.declared.parts.FlagTest.{FlagTest}
-use Rattle.pf_conditions.specs.Conditions.{Ends, flags_at, common_at, CommonText}
-use Rattle.pf_conditions.specs.Targets.{may_name, target_of, target_behind, target_at}
-use Rattle.pf_conditions.specs.Grammar.{IsFlags, IsBehind, Missing, Behind, IsFamily, NoFamily, InetWord, Inet6Word, IsHosts, NoHosts, AllWord, FromPart, ToPart, FromToParts, IsCommon}
+use Rattle.pf_rules.specs.Items.{Target}
+use Rattle.pf_rules.specs.declared.parts.Direction.{Direction}
+use Rattle.pf_rules.specs.declared.parts.FlagTest.{FlagTest}
+use Rattle.pf_statements.specs.Conditions.{Ends, flags_at, common_at, CommonText}
+use Rattle.pf_statements.specs.Targets.{may_name, target_of, target_behind, target_at}
+use Rattle.pf_statements.specs.ConditionGrammar.{IsFlags, IsBehind, Missing, Behind, IsFamily, NoFamily, InetWord, Inet6Word, IsHosts, NoHosts, AllWord, FromPart, ToPart, FromToParts, IsCommon}
 use Rattle.pf_tokens.proofs.Fronts.{Took}
-use Rattle.pf_conditions.proofs.Fronts.{rank, not_begun}
+use Rattle.pf_statements.proofs.Fronts.{rank, not_begun}
 use Rattle.pf_tokens.proofs.ListsSpelled.{Spells}
-use Rattle.pf_conditions.proofs.BehindSpelled.{behind_took, behind_reads}
-use Rattle.pf_conditions.proofs.CommonSpelled.{common_rank, common_reads, common_took, four_parts}
-use Rattle.pf_conditions.proofs.FlagsSpelled.{flags_took, flags_reads}
-use Rattle.pf_conditions.proofs.PiecesSpelled.{Anything}
+use Rattle.pf_statements.proofs.BehindSpelled.{behind_took, behind_reads}
+use Rattle.pf_statements.proofs.CommonSpelled.{common_rank, common_reads, common_took, four_parts}
+use Rattle.pf_statements.proofs.FlagsSpelled.{flags_took, flags_reads}
+use Rattle.pf_statements.proofs.PiecesSpelled.{Anything}
 use Rattle.pf_statements.specs.Directions.{direction_at}
 use Rattle.pf_statements.specs.Anchors.{AnchorText, HeadingText, anchor_with, said_flags, said_target, optional_target_at, heading_at}
 use Rattle.pf_statements.specs.Grammar.{IsTarget, TargetWord, TargetString, IsAnchor, IsOptional, LeftOut, Given, IsHeading, IsDirection, NoDirection, InWord, OutWord, IsSaid, Unsaid, Said}

@@ -2,14 +2,14 @@
 use Rattle.std.proofs.Common.{◌≡◌, ℕ, zero, suc, ◌<◌, ◌≤◌, Bool, true, false, cond, List, [], ◌∷◌, ◌++◌, drop, length, Some, None, refl, sym, ap, subst, ◌∙◌, append_assoc, arith}
 use Rattle.std.specs.Prelude.{codes}
 use Rattle.std.proofs.lemmas.List.{length-append}
-use Rattle.pf_words.specs.declared.profile.Profile.{Profile}
+use Rattle.pf_rules.specs.declared.profile.Profile.{Profile}
 use Rattle.pf_tokens.specs.declared.symbol.Symbol.TheVariants.{Open, Close}
 use Rattle.pf_tokens.specs.Tokens.{Token, Word, Quoted, Macro, Mark, Newline, Bad, is_newline}
 use Rattle.pf_tokens.specs.Productions.{Read, ◌>>=◌, begins, begins_symbol, starts}
 use Rattle.pf_tokens.specs.inner.Shorter.{bind_some, some_is}
-use Rattle.pf_conditions.specs.Conditions.{if_so}
+use Rattle.pf_statements.specs.Conditions.{if_so}
 use Rattle.pf_tokens.proofs.Fronts.{Took, begins_is, symbol_is}
-use Rattle.pf_conditions.proofs.PiecesSpelled.{if_so_is}
+use Rattle.pf_statements.proofs.PiecesSpelled.{if_so_is}
 use Rattle.pf_statements.specs.Options.{is_over}
 use Rattle.pf_statements.specs.Anchors.{AnchorText, HeadingText, anchor_with, heading_at}
 use Rattle.pf_statements.specs.Statements.{RuleText, ItemText, RuleItem, AnchorItem, BlockItem, ItemTexts, no_texts, one_text, is_wild, anchor_item, block_item, anchor_behind, as_rule, item_with, put_text, items_at, item_at, rule_at}

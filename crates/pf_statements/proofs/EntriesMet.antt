@@ -2,12 +2,12 @@
 use Rattle.std.proofs.Common.{◌≡◌, Bool, true, false, List, refl, sym}
 use Rattle.std.specs.Prelude.{not}
 use Rattle.std.proofs.lemmas.Bool.{false≢true}
-use Rattle.pf_words.specs.declared.profile.Profile.{Profile}
+use Rattle.pf_rules.specs.declared.profile.Profile.{Profile}
 use Rattle.pf_tokens.specs.declared.symbol.Symbol.TheVariants.{Slash}
 use Rattle.pf_tokens.specs.Tokens.{Token}
 use Rattle.pf_tokens.specs.Productions.{begins_symbol}
 use Rattle.pf_tokens.specs.ListGrammar.{IsElement}
-use Rattle.pf_conditions.proofs.ElementsMet.{Tells, met}
+use Rattle.pf_statements.proofs.ElementsMet.{Tells, met}
 use Rattle.pf_statements.specs.Tables.{entry_at, may_follow_entry}
 use Rattle.pf_statements.proofs.TablesSpelled.{EntryEnds, entries_readable}
 

@@ -2,14 +2,14 @@
 use Rattle.std.proofs.Common.{◌≡◌, ◌<◌, ◌≤◌, ◌&&◌, Bool, true, false, cond, List, drop, length, Some, None, refl, arith, codes}
 use Rattle.std.specs.Prelude.{is_some}
 use Rattle.std.proofs.lemmas.Bool.{and_parts}
-use Rattle.pf_words.specs.declared.profile.Profile.{Profile}
+use Rattle.pf_rules.specs.declared.profile.Profile.{Profile}
 use Rattle.pf_tokens.specs.Tokens.{Token}
 use Rattle.pf_tokens.specs.Productions.{Read, ◌>>=◌, begins}
 use Rattle.pf_tokens.specs.inner.Shorter.{begins_shorter}
-use Rattle.pf_conditions.specs.Conditions.{if_so, flags_at, types_at}
+use Rattle.pf_statements.specs.Conditions.{if_so, flags_at, types_at}
 use Rattle.pf_statements.specs.Statements.{has_types, Options, flags_option, state_option, types_option, option_with}
-use Rattle.pf_conditions.specs.inner.Shorter.{then_no_longer, answer_left, drop_no_longer, so_left}
-use Rattle.pf_conditions.proofs.NoLonger.{flags_no_longer, types_no_longer}
+use Rattle.pf_statements.specs.inner.Shorter.{then_no_longer, answer_left, drop_no_longer, so_left}
+use Rattle.pf_statements.proofs.NoLonger.{flags_no_longer, types_no_longer}
 
 -- none where it was said before
 unless_said : {Y : Type 0} (b : Bool) (read : Read Y) (y : Y) (rest : List Token) → cond {A = Read Y} b None read ≡ Some (y, rest) → read ≡ Some (y, rest)

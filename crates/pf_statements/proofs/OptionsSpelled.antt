@@ -3,27 +3,27 @@ use Rattle.std.proofs.Common.{◌≡◌, ℕ, zero, suc, ◌<◌, ◌&&◌, Bool
 use Rattle.std.specs.Prelude.{bytes_eq, codes, is_some}
 use Rattle.std.proofs.lemmas.Bool.{false≢true}
 use Rattle.std.proofs.lemmas.List.{append-nil, length-append}
-use Rattle.pf_words.specs.declared.profile.Profile.{Profile}
+use Rattle.pf_rules.specs.declared.profile.Profile.{Profile}
 use Rattle.pf_tokens.specs.Tokens.{Token, Word}
 use Rattle.pf_tokens.specs.Productions.{◌>>=◌, begins, option_at}
 use Rattle.pf_tokens.specs.Lists.{Elements}
 use Rattle.pf_tokens.specs.inner.Shorter.{bind_some, some_is}
-use Rattle.pf_ruleset.specs.declared.parts.FlagTest.{FlagTest}
+use Rattle.pf_rules.specs.declared.parts.FlagTest.{FlagTest}
 use Rattle.pf_statements.specs.declared.written.WrittenAction.{WrittenAction}
-use Rattle.pf_conditions.specs.declared.written.WrittenType.{WrittenType}
-use Rattle.pf_conditions.specs.Conditions.{if_so, flags_at, types_at, common_at}
+use Rattle.pf_statements.specs.declared.conditions.WrittenType.{WrittenType}
+use Rattle.pf_statements.specs.Conditions.{if_so, flags_at, types_at, common_at}
 use Rattle.pf_statements.specs.Options.{is_over, until_over}
 use Rattle.pf_statements.specs.Statements.{Options, no_options, flags_option, state_option, types_option, has_types, option_with, options_at, action_at, RuleText, may_keep, rule_at}
 use Rattle.pf_statements.specs.Directions.{direction_at}
-use Rattle.pf_conditions.specs.Grammar.{IsFlags, IsTypes}
+use Rattle.pf_statements.specs.ConditionGrammar.{IsFlags, IsTypes}
 use Rattle.pf_statements.specs.Grammar.{IsAction, PassWord, BlockWord, BlockSaid, IsKeep, NoWord, KeepWord, IsOptions, NoOption, FlagsOption, StateOption, TypesOption, IsRule}
 use Rattle.pf_tokens.proofs.Fronts.{Took, begins_is}
-use Rattle.pf_conditions.proofs.Fronts.{rank, not_begun}
+use Rattle.pf_statements.proofs.Fronts.{rank, not_begun}
 use Rattle.pf_statements.proofs.Over.{over_follows}
 use Rattle.pf_statements.proofs.RulesSpelled.{action_took, action_reads, direction_took, direction_reads, direction_rank, said_took, said_reads, log_rank, quick_rank}
-use Rattle.pf_conditions.proofs.CommonSpelled.{common_rank, common_reads, common_took}
-use Rattle.pf_conditions.proofs.PiecesSpelled.{if_so_is}
-use Rattle.pf_conditions.proofs.FlagsSpelled.{flags_took, flags_reads, types_took, types_reads}
+use Rattle.pf_statements.proofs.CommonSpelled.{common_rank, common_reads, common_took}
+use Rattle.pf_statements.proofs.PiecesSpelled.{if_so_is}
+use Rattle.pf_statements.proofs.FlagsSpelled.{flags_took, flags_reads, types_took, types_reads}
 
 -- ---- options
 

@@ -1,13 +1,13 @@
 -- Where a rule is over, no part of one follows.
 use Rattle.std.proofs.Common.{◌≡◌, ◌<◌, true, false, List, [], ◌∷◌, ◌++◌, refl, ap, arith}
 use Rattle.std.proofs.lemmas.Bool.{false≢true}
-use Rattle.pf_words.specs.declared.profile.Profile.{Profile}
+use Rattle.pf_rules.specs.declared.profile.Profile.{Profile}
 use Rattle.pf_tokens.specs.declared.symbol.Symbol.TheVariants.{Open, Close}
 use Rattle.pf_tokens.specs.Tokens.{Token, Word, Quoted, Macro, Mark, Newline, Bad}
 use Rattle.pf_tokens.specs.Productions.{begins_symbol, starts}
-use Rattle.pf_conditions.specs.Targets.{may_name}
+use Rattle.pf_statements.specs.Targets.{may_name}
 use Rattle.pf_tokens.proofs.Fronts.{symbol_is}
-use Rattle.pf_conditions.proofs.Fronts.{rank}
+use Rattle.pf_statements.proofs.Fronts.{rank}
 use Rattle.pf_statements.specs.Options.{is_over}
 
 -- what may follow an anchor rule up to its block, or a rule

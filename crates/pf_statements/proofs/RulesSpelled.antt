@@ -4,19 +4,19 @@ use Rattle.std.specs.Prelude.{codes}
 use Rattle.pf_tokens.specs.Tokens.{Token, Word}
 use Rattle.pf_tokens.specs.Productions.{begins, option_at}
 use Rattle.pf_tokens.specs.inner.Shorter.{some_is}
-use Rattle.pf_ruleset.specs.declared.parts.Policy.{Policy}
-use Rattle.pf_ruleset.specs.declared.parts.Policy.TheVariants as policy
-use Rattle.pf_ruleset.specs.declared.parts.Direction.{Direction}
-use Rattle.pf_ruleset.specs.declared.parts.Direction.TheVariants.{In, Out}
+use Rattle.pf_rules.specs.declared.parts.Policy.{Policy}
+use Rattle.pf_rules.specs.declared.parts.Policy.TheVariants as policy
+use Rattle.pf_rules.specs.declared.parts.Direction.{Direction}
+use Rattle.pf_rules.specs.declared.parts.Direction.TheVariants.{In, Out}
 use Rattle.pf_statements.specs.declared.written.WrittenAction.{WrittenAction}
 use Rattle.pf_statements.specs.declared.written.WrittenAction.TheVariants.{Pass, Block as Blocks}
 use Rattle.pf_statements.specs.Statements.{policy_at, action_at}
 use Rattle.pf_statements.specs.Directions.{direction_at}
-use Rattle.pf_conditions.specs.Grammar.{key}
+use Rattle.pf_statements.specs.ConditionGrammar.{key}
 use Rattle.pf_statements.specs.Grammar.{IsPolicy, DropWord, ReturnWord, IsAction, PassWord, BlockWord, BlockSaid, IsDirection, NoDirection, InWord, OutWord, IsSaid, Unsaid, Said}
 use Rattle.pf_tokens.proofs.Fronts.{Took, begins_is}
-use Rattle.pf_conditions.proofs.Fronts.{rank, not_begun}
-use Rattle.pf_conditions.proofs.BehindSpelled.{same_word}
+use Rattle.pf_statements.proofs.Fronts.{rank, not_begun}
+use Rattle.pf_statements.proofs.BehindSpelled.{same_word}
 
 -- ---- the words at the front
 

@@ -3,20 +3,20 @@ use Rattle.std.proofs.Common.{◌≡◌, ℕ, inl, inr, Bool, true, false, cond,
 use Rattle.std.specs.Prelude.{bytes_eq, codes}
 use Rattle.std.proofs.lemmas.Bool.{false≢true}
 use Rattle.std.proofs.lemmas.List.{append-nil}
-use Rattle.pf_words.specs.declared.profile.Profile.{Profile}
+use Rattle.pf_rules.specs.declared.profile.Profile.{Profile}
 use Rattle.pf_tokens.specs.Tokens.{Token, Word}
 use Rattle.pf_tokens.specs.Productions.{Read, ◌>>=◌, begins, is_end}
 use Rattle.pf_tokens.specs.Lists.{some_at}
 use Rattle.pf_tokens.specs.inner.Shorter.{bind_some, some_is}
-use Rattle.pf_ruleset.specs.declared.parts.Policy.{Policy}
-use Rattle.pf_conditions.specs.Conditions.{if_so, interface_name_at}
+use Rattle.pf_rules.specs.declared.parts.Policy.{Policy}
+use Rattle.pf_statements.specs.Conditions.{if_so, interface_name_at}
 use Rattle.pf_statements.specs.Statements.{RuleText, policy_at, Setting, SetPolicy, SetSkip, all_read, policy_set, skip_set, setting_of, Statement, Sets, as_setting, value_of, Tables, as_table, ItemText, RuleItem, statement_with, as_item, item_at}
 use Rattle.pf_tokens.specs.ListGrammar.{IsSome}
-use Rattle.pf_conditions.specs.Grammar.{IsInterfaceName}
+use Rattle.pf_statements.specs.ConditionGrammar.{IsInterfaceName}
 use Rattle.pf_statements.specs.Grammar.{IsRule, IsItem, ARule, AnAnchor, ABlock, IsSetting, PolicySetting, SkipSetting, IsStatement, SetStatement, RuleStatement, TableStatement, AnchorStatement, BlockStatement}
 use Rattle.pf_tokens.proofs.Fronts.{begins_is}
 use Rattle.pf_tokens.proofs.ListsSpelled.{Spells, some_spells}
-use Rattle.pf_conditions.proofs.PiecesSpelled.{if_so_is, Anything, names_readable}
+use Rattle.pf_statements.proofs.PiecesSpelled.{if_so_is, Anything, names_readable}
 use Rattle.pf_statements.proofs.RulesSpelled.{PolicyTook, policy_took, policy_reads}
 use Rattle.pf_statements.proofs.OptionsSpelled.{rule_not}
 use Rattle.pf_statements.proofs.BlocksSpelled.{item_reads, item_took}

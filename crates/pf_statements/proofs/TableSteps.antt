@@ -1,11 +1,11 @@
 -- An option of a table takes a token at least.
 use Rattle.std.proofs.Common.{◌≡◌, ◌<◌, Bool, true, false, cond, List, drop, length, Some, None, refl, arith, codes}
 use Rattle.std.specs.Prelude.{is_some}
-use Rattle.pf_words.specs.declared.profile.Profile.{Profile}
+use Rattle.pf_rules.specs.declared.profile.Profile.{Profile}
 use Rattle.pf_tokens.specs.Tokens.{Token}
 use Rattle.pf_tokens.specs.Productions.{Read, ◌>>=◌, begins}
 use Rattle.pf_tokens.specs.inner.Shorter.{begins_shorter, bind_some}
-use Rattle.pf_conditions.specs.inner.Shorter.{answer_left}
+use Rattle.pf_statements.specs.inner.Shorter.{answer_left}
 use Rattle.pf_statements.specs.Tables.{TableText, entries_at, listed_option, table_option}
 use Rattle.pf_statements.proofs.TablesSpelled.{entries_shorter}
 

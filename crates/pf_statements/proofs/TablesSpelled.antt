@@ -4,7 +4,7 @@ use Rattle.std.specs.Prelude.{codes, is_some}
 use Rattle.std.specs.List.{AllByRecursion}
 use Rattle.std.proofs.lemmas.Bool.{false≢true}
 use Rattle.std.proofs.lemmas.List.{length-append}
-use Rattle.pf_words.specs.declared.profile.Profile.{Profile}
+use Rattle.pf_rules.specs.declared.profile.Profile.{Profile}
 use Rattle.pf_tokens.specs.declared.symbol.Symbol.TheVariants.{Open, Close, OpenParenthesis, CloseParenthesis, Comma, Slash, Not, NotEqual, Less, LessEqual, Greater, GreaterEqual, Between, Outside, Equals}
 use Rattle.pf_tokens.specs.Tokens.{Token, Word, Quoted, Macro, Mark, Newline, Bad}
 use Rattle.pf_tokens.specs.Blanks.{blanked}
@@ -12,16 +12,16 @@ use Rattle.pf_tokens.specs.Productions.{Read, ◌>>=◌, begins, begins_symbol, 
 use Rattle.pf_tokens.specs.Lists.{Elements, list_at}
 use Rattle.pf_tokens.specs.inner.Shorter.{bind_some, some_is}
 use Rattle.pf_addr.specs.Blocks.{Block}
-use Rattle.pf_ruleset.specs.Names.{Name}
-use Rattle.pf_ruleset.specs.declared.ruleset.TableEntry.{TableEntry}
-use Rattle.pf_conditions.specs.Conditions.{prefix_at, table_at}
+use Rattle.pf_rules.specs.Names.{Name}
+use Rattle.pf_rules.specs.declared.ruleset.TableEntry.{TableEntry}
+use Rattle.pf_statements.specs.Conditions.{prefix_at, table_at}
 use Rattle.pf_tokens.specs.ListGrammar.{IsElements, LastOne, LastList, OneMore, ListMore, IsList, Braces}
-use Rattle.pf_conditions.specs.Grammar.{IsPrefix, WholeAddress, CutAddress}
+use Rattle.pf_statements.specs.ConditionGrammar.{IsPrefix, WholeAddress, CutAddress}
 use Rattle.pf_tokens.proofs.Fronts.{Took, begins_is, symbol_is}
 use Rattle.pf_tokens.proofs.ListsSpelled.{Heads, Readable, list_took, list_reads}
 use Rattle.pf_tokens.specs.ListGrammar.{IsPlain}
-use Rattle.pf_conditions.proofs.PiecesSpelled.{prefix_took, prefix_reads, prefix_plain, prefix_some}
-use Rattle.pf_conditions.proofs.PiecesSpelled as pieces
+use Rattle.pf_statements.proofs.PiecesSpelled.{prefix_took, prefix_reads, prefix_plain, prefix_some}
+use Rattle.pf_statements.proofs.PiecesSpelled as pieces
 use Rattle.pf_statements.specs.Options.{to_end}
 use Rattle.pf_statements.specs.Tables.{TableText, new_table, entry_at, empty_at, no_entries, entries_at, listed_option, table_option, table_of}
 use Rattle.pf_statements.specs.Grammar.{IsEntry, EntryIn, EntryOut, AreNewlines, NoNewline, MoreNewlines, AreEntries, NoEntries, SomeEntries, AreTableOptions, NoTableOption, PersistOption, ConstOption, CountersOption, EntriesOption, IsTableText, TableOptions}

@@ -1,12 +1,12 @@
 -- What an anchor rule says up to its block, production by production (pf.conf(5), ANCHORS).
 use Rattle.std.specs.Prelude.{Bool, List, Option, Some, None, codes, if◌then◌else◌}
-use Rattle.pf_words.specs.declared.profile.Profile.{Profile}
+use Rattle.pf_rules.specs.declared.profile.Profile.{Profile}
 use Rattle.pf_tokens.specs.Tokens.{Token}
 use Rattle.pf_tokens.specs.Productions.{Read, ◌>>=◌, starts, option_at}
-use Rattle.pf_ruleset.specs.Items.{Target}
-use Rattle.pf_ruleset.specs.declared.parts.FlagTest.{FlagTest}
-use Rattle.pf_conditions.specs.Conditions.{behind_word, flags_at, common_at, ConditionsText}
-use Rattle.pf_conditions.specs.Targets.{may_name, target_at}
+use Rattle.pf_rules.specs.Items.{Target}
+use Rattle.pf_rules.specs.declared.parts.FlagTest.{FlagTest}
+use Rattle.pf_statements.specs.Conditions.{behind_word, flags_at, common_at, ConditionsText}
+use Rattle.pf_statements.specs.Targets.{may_name, target_at}
 use Rattle.pf_statements.specs.Directions.{direction_at}
 
 -- an anchor rule without a block as it is written

@@ -2,8 +2,8 @@
 use Rattle.std.specs.Prelude.{List, drop, Option, Some, None, codes, if◌then◌else◌}
 use Rattle.pf_tokens.specs.Tokens.{Token}
 use Rattle.pf_tokens.specs.Productions.{begins}
-use Rattle.pf_ruleset.specs.declared.parts.Direction.{Direction}
-use Rattle.pf_ruleset.specs.declared.parts.Direction.TheVariants.{In, Out}
+use Rattle.pf_rules.specs.declared.parts.Direction.{Direction}
+use Rattle.pf_rules.specs.declared.parts.Direction.TheVariants.{In, Out}
 
 -- ["in" | "out"]
 unfoldable pub direction_at : List Token → Option Direction × List Token

@@ -2,33 +2,33 @@
 -- nothing of how a text is read.
 use Rattle.std.specs.Prelude.{◌≡◌, ℕ, Bool, true, false, List, [], ◌∷◌, ◌++◌, Option, Some}
 use Rattle.std.specs.Prelude.{None, codes}
-use Rattle.pf_words.specs.declared.profile.Profile.{Profile}
+use Rattle.pf_rules.specs.declared.profile.Profile.{Profile}
 use Rattle.pf_tokens.specs.Tokens.{Token, Newline, Quoted}
 use Rattle.pf_tokens.specs.Lists.{Elements}
-use Rattle.pf_ruleset.specs.declared.parts.Policy.{Policy}
-use Rattle.pf_ruleset.specs.declared.parts.Policy.TheVariants as policy
-use Rattle.pf_ruleset.specs.declared.parts.Direction.{Direction}
-use Rattle.pf_ruleset.specs.declared.parts.Direction.TheVariants.{In, Out}
-use Rattle.pf_ruleset.specs.declared.parts.FlagTest.{FlagTest}
+use Rattle.pf_rules.specs.declared.parts.Policy.{Policy}
+use Rattle.pf_rules.specs.declared.parts.Policy.TheVariants as policy
+use Rattle.pf_rules.specs.declared.parts.Direction.{Direction}
+use Rattle.pf_rules.specs.declared.parts.Direction.TheVariants.{In, Out}
+use Rattle.pf_rules.specs.declared.parts.FlagTest.{FlagTest}
 use Rattle.pf_statements.specs.declared.written.WrittenAction.{WrittenAction}
 use Rattle.pf_statements.specs.declared.written.WrittenAction.TheVariants.{Pass, Block as Blocks}
-use Rattle.pf_conditions.specs.declared.written.WrittenType.{WrittenType}
-use Rattle.pf_ruleset.specs.Names.{Name}
+use Rattle.pf_statements.specs.declared.conditions.WrittenType.{WrittenType}
+use Rattle.pf_rules.specs.Names.{Name}
 use Rattle.pf_statements.specs.Statements.{Options, no_options, has_types, may_keep, RuleText, Setting, SetPolicy}
 use Rattle.pf_statements.specs.Statements.{SetSkip, Statement, Sets, Rules, Tables, Anchors, AnchorBlocks}
 use Rattle.pf_statements.specs.Statements.{ItemText, RuleItem, AnchorItem, BlockItem, ItemTexts, no_texts, one_text}
 use Rattle.pf_statements.specs.Statements.{is_wild}
 use Rattle.pf_statements.specs.Options.{is_over}
 use Rattle.pf_statements.specs.Anchors.{AnchorText, HeadingText}
-use Rattle.pf_ruleset.specs.Items.{Target}
-use Rattle.pf_words.specs.Words.{is_reserved}
-use Rattle.pf_conditions.specs.Targets.{target_of}
+use Rattle.pf_rules.specs.Items.{Target}
+use Rattle.pf_rules.specs.Words.{is_reserved}
+use Rattle.pf_statements.specs.Targets.{target_of}
 use Rattle.pf_tokens.specs.ListGrammar.{sign, IsSome, IsList}
-use Rattle.pf_conditions.specs.Grammar.{key, IsInterfaceName, IsFlags, IsTypes, IsCommon}
-use Rattle.pf_conditions.specs.Grammar.{IsBehind}
-use Rattle.pf_conditions.specs.Grammar.{IsPrefix, IsTable}
+use Rattle.pf_statements.specs.ConditionGrammar.{key, IsInterfaceName, IsFlags, IsTypes, IsCommon}
+use Rattle.pf_statements.specs.ConditionGrammar.{IsBehind}
+use Rattle.pf_statements.specs.ConditionGrammar.{IsPrefix, IsTable}
 use Rattle.pf_statements.specs.Tables.{TableText, new_table, no_entries}
-use Rattle.pf_ruleset.specs.declared.ruleset.TableEntry.{TableEntry}
+use Rattle.pf_rules.specs.declared.ruleset.TableEntry.{TableEntry}
 use Rattle.pf_addr.specs.Blocks.{Block}
 use Rattle.pf_tokens.specs.declared.symbol.Symbol.TheVariants as mark
 

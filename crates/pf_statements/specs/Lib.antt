@@ -1,3 +1,9 @@
+pub mod Conditions
+pub mod ConditionsSeen
+pub mod ConditionGrammar
+pub mod ListElements
+pub mod Targets
+pub mod inner
 pub mod Options
 pub mod Directions
 pub mod Anchors
@@ -5,4 +11,3 @@ pub mod Tables
 pub mod Statements
 pub mod Seen
 pub mod Grammar
-pub mod inner

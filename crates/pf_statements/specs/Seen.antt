@@ -14,12 +14,12 @@ use Rattle.pf_statements.specs.Statements.{ItemTexts, texts_of}
 use Rattle.pf_statements.specs.declared.written.WrittenHeading.{WrittenHeading}
 use Rattle.pf_statements.specs.declared.written.WrittenItem.{WrittenItem, fold-WrittenItem}
 use Rattle.pf_statements.specs.declared.written.WrittenItem.TheOpen.{WrittenItem-F}
-use Rattle.pf_conditions.specs.Seen.{list_of, conditions_of}
+use Rattle.pf_statements.specs.ConditionsSeen.{list_of, conditions_of}
 use Rattle.pf_statements.specs.Tables.{TableText}
 use Rattle.pf_statements.specs.declared.written.WrittenTable.{WrittenTable}
 use Rattle.pf_statements.specs.declared.written.WrittenAnchor.{WrittenAnchor}
 use Rattle.pf_statements.specs.Anchors.{AnchorText, HeadingText}
-use Rattle.pf_ruleset.specs.Seen.{target_of}
+use Rattle.pf_rules.specs.Seen.{target_of}
 
 -- the filter rule as it is written that a value in code stands for
 abbrev pub text_of : WrittenRule → RuleText

@@ -1,24 +1,24 @@
 -- What a statement says, production by production (pf.conf(5), GRAMMAR).
 use Rattle.std.specs.Prelude.{ℕ, zero, suc, ◌&&◌, Bool, true, false, List, [], ◌∷◌, drop, length}
 use Rattle.std.specs.Prelude.{Option, Some, None, is_some, codes, if◌then◌else◌}
-use Rattle.pf_words.specs.declared.profile.Profile.{Profile}
-use Rattle.pf_words.specs.declared.profile.Profile.TheVariants.{One, Two}
+use Rattle.pf_rules.specs.declared.profile.Profile.{Profile}
+use Rattle.pf_rules.specs.declared.profile.Profile.TheVariants.{One, Two}
 use Rattle.pf_tokens.specs.declared.symbol.Symbol.TheVariants as mark
 use Rattle.pf_tokens.specs.Tokens.{Token, is_newline}
 use Rattle.pf_tokens.specs.Productions.{Read, ◌>>=◌, is_end, begins, begins_symbol, starts, option_at}
 use Rattle.pf_tokens.specs.Lists.{Elements, some_at}
-use Rattle.pf_ruleset.specs.declared.parts.Policy.{Policy}
-use Rattle.pf_ruleset.specs.declared.parts.Policy.TheVariants as policy
-use Rattle.pf_ruleset.specs.declared.parts.FlagTest.{FlagTest}
+use Rattle.pf_rules.specs.declared.parts.Policy.{Policy}
+use Rattle.pf_rules.specs.declared.parts.Policy.TheVariants as policy
+use Rattle.pf_rules.specs.declared.parts.FlagTest.{FlagTest}
 use Rattle.pf_statements.specs.declared.written.WrittenAction.{WrittenAction}
 use Rattle.pf_statements.specs.declared.written.WrittenAction.TheVariants.{Pass, Block as Blocks}
-use Rattle.pf_conditions.specs.declared.written.WrittenType.{WrittenType}
-use Rattle.pf_ruleset.specs.Names.{Name}
-use Rattle.pf_conditions.specs.Conditions.{if_so, interface_name_at, flags_at, types_at, common_at, ConditionsText}
+use Rattle.pf_statements.specs.declared.conditions.WrittenType.{WrittenType}
+use Rattle.pf_rules.specs.Names.{Name}
+use Rattle.pf_statements.specs.Conditions.{if_so, interface_name_at, flags_at, types_at, common_at, ConditionsText}
 use Rattle.pf_statements.specs.Options.{is_over, until_over}
 use Rattle.pf_statements.specs.Directions.{direction_at}
 use Rattle.pf_statements.specs.Anchors.{AnchorText, HeadingText, anchor_with, heading_at}
-use Rattle.pf_ruleset.specs.Items.{Target}
+use Rattle.pf_rules.specs.Items.{Target}
 use Rattle.pf_statements.specs.Tables.{TableText, table_of}
 
 -- ---- options

@@ -1,14 +1,14 @@
 -- What a table statement says, production by production (pf.conf(5), TABLES).
 use Rattle.std.specs.Prelude.{suc, ◌&&◌, Bool, true, false, List, [], drop, length, Option, Some, None}
 use Rattle.std.specs.Prelude.{is_some, not, codes, if◌then◌else◌}
-use Rattle.pf_words.specs.declared.profile.Profile.{Profile}
+use Rattle.pf_rules.specs.declared.profile.Profile.{Profile}
 use Rattle.pf_tokens.specs.declared.symbol.Symbol.TheVariants as mark
 use Rattle.pf_tokens.specs.Tokens.{Token}
 use Rattle.pf_tokens.specs.Productions.{Read, ◌>>=◌, begins, begins_symbol, symbol_at, list_opened}
 use Rattle.pf_tokens.specs.Lists.{Elements, list_at}
-use Rattle.pf_ruleset.specs.Names.{Name}
-use Rattle.pf_ruleset.specs.declared.ruleset.TableEntry.{TableEntry}
-use Rattle.pf_conditions.specs.Conditions.{prefix_at, table_at}
+use Rattle.pf_rules.specs.Names.{Name}
+use Rattle.pf_rules.specs.declared.ruleset.TableEntry.{TableEntry}
+use Rattle.pf_statements.specs.Conditions.{prefix_at, table_at}
 use Rattle.pf_statements.specs.Options.{to_end}
 
 -- a table as it is written

@@ -2,16 +2,19 @@
 
 ghost use Rattle.std.specs.Prelude.{◌≡◌, option_map};
 ghost use Rattle.pf_tokens.specs.Parsing.{left, later, Parses};
-ghost use Rattle.pf_ruleset.specs.Seen.{target_of};
+ghost use Rattle.pf_rules.specs.Seen.{target_of};
 ghost use Rattle.pf_statements.specs.Anchors.{said_flags, heading_at, optional_target_at};
 ghost use Rattle.pf_statements.specs.Seen.{heading_text_of};
 
 use crate::directions::read_direction;
 use crate::written::WrittenHeading;
-use pf_conditions::{WrittenConditions, may_begin_target, read_common, read_flags, read_target};
-use pf_ruleset::{FlagTest, Target};
+use crate::common::read_common;
+use crate::conditions::WrittenConditions;
+use crate::flags::read_flags;
+use crate::targets::{may_begin_target, read_target};
+use pf_rules::{FlagTest, Target};
 use pf_tokens::{Parser, Stop};
-use pf_words::Profile;
+use pf_rules::Profile;
 use std::alloc::Global;
 
 /// The flags behind their word, if it comes next.

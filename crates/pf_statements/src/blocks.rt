@@ -1,7 +1,7 @@
 //! Rules of any kind, and the blocks that anchor rules carry.
 
 ghost use Rattle.std.specs.Prelude.{◌≡◌, ◌≤◌, ◌<◌, ℕ, length, option_map, OnOk};
-ghost use Rattle.pf_ruleset.specs.Seen.{target_of};
+ghost use Rattle.pf_rules.specs.Seen.{target_of};
 ghost use Rattle.pf_tokens.specs.Parsing.{left, later, Parses};
 ghost use Rattle.pf_statements.specs.Statements.{anchor_item, is_wild, item_at, items_at, rule_item_at};
 ghost use Rattle.pf_statements.specs.Seen.{heading_text_of, item_text_of, item_texts_of};
@@ -10,9 +10,9 @@ use crate::anchors::read_heading;
 use crate::options::is_over;
 use crate::statements::read_rule;
 use crate::written::{WrittenAnchor, WrittenHeading, WrittenItem};
-use pf_ruleset::Target;
+use pf_rules::Target;
 use pf_tokens::{Parser, Stop, Symbol};
-use pf_words::Profile;
+use pf_rules::Profile;
 use std::alloc::Global;
 
 /// The most blocks that may be in one another: a statement has no more braces open at once.

@@ -4,7 +4,7 @@ ghost use Rattle.std.specs.Prelude.{◌≡◌};
 ghost use Rattle.pf_tokens.specs.Parsing.{left, later};
 ghost use Rattle.pf_statements.specs.Directions.{direction_at};
 
-use pf_ruleset::Direction;
+use pf_rules::Direction;
 use pf_tokens::Parser;
 
 /// The direction, if it is said.

@@ -5,7 +5,7 @@ ghost use Rattle.pf_statements.specs.Tables.{entry_at, may_follow_entry};
 ghost use Rattle.pf_statements.specs.Statements.{Statement as IStatement, value_of};
 ghost use Rattle.pf_tokens.specs.ListGrammar.{IsElement};
 ghost use Rattle.pf_tokens.specs.Tokens.{Token};
-ghost use Rattle.pf_words.specs.declared.profile.Profile.{Profile as IProfile};
+ghost use Rattle.pf_rules.specs.declared.profile.Profile.{Profile as IProfile};
 ghost use Rattle.std.specs.Prelude.{List, Some, ◌↔◌, ◌≡◌};
 
 /// A statement has a value exactly where the grammar spells that value so (pf.conf(5), GRAMMAR).

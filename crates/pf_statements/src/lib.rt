@@ -5,22 +5,48 @@
 //! - [`read_statement`] reads a statement at a parser of `pf_tokens`: a [`Statement`], which sets something, or is a
 //!   [`WrittenTable`], a [`WrittenRule`], a [`WrittenAnchor`], or a [`WrittenHeading`] with a block of
 //!   [`WrittenItem`]s.
-//! - [`reads_the_grammar`]: a statement is read exactly as the grammar spells it; [`entries_of_tables`]: the entries of
-//!   tables are elements as the law of lists asks for them.
+//! - [`WrittenConditions`]: what a rule or an anchor rule says of packets, with [`Common`], [`End`], [`Protocol`],
+//!   [`WrittenPort`] and [`WrittenType`].
+//! - [`read_common`], [`read_flags`] and [`read_types`] read its parts; [`read_prefix`] and [`read_table`], prefixes
+//!   and names of tables; [`read_target`], the names of an anchor. [`InterfaceNameProduction`] may be in a list.
+//! - [`reads_the_grammar`]: a statement is read exactly as the grammar spells it; [`elements_of_lists`] and
+//!   [`entries_of_tables`]: what may be in a list or a table is an element as the law of lists asks for one.
+//!
+//! # Why
+//!
+//! - A statement is kept as it is written: its lists are expanded by `pf_expansion`, which reads nothing.
 #![tactic(auto)]
 
 mod anchors;
+mod behind;
 mod blocks;
+mod common;
+mod condition_laws;
+mod conditions;
+mod cut;
 mod directions;
+mod ends;
+mod flags;
+mod hosts;
+mod interfaces;
 mod laws;
 mod options;
+mod ports;
+mod protocols;
 mod statements;
 mod tables;
+mod targets;
+mod types;
 mod written;
 
+pub use common::read_common;
+pub use condition_laws::elements_of_lists;
+pub use conditions::{Common, End, Protocol, WrittenConditions, WrittenPort, WrittenType};
+pub use flags::read_flags;
+pub use hosts::{read_prefix, read_table};
+pub use interfaces::InterfaceNameProduction;
 pub use laws::{entries_of_tables, reads_the_grammar};
 pub use statements::read_statement;
-pub use written::{
-    RuleOptions, Setting, Statement, WrittenAction, WrittenAnchor, WrittenHeading, WrittenItem,
-    WrittenRule, WrittenTable,
-};
+pub use targets::{may_begin_target, read_target};
+pub use types::read_types;
+pub use written::{RuleOptions, Setting, Statement, WrittenAction, WrittenAnchor, WrittenHeading, WrittenItem, WrittenRule, WrittenTable};

@@ -8,9 +8,10 @@ ghost use Rattle.pf_statements.specs.Options.{is_over};
 ghost use Rattle.pf_statements.specs.inner.Seen.{options_of};
 
 use crate::written::RuleOptions;
-use pf_conditions::{read_flags, read_types};
+use crate::flags::read_flags;
+use crate::types::read_types;
 use pf_tokens::{Lexeme, Parser, Stop, Symbol};
-use pf_words::Profile;
+use pf_rules::Profile;
 use std::alloc::Global;
 
 /// The flags, if they weren't said before.

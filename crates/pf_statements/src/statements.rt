@@ -12,10 +12,12 @@ use crate::directions::read_direction;
 use crate::options::read_options;
 use crate::tables::read_table_text;
 use crate::written::{RuleOptions, Setting, Statement, WrittenAction, WrittenRule};
-use pf_conditions::{InterfaceNameProduction, WrittenConditions, read_common};
-use pf_ruleset::Policy;
+use crate::common::read_common;
+use crate::conditions::WrittenConditions;
+use crate::interfaces::InterfaceNameProduction;
+use pf_rules::Policy;
 use pf_tokens::{Parser, Stop, some};
-use pf_words::Profile;
+use pf_rules::Profile;
 use std::alloc::Global;
 
 /// What a block does, if it is said.

@@ -5,8 +5,8 @@ ghost use Rattle.pf_statements.specs.Statements.{AnchorItem, BlockItem, RuleItem
 ghost use Rattle.pf_statements.specs.Seen.{anchor_text_of, heading_text_of, item_text_of, item_texts_of};
 ghost use Rattle.pf_statements.specs.Seen.{statement_of, text_of};
 
-use pf_conditions::{WrittenConditions, WrittenType};
-use pf_ruleset::{FlagTest, InterfaceName, Policy, TableEntry, TableName, Target};
+use crate::conditions::{WrittenConditions, WrittenType};
+use pf_rules::{FlagTest, InterfaceName, Policy, TableEntry, TableName, Target};
 use pf_tokens::Listed;
 
 /// What a rule does, as written.

@@ -13,8 +13,8 @@ use Rattle.pf_tokens.specs.Macros.{Definition, or_else, text_of}
 use Rattle.pf_tokens.specs.Productions.{symbol_at}
 use Rattle.pf_tokens.specs.inner.Shorter.{some, some_is}
 use Rattle.pf_tokens.specs.Defining.{item_of, is_refused_byte, is_refused_string, with_item, joined_items, text_len, are_items, is_too_long, spelled, defined_as, definition_at}
-use Rattle.pf_words.specs.declared.profile.Profile.{Profile}
-use Rattle.pf_words.specs.Words.{is_reserved}
+use Rattle.pf_rules.specs.declared.profile.Profile.{Profile}
+use Rattle.pf_rules.specs.Words.{is_reserved}
 use Rattle.pf_tokens.specs.MacroGrammar.{IsAmong, Here, There, HasText, LastOne, Later, IsItem, WordItem, StringItem, MacroItem, AreItems, OneItem, MoreItems, IsMacro, Spelled, IsRefusedByte, Dollar, Hash, IsRefusedString, Refused, IsDefinition, HasItems, NoToken, TheItem, NoItem, HasMacroFault, ReservedName, OtherByte, BadString, LongText, HasSyntaxFault}
 
 -- ---- what stands among others

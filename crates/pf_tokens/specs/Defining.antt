@@ -9,8 +9,8 @@ use Rattle.pf_tokens.specs.declared.macro_text.Macro as macros
 use Rattle.pf_tokens.specs.declared.symbol.Symbol.TheVariants.{Equals}
 use Rattle.pf_tokens.specs.Tokens.{Token, Word, Quoted, Macro, Mark, Newline, Bad, is_name_byte}
 use Rattle.pf_tokens.specs.Macros.{Definition, text_of}
-use Rattle.pf_words.specs.declared.profile.Profile.{Profile}
-use Rattle.pf_words.specs.Words.{is_reserved}
+use Rattle.pf_rules.specs.declared.profile.Profile.{Profile}
+use Rattle.pf_rules.specs.Words.{is_reserved}
 use Rattle.pf_tokens.specs.Defined.{definition_of}
 use Rattle.pf_tokens.specs.Productions.{Read, word_at, symbol_at}
 

@@ -5,8 +5,8 @@ use Rattle.std.specs.Prelude.{length}
 use Rattle.pf_tokens.specs.declared.symbol.Symbol.TheVariants.{Equals}
 use Rattle.pf_tokens.specs.Tokens.{Token, Word, Quoted, Macro, Mark, is_name_byte}
 use Rattle.pf_tokens.specs.Macros.{Definition}
-use Rattle.pf_words.specs.declared.profile.Profile.{Profile}
-use Rattle.pf_words.specs.Words.{is_reserved}
+use Rattle.pf_rules.specs.declared.profile.Profile.{Profile}
+use Rattle.pf_rules.specs.Words.{is_reserved}
 
 -- it stands among these
 pub data IsAmong {X : Type 0} (x : X) : List X → Type 0 where

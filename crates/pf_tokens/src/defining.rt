@@ -18,7 +18,7 @@ use crate::lexeme::{Lexeme, is_name_byte};
 use crate::macro_text::Macro;
 use crate::parser::Parser;
 use crate::symbol::Symbol;
-use pf_words::{Profile, is_reserved};
+use pf_rules::{Profile, is_reserved};
 use std::alloc::{AllocError, AllocFailed, Global};
 
 /// How many bytes the text of a macro has at most.

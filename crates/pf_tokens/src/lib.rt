@@ -11,9 +11,9 @@
 //! # Why
 //!
 //! - **Crates of their own** below pf_grammar, so that none passes some hundred functions and more of them are
-//!   proved side by side: pf_tokens (tokens, macros, braces, lists, the parser's core), pf_conditions (the parts of
+//!   proved side by side: pf_tokens (tokens, macros, braces, lists, the parser's core), pf_statements (the parts of
 //!   a rule), pf_statements (statements as written), pf_expansion (lists to rules, causes), and beside them
-//!   pf_words (words for numbers, flags and names), pf_ruleset (rules, tables, names) and pf_show (how rulesets are
+//!   pf_rules (words for numbers, flags and names), pf_rules (rules, tables, names) and pf_show (how rulesets are
 //!   shown). pf_grammar (the reading of a text) keeps its public face: it hands out what they have. pf_config and
 //!   pf_eval stand on rules and tables and not on how texts are read, so they and pf_grammar are proved side by
 //!   side; pf_tool lists the layers whose definitions its contracts cite.
@@ -22,7 +22,7 @@
 //!   whatever may follow it that `list` reads exactly what the relation has. An element that looks further ahead
 //!   has no such law; none of the product's does, which `elements_of_lists` and `entries_of_tables` prove one by
 //!   one.
-//! - **Parts of rules stand beside their productions**, in pf_conditions, since an impl of a trait of pf_tokens
+//! - **Parts of rules stand beside their productions**, in pf_statements, since an impl of a trait of pf_tokens
 //!   must stand in the crate of its type.
 //! - **A macro's text isn't joined again.** Backslash-newline pairs are taken out once, of the text as given; a
 //!   macro's text is cut into tokens as it is (`plain_tokens`). No macro that a text defines holds a backslash, so

@@ -1,7 +1,7 @@
 //! Lists in braces.
 
 ghost use Rattle.std.specs.Prelude.{◌≡◌, ◌↔◌, ◌<◌, Bool, Some, List, length};
-ghost use Rattle.pf_words.specs.declared.profile.Profile.{Profile};
+ghost use Rattle.pf_rules.specs.declared.profile.Profile.{Profile};
 ghost use Rattle.pf_tokens.specs.Tokens.{Token};
 ghost use Rattle.pf_tokens.specs.Productions.{Read};
 ghost use Rattle.pf_tokens.specs.Lists.{Elements, list_at, some_at, elements_of};
@@ -11,7 +11,7 @@ ghost use Rattle.pf_tokens.specs.Parsing.{left, later, Parses};
 use crate::parser::Parser;
 use crate::stop::Stop;
 use crate::symbol::Symbol;
-use pf_words::Profile;
+use pf_rules::Profile;
 use std::alloc::Global;
 
 /// How many elements are kept at most: a statement has no more tokens.

@@ -15,7 +15,7 @@ use crate::macros::Macros;
 use crate::passed::{Passed, depth_after};
 use crate::stream::Stream;
 use crate::symbol::Symbol;
-use pf_words::is_same_word;
+use pf_rules::is_same_word;
 
 /// The tokens of one statement, in which macros are replaced.
 ///

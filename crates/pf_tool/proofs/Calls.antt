@@ -9,11 +9,11 @@ use Rattle.clap.specs.Faults.{fault_of, is_simple_and_free}
 use Rattle.clap.specs.Kinds.{Kinds, HasKind}
 use Rattle.clap.specs.declared.error.Error.{Error}
 use Rattle.clap.specs.declared.error.kind.ErrorKind.TheVariants.{OutOfMemory}
-use Rattle.pf_io.specs.declared.status.Status.{Status}
-use Rattle.pf_io.specs.declared.status.Status.TheVariants as status
-use Rattle.pf_io.specs.Written.{IsMisused}
+use Rattle.cli_io.specs.declared.status.Status.{Status}
+use Rattle.cli_io.specs.declared.status.Status.TheVariants as status
+use Rattle.cli_io.specs.Written.{IsMisused}
 use Rattle.pf_tool.specs.Words.{pfx_app, CallValue, called, unless_faulty, call_of}
-use Rattle.pf_refusals.specs.declared.paragraph.Explanation.{Explanation}
+use Rattle.cli_io.specs.declared.paragraph.Explanation.{Explanation}
 use Rattle.pf_tool.specs.Tool.{Ran}
 
 -- a pair of two values of one thing

@@ -8,9 +8,9 @@ use Rattle.clap.specs.Words.{Text}
 use Rattle.pf_grammar.specs.declared.fault.Refusal.{Refusal}
 use Rattle.pf_grammar.specs.declared.place.Place.{Place}
 use Rattle.pf_grammar.specs.declared.place.Place.TheVariants.{Main}
-use Rattle.pf_words.specs.declared.profile.Profile.TheVariants.{Two}
+use Rattle.pf_rules.specs.declared.profile.Profile.TheVariants.{Two}
 use Rattle.pf_expansion.specs.Causes.{cause_code}
-use Rattle.pf_ruleset.specs.Rulesets.{RulesetValue}
+use Rattle.pf_rules.specs.Rulesets.{RulesetValue}
 use Rattle.pf_grammar.specs.Reading.{reading}
 use Rattle.pf_show.specs.Shown.{shown}
 use Rattle.pf_eval.specs.Packets.{PacketValue}
@@ -23,14 +23,14 @@ use Rattle.pf_eval.specs.Verdicts.{judgement}
 use Rattle.pf_eval.specs.Seen.{verdict_text}
 use Rattle.pf_scripts.specs.Lines.{lines, words_if}
 use Rattle.pf_scripts.specs.Ctl.{printed}
-use Rattle.pf_refusals.specs.declared.paragraph.Explanation.{Explanation}
-use Rattle.pf_refusals.specs.Explained.{paragraph, paragraphs}
+use Rattle.cli_io.specs.declared.paragraph.Explanation.{Explanation}
+use Rattle.cli_io.specs.Explained.{paragraph, paragraphs}
 use Rattle.pf_tool.specs.declared.output.Ending.{Ending}
 use Rattle.pf_tool.specs.declared.output.Ending.TheVariants.{Done, Refused}
 use Rattle.pf_tool.specs.Words.{CallValue, Test, Check, Ctl, Lab, Explain, CheckFiles, TestFiles}
-use Rattle.pf_io.specs.declared.status.Status.{Status}
-use Rattle.pf_io.specs.declared.status.Status.TheVariants as status
-use Rattle.pf_io.specs.Written.{line}
+use Rattle.cli_io.specs.declared.status.Status.{Status}
+use Rattle.cli_io.specs.declared.status.Status.TheVariants as status
+use Rattle.cli_io.specs.Written.{line}
 
 -- ---- what is written
 

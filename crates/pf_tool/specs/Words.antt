@@ -9,8 +9,8 @@ use Rattle.clap.specs.declared.builder.action.ArgAction.TheVariants.{Append, Set
 use Rattle.clap.specs.Lexer.{usize_max}
 use Rattle.pf_grammar.specs.declared.place.Place.{Place}
 use Rattle.pf_grammar.specs.declared.place.Place.TheVariants.{Main, Anchor}
-use Rattle.pf_refusals.specs.declared.paragraph.Explanation.{Explanation}
-use Rattle.pf_refusals.specs.Explained.{named}
+use Rattle.cli_io.specs.declared.paragraph.Explanation.{Explanation}
+use Rattle.cli_io.specs.Explained.{named}
 
 -- ---- the words
 

@@ -21,8 +21,8 @@ use crate::scripts::{lab_output, script_output};
 use crate::source::{Source, source_at, sources_at};
 use crate::testing::{test_output, tested_texts};
 use pf_grammar::Place;
-use pf_io::{InputFault, read_all};
-use pf_refusals::Explanation;
+use cli_io::{InputFault, read_all};
+use cli_io::Explanation;
 use std::alloc::{AllocError, AllocFailed, Global};
 use std::io::Read;
 

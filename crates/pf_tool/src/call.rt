@@ -9,7 +9,7 @@ ghost use Rattle.pf_tool.specs.inner.Calls.{asked};
 
 use clap::ArgMatches;
 use pf_grammar::Place;
-use pf_refusals::{Explanation, named};
+use cli_io::{Explanation, named};
 
 /// What the words ask for.
 #[derive(Clone, Copy)]

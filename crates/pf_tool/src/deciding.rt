@@ -4,7 +4,7 @@ use crate::remarks::Remarks;
 use pf_config::Config;
 use pf_eval::{Spot, Verdict, parse_packet, show_verdict, verdict};
 use pf_grammar::{Place, Profile, parse, show_items};
-use pf_ruleset::Path;
+use pf_rules::Path;
 use std::alloc::{AllocError, Global};
 
 /// The rule at a place, shown in its line.

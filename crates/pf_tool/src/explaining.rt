@@ -6,7 +6,7 @@ ghost use Rattle.pf_tool.specs.Tool.{explained};
 ghost use Rattle.pf_tool.specs.inner.Output.{written};
 
 use crate::output::{Ending, Output};
-use pf_refusals::{Explanation, explain_all};
+use cli_io::{Explanation, explain_all};
 use std::alloc::{AllocError, Global};
 
 /// What `explain` writes: a refusal's paragraph, or all of the table.

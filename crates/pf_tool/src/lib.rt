@@ -23,7 +23,7 @@
 //! - **A number is refused by pf_tool and not by `clap`** where no refusal has it (`explain 99`), and so is `test`
 //!   without a packet: both are rules on more than one argument or on the table, which `clap`'s exact contracts
 //!   leave out. They say so in one line, with status 2.
-//! - **`run` is lent the table of refusals**, and so are the calls of pf_refusals. A clause can't name a constant
+//! - **`run` is lent the table of refusals**, and so are the calls of cli_io. A clause can't name a constant
 //!   that is a list of structs, and a copy of the table among the definitions would be a second table. So what is
 //!   promised of `explain` holds for whatever table is lent, and `main` lends the one that there is.
 //! - **What files hold** no contract says, so the clauses on files say that there are such texts. Names of files
@@ -37,7 +37,7 @@
 //!   nothing.
 //! - **A script's refusals are named by the line of what is printed** (`stdout:2:`): pf_scripts hands out what a
 //!   script prints, and not at which of its lines.
-//! - **Numbers with names** (60 to 62, 30, 90) are in pf_refusals. Lower crates keep their enums with a `code` of
+//! - **Numbers with names** (60 to 62, 30, 90) are in cli_io. Lower crates keep their enums with a `code` of
 //!   their own: they are below it, and each number stands once in each.
 //! - **More input than 16,777,216 bytes is a fault of its own** (`TooLong`), so that a clause can say what it
 //!   means; the run ends as one whose input can't be read, with nothing written.
@@ -71,7 +71,7 @@
 //! - **`run` answers `node`, `ask`, `key`, `show` and `follow` with status 2**: it knows them by name. These words
 //!   are `run_net`'s, `run_visit`'s, `run_show`'s and `run_follow`'s, to which `pfx` hands every run whose first
 //!   word is one of them: so pf_tool knows neither sockets nor databases.
-//! - **What runs of all words have in common** (`Status`, `read_all`, `misused`, `out_of_memory`) is in pf_io, over
+//! - **What runs of all words have in common** (`Status`, `read_all`, `misused`, `out_of_memory`) is in cli_io, over
 //!   `clap` alone, so that the words of the network, the door and nftables wait for no lab.
 //! - **No test lends an allocator that refuses**: what takes memory takes `alloc: Global`, which is one type and
 //!   not a parameter. What a call leaves where a growth is refused is in its contract. In place of a test two
@@ -94,5 +94,5 @@ mod source;
 mod testing;
 mod words;
 
-pub use pf_io::Status;
+pub use cli_io::Status;
 pub use running::run;

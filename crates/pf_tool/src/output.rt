@@ -5,7 +5,7 @@ ghost use Rattle.pf_tool.specs.Tool.{unread, quieted, is_refused};
 ghost use Rattle.pf_tool.specs.inner.Output.{written};
 
 use crate::testing::refused_load;
-use pf_refusals::UNREADABLE;
+use cli_io::UNREADABLE;
 use std::alloc::{AllocError, Global};
 
 /// How a run ends that wrote all of its output.

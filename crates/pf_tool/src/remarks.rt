@@ -1,7 +1,7 @@
 //! Words for people: what is refused, and which rules decide.
 
-use pf_io::Shown;
-use pf_refusals::{Explanation, NO_PACKET, Remark, explanation};
+use cli_io::Shown;
+use cli_io::{Explanation, NO_PACKET, Remark, explanation};
 use std::alloc::{AllocError, Global};
 
 /// What is printed for people.

@@ -6,7 +6,7 @@ ghost use Rattle.pf_tool.specs.declared.output.Ending.TheVariants as ending;
 ghost use Rattle.pf_tool.specs.inner.Output.{written};
 
 use crate::output::{Ending, Output};
-use pf_lab_scripts::lab_script;
+use pf_lab::lab_script;
 use pf_scripts::ctl;
 use std::alloc::{AllocError, Global};
 

@@ -4,7 +4,7 @@ ghost use Rattle.std.specs.Prelude.{◌≡◌, IfOk, length};
 ghost use Rattle.std.specs.Option.{option_copied};
 ghost use Rattle.pf_tool.specs.inner.Sources.{text_in};
 
-use pf_io::{InputFault, read_all};
+use cli_io::{InputFault, read_all};
 use std::alloc::{AllocError, Global};
 use std::fs;
 

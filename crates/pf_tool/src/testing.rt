@@ -2,8 +2,8 @@
 
 ghost use Rattle.std.specs.Prelude.{◌≡◌, ◌++◌, [], Some, IfOk, OnOk, map, option_map, string_bytes};
 ghost use Rattle.std.specs.Option.{option_copied};
-ghost use Rattle.pf_ruleset.specs.Rulesets.{ruleset_of};
-ghost use Rattle.pf_io.specs.Written.{line};
+ghost use Rattle.pf_rules.specs.Rulesets.{ruleset_of};
+ghost use Rattle.cli_io.specs.Written.{line};
 ghost use Rattle.pf_tool.specs.Tool.{refusal_line, verdict_for, verdict_lines, tested_over, nothing_loaded};
 ghost use Rattle.pf_tool.specs.Tool.{refused_load, test_output, tested_lines, tested_texts};
 ghost use Rattle.pf_config.specs.Changes.{load_ruleset};
@@ -14,7 +14,7 @@ use crate::packets::packet_texts;
 use pf_config::Config;
 use pf_eval::{PacketFault, parse_packet, show_verdict, verdict};
 use pf_grammar::{ParseFault, Place, Profile, Refusal, parse};
-use pf_ruleset::{Path, Ruleset};
+use pf_rules::{Path, Ruleset};
 use std::alloc::{AllocError, Global};
 
 /// The line of a refused text.

@@ -2,12 +2,12 @@
 
 use crate::telling::{Heard, tell};
 use crate::version::write_version;
-use pf_follow_words::run_follow;
-use pf_io::Status;
-use pf_kernel_words::{asks_nft, run_nft};
+use cli_follow::run_follow;
+use cli_io::Status;
+use cli_nft::{asks_nft, run_nft};
 use cli_node::run_net;
-use pf_refusals::REFUSALS;
-use pf_show_words::run_show;
+use cli_io::REFUSALS;
+use cli_show::run_show;
 use pf_tool::run;
 use cli_ask::run_visit;
 use std::convert::AsStr;

@@ -1,7 +1,7 @@
 //! What is printed for people of a refusal that an argument's crate only prints the number of.
 
-use pf_io::{Shown, knock};
-use pf_refusals::{REFUSALS, explanation};
+use cli_io::{Shown, knock};
+use cli_io::{REFUSALS, explanation};
 use std::convert::AsStr;
 use std::io::{self, Write};
 

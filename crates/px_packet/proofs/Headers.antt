@@ -11,7 +11,7 @@ use Rattle.px_packet.specs.declared.kind.Kind.TheVariants as kinds
 use Rattle.px_packet.specs.declared.header.Header.{Header}
 use Rattle.px_packet.specs.declared.fault.PacketFault.{PacketFault}
 use Rattle.px_packet.specs.Headers.{number_of, header_bytes, number, kind_in, start_at, header_fault, header_in}
-use Rattle.px_packet.specs.Laws.{AreBytes, HeaderIsRead, HeaderIsWritten}
+use Rattle.px_packet.specs.PacketLaws.{AreBytes, HeaderIsRead, HeaderIsWritten}
 
 -- ---- without a fault
 

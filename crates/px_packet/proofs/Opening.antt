@@ -6,7 +6,7 @@ use Rattle.std.proofs.lemmas.List.{get_or-take, get_or_past, length-take}
 use Rattle.px_packet.specs.declared.fault.PacketFault.{PacketFault}
 use Rattle.px_packet.specs.Headers.{header_bytes, header_fault, header_in}
 use Rattle.px_packet.specs.Packets.{sealed, front_of, is_authentic}
-use Rattle.px_packet.specs.Laws.{AreBytes, PacketOpens, OpenedWasSealed}
+use Rattle.px_packet.specs.PacketLaws.{AreBytes, PacketOpens, OpenedWasSealed}
 use Rattle.px_packet.proofs.Sealing.{front_is, sealed_is, authentic, sealer}
 use Rattle.px_packet.proofs.Headers.{header_is_read, header_is_written}
 

@@ -4,7 +4,7 @@ use Rattle.std.specs.Prelude.{bytes_eq, if◌then◌else◌}
 use Rattle.std.proofs.lemmas.List.{length-append, length-drop, length-take, take_at, drop_at, take-append-drop}
 use Rattle.std.proofs.lemmas.Slice.Eq.{bytes_eq-Decides}
 use Rattle.sha2.proofs.Facts256.{length-sha256}
-use Rattle.px_seal.specs.Hmac.{tag_under}
+use Rattle.px_packet.specs.Hmac.{tag_under}
 use Rattle.px_packet.specs.Packets.{Among, tag_of, sealed, front_of, tail_of, is_sealed, is_authentic}
 
 -- a tag has 16 bytes

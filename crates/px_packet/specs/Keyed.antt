@@ -1,6 +1,6 @@
 -- What is known of keys of packets.
 use Rattle.std.specs.Prelude.{ℕ, List, [], ◌∷◌, Option, Some, None, option_map}
-use Rattle.px_seal.specs.Keyed as hmac
+use Rattle.px_packet.specs.HmacKeyed as hmac
 use Rattle.px_packet.specs.declared.key.PacketKey.{PacketKey}
 use Rattle.px_packet.specs.declared.keys.PacketKeys.{PacketKeys}
 

@@ -1,7 +1,7 @@
 -- Sealed packets. A key is given as its block of HMAC.
 use Rattle.std.specs.Prelude.{◌≡◌, ◌⊎◌, ℕ, ◌-◌, Bool, true, false, List, [], ◌∷◌, ◌++◌, length, take, drop, bytes_eq}
 use Rattle.std.specs.Prelude.{Option, Some, if◌then◌else◌}
-use Rattle.px_seal.specs.Hmac.{hmac_sha256, tag_under}
+use Rattle.px_packet.specs.Hmac.{hmac_sha256, tag_under}
 use Rattle.px_packet.specs.declared.fault.PacketFault.{PacketFault}
 use Rattle.px_packet.specs.declared.fault.PacketFault.TheVariants as faults
 use Rattle.px_packet.specs.Headers.{header_fault}

@@ -1,11 +1,12 @@
 //! A key of packets.
 
 ghost use Rattle.std.specs.Prelude.{◌≡◌, ◌↔◌, IsTrue, OnOk, bytes_eq, take};
-ghost use Rattle.px_seal.specs.Hmac.{key_block, tag_under};
+ghost use Rattle.px_packet.specs.Hmac.{key_block, tag_under};
 ghost use Rattle.px_packet.specs.Packets.{packet_key, tag_of, is_sealed};
 ghost use Rattle.px_packet.specs.Keyed.{block_of};
 
-use px_seal::{HmacKey, hmac_sha256};
+use crate::hmac::hmac_sha256;
+use crate::hmac_key::HmacKey;
 
 /// How long a tag is.
 pub(crate) const TAG_BYTES: usize = 16;

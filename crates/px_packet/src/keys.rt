@@ -1,7 +1,7 @@
 //! The keys of a member's packets.
 
 ghost use Rattle.std.specs.Prelude.{◌≡◌, ◌++◌, Some, None, OnOk, MatchResult, option_map, drop};
-ghost use Rattle.px_seal.specs.Hmac.{key_block};
+ghost use Rattle.px_packet.specs.Hmac.{key_block};
 ghost use Rattle.px_packet.specs.Headers.{header_bytes, header_in};
 ghost use Rattle.px_packet.specs.Packets.{packet_key, sealed, front_of, is_authentic, packet_fault};
 ghost use Rattle.px_packet.specs.Keyed.{block_of, and_key, key_of, keys_of};

@@ -1,12 +1,26 @@
-//! Packets of the second format: a header, a body, and a tag of the cluster's key.
+//! Packets: a header, a body and a tag of the cluster's key; which of them are accepted; datagrams cut into pieces.
 //!
 //! # Organization
 //!
-//! - [`PacketKeys`]: seals a packet with one key, and opens packets that were sealed with that or another.
-//! - [`Header`]: who sends what kind of body to whom; [`Start`], of which sender, and the counter. [`Kind`].
-//! - [`PacketFault`]: why a packet isn't opened.
-//! - [`laws`]: what was sealed is opened as it was, and nothing else is opened.
-//! - `specs/Headers` defines the bytes of a header, `specs/Packets` a sealed packet, and which is opened.
+//! - [`PacketKeys`]: seals a packet with one key, and opens packets that were sealed with that or another. [`Header`]:
+//!   who sends what [`Kind`] of body to whom; [`Start`], of which sender, and the counter. [`PacketFault`]: why a
+//!   packet isn't opened.
+//! - [`group_key`]: the key of a cluster's tags, made of its secret, its number and its members' addresses;
+//!   [`parse_key`]: a secret of 64 hexadecimal digits. [`hmac_sha256`]: the tag of a message, of RFC 2104 with SHA-256;
+//!   [`HmacKey`]: a key made ready once.
+//! - [`Peer`]: what a receiver remembers of a member: its start, and a [`Window`] of 2,048 counters that were accepted
+//!   (RFC 6479). [`Arrival`]: why a packet is accepted or not.
+//! - [`Piece`]: the body of a packet with a piece of a datagram, read and written; [`write_piece`] cuts it.
+//!   [`PiecesHeld`]: the body that reports which pieces of a datagram its sender has. [`Reassembly`]: a receiver's
+//!   unfinished datagrams of one sender, 8 at most. [`SendBuffer`]: what a sender keeps of the datagrams that it cut
+//!   for one receiver, 8 at most.
+//! - [`packet_laws`]: what was sealed is opened as it was, and nothing else is opened. [`group_laws`]: another group
+//!   has other bytes. [`replay_laws`]: no body is accepted twice, over restarts of either side, and a fresh one is
+//!   accepted. [`piece_laws`]: cutting and reassembling is the identity, and what is reassembled was cut.
+//! - `specs/Hmac` and `specs/Groups` say what a tag and a cluster's key are, `specs/Headers` defines the bytes of a
+//!   header, `specs/Packets` a sealed packet and which is opened, `specs/Windows` which counters are fresh,
+//!   `specs/Arrivals` which packets are accepted, `specs/Pieces` a piece, `specs/Reassembling` what a receiver does
+//!   with pieces.
 //!
 //! # The bytes of a packet
 //!
@@ -28,19 +42,60 @@
 //! | end | 16 | tag: HMAC-SHA-256 of all before it, of which the first 16 bytes |
 //!
 //! The tag is checked first, and then the fields in this order.
+//!
+//! # The bytes
+//!
+//! Numbers are unsigned, the highest byte first. A datagram of at most 33,640 bytes has at most 29 pieces.
+//!
+//! | Body of | Bytes |
+//! |---|---|
+//! | a piece | the datagram's name, 4; its length, 2; the piece's number, 1; its part, at most 1,160 bytes |
+//! | pieces held | the datagram's name, 4; a bit for each piece, 4, the lowest one for piece 0 |
+//!
+//! Each piece but the last has 1,160 bytes. A name is a number that a sender gives to one datagram only.
+//!
+//! # Why
+//!
+//! - All of this is values: no wire, no clock, no file. So what is accepted can be said of lists of packets.
 #![tactic(auto)]
 
+mod arrival;
 mod bytes;
 mod fault;
+mod group;
+pub mod group_laws;
 mod header;
+mod held;
+mod hmac;
+mod hmac_key;
 mod key;
 mod keys;
 mod kind;
-pub mod laws;
+pub mod packet_laws;
+mod partial;
+mod peer;
+mod piece;
+pub mod piece_laws;
+mod reassembly;
+pub mod replay_laws;
+mod send_buffer;
 mod start;
+mod text;
+mod window;
 
+pub use arrival::Arrival;
 pub use fault::PacketFault;
+pub use group::group_key;
 pub use header::{HEADER_BYTES, Header};
+pub use held::PiecesHeld;
+pub use hmac::hmac_sha256;
+pub use hmac_key::HmacKey;
 pub use keys::PacketKeys;
 pub use kind::Kind;
+pub use peer::Peer;
+pub use piece::{DATAGRAM_MAX, PART_MAX, PIECES_MAX, Piece, piece_count, write_piece};
+pub use reassembly::Reassembly;
+pub use send_buffer::{CutFault, SendBuffer};
 pub use start::Start;
+pub use text::parse_key;
+pub use window::Window;

@@ -1,8 +1,8 @@
--- How the proofs go: Members over wires, and the law over nodes (px_replica to cli_node, pf_cluster).
+-- How the proofs go: Members over wires, and the law over nodes (px_replica to cli_node, pfx_laws).
 --
 -- Forms that proved:
 --
--- - **The law over any records** (pf_cluster): what may happen is data of three kinds (`Calls`, `Stops`, `Opens`), when
+-- - **The law over any records** (pfx_laws): what may happen is data of three kinds (`Calls`, `Stops`, `Opens`), when
 --   it may is stated by the very words of the contracts (`Makes`, `LeavesOne`), and how the cluster stands then is a
 --   function; so a history is a list, and following it is one induction. What comes is an action of the world by cases
 --   on the input; a datagram's message is the one that was sent, since no two messages have one spelling
@@ -10,20 +10,20 @@
 -- - That a law speaks of nodes over records of two kinds: `fn law<R: Records, Q: Records>() ensures { Law R.Records
 --   Q.Records }`, with `Law : {R Q : Type 0} → Ghosts R → Ghosts Q → Type 0`; a law that ranges over types itself would
 --   be of Type 1, which no clause may be.
--- - **A call in one clause** (px_replica's `Call`, pf_turn's `Turned` and `Served`): a record of which each field is what
+-- - **A call in one clause** (px_replica's `Call`, node_loop's `Turned` and `Served`): a record of which each field is what
 --   one answer means, the step made, a refusal, a failure, a stop; search takes it apart, and a caller names the field.
 --   `Called` in px_replica's proofs takes calls from one form to another.
 -- - **From turns to the law**: what turns make is a life, a list of what befell one member (`Lived`), one life behind the
---   other (pf_turn's `Lives`). That members' lives, in whatever order, are a history is one induction over what happened,
+--   other (node_loop's `Lives`). That members' lives, in whatever order, are a history is one induction over what happened,
 --   in which what a member lives next is what happens to it first (`Living.own`), and the others go on as they stood
 --   (`Living.on`).
--- - **The datagrams on a wire** are proved together with the trace, not after it: pf_turn's `Led` has both, so that one
+-- - **The datagrams on a wire** are proved together with the trace, not after it: node_loop's `Led` has both, so that one
 --   lemma puts one trace behind another (`led_then`), and each list has its own (`Traffic.grows_then`, `brings_then`,
 --   `sent_then`). What a wire gave is a relation of two lists by recursion on the datagrams (`Brings`); the laws above
 --   need only that each message has its datagram (`AreBrought`).
 -- - **A trace with a control socket** (node_control's `Lives`): a node works (`Led`), or it failed in a request and does
 --   nothing more (`Broken`, `Lost`); each step of a run is one of four cases.
--- - **The network's order** (pf_cluster's `Carrying`): each datagram that wires were handed is one that nodes sent
+-- - **The network's order** (pfx_laws's `Carrying`): each datagram that wires were handed is one that nodes sent
 --   (`Holds`), kept event by event; each member's trace is cut where its parts are (`lived_front`, `live_on`).
 -- - What was learned stays learned over a run as what was sent does (`Agreeing.run_learned`, px_model's
 --   `States.run_sent`).
@@ -45,7 +45,7 @@
 --   part a function. The loops need a measure alone, a log's lines an invariant. A number that doesn't fit is the one
 --   lemma (`number_past`), by std's `parse_digits`.
 --
--- An edit of pf_lab_scripts would cost its whole proof. Two of its mutants are ruled out by rows: a text that is
+-- An edit of pf_lab would cost its whole proof. Two of its mutants are ruled out by rows: a text that is
 -- taken under a stop by `stops_of_an_ask` (`refused 40`, and the node runs on), a node shown with its round for its front
 -- by `a_stop_after_the_round` (`round 2 front 1`).
 pub mod Sending

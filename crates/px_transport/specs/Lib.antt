@@ -2,3 +2,12 @@ pub mod Wires
 pub mod Memory
 pub mod Faulty
 pub mod Loopback
+pub mod Bodies
+pub mod Receiving
+pub mod Sending
+pub mod Senders
+pub mod Wiring
+pub mod Laws
+pub mod Examples
+pub mod SendingLaws
+pub mod SendingExamples

@@ -5,7 +5,7 @@ ghost use Rattle.px_transport.specs.Wires.{Gives, Grows, Counts};
 
 /// Where datagrams come from and go to. Members are told apart by their numbers; 255 is whoever sent the datagram that
 /// came last. A datagram that isn't sent is lost, as it may be on its way: nothing else follows from it. Of what
-/// it is handed a wire sends nothing again of its own accord: px_resend hands it again. A wire of packets adds packets
+/// it is handed a wire sends nothing again of its own accord: node_loop hands it again. A wire of packets adds packets
 /// that its layer needs.
 pub trait Wire {
     // what `recv` and `poll` gave so far, where the wire tells

@@ -6,7 +6,7 @@ use crate::member::{Event, Tally, call, opened, take};
 use crate::step::Step;
 use pf_entry::decode;
 use pf_node::{Command, Datagram, Node, NodeFault};
-use pf_ruleset::Path;
+use pf_rules::Path;
 use px_records::Records;
 use std::alloc::Global;
 

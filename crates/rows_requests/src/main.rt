@@ -7,7 +7,7 @@
 //! ticks, and what it sends to itself comes.
 #![tactic(auto)]
 
-use pf_desk::{Answer, Desk, PeerTally, Routed, Tally, request_in, status_of};
+use node_requests::{Answer, Desk, PeerTally, Routed, Tally, request_in, status_of};
 use pf_node::{Datagram, Membership, Node};
 use px_records::{MemoryRecords, Records};
 use std::alloc::Global;

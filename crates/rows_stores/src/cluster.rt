@@ -7,7 +7,7 @@ use crate::said::say;
 use crate::store::adopted;
 use pf_eval::{parse_packet, show_verdict};
 use pf_node::{Command, Datagram, Membership, Node, NodeFault};
-use pf_ruleset::Path;
+use pf_rules::Path;
 use px_model::EntryView;
 use px_records::Records;
 use px_store::{Identity, SqlRecords};

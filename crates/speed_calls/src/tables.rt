@@ -3,8 +3,8 @@
 ghost use Rattle.std.specs.Prelude.{◌≤◌};
 
 use pf_addr::{Addr, Prefix};
-use pf_ruleset::TableEntry;
-use pf_table::Table;
+use pf_rules::TableEntry;
+use pf_tables::Table;
 use std::alloc::{AllocError, Global};
 
 /// The number after this one, of numbers that look random.

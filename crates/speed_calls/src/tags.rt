@@ -1,5 +1,5 @@
 //! The tags of many datagrams.
-use px_seal::{HmacKey, hmac_sha256};
+use px_packet::{HmacKey, hmac_sha256};
 use std::alloc::{AllocError, Global};
 
 /// The key.

@@ -1,9 +1,17 @@
-//! Trials of entries and datagrams: bytes written by hand from their formats, read and written again. What no contract
-//! says is tried here: that the definitions spell what other programs send, and that a call doesn't always want memory.
+//! Tests of entries, datagrams, tags, packets and sockets: bytes written by hand from their formats, read and written
+//! again. What no contract says is tried here: that the definitions spell what other programs send (the vectors of RFC
+//! 4231), and that a call doesn't always answer out of memory; pieces in any order, which packets are accepted, files
+//! of keys and starts, and a command asked over UDP.
 //!
 //! The tests are in a crate of their own, since a crate with tests is proved twice.
 #![tactic(auto)]
 
+#[cfg(test)]
+mod arrivals;
+#[cfg(test)]
+mod asking;
+#[cfg(test)]
+mod bench;
 #[cfg(test)]
 mod bytes;
 #[cfg(test)]
@@ -13,8 +21,24 @@ mod entries;
 #[cfg(test)]
 mod heads;
 #[cfg(test)]
+mod keys;
+#[cfg(test)]
 mod kinds;
 #[cfg(test)]
 mod largest;
 #[cfg(test)]
+mod own;
+#[cfg(test)]
+mod packets;
+#[cfg(test)]
 mod party;
+#[cfg(test)]
+mod pieces;
+#[cfg(test)]
+mod receivers;
+#[cfg(test)]
+mod seals;
+#[cfg(test)]
+mod sockets;
+#[cfg(test)]
+mod starts;

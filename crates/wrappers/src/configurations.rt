@@ -1,19 +1,19 @@
 //! Tables, and changes of a configuration.
 
 ghost use Rattle.std.specs.Prelude.{◌≡◌, Ok, true};
-ghost use Rattle.pf_table.specs.Tables.{in_table};
+ghost use Rattle.pf_tables.specs.Tables.{in_table};
 ghost use Rattle.pf_config.specs.Changes.{Changes, flush_rules};
 ghost use Rattle.pf_entry.specs.Entry.{are_names, path_of, rest_fits};
 ghost use Rattle.pf_entry.specs.Seen.{command_of};
-ghost use Rattle.pf_effect.specs.Answers.{Leaves};
-ghost use Rattle.pf_effect.specs.Effect.{after_command};
+ghost use Rattle.pf_command.specs.Answers.{Leaves};
+ghost use Rattle.pf_command.specs.Effect.{after_command};
 
 use pf_addr::Addr;
 use pf_config::{Config, ConfigFault};
-use pf_effect::{Applied, ApplyFault};
+use pf_command::{Applied, ApplyFault};
 use pf_entry::CommandView;
-use pf_ruleset::Name;
-use pf_table::Table;
+use pf_rules::Name;
+use pf_tables::Table;
 use std::alloc::Global;
 
 /// [`Table::holds`]: the longest entry that contains the address decides.
@@ -30,7 +30,7 @@ pub fn flush_rules(config: &mut Config, path: &[Name]) -> Result<(), ConfigFault
     config.flush_rules(path)
 }
 
-/// [`pf_effect::apply`]: a command that is refused changes nothing.
+/// [`pf_command::apply`]: a command that is refused changes nothing.
 pub fn apply(
     alloc: Global,
     config: &mut Config,
@@ -40,5 +40,5 @@ pub fn apply(
     requires rest { rest_fits (command_of command.now) ≡ true }
     ensures { Leaves result config.old config.new (after_command config.old (command_of command.now)) }
 {
-    pf_effect::apply(alloc, config, command)
+    pf_command::apply(alloc, config, command)
 }

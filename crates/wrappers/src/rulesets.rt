@@ -7,7 +7,7 @@ ghost use Rattle.pf_statements.specs.Seen.{text_of};
 
 use pf_expansion::{Cause, judge_rule};
 use pf_grammar::{ParseFault, Place, Profile, Rule, Ruleset};
-use pf_ruleset::Policy;
+use pf_rules::Policy;
 use pf_statements::WrittenRule;
 use std::alloc::{AllocError, Global};
 

@@ -6,9 +6,9 @@ use Rattle.px_replica.specs.declared.fault.NodeFault.{NodeFault}
 use Rattle.px_replica.specs.declared.fault.NodeFault.TheVariants as fault
 use Rattle.px_store.specs.declared.fault.AdoptFault.{AdoptFault}
 use Rattle.px_store.specs.declared.fault.AdoptFault.TheVariants as adopt
-use Rattle.pf_member.specs.Lives.{Told, Runs, HostedRuns}
-use Rattle.pf_member.specs.declared.ended.Ended.{Ended}
-use Rattle.pf_member.specs.declared.ended.Ended.TheVariants as ended
+use Rattle.node_loop.specs.Lives.{Told, Runs, HostedRuns}
+use Rattle.node_loop.specs.declared.ended.Ended.{Ended}
+use Rattle.node_loop.specs.declared.ended.Ended.TheVariants as ended
 use Rattle.node_udp.specs.declared.answer.AskAnswer.{AskAnswer}
 use Rattle.node_udp.specs.declared.answer.AskAnswer.TheVariants as answer
 use Rattle.cli_node.specs.declared.outcome.Outcome.{Outcome}

@@ -5,14 +5,14 @@ use Rattle.http.specs.declared.request.Request as http
 use Rattle.http_server.specs.Exchange.{Call, Chain}
 use Rattle.http_server.specs.declared.response.Response.{Response}
 use Rattle.px_records.specs.declared.records.Records.{Ghosts}
-use Rattle.pf_desk.specs.declared.desk.Desk.{Desk}
-use Rattle.pf_desk.specs.declared.request.Read.{Read}
-use Rattle.pf_desk.specs.declared.request.Read.TheVariants as read
-use Rattle.pf_desk.specs.declared.request.Request.{Request}
-use Rattle.pf_desk.specs.declared.request.Request.TheVariants as request
-use Rattle.pf_desk.specs.declared.tally.Tally.{Tally}
-use Rattle.pf_desk.specs.Answers.{AnswerValue}
-use Rattle.pf_desk.specs.Requests.{Answers}
+use Rattle.node_requests.specs.declared.desk.Desk.{Desk}
+use Rattle.node_requests.specs.declared.request.Read.{Read}
+use Rattle.node_requests.specs.declared.request.Read.TheVariants as read
+use Rattle.node_requests.specs.declared.request.Request.{Request}
+use Rattle.node_requests.specs.declared.request.Request.TheVariants as request
+use Rattle.node_requests.specs.declared.tally.Tally.{Tally}
+use Rattle.node_requests.specs.Answers.{AnswerValue}
+use Rattle.node_requests.specs.Requests.{Answers}
 use Rattle.node_control.specs.declared.clerk.Clerk.{Clerk}
 
 -- a response says an answer, its status and its body; or it is 503 without one, where memory is wanting for that

@@ -1,11 +1,11 @@
 -- What requests do to a desk, one after another.
 use Rattle.std.specs.Prelude.{◌≡◌, ℕ, zero, suc}
 use Rattle.px_records.specs.declared.records.Records.{Ghosts}
-use Rattle.pf_desk.specs.Answers.{AnswerValue}
-use Rattle.pf_desk.specs.Requests.{Answers}
-use Rattle.pf_desk.specs.declared.desk.Desk.{Desk}
-use Rattle.pf_desk.specs.declared.request.Request.{Request}
-use Rattle.pf_desk.specs.declared.tally.Tally.{Tally}
+use Rattle.node_requests.specs.Answers.{AnswerValue}
+use Rattle.node_requests.specs.Requests.{Answers}
+use Rattle.node_requests.specs.declared.desk.Desk.{Desk}
+use Rattle.node_requests.specs.declared.request.Request.{Request}
+use Rattle.node_requests.specs.declared.tally.Tally.{Tally}
 
 -- a request was asked at the desk and answered
 pub record IsAsked {R : Type 0} {G : Ghosts R} (s t : Desk R G) : Type 0 where

@@ -3,8 +3,8 @@ use Rattle.std.specs.Prelude.{◌≡◌, List, map, Option, Some, None, Result, 
 use Rattle.std.specs.Option.{option_copied}
 use Rattle.pf_addr.specs.declared.addr.Addr.{Addr}
 use Rattle.pf_addr.specs.declared.fault.AddrFault.{AddrFault}
-use Rattle.pf_ruleset.specs.declared.ruleset.TableEntry as rust
-use Rattle.pf_ruleset.specs.Names.{Name}
+use Rattle.pf_rules.specs.declared.ruleset.TableEntry as rust
+use Rattle.pf_rules.specs.Names.{Name}
 use Rattle.pf_entry.specs.Entry.{Address}
 use Rattle.pf_entry.specs.Seen.{address_of}
 use Rattle.pf_entry.specs.Owned.{addresses_value}

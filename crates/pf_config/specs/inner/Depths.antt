@@ -1,6 +1,6 @@
 -- How deep blocks stand, asked before their paths are made.
 use Rattle.std.specs.Prelude.{ℕ, Bool, false, ◌+◌, ◌||◌, length, nat_lt}
-use Rattle.pf_ruleset.specs.Items.{ItemValue, ItemValues, Filters, Anchors, Blocks, no_items, one_more}
+use Rattle.pf_rules.specs.Items.{ItemValue, ItemValues, Filters, Anchors, Blocks, no_items, one_more}
 
 -- a block in these rules is deeper than 8 names where the rules are at a path of that many
 abbrev mutual

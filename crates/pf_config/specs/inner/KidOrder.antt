@@ -1,7 +1,7 @@
 -- Anchors in the order of their names.
 use Rattle.std.specs.Prelude.{◌≡◌, true, List, [], ◌∷◌}
 use Rattle.std.specs.List.{list_all}
-use Rattle.pf_ruleset.specs.Names.{is_before}
+use Rattle.pf_rules.specs.Names.{is_before}
 use Rattle.pf_config.specs.Trees.{AnchorTree, last_name}
 
 -- each last name is before those behind it

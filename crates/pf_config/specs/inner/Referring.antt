@@ -2,8 +2,8 @@
 use Rattle.std.specs.Prelude.{◌≡◌, ℕ, Bool, ◌||◌, not, List, map, Option, Some, None}
 use Rattle.std.specs.List.{list_any}
 use Rattle.std.specs.Global.{Vec}
-use Rattle.pf_ruleset.specs.Names.{Name}
-use Rattle.pf_table.specs.Tables.{TableValue}
+use Rattle.pf_rules.specs.Names.{Name}
+use Rattle.pf_tables.specs.Tables.{TableValue}
 use Rattle.pf_config.specs.Map.{AnchorValue}
 use Rattle.pf_config.specs.Changes.{refer}
 use Rattle.pf_config.specs.SkippedNames.{is_listed}

@@ -1,7 +1,7 @@
 -- Names in byte order.
 use Rattle.std.specs.Prelude.{◌≡◌, true, List, [], ◌∷◌, not}
 use Rattle.std.specs.List.{list_all}
-use Rattle.pf_ruleset.specs.Names.{Name, is_before}
+use Rattle.pf_rules.specs.Names.{Name, is_before}
 use Rattle.pf_config.specs.SkippedNames.{is_listed}
 
 -- no name is before one that it is behind

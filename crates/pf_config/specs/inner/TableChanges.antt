@@ -2,12 +2,12 @@
 use Rattle.std.specs.Prelude.{◌≡◌, ℕ, Bool, true, false, ◌&&◌, ◌<◌, ◌≤◌, List, ◌∷◌, ◌++◌, length, take, drop, get_or}
 use Rattle.std.specs.Prelude.{Option, Some, None, Result, Ok, find, not, nat_lt, if◌then◌else◌}
 use Rattle.std.specs.List.{list_all}
-use Rattle.pf_ruleset.specs.declared.ruleset.TableEntry.{TableEntry}
-use Rattle.pf_ruleset.specs.Names.{Name, is_before}
-use Rattle.pf_table.specs.declared.edits.Edit.{Edit}
-use Rattle.pf_table.specs.declared.edits.Edit.TheVariants.{Insert, Remove}
-use Rattle.pf_table.specs.Tables.{TableValue}
-use Rattle.pf_table.specs.Contents.{edited}
+use Rattle.pf_rules.specs.declared.ruleset.TableEntry.{TableEntry}
+use Rattle.pf_rules.specs.Names.{Name, is_before}
+use Rattle.pf_tables.specs.declared.edits.Edit.{Edit}
+use Rattle.pf_tables.specs.declared.edits.Edit.TheVariants.{Insert, Remove}
+use Rattle.pf_tables.specs.Tables.{TableValue}
+use Rattle.pf_tables.specs.Contents.{edited}
 use Rattle.pf_config.specs.Map.{Configuration, Path, named, rules_in, tables_in, AnchorValue, anchor_at}
 use Rattle.pf_config.specs.declared.fault.ConfigFault.{ConfigFault}
 use Rattle.pf_config.specs.Changes.{with_table, with_contents, add, delete}

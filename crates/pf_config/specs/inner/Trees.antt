@@ -4,9 +4,9 @@ use Rattle.std.specs.Prelude.{filter, Option, Some, None, not, nat_lt, ◌&&◌,
 use Rattle.std.specs.Prelude.{if◌then◌else◌, ◌||◌}
 use Rattle.std.specs.List.{list_any, starts_with}
 use Rattle.std.specs.Str.{bytes_eq}
-use Rattle.pf_ruleset.specs.Names.{Name, is_before}
-use Rattle.pf_ruleset.specs.Items.{AnyRule}
-use Rattle.pf_table.specs.Tables.{TableValue}
+use Rattle.pf_rules.specs.Names.{Name, is_before}
+use Rattle.pf_rules.specs.Items.{AnyRule}
+use Rattle.pf_tables.specs.Tables.{TableValue}
 use Rattle.pf_config.specs.Map.{AnchorValue, Path, anchor_at, tables_in, name_after}
 use Rattle.pf_config.specs.Changes.{is_empty, is_nothing, with_anchor, is_some_unnamed, is_used}
 use Rattle.pf_config.specs.Changes.{Block, Definition, defined}

@@ -1,6 +1,6 @@
 -- Which packets the sieve of a rule lets pass.
 use Rattle.std.specs.Prelude.{ℕ, ◌==◌, ◌&&◌, Bool, Option, Some, None, min}
-use Rattle.pf_intervals.specs.Intervals.{is_within}
+use Rattle.pf_tables.specs.Intervals.{is_within}
 use Rattle.pf_config.specs.declared.candidate.Sieve.{Sieve}
 use Rattle.pf_config.specs.Orders.{front_bits}
 use Rattle.pf_eval.specs.declared.key.Key.{Key}

@@ -1,9 +1,9 @@
 -- The verdict by two walks over rules and anchors: the first hit that ends the evaluation, else the last hit.
 use Rattle.std.specs.Prelude.{ℕ, zero, suc, ◌+◌, ◌++◌, Bool, List, [], ◌∷◌, length, map, Option, Some, None}
 use Rattle.std.specs.Prelude.{◌≡◌, ◌&&◌, ◌==◌, not, nat_le, option_map, slice_get, if◌then◌else◌}
-use Rattle.pf_ruleset.specs.declared.rule.Rule.{Rule}
-use Rattle.pf_ruleset.specs.Names.{begins_below}
-use Rattle.pf_ruleset.specs.Items.{AnyRule, FilterRule, AnchorRule, Target}
+use Rattle.pf_rules.specs.declared.rule.Rule.{Rule}
+use Rattle.pf_rules.specs.Names.{begins_below}
+use Rattle.pf_rules.specs.Items.{AnyRule, FilterRule, AnchorRule, Target}
 use Rattle.pf_config.specs.Map.{Configuration, Path, rules_at, kids, followed_by, or_else}
 use Rattle.pf_config.specs.Trees.{AnchorTree, anchor_in, last_name}
 use Rattle.pf_config.specs.declared.candidate.Candidate.{Candidate}

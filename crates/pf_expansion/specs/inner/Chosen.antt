@@ -4,7 +4,7 @@ use Rattle.std.specs.Option.{option_copied}
 use Rattle.pf_addr.specs.declared.addr.Family.{Family}
 use Rattle.pf_expansion.specs.declared.expand.Chosen.{Chosen}
 use Rattle.pf_expansion.specs.Expansion.{Combination, host_family}
-use Rattle.pf_conditions.specs.Conditions.{ConditionsText}
+use Rattle.pf_statements.specs.Conditions.{ConditionsText}
 
 abbrev pub combination_of : Chosen → Combination
 combination_of c = record {

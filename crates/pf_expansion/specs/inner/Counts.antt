@@ -2,8 +2,8 @@
 use Rattle.std.specs.Prelude.{ℕ, ◌+◌, ◌*◌, Bool, List, [], ◌∷◌, Option, Some, None, is_some, if◌then◌else◌}
 use Rattle.pf_addr.specs.declared.addr.Family.{Family}
 use Rattle.pf_addr.specs.declared.addr.Family.TheVariants.{Inet}
-use Rattle.pf_ruleset.specs.declared.parts.Host.{Host}
-use Rattle.pf_conditions.specs.Conditions.{ConditionsText}
+use Rattle.pf_rules.specs.declared.parts.Host.{Host}
+use Rattle.pf_statements.specs.Conditions.{ConditionsText}
 use Rattle.pf_expansion.specs.Expansion.{occurring, host_family, count_of}
 
 -- a rule in which types of ICMP are listed is of IPv4

@@ -9,8 +9,8 @@ use Rattle.std.specs.declared.cmp.Ordering.{Ordering}
 use Rattle.std.specs.BTreeSet.{BTreeSet, contains, contains_by}
 use Rattle.pf_addr.specs.Blocks.{Block}
 use Rattle.pf_addr.specs.Order.{bits_of, version}
-use Rattle.pf_ruleset.specs.Rulesets.{TableValue}
-use Rattle.pf_ruleset.specs.declared.ruleset.TableEntry.{TableEntry}
+use Rattle.pf_rules.specs.Rulesets.{TableValue}
+use Rattle.pf_rules.specs.declared.ruleset.TableEntry.{TableEntry}
 use Rattle.pf_expansion.specs.Tables.{first_of_each, is_defined}
 
 -- ---- what the code keeps

@@ -9,11 +9,11 @@ use Rattle.pf_grammar.specs.declared.gathered.Change.{Change}
 use Rattle.pf_grammar.specs.declared.gathered.Change.TheVariants as changes
 use Rattle.pf_grammar.specs.declared.gathered.Gathered.{Gathered}
 use Rattle.pf_grammar.specs.declared.gathered.GatheredRuleset.{GatheredRuleset}
-use Rattle.pf_ruleset.specs.declared.rule.Rule.{Rule}
-use Rattle.pf_ruleset.specs.Items.{Anchors, Filters, Heading}
-use Rattle.pf_ruleset.specs.Seen.{heading_of, items_of}
+use Rattle.pf_rules.specs.declared.rule.Rule.{Rule}
+use Rattle.pf_rules.specs.Items.{Anchors, Filters, Heading}
+use Rattle.pf_rules.specs.Seen.{heading_of, items_of}
 use Rattle.pf_grammar.specs.Reading.{Sofar, with_skip, with_table, with_items}
-use Rattle.pf_ruleset.specs.Rulesets.{RulesetValue, table_of}
+use Rattle.pf_rules.specs.Rulesets.{RulesetValue, table_of}
 use Rattle.pf_expansion.specs.Defined.{tables_of}
 
 abbrev pub ruleset_in : GatheredRuleset → RulesetValue

@@ -1,15 +1,15 @@
 -- Parts as they are in a line, one behind another.
 use Rattle.std.specs.Prelude.{ℕ, Bool, true, false, List, [], ◌∷◌, ◌++◌, Option, Some, None}
-use Rattle.pf_ruleset.specs.declared.parts.Host.{Host}
-use Rattle.pf_ruleset.specs.declared.parts.Host.TheVariants as host
-use Rattle.pf_ruleset.specs.declared.parts.PortTest.{PortTest}
-use Rattle.pf_ruleset.specs.declared.item.Item.{Item}
-use Rattle.pf_ruleset.specs.Seen.{item_of, rule_of}
-use Rattle.pf_ruleset.specs.Names.{Name}
+use Rattle.pf_rules.specs.declared.parts.Host.{Host}
+use Rattle.pf_rules.specs.declared.parts.Host.TheVariants as host
+use Rattle.pf_rules.specs.declared.parts.PortTest.{PortTest}
+use Rattle.pf_rules.specs.declared.item.Item.{Item}
+use Rattle.pf_rules.specs.Seen.{item_of, rule_of}
+use Rattle.pf_rules.specs.Names.{Name}
 use Rattle.pf_show.specs.Shown.{Part, rule_parts, line, entry_part, table_parts, any_rule_line, shown_item}
-use Rattle.pf_ruleset.specs.declared.ruleset.TableEntry.{TableEntry}
-use Rattle.pf_ruleset.specs.declared.ruleset.TableDef.{TableDef}
-use Rattle.pf_ruleset.specs.Rulesets.{table_of}
+use Rattle.pf_rules.specs.declared.ruleset.TableEntry.{TableEntry}
+use Rattle.pf_rules.specs.declared.ruleset.TableDef.{TableDef}
+use Rattle.pf_rules.specs.Rulesets.{table_of}
 
 -- each part behind a blank
 abbrev pub spaced : List Part → List ℕ

@@ -1,13 +1,13 @@
 -- An entry of a table takes a token at least.
 use Rattle.std.proofs.Common.{◌≡◌, ◌<◌, List, length, Some, arith}
-use Rattle.pf_words.specs.declared.profile.Profile.{Profile}
+use Rattle.pf_rules.specs.declared.profile.Profile.{Profile}
 use Rattle.pf_tokens.specs.declared.symbol.Symbol.TheVariants as mark
 use Rattle.pf_tokens.specs.Tokens.{Token}
 use Rattle.pf_tokens.specs.Productions.{symbol_at}
 use Rattle.pf_tokens.specs.inner.Shorter.{symbol_no_longer}
-use Rattle.pf_ruleset.specs.declared.ruleset.TableEntry.{TableEntry}
-use Rattle.pf_conditions.specs.Conditions.{prefix_at}
-use Rattle.pf_conditions.specs.inner.Shorter.{then_shorter, answer_left, prefix_shorter}
+use Rattle.pf_rules.specs.declared.ruleset.TableEntry.{TableEntry}
+use Rattle.pf_statements.specs.Conditions.{prefix_at}
+use Rattle.pf_statements.specs.inner.Shorter.{then_shorter, answer_left, prefix_shorter}
 use Rattle.pf_statements.specs.Tables.{entry_at}
 
 pub entry_shorter : (profile : Profile) (ts rest : List Token) (x : TableEntry) → entry_at profile ts ≡

@@ -1,7 +1,7 @@
 -- a run over the wire, or the record is opened alone
 use Rattle.std.proofs.Common.{None, refl, inl}
-use Rattle.pf_member.specs.Lives.{Told}
-use Rattle.pf_member.proofs.Hosted.{runs}
+use Rattle.node_loop.specs.Lives.{Told}
+use Rattle.node_loop.proofs.Hosted.{runs}
 use Rattle.cli_node.proofs.Refusing.{refused_so}
 use Rattle.cli_node.proofs.node.run_over.Goals as goal
 

@@ -1,6 +1,6 @@
 use Rattle.std.proofs.Common.{◌≡◌, map, drop}
 use Rattle.std.specs.List.{list_any}
-use Rattle.pf_ruleset.specs.Seen.{rule_of}
+use Rattle.pf_rules.specs.Seen.{rule_of}
 use Rattle.nft_rules.specs.Deciding.{leads_back}
 use Rattle.nft_rules.proofs.rendering.any_leads_back.Given as goal
 

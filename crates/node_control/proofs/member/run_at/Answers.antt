@@ -1,7 +1,7 @@
 -- no control socket, or a run with it or without
 use Rattle.std.proofs.Common.{None, false, refl}
-use Rattle.pf_member.specs.Lives.{new_buffers}
-use Rattle.pf_turn.proofs.Hosting.{hosted_none}
+use Rattle.node_loop.specs.Lives.{new_buffers}
+use Rattle.node_loop.proofs.Hosting.{hosted_none}
 use Rattle.node_control.proofs.Rounds.{no_door, some_door}
 use Rattle.node_control.proofs.member.run_at.Goals as goal
 

@@ -1,9 +1,9 @@
 -- no turn, or those that were made
 use Rattle.std.proofs.Common.{refl, inr}
 use Rattle.px_replica.specs.Faults.{fault_of}
-use Rattle.pf_member.specs.Lives.{told_by}
-use Rattle.pf_member.proofs.Still.{still}
-use Rattle.pf_member.proofs.Hosted as hosted
+use Rattle.node_loop.specs.Lives.{told_by}
+use Rattle.node_loop.proofs.Still.{still}
+use Rattle.node_loop.proofs.Hosted as hosted
 use Rattle.node_control.proofs.Rounds.{hosts, serves}
 use Rattle.node_control.proofs.member.run_node.Goals as goal
 

@@ -1,7 +1,7 @@
 -- turns, and the requests behind them
 use Rattle.std.proofs.Common.{None, refl}
-use Rattle.pf_turn.proofs.Chains.{served_then}
-use Rattle.pf_turn.proofs.Hosting.{hosted_served, hosted_on}
+use Rattle.node_loop.proofs.Chains.{served_then}
+use Rattle.node_loop.proofs.Hosting.{hosted_served, hosted_on}
 use Rattle.node_control.proofs.Rounds.{still}
 use Rattle.node_control.proofs.running.pass.Goals as goal
 

@@ -1,6 +1,6 @@
 -- all rounds, and the last ones
-use Rattle.pf_turn.proofs.Chains.{served_then}
-use Rattle.pf_turn.proofs.Hosting.{hosted_then, hosted_served}
+use Rattle.node_loop.proofs.Chains.{served_then}
+use Rattle.node_loop.proofs.Hosting.{hosted_then, hosted_served}
 use Rattle.node_control.proofs.running.pass_on.Goals as goal
 
 pub returns-in-Ok-clause-hosted : goal.returns-in-Ok-clause-hosted

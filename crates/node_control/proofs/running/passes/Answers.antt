@@ -1,7 +1,7 @@
 -- one round more
 use Rattle.std.proofs.Common.{refl}
-use Rattle.pf_turn.proofs.Chains.{served_none, same_all}
-use Rattle.pf_turn.proofs.Hosting.{hosted_none, hosted_then}
+use Rattle.node_loop.proofs.Chains.{served_none, same_all}
+use Rattle.node_loop.proofs.Hosting.{hosted_none, hosted_then}
 use Rattle.node_control.proofs.Rounds.{turns_then}
 use Rattle.node_control.proofs.running.passes.Goals as goal
 

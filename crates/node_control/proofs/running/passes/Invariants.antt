@@ -1,7 +1,7 @@
 -- what led here from the start
 use Rattle.std.proofs.Common.{◌≡◌, None}
-use Rattle.pf_turn.specs.Hosting.{Hosted}
-use Rattle.pf_turn.specs.Turns.{Served, standing}
+use Rattle.node_loop.specs.Hosting.{Hosted}
+use Rattle.node_loop.specs.Turns.{Served, standing}
 use Rattle.node_control.proofs.running.passes.Given as goal
 
 abbrev pub invariant-loop-round : goal.invariant-loop-round

@@ -1,7 +1,7 @@
 use Rattle.std.proofs.Common.{◌≡◌, ◌-◌, ◌&&◌, ◌++◌, true, false, length, take, drop, map, refl, subst, rules}
 use Rattle.std.specs.Prelude.{find, is_some, MatchResult}
 use Rattle.std.specs.Rc.{rc_with_value}
-use Rattle.pf_ruleset.specs.Seen.{rule_of}
+use Rattle.pf_rules.specs.Seen.{rule_of}
 use Rattle.pf_config.specs.Changes.{is_empty}
 use Rattle.pf_config.specs.Trees.{AnchorTree, shared, own_entry, below}
 use Rattle.pf_config.specs.inner.Trees.{is_named, kids_before}

@@ -1,5 +1,5 @@
 use Rattle.std.proofs.Common.{◌≡◌, ◌-◌, ◌++◌, length, take, drop, map, sym, subst, rules}
-use Rattle.pf_ruleset.specs.Seen.{rule_of}
+use Rattle.pf_rules.specs.Seen.{rule_of}
 use Rattle.pf_config.specs.Trees.{AnchorTree, shared, own_entry, below}
 use Rattle.pf_config.specs.inner.Trees.{kids_before, placed_in}
 use Rattle.pf_config.specs.inner.KidOrder.{AreInOrder}

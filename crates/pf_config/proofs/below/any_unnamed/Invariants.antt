@@ -1,6 +1,6 @@
 use Rattle.std.proofs.Common.{◌≡◌, drop}
 use Rattle.std.specs.List.{list_any}
-use Rattle.pf_ruleset.specs.Names.{begins_below}
+use Rattle.pf_rules.specs.Names.{begins_below}
 use Rattle.pf_config.specs.Trees.{shared}
 use Rattle.pf_config.specs.inner.Trees.{passes}
 use Rattle.pf_config.proofs.below.any_unnamed.Given as goal

@@ -1,6 +1,6 @@
 use Rattle.std.proofs.Common.{◌≡◌, ◌∙◌, ◌-◌, ◌/◌, ◌≤◌, ap, length, length-drop, take, drop, sym, arith, rules}
 use Rattle.pf_config.specs.Trees.{last_name}
-use Rattle.pf_ruleset.specs.Names.{is_before}
+use Rattle.pf_rules.specs.Names.{is_before}
 use Rattle.std.proofs.Common.{true, false}
 use Rattle.pf_config.proofs.Ordered.{cons_is}
 use Rattle.pf_config.proofs.KidPlaces.{count_halves}

@@ -1,9 +1,9 @@
 use Rattle.std.proofs.Common.{rules, ◌≡◌, ◌++◌, ◌∙◌, ap, sym, subst, false, [], ◌∷◌, length, map, ◌≤◌, arith}
 use Rattle.std.specs.List.{list_any}
-use Rattle.pf_ruleset.specs.declared.item.Item.{the_lemmas}
-use Rattle.pf_ruleset.specs.Items.{values_of}
-use Rattle.pf_ruleset.specs.inner.Items.{is_overfull}
-use Rattle.pf_ruleset.specs.Seen.{heading_of, item_of, items_of, rule_of}
+use Rattle.pf_rules.specs.declared.item.Item.{the_lemmas}
+use Rattle.pf_rules.specs.Items.{values_of}
+use Rattle.pf_rules.specs.inner.Items.{is_overfull}
+use Rattle.pf_rules.specs.Seen.{heading_of, item_of, items_of, rule_of}
 use Rattle.pf_config.specs.Changes.{blocks_of, blocks_in}
 use Rattle.pf_config.proofs.BlockRules.{few_in, block_is, then_blocks, then_few, then_within, on_ok}
 use Rattle.pf_config.proofs.blocks.+blocks.Goals as goal

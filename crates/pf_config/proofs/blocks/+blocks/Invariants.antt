@@ -1,8 +1,8 @@
 use Rattle.std.proofs.Common.{◌≡◌, ◌++◌, false, drop}
 use Rattle.std.specs.List.{list_any}
-use Rattle.pf_ruleset.specs.Items.{values_of}
-use Rattle.pf_ruleset.specs.inner.Items.{is_overfull}
-use Rattle.pf_ruleset.specs.Seen.{items_of}
+use Rattle.pf_rules.specs.Items.{values_of}
+use Rattle.pf_rules.specs.inner.Items.{is_overfull}
+use Rattle.pf_rules.specs.Seen.{items_of}
 use Rattle.pf_config.specs.Changes.{blocks_in}
 use Rattle.pf_config.proofs.blocks.+blocks.Given as goal
 

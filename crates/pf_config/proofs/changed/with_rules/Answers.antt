@@ -1,5 +1,5 @@
 use Rattle.std.proofs.Common.{ap, map}
-use Rattle.pf_ruleset.specs.Seen.{rule_of}
+use Rattle.pf_rules.specs.Seen.{rule_of}
 use Rattle.pf_config.specs.Map.{anchor_at, tables_in}
 use Rattle.pf_config.proofs.Entries.{main_placed}
 use Rattle.pf_config.proofs.changed.with_rules.Goals as goal

@@ -1,5 +1,5 @@
 use Rattle.std.proofs.Common.{◌∙◌, ap, map, refl}
-use Rattle.pf_ruleset.specs.Seen.{rule_of}
+use Rattle.pf_rules.specs.Seen.{rule_of}
 use Rattle.pf_config.specs.Map.{anchor_at, rules_in}
 use Rattle.pf_config.specs.Trees.{AnchorTree}
 use Rattle.pf_config.specs.inner.Trees.{placed_in}

@@ -1,6 +1,6 @@
 use Rattle.std.proofs.Common.{◌≡◌, drop}
-use Rattle.pf_ruleset.specs.Items.{values_of}
-use Rattle.pf_ruleset.specs.Seen.{items_of}
+use Rattle.pf_rules.specs.Items.{values_of}
+use Rattle.pf_rules.specs.Seen.{items_of}
 use Rattle.pf_config.specs.inner.Depths.{any_deep}
 use Rattle.pf_config.proofs.depths.+depths.Given as goal
 

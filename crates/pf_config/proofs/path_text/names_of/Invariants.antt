@@ -1,6 +1,6 @@
 use Rattle.std.proofs.Common.{◌≡◌, ◌++◌, map, drop}
 use Rattle.std.specs.List.{list_all}
-use Rattle.pf_words.specs.Words.{is_anchor_text}
+use Rattle.pf_rules.specs.Words.{is_anchor_text}
 use Rattle.pf_config.proofs.path_text.names_of.Given as goal
 
 abbrev pub invariant-loop-piece : goal.invariant-loop-piece

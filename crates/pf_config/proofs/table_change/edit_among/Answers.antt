@@ -1,6 +1,6 @@
 use Rattle.std.proofs.Common.{◌≡◌, List, rules, subst}
-use Rattle.pf_ruleset.specs.Names.{Name}
-use Rattle.pf_table.specs.Tables.{TableValue}
+use Rattle.pf_rules.specs.Names.{Name}
+use Rattle.pf_tables.specs.Tables.{TableValue}
 use Rattle.pf_config.specs.inner.TableChanges.{StandsAt}
 use Rattle.pf_config.proofs.TableEdits.{edit_among}
 use Rattle.pf_config.proofs.table_change.edit_among.Goals as goal

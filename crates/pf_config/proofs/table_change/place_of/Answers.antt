@@ -2,8 +2,8 @@ use Rattle.std.proofs.Common.{rules}
 use Rattle.std.specs.Ordering.{nat_cmp}
 use Rattle.std.specs.Cmp.Lexicographic.{slice_cmp}
 use Rattle.std.proofs.lemmas.Fn.{always_returns_same}
-use Rattle.pf_ruleset.specs.Names.{Name}
-use Rattle.pf_table.specs.Tables.{TableValue}
+use Rattle.pf_rules.specs.Names.{Name}
+use Rattle.pf_tables.specs.Tables.{TableValue}
 use Rattle.pf_config.proofs.TableEdits.{place_is}
 use Rattle.pf_config.proofs.table_change.place_of.Goals as goal
 

@@ -1,7 +1,7 @@
 use Rattle.std.proofs.Common.{◌≡◌, ◌∙◌, List, rules, refl, subst, sym}
 use Rattle.std.specs.List.{insert}
-use Rattle.pf_ruleset.specs.Names.{Name}
-use Rattle.pf_table.specs.Tables.{TableValue}
+use Rattle.pf_rules.specs.Names.{Name}
+use Rattle.pf_tables.specs.Tables.{TableValue}
 use Rattle.pf_config.specs.Ordered.{AreOrdered}
 use Rattle.pf_config.specs.inner.TableChanges.{StandsAt, BelongsAt}
 use Rattle.pf_config.proofs.TableEdits.{put_there, put_new}

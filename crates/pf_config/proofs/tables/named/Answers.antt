@@ -1,6 +1,6 @@
 use Rattle.std.proofs.Common.{◌≡◌, ◌∙◌, Some, ap, rules, sym, subst}
-use Rattle.pf_ruleset.specs.Names.{Name}
-use Rattle.pf_table.specs.Tables.{TableValue}
+use Rattle.pf_rules.specs.Names.{Name}
+use Rattle.pf_tables.specs.Tables.{TableValue}
 use Rattle.pf_config.specs.inner.TableChanges.{StandsAt, BelongsAt}
 use Rattle.pf_config.proofs.TableEdits.{found, missing}
 use Rattle.pf_config.proofs.tables.named.Goals as goal

@@ -1,8 +1,8 @@
 use Rattle.std.proofs.Common.{◌≡◌, ◌||◌, [], map, sym, subst, arith}
 use Rattle.std.proofs.lemmas.Grind.{common_steps}
-use Rattle.pf_ruleset.specs.Names.{Name}
-use Rattle.pf_ruleset.specs.Seen.{rule_of}
-use Rattle.pf_table.specs.Tables.{TableValue}
+use Rattle.pf_rules.specs.Names.{Name}
+use Rattle.pf_rules.specs.Seen.{rule_of}
+use Rattle.pf_tables.specs.Tables.{TableValue}
 use Rattle.pf_config.specs.Map.{AnchorValue}
 use Rattle.pf_config.specs.Changes.{is_used, used_tables}
 use Rattle.pf_config.specs.Ordered.{AreOrdered}

@@ -2,7 +2,7 @@ use Rattle.std.proofs.Common.{◌≡◌, ◌∙◌, sym, ap, subst, List, ℕ}
 use Rattle.pf_entry.specs.Entry.{Entry, EntryBytes}
 use Rattle.pf_entry.specs.Owned.{command_value}
 use Rattle.pf_entry.specs.Seen.{entry_of, command_of}
-use Rattle.pf_effect.specs.Effect.{after_command}
+use Rattle.pf_command.specs.Effect.{after_command}
 use Rattle.pf_dump.proofs.replay.apply_change.Goals as goal
 
 -- the command that is applied is the one that was spelled

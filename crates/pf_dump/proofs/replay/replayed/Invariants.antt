@@ -1,5 +1,5 @@
 use Rattle.std.proofs.Common.{◌≡◌, None, length, option_map}
-use Rattle.pf_effect.specs.Effect.{empty}
+use Rattle.pf_command.specs.Effect.{empty}
 use Rattle.pf_scripts.specs.Lines.{lines}
 use Rattle.pf_scripts.specs.inner.Seen.{waiting_of}
 use Rattle.pf_dump.specs.Scripts.{after_lines}

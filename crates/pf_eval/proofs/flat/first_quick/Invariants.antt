@@ -1,5 +1,5 @@
 use Rattle.std.proofs.Common.{◌≡◌, map, drop}
-use Rattle.pf_ruleset.specs.Seen.{rule_of}
+use Rattle.pf_rules.specs.Seen.{rule_of}
 use Rattle.pf_eval.specs.inner.TwoWalks.{first_rule, flat_stop}
 use Rattle.pf_eval.proofs.flat.first_quick.Given as goal
 

@@ -1,5 +1,5 @@
 use Rattle.std.proofs.Common.{◌≡◌, ◌≤◌, length, map, drop, None}
-use Rattle.pf_ruleset.specs.Seen.{rule_of}
+use Rattle.pf_rules.specs.Seen.{rule_of}
 use Rattle.pf_eval.specs.inner.TwoWalks.{last_rule, flat_last}
 use Rattle.pf_eval.proofs.flat.last_other.Given as goal
 

@@ -1,6 +1,6 @@
 use Rattle.std.proofs.Common.{◌≡◌, drop}
 use Rattle.std.specs.List.{list_any}
-use Rattle.pf_ruleset.specs.Names.{Name}
+use Rattle.pf_rules.specs.Names.{Name}
 use Rattle.pf_config.specs.SkippedNames.{is_listed}
 use Rattle.pf_eval.proofs.skipping.any_skipped.Given as goal
 

@@ -1,6 +1,6 @@
 use Rattle.std.proofs.Common.{rules, ◌≡◌, ◌∙◌, true, false, subst}
 use Rattle.std.specs.List.{list_any}
-use Rattle.pf_ruleset.specs.Names.{Name}
+use Rattle.pf_rules.specs.Names.{Name}
 use Rattle.pf_config.specs.SkippedNames.{is_listed}
 use Rattle.pf_eval.specs.Packets.{PacketValue, without_digits}
 use Rattle.pf_eval.specs.Verdicts.{is_skipped}

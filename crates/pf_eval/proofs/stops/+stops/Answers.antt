@@ -1,7 +1,7 @@
 use Rattle.std.proofs.Common.{rules, arith, ◌≡◌, ◌∙◌, true, sym}
 use Rattle.pf_eval.specs.Matching.{matches}
 use Rattle.pf_eval.specs.Verdicts.{tables_in}
-use Rattle.pf_ruleset.specs.Seen.{heading_of}
+use Rattle.pf_rules.specs.Seen.{heading_of}
 use Rattle.pf_config.specs.Orders.{stops_of}
 use Rattle.pf_eval.specs.inner.TwoWalks.{stop_at, hit_of, is_quiet}
 use Rattle.pf_eval.proofs.Anchors.{ending_below, own_rules}

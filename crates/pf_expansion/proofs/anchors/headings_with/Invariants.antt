@@ -1,5 +1,5 @@
 use Rattle.std.proofs.Common.{◌≡◌, map}
-use Rattle.pf_ruleset.specs.Seen.{heading_of, target_of}
+use Rattle.pf_rules.specs.Seen.{heading_of, target_of}
 use Rattle.pf_expansion.specs.Anchors.{heading_from}
 use Rattle.pf_expansion.proofs.anchors.headings_with.Given as goal
 

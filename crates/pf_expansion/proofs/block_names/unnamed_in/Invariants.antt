@@ -1,5 +1,5 @@
 use Rattle.std.proofs.Common.{◌≡◌, drop}
-use Rattle.pf_ruleset.specs.Seen.{items_of}
+use Rattle.pf_rules.specs.Seen.{items_of}
 use Rattle.pf_expansion.specs.Blocks.{unnamed_in}
 use Rattle.pf_expansion.proofs.block_names.unnamed_in.Given as goal
 

@@ -1,5 +1,5 @@
 use Rattle.std.proofs.Common.{List, sym, ap, ◌∙◌}
-use Rattle.pf_ruleset.specs.Items.{Target}
+use Rattle.pf_rules.specs.Items.{Target}
 use Rattle.pf_statements.specs.declared.written.WrittenItem.{WrittenItem}
 use Rattle.pf_statements.specs.Statements.{ItemText, BlockItem}
 use Rattle.pf_statements.specs.Seen.{heading_text_of, item_text_of, item_texts_of}

@@ -1,6 +1,6 @@
 use Rattle.std.proofs.Common.{Some, sym, ap, ◌∙◌}
-use Rattle.pf_ruleset.specs.Items.{values_of}
-use Rattle.pf_ruleset.specs.Seen.{items_of}
+use Rattle.pf_rules.specs.Items.{values_of}
+use Rattle.pf_rules.specs.Seen.{items_of}
 use Rattle.pf_expansion.specs.Blocks.{Path}
 use Rattle.pf_expansion.specs.inner.Numbers.{walk}
 use Rattle.pf_expansion.proofs.Stepping.{is_none_from}

@@ -1,7 +1,7 @@
 use Rattle.std.proofs.Common.{◌≡◌, [], Some, drop}
 use Rattle.std.specs.List.{list_any}
-use Rattle.pf_ruleset.specs.Items.{values_of}
-use Rattle.pf_ruleset.specs.Seen.{items_of}
+use Rattle.pf_rules.specs.Items.{values_of}
+use Rattle.pf_rules.specs.Seen.{items_of}
 use Rattle.pf_expansion.specs.Blocks.{paths_within}
 use Rattle.pf_expansion.specs.inner.Numbers.{is_marked}
 use Rattle.pf_expansion.proofs.block_paths.+values.Given as goal

@@ -3,7 +3,7 @@ use Rattle.std.specs.Prelude.{IfSome}
 use Rattle.std.specs.List.{list_any}
 use Rattle.std.specs.Ordering.{nat_cmp}
 use Rattle.std.specs.BTreeSet.{BTreeSet, contains}
-use Rattle.pf_ruleset.specs.Seen.{items_of}
+use Rattle.pf_rules.specs.Seen.{items_of}
 use Rattle.pf_statements.specs.Seen.{item_text_of}
 use Rattle.pf_expansion.proofs.Twice.{twice_within, twice_before}
 use Rattle.pf_expansion.proofs.block_paths.is_twice.Goals as goal

@@ -1,5 +1,5 @@
 use Rattle.std.proofs.Common.{◌≡◌, ◌++◌, drop}
-use Rattle.pf_ruleset.specs.Seen.{items_of}
+use Rattle.pf_rules.specs.Seen.{items_of}
 use Rattle.pf_statements.specs.Seen.{item_texts_of}
 use Rattle.pf_expansion.specs.Blocks.{block_values}
 use Rattle.pf_expansion.proofs.blocks.+values.Given as goal

@@ -1,7 +1,7 @@
 use Rattle.std.proofs.Common.{◌≡◌, ◌++◌, map}
-use Rattle.pf_ruleset.specs.declared.rule.Rule.{Rule}
-use Rattle.pf_ruleset.specs.Items.{Filters}
-use Rattle.pf_ruleset.specs.Seen.{items_of}
+use Rattle.pf_rules.specs.declared.rule.Rule.{Rule}
+use Rattle.pf_rules.specs.Items.{Filters}
+use Rattle.pf_rules.specs.Seen.{items_of}
 use Rattle.pf_expansion.proofs.blocks.push_rules.Given as goal
 
 abbrev pub invariant-loop-rule : goal.invariant-loop-rule

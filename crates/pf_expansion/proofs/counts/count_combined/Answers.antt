@@ -1,4 +1,4 @@
-use Rattle.pf_conditions.specs.Seen.{conditions_of}
+use Rattle.pf_statements.specs.ConditionsSeen.{conditions_of}
 use Rattle.pf_expansion.proofs.Pairs.{counted}
 use Rattle.pf_expansion.proofs.counts.count_combined.Goals as goal
 

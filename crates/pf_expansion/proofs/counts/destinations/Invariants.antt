@@ -1,5 +1,5 @@
 use Rattle.std.proofs.Common.{◌≡◌, ◌+◌, ◌≤◌, drop}
-use Rattle.pf_conditions.specs.Seen.{conditions_of}
+use Rattle.pf_statements.specs.ConditionsSeen.{conditions_of}
 use Rattle.pf_expansion.specs.inner.Counts.{is_of_one, count_hosts}
 use Rattle.pf_expansion.proofs.counts.destinations.Given as goal
 

@@ -1,5 +1,5 @@
 use Rattle.std.proofs.Common.{◌≡◌, ◌+◌, ◌-◌, ◌^◌, ◌≤◌, drop, min}
-use Rattle.pf_conditions.specs.Seen.{conditions_of}
+use Rattle.pf_statements.specs.ConditionsSeen.{conditions_of}
 use Rattle.pf_expansion.specs.inner.Counts.{pairs_from}
 use Rattle.pf_expansion.proofs.counts.pairs.Given as goal
 

@@ -1,6 +1,6 @@
 use Rattle.std.proofs.Common.{append-nil, sym, ◌∙◌}
 use Rattle.pf_expansion.specs.inner.Chosen.{combination_of}
-use Rattle.pf_conditions.specs.Seen.{conditions_of}
+use Rattle.pf_statements.specs.ConditionsSeen.{conditions_of}
 use Rattle.pf_expansion.proofs.Families.{between_two_families}
 use Rattle.pf_expansion.proofs.expand.push_between.Goals as goal
 

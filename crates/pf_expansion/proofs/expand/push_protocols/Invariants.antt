@@ -2,7 +2,7 @@ use Rattle.std.proofs.Common.{◌≡◌, ◌++◌, drop, map, Some}
 use Rattle.std.specs.List.{flat_map}
 use Rattle.pf_expansion.specs.inner.Chosen.{combination_of}
 use Rattle.pf_expansion.specs.Expansion.{by_source, by_protocol}
-use Rattle.pf_conditions.specs.Seen.{conditions_of}
+use Rattle.pf_statements.specs.ConditionsSeen.{conditions_of}
 use Rattle.pf_expansion.proofs.expand.push_protocols.Given as goal
 
 -- what is left comes behind those so far

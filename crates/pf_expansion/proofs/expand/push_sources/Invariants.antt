@@ -2,7 +2,7 @@ use Rattle.std.proofs.Common.{◌≡◌, ◌++◌, drop}
 use Rattle.std.specs.List.{flat_map}
 use Rattle.pf_expansion.specs.inner.Chosen.{combination_of}
 use Rattle.pf_expansion.specs.Expansion.{by_source_port, by_source}
-use Rattle.pf_conditions.specs.Seen.{conditions_of}
+use Rattle.pf_statements.specs.ConditionsSeen.{conditions_of}
 use Rattle.pf_expansion.proofs.expand.push_sources.Given as goal
 
 -- what is left comes behind those so far

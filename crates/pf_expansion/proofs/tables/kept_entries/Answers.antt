@@ -1,5 +1,5 @@
 use Rattle.std.proofs.Common.{◌+◌, List, length, drop, fold, subst, sym, ap, arith}
-use Rattle.pf_ruleset.specs.declared.ruleset.TableEntry.{TableEntry}
+use Rattle.pf_rules.specs.declared.ruleset.TableEntry.{TableEntry}
 use Rattle.pf_expansion.specs.Tables.{with_first}
 use Rattle.pf_expansion.specs.inner.Tables.{AreKeys}
 use Rattle.pf_expansion.proofs.Keeping.{next_entry, no_keys, too_many}

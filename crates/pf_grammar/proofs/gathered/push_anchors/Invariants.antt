@@ -1,6 +1,6 @@
 use Rattle.std.proofs.Common.{◌≡◌, ◌++◌, map}
-use Rattle.pf_ruleset.specs.Items.{Anchors, Heading}
-use Rattle.pf_ruleset.specs.Seen.{heading_of, items_of}
+use Rattle.pf_rules.specs.Items.{Anchors, Heading}
+use Rattle.pf_rules.specs.Seen.{heading_of, items_of}
 use Rattle.pf_grammar.proofs.gathered.push_anchors.Given as goal
 
 abbrev pub invariant-loop-heading : goal.invariant-loop-heading

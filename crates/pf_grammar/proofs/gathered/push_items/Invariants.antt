@@ -1,5 +1,5 @@
 use Rattle.std.proofs.Common.{◌≡◌, ◌++◌}
-use Rattle.pf_ruleset.specs.Seen.{items_of}
+use Rattle.pf_rules.specs.Seen.{items_of}
 use Rattle.pf_grammar.proofs.gathered.push_items.Given as goal
 
 abbrev pub invariant-loop-item : goal.invariant-loop-item

@@ -7,7 +7,7 @@ use Rattle.pf_tokens.specs.Productions.{is_end}
 use Rattle.pf_tokens.proofs.Walking.{reading_ends}
 use Rattle.pf_grammar.specs.declared.fault.Refusal.{Refusal}
 use Rattle.pf_grammar.specs.Reading.{Sofar, judge, macros_of, reading, ruleset_if, nothing}
-use Rattle.pf_ruleset.specs.Rulesets.{RulesetValue, TableValue}
+use Rattle.pf_rules.specs.Rulesets.{RulesetValue, TableValue}
 use Rattle.pf_grammar.specs.inner.Gathering.{sofar_of}
 use Rattle.pf_grammar.proofs.ReadingSteps.{from, Begun, rest_shorter, passed_over, went_on, fails_so, few_stay, Room}
 use Rattle.pf_grammar.proofs.reading.parse.Goals as goal

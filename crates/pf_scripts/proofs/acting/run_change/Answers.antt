@@ -1,7 +1,7 @@
 use Rattle.std.proofs.Common.{◌≡◌, sym, ap, subst, List, ℕ, OnOk, string_bytes}
 use Rattle.pf_entry.specs.Entry.{Entry, EntryBytes, Command}
 use Rattle.pf_entry.specs.Seen.{entry_of, command_of}
-use Rattle.pf_effect.specs.Effect.{effect, after_command}
+use Rattle.pf_command.specs.Effect.{effect, after_command}
 use Rattle.pf_scripts.specs.Ctl.{is_counted, change_line, prints}
 use Rattle.pf_scripts.specs.inner.Seen.{Does}
 use Rattle.pf_entry.specs.Owned.{command_value}

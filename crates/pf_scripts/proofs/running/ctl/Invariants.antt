@@ -1,5 +1,5 @@
 use Rattle.std.proofs.Common.{◌≡◌, ◌++◌, None, length, option_map, string_bytes}
-use Rattle.pf_effect.specs.Effect.{empty}
+use Rattle.pf_command.specs.Effect.{empty}
 use Rattle.pf_scripts.specs.Lines.{lines}
 use Rattle.pf_scripts.specs.Ctl.{printed_from}
 use Rattle.pf_scripts.specs.inner.Seen.{waiting_of}

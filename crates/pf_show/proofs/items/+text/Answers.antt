@@ -1,8 +1,8 @@
 use Rattle.std.proofs.Common.{rules, ◌≡◌, ap, ◌∙◌, refl}
 use Rattle.std.specs.Prelude.{option_map}
-use Rattle.pf_ruleset.specs.Items.{Blocks, values_of}
-use Rattle.pf_ruleset.specs.Seen.{heading_of, item_of, items_of, with_block}
-use Rattle.pf_ruleset.proofs.Carried.{anchor_is}
+use Rattle.pf_rules.specs.Items.{Blocks, values_of}
+use Rattle.pf_rules.specs.Seen.{heading_of, item_of, items_of, with_block}
+use Rattle.pf_rules.proofs.Carried.{anchor_is}
 use Rattle.pf_show.specs.Shown.{shown_item}
 use Rattle.pf_show.proofs.Anchors.{block_text_is}
 use Rattle.pf_show.proofs.items.+text.Goals as goal

@@ -1,7 +1,7 @@
 use Rattle.std.proofs.Common.{◌≡◌, ◌∙◌, ◌+◌, ◌++◌, [], ap, map, false, length, length-drop, arith, sym, subst, drop, rules}
 use Rattle.std.proofs.lemmas.Grind.{common_steps}
 use Rattle.std.proofs.lemmas.List.{length-map}
-use Rattle.pf_ruleset.specs.Seen.{rule_of}
+use Rattle.pf_rules.specs.Seen.{rule_of}
 use Rattle.pf_config.specs.Changes.{tidied_of, used_tables}
 use Rattle.pf_config.specs.Trees.{AnchorTree, shared, own_entry, below}
 use Rattle.pf_config.specs.inner.Trees.{any_sheds}

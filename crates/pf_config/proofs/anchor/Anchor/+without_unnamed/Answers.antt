@@ -1,7 +1,7 @@
 use Rattle.std.proofs.Common.{◌≡◌, ◌∙◌, ◌+◌, ◌++◌, ap, map, sym, subst, drop, arith, rules, length, length-drop, true, false}
 use Rattle.std.proofs.lemmas.Grind.{common_steps}
 use Rattle.std.proofs.lemmas.List.{length-map}
-use Rattle.pf_ruleset.specs.Seen.{rule_of}
+use Rattle.pf_rules.specs.Seen.{rule_of}
 use Rattle.pf_config.specs.Map.{name_after}
 use Rattle.pf_config.specs.Changes.{without_unnamed, is_some_unnamed}
 use Rattle.pf_config.specs.Trees.{AnchorTree, shared, own_entry, below}

@@ -1,5 +1,5 @@
 use Rattle.std.proofs.Common.{◌∙◌, map, subst, sym}
-use Rattle.pf_ruleset.specs.Seen.{rule_of}
+use Rattle.pf_rules.specs.Seen.{rule_of}
 use Rattle.pf_config.specs.Trees.{AnchorTree, AreBelow, last_name, shared}
 use Rattle.pf_config.proofs.Treed.{child_is}
 use Rattle.pf_config.proofs.KidHalves.{kid_found, kids_in_order}

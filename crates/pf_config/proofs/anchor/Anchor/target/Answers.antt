@@ -1,7 +1,7 @@
 use Rattle.std.proofs.Common.{◌≡◌, ◌∙◌, ap, map, subst, sym}
 use Rattle.std.specs.Prelude.{find}
 use Rattle.std.specs.Option.{option_copied}
-use Rattle.pf_ruleset.specs.Seen.{rule_of}
+use Rattle.pf_rules.specs.Seen.{rule_of}
 use Rattle.pf_config.specs.Trees.{AnchorTree, shared, child_at}
 use Rattle.pf_config.specs.inner.Trees.{is_named}
 use Rattle.pf_config.specs.inner.KidOrder.{AreInOrder}

@@ -1,5 +1,5 @@
 use Rattle.std.proofs.Common.{◌≡◌, ◌++◌, [], map, refl, subst}
-use Rattle.pf_ruleset.specs.Seen.{rule_of}
+use Rattle.pf_rules.specs.Seen.{rule_of}
 use Rattle.pf_config.specs.Trees.{AnchorTree, shared, own_entry, below}
 use Rattle.pf_config.specs.inner.Trees.{placed_in}
 use Rattle.pf_config.proofs.Entries.{own_placed}

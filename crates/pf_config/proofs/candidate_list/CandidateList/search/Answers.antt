@@ -1,6 +1,6 @@
 use Rattle.std.proofs.Common.{◌≡◌, ℕ, List, map, Some, None, refl, sym, subst, ◌∙◌}
-use Rattle.pf_intervals.specs.declared.row.Row.{Row}
-use Rattle.pf_intervals.specs.Rows.{Marks}
+use Rattle.pf_tables.specs.declared.row.Row.{Row}
+use Rattle.pf_tables.specs.Rows.{Marks}
 use Rattle.pf_config.specs.declared.candidate.Candidate.{Candidate}
 use Rattle.pf_config.specs.Searches.{source_of, destination_of, port_of, AreMarked}
 use Rattle.pf_config.proofs.candidate_list.CandidateList.search.Goals as goal

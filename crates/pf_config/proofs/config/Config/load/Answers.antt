@@ -1,9 +1,9 @@
 use Rattle.std.proofs.Common.{rules, ◌≡◌, ◌∙◌, ◌||◌, true, List, length, refl, sym, subst}
 use Rattle.std.specs.Prelude.{nat_lt}
-use Rattle.pf_ruleset.specs.declared.item.Item.{Item}
-use Rattle.pf_ruleset.specs.Items.{values_of}
-use Rattle.pf_ruleset.specs.Rulesets.{ruleset_of}
-use Rattle.pf_ruleset.specs.Seen.{items_of}
+use Rattle.pf_rules.specs.declared.item.Item.{Item}
+use Rattle.pf_rules.specs.Items.{values_of}
+use Rattle.pf_rules.specs.Rulesets.{ruleset_of}
+use Rattle.pf_rules.specs.Seen.{items_of}
 use Rattle.pf_config.specs.Map.{Path}
 use Rattle.pf_config.specs.inner.Depths.{any_deep}
 use Rattle.pf_config.proofs.Deepness.{deep_refused}

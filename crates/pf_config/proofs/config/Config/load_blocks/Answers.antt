@@ -1,6 +1,6 @@
 use Rattle.std.proofs.Common.{rules, ◌≡◌, ◌∙◌, map, ap, sym, subst, List}
-use Rattle.pf_ruleset.specs.Items.{AnyRule, rule_in, values_of}
-use Rattle.pf_ruleset.specs.Seen.{items_of, rule_of}
+use Rattle.pf_rules.specs.Items.{AnyRule, rule_in, values_of}
+use Rattle.pf_rules.specs.Seen.{items_of, rule_of}
 use Rattle.pf_config.specs.Map.{Path}
 use Rattle.pf_config.specs.inner.Texts.{definition_of}
 use Rattle.pf_config.specs.Changes.{Changes, blocks_in}

@@ -1,6 +1,6 @@
 use Rattle.std.proofs.Common.{rules, ◌≡◌, ◌∙◌, ◌||◌, List, ap}
 use Rattle.std.specs.Str.{bytes_eq}
-use Rattle.pf_ruleset.specs.Names.{Name}
+use Rattle.pf_rules.specs.Names.{Name}
 use Rattle.pf_config.specs.SkippedNames.{is_listed}
 use Rattle.pf_config.proofs.Referrals.{gains_one}
 use Rattle.pf_config.proofs.referred.Referred.put.Goals as goal

@@ -1,6 +1,6 @@
 use Rattle.std.proofs.Common.{rules, ◌≡◌}
 use Rattle.std.proofs.lemmas.Fn.{always_returns_same}
-use Rattle.pf_ruleset.specs.Names.{Name, is_before}
+use Rattle.pf_rules.specs.Names.{Name, is_before}
 use Rattle.pf_config.proofs.SkippedNames.{before_ranks, rising_sorted, index_sorted}
 use Rattle.pf_config.proofs.skipped.Skipped.of.Goals as goal
 

@@ -1,7 +1,7 @@
 use Rattle.std.proofs.Common.{rules, ◌≡◌, ◌∙◌, ◌++◌, ◌∷◌, [], List, map, sym, ap, subst}
 use Rattle.std.proofs.lemmas.List.{map_push}
-use Rattle.pf_ruleset.specs.Rulesets.{TableValue, table_of}
-use Rattle.pf_ruleset.specs.declared.ruleset.TableDef.{TableDef}
+use Rattle.pf_rules.specs.Rulesets.{TableValue, table_of}
+use Rattle.pf_rules.specs.declared.ruleset.TableDef.{TableDef}
 use Rattle.pf_expansion.specs.inner.Tables.{AreNames}
 use Rattle.pf_expansion.proofs.Named.{names_more}
 use Rattle.pf_expansion.proofs.defined_tables.DefinedTables.push.Goals as goal

@@ -1,6 +1,6 @@
 use Rattle.std.proofs.Common.{rules, ◌≡◌, None, ℕ, ◌+◌, sym, ap, ◌∙◌}
 use Rattle.std.specs.BTreeMap.{btree_map_len}
-use Rattle.pf_ruleset.specs.Names.{Name}
+use Rattle.pf_rules.specs.Names.{Name}
 use Rattle.pf_expansion.specs.inner.Numbers.{step_from}
 use Rattle.pf_expansion.proofs.Stepping.{within_kept, apart_kept, grows_more, is_none_from}
 use Rattle.pf_expansion.proofs.numbers.Numbers.push.Goals as goal

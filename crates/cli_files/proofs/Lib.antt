@@ -1,0 +1,2 @@
+pub mod KeyLines
+mod StartsLines

@@ -1,0 +1,28 @@
+//! A key's file.
+
+use crate::cluster::cluster_key_from;
+use crate::key_fault::KeyFault;
+use cli_io::open_regular;
+use std::alloc::Global;
+use std::fs::OpenFile;
+use std::os::unix::fs::PermissionsExt;
+use std::rt::Files;
+
+/// The key of a cluster that the secret in a file makes, by [`cluster_key_from`]: `Unread` where the file isn't there,
+/// is no regular file or can't be read.
+pub fn read_cluster_key<F: Files>(
+    files: &F,
+    alloc: Global,
+    path: &str,
+    cluster: u32,
+    members: &[&str],
+) -> Result<[u8; 32], KeyFault> {
+    let Ok(mut file) = open_regular(files, path) else {
+        return Err(KeyFault::Unread);
+    };
+    let Ok(about) = file.metadata() else {
+        return Err(KeyFault::Unread);
+    };
+    let mode = about.permissions().mode();
+    cluster_key_from(alloc, &mut file, mode, cluster, members)
+}

@@ -1,0 +1,61 @@
+//! Lines of a text.
+
+ghost use Rattle.std.specs.Prelude.{◌≡◌};
+ghost use Rattle.cli_files.specs.inner.Settings.{line_behind};
+
+/// The number of the line, from 1, that begins behind the last newline of a front of the text.
+pub(crate) fn line_behind(front: &[u8]) -> u64
+    ensures { result ≡ line_behind front.now }
+{
+    let mut line = 1u64;
+    for byte in front {
+        if *byte == b'\n' {
+            line += 1;
+        }
+    }
+    line
+}
+
+/// The number of the line, from 1, in which the byte behind that many others stands; that of the end past it.
+pub(crate) fn line_at(text: &[u8], before: usize) -> u64 {
+    match text.get(..before) {
+        Some(front) => line_behind(front),
+        None => line_behind(text),
+    }
+}
+
+/// Whether a byte may be before a key in its line: a blank, a header's bracket, a quote.
+fn may_precede(byte: u8) -> bool {
+    matches!(byte, b' ' | b'\t' | b'[' | b'"' | b'\'')
+}
+
+/// Whether a byte is one of a bare key.
+fn is_of_key(byte: u8) -> bool {
+    byte.is_ascii_alphanumeric() || byte == b'-' || byte == b'_'
+}
+
+/// Whether the key is at this place, and no more of a word.
+fn stands_at(text: &[u8], at: usize, key: &[u8]) -> bool {
+    let Some(rest) = text.get(at..) else {
+        return false;
+    };
+    match rest.strip_prefix(key) {
+        Some(after) => match after.first() {
+            Some(byte) => !is_of_key(*byte),
+            None => true,
+        },
+        None => false,
+    }
+}
+
+/// The line, from 1, that begins with a key, blanks, brackets and quotes before it aside; none where no line does.
+pub(crate) fn line_of(text: &[u8], key: &str) -> Option<u64> {
+    let mut is_start = true;
+    for (at, byte) in text.iter().enumerate() {
+        if is_start && stands_at(text, at, key.as_bytes()) {
+            return Some(line_at(text, at));
+        }
+        is_start = *byte == b'\n' || (is_start && may_precede(*byte));
+    }
+    None
+}

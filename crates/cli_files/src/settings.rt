@@ -1,0 +1,180 @@
+//! A file of settings that was read.
+
+ghost use Rattle.std.specs.Prelude.{◌≡◌, Some, None, map, option_map, option_and_then, IfOk, IfErr, IfSome, IsUtf8};
+ghost use Rattle.toml.specs.Data.{Members, no_members, as_str, as_bool, get_member};
+ghost use Rattle.toml.specs.Errors.{IsMemory};
+ghost use Rattle.toml.specs.Parse.{parse_document};
+ghost use Rattle.toml.specs.View.{view, table_view, items_view};
+ghost use Rattle.cli_files.specs.Settings.{first_wrong, number_of, is_true, flag_at, texts_of, texts_at, IsRefused};
+ghost use Rattle.cli_files.specs.Files.{settings_of};
+
+use crate::settings_fault::FileFault;
+use crate::kinds::{is_setting, kind_of, number_of};
+use crate::lines::{line_at, line_of};
+use std::alloc::{AllocError, Global};
+use toml::de::Error;
+use toml::{Table, Value, table_from_slice};
+
+/// The settings of a file. Each key names a setting, and its value is one that the setting takes.
+#[derive(Drop)]
+pub struct NodeFile {
+    table: Table,
+}
+
+/// The first key, in the order of the keys' bytes, that names no setting or has a value that it doesn't take.
+fn first_wrong(table: &Table) -> Option<&str>
+    ensures { option_map (λ k. k.now) result ≡ first_wrong (table_view table.now) }
+{
+    'keys: for (key, value) in table.iter() {
+        if !is_setting(key.as_str(), value) {
+            return Some(key.as_str());
+        }
+    }
+    None
+}
+
+/// What a text that isn't TOML is refused for.
+fn syntax_fault(text: &[u8], error: Error) -> FileFault
+    requires { ¬ IsMemory error → IsUtf8 text.now → parse_document text.now ≡ None }
+    ensures { IsRefused result text.now }
+{
+    match error.span() {
+        Some(span) => FileFault::Syntax(line_at(text, span.start)),
+        None => FileFault::Memory,
+    }
+}
+
+/// What a key is refused for.
+fn key_fault(text: &[u8], key: &str) -> FileFault
+    requires { (ms : Members) × (parse_document text.now ≡ Some ms) × (first_wrong ms ≡ Some key.now) }
+    ensures { IsRefused result text.now }
+{
+    let line = line_of(text, key);
+    match kind_of(key) {
+        Some(_) => FileFault::Value(line),
+        None => FileFault::Unknown(line),
+    }
+}
+
+/// What a table is refused for, if it is.
+fn table_fault(text: &[u8], table: &Table) -> Option<FileFault>
+    requires { parse_document text.now ≡ Some (table_view table.now) }
+    ensures none { result ≡ None → first_wrong (table_view table.now) ≡ None }
+    ensures some { IfSome result (λ fault. IsRefused fault text.now) }
+{
+    match first_wrong(table) {
+        Some(key) => Some(key_fault(text, key)),
+        None => None,
+    }
+}
+
+impl NodeFile {
+    /// A file without any setting.
+    pub fn empty(alloc: Global) -> NodeFile
+        ensures { settings_of result ≡ no_members }
+    {
+        NodeFile {
+            table: Table::new(alloc),
+        }
+    }
+
+    /// The settings that a text has, which is TOML in UTF-8. `Syntax` where it isn't, `Unknown` of a key that names no
+    /// setting, `Value` of one whose value the setting doesn't take; of these the first key by its bytes.
+    pub fn read(alloc: Global, text: &[u8]) -> Result<NodeFile, FileFault>
+        ensures settings { IfOk result (λ f. parse_document text.now ≡ Some (settings_of f)) }
+        ensures all { IfOk result (λ f. first_wrong (settings_of f) ≡ None) }
+        ensures refused { IfErr result (λ fault. IsRefused fault text.now) }
+    {
+        let table = match table_from_slice(alloc, text) {
+            Ok(table) => table,
+            Err(error) => return Err(syntax_fault(text, error)),
+        };
+        match table_fault(text, &table) {
+            None => Ok(NodeFile { table }),
+            Some(fault) => {
+                drop(table);
+                Err(fault)
+            }
+        }
+    }
+
+    /// The text of a setting, if the file has one.
+    pub fn text(&self, name: &str) -> Option<&str>
+        ensures { option_map (λ s. s.now) result ≡ option_and_then as_str (get_member name.now (settings_of self.now)) }
+    {
+        match value_at(&self.table, name) {
+            Some(value) => value.as_str(),
+            None => None,
+        }
+    }
+
+    /// The number of a setting, if the file has one.
+    pub fn number(&self, name: &str) -> Option<u64>
+        ensures { result ≡ option_and_then number_of (get_member name.now (settings_of self.now)) }
+    {
+        match value_at(&self.table, name) {
+            Some(value) => number_of(value),
+            None => None,
+        }
+    }
+
+    /// Whether a setting is `true`.
+    pub fn flag(&self, name: &str) -> bool
+        ensures { result ≡ flag_at (get_member name.now (settings_of self.now)) }
+    {
+        match value_at(&self.table, name) {
+            Some(value) => flag_of(value),
+            None => false,
+        }
+    }
+
+    /// The texts of a setting's list; none where the file doesn't have it.
+    pub fn texts(&self, alloc: Global, name: &str) -> Result<Vec<&str>, AllocError>
+        ensures { IfOk result (λ v. map (λ s. s.now) v.items ≡ texts_at (get_member name.now (settings_of self.now))) }
+    {
+        match value_at(&self.table, name) {
+            Some(value) => texts_of(alloc, value),
+            None => Ok(Vec::new(alloc)),
+        }
+    }
+}
+
+/// The value of a key.
+fn value_at<'t>(table: &'t Table, key: &str) -> Option<&'t Value>
+    ensures { option_map (λ v. view v.now) result ≡ get_member key.now (table_view table.now) }
+{
+    table.get(key)
+}
+
+/// Whether a value is `true`.
+fn flag_of(value: &Value) -> bool
+    ensures { result ≡ is_true (as_bool (view value.now)) }
+{
+    match value.as_bool() {
+        Some(flag) => flag,
+        None => false,
+    }
+}
+
+/// The texts among values.
+fn texts_in(alloc: Global, values: &[Value]) -> Result<Vec<&str>, AllocError>
+    ensures { IfOk result (λ v. map (λ s. s.now) v.items ≡ texts_of (items_view values.now)) }
+{
+    let mut texts = Vec::new(alloc);
+    for value in values {
+        if let Value::String(text) = value {
+            texts.push(text.as_str())?;
+        }
+    }
+    Ok(texts)
+}
+
+/// The texts of a value that is a list.
+fn texts_of(alloc: Global, value: &Value) -> Result<Vec<&str>, AllocError>
+    ensures { IfOk result (λ v. map (λ s. s.now) v.items ≡ texts_at (Some (view value.now))) }
+{
+    match value.as_array() {
+        Some(values) => texts_in(alloc, values.as_slice()),
+        None => Ok(Vec::new(alloc)),
+    }
+}

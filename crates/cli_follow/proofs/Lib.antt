@@ -1,0 +1,5 @@
+mod Ends
+mod Texts
+pub mod Following
+pub mod Same
+pub mod Told

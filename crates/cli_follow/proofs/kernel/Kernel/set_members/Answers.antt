@@ -1,0 +1,10 @@
+use Rattle.std.proofs.Common.{◌∙◌, sym}
+use Rattle.cli_follow.proofs.Same.{differ}
+use Rattle.cli_follow.proofs.kernel.Kernel.set_members.Goals as goal
+
+pub returns-clause-same : goal.returns-clause-same
+returns-clause-same c =
+    let d = differ c.as_slice.result.now c.as_slice-2.result.now c.ne-is_new.result c.ne-is_new.ensures in (
+      λ e. sym c.as_slice.ensures.value ∙ d.0 e ∙ c.as_slice-2.ensures.value,
+      λ e. d.1 (c.as_slice.ensures.value ∙ e ∙ sym c.as_slice-2.ensures.value),
+    )

@@ -1,0 +1,45 @@
+-- What a door's lines of entries do to a configuration.
+use Rattle.std.specs.Prelude.{◌≡◌, ℕ, ◌+◌, ◌≤◌, ◌⊎◌, List, [], ◌∷◌, Option, Some, Result, Ok, Err, OnOk}
+use Rattle.std.specs.List.{fold}
+use Rattle.hex.specs.Hex.{IsBytes, decode_of}
+use Rattle.hex.specs.declared.error.FromHexError.{FromHexError}
+use Rattle.px_model.specs.Node.{Entry, Log}
+use Rattle.px_model.specs.Step.{front}
+use Rattle.px_model.specs.Spelling.{Bytes, spelled}
+use Rattle.pf_config.specs.Map.{Configuration}
+use Rattle.pf_entry.specs.Reading.{reading}
+use Rattle.pf_scripts.specs.Lines.{ScriptLine, lines}
+use Rattle.pf_node.specs.Applied.{after, after_read}
+use Rattle.node_requests.specs.EntryLines.{entries_from}
+
+-- the configuration after the entry whose bytes were decoded, if they were
+abbrev pub after_decoded : Configuration → Result (List ℕ) FromHexError → Configuration
+after_decoded c (Ok bytes) = after_read c (reading bytes)
+after_decoded c (Err e) = c
+
+-- after the entry of a line
+abbrev pub after_line : Configuration → ScriptLine → Configuration
+after_line c l = after_decoded c (decode_of l.content)
+
+-- after those of all lines of a text
+abbrev pub after_lines : Configuration → List ℕ → Configuration
+after_lines c text = fold after_line c (lines text)
+
+-- Lines were taken one after the other up to one that wasn't, or to the last: the configuration is then that after the
+-- lines before it, and it stands that many entries further.
+-- Example: of three lines at 7: at 7, 8, 9 or 10.
+abbrev pub StopsIn : (old new : Configuration) → (from to : ℕ) → List ScriptLine → Type 0
+StopsIn old new from to [] = (new ≡ old) × (to ≡ from)
+StopsIn old new from to (l ∷ ls) =
+    ((new ≡ old) × (to ≡ from)) ⊎ StopsIn (after_line old l) new (from + 1) to ls
+
+-- each entry of a log is spelled in bytes
+abbrev pub AreBytes : Log Bytes → Type 0
+AreBytes log = (p : ℕ) (e : Entry Bytes) → log p ≡ Some e → IsBytes (spelled e)
+
+-- Where a configuration is that of a log's first entries, and a text is what a door answers of this log from there on,
+-- it is afterwards that of the log's first entries up to where it stands then.
+-- Example: at 3, with two lines: after five entries.
+abbrev pub Follows : (old new : Configuration) → (from to : ℕ) → (text : List ℕ) → Type 0
+Follows old new from to text = (log : Log Bytes) (applied count : ℕ) → AreBytes log → applied ≤ front log →
+    after log from ≡ Some old → text ≡ entries_from log applied from count → after log to ≡ Some new

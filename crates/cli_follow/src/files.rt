@@ -1,0 +1,151 @@
+//! Texts for pfctl(8) in files, one for each path.
+
+use pf_config::Config;
+use pf_dump::{push_text, text_paths};
+use pf_rules::Name;
+use std::alloc::{AllocError, Global};
+use std::fs::{self, OpenOptions};
+use std::io::{self, Write};
+
+/// A file and its text.
+#[derive(Drop)]
+struct TextFile {
+    name: String,
+    text: String,
+    /// Whether the text is there.
+    is_put: bool,
+}
+
+/// The files of a folder.
+#[derive(Drop)]
+pub(crate) struct TextFiles {
+    folder: String,
+    written: Vec<TextFile>,
+}
+
+/// The name of a path's file: `main.conf`, or `anchor` and the names behind a `+` each, which no name has, and `.conf`.
+fn file_name(alloc: Global, path: &[Name]) -> Result<String, AllocError> {
+    if path.is_empty() {
+        return String::from_str(alloc, "main.conf");
+    }
+    let mut name = String::from_str(alloc, "anchor")?;
+    for part in path {
+        name.push('+')?;
+        name.push_str(part.as_str())?;
+    }
+    name.push_str(".conf")?;
+    Ok(name)
+}
+
+/// The files of a configuration: those of all paths that a command may load, and main's in any case.
+fn files_of(alloc: Global, config: &Config) -> Result<Vec<TextFile>, AllocError> {
+    let mut files = Vec::new(alloc);
+    let mut has_main = false;
+    for path in text_paths(alloc, config)? {
+        let mut text = String::new(alloc);
+        push_text(alloc, &mut text, config, path, true)?;
+        has_main = has_main || path.is_empty();
+        files.push(TextFile {
+            name: file_name(alloc, path)?,
+            text,
+            is_put: false,
+        })?;
+    }
+    if !has_main {
+        files.push(TextFile {
+            name: String::from_str(alloc, "main.conf")?,
+            text: String::new(alloc),
+            is_put: false,
+        })?;
+    }
+    Ok(files)
+}
+
+/// Whether one of the files has this name.
+fn has_name(files: &[TextFile], name: &str) -> bool {
+    files.iter().any(|file| file.name.as_str() == name)
+}
+
+/// Whether this is there.
+fn is_written(files: &[TextFile], name: &str, text: &str) -> bool {
+    files.iter().any(|old| old.is_put && old.name.as_str() == name && old.text.as_str() == text)
+}
+
+/// Writes a file that isn't there: what is under this path is taken away first, a link too, whose target stays as it
+/// is.
+fn write_new(rt: &HostRuntime, path: &str, text: &str) -> io::Result<()> {
+    let _gone = fs::remove_file(rt, path);
+    let mut file = OpenOptions::new()
+        .write(true)
+        .create_new(true)
+        .open(rt, path)?;
+    file.write_all(text.as_bytes())
+}
+
+impl TextFiles {
+    /// Before anything is written.
+    pub(crate) fn new(alloc: Global, folder: &str) -> Result<TextFiles, AllocError> {
+        Ok(TextFiles {
+            folder: String::from_str(alloc, folder)?,
+            written: Vec::new(alloc),
+        })
+    }
+
+    /// Writes a file beside its place and renames it, and answers whether that was possible.
+    fn put(
+        &self,
+        rt: &HostRuntime,
+        alloc: Global,
+        name: &str,
+        text: &str,
+    ) -> Result<bool, AllocError> {
+        let folder = self.folder.as_str();
+        let place = format!(in alloc; "{folder}/{name}")?;
+        let beside = format!(in alloc; "{folder}/.{name}.new")?;
+        Ok(
+            write_new(rt, beside.as_str(), text).is_ok()
+                && fs::rename(rt, beside.as_str(), place.as_str()).is_ok(),
+        )
+    }
+
+    /// Writes a file unless it is there, and answers whether it does now.
+    fn stands(
+        &self,
+        rt: &HostRuntime,
+        alloc: Global,
+        name: &str,
+        text: &str,
+    ) -> Result<bool, AllocError> {
+        if is_written(self.written.as_slice(), name, text) {
+            return Ok(true);
+        }
+        self.put(rt, alloc, name, text)
+    }
+
+    /// Writes those files of a configuration that aren't written so yet, empty ones for paths that are gone, and
+    /// answers whether all could be.
+    pub(crate) fn write(
+        &mut self,
+        rt: &HostRuntime,
+        alloc: Global,
+        config: &Config,
+    ) -> Result<bool, AllocError> {
+        let mut files = files_of(alloc, config)?;
+        for old in self.written.as_slice() {
+            if !has_name(files.as_slice(), old.name.as_str()) && !old.text.is_empty() {
+                files.push(TextFile {
+                    name: String::from_str(alloc, old.name.as_str())?,
+                    text: String::new(alloc),
+                    is_put: false,
+                })?;
+            }
+        }
+        let mut is_whole = true;
+        for file in &mut files {
+            file.is_put = self.stands(rt, alloc, file.name.as_str(), file.text.as_str())?;
+            is_whole = is_whole && file.is_put;
+        }
+        self.written = files;
+        Ok(is_whole)
+    }
+}

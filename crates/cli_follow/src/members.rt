@@ -1,0 +1,51 @@
+//! Where a node says that its members listen.
+
+ghost use Rattle.std.specs.Prelude.{◌≡◌, IfOk, map, option_map};
+ghost use Rattle.cli_follow.specs.Members.{some_texts, texts_on, members_told};
+
+use cli_nft::Member;
+use cli_nft::members_in;
+use pf_scripts::{cut_line, words_in};
+use std::alloc::{AllocError, Global};
+
+/// Texts, if there are some.
+fn some_texts<'w, 'a>(texts: &'w [&'a str]) -> Option<&'w [&'a str]>
+    ensures { option_map (λ ts. map (λ t. t.now) ts.now) result ≡ some_texts (map (λ t. t.now) texts.now) }
+{
+    if texts.is_empty() {
+        return None;
+    }
+    Some(texts)
+}
+
+/// The texts behind the word `members`, if these are the words of a line that begins with it.
+fn texts_on<'w, 'a>(words: &'w [&'a str]) -> Option<&'w [&'a str]>
+    ensures { option_map (λ ts. map (λ t. t.now) ts.now) result ≡ texts_on (map (λ w. w.now) words.now) }
+{
+    match words {
+        [first, texts @ ..] => {
+            if *first == "members" {
+                return some_texts(texts);
+            }
+            None
+        }
+        [] => None,
+    }
+}
+
+/// Where the members listen by a node's status, of which a line names them; none where it doesn't.
+#[tactic(auto, unfolding(crate::specs::Members::members_told))]
+pub(crate) fn members_told(alloc: Global, status: &[u8]) -> Result<Option<Vec<Member>>, AllocError>
+    ensures { IfOk result (λ o. option_map (λ v. v.items) o ≡ members_told status.now) }
+{
+    let mut left = status;
+    while let Some((line, rest)) = cut_line(left) {
+        if let Some(words) = words_in(alloc, line.content)? {
+            if let Some(texts) = texts_on(words.as_slice()) {
+                return members_in(alloc, texts);
+            }
+        }
+        left = rest;
+    }
+    Ok(None)
+}

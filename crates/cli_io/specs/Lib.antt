@@ -1,0 +1,4 @@
+pub mod Status
+pub mod Written
+pub mod Shown
+pub mod Explained

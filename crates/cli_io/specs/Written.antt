@@ -1,0 +1,18 @@
+-- What a run has written that comes to nothing else.
+use Rattle.std.specs.Prelude.{ℕ, List, [], ◌∷◌, ◌++◌, Option, codes}
+use Rattle.std.specs.Io.KnownBytes.{Appends}
+use Rattle.cli_io.specs.declared.status.Status.{Status}
+use Rattle.cli_io.specs.declared.status.Status.TheVariants.{Done, Refused, Usage, Memory, Failed}
+
+-- a text and a newline
+abbrev pub line : List ℕ → List ℕ
+line text = text ++ 10 ∷ []
+
+-- What a run has done that ended so because its words aren't understood. Where memory ran out it wrote that alone; of a
+-- write that failed, and of the text for such words, nothing is said.
+abbrev pub IsMisused : Status → Option (List ℕ) → Option (List ℕ) → Type 0
+IsMisused Done old new = ⊥
+IsMisused Refused old new = ⊥
+IsMisused Usage old new = Unit {0}
+IsMisused Memory old new = Appends old new (line (codes "memory"))
+IsMisused Failed old new = Unit {0}

@@ -1,0 +1,42 @@
+//! What the program's subcommands share: input, files, how a run ends, and the refusals by their numbers.
+//!
+//! # Organization
+//!
+//! - [`Status`]: how a run ends, and the exit status.
+//! - [`read_all`]: the whole input, up to a limit.
+//! - [`open_regular`], [`make_private`]: a file that isn't waited for, and one that its owner alone may read;
+//!   [`knock`]: why nobody answers at a socket.
+//! - [`Shown`]: a text of others for people.
+//! - [`misused`], [`out_of_memory`]: what is written of arguments that aren't understood, and of out of memory.
+//! - [`REFUSALS`]: the table, which has each refusal that the program answers once, by its number. [`explanation`],
+//!   [`named`]: what it says of a number, and of a number's digits; [`explain_all`]: all that it says. An
+//!   [`Explanation`] is shown as its paragraph; [`Remark`]: one line for people about a refusal that came.
+//! - The numbers that have names: [`NO_PACKET`], [`WAITING_FULL`], [`ROUNDS_SPENT`], [`POSITIONS_SPENT`],
+//!   [`UNREADABLE`], [`NO_SCRIPT`].
+//!
+//! # Why
+//!
+//! - Each subcommand has a crate of its own, so that they are proved side by side; what is here is theirs together.
+#![tactic(auto)]
+
+mod files;
+mod input;
+mod lookup;
+mod numbers;
+mod paragraph;
+mod remark;
+mod shown;
+mod status;
+mod table;
+mod writing;
+
+pub use files::{knock, make_private, open_regular};
+pub use input::{InputFault, read_all};
+pub use lookup::{explain_all, explanation, named};
+pub use numbers::{NO_PACKET, NO_SCRIPT, POSITIONS_SPENT, ROUNDS_SPENT, UNREADABLE, WAITING_FULL};
+pub use paragraph::Explanation;
+pub use remark::Remark;
+pub use shown::Shown;
+pub use status::Status;
+pub use table::REFUSALS;
+pub use writing::{misused, out_of_memory};

@@ -1,0 +1,44 @@
+//! One line about a refusal that came.
+
+ghost use Rattle.std.specs.Prelude.{Some};
+ghost use Rattle.cli_io.specs.Explained.{remark, place_of};
+
+use std::fmt;
+
+/// A refusal that came, for people: where, and which. It is shown in pfctl's manner, `stdin:3: bad port (13)`, without
+/// a newline.
+#[derive(Clone, Copy)]
+pub struct Remark<'a> {
+    /// The text that is refused: a file's name, or `stdin`.
+    pub source: &'a str,
+    /// The line of the text, from 1, where the refusal names one.
+    pub line: Option<u64>,
+    /// What it is in a few words.
+    pub name: &'a str,
+    /// The number of the refusal.
+    pub code: u8,
+}
+
+/// The place of a refusal within its text.
+#[derive(Clone, Copy)]
+struct Place(Option<u64>);
+
+impl fmt::Display for Place {
+    ghost output = { λ p. Some (place_of p.0) };
+
+    fn fmt<W: fmt::Write>(&self, f: &mut fmt::Formatter<W>) -> fmt::Result {
+        match self.0 {
+            Some(line) => write!(f, ":{line}"),
+            None => Ok(()),
+        }
+    }
+}
+
+impl fmt::Display for Remark<'_> {
+    ghost output = { λ r. Some (remark r.source.now r.line r.name.now r.code) };
+
+    fn fmt<W: fmt::Write>(&self, f: &mut fmt::Formatter<W>) -> fmt::Result {
+        let place = Place(self.line);
+        write!(f, "{}{place}: {} ({})", self.source, self.name, self.code)
+    }
+}

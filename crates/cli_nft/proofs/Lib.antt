@@ -1,0 +1,4 @@
+pub mod LinesCut
+pub mod Writing
+pub mod Joining
+mod Positions

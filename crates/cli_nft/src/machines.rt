@@ -1,0 +1,125 @@
+//! The interfaces of a machine as a file lists them.
+
+ghost use Rattle.std.specs.Prelude.{◌≡◌, ◌≤◌, ◌<◌, ◌==◌, ◌∷◌, [], IfOk, IfSome, IfNone, Some, None, length, map, not};
+ghost use Rattle.std.specs.Prelude.{option_map, if◌then◌else◌};
+ghost use Rattle.std.specs.List.{list_any, prefix_len};
+ghost use Rattle.std.specs.Str.{bytes_eq};
+ghost use Rattle.nft_rules.specs.Rendering.{known};
+ghost use Rattle.nft_rules.specs.Seen.{machine_of};
+ghost use Rattle.pf_eval.specs.PacketTexts.{words};
+ghost use Rattle.cli_nft.specs.Machines.{lines, names_if, with_names, machine_in};
+
+use pf_eval::words_between_blanks;
+use nft_rules::MachineInterface;
+use pf_rules::InterfaceName;
+use std::alloc::{AllocError, Global};
+
+/// How many interfaces a machine has at most.
+pub const INTERFACES_MAX: usize = 1024;
+
+/// How many bytes are before the end of the line.
+#[tactic(auto, using(crate::proofs::LinesCut::line_len_le))]
+fn line_len(text: &[u8]) -> usize
+    ensures value { result ≡ prefix_len (λ b. not (b == 10)) text.now }
+    ensures within { result ≤ length text.now }
+{
+    text.iter().take_while(|b| **b != b'\n').count()
+}
+
+/// The first line of a text, and what is behind it; none of an empty one.
+#[tactic(auto, using(crate::proofs::LinesCut::cuts))]
+fn cut_line(text: &[u8]) -> Option<(&[u8], &[u8])>
+    ensures cut { IfSome result (λ c. lines text.now ≡ c.0.now ∷ lines c.1.now) }
+    ensures less { IfSome result (λ c. length c.1.now < length text.now) }
+    ensures end { IfNone result (text.now ≡ []) }
+{
+    let (front, back) = text.split_at(line_len(text));
+    match back {
+        [_, rest @ ..] => Some((front, rest)),
+        [] => {
+            if front.is_empty() {
+                return None;
+            }
+            Some((front, &[]))
+        }
+    }
+}
+
+/// Whether an interface of that name is there.
+fn is_known(machine: &[MachineInterface], name: &[u8]) -> bool
+    ensures { result ≡ list_any (λ n. bytes_eq n name.now) (known (machine_of machine.now)) }
+{
+    for interface in machine {
+        if interface.name.as_bytes() == name {
+            return true;
+        }
+    }
+    false
+}
+
+/// The names that words are, none where one is no name of an interface.
+fn names_of(alloc: Global, words: &[&[u8]]) -> Result<Option<Vec<InterfaceName>>, AllocError>
+    ensures { IfOk result (λ o. option_map (λ v. v.items) o ≡ names_if (map (λ w. w.now) words.now)) }
+{
+    let mut names = Vec::new(alloc);
+    for word in words {
+        match InterfaceName::new(word) {
+            Some(name) => names.push(name)?,
+            None => return Ok(None),
+        }
+    }
+    Ok(Some(names))
+}
+
+/// Puts an interface of this name and in these groups behind the machine's, if it may have one more.
+fn push_interface(
+    machine: &mut Vec<MachineInterface>,
+    name: InterfaceName,
+    groups: Vec<InterfaceName>,
+) -> Result<bool, AllocError>
+    ensures { IfOk result (λ b. (if b then Some (machine_of machine.new.items) else None)
+        ≡ with_names (machine_of machine.old.items) (Some (name ∷ groups.items))) }
+{
+    if machine.len() >= INTERFACES_MAX || is_known(machine, name.as_bytes()) {
+        return Ok(false);
+    }
+    machine.push(MachineInterface { name, groups })?;
+    Ok(true)
+}
+
+/// Puts what a line lists behind the machine's interfaces; false where it isn't as it should be.
+fn push_line(
+    alloc: Global,
+    machine: &mut Vec<MachineInterface>,
+    line: &[u8],
+) -> Result<bool, AllocError>
+    ensures { IfOk result (λ b. (if b then Some (machine_of machine.new.items) else None)
+        ≡ with_names (machine_of machine.old.items) (names_if (words line.now))) }
+{
+    let words = words_between_blanks(alloc, line)?;
+    let Some(mut names) = names_of(alloc, &words)? else {
+        return Ok(false);
+    };
+    if names.is_empty() {
+        return Ok(true);
+    }
+    let name = names.remove(0);
+    push_interface(machine, name, names)
+}
+
+/// The machine that a text lists, a line an interface: its name and then its groups, between blanks. None where a word
+/// is no name of an interface, an interface is listed twice, or there are more than 1,024.
+#[tactic(auto, unfolding(crate::specs::Machines::machine_in))]
+pub fn machine_in(alloc: Global, text: &[u8]) -> Result<Option<Vec<MachineInterface>>, AllocError>
+    ensures { IfOk result (λ o. option_map (λ v. machine_of v.items) o ≡ machine_in text.now) }
+{
+    let mut machine = Vec::new(alloc);
+    let mut left = text;
+    while let Some((line, rest)) = cut_line(left) {
+        if !push_line(alloc, &mut machine, line)? {
+            return Ok(None);
+        }
+        left = rest;
+    }
+    Ok(Some(machine))
+}

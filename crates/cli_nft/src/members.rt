@@ -1,0 +1,52 @@
+//! Which members texts name.
+
+ghost use Rattle.std.specs.Prelude.{◌≡◌, IfOk, map, option_map};
+ghost use Rattle.node_udp.specs.Addresses.{address_of};
+ghost use Rattle.cli_nft.specs.Words.{member_at, members_at, members_in};
+
+use nft_rules::Member;
+use node_udp::parse_address;
+use std::alloc::{AllocError, Global};
+
+/// How many members a cluster has at most.
+pub const MEMBERS_MAX: usize = 15;
+
+/// The member that a text is.
+fn member_of(text: &str) -> Option<Member>
+    ensures { result ≡ option_map member_at (address_of text.now) }
+{
+    match parse_address(text) {
+        Some(address) => Some(Member {
+            address: address.ip,
+            port: address.port,
+        }),
+        None => None,
+    }
+}
+
+/// The members that texts are, however many, none where one of them is none.
+#[tactic(auto, using(crate::proofs::Joining::one_more))]
+fn members_at(alloc: Global, texts: &[&str]) -> Result<Option<Vec<Member>>, AllocError>
+    ensures { IfOk result (λ o. option_map (λ v. v.items) o ≡ members_at (map (λ t. t.now) texts.now)) }
+{
+    let mut members = Vec::new(alloc);
+    for text in texts {
+        match member_of(text) {
+            Some(member) => members.push(member)?,
+            None => return Ok(None),
+        }
+    }
+    Ok(Some(members))
+}
+
+/// The members that these texts are, none where one of them isn't spelled as an address and a port, or where there are
+/// more than 15.
+#[tactic(auto, unfolding(crate::specs::Words::members_in))]
+pub fn members_in(alloc: Global, texts: &[&str]) -> Result<Option<Vec<Member>>, AllocError>
+    ensures { IfOk result (λ o. option_map (λ v. v.items) o ≡ members_in (map (λ t. t.now) texts.now)) }
+{
+    if texts.len() > MEMBERS_MAX {
+        return Ok(None);
+    }
+    members_at(alloc, texts)
+}

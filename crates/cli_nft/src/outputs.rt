@@ -1,0 +1,165 @@
+//! What `check --nft` and `show --nft` write.
+
+ghost use Rattle.std.specs.Prelude.{◌≡◌, [], Some, IfOk, option_map};
+ghost use Rattle.pf_rules.specs.Rulesets.{ruleset_of};
+ghost use Rattle.pf_config.specs.Changes.{load_ruleset};
+ghost use Rattle.nft_rules.specs.Seen.{machine_of};
+ghost use Rattle.pf_grammar.specs.Reading.{reading};
+ghost use Rattle.pf_grammar.specs.declared.place.Place.TheVariants.{Main};
+ghost use Rattle.pf_rules.specs.declared.profile.Profile.TheVariants.{Two};
+ghost use Rattle.cli_nft.specs.Outputs.{refused, refused_at, nothing_loaded, written_lines, rendered_of};
+ghost use Rattle.cli_nft.specs.Outputs.{loaded_of, output, config_output};
+ghost use Rattle.cli_nft.specs.Seen.{written};
+ghost use Rattle.nft_text.specs.Loading.{rendered_lines};
+
+use crate::machines::machine_in;
+use pf_config::Config;
+use pf_grammar::{ParseFault, Place, Profile, parse};
+use nft_rules::{MachineInterface, Member};
+use nft_text::rendered_lines;
+use pf_rules::{Path, Ruleset};
+use std::alloc::{AllocError, Global};
+
+/// All that is to be written, and whether it is a refusal.
+#[derive(Drop)]
+pub struct Written {
+    /// The text.
+    pub text: String,
+    /// Whether it is a refusal.
+    pub refused: bool,
+}
+
+/// A refusal by its number.
+fn refused(alloc: Global, code: u8) -> Result<Written, AllocError>
+    ensures { IfOk result (λ w. written w ≡ refused (Some code)) }
+{
+    let text = format!(in alloc; "refused {code}\n")?;
+    Ok(Written {
+        text,
+        refused: true,
+    })
+}
+
+/// The refusal of a text.
+fn refused_at(alloc: Global, code: u8, line: u64) -> Result<Written, AllocError>
+    ensures { IfOk result (λ w. written w ≡ refused_at code line) }
+{
+    let text = format!(in alloc; "refused {code} line {line}\n")?;
+    Ok(Written {
+        text,
+        refused: true,
+    })
+}
+
+/// The lines of a configuration.
+fn written_lines(
+    alloc: Global,
+    config: &Config,
+    machine: &[MachineInterface],
+    members: &[Member],
+    position: u32,
+) -> Result<Written, AllocError>
+    ensures { IfOk result (λ w. written w
+        ≡ written_lines (rendered_lines config.now (machine_of machine.now) members.now position)) }
+{
+    match rendered_lines(alloc, config, machine, members, position) {
+        Ok(text) => Ok(Written {
+            text,
+            refused: false,
+        }),
+        Err(fault) => match fault.code() {
+            Some(code) => refused(alloc, code),
+            None => Err(AllocError),
+        },
+    }
+}
+
+/// The ruleset is loaded as the main one of an empty configuration.
+fn rendered_of(
+    alloc: Global,
+    rules: Ruleset,
+    machine: &[MachineInterface],
+    members: &[Member],
+    position: u32,
+) -> Result<Written, AllocError>
+    ensures { IfOk result (λ w. written w ≡ rendered_of (machine_of machine.now) members.now position
+        (load_ruleset nothing_loaded [] (ruleset_of rules))) }
+{
+    let mut config = Config::new(alloc)?;
+    match config.load(&Path::main(alloc), rules) {
+        Ok(()) => written_lines(alloc, &config, machine, members, position),
+        Err(fault) => match fault.code() {
+            Some(code) => refused(alloc, code),
+            None => Err(AllocError),
+        },
+    }
+}
+
+/// What is written for a machine over this input.
+fn loaded_of(
+    alloc: Global,
+    machine: &[MachineInterface],
+    members: &[Member],
+    position: u32,
+    input: &[u8],
+) -> Result<Written, AllocError>
+    ensures { IfOk result (λ w. written w ≡ loaded_of (machine_of machine.now) members.now position
+        (reading Main Two input.now)) }
+{
+    match parse(alloc, input, Place::Main, Profile::Two) {
+        Ok(rules) => rendered_of(alloc, rules, machine, members, position),
+        Err(ParseFault::Memory) => Err(AllocError),
+        Err(ParseFault::Refused(refusal)) => {
+            refused_at(alloc, refusal.cause.code(), refusal.line)
+        }
+    }
+}
+
+/// What `check --nft` writes over a file of interfaces, none where it can't be read, and this input: the three lines
+/// of the text's rules on that machine, behind the guard of these members, under names of that position, or a refusal.
+/// `refused 40`: there are no such members. `refused 89`: the file doesn't list interfaces.
+#[tactic(auto, unfolding(crate::specs::Outputs::output))]
+pub fn nft_output(
+    alloc: Global,
+    file: Option<&[u8]>,
+    members: Option<&[Member]>,
+    position: u32,
+    input: &[u8],
+) -> Result<Written, AllocError>
+    ensures { IfOk result (λ w. written w ≡ output (option_map (λ t. t.now) file.entry)
+        (option_map (λ ms. ms.now) members.entry) position input.now) }
+{
+    let Some(members) = members else {
+        return refused(alloc, 40);
+    };
+    let Some(text) = file else {
+        return refused(alloc, 89);
+    };
+    match machine_in(alloc, text)? {
+        Some(machine) => loaded_of(alloc, &machine, members, position, input),
+        None => refused(alloc, 89),
+    }
+}
+
+/// What `show --nft` writes of a configuration over a file of interfaces, none where it can't be read: the three lines
+/// of the configuration on that machine, behind the guard of these members, under names of that position, or a refusal.
+/// `refused 89`: the file doesn't list interfaces.
+#[tactic(auto, unfolding(crate::specs::Outputs::config_output))]
+pub fn config_output(
+    alloc: Global,
+    file: Option<&[u8]>,
+    config: &Config,
+    members: &[Member],
+    position: u32,
+) -> Result<Written, AllocError>
+    ensures { IfOk result (λ w. written w ≡ config_output (option_map (λ t. t.now) file.entry) members.now
+        position config.now) }
+{
+    let Some(text) = file else {
+        return refused(alloc, 89);
+    };
+    match machine_in(alloc, text)? {
+        Some(machine) => written_lines(alloc, config, &machine, members, position),
+        None => refused(alloc, 89),
+    }
+}

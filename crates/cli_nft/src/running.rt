@@ -1,0 +1,184 @@
+//! A run of `check --nft`.
+
+ghost use Rattle.std.specs.Prelude.{◌≡◌, [], IfOk, IfSome, map, option_map, unwrap_or, bytes_eq, codes};
+ghost use Rattle.std.specs.List.{list_any};
+ghost use Rattle.clap.specs.Words.{found_of, rows_of, all_of, one_of, subcommand_rows_of};
+ghost use Rattle.cli_nft.specs.Words.{named_in, position_text, IsPosition};
+ghost use Rattle.cli_nft.specs.Running.{asks_nft, Wrote, Ran};
+
+use crate::members::members_in;
+use crate::words::command;
+use clap::ArgMatches;
+use cli_io::{InputFault, Status, misused, out_of_memory, read_all};
+use crate::outputs::nft_output;
+use nft_rules::Member;
+use std::alloc::{AllocError, Global};
+use std::convert::AsStr;
+use std::fs;
+use std::io::{Read, Write};
+
+/// Whether one of these words is `--nft`.
+fn has_nft<S: AsStr>(words: &[S]) -> bool
+    ensures { result ≡ list_any (λ w. bytes_eq w (codes "--nft")) (map S.text words.now) }
+{
+    for word in words {
+        if word.as_str() == "--nft" {
+            return true;
+        }
+    }
+    false
+}
+
+/// Whether the words, the program's name first, are `check` with `--nft` among what follows.
+pub fn asks_nft<S: AsStr>(words: &[S]) -> bool
+    ensures { result ≡ asks_nft (map S.text words.now) }
+{
+    match words {
+        [_, first, rest @ ..] => first.as_str() == "check" && has_nft(rest),
+        _ => false,
+    }
+}
+
+/// The position that the words behind a subcommand name, 0 if they name none. `clap` has refused what is no number.
+fn position_in(inner: &ArgMatches<'_>) -> u32
+    ensures { IsPosition (one_of (codes "position") (rows_of (found_of inner.now))) result }
+{
+    inner.get_one::<u32>("position").unwrap_or(0)
+}
+
+/// The file of interfaces and the position that the words name. `clap` has refused words that lack the file.
+fn words_of<'a>(matches: &ArgMatches<'a>) -> Option<(&'a str, u32)>
+    ensures { IfSome result (λ said. IsPosition (position_text (subcommand_rows_of matches.now)) said.1) }
+{
+    match matches.subcommand() {
+        Some((_word, inner)) => match inner.get_str("interfaces") {
+            Some(interfaces) => Some((interfaces, position_in(inner))),
+            None => None,
+        },
+        None => None,
+    }
+}
+
+/// The words, none where there are none.
+fn or_none<'m, 'a>(words: Option<&'m [&'a str]>) -> &'m [&'a str]
+    ensures { map (λ w. w.now) result.now
+        ≡ unwrap_or (option_map (λ s. map (λ w. w.now) s.now) words.entry) [] }
+{
+    match words {
+        Some(words) => words,
+        None => &[],
+    }
+}
+
+/// The texts behind `--members`.
+fn member_texts<'m, 'a>(inner: &'m ArgMatches<'a>) -> &'m [&'a str]
+    ensures { map (λ w. w.now) result.now
+        ≡ unwrap_or (all_of (codes "members") (rows_of (found_of inner.now))) [] }
+{
+    or_none(inner.get_strs("members"))
+}
+
+/// The members that the words name, none where they are no members of a cluster.
+fn members_of(alloc: Global, matches: &ArgMatches<'_>) -> Result<Option<Vec<Member>>, AllocError>
+    ensures { IfOk result (λ o. option_map (λ v. v.items) o ≡ named_in (subcommand_rows_of matches.now)) }
+{
+    match matches.subcommand() {
+        Some((word, inner)) => {
+            if word == "check" {
+                return members_in(alloc, member_texts(inner));
+            }
+            Ok(None)
+        }
+        None => Ok(None),
+    }
+}
+
+/// The members, as they are lent.
+fn lent(members: &Option<Vec<Member>>) -> Option<&[Member]>
+    ensures { option_map (λ ms. ms.now) result ≡ option_map (λ v. v.items) members.now }
+{
+    match members {
+        Some(members) => Some(members.as_slice()),
+        None => None,
+    }
+}
+
+/// The text of a file, none where it can't be read or is longer than an input may be.
+pub fn read_file(
+    rt: &HostRuntime,
+    alloc: Global,
+    path: &str,
+) -> Result<Option<Vec<u8>>, AllocError> {
+    let Ok(mut file) = fs::open(rt, path) else {
+        return Ok(None);
+    };
+    match read_all(alloc, &mut file) {
+        Ok(text) => Ok(Some(text)),
+        Err(InputFault::Memory) => Err(AllocError),
+        Err(InputFault::Failed | InputFault::TooLong) => Ok(None),
+    }
+}
+
+/// Reads the input, and writes what a file of interfaces, members and a position make of it.
+fn answer<R: Read, W: Write>(
+    alloc: Global,
+    file: Option<&[u8]>,
+    members: Option<&[Member]>,
+    position: u32,
+    reader: &mut R,
+    writer: &mut W,
+) -> Status
+    ensures { Wrote (option_map (λ t. t.now) file.entry) (option_map (λ ms. ms.now) members.entry) position result
+        (R.remaining reader.old) (W.contents writer.old) (W.contents writer.new) }
+{
+    let input = match read_all(alloc, reader) {
+        Ok(input) => input,
+        Err(InputFault::Memory) => return out_of_memory(writer),
+        Err(InputFault::Failed | InputFault::TooLong) => return Status::Failed,
+    };
+    let Ok(output) = nft_output(alloc, file, members, position, &input) else {
+        return out_of_memory(writer);
+    };
+    match writer.write_all(output.text.as_bytes()) {
+        Ok(()) => if output.refused {
+            Status::Refused
+        } else {
+            Status::Done
+        },
+        Err(_) => Status::Failed,
+    }
+}
+
+/// What the words `check --nft --interfaces FILE [--members ADDRESS:PORT..]` ask for, the program's name first, with
+/// the input and the output that are lent: the text's rules behind the guard of these members as three lines for
+/// nft(8), or a refusal. Other words are refused.
+pub fn run_nft<S: AsStr, R: Read, W: Write>(
+    rt: &HostRuntime,
+    alloc: Global,
+    words: &[S],
+    reader: &mut R,
+    writer: &mut W,
+) -> Status
+    ensures { Ran (map S.text words.now) result (R.remaining reader.old) (W.contents writer.old)
+        (W.contents writer.new) }
+{
+    let Ok(command) = command(alloc) else {
+        return out_of_memory(writer);
+    };
+    let matches = match command.try_get_matches_from(words) {
+        Ok(matches) => matches,
+        Err(error) => return misused(alloc, &error, writer),
+    };
+    let Some((interfaces, position)) = words_of(&matches) else {
+        return Status::Usage;
+    };
+    let Ok(members) = members_of(alloc, &matches) else {
+        return out_of_memory(writer);
+    };
+    let named = lent(&members);
+    match read_file(rt, alloc, interfaces) {
+        Ok(Some(text)) => answer(alloc, Some(&text), named, position, reader, writer),
+        Ok(None) => answer(alloc, None, named, position, reader, writer),
+        Err(_) => out_of_memory(writer),
+    }
+}

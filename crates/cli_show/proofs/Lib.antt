@@ -1,0 +1,3 @@
+pub mod Opened
+mod Reading
+mod Writing

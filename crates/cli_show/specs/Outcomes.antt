@@ -1,0 +1,41 @@
+-- What a run of show writes.
+use Rattle.std.specs.Prelude.{◌≡◌, ℕ, List, ◌++◌, Bool, true, false, Option, Some, None, codes, decimal}
+use Rattle.std.specs.Io.KnownBytes.{Appends}
+use Rattle.cli_io.specs.declared.status.Status.{Status}
+use Rattle.cli_io.specs.declared.status.Status.TheVariants as status
+use Rattle.cli_io.specs.Written.{line}
+use Rattle.cli_show.specs.declared.outcome.Outcome.{Outcome}
+use Rattle.cli_show.specs.declared.outcome.Outcome.TheVariants.{Shown, Refused, Memory}
+
+-- what an outcome is written as
+-- Example: refused 73, memory.
+abbrev pub text_of : Outcome → List ℕ
+text_of (Shown s) = s.bytes.items
+text_of (Refused code) = line (codes "refused " ++ decimal code)
+text_of Memory = line (codes "memory")
+
+-- how a run ends that shows a refusal, and one that shows no refusal
+abbrev pub status_of : Bool → Status
+status_of true = status.Refused
+status_of false = status.Done
+
+-- how a run ends that comes to it
+abbrev pub ending : Outcome → Status
+ending (Shown s) = status_of s.refused
+ending (Refused code) = status.Refused
+ending Memory = status.Memory
+
+-- the outcome is written; when out of memory that alone; of a write that failed nothing is said
+abbrev pub Wrote : Status → Outcome → Option (List ℕ) → Option (List ℕ) → Type 0
+Wrote status.Memory outcome old new = Appends old new (line (codes "memory"))
+Wrote status.Failed outcome old new = Unit {0}
+Wrote ended outcome old new = (ended ≡ ending outcome) × Appends old new (text_of outcome)
+
+-- a run that came to an outcome wrote it; without one the words weren't understood, or memory ran out
+abbrev pub Ran : Status → Option Outcome → Option (List ℕ) → Option (List ℕ) → Type 0
+Ran ended (Some outcome) old new = Wrote ended outcome old new
+Ran status.Done None old new = ⊥
+Ran status.Refused None old new = ⊥
+Ran status.Usage None old new = Unit {0}
+Ran status.Memory None old new = Appends old new (line (codes "memory"))
+Ran status.Failed None old new = Unit {0}

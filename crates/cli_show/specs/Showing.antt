@@ -1,0 +1,39 @@
+-- What is shown of a record.
+use Rattle.std.specs.Prelude.{◌≡◌, ℕ, false, [], map, Some, option_map}
+use Rattle.px_model.specs.Node.{Log}
+use Rattle.px_model.specs.Step.{front}
+use Rattle.px_model.specs.Spelling.{Bytes}
+use Rattle.px_records.specs.declared.records.Records.{Ghosts}
+use Rattle.pf_config.specs.Map.{Configuration}
+use Rattle.pf_node.specs.Applied.{after}
+use Rattle.cli_nft.specs.Outputs.{config_output}
+use Rattle.pf_dump.specs.Scripts.{Gives}
+use Rattle.cli_show.specs.Writing.{listed, verdicts, log_shown, figures, of_kernel, shown_value}
+use Rattle.cli_show.specs.declared.shown.Shown.{Shown}
+use Rattle.cli_show.specs.declared.shown.Wanted.{Wanted}
+use Rattle.cli_show.specs.declared.shown.Wanted.TheVariants as wanted
+
+-- What is shown of the configuration after the first k entries of a log. Of texts for pfctl(8) nothing is said; a
+-- script, unless it is refused, gives the configuration.
+abbrev pub Shows : Log Bytes → (k kept : ℕ) → Configuration → Wanted → Shown → Type 0
+Shows log k kept c (wanted.Words words) s = shown_value s ≡ listed c (map (λ w. w.now) words.now)
+Shows log k kept c (wanted.Packets packets) s = shown_value s ≡ verdicts c (map (λ p. p.now) packets.now)
+Shows log k kept c (wanted.Log from count) s = shown_value s ≡ log_shown log k kept from count
+Shows log k kept c (wanted.Nft file) s = shown_value s ≡ of_kernel (config_output (option_map (λ t. t.now) file) [] k c)
+Shows log k kept c wanted.Texts s = s.refused ≡ false
+Shows log k kept c wanted.Script s = s.refused ≡ false → Gives s.bytes.items c
+Shows log k kept c wanted.Figures s = shown_value s ≡ figures k
+
+-- of the first entries of the log that is in a record, up to the first gap
+-- Example: with positions 0, 1 and 3 learned, that after two.
+pub record ShowsLog (log : Log Bytes) (w : Wanted) (s : Shown) : Type 0 where
+  pub configuration : Configuration
+  pub kept : ℕ
+  pub configured : after log (front log) ≡ Some configuration
+  pub shows : Shows log (front log) kept configuration w s
+
+-- The record was honest and is given back as it was, and this is shown of it, if it could be opened and memory served.
+pub record ShowsRecord {R : Type 0} (G : Ghosts R) (given back : R) (w : Wanted) (s : Shown) : Type 0 where
+  pub was : G.is_honest given
+  pub same : G.stored back ≡ G.stored given
+  pub shows : ShowsLog (G.stored given).learned w s

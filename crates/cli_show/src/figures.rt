@@ -1,0 +1,27 @@
+//! How far a node is.
+
+ghost use Rattle.std.specs.Prelude.{◌≡◌, IfOk};
+ghost use Rattle.cli_show.specs.Writing.{figures, shown_value};
+
+use crate::shown::Shown;
+use crate::pfctl::as_shown;
+use pf_scripts::push_number;
+use px_core::POSITIONS;
+use std::alloc::{AllocError, Global};
+
+/// How many positions are applied, and how many the log has left.
+pub(crate) fn show_figures(alloc: Global, applied: u32) -> Result<Shown, AllocError>
+    ensures { IfOk result (λ s. shown_value s ≡ figures applied) }
+{
+    let mut text = String::new(alloc);
+    text.push_str("applied ")?;
+    push_number(alloc, &mut text, u64::from(applied))?;
+    text.push_str(" left ")?;
+    push_number(
+        alloc,
+        &mut text,
+        u64::from(POSITIONS.saturating_sub(applied)),
+    )?;
+    text.push('\n')?;
+    as_shown(alloc, text.as_str(), false)
+}

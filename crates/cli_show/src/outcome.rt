@@ -1,0 +1,63 @@
+//! What a run gives, and what is written of it.
+
+ghost use Rattle.std.specs.Prelude.{◌≡◌};
+ghost use Rattle.cli_show.specs.Outcomes.{Wrote, status_of};
+
+use crate::store::Closed;
+use cli_io::{Status, out_of_memory};
+use crate::shown::Shown;
+use std::alloc::Global;
+use std::io::Write;
+
+/// What a run gives.
+#[derive(Drop)]
+pub(crate) enum Outcome {
+    /// This is shown.
+    Shown(Shown),
+    /// The number of the refusal.
+    Refused(u8),
+    /// Memory ran out.
+    Memory,
+}
+
+/// The same of an answer.
+pub(crate) fn outcome_for(shown: Result<Shown, Closed>) -> Outcome {
+    match shown {
+        Ok(shown) => Outcome::Shown(shown),
+        Err(Closed::Memory) => Outcome::Memory,
+        Err(Closed::Refused(code)) => Outcome::Refused(code),
+    }
+}
+
+/// How a run ends that shows this.
+fn status_of(refused: bool) -> Status
+    ensures { result ≡ status_of refused }
+{
+    if refused {
+        Status::Refused
+    } else {
+        Status::Done
+    }
+}
+
+/// Writes what a run gives.
+pub(crate) fn write_outcome<W: Write>(alloc: Global, outcome: Outcome, writer: &mut W) -> Status
+    ensures { Wrote result outcome (W.contents writer.old) (W.contents writer.new) }
+{
+    match outcome {
+        Outcome::Shown(shown) => match writer.write_all(shown.bytes.as_slice()) {
+            Ok(()) => status_of(shown.refused),
+            Err(_) => Status::Failed,
+        },
+        Outcome::Refused(code) => {
+            let Ok(line) = format!(in alloc; "refused {code}\n") else {
+                return out_of_memory(writer);
+            };
+            match writer.write_all(line.as_bytes()) {
+                Ok(()) => Status::Refused,
+                Err(_) => Status::Failed,
+            }
+        }
+        Outcome::Memory => out_of_memory(writer),
+    }
+}

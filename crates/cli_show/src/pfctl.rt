@@ -1,0 +1,80 @@
+//! pfctl's words and packets at a configuration.
+
+ghost use Rattle.std.specs.Prelude.{◌≡◌, ◌++◌, IfOk, map, option_map, string_bytes};
+ghost use Rattle.cli_show.specs.Writing.{refused, listed, verdicts, verdict_for, shown_value};
+
+use crate::shown::Shown;
+use pf_config::Config;
+use pf_eval::{PacketFault, parse_packet, show_verdict, verdict};
+use pf_scripts::{WordsRead, push_line, push_refusal, read_words};
+use std::alloc::{AllocError, Global};
+
+/// A text as it is shown.
+pub(crate) fn as_shown(alloc: Global, text: &str, refused: bool) -> Result<Shown, AllocError>
+    ensures bytes { IfOk result (λ s. s.bytes.items ≡ text.now) }
+    ensures refused { IfOk result (λ s. s.refused ≡ refused) }
+{
+    let bytes = Vec::from_slice(alloc, text.as_bytes())?;
+    Ok(Shown { bytes, refused })
+}
+
+/// A refusal, with the line of a refused text, else 0.
+pub(crate) fn refused(alloc: Global, code: u8, at: u64) -> Result<Shown, AllocError>
+    ensures { IfOk result (λ s. shown_value s ≡ refused code at) }
+{
+    let mut text = String::new(alloc);
+    push_refusal(alloc, &mut text, code, at)?;
+    as_shown(alloc, text.as_str(), true)
+}
+
+/// What a line of pfctl's words prints, `pfctl` first; words of a change are 40.
+pub(crate) fn show_words(
+    alloc: Global,
+    config: &Config,
+    words: &[&str],
+) -> Result<Shown, AllocError>
+    ensures { IfOk result (λ s. shown_value s ≡ listed config.now (map (λ w. w.now) words.now)) }
+{
+    match read_words(alloc, config, words, &[])? {
+        WordsRead::Change(_) => refused(alloc, 40, 0),
+        WordsRead::Refused(code, at) => refused(alloc, code, at),
+        WordsRead::Output(text) => as_shown(alloc, text.as_str(), false),
+    }
+}
+
+/// The verdict for a packet's text, none where it is no packet.
+#[tactic(auto, unfolding(crate::specs::Writing::verdict_for))]
+fn verdict_for(alloc: Global, config: &Config, packet: &str) -> Result<Option<String>, AllocError>
+    ensures { IfOk result (λ found. option_map string_bytes found ≡ verdict_for config.now packet.now) }
+{
+    match parse_packet(alloc, packet) {
+        Ok(packet) => {
+            let found = verdict(config, &packet);
+            let shown = show_verdict(alloc, &found)?;
+            Ok(Some(shown))
+        }
+        Err(PacketFault::Memory) => Err(AllocError),
+        Err(PacketFault::BadPacket) => Ok(None),
+    }
+}
+
+/// A verdict line for each packet's text in turn, up to the first that is no packet, which is 30.
+pub(crate) fn show_verdicts(
+    alloc: Global,
+    config: &Config,
+    packets: &[&str],
+) -> Result<Shown, AllocError>
+    ensures { IfOk result (λ s. shown_value s ≡ verdicts config.now (map (λ p. p.now) packets.now)) }
+{
+    let mut text = String::new(alloc);
+    for packet in packets {
+        match verdict_for(alloc, config, packet)? {
+            Some(shown) => push_line(&mut text, shown.as_str())?,
+            None => {
+                push_refusal(alloc, &mut text, 30, 0)?;
+                return as_shown(alloc, text.as_str(), true);
+            }
+        }
+    }
+    as_shown(alloc, text.as_str(), false)
+}

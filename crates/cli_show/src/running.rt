@@ -1,0 +1,112 @@
+//! A run of `show`.
+
+ghost use Rattle.std.specs.Prelude.{Option};
+ghost use Rattle.cli_show.specs.declared.outcome.Outcome.{Outcome};
+ghost use Rattle.cli_show.specs.Outcomes.{Ran};
+
+use crate::file::show_file;
+use crate::outcome::{Outcome, outcome_for, write_outcome};
+use crate::wanted::{Kind, kind_of, line_of, rest_of};
+use crate::arguments::command;
+use clap::ArgMatches;
+use cli_io::{Status, misused, out_of_memory};
+use cli_nft::read_file;
+use crate::shown::Wanted;
+use std::alloc::Global;
+use std::convert::AsStr;
+use std::io::Write;
+
+/// What is shown of the store.
+fn shown_of(rt: &HostRuntime, alloc: Global, store: &str, wanted: Wanted<'_>) -> Outcome {
+    outcome_for(show_file(rt, alloc, store, wanted))
+}
+
+/// What the store is as what nft(8) loads: 40 where no file of interfaces is named.
+fn nft_outcome(rt: &HostRuntime, alloc: Global, store: &str, file: Option<&str>) -> Outcome {
+    let Some(file) = file else {
+        return Outcome::Refused(40);
+    };
+    match read_file(rt, alloc, file) {
+        Ok(Some(text)) => shown_of(
+            rt,
+            alloc,
+            store,
+            Wanted::Nft {
+                interfaces: Some(text.as_slice()),
+            },
+        ),
+        Ok(None) => shown_of(rt, alloc, store, Wanted::Nft { interfaces: None }),
+        Err(_) => Outcome::Memory,
+    }
+}
+
+/// The lines of the log that the words ask for.
+fn log_outcome(rt: &HostRuntime, alloc: Global, store: &str, matches: &ArgMatches<'_>) -> Outcome {
+    let from = matches.get_one::<u32>("from");
+    let count = matches.get_one::<u32>("count");
+    shown_of(rt, alloc, store, Wanted::Log { from, count })
+}
+
+/// The verdicts for the packets behind the word `test`.
+fn packets_outcome(rt: &HostRuntime, alloc: Global, store: &str, rest: &[&str]) -> Outcome {
+    match rest.split_first() {
+        Some((_, packets)) => shown_of(rt, alloc, store, Wanted::Packets(packets)),
+        None => Outcome::Refused(40),
+    }
+}
+
+/// What a line of pfctl's words prints.
+fn words_outcome(
+    rt: &HostRuntime,
+    alloc: Global,
+    store: &str,
+    matches: &ArgMatches<'_>,
+) -> Outcome {
+    match line_of(alloc, matches) {
+        Ok(words) => shown_of(rt, alloc, store, Wanted::Words(words.as_slice())),
+        Err(_) => Outcome::Memory,
+    }
+}
+
+/// What the words give.
+fn outcome_of(rt: &HostRuntime, alloc: Global, matches: &ArgMatches<'_>) -> Outcome {
+    let (Some(store), Some(kind)) = (matches.get_str("store"), kind_of(matches)) else {
+        return Outcome::Refused(40);
+    };
+    match kind {
+        Kind::Nft => nft_outcome(rt, alloc, store, matches.get_str("interfaces")),
+        Kind::Texts => shown_of(rt, alloc, store, Wanted::Texts),
+        Kind::Script => shown_of(rt, alloc, store, Wanted::Script),
+        Kind::Figures => shown_of(rt, alloc, store, Wanted::Figures),
+        Kind::Log => log_outcome(rt, alloc, store, matches),
+        Kind::Packets => packets_outcome(rt, alloc, store, rest_of(matches)),
+        Kind::Words => words_outcome(rt, alloc, store, matches),
+    }
+}
+
+/// What the word `show` asks for, the program's name first: what a node's store holds, which no node has open and which
+/// isn't changed. It is written as `show_store` has it, or `refused CODE`: the numbers of [`Closed`](crate::Closed), or
+/// 40 for words that don't go together. Other words are refused.
+pub fn run_show<S: AsStr, W: Write>(
+    rt: &HostRuntime,
+    alloc: Global,
+    words: &[S],
+    writer: &mut W,
+) -> Status
+    ensures { (outcome : Option Outcome) × Ran result outcome (W.contents writer.old) (W.contents writer.new) }
+{
+    let Ok(command) = command(alloc) else {
+        return out_of_memory(writer);
+    };
+    let matches = match command.try_get_matches_from(words) {
+        Ok(matches) => matches,
+        Err(error) => return misused(alloc, &error, writer),
+    };
+    match matches.subcommand_matches("show") {
+        Some(inner) => {
+            let outcome = outcome_of(rt, alloc, inner);
+            write_outcome(alloc, outcome, writer)
+        }
+        None => Status::Usage,
+    }
+}

@@ -1,0 +1,91 @@
+//! What is shown of a record.
+
+ghost use Rattle.std.specs.Prelude.{◌≡◌, ◌<◌, [], false, IfOk, option_map};
+ghost use Rattle.px_model.specs.Step.{front};
+ghost use Rattle.pf_node.specs.Nodes.{learned_by, applied_of, kept_of, config_of};
+ghost use Rattle.cli_nft.specs.Outputs.{config_output};
+ghost use Rattle.cli_show.specs.Writing.{of_kernel, shown_value};
+ghost use Rattle.cli_show.specs.Showing.{Shows, ShowsRecord};
+
+use crate::figures::show_figures;
+use crate::logged::show_log;
+use crate::scripts::show_script;
+use crate::shown::{Shown, Wanted};
+use crate::texts::push_texts;
+use crate::pfctl::{as_shown, show_verdicts, show_words};
+use pf_config::Config;
+use cli_nft::config_output;
+use pf_node::Node;
+use px_records::Records;
+use px_replica::{Membership, NodeFault};
+use std::alloc::{AllocError, Global};
+
+/// The configuration as what nft(8) loads; a store knows no addresses of members, so there is no guard.
+fn show_nft(
+    alloc: Global,
+    file: Option<&[u8]>,
+    config: &Config,
+    position: u32,
+) -> Result<Shown, AllocError>
+    ensures { IfOk result (λ s. shown_value s
+        ≡ of_kernel (config_output (option_map (λ t. t.now) file.entry) [] position config.now)) }
+{
+    let written = config_output(alloc, file, config, &[], position)?;
+    as_shown(alloc, written.text.as_str(), written.refused)
+}
+
+/// The rulesets as texts for pfctl(8).
+fn show_texts(alloc: Global, config: &Config) -> Result<Shown, AllocError>
+    ensures { IfOk result (λ s. s.refused ≡ false) }
+{
+    let mut text = String::new(alloc);
+    push_texts(alloc, &mut text, config)?;
+    as_shown(alloc, text.as_str(), false)
+}
+
+/// What is shown of a node's configuration and log.
+pub fn show_node<R: Records>(
+    alloc: Global,
+    node: &Node<R>,
+    wanted: Wanted<'_>,
+) -> Result<Shown, AllocError>
+    ensures { IfOk result (λ s. Shows (learned_by node.now) (applied_of node.now) (kept_of node.now)
+        (config_of node.now) wanted.entry s) }
+{
+    match wanted {
+        Wanted::Words(words) => show_words(alloc, node.config(), words),
+        Wanted::Packets(packets) => show_verdicts(alloc, node.config(), packets),
+        Wanted::Log { from, count } => show_log(alloc, node, from, count),
+        Wanted::Nft { interfaces } => show_nft(alloc, interfaces, node.config(), node.applied()),
+        Wanted::Texts => show_texts(alloc, node.config()),
+        Wanted::Script => show_script(alloc, node),
+        Wanted::Figures => show_figures(alloc, node.applied()),
+    }
+}
+
+/// What is shown of the record that is there, as of a node that opens it: of the configuration after the first
+/// learned entries, up to the first gap. The record is given back as it was.
+///
+/// `Store` and `BadStore` are as for [`Node::open`], `Memory` where memory runs out.
+#[tactic(auto, using(crate::proofs::Opened::shows_record))]
+pub fn show_record<R: Records>(
+    alloc: Global,
+    m: Membership,
+    records: R,
+    wanted: Wanted<'_>,
+) -> (Result<Shown, NodeFault>, R)
+    requires members { R.members records ≡ m.members }
+    requires here { m.me < m.members }
+    ensures { R.is_honest result.1 → IfOk result.0 (λ s. ShowsRecord R.Records records result.1 wanted.entry s) }
+{
+    let node = match Node::open(alloc, m, records) {
+        Ok(node) => node,
+        Err((fault, records)) => return (Err(fault), records),
+    };
+    let _applied = node.applied();
+    let shown = match show_node(alloc, &node, wanted) {
+        Ok(shown) => Ok(shown),
+        Err(AllocError) => Err(NodeFault::Memory),
+    };
+    (shown, node.close())
+}

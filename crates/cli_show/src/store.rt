@@ -1,0 +1,102 @@
+//! What is shown of the record in a database.
+
+ghost use Rattle.std.specs.Prelude.{◌≡◌, IfOk};
+ghost use Rattle.sqlite.specs.Held.{state};
+ghost use Rattle.sqlite.specs.State.{HasCleanDisk};
+ghost use Rattle.px_store.specs.Adopting.{Began};
+ghost use Rattle.px_store.specs.Formats.{record_at};
+ghost use Rattle.px_store.specs.declared.formats.Format.TheVariants.{Three};
+ghost use Rattle.cli_show.specs.Stores.{ShowsStore};
+
+use crate::owner::owner_of;
+use crate::showing::show_record;
+use crate::shown::{Shown, Wanted};
+use px_replica::{Membership, NodeFault};
+use px_records::Records;
+use px_store::{AdoptFault, Identity, SqlRecords};
+use sqlite::{Alter, Connection};
+use std::alloc::Global;
+
+/// Why nothing is shown of a store.
+#[derive(Clone, Copy, PartialEq, Eq)]
+pub enum Closed {
+    /// A growth was refused.
+    Memory,
+    /// The number of the refusal: 70 where there is no store, or one that is in use or that the system refuses, 73
+    /// where it hasn't format 3, 72 for a bad row.
+    Refused(u8),
+}
+
+/// What a refusal to take a store gives.
+fn closed_of(fault: AdoptFault) -> Closed {
+    match fault.code() {
+        Some(code) => Closed::Refused(code),
+        None => Closed::Memory,
+    }
+}
+
+/// Whose record it is, as the store has it.
+fn identity_of(m: Membership) -> Identity
+    ensures { result.members ≡ m.members }
+{
+    Identity {
+        cluster: m.cluster(),
+        members: m.members(),
+        node: m.me(),
+    }
+}
+
+/// The record in a store: that of the rows that are there.
+fn taken<S: Alter + Drop>(
+    alloc: Global,
+    conn: Connection<S>,
+    identity: Identity,
+) -> Result<SqlRecords<S>, Closed>
+    ensures members { IfOk result (λ r. ⟦<SqlRecords<S> as Records>⟧.members r ≡ identity.members) }
+    ensures clean { IfOk result (λ r. ⟦<SqlRecords<S> as Records>⟧.is_honest r →
+        HasCleanDisk (state S.Store conn)) }
+    ensures rows { IfOk result (λ r. ⟦<SqlRecords<S> as Records>⟧.is_honest r → Began Three (state S.Store conn) →
+        ⟦<SqlRecords<S> as Records>⟧.stored r ≡ record_at Three (state S.Store conn).now.trees) }
+{
+    match SqlRecords::adopt(alloc, conn, identity) {
+        Ok(records) => Ok(records),
+        Err((fault, _)) => Err(closed_of(fault)),
+    }
+}
+
+/// What a fault of a record that doesn't open gives.
+fn closed_for(fault: NodeFault) -> Closed {
+    match fault {
+        NodeFault::Memory => Closed::Memory,
+        NodeFault::BadStore => Closed::Refused(72),
+        _ => Closed::Refused(70),
+    }
+}
+
+/// What is shown of the record in a store of format 3, and the record, which is as it was: of the configuration after
+/// the first learned entries, up to the first gap. To take such a store writes nothing.
+///
+/// 73 where it hasn't format 3, 72 for a bad row, 70 where the database refuses; a script is shown as refused where
+/// there is none.
+pub fn show_store<S: Alter + Drop>(
+    alloc: Global,
+    mut conn: Connection<S>,
+    wanted: Wanted<'_>,
+) -> Result<(Shown, SqlRecords<S>), Closed>
+    ensures { IfOk result (λ r. ⟦<SqlRecords<S> as Records>⟧.is_honest r.1 → Began Three (state S.Store conn) →
+        ShowsStore ⟦<SqlRecords<S> as Records>⟧ (state S.Store conn) r.1 wanted.entry r.0) }
+{
+    let m = match owner_of(&mut conn) {
+        Ok(m) => m,
+        Err(closed) => return Err(closed),
+    };
+    let records = match taken(alloc, conn, identity_of(m)) {
+        Ok(records) => records,
+        Err(closed) => return Err(closed),
+    };
+    let (shown, records) = show_record(alloc, m, records, wanted);
+    match shown {
+        Ok(shown) => Ok((shown, records)),
+        Err(fault) => Err(closed_for(fault)),
+    }
+}

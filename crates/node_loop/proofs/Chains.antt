@@ -1,0 +1,259 @@
+-- Turns one after the other.
+use Rattle.std.proofs.Common.{◌≡◌, ◌∙◌, ℕ, zero, suc, List, [], ◌++◌, Option, Some, None, Bool, true, false, refl, sym, ap, subst}
+use Rattle.std.proofs.Common.{Result, Ok, Err, inl, inr}
+use Rattle.std.specs.Prelude.{IfOk, ◌∷◌}
+use Rattle.px_model.specs.Node.Input.{Ticks}
+use Rattle.px_model.specs.Spelling.{Bytes}
+use Rattle.px_records.specs.declared.records.Records.{Ghosts}
+use Rattle.px_replica.specs.Calls.{Call}
+use Rattle.px_replica.specs.declared.datagram.Datagram.{Datagram}
+use Rattle.px_replica.specs.declared.fault.NodeFault.{NodeFault}
+use Rattle.px_replica.specs.declared.state.Replica.{Replica}
+use Rattle.px_transport.specs.Wires.{GrowsBy, Grows, Gives}
+use Rattle.px_wire.specs.Members.{as_sent}
+use Rattle.px_wire.specs.declared.membership.Membership.{Membership}
+use Rattle.px_model.specs.Law.{Among}
+use Rattle.px_model.proofs.Basics.{among_cases}
+use Rattle.node_loop.specs.Again.{AreAmong, HandsAgain}
+use Rattle.node_loop.proofs.Among.{among_all, among_is, among_front, hands_none, hands_then}
+use Rattle.px_wire.specs.Message.{group}
+use Rattle.px_replica.specs.Replicas.{membership_of}
+use Rattle.node_loop.specs.Resending.{IsKnown}
+use Rattle.node_loop.specs.Turns.{Acts, Stand, Turned, Ticked, TickedIf, Took, TookAll, TookThenTicked, Same, Turns, Ends, Served}
+use Rattle.node_loop.specs.Turns.{Resent, Passed, Between, IsKnownTo}
+use Rattle.node_loop.specs.Progress.{IsNobodys, Saw, SawOne, SawAll, looked}
+use Rattle.node_loop.specs.Timing.{Told, SawThenLooked, looks, sends_if, view_of}
+use Rattle.node_loop.proofs.Traffic.{grows_none, grows_then}
+use Rattle.px_model.specs.Step.{front}
+use Rattle.px_replica.specs.Replicas.{learned_by}
+use Rattle.node_loop.specs.inner.Turns.{SawIf}
+use Rattle.node_loop.specs.declared.sight.Sight.{Sight}
+use Rattle.node_loop.specs.declared.timer.View.{View}
+
+-- ---- nothing is done
+
+-- then the whole stand is as it was
+pub same_is : {R : Type 0} {G : Ghosts R} (x y : Stand G) → Same x y → y ≡ x
+same_is {R} {G} x y s =
+    ap {B = Stand G} (λ (r : Replica R G). record { replica = r; given = y.given; handed = y.handed; kept = y.kept; requests = y.requests; hears_asks = y.hears_asks }) s.replica
+    ∙ (ap {B = Stand G} (λ (o : Option (List Bytes)). record { replica = x.replica; given = o; handed = y.handed; kept = y.kept; requests = y.requests; hears_asks = y.hears_asks }) s.given
+    ∙ (ap {B = Stand G} (λ (o : Option (List (ℕ × Bytes))). record { replica = x.replica; given = x.given; handed = o; kept = y.kept; requests = y.requests; hears_asks = y.hears_asks }) s.handed
+    ∙ (ap {B = Stand G} (λ (k : List (ℕ × Bytes)). record { replica = x.replica; given = x.given; handed = x.handed; kept = k; requests = y.requests; hears_asks = y.hears_asks }) s.kept
+    ∙ (ap {B = Stand G} (λ (q : List Bytes). record { replica = x.replica; given = x.given; handed = x.handed; kept = x.kept; requests = q; hears_asks = y.hears_asks }) s.requests
+    ∙ ap {B = Stand G} (λ (h : Bool). record { replica = x.replica; given = x.given; handed = x.handed; kept = x.kept; requests = x.requests; hears_asks = h }) s.hears))))
+
+pub same_then : {R : Type 0} {G : Ghosts R} (x y z : Stand G) → Same x y → Same y z → Same x z
+same_then x y z s t = record {
+  replica = t.replica ∙ s.replica;
+  given = t.given ∙ s.given;
+  handed = t.handed ∙ s.handed;
+  kept = t.kept ∙ s.kept;
+  requests = t.requests ∙ s.requests;
+  hears = t.hears ∙ s.hears;
+}
+
+pub same_all : {R : Type 0} {G : Ghosts R} (x : Stand G) → Same x x
+same_all x = record { replica = refl; given = refl; handed = refl; kept = refl; requests = refl; hears = refl }
+
+-- ---- between turns
+
+-- what is known to a member with as many requests or fewer
+pub known_from : {R : Type 0} {G : Ghosts R} (x y : Stand G) (b : Bytes) → membership_of y.replica ≡ membership_of x.replica →
+    AreAmong y.requests x.requests → y.hears_asks ≡ x.hears_asks → IsKnownTo y b → IsKnownTo x b
+known_from x y b m q h (inl before) = inl (q b before)
+known_from {R} {G} x y b m q h (inr outside) =
+    subst (λ (n : Membership). IsKnown (group n) n.me x.hears_asks x.requests b) m
+    (subst (λ (e : Bool). IsKnown (group (membership_of y.replica)) (membership_of y.replica).me e x.requests b) h (inr outside))
+
+pub between_all : {R : Type 0} {G : Ghosts R} (x : Stand G) → Between x x
+between_all x = record {
+  replica = refl;
+  passed = [];
+  gave = grows_none x.given x.given refl;
+  known = λ b m. absurd m;
+  again = hands_none x.kept x.handed x.handed refl;
+  kept = refl;
+  requests = refl;
+  hears = refl;
+}
+
+pub between_same : {R : Type 0} {G : Ghosts R} (x y : Stand G) → Same x y → Between x y
+between_same {R} {G} x y s = subst (λ (z : Stand G). Between x z) (sym (same_is x y s)) (between_all x)
+
+pub between_passed : {R : Type 0} {G : Ghosts R} (x y : Stand G) → Passed x y → Between x y
+between_passed x y p = record {
+  replica = p.replica;
+  passed = p.bytes ∷ [];
+  gave = p.gave;
+  known = λ b m. elim m [ inl e ↦ subst (λ (c : Bytes). IsKnownTo x c) e p.known | inr none ↦ absurd none ];
+  again = p.again;
+  kept = p.kept;
+  requests = p.requests;
+  hears = p.hears;
+}
+
+pub between_resent : {R : Type 0} {G : Ghosts R} (x y : Stand G) → Resent x y → Between x y
+between_resent x y r = record {
+  replica = r.replica;
+  passed = [];
+  gave = grows_none x.given y.given r.given;
+  known = λ b m. absurd m;
+  again = r.again;
+  kept = r.kept;
+  requests = r.requests;
+  hears = r.hears;
+}
+
+pub between_then : {R : Type 0} {G : Ghosts R} (x y z : Stand G) → Between x y → Between y z → Between x z
+between_then {R} {G} x y z a b = record {
+  replica = b.replica ∙ a.replica;
+  passed = a.passed ++ b.passed;
+  gave = grows_then x.given y.given z.given a.passed b.passed a.gave b.gave;
+  known = λ c m. elim (among_cases a.passed b.passed c m) [
+    | inl here ↦ a.known c here
+    | inr later ↦ known_from x y c (ap (λ (r : Replica R G). membership_of r) a.replica) (among_is y.requests x.requests a.requests) a.hears (b.known c later)
+  ];
+  again = hands_then x.kept x.handed y.handed z.handed a.again
+      (subst (λ (k : List (ℕ × Bytes)). HandsAgain k y.handed z.handed) a.kept b.again);
+  kept = b.kept ∙ a.kept;
+  requests = b.requests ∙ a.requests;
+  hears = b.hears ∙ a.hears;
+}
+
+pub resent_then : {R : Type 0} {G : Ghosts R} (x y z : Stand G) → Resent x y → Resent y z → Resent x z
+resent_then {R} {G} x y z a b = record {
+  replica = b.replica ∙ a.replica;
+  given = b.given ∙ a.given;
+  again = hands_then x.kept x.handed y.handed z.handed a.again
+      (subst (λ (k : List (ℕ × Bytes)). HandsAgain k y.handed z.handed) a.kept b.again);
+  kept = b.kept ∙ a.kept;
+  requests = b.requests ∙ a.requests;
+  hears = b.hears ∙ a.hears;
+}
+
+-- ---- turns
+
+turns_on : {R : Type 0} {G : Ghosts R} (n : ℕ) (x y z : Stand G) → Turns n x y → Between y z → Turns n x z
+turns_on zero x y z a b = between_then x y z a b
+turns_on (suc n) x y z (v, w, t, d, a) b = (v, w, t, d, between_then w y z a b)
+
+turns_then : {R : Type 0} {G : Ghosts R} (m n : ℕ) (x y z : Stand G) → Turns m x y → Turns n y z → (k : ℕ) × Turns k x z
+turns_then m zero x y z a b = (m, turns_on m x y z a b)
+turns_then m (suc n) x y z a (v, w, t, d, b) = let c = turns_then m n x y v a t in (suc c.0, (v, w, c.1, d, b))
+
+-- one run of turns behind the other
+pub served_then : {R : Type 0} {G : Ghosts R} (x y z : Stand G) (a : Option NodeFault) → Served x y None → Served y z a → Served x z a
+served_then x y z a s t =
+    let c = turns_then s.turns t.turns x y t.then (turns_on s.turns x s.then y s.made s.last) t.made in
+    record { turns = c.0; then = t.then; made = c.1; last = t.last }
+
+pub served_between : {R : Type 0} {G : Ghosts R} (x y : Stand G) → Between x y → Served x y None
+served_between x y b = record { turns = zero; then = y; made = b; last = between_all y }
+
+pub served_none : {R : Type 0} {G : Ghosts R} (x y : Stand G) → Same x y → Served x y None
+served_none x y s = served_between x y (between_same x y s)
+
+pub served_turn : {R : Type 0} {G : Ghosts R} (x y : Stand G) (a : Option NodeFault) → Turned x y a → Served x y a
+served_turn x y None d = record { turns = suc zero; then = y; made = (x, y, between_all x, d, between_all y); last = between_all y }
+served_turn x y (Some e) d = record { turns = zero; then = x; made = between_all x; last = d }
+
+-- one turn more
+pub served_on : {R : Type 0} {G : Ghosts R} (x y z : Stand G) (a : Option NodeFault) → Served x y None → Turned y z a → Served x z a
+served_on x y z a s d = served_then x y z a s (served_turn y z a d)
+
+-- turns of either kind are turns
+pub turned_by_clock : {R : Type 0} {G : Ghosts R} (x y : Stand G) (a : Option NodeFault) → Ticked x y a → Turned x y a
+turned_by_clock x y a t = record {
+  came = None;
+  gave = t.given;
+  out = t.out;
+  acts = t.call;
+  sent = t.sent;
+  kept = t.kept;
+  requests = among_front y.requests x.requests [] (among_is y.requests x.requests t.requests);
+  hears = t.hears;
+}
+
+pub turned_by_datagram : {R : Type 0} {G : Ghosts R} (x y : Stand G) (a : Option NodeFault) → Took x y a → Turned x y a
+turned_by_datagram x y a t = record {
+  came = Some t.bytes;
+  gave = t.gave;
+  out = t.out;
+  acts = t.acts;
+  sent = t.sent;
+  kept = t.kept;
+  requests = t.requests;
+  hears = t.hears;
+}
+
+-- a datagram that is nobody's leaves the member as it was
+pub nobodys_still : {R : Type 0} {G : Ghosts R} (s t : Replica R G) (bytes : Bytes) (out : List Datagram) →
+    Acts s t (Some bytes) out None → IsNobodys s bytes → t ≡ s
+nobodys_still s t bytes out (_, inl lost, e) u = lost.still
+nobodys_still s t bytes out (_, inr (inl passed), e) u = passed.still
+nobodys_still s t bytes out (_, inr (inr taken), e) u = absurd (u taken.sender (as_sent taken.message) taken.spelled)
+
+-- ---- what is seen as datagrams are taken
+
+took_all : {R : Type 0} {G : Ghosts R} (n : ℕ) (x y : Stand G) (s t : Sight) → SawAll n x y s t → TookAll n x y
+took_all zero x y s t (a, e) = a
+took_all (suc n) x z s u (y, t, a, inl w) = (y, took_all n x y s t a, inl w.took)
+took_all (suc n) x z s u (y, t, a, inr p) = (y, took_all n x y s t a, inr p.0)
+
+-- where none had come the same were taken
+saw_same : {R : Type 0} {G : Ghosts R} (n : ℕ) (x y z : Stand G) (s t u : Sight) → SawAll n x y s t → Same y z → u ≡ t → SawAll n x z s u
+saw_same {R} {G} n x y z s t u a b f =
+    subst (λ (w : Stand G). SawAll n x w s u) (sym (same_is y z b)) (subst (λ (v : Sight). SawAll n x y s v) (sym f) a)
+
+-- one datagram more, or none
+pub saw_more : {R : Type 0} {G : Ghosts R} (n m : ℕ) (x y z : Stand G) (s t u : Sight) (had : Bool) → had ≡ true → m ≡ suc n →
+    SawAll n x y s t → SawIf had y z t u → SawAll m x z s u
+saw_more n m x y z s t u true e is a d = subst (λ (k : ℕ). SawAll k x z s u) (sym is) (y, t, a, d)
+saw_more n m x y z s t u false e is a d = absurd (cc)
+
+pub saw_no_more : {R : Type 0} {G : Ghosts R} (n : ℕ) (x y z : Stand G) (s t u : Sight) (had : Bool) → had ≡ false →
+    SawAll n x y s t → SawIf had y z t u → SawAll n x z s u
+saw_no_more n x y z s t u false e a (b, f) = saw_same n x y z s t u a b f
+saw_no_more n x y z s t u true e a d = absurd (cc)
+
+-- ---- a round
+
+-- datagrams are taken, something is sent again, and then the clock ticks if that is due
+then_ticked : {R : Type 0} {G : Ghosts R} (n : ℕ) (is_due : Bool) (w x y z v : Stand G) (s t : Sight) →
+    Same w x → SawAll n x y s t → Resent y z → TickedIf is_due z v → TookThenTicked n is_due w v
+then_ticked {R} {G} n is_due w x y z v s t a b c d =
+    (y, z, subst (λ (p : Stand G). TookAll n p y) (same_is w x a) (took_all n x y s t b), c, d)
+
+-- what a round that ended well did
+pub round_took : {P E R : Type 0} {G : Ghosts R} (r : Result P E) (n : ℕ) (w x y z v : Stand G) (s t : Sight) →
+    Same w x → SawAll n x y s t → Resent y z → IfOk r (λ p. (d : Bool) × TickedIf d z v) →
+    IfOk r (λ p. (k : ℕ) × (d : Bool) × TookThenTicked k d w v)
+round_took (Ok p) n w x y z v s t a b c (d, e) = (n, d, then_ticked n d w x y z v s t a b c e)
+round_took (Err e) n w x y z v s t a b c d = tt
+
+-- what a timer is told at a look
+pub looked_so : (a b c : Option (List Told)) (now : ℕ) (v : View) (t : Sight) (q : Bool) → t.is_accepting ≡ q → Grows a (Told.Looks now v) b →
+    GrowsBy b (sends_if q now) c → GrowsBy a (looks now v t) c
+looked_so a b c now v t q e g h =
+    grows_then a b c (Told.Looks now v ∷ []) (sends_if t.is_accepting now) g
+    (subst (λ (p : Bool). GrowsBy b (sends_if p now) c) (sym e) h)
+
+-- what is seen in it, and what the timer is told
+pub round_saw : {P E R : Type 0} {G : Ghosts R} (r : Result P E) (n now was : ℕ) (w x y : Stand G) (o s t u : Sight) (v : View)
+    (a b c : Option (List Told)) → Same w x → s ≡ o → SawAll n x y s t → u ≡ looked t → was ≡ front (learned_by w.replica) →
+    v ≡ view_of y.replica was t → GrowsBy a (looks now v t) b → Grows b (Told.Repeats now) c →
+    IfOk r (λ p. (k : ℕ) × SawThenLooked k now w o u a c)
+round_saw {P} {E} {R} {G} (Ok p) n now was w x y o s t u v a b c same seen saw e f g d h = (
+  n,
+  record {
+    then = y;
+    seen = t;
+    saw = subst (λ (q : Sight). SawAll n w y q t) seen (subst (λ (p : Stand G). SawAll n p y s t) (same_is w x same) saw);
+    looked = e;
+    told =
+        grows_then a b c _ _
+        (subst (λ (q : ℕ). GrowsBy a (looks now (view_of y.replica q t) t) b) f (subst (λ (q : View). GrowsBy a (looks now q t) b) g d))
+        h;
+  },
+)
+round_saw (Err e) n now was w x y o s t u v a b c same seen saw f g h d i = tt

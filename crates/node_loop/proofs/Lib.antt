@@ -1,0 +1,11 @@
+pub mod Among
+mod Kept
+mod Given
+pub mod Chains
+pub mod Traffic
+pub mod Lives
+pub mod Hosting
+pub mod Asking
+pub mod Honest
+pub mod Hosted
+pub mod Still

@@ -1,0 +1,470 @@
+-- Turns are steps of the model that befell a member, and what they took and handed out went over its wire.
+use Rattle.std.proofs.Common.{◌≡◌, ◌≢◌, ◌∙◌, ℕ, zero, suc, ◌<◌, Bool, true, false, List, [], ◌∷◌, ◌++◌, Option, Some, None, Result, refl, sym, ap, subst, inl, inr, arith}
+use Rattle.std.proofs.lemmas.Bool.{false_from_ne_true}
+use Rattle.std.proofs.lemmas.List.{append-nil}
+use Rattle.px_model.specs.Node.{Record, Input}
+use Rattle.px_model.specs.Node.Input.{Ticks, Comes}
+use Rattle.px_model.specs.Spelling.{Bytes}
+use Rattle.px_model.specs.World.{NodeState}
+use Rattle.px_records.specs.declared.records.Records.{Ghosts}
+use Rattle.px_transport.specs.Wires.{GrowsBy, Gives}
+use Rattle.px_wire.specs.Message.{Group, group}
+use Rattle.px_wire.specs.declared.membership.Membership.{Membership}
+use Rattle.px_replica.specs.Calls.{Call, Receives}
+use Rattle.px_replica.specs.Faults.{fault_of}
+use Rattle.px_replica.specs.Lives.{Deed, IsInput, Lived}
+use Rattle.px_replica.specs.Lives.Deed.{Calls, Stops, Opens}
+use Rattle.px_replica.specs.Replicas.{records_of, membership_of, has_failed, state_in}
+use Rattle.px_replica.specs.declared.datagram.Datagram.{Datagram}
+use Rattle.px_replica.specs.declared.fault.NodeFault.{NodeFault}
+use Rattle.px_replica.specs.declared.fault.NodeFault.TheVariants as fault
+use Rattle.px_replica.specs.declared.receiving.Received.{Received}
+use Rattle.px_replica.specs.declared.state.Replica.{Replica}
+use Rattle.node_loop.specs.Again.{AreAmong, HandsAgain}
+use Rattle.node_loop.proofs.Among.{among_all, among_is, among_front, among_then, among_none, hands_none, hands_then, hands_more}
+use Rattle.node_loop.specs.Resending.{SentAgain, came_in}
+use Rattle.node_loop.specs.Turns.{Acts, Stand, Between, Turns, Ends, Served, handed_over}
+use Rattle.node_loop.specs.Living.{Heard, message_in, messages_of, Brings, AreBrought, sent_by, LeavesThere, Living, TurnsAreLived}
+use Rattle.node_loop.proofs.Traffic.{grows_none, grows_then, messages_then, sent_then, brings_then, brings_known, are_brought, brought_more, none_brought}
+use Rattle.node_loop.proofs.Traffic.{among_chain, among_nil, sent_once, sent_none, sent_again_then}
+use Rattle.node_loop.proofs.Chains.{between_then}
+
+-- one life behind the other
+pub lived_then : (g : Group) (me : ℕ) (s t u : NodeState Bytes) (xs ys : List Deed) → Lived g me s xs t → Lived g me t ys u →
+    Lived g me s (xs ++ ys) u
+lived_then g me s t u [] ys a b = subst (λ (z : NodeState Bytes). Lived g me z ys u) a b
+lived_then g me s t u (Calls x w out ∷ xs) ys (up, input, makes, rest) b = (up, input, makes, lived_then g me w t u xs ys rest b)
+lived_then g me s t u (Stops x left ∷ xs) ys (up, input, leaves, rest) b = (up, input, leaves, lived_then g me _ t u xs ys rest b)
+lived_then g me s t u (Opens ∷ xs) ys rest b = lived_then g me _ t u xs ys rest b
+
+-- what calls without a fault lead to
+pub record Led {R : Type 0} {G : Ghosts R} (m : Membership) (x y : Stand G) : Type 0 where
+  pub deeds : List Deed
+  pub lived : Lived (group m) m.me (state_in x.replica) deeds (state_in y.replica)
+  pub came : List Bytes
+  pub brought : Brings (group m) m.me x.hears_asks x.requests came (messages_of deeds)
+  pub gave : GrowsBy x.given came y.given
+  pub handed : List (ℕ × Bytes)
+  pub again : SentAgain x.kept (sent_by deeds) handed
+  pub sent : GrowsBy x.handed handed y.handed
+  pub kept : AreAmong y.kept (x.kept ++ sent_by deeds)
+  pub requests : AreAmong y.requests (x.requests ++ came)
+  pub hears : y.hears_asks ≡ x.hears_asks
+  pub was : G.is_honest (records_of y.replica) → G.is_honest (records_of x.replica)
+  pub works : has_failed y.replica ≡ false
+  pub membership : membership_of y.replica ≡ m
+
+some_none : (e : NodeFault) → Some e ≡ None → ⊥
+some_none e h = absurd cc
+
+-- a call that answered Ok, for which this came
+pub called : {R : Type 0} {G : Ghosts R} (x y : Stand G) (i : Input Bytes) (came : List Bytes) (out : List Datagram) →
+    has_failed x.replica ≡ false → G.is_honest (records_of y.replica) →
+    IsInput (group (membership_of x.replica)) (membership_of x.replica).me i →
+    Brings (group (membership_of x.replica)) (membership_of x.replica).me x.hears_asks x.requests came (message_in i) →
+    Call x.replica y.replica i [] out None → GrowsBy x.given came y.given → GrowsBy x.handed (handed_over out) y.handed →
+    AreAmong y.kept (x.kept ++ handed_over out) → AreAmong y.requests (x.requests ++ came) → y.hears_asks ≡ x.hears_asks →
+    Led (membership_of x.replica) x y
+called {R} {G} x y i came out works honest input brings call gave sent kept requests hears = record {
+  deeds = Calls i (state_in y.replica) out ∷ [];
+  lived = (refl, input, call.made honest refl, refl);
+  came = came;
+  brought = subst (λ (ms : List Heard). Brings (group (membership_of x.replica)) (membership_of x.replica).me x.hears_asks x.requests came ms)
+      (sym (append-nil (message_in i))) brings;
+  gave = gave;
+  handed = handed_over out;
+  again = subst (λ (ds : List (ℕ × Bytes)). SentAgain x.kept ds (handed_over out)) (sym (append-nil (handed_over out)))
+      (sent_once x.kept (handed_over out));
+  sent = sent;
+  kept = subst (λ (ds : List (ℕ × Bytes)). AreAmong y.kept (x.kept ++ ds)) (sym (append-nil (handed_over out))) kept;
+  requests = requests;
+  hears = hears;
+  was = call.was;
+  works = false_from_ne_true (has_failed y.replica) (λ h. (call.fails works).0 h);
+  membership = call.membership;
+}
+
+-- no turn is made
+pub led_between : {R : Type 0} {G : Ghosts R} (x y : Stand G) → Between x y → has_failed x.replica ≡ false → Led (membership_of x.replica) x y
+led_between {R} {G} x y b works = record {
+  deeds = [];
+  lived = ap (λ (z : Replica R G). state_in z) b.replica;
+  came = b.passed;
+  brought = brings_known (group (membership_of x.replica)) (membership_of x.replica).me x.hears_asks x.requests b.passed b.known;
+  gave = b.gave;
+  handed = b.again.0;
+  again = sent_none x.kept b.again.0 b.again.1;
+  sent = b.again.2;
+  kept = among_nil y.kept x.kept (among_is y.kept x.kept b.kept);
+  requests = among_front y.requests x.requests b.passed (among_is y.requests x.requests b.requests);
+  hears = b.hears;
+  was = subst (λ (z : Replica R G). G.is_honest (records_of z) → G.is_honest (records_of x.replica)) (sym b.replica) (λ h. h);
+  works = ap (λ (z : Replica R G). has_failed z) b.replica ∙ works;
+  membership = ap (λ (z : Replica R G). membership_of z) b.replica;
+}
+
+received : {R : Type 0} {G : Ghosts R} (x y : Stand G) (bytes : Bytes) (out : List Datagram) (r : Result Received NodeFault) →
+    has_failed x.replica ≡ false → G.is_honest (records_of y.replica) → Receives x.replica y.replica bytes [] out r → fault_of r ≡ None →
+    GrowsBy x.given (bytes ∷ []) y.given → GrowsBy x.handed (handed_over out) y.handed →
+    AreAmong y.kept (x.kept ++ handed_over out) → AreAmong y.requests (x.requests ++ bytes ∷ []) → y.hears_asks ≡ x.hears_asks →
+    Led (membership_of x.replica) x y
+received x y bytes out r works honest (inl lost) none gave sent kept requests hears =
+    absurd (let is : true ≡ false = sym lost.failed ∙ works in cc)
+received {R} {G} x y bytes out r works honest (inr (inl passed)) none gave sent kept requests hears = record {
+  deeds = [];
+  lived = ap (λ (z : Replica R G). state_in z) passed.still;
+  came = bytes ∷ [];
+  brought = (inl passed.unspelled, tt);
+  gave = gave;
+  handed = [];
+  again = tt;
+  sent = subst (λ (ds : List Datagram). GrowsBy x.handed (handed_over ds) y.handed) passed.silent sent;
+  kept = subst (λ (ds : List Datagram). AreAmong y.kept (x.kept ++ handed_over ds)) passed.silent kept;
+  requests = requests;
+  hears = hears;
+  was = subst (λ (z : Replica R G). G.is_honest (records_of z) → G.is_honest (records_of x.replica)) (sym passed.still) (λ h. h);
+  works = ap (λ (z : Replica R G). has_failed z) passed.still ∙ works;
+  membership = ap (λ (z : Replica R G). membership_of z) passed.still;
+}
+received {R} {G} x y bytes out r works honest (inr (inr taken)) none gave sent kept requests hears =
+    called x y (Comes taken.sender taken.message) (bytes ∷ []) out works honest taken.passes (inr (taken.spelled, tt))
+    (subst (λ (o : Option NodeFault). Call x.replica y.replica (Comes taken.sender taken.message) [] out o) none taken.call) gave sent
+    kept requests hears
+
+acted : {R : Type 0} {G : Ghosts R} (x y : Stand G) (came : Option Bytes) (out : List Datagram) → has_failed x.replica ≡ false →
+    G.is_honest (records_of y.replica) → Acts x.replica y.replica came out None → Gives x.given came y.given →
+    GrowsBy x.handed (handed_over out) y.handed → AreAmong y.kept (x.kept ++ handed_over out) →
+    AreAmong y.requests (x.requests ++ came_in came) → y.hears_asks ≡ x.hears_asks → Led (membership_of x.replica) x y
+acted x y None out works honest call gave sent kept requests hears =
+    called x y Ticks [] out works honest tt tt call (grows_none x.given y.given gave) sent kept requests hears
+acted x y (Some bytes) out works honest (r, receives, none) gave sent kept requests hears =
+    received x y bytes out r works honest receives none gave sent kept requests hears
+
+-- one behind the other
+pub led_then : {R : Type 0} {G : Ghosts R} (m : Membership) (x y z : Stand G) → Led m x y → Led (membership_of y.replica) y z → Led m x z
+led_then {R} {G} m x y z a b =
+    let lived : Lived (group m) m.me (state_in y.replica) b.deeds (state_in z.replica) =
+    subst (λ (n : Membership). Lived (group n) n.me (state_in y.replica) b.deeds (state_in z.replica)) a.membership b.lived in
+    let brought : Brings (group m) m.me x.hears_asks y.requests b.came (messages_of b.deeds) =
+    subst (λ (h : Bool). Brings (group m) m.me h y.requests b.came (messages_of b.deeds)) a.hears
+    (subst (λ (n : Membership). Brings (group n) n.me y.hears_asks y.requests b.came (messages_of b.deeds)) a.membership b.brought) in
+    record {
+      deeds = a.deeds ++ b.deeds;
+      lived = lived_then (group m) m.me (state_in x.replica) (state_in y.replica) (state_in z.replica) a.deeds b.deeds a.lived lived;
+      came = a.came ++ b.came;
+      brought = subst (λ (ms : List Heard). Brings (group m) m.me x.hears_asks x.requests (a.came ++ b.came) ms)
+          (sym (messages_then a.deeds b.deeds))
+          (brings_then (group m) m.me x.hears_asks x.requests a.came y.requests b.came (messages_of a.deeds) (messages_of b.deeds)
+          a.brought brought a.requests);
+      gave = grows_then x.given y.given z.given a.came b.came a.gave b.gave;
+      handed = a.handed ++ b.handed;
+      again = subst (λ (ds : List (ℕ × Bytes)). SentAgain x.kept ds (a.handed ++ b.handed)) (sym (sent_then a.deeds b.deeds))
+          (sent_again_then x.kept (sent_by a.deeds) a.handed y.kept (sent_by b.deeds) b.handed a.again b.again a.kept);
+      sent = grows_then x.handed y.handed z.handed a.handed b.handed a.sent b.sent;
+      kept = subst (λ (ds : List (ℕ × Bytes)). AreAmong z.kept (x.kept ++ ds)) (sym (sent_then a.deeds b.deeds))
+          (among_chain x.kept y.kept z.kept (sent_by a.deeds) (sent_by b.deeds) a.kept b.kept);
+      requests = among_chain x.requests y.requests z.requests a.came b.came a.requests b.requests;
+      hears = b.hears ∙ a.hears;
+      was = λ h. a.was (b.was h);
+      works = b.works;
+      membership = b.membership ∙ a.membership;
+    }
+
+-- an honest record was honest before the turn
+acted_before : {R : Type 0} {G : Ghosts R} (x y : Replica R G) (came : Option Bytes) (out : List Datagram) (a : Option NodeFault) →
+    Acts x y came out a → G.is_honest (records_of y) → G.is_honest (records_of x)
+acted_before x y None out a call = call.was
+acted_before {R} {G} x y (Some bytes) out a (r, inl lost, is) =
+    subst (λ (z : Replica R G). G.is_honest (records_of z) → G.is_honest (records_of x)) (sym lost.still) (λ h. h)
+acted_before {R} {G} x y (Some bytes) out a (r, inr (inl passed), is) =
+    subst (λ (z : Replica R G). G.is_honest (records_of z) → G.is_honest (records_of x)) (sym passed.still) (λ h. h)
+acted_before x y (Some bytes) out a (r, inr (inr taken), is) = taken.call.was
+
+turns_before : {R : Type 0} {G : Ghosts R} (n : ℕ) (x y : Stand G) → Turns n x y → G.is_honest (records_of y.replica) →
+    G.is_honest (records_of x.replica)
+turns_before {R} {G} zero x y b honest = subst (λ (z : Replica R G). G.is_honest (records_of z)) b.replica honest
+turns_before {R} {G} (suc n) x y (v, w, turns, turn, b) honest =
+    turns_before n x v turns (acted_before v.replica w.replica turn.came turn.out None turn.acts
+    (subst (λ (z : Replica R G). G.is_honest (records_of z)) b.replica honest))
+
+ends_before : {R : Type 0} {G : Ghosts R} (x y : Stand G) (a : Option NodeFault) → Ends x y a → G.is_honest (records_of y.replica) →
+    G.is_honest (records_of x.replica)
+ends_before {R} {G} x y None same honest = subst (λ (z : Replica R G). G.is_honest (records_of z)) same.replica honest
+ends_before x y (Some e) turn honest = acted_before x.replica y.replica turn.came turn.out (Some e) turn.acts honest
+
+-- a record that is honest after turns was honest before them
+pub served_before : {R : Type 0} {G : Ghosts R} (x y : Stand G) (a : Option NodeFault) → Served x y a → G.is_honest (records_of y.replica) →
+    G.is_honest (records_of x.replica)
+served_before x y a s honest = turns_before s.turns x s.then s.made (ends_before s.then y a s.last honest)
+
+turns_led : {R : Type 0} {G : Ghosts R} (n : ℕ) (x y : Stand G) → Turns n x y → has_failed x.replica ≡ false →
+    G.is_honest (records_of y.replica) → Led (membership_of x.replica) x y
+turns_led zero x y b works honest = led_between x y b works
+turns_led {R} {G} (suc n) x y (v, w, turns, turn, b) works honest =
+    let honest' : G.is_honest (records_of w.replica) = subst (λ (z : Replica R G). G.is_honest (records_of z)) b.replica honest in
+    let a = turns_led n x v turns works (acted_before v.replica w.replica turn.came turn.out None turn.acts honest') in
+    let d = acted v w turn.came turn.out a.works honest' turn.acts turn.gave turn.sent turn.kept turn.requests turn.hears in
+    let c = led_then (membership_of x.replica) x v w a d in
+    led_then (membership_of x.replica) x w y c (led_between w y b c.works)
+
+-- turns without a fault
+pub served_led : {R : Type 0} {G : Ghosts R} (x y : Stand G) → Served x y None → has_failed x.replica ≡ false →
+    G.is_honest (records_of y.replica) → Led (membership_of x.replica) x y
+served_led {R} {G} x y s works honest =
+    let a = turns_led s.turns x s.then s.made works (subst (λ (z : Replica R G). G.is_honest (records_of z)) s.last.replica honest) in
+    led_then (membership_of x.replica) x s.then y a (led_between s.then y s.last a.works)
+
+-- ---- the last turn
+
+-- What a last call that failed leaves. It came from w, which worked.
+pub record Ended {R : Type 0} {G : Ghosts R} (w z : Stand G) (e : NodeFault) : Type 0 where
+  pub last : List Bytes
+  pub gave : GrowsBy w.given last z.given
+  pub again : HandsAgain w.kept w.handed z.handed
+  pub kept : AreAmong z.kept w.kept
+  pub requests : AreAmong z.requests (w.requests ++ last)
+  pub hears : z.hears_asks ≡ w.hears_asks
+  pub stays : G.failed (records_of z.replica) ≡ 0 → state_in z.replica ≡ state_in w.replica
+  pub stop : (left : Record Bytes) → G.may_leave (records_of z.replica) left →
+      LeavesThere (group (membership_of w.replica)) (membership_of w.replica).me last (state_in w.replica) left
+  pub counts : Some e ≢ Some fault.Store → G.failed (records_of z.replica) ≡ 0
+  pub membership : membership_of z.replica ≡ membership_of w.replica
+
+pub none_above : (n : ℕ) → (0 < n → ⊥) → n ≡ 0
+none_above zero h = refl
+none_above (suc n) h = absurd (h (omega arith))
+
+-- the call that failed, for which this came
+unfoldable pub failed_call : {R : Type 0} {G : Ghosts R} (w z : Stand G) (i : Input Bytes) (last : List Bytes) (out : List Datagram) (e : NodeFault) →
+    has_failed w.replica ≡ false → G.is_honest (records_of z.replica) →
+    IsInput (group (membership_of w.replica)) (membership_of w.replica).me i →
+    AreBrought (group (membership_of w.replica)) (membership_of w.replica).me last (message_in i) →
+    Call w.replica z.replica i [] out (Some e) → GrowsBy w.given last z.given → GrowsBy w.handed (handed_over out) z.handed →
+    AreAmong z.kept (w.kept ++ handed_over out) → AreAmong z.requests (w.requests ++ last) → z.hears_asks ≡ w.hears_asks → Ended w z e
+failed_call {R} {G} w z i last out e works honest input brought call gave sent kept requests hears = record {
+  last = last;
+  gave = gave;
+  again = ([], among_none w.kept, subst (λ (ds : List Datagram). GrowsBy w.handed (handed_over ds) z.handed) (call.silent refl) sent);
+  kept = among_then z.kept (w.kept ++ []) w.kept
+      (subst (λ (ds : List Datagram). AreAmong z.kept (w.kept ++ handed_over ds)) (call.silent refl) kept)
+      (among_is (w.kept ++ []) w.kept (append-nil w.kept));
+  requests = requests;
+  hears = hears;
+  stays = λ none. call.stays honest refl (λ is. let above : 0 < G.failed (records_of z.replica) = (call.counts works).0 is in
+      let none' : G.failed (records_of z.replica) ≡ 0 = none in omega arith);
+  stop = λ left may. (i, input, brought, call.stop works honest left may);
+  counts = λ other. none_above (G.failed (records_of z.replica)) (λ above. other ((call.counts works).1 above));
+  membership = call.membership;
+}
+
+failed_turn : {R : Type 0} {G : Ghosts R} (w z : Stand G) (came : Option Bytes) (out : List Datagram) (e : NodeFault) →
+    has_failed w.replica ≡ false → G.is_honest (records_of z.replica) → Acts w.replica z.replica came out (Some e) →
+    Gives w.given came z.given → GrowsBy w.handed (handed_over out) z.handed → AreAmong z.kept (w.kept ++ handed_over out) →
+    AreAmong z.requests (w.requests ++ came_in came) → z.hears_asks ≡ w.hears_asks → Ended w z e
+failed_turn w z None out e works honest call gave sent kept requests hears =
+    failed_call w z Ticks [] out e works honest tt (none_brought _ _ []) call (grows_none w.given z.given gave) sent kept requests hears
+failed_turn w z (Some bytes) out e works honest (r, inl lost, is) gave sent kept requests hears =
+    absurd (let h : true ≡ false = sym lost.failed ∙ works in cc)
+failed_turn w z (Some bytes) out e works honest (r, inr (inl passed), is) gave sent kept requests hears =
+    absurd (some_none e (sym is ∙ ap fault_of passed.answered))
+failed_turn w z (Some bytes) out e works honest (r, inr (inr taken), is) gave sent kept requests hears =
+    failed_call w z (Comes taken.sender taken.message) (bytes ∷ []) out e works honest taken.passes
+    (are_brought _ _ w.hears_asks w.requests (bytes ∷ []) ((taken.sender, taken.message) ∷ []) (inr (taken.spelled, tt)))
+    (subst (λ (o : Option NodeFault). Call w.replica z.replica (Comes taken.sender taken.message) [] out o) is taken.call) gave sent
+    kept requests hears
+
+-- turns that end with a fault: those without, and the last one
+pub served_ended : {R : Type 0} {G : Ghosts R} (x z : Stand G) (e : NodeFault) → Served x z (Some e) → has_failed x.replica ≡ false →
+    G.is_honest (records_of z.replica) → (w : Stand G) × Led (membership_of x.replica) x w × Ended w z e
+served_ended x z e s works honest =
+    let t = s.last in
+    let l = turns_led s.turns x s.then s.made works (acted_before s.then.replica z.replica t.came t.out (Some e) t.acts honest) in
+    (s.then, l, failed_turn s.then z t.came t.out e l.works honest t.acts t.gave t.sent t.kept t.requests t.hears)
+
+-- ---- a member that has failed
+
+-- It does nothing and sends nothing but again what is kept; what its wire gave is lost.
+pub record Lost {R : Type 0} {G : Ghosts R} (y z : Stand G) : Type 0 where
+  pub replica : z.replica ≡ y.replica
+  pub lost : List Bytes
+  pub gave : GrowsBy y.given lost z.given
+  pub again : HandsAgain y.kept y.handed z.handed
+  pub kept : AreAmong z.kept y.kept
+  pub requests : AreAmong z.requests (y.requests ++ lost)
+  pub hears : z.hears_asks ≡ y.hears_asks
+
+unfoldable pub between_lost : {R : Type 0} {G : Ghosts R} (y z : Stand G) → Between y z → Lost y z
+between_lost y z b = record {
+  replica = b.replica;
+  lost = b.passed;
+  gave = b.gave;
+  again = b.again;
+  kept = among_is z.kept y.kept b.kept;
+  requests = among_front z.requests y.requests b.passed (among_is z.requests y.requests b.requests);
+  hears = b.hears;
+}
+
+lost_then : {R : Type 0} {G : Ghosts R} (x y z : Stand G) → Lost x y → Lost y z → Lost x z
+lost_then x y z a b = record {
+  replica = b.replica ∙ a.replica;
+  lost = a.lost ++ b.lost;
+  gave = grows_then x.given y.given z.given a.lost b.lost a.gave b.gave;
+  again = hands_then x.kept x.handed y.handed z.handed a.again (hands_more y.kept x.kept y.handed z.handed a.kept b.again);
+  kept = among_then z.kept y.kept x.kept b.kept a.kept;
+  requests = among_chain x.requests y.requests z.requests a.lost b.lost a.requests b.requests;
+  hears = b.hears ∙ a.hears;
+}
+
+none_failed : (e : NodeFault) → None ≡ Some e → ⊥
+none_failed e h = absurd cc
+
+-- it makes no turn without a fault
+no_turn : {R : Type 0} {G : Ghosts R} (x y : Replica R G) (came : Option Bytes) (out : List Datagram) → has_failed x ≡ true →
+    Acts x y came out None → ⊥
+no_turn x y None out broken call = none_failed fault.Failed (call.failed.1 broken)
+no_turn x y (Some bytes) out broken (r, inl lost, is) = none_failed fault.Failed (sym is ∙ ap fault_of lost.answered)
+no_turn x y (Some bytes) out broken (r, inr (inl passed), is) = absurd (let h : true ≡ false = sym broken ∙ passed.works in cc)
+no_turn x y (Some bytes) out broken (r, inr (inr taken), is) = absurd (let h : true ≡ false = sym broken ∙ taken.works in cc)
+
+broken_turns : {R : Type 0} {G : Ghosts R} (n : ℕ) (x y : Stand G) → has_failed x.replica ≡ true → Turns n x y → Between x y
+broken_turns zero x y broken b = b
+broken_turns {R} {G} (suc n) x y broken (v, w, turns, turn, b) =
+    let c = broken_turns n x v broken turns in
+    absurd (no_turn v.replica w.replica turn.came turn.out (ap (λ (z : Replica R G). has_failed z) c.replica ∙ broken) turn.acts)
+
+silent : {R : Type 0} {G : Ghosts R} (x y : Stand G) (out : List Datagram) → out ≡ [] → GrowsBy x.handed (handed_over out) y.handed →
+    HandsAgain x.kept x.handed y.handed
+silent x y out none sent = ([], among_none x.kept, subst (λ (ds : List Datagram). GrowsBy x.handed (handed_over ds) y.handed) none sent)
+
+still_kept : {R : Type 0} {G : Ghosts R} (x y : Stand G) (out : List Datagram) → out ≡ [] → AreAmong y.kept (x.kept ++ handed_over out) →
+    AreAmong y.kept x.kept
+still_kept x y out none kept =
+    among_then y.kept (x.kept ++ []) x.kept (subst (λ (ds : List Datagram). AreAmong y.kept (x.kept ++ handed_over ds)) none kept)
+    (among_is (x.kept ++ []) x.kept (append-nil x.kept))
+
+broken_turn : {R : Type 0} {G : Ghosts R} (x y : Stand G) (came : Option Bytes) (out : List Datagram) (e : NodeFault) →
+    has_failed x.replica ≡ true → Acts x.replica y.replica came out (Some e) → Gives x.given came y.given →
+    GrowsBy x.handed (handed_over out) y.handed → AreAmong y.kept (x.kept ++ handed_over out) →
+    AreAmong y.requests (x.requests ++ came_in came) → y.hears_asks ≡ x.hears_asks → Lost x y
+broken_turn x y None out e broken call gave sent kept requests hears = record {
+  replica = call.still broken;
+  lost = [];
+  gave = grows_none x.given y.given gave;
+  again = silent x y out (call.silent refl) sent;
+  kept = still_kept x y out (call.silent refl) kept;
+  requests = requests;
+  hears = hears;
+}
+broken_turn x y (Some bytes) out e broken (r, inl lost, is) gave sent kept requests hears = record {
+  replica = lost.still;
+  lost = bytes ∷ [];
+  gave = gave;
+  again = silent x y out lost.silent sent;
+  kept = still_kept x y out lost.silent kept;
+  requests = requests;
+  hears = hears;
+}
+broken_turn x y (Some bytes) out e broken (r, inr (inl passed), is) gave sent kept requests hears =
+    absurd (let h : true ≡ false = sym broken ∙ passed.works in cc)
+broken_turn x y (Some bytes) out e broken (r, inr (inr taken), is) gave sent kept requests hears =
+    absurd (let h : true ≡ false = sym broken ∙ taken.works in cc)
+
+-- turns that it makes, with whatever end
+pub broken_served : {R : Type 0} {G : Ghosts R} (x z : Stand G) (a : Option NodeFault) → has_failed x.replica ≡ true → Served x z a → Lost x z
+broken_served x z None broken s =
+    lost_then x s.then z (between_lost x s.then (broken_turns s.turns x s.then broken s.made)) (between_lost s.then z s.last)
+broken_served {R} {G} x z (Some e) broken s =
+    let b = broken_turns s.turns x s.then broken s.made in
+    let t = s.last in
+    lost_then x s.then z (between_lost x s.then b)
+    (broken_turn s.then z t.came t.out e (ap (λ (y : Replica R G). has_failed y) b.replica ∙ broken) t.acts t.gave t.sent t.kept t.requests t.hears)
+
+pub broken_between : {R : Type 0} {G : Ghosts R} (x z : Stand G) → has_failed x.replica ≡ true → Served x z None → Between x z
+broken_between x z broken s = between_then x s.then z (broken_turns s.turns x s.then broken s.made) s.last
+
+-- a call that failed, and what was lost after it
+unfoldable pub ended_more : {R : Type 0} {G : Ghosts R} (w y z : Stand G) (e : NodeFault) → Ended w y e → Lost y z → Ended w z e
+ended_more {R} {G} w y z e d l =
+    let m = membership_of w.replica in record {
+      last = d.last ++ l.lost;
+      gave = grows_then w.given y.given z.given d.last l.lost d.gave l.gave;
+      again = hands_then w.kept w.handed y.handed z.handed d.again (hands_more y.kept w.kept y.handed z.handed d.kept l.again);
+      kept = among_then z.kept y.kept w.kept l.kept d.kept;
+      requests = among_chain w.requests y.requests z.requests d.last l.lost d.requests l.requests;
+      hears = l.hears ∙ d.hears;
+      stays = λ none. ap (λ (r : Replica R G). state_in r) l.replica
+          ∙ d.stays (sym (ap (λ (r : Replica R G). G.failed (records_of r)) l.replica) ∙ none);
+      stop = λ left may.
+          let s = d.stop left (subst (λ (r : Replica R G). G.may_leave (records_of r) left) l.replica may) in
+          (s.0, s.1, brought_more (group m) m.me d.last l.lost (message_in s.0) s.2, s.3);
+      counts = λ other. ap (λ (r : Replica R G). G.failed (records_of r)) l.replica ∙ d.counts other;
+      membership = ap (λ (r : Replica R G). membership_of r) l.replica ∙ d.membership;
+    }
+
+-- ---- lives
+
+module _ {R : Type 0} (G : Ghosts R)
+    (settled : (r : R) → G.is_honest r → G.failed r ≡ 0 → (d : Record Bytes) → G.may_leave r d → d ≡ G.stored r) where
+  -- calls without a fault alone
+  pub led_living : (x z : Stand G) → G.is_honest (records_of z.replica) → Led (membership_of x.replica) x z → Living x z None
+  led_living x z honest l = record {
+    deeds = l.deeds;
+    then = state_in z.replica;
+    lived = l.lived;
+    up = refl;
+    came = l.came;
+    last = [];
+    brought = l.brought;
+    gave = grows_then x.given z.given z.given l.came [] l.gave (grows_none z.given z.given refl);
+    handed = l.handed;
+    again = l.again;
+    sent = l.sent;
+    kept = l.kept;
+    requests = subst (λ (bs : List Bytes). AreAmong z.requests (x.requests ++ bs)) (sym (append-nil l.came)) l.requests;
+    hears = l.hears;
+    stays = λ none. refl;
+    stop = λ left may. (Ticks, tt, none_brought _ _ [], inl (settled (records_of z.replica) honest (z.replica.works l.works) left may));
+    whole = λ none. refl;
+    membership = l.membership;
+  }
+
+  -- and then the call that failed, whichever fault is told in the end
+  pub ended_living : (x w z : Stand G) (e : NodeFault) (a : Option NodeFault) → Led (membership_of x.replica) x w →
+      (d : Ended w z e) → (a ≡ None → d.last ≡ []) → Living x z a
+  ended_living x w z e a l d whole = record {
+    deeds = l.deeds;
+    then = state_in w.replica;
+    lived = l.lived;
+    up = refl;
+    came = l.came;
+    last = d.last;
+    brought = l.brought;
+    gave = grows_then x.given w.given z.given l.came d.last l.gave d.gave;
+    handed = l.handed ++ d.again.0;
+    again = subst (λ (ds : List (ℕ × Bytes)). SentAgain x.kept ds (l.handed ++ d.again.0)) (append-nil (sent_by l.deeds))
+        (sent_again_then x.kept (sent_by l.deeds) l.handed w.kept [] d.again.0 l.again (sent_none w.kept d.again.0 d.again.1) l.kept);
+    sent = grows_then x.handed w.handed z.handed l.handed d.again.0 l.sent d.again.2;
+    kept = among_then z.kept w.kept (x.kept ++ sent_by l.deeds) d.kept l.kept;
+    requests = among_chain x.requests w.requests z.requests l.came d.last l.requests d.requests;
+    hears = d.hears ∙ l.hears;
+    stays = d.stays;
+    stop = λ left may. subst (λ (m : Membership). LeavesThere (group m) m.me d.last (state_in w.replica) left) l.membership
+        (d.stop left may);
+    whole = whole;
+    membership = d.membership ∙ l.membership;
+  }
+
+  ended : (x w z : Stand G) (a : Option NodeFault) (n : ℕ) → G.is_honest (records_of z.replica) → has_failed x.replica ≡ false →
+      Turns n x w → Ends w z a → Living x z a × (a ≢ Some fault.Store → G.failed (records_of z.replica) ≡ 0)
+  ended x w z None n honest works turns same =
+      let honest' = subst (λ (y : Replica R G). G.is_honest (records_of y)) same.replica honest in
+      let l = turns_led n x w turns works honest' in
+      let all = led_then (membership_of x.replica) x w z l (led_between w z same l.works) in
+      (led_living x z honest all, λ other. z.replica.works all.works)
+  ended x w z (Some e) n honest works turns turn =
+      let l = turns_led n x w turns works (acted_before w.replica z.replica turn.came turn.out (Some e) turn.acts honest) in
+      let d = failed_turn w z turn.came turn.out e l.works honest turn.acts turn.gave turn.sent turn.kept turn.requests turn.hears in
+      (ended_living x w z e (Some e) l d (λ none. absurd (some_none e none)), d.counts)
+
+  pub turns_lived : TurnsAreLived G
+  turns_lived x z answered honest works served = ended x served.then z answered served.turns honest works served.made served.last

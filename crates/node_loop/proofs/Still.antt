@@ -1,0 +1,19 @@
+-- Where no turn is made nothing changes.
+use Rattle.std.proofs.Common.{None, false}
+use Rattle.px_model.specs.Step.{front}
+use Rattle.px_records.specs.declared.records.Records.{Ghosts}
+use Rattle.pf_node.specs.Nodes.{learned_by, applied_of}
+use Rattle.pf_node.specs.declared.state.Node.{Node}
+use Rattle.node_loop.proofs.Chains.{served_none, same_all}
+use Rattle.node_loop.specs.Lives.{Told, new_buffers, stands, Tells, Serves}
+use Rattle.node_loop.specs.declared.ended.Ended.{Ended}
+
+pub still : {R : Type 0} {G : Ghosts R} (s : Node R G) (w : Told) (ended : Ended) →
+    Tells (front (learned_by s)) (applied_of s) None ended → Serves s s w w ended
+still s w ended told = record {
+  answered = None;
+  hears = false;
+  buffers = new_buffers false;
+  served = served_none (stands s w (new_buffers false)) (stands s w (new_buffers false)) (same_all (stands s w (new_buffers false)));
+  told = told;
+}

@@ -1,0 +1,15 @@
+pub mod Again
+pub mod Keeping
+pub mod Proposals
+pub mod Resends
+pub mod Total
+pub mod Resending
+pub mod Turns
+pub mod Hosting
+pub mod Progress
+pub mod Timing
+pub mod Pacing
+pub mod Living
+pub mod inner
+pub mod Asking
+pub mod Lives

@@ -1,0 +1,121 @@
+-- What is seen of the other members' progress. The pace is given the time, how the node stands, and this; so a datagram
+-- that is nobody's changes nothing of it.
+use Rattle.std.specs.Prelude.{◌≡◌, ◌≢◌, ◌⊎◌, ℕ, zero, suc, ◌+◌, ◌==◌, ◌||◌, Bool, true, false}
+use Rattle.std.specs.Prelude.{List, Option, Some, None, not, min, max, replicate, slice_set}
+use Rattle.px_model.specs.Spelling.{Bytes}
+use Rattle.px_records.specs.declared.records.Records.{Ghosts}
+use Rattle.px_wire.specs.Message.{Message, group, DatagramBytes}
+use Rattle.px_wire.specs.Heads.{head_of, learned_below}
+use Rattle.px_wire.specs.declared.head.Head.{Head}
+use Rattle.px_wire.specs.declared.kind.Kind.{Kind}
+use Rattle.px_wire.specs.declared.kind.Kind.TheVariants as kinds
+use Rattle.px_replica.specs.Replicas.{membership_of, IsUnspelled}
+use Rattle.px_replica.specs.declared.state.Replica.{Replica}
+use Rattle.node_loop.specs.Turns.{Stand, Took, Passed, Same}
+use Rattle.node_loop.specs.declared.room.Room.{Room}
+use Rattle.node_loop.specs.declared.sight.Sight.{Sight}
+
+-- a datagram spells no message for this member: it is of another cluster or list of members, for another member, or no
+-- message at all
+abbrev pub IsNobodys : {R : Type 0} {G : Ghosts R} → Replica R G → Bytes → Type 0
+IsNobodys s bytes = IsUnspelled (group (membership_of s)) (membership_of s).me bytes
+
+-- a datagram spells this message of that sender for this member
+abbrev pub IsFrom : {R : Type 0} {G : Ghosts R} → Replica R G → ℕ → Message → Bytes → Type 0
+IsFrom s from message bytes = DatagramBytes (group (membership_of s)) from (membership_of s).me message bytes
+
+-- what was seen so far
+abbrev pub seen_in : Room → Sight
+seen_in room = room.sight
+
+-- the heads of the messages that were taken last
+abbrev pub heads_in : Room → List Head
+heads_in room = room.heads.items
+
+-- ---- what a message shows of its sender
+
+-- it has learned all below this position
+abbrev pub reaching : (position : ℕ) → Sight → Sight
+reaching p s = record {
+  reached = max s.reached p;
+  is_told = s.is_told;
+  is_accepting = s.is_accepting;
+  lacking = s.lacking;
+}
+
+-- it lacks the positions from one less than this on
+abbrev pub lacking : (from next : ℕ) → Sight → Sight
+lacking from next s = record {
+  reached = s.reached;
+  is_told = s.is_told;
+  is_accepting = s.is_accepting;
+  lacking = slice_set s.lacking from next;
+}
+
+-- an entry came that this member had asked for
+abbrev pub told : Sight → Sight
+told s = record { reached = s.reached; is_told = true; is_accepting = s.is_accepting; lacking = s.lacking }
+
+-- an accept request came, which counts where another member sent it
+abbrev pub accepting : (is_others : Bool) → Sight → Sight
+accepting o s = record {
+  reached = s.reached;
+  is_told = s.is_told;
+  is_accepting = s.is_accepting || o;
+  lacking = s.lacking;
+}
+
+-- what a message about this position shows beside how far its sender is, in 32 bits: whoever asks for promises lacks
+-- the position, and whoever needs its entry is answered with that and lacks the next one
+abbrev pub noted_by : Kind → (from to position : ℕ) → Sight → Sight
+noted_by kinds.Prepare from to p s = lacking from (min (p + 1) 4294967295) s
+noted_by kinds.PrepareAll from to p s = lacking from (min (p + 1) 4294967295) s
+noted_by kinds.Need from to p s = lacking from (min (p + 2) 4294967295) s
+noted_by kinds.Accept from to p s = accepting (not (from == to)) s
+noted_by kinds.Learned from to p s = told s
+noted_by kinds.Vote from to p s = s
+noted_by kinds.Promise from to p s = s
+noted_by kinds.PromiseAll from to p s = s
+noted_by kinds.Nack from to p s = s
+noted_by kinds.Ask from to p s = s
+noted_by kinds.Asked from to p s = s
+noted_by kinds.AskRefused from to p s = s
+
+-- the same of a message with this head
+abbrev pub noted : Head → (position : ℕ) → Sight → Sight
+noted h p s = noted_by h.kind h.from h.to p s
+
+-- the same, if it is about a position
+abbrev pub noted_if : Head → (position : Option ℕ) → Sight → Sight
+noted_if h None s = s
+noted_if h (Some p) s = noted h p s
+
+-- what is seen once a message with this head has come: how far its sender is, and what it shows besides
+abbrev pub shown_by : Head → Sight → Sight
+shown_by h s = noted_if h h.position (reaching (learned_below h) s)
+
+-- what was seen, once it was looked at: how far others are stays
+abbrev pub looked : Sight → Sight
+looked s = record { reached = s.reached; is_told = false; is_accepting = false; lacking = replicate 15 0 }
+
+-- ---- what is seen as datagrams are taken
+
+-- A datagram was taken. Where it is nobody's, the member is as it was, and nothing more is seen; else what its message
+-- shows.
+pub record Saw {R : Type 0} {G : Ghosts R} (x y : Stand G) (s t : Sight) : Type 0 where
+  pub took : Took x y None
+  pub still : IsNobodys x.replica took.bytes → y.replica ≡ x.replica
+  pub unseen : IsNobodys x.replica took.bytes → t ≡ s
+  pub shown : (from : ℕ) (message : Message) → IsFrom x.replica from message took.bytes →
+      t ≡ shown_by (head_of from (membership_of x.replica).me message) s
+  pub members : x.hears_asks ≡ false → (from : ℕ) (message : Message) →
+      IsFrom x.replica from message took.bytes → from ≢ 255
+
+-- a datagram was taken, or passed over, of which nothing is seen
+abbrev pub SawOne : {R : Type 0} {G : Ghosts R} → (x y : Stand G) → (s t : Sight) → Type 0
+SawOne x y s t = Saw x y s t ⊎ (Passed x y × (t ≡ s))
+
+-- n datagrams were taken or passed over, one after the other
+abbrev pub SawAll : {R : Type 0} {G : Ghosts R} → (datagrams : ℕ) → (x y : Stand G) → (s t : Sight) → Type 0
+SawAll zero x y s t = Same x y × (t ≡ s)
+SawAll {G = G} (suc n) x z s u = (y : Stand G) × (t : Sight) × SawAll n x y s t × SawOne y z t u

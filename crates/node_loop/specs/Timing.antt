@@ -1,0 +1,54 @@
+-- What a node's timer is told in a round: the time, how the node is, and what was seen of others, all as the datagrams
+-- that were taken left them. So one that is nobody's changes nothing of it.
+use Rattle.std.specs.Prelude.{◌≡◌, ℕ, ◌==◌, ◌&&◌, Bool, true, false, not, List, [], ◌∷◌, ◌++◌, Option, is_some, length}
+use Rattle.px_model.specs.Step.{front}
+use Rattle.px_records.specs.declared.records.Records.{Ghosts}
+use Rattle.px_transport.specs.Wires.{GrowsBy}
+use Rattle.px_replica.specs.Replicas.{learned_by, state_in}
+use Rattle.px_replica.specs.declared.state.Replica.{Replica}
+use Rattle.node_loop.specs.Progress.{SawAll, looked}
+use Rattle.node_loop.specs.Turns.{Stand}
+use Rattle.node_loop.specs.declared.sight.Sight.{Sight}
+use Rattle.node_loop.specs.declared.timer.View.{View}
+
+-- what a timer is told
+pub data Told : Type 0 where
+  -- what is seen at this time, so that it says whether the clock ticks
+  Looks : (now : ℕ) (view : View) → Told
+  -- votes were sent
+  Sends : (now : ℕ) → Told
+  -- it is asked whether what was sent is sent again
+  Repeats : (now : ℕ) → Told
+  -- the node takes no more commands in
+  Ends : Told
+
+-- what is seen of a node, whose front was there before the datagrams were taken
+abbrev pub view_of : {R : Type 0} {G : Ghosts R} → Replica R G → (was : ℕ) → Sight → View
+view_of s was t = record {
+  waiting = length (state_in s).volatile.waiting;
+  is_attempting = is_some (state_in s).volatile.attempt;
+  is_leading = is_some (state_in s).volatile.lead;
+  front = front (learned_by s);
+  is_told = t.is_told && not (front (learned_by s) == was);
+  reached = t.reached;
+}
+
+-- that votes were sent, if they were
+abbrev pub sends_if : Bool → (now : ℕ) → List Told
+sends_if true now = Told.Sends now ∷ []
+sends_if false now = []
+
+-- what it is told at a look
+abbrev pub looks : (now : ℕ) → View → Sight → List Told
+looks now v t = Told.Looks now v ∷ sends_if t.is_accepting now
+
+-- n datagrams were taken, one after the other; then the timer was told what they left to see, and nothing else; and
+-- what was seen was looked at.
+pub record SawThenLooked {R : Type 0} {G : Ghosts R} (n now : ℕ) (x : Stand G) (s u : Sight)
+    (before after : Option (List Told)) : Type 0 where
+  pub then : Stand G
+  pub seen : Sight
+  pub saw : SawAll n x then s seen
+  pub looked : u ≡ looked seen
+  pub told : GrowsBy before (looks now (view_of then.replica (front (learned_by x.replica)) seen) seen ++
+      (Told.Repeats now ∷ [])) after

@@ -1,0 +1,167 @@
+-- One turn of a node, and several in a row.
+use Rattle.std.specs.Prelude.{◌≡◌, ◌⊎◌, ℕ, zero, suc, Bool, true, false, List, [], ◌++◌, map, Option, Some, None}
+use Rattle.std.specs.Prelude.{Result}
+use Rattle.px_model.specs.Law.{Among}
+use Rattle.px_model.specs.Node.Input.{Ticks}
+use Rattle.px_model.specs.Spelling.{Bytes}
+use Rattle.px_records.specs.declared.records.Records.{Ghosts}
+use Rattle.px_replica.specs.Calls.{Call, Receives}
+use Rattle.px_replica.specs.Faults.{fault_of}
+use Rattle.px_replica.specs.declared.datagram.Datagram.{Datagram}
+use Rattle.px_replica.specs.declared.fault.NodeFault.{NodeFault}
+use Rattle.px_replica.specs.declared.receiving.Received.{Received}
+use Rattle.px_replica.specs.declared.state.Replica.{Replica}
+use Rattle.px_transport.specs.declared.wire.Wire as wires
+use Rattle.px_transport.specs.Wires.{GrowsBy, Gives}
+use Rattle.px_wire.specs.Message.{group}
+use Rattle.px_replica.specs.Replicas.{membership_of}
+use Rattle.node_loop.specs.Again.{AreAmong, HandsAgain}
+use Rattle.node_loop.specs.Resends.{kept_of, requests_of}
+use Rattle.node_loop.specs.Resending.{IsKnown, came_in}
+use Rattle.node_loop.specs.declared.room.Room.{Room}
+use Rattle.pf_node.specs.Nodes.{replica_of}
+use Rattle.pf_node.specs.declared.state.Node.{Node}
+
+-- What a node does in a turn: its clock ticks where nothing came, else what came is received.
+abbrev pub Acts : {R : Type 0} {G : Ghosts R} → (s t : Replica R G) → (came : Option Bytes) → (out : List Datagram) →
+    (answered : Option NodeFault) → Type 0
+Acts s t None out answered = Call s t Ticks [] out answered
+Acts s t (Some bytes) out answered =
+    (received : Result Received NodeFault) × Receives s t bytes [] out received × (fault_of received ≡ answered)
+
+-- the datagrams, as a wire is handed them
+abbrev pub handed_over : List Datagram → List (ℕ × Bytes)
+handed_over out = map (λ d. (d.to, d.bytes.items)) out
+
+-- A member of a cluster with its wire and its buffers: how it stands; what the wire gave so far, and what it was
+-- handed, where it tells these; what may be handed to it again; the requests that are known where they come again; and
+-- whether asks from outside are heard.
+pub record Stand {R : Type 0} (G : Ghosts R) : Type 0 where
+  pub replica : Replica R G
+  pub given : Option (List Bytes)
+  pub handed : Option (List (ℕ × Bytes))
+  pub kept : List (ℕ × Bytes)
+  pub requests : List Bytes
+  pub hears_asks : Bool
+
+-- a node with its wire and its buffers
+abbrev pub standing : {R W : Type 0} {G : Ghosts R} → wires.Ghosts W → Node R G → W → Room → Stand G
+standing H n w room = record {
+  replica = replica_of n;
+  given = H.given w;
+  handed = H.handed w;
+  kept = kept_of room.resender;
+  requests = requests_of room.resender;
+  hears_asks = room.hears_asks;
+}
+
+-- A turn is one call, for what the wire gave; then the wire was handed what is to be sent, each datagram once, in
+-- order. After a fault nothing is to be sent.
+pub record Turned {R : Type 0} {G : Ghosts R} (x y : Stand G) (answered : Option NodeFault) : Type 0 where
+  pub came : Option Bytes
+  pub gave : Gives x.given came y.given
+  pub out : List Datagram
+  pub acts : Acts x.replica y.replica came out answered
+  pub sent : GrowsBy x.handed (handed_over out) y.handed
+  pub kept : AreAmong y.kept (x.kept ++ handed_over out)
+  pub requests : AreAmong y.requests (x.requests ++ came_in came)
+  pub hears : y.hears_asks ≡ x.hears_asks
+
+-- A turn of the clock: nothing is taken from the wire.
+pub record Ticked {R : Type 0} {G : Ghosts R} (x y : Stand G) (answered : Option NodeFault) : Type 0 where
+  pub given : y.given ≡ x.given
+  pub out : List Datagram
+  pub call : Call x.replica y.replica Ticks [] out answered
+  pub sent : GrowsBy x.handed (handed_over out) y.handed
+  pub kept : AreAmong y.kept (x.kept ++ handed_over out)
+  pub requests : y.requests ≡ x.requests
+  pub hears : y.hears_asks ≡ x.hears_asks
+
+-- A turn for a datagram that the wire gave.
+pub record Took {R : Type 0} {G : Ghosts R} (x y : Stand G) (answered : Option NodeFault) : Type 0 where
+  pub bytes : Bytes
+  pub gave : Gives x.given (Some bytes) y.given
+  pub out : List Datagram
+  pub acts : Acts x.replica y.replica (Some bytes) out answered
+  pub sent : GrowsBy x.handed (handed_over out) y.handed
+  pub kept : AreAmong y.kept (x.kept ++ handed_over out)
+  pub requests : AreAmong y.requests (x.requests ++ came_in (Some bytes))
+  pub hears : y.hears_asks ≡ x.hears_asks
+
+-- nothing is done
+pub record Same {R : Type 0} {G : Ghosts R} (x y : Stand G) : Type 0 where
+  pub replica : y.replica ≡ x.replica
+  pub given : y.given ≡ x.given
+  pub handed : y.handed ≡ x.handed
+  pub kept : y.kept ≡ x.kept
+  pub requests : y.requests ≡ x.requests
+  pub hears : y.hears_asks ≡ x.hears_asks
+
+-- Nothing is done but that the wire is handed again some of what is kept.
+pub record Resent {R : Type 0} {G : Ghosts R} (x y : Stand G) : Type 0 where
+  pub replica : y.replica ≡ x.replica
+  pub given : y.given ≡ x.given
+  pub again : HandsAgain x.kept x.handed y.handed
+  pub kept : y.kept ≡ x.kept
+  pub requests : y.requests ≡ x.requests
+  pub hears : y.hears_asks ≡ x.hears_asks
+
+-- the datagram is known to the member
+abbrev pub IsKnownTo : {R : Type 0} {G : Ghosts R} → Stand G → Bytes → Type 0
+IsKnownTo x bytes =
+    IsKnown (group (membership_of x.replica)) (membership_of x.replica).me x.hears_asks x.requests bytes
+
+-- The wire gave a datagram that the node isn't shown, since it is known; some of what is kept may answer it.
+pub record Passed {R : Type 0} {G : Ghosts R} (x y : Stand G) : Type 0 where
+  pub replica : y.replica ≡ x.replica
+  pub bytes : Bytes
+  pub gave : Gives x.given (Some bytes) y.given
+  pub known : IsKnownTo x bytes
+  pub again : HandsAgain x.kept x.handed y.handed
+  pub kept : y.kept ≡ x.kept
+  pub requests : y.requests ≡ x.requests
+  pub hears : y.hears_asks ≡ x.hears_asks
+
+-- Between two turns: the wire gave datagrams that are known, and was handed again some of what is kept.
+pub record Between {R : Type 0} {G : Ghosts R} (x y : Stand G) : Type 0 where
+  pub replica : y.replica ≡ x.replica
+  pub passed : List Bytes
+  pub gave : GrowsBy x.given passed y.given
+  pub known : (bytes : Bytes) → Among passed bytes → IsKnownTo x bytes
+  pub again : HandsAgain x.kept x.handed y.handed
+  pub kept : y.kept ≡ x.kept
+  pub requests : y.requests ≡ x.requests
+  pub hears : y.hears_asks ≡ x.hears_asks
+
+-- n datagrams were taken or passed over, one after the other
+abbrev pub TookAll : {R : Type 0} {G : Ghosts R} → (datagrams : ℕ) → (x y : Stand G) → Type 0
+TookAll zero x y = Same x y
+TookAll {G = G} (suc n) x z = (y : Stand G) × TookAll n x y × (Took y z None ⊎ Passed y z)
+
+-- the clock ticks if that is due
+abbrev pub TickedIf : {R : Type 0} {G : Ghosts R} → Bool → (x y : Stand G) → Type 0
+TickedIf true x y = Ticked x y None
+TickedIf false x y = Same x y
+
+-- n datagrams were taken or passed over; then something was sent again; and then the clock ticked if that was due
+abbrev pub TookThenTicked : {R : Type 0} {G : Ghosts R} → (datagrams : ℕ) → (is_due : Bool) → (x z : Stand G) → Type 0
+TookThenTicked {G = G} n is_due x z =
+    (y : Stand G) × (w : Stand G) × TookAll n x y × Resent y w × TickedIf is_due w z
+
+-- n turns without a fault, one after the other
+abbrev pub Turns : {R : Type 0} {G : Ghosts R} → (turns : ℕ) → (x y : Stand G) → Type 0
+Turns zero x y = Between x y
+Turns {G = G} (suc n) x z = (y : Stand G) × (w : Stand G) × Turns n x y × Turned y w None × Between w z
+
+-- nothing more is done, or a last turn ends with the fault
+abbrev pub Ends : {R : Type 0} {G : Ghosts R} → (x y : Stand G) → (answered : Option NodeFault) → Type 0
+Ends x y None = Between x y
+Ends x y (Some e) = Turned x y (Some e)
+
+-- Turns of the node lead from one to the other, however many, and between them nothing but what is sent again and what
+-- is known; a fault is that of the last of them.
+pub record Served {R : Type 0} {G : Ghosts R} (x z : Stand G) (answered : Option NodeFault) : Type 0 where
+  pub turns : ℕ
+  pub then : Stand G
+  pub made : Turns turns x then
+  pub last : Ends then z answered

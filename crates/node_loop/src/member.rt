@@ -1,0 +1,21 @@
+//! A member's run.
+
+ghost use Rattle.std.specs.Prelude.{◌≡◌, ◌<◌};
+ghost use Rattle.node_loop.specs.Lives.{Runs, Told};
+
+use crate::ended::Ended;
+use pf_node::{Membership, Node};
+use px_records::Records;
+use std::alloc::Global;
+
+/// The run of a member where there is no wire: its record is opened, no turn is made, and it is given back.
+pub fn open_member<R: Records>(alloc: Global, m: Membership, records: R) -> (Ended, R)
+    requires members { R.members records ≡ m.members }
+    requires here { m.me < m.members }
+    ensures { (w : Told) → Runs R.Records m records w w result.0 result.1 }
+{
+    match Node::open(alloc, m, records) {
+        Ok(node) => (Ended::NoWire, node.close()),
+        Err((fault, records)) => (Ended::Fault(fault), records),
+    }
+}

@@ -1,0 +1,526 @@
+//! When a node's clock ticks.
+
+ghost use Rattle.std.specs.Prelude.{◌≡◌, ◌≤◌, ◌<◌, ◌+◌, ◌/◌, None, false, max};
+ghost use Rattle.px_transport.specs.Wires.{Grows};
+ghost use Rattle.node_loop.specs.Timing.Told.{Looks, Sends, Repeats, Ends};
+ghost use Rattle.node_loop.specs.Pacing.{AreTimes, IfTicks, IfWaits, IsShort, answer_of, front_of, hold_of, later};
+ghost use Rattle.node_loop.specs.Pacing.{latest_of, moved_of, patience_of, rest_of, ticked_of};
+
+use crate::pace::Pace;
+use crate::timer::{Beat, Timer, View};
+use std::time::{Clock, Instant};
+
+/// How long a round trip is taken to be before one was measured, in microseconds.
+const FIRST_TRIP: u64 = 20_000;
+
+/// The shortest and the longest time that is taken for a round trip, in microseconds.
+const TRIPS: (u64, u64) = (500, 4_000_000);
+
+/// How long an idle node waits before it asks what it lacks, in microseconds.
+const IDLE: u64 = 1_000_000;
+
+/// How long a member that starts waits to hear how far others are before it takes commands in, in microseconds.
+const START: u64 = 200_000;
+
+/// How long a node that lacks entries takes no commands in while nothing moves its front, in microseconds.
+const BEHIND: u64 = 2_000_000;
+
+/// How long an entry may be on its way behind those that come after it, beside a round trip, in microseconds.
+const GAP: u64 = 1_000;
+
+/// The most times in a row that an attempt's loss doubles the patience.
+const DOUBLINGS: u32 = 6;
+
+/// The most times in a row that a refusal doubles the pause.
+const FEWER_DOUBLINGS: u32 = 3;
+
+/// The longest time that a loss makes of a shorter one, in microseconds.
+const LONGEST: u64 = 4_000_000;
+
+/// How many ticks a round trip has at most while the front stays.
+const TICKS: u64 = 5;
+
+/// How many entries a node may lack that are filled by the votes that it keeps, once it has the first.
+const NEAR: u32 = 48;
+
+/// After how many entries more a node that lacks some asks on.
+const STEP: u32 = 16;
+
+/// The most times that what was sent is sent again while nothing moves the front.
+const REPEATS: u32 = 64;
+
+/// After how many of them the pause grows.
+const SLOWER: u32 = 16;
+
+/// The longest wait, in milliseconds.
+const LONGEST_WAIT: u64 = 100;
+
+impl Pace {
+    /// The pace of a member that starts.
+    pub fn new(me: u8) -> Pace {
+        Pace {
+            me,
+            ticked: 0,
+            asks: 0,
+            hold: 0,
+            rest: 0,
+            moved: 0,
+            reached: 0,
+            reached_at: 0,
+            trip: FIRST_TRIP,
+            answer: FIRST_TRIP,
+            losses: 0,
+            drawn: u64::from(me),
+            repeated: 0,
+            repeats: REPEATS,
+            accepting: 0,
+            is_timed: false,
+            front: 0,
+            asked: 0,
+            is_proposing: false,
+            is_leading: false,
+            is_first: false,
+            is_refused: false,
+            is_quick: false,
+            was_quick: false,
+            is_behind: false,
+            is_ending: false,
+        }
+    }
+
+    /// The accept requests of an attempt were sent.
+    fn accept(&mut self, now: u64)
+        ensures times { AreTimes self.old self.new }
+        ensures me { self.new.me ≡ self.old.me }
+        ensures measured { (self.new.trip ≡ self.old.trip) × (self.new.answer ≡ self.old.answer) }
+        ensures asks { self.new.asks ≡ self.old.asks }
+    {
+        self.repeated = now;
+        self.repeats = 0;
+        self.accepting = now;
+        self.is_timed = true;
+    }
+
+    /// When what was sent is sent again.
+    fn next_repeat(&self) -> u64 {
+        if self.repeats >= REPEATS {
+            return u64::MAX;
+        }
+        let pause = self
+            .answer
+            .saturating_add(self.answer / 2)
+            .saturating_add(5_000);
+        let times = u64::from(self.repeats / SLOWER + 1);
+        self.repeated.saturating_add(pause.saturating_mul(times))
+    }
+
+    /// Nothing that was sent so far is to be sent again.
+    fn forget(&mut self)
+        ensures times { AreTimes self.old self.new }
+        ensures me { self.new.me ≡ self.old.me }
+    {
+        self.repeats = REPEATS;
+        self.is_timed = false;
+    }
+
+    /// The front moved: whatever was attempted led to something.
+    fn end_attempt(&mut self, now: u64)
+        ensures times { AreTimes self.old self.new }
+    {
+        if self.is_proposing {
+            self.succeed(now);
+        } else {
+            self.losses = 0;
+        }
+    }
+
+    /// The front is there now.
+    fn come_on(&mut self, now: u64, front: u32)
+        ensures hold { self.new.hold ≡ now }
+        ensures moved { self.new.moved ≡ now }
+        ensures ticked { self.new.ticked ≡ self.old.ticked }
+        ensures front { self.new.front ≡ front }
+    {
+        self.front = front;
+        self.moved = now;
+        self.hold = now;
+        self.rest = 0;
+        self.repeats = REPEATS;
+        self.is_timed = false;
+        self.is_proposing = false;
+        self.is_refused = false;
+        self.is_quick = false;
+    }
+
+    /// What came of the attempt.
+    fn look(&mut self, now: u64, view: View)
+        ensures hold { self.new.hold ≤ max self.old.hold (now + 4000000) }
+        ensures moved { self.new.moved ≤ max self.old.moved now }
+        ensures ticked { self.new.ticked ≡ self.old.ticked }
+        ensures front { self.new.front ≡ view.front }
+        ensures rest { view.front ≡ self.old.front → self.new.rest ≡ self.old.rest }
+    {
+        if view.front != self.front {
+            self.end_attempt(now);
+            self.come_on(now, view.front);
+        } else if self.is_proposing && !view.is_attempting {
+            self.is_proposing = false;
+            self.forget();
+            self.refused(now);
+        } else if self.is_proposing && view.is_leading && !self.is_leading {
+            self.promised(now);
+        }
+        self.is_leading = view.is_leading;
+    }
+
+    /// A majority has promised, and accept requests went out. Promises are of the round that was begun last, whatever
+    /// was lost before.
+    fn promised(&mut self, now: u64)
+        ensures times { AreTimes self.old self.new }
+    {
+        self.time_answer(now.saturating_sub(self.ticked));
+        self.accept(now);
+    }
+
+    /// Whether others have come further.
+    fn compare(&mut self, now: u64, view: View)
+        ensures moved { self.new.moved ≤ max self.old.moved now }
+        ensures hold { self.new.hold ≡ self.old.hold }
+        ensures rest { self.new.rest ≡ self.old.rest }
+        ensures ticked { self.new.ticked ≡ self.old.ticked }
+        ensures front { self.new.front ≡ self.old.front }
+    {
+        if view.reached > self.reached {
+            self.reached = view.reached;
+            self.reached_at = now;
+        }
+        let is_behind = view.reached > view.front;
+        if is_behind && !self.is_behind {
+            self.moved = now;
+        }
+        self.is_behind = is_behind;
+    }
+
+    /// The time of an attempt: a longer one counts half, a shorter one an eighth.
+    fn measure(&mut self, now: u64)
+        ensures times { AreTimes self.old self.new }
+    {
+        let sample = now.saturating_sub(self.ticked).max(TRIPS.0).min(TRIPS.1);
+        if sample > self.trip {
+            self.trip = self.trip / 2 + sample / 2;
+        } else {
+            self.trip = self.trip - self.trip / 8 + sample / 8;
+        }
+    }
+
+    /// The time that an answer took which was asked for once: it counts half.
+    fn time_answer(&mut self, time: u64)
+        ensures times { AreTimes self.old self.new }
+    {
+        let sample = time.max(TRIPS.0).min(TRIPS.1);
+        self.answer = self.answer / 2 + sample / 2;
+    }
+
+    /// An attempt led to something. If it was begun anew meanwhile nobody knows which of them did, and so not how long
+    /// a round trip is: then the patience stays as long as it has become. In the same way nobody knows how long an
+    /// answer took to what was sent again.
+    fn succeed(&mut self, now: u64)
+        ensures times { AreTimes self.old self.new }
+    {
+        if self.is_timed {
+            self.time_answer(now.saturating_sub(self.accepting));
+        }
+        if self.is_first {
+            self.measure(now);
+            self.losses = 0;
+        }
+    }
+
+    /// An attempt came to nothing.
+    fn lose(&mut self)
+        ensures times { AreTimes self.old self.new }
+        ensures me { self.new.me ≡ self.old.me }
+        ensures measured { (self.new.trip ≡ self.old.trip) × (self.new.answer ≡ self.old.answer) }
+    {
+        self.losses = self.losses.saturating_add(1).min(DOUBLINGS);
+    }
+
+    /// The attempt was refused. The next follows soon where no majority had promised, unless this one was such a next.
+    fn refused(&mut self, now: u64)
+        ensures hold { self.new.hold ≤ now + 4000000 }
+        ensures moved { self.new.moved ≡ self.old.moved }
+        ensures ticked { self.new.ticked ≡ self.old.ticked }
+        ensures front { self.new.front ≡ self.old.front }
+        ensures rest { self.new.rest ≡ self.old.rest }
+    {
+        self.drawn = self.draw(now);
+        self.is_refused = true;
+        self.is_quick = !self.is_leading && !self.was_quick;
+        let wait = if self.is_quick {
+            self.soon()
+        } else {
+            self.lose();
+            self.pause()
+        };
+        self.hold = now.saturating_add(wait);
+    }
+
+    /// A number that is drawn from the last, the time and the member's own number.
+    fn draw(&self, now: u64) -> u64 {
+        self.drawn
+            .wrapping_add(now)
+            .wrapping_mul(6_364_136_223_846_793_005)
+            .wrapping_add(2 * u64::from(self.me) + 1)
+    }
+
+    /// How long a node waits that was refused and knows by what: one to eight eighths of an attempt's time, as drawn.
+    fn soon(&self) -> u64
+        ensures { result ≤ 4000000 }
+    {
+        let part = (self.drawn >> 33) % 8 + 1;
+        (self.trip / 8).saturating_mul(part).min(LONGEST)
+    }
+
+    /// How long a node keeps still that lost the lead: one to sixteen sixteenths, as drawn, of two attempts' time and
+    /// some more. That doubles with each loss, three times at most: a refusal tells nothing of the line, and a longer
+    /// pause leaves a node behind where others go on.
+    fn pause(&self) -> u64
+        ensures { result ≤ 4000000 }
+    {
+        let part = (self.drawn >> 33) % 16 + 1;
+        let most = self.trip.saturating_mul(2).saturating_add(4_000);
+        let times = 2u64.saturating_pow(self.losses.min(FEWER_DOUBLINGS));
+        (most.saturating_mul(times).min(LONGEST) / 16)
+            .saturating_mul(part)
+            .min(LONGEST)
+    }
+
+    /// How long an attempt may take: one that waits for promises is one answer, and those that are lost aren't sent
+    /// again.
+    fn patience(&self) -> u64
+        ensures { result ≤ patience_of self.now }
+    {
+        let some = 20_000 + 5_000 * u64::from(self.me);
+        let trip = if self.is_proposing && !self.is_leading {
+            self.answer
+        } else {
+            self.trip.max(self.answer)
+        };
+        self.longer(trip.saturating_mul(4).saturating_add(some))
+    }
+
+    /// A time that doubles with each loss, up to some seconds.
+    fn longer(&self, time: u64) -> u64
+        ensures { result ≤ max 4000000 time }
+    {
+        time.saturating_mul(2u64.saturating_pow(self.losses))
+            .min(LONGEST)
+            .max(time)
+    }
+
+    /// When a node that lacks entries does something about it: soon after it is seen that its front stands still, and
+    /// then each time after its patience.
+    fn fills(&self) -> u64
+        ensures { result ≤ latest_of self.now }
+    {
+        if self.ticked <= self.moved {
+            self.moved.saturating_add(self.trip).saturating_add(GAP)
+        } else {
+            self.ticked.saturating_add(self.patience())
+        }
+    }
+
+    /// When a node that lacks entries proposes what waits, which takes the lead from who has it: where it lacks few, as
+    /// soon as it would ask for them; where it lacks many, at once if others rest, else after its patience.
+    fn intrudes(&self, now: u64, view: View) -> u64
+        ensures { result ≤ latest_of self.now }
+    {
+        if view.reached.saturating_sub(view.front) <= NEAR {
+            return self.fills();
+        }
+        if now >= self.reached_at.saturating_add(self.patience()) {
+            return self.moved;
+        }
+        self.moved.max(self.ticked).saturating_add(self.patience())
+    }
+
+    /// Whether a node that lacks entries waits for the end of its hold alone: it was refused, and tries again soon, or
+    /// lacks few. Where it lacks many, what it takes from others brings it one entry.
+    fn goes_on(&self, view: View) -> bool {
+        self.is_quick || self.is_refused && view.reached.saturating_sub(view.front) <= NEAR
+    }
+
+    /// When the clock is to tick, by what waits.
+    fn wanted(&self, now: u64, view: View) -> u64
+        ensures latest { result ≤ latest_of self.now }
+        ensures held { 0 < view.waiting → view.is_attempting ≡ false → self.now.hold ≤ result }
+    {
+        if view.is_attempting {
+            return self.ticked.saturating_add(self.patience());
+        }
+        if view.waiting > 0 {
+            return if self.is_behind && !self.goes_on(view) {
+                self.hold.max(self.intrudes(now, view))
+            } else {
+                self.hold
+            };
+        }
+        if !self.is_behind {
+            return self.asks;
+        }
+        if view.is_told || view.front >= self.asked.saturating_add(STEP) {
+            0
+        } else {
+            self.asks.min(self.fills())
+        }
+    }
+
+    /// The same, but not before a part of a round trip is over since it ticked last, unless the front moved.
+    fn due(&self, now: u64, view: View) -> u64
+        ensures latest { result ≤ latest_of self.now }
+        ensures held { 0 < view.waiting → view.is_attempting ≡ false → self.now.hold ≤ result }
+        ensures rest { self.now.rest ≤ result }
+    {
+        self.wanted(now, view).max(self.rest)
+    }
+
+    /// The clock has ticked now.
+    fn ticked(&mut self, now: u64)
+        ensures hold { self.new.hold ≡ self.old.hold }
+        ensures moved { self.new.moved ≡ self.old.moved }
+        ensures front { self.new.front ≡ self.old.front }
+        ensures ticked { self.new.ticked ≡ now }
+        ensures rest { self.new.rest ≡ later now (self.new.answer / 5) }
+    {
+        let asks = now.saturating_add(IDLE);
+        let rest = now.saturating_add(self.answer / TICKS);
+        self.ticked = now;
+        self.asks = asks;
+        self.rest = rest;
+    }
+
+    /// What was seen as it ticked, and whether it proposes, is noted.
+    fn note(&mut self, view: View)
+        ensures times { AreTimes self.old self.new }
+    {
+        self.is_first = !view.is_attempting;
+        self.is_proposing = view.waiting > 0;
+        self.was_quick = self.is_quick;
+        self.is_refused = false;
+        self.is_quick = false;
+        self.asked = view.front;
+    }
+
+    /// An attempt that was under way is given up.
+    fn give_up(&mut self, view: View)
+        ensures times { AreTimes self.old self.new }
+    {
+        if view.is_attempting {
+            self.lose();
+            self.is_leading = false;
+        }
+    }
+
+    /// Whether accept requests go out with this tick is noted.
+    fn begin(&mut self, now: u64, view: View)
+        ensures times { AreTimes self.old self.new }
+    {
+        if view.waiting > 0 && self.is_leading {
+            self.accept(now);
+        } else {
+            self.is_timed = false;
+        }
+    }
+
+    /// The clock ticks.
+    fn tick(&mut self, now: u64, view: View)
+        ensures hold { self.new.hold ≡ self.old.hold }
+        ensures moved { self.new.moved ≡ self.old.moved }
+        ensures front { self.new.front ≡ self.old.front }
+        ensures ticked { self.new.ticked ≡ now }
+        ensures rest { self.new.rest ≡ later now (self.new.answer / 5) }
+    {
+        self.give_up(view);
+        self.note(view);
+        self.begin(now, view);
+        self.ticked(now);
+    }
+}
+
+impl Timer for Pace {
+    ghost told = { λ p. None };
+
+    fn beat(&mut self, now: u64, view: View) -> Beat
+        ensures told { Grows None (Looks now view) None }
+        // The clock ticks in time, whatever is seen.
+        ensures latest { IfWaits result (now < latest_of self.new) }
+        ensures wait { IsShort result }
+        // No hold is set more than 4 s ahead, and nothing is proposed before it is over.
+        ensures hold { hold_of self.new ≤ max (hold_of self.old) (now + LONGEST) }
+        ensures held { IfTicks result (0 < view.waiting → view.is_attempting ≡ false → hold_of self.new ≤ now) }
+        ensures moved { moved_of self.new ≤ max (moved_of self.old) now }
+        // While the front stays, the clock ticks once in a fifth of the time that an answer takes, at most.
+        ensures front { front_of self.new ≡ view.front }
+        ensures rested { IfTicks result (view.front ≡ front_of self.old → rest_of self.old ≤ now) }
+        ensures rests { IfTicks result (rest_of self.new ≡ later now (answer_of self.new / TICKS)) }
+        ensures ticked { IfTicks result (ticked_of self.new ≡ now) }
+        ensures waits { IfWaits result (view.front ≡ front_of self.old → rest_of self.new ≡ rest_of self.old) }
+        ensures still { IfWaits result (ticked_of self.new ≡ ticked_of self.old) }
+    {
+        self.look(now, view);
+        self.compare(now, view);
+        let due = self.due(now, view);
+        if now >= due {
+            self.tick(now, view);
+            return Beat::Tick;
+        }
+        let left = due.min(self.next_repeat()).saturating_sub(now);
+        let milliseconds = left / 1_000 + 1;
+        Beat::Wait(milliseconds.min(LONGEST_WAIT) as u32)
+    }
+
+    fn sent(&mut self, now: u64)
+        ensures told { Grows None (Sends now) None }
+        ensures times { AreTimes self.old self.new }
+    {
+        self.repeated = now;
+        self.repeats = 0;
+        self.is_timed = false;
+    }
+
+    fn repeats(&mut self, now: u64) -> bool
+        ensures told { Grows None (Repeats now) None }
+        ensures times { AreTimes self.old self.new }
+    {
+        if now < self.next_repeat() {
+            return false;
+        }
+        self.repeated = now;
+        self.repeats = self.repeats.saturating_add(1);
+        self.answer = self.answer.saturating_add(self.answer / 32).min(TRIPS.1);
+        self.is_timed = false;
+        true
+    }
+
+    fn end(&mut self)
+        ensures told { Grows None Ends None }
+        ensures times { AreTimes self.old self.new }
+    {
+        self.is_ending = true;
+    }
+
+    fn is_listening(&self, now: u64) -> bool {
+        let is_told = self.is_behind && now < self.moved.saturating_add(BEHIND);
+        now < START || is_told || self.is_ending
+    }
+}
+
+/// The time since a reading of the clock, in microseconds; none has passed where the clock can't be read.
+pub fn microseconds<C: Clock>(clock: &C, start: Option<Instant>) -> u64 {
+    match (start, Instant::now(clock)) {
+        (Some(start), Ok(now)) => {
+            u64::try_from(now.duration_since(start).as_micros()).unwrap_or(u64::MAX)
+        }
+        _ => 0,
+    }
+}

@@ -1,0 +1,57 @@
+//! What one turn after another uses.
+
+ghost use Rattle.std.specs.Prelude.{◌≡◌, [], IfOk, length};
+ghost use Rattle.node_loop.specs.Resends.{kept_of, requests_of};
+
+use crate::counts::RoundCounts;
+use crate::sight::Sight;
+use px_replica::Datagram;
+use crate::resender::Resender;
+use px_wire::{Head, Membership};
+use std::alloc::{AllocError, Global};
+
+/// One byte more than the longest datagram has with a tag of 32 bytes behind it, so that a longer one is never taken
+/// for a whole one.
+const ROOM_BYTES: usize = 33_057;
+
+/// How many datagrams are taken in a round at most.
+const HEADS: usize = 64;
+
+/// Room for the datagram that comes in a turn, and for what is sent; and what is sent again, what was seen of other
+/// members, and what went over the wire. It is kept from turn to turn: no turn clears the bytes of an earlier one,
+/// which remain behind what came.
+#[derive(Drop)]
+pub struct Room {
+    pub(crate) bytes: Vec<u8>,
+    pub(crate) out: Vec<Datagram>,
+    /// What was seen of other members.
+    pub(crate) sight: Sight,
+    /// The heads of the messages that were taken in the last round.
+    pub(crate) heads: Vec<Head>,
+    pub(crate) resender: Resender,
+    /// Whether asks from outside are heard.
+    pub(crate) hears_asks: bool,
+    pub(crate) counts: RoundCounts,
+    ghost whole: { length bytes.items ≡ 33057 },
+}
+
+impl Room {
+    /// Takes the room once, of 33,057 bytes and 64 heads, for this member; whether asks from outside are heard.
+    pub fn new(alloc: Global, m: &Membership, hears_asks: bool) -> Result<Room, AllocError>
+        ensures kept { IfOk result (λ r. kept_of r.resender ≡ []) }
+        ensures requests { IfOk result (λ r. requests_of r.resender ≡ []) }
+        ensures hears { IfOk result (λ r. r.hears_asks ≡ hears_asks) }
+    {
+        let bytes = vec![in alloc; 0; ROOM_BYTES]?;
+        let heads = Vec::with_capacity(alloc, HEADS)?;
+        Ok(Room {
+            bytes,
+            out: Vec::new(alloc),
+            sight: Sight::new(),
+            heads,
+            resender: Resender::new(alloc, m.members(), m.me()),
+            hears_asks,
+            counts: RoundCounts::new(m.me()),
+        })
+    }
+}

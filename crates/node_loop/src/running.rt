@@ -1,0 +1,242 @@
+//! A node that runs.
+
+ghost use Rattle.std.specs.Prelude.{◌≡◌, ◌≤◌, ℕ, Bool, IfOk};
+ghost use Rattle.px_replica.specs.Faults.{fault_of};
+ghost use Rattle.px_transport.specs.Wires.{GrowsBy};
+ghost use Rattle.node_loop.specs.Again.{HandsAgain};
+ghost use Rattle.node_loop.specs.Resends.{kept_of, requests_of};
+ghost use Rattle.pf_node.specs.Nodes.{applied_of, replica_of};
+ghost use Rattle.node_loop.specs.Progress.{looked, seen_in};
+ghost use Rattle.node_loop.specs.Timing.{SawThenLooked, looks, view_of};
+ghost use Rattle.node_loop.specs.Turns.{Served, TickedIf, TookThenTicked, standing};
+
+use crate::pacing::microseconds;
+use crate::room::Room;
+use crate::serving::{drain, tick_now};
+use crate::sight::Sight;
+use crate::timer::{Beat, Timer, View};
+use pf_node::Node;
+use px_records::Records;
+use px_replica::NodeFault;
+use crate::resender::Resender;
+use px_transport::Wire;
+use std::time::{Clock, Instant};
+
+/// How many datagrams are taken before it is looked whether the clock is to tick.
+const MOST: u32 = 64;
+
+/// How many members there are at most.
+const MEMBERS: u8 = 15;
+
+/// How many rounds a node makes at most to work off what waits when it ends.
+const LAST_ROUNDS: u32 = 3_000;
+
+/// What is seen of the node, whose front was there before.
+fn view_of<R: Records>(node: &Node<R>, room: &Room, was: u32) -> View
+    ensures { result ≡ view_of (replica_of node.now) was (seen_in room.now) }
+{
+    View {
+        waiting: node.waiting(),
+        is_attempting: node.is_attempting(),
+        is_leading: node.is_leading(),
+        front: node.front(),
+        is_told: room.sight.is_told && node.front() != was,
+        reached: room.sight.reached,
+    }
+}
+
+/// What a round came to.
+#[derive(Clone, Copy, PartialEq, Eq)]
+pub struct Progress {
+    /// For how many turns it counts, 1 at least: each datagram is one, a tick, and a wait.
+    pub turns: u32,
+    /// How many milliseconds may be waited for a datagram before the next round, 0 to 100.
+    pub wait: u32,
+}
+
+/// The clock ticks if it is to, after so many datagrams; else it is waited, unless the member was handed own votes.
+fn tick_if<R: Records, W: Wire>(
+    node: &mut Node<R>,
+    wire: &mut W,
+    room: &mut Room,
+    beat: Beat,
+    taken: u32,
+    has_own: bool,
+) -> Result<Progress, NodeFault>
+    ensures served { Served (standing W.Wire node.old wire.old room.old) (standing W.Wire node.new wire.new room.new)
+        (fault_of result) }
+    ensures ticked { IfOk result (λ p. (is_due : Bool) × TickedIf is_due (standing W.Wire node.old wire.old room.old)
+        (standing W.Wire node.new wire.new room.new)) }
+    ensures unseen { seen_in room.new ≡ seen_in room.old }
+    ensures grows { applied_of node.old ≤ applied_of node.new }
+{
+    match beat {
+        Beat::Tick => match tick_now(node, wire, room) {
+            Ok(()) => Ok(Progress {
+                turns: taken.saturating_add(1),
+                wait: 0,
+            }),
+            Err(fault) => Err(fault),
+        },
+        Beat::Wait(milliseconds) => Ok(Progress {
+            turns: taken.max(1),
+            wait: if taken == 0 && !has_own {
+                milliseconds
+            } else {
+                0
+            },
+        }),
+    }
+}
+
+/// What the clock does, by what has come.
+fn beat<T: Timer>(timer: &mut T, sight: &mut Sight, now: u64, view: View) -> Beat
+    ensures looked { sight.new ≡ looked sight.old }
+    ensures told { GrowsBy (T.told timer.old) (looks now view sight.old) (T.told timer.new) }
+{
+    let beat = timer.beat(now, view);
+    if sight.is_accepting {
+        timer.sent(now);
+    }
+    *sight = sight.looked();
+    beat
+}
+
+/// Members that told that they lack entries below the front are sent again what was sent to them of those.
+fn remind<W: Wire>(wire: &mut W, resender: &mut Resender, sight: &Sight, front: u32)
+    ensures again { HandsAgain (kept_of resender.old) (W.handed wire.old) (W.handed wire.new) }
+    ensures given { W.given wire.new ≡ W.given wire.old }
+    ensures kept { kept_of resender.new ≡ kept_of resender.old }
+    ensures requests { requests_of resender.new ≡ requests_of resender.old }
+{
+    for member in 0..MEMBERS {
+        if let Some(position) = sight.lacks(member, front) {
+            resender.repeat_to(wire, member, position);
+        }
+    }
+}
+
+/// The same; and what was sent of the positions from the front on is sent again, if that is due.
+fn repeat<W: Wire>(wire: &mut W, resender: &mut Resender, sight: &Sight, is_due: bool, front: u32)
+    ensures again { HandsAgain (kept_of resender.old) (W.handed wire.old) (W.handed wire.new) }
+    ensures given { W.given wire.new ≡ W.given wire.old }
+    ensures kept { kept_of resender.new ≡ kept_of resender.old }
+    ensures requests { requests_of resender.new ≡ requests_of resender.old }
+{
+    remind(wire, resender, sight, front);
+    if is_due {
+        resender.repeat(wire, front);
+    }
+}
+
+/// A member that others have passed is handed its own votes again that its window has reached: whether there were any.
+fn recall<W: Wire>(wire: &mut W, resender: &mut Resender, sight: &Sight, front: u32) -> bool
+    ensures again { HandsAgain (kept_of resender.old) (W.handed wire.old) (W.handed wire.new) }
+    ensures given { W.given wire.new ≡ W.given wire.old }
+    ensures kept { kept_of resender.new ≡ kept_of resender.old }
+    ensures requests { requests_of resender.new ≡ requests_of resender.old }
+{
+    if sight.reached > front {
+        return resender.repeat_own(wire, front);
+    }
+    false
+}
+
+/// Both: whether the member was handed any of its own votes.
+fn resend<W: Wire>(
+    wire: &mut W,
+    resender: &mut Resender,
+    sight: &Sight,
+    is_due: bool,
+    front: u32,
+) -> bool
+    ensures again { HandsAgain (kept_of resender.old) (W.handed wire.old) (W.handed wire.new) }
+    ensures given { W.given wire.new ≡ W.given wire.old }
+    ensures kept { kept_of resender.new ≡ kept_of resender.old }
+    ensures requests { requests_of resender.new ≡ requests_of resender.old }
+{
+    repeat(wire, resender, sight, is_due, front);
+    recall(wire, resender, sight, front)
+}
+
+/// Begins a round at this time: nothing went over the wire in it.
+fn begin(room: &mut Room, now: u64)
+    ensures kept { kept_of room.new.resender ≡ kept_of room.old.resender }
+    ensures requests { requests_of room.new.resender ≡ requests_of room.old.resender }
+    ensures hears { room.new.hears_asks ≡ room.old.hears_asks }
+    ensures unseen { seen_in room.new ≡ seen_in room.old }
+{
+    room.counts = room.counts.next();
+    room.resender.set_time(now);
+}
+
+/// What has come is taken, 64 datagrams at most; then the clock ticks where the timer says so, which is told of it what
+/// those datagrams left to see and nothing else. These are turns of the
+/// node and nothing else. Answers how long may be waited before the next round.
+///
+/// A request that came before and is answered by what is kept isn't shown to the node, nor is an ask where asks aren't
+/// heard. What was sent and may be lost, or is lacked by a member that told so, is sent again.
+///
+/// `now` is the time in microseconds since the node started, which never goes back. The faults are those of
+/// [`Node::receive`] and [`Node::tick`]; after one nothing is to be sent.
+pub fn round<R: Records, W: Wire, T: Timer>(
+    node: &mut Node<R>,
+    wire: &mut W,
+    room: &mut Room,
+    timer: &mut T,
+    now: u64,
+) -> Result<Progress, NodeFault>
+    ensures served { Served (standing W.Wire node.old wire.old room.old) (standing W.Wire node.new wire.new room.new)
+        (fault_of result) }
+    ensures took { IfOk result (λ p. (n : ℕ) × (is_due : Bool) × TookThenTicked n is_due
+        (standing W.Wire node.old wire.old room.old) (standing W.Wire node.new wire.new room.new)) }
+    ensures saw { IfOk result (λ p. (n : ℕ) × SawThenLooked n now (standing W.Wire node.old wire.old room.old)
+        (seen_in room.old) (seen_in room.new) (T.told timer.old) (T.told timer.new)) }
+    ensures grows { applied_of node.old ≤ applied_of node.new }
+{
+    let was = node.front();
+    begin(room, now);
+    let taken = match drain(node, wire, room, MOST) {
+        Ok(taken) => taken,
+        Err(fault) => return Err(fault),
+    };
+    let seen = room.sight;
+    let view = view_of(node, room, was);
+    let beat = beat(timer, &mut room.sight, now, view);
+    let is_due = timer.repeats(now);
+    let has_own = resend(wire, &mut room.resender, &seen, is_due, node.front());
+    tick_if(node, wire, room, beat, taken, has_own)
+}
+
+/// Works off what waits to be proposed, before the node ends: rounds until nothing waits, 3,000 at most, of which one
+/// with a wait counts for its milliseconds. These are turns of the node and nothing else.
+///
+/// `start` is when the node started by this clock. The faults are those of [`Node::receive`] and [`Node::tick`].
+pub fn finish<R: Records, W: Wire, T: Timer, C: Clock>(
+    node: &mut Node<R>,
+    wire: &mut W,
+    room: &mut Room,
+    timer: &mut T,
+    clock: &C,
+    start: Option<Instant>,
+) -> Result<(), NodeFault>
+    ensures served { Served (standing W.Wire node.old wire.old room.old) (standing W.Wire node.new wire.new room.new)
+        (fault_of result) }
+    ensures grows { applied_of node.old ≤ applied_of node.new }
+{
+    timer.end();
+    let mut left = LAST_ROUNDS;
+    for _round in 0..LAST_ROUNDS {
+        if left == 0 || node.waiting() == 0 {
+            return Ok(());
+        }
+        match round(node, wire, room, timer, microseconds(clock, start)) {
+            Ok(made) => {
+                wire.wait(made.wait);
+                left = left.saturating_sub(made.wait.max(1));
+            }
+            Err(fault) => return Err(fault),
+        }
+    }
+    Ok(())
+}

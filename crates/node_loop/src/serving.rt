@@ -1,0 +1,247 @@
+//! What a node does between two waits.
+
+ghost use Rattle.std.specs.Prelude.{◌≡◌, ◌≢◌, ◌≤◌, ◌<◌, ◌++◌, [], ◌∷◌, ℕ, IfOk, IfSome, None, Some, length};
+ghost use Rattle.std.specs.Prelude.{IsTrue, false};
+ghost use Rattle.std.specs.Prelude.{option_map, take, vec_len, vec_capacity};
+ghost use Rattle.px_replica.specs.Faults.{fault_of};
+ghost use Rattle.px_wire.specs.Message.{Group, Message, DatagramBytes};
+ghost use Rattle.px_wire.specs.Heads.{head_of};
+ghost use Rattle.pf_node.specs.Nodes.{replica_of, applied_of, membership_of};
+ghost use Rattle.px_transport.specs.Wires.{Gives};
+ghost use Rattle.node_loop.specs.Again.{AreAmong, HandsAgain};
+ghost use Rattle.node_loop.specs.Resends.{kept_of, requests_of};
+ghost use Rattle.node_loop.specs.Progress.{IsFrom, heads_in, IsNobodys, SawAll, seen_in, shown_by};
+ghost use Rattle.node_loop.specs.Turns.{Acts, Ticked, Served, standing};
+ghost use Rattle.node_loop.specs.Resending.{IsKnown};
+ghost use Rattle.node_loop.specs.inner.Turns.{SawIf};
+
+use crate::counts::RoundCounts;
+use crate::room::Room;
+use crate::sight::Sight;
+use crate::turning::{act, came, send_all};
+use pf_entry::ASKER;
+use pf_node::Node;
+use px_records::Records;
+use px_replica::{Datagram, NodeFault, Received};
+use crate::resender::Resender;
+use px_transport::Wire;
+use px_wire::Head;
+
+impl Room {
+    /// The heads of the messages that the node took in its last [`round`](crate::round), in order, for whoever counts
+    /// them. A datagram that it ignored, or was passed over, has none here, and neither has one for whose head memory
+    /// ran out.
+    pub fn heads(&self) -> &[Head]
+        ensures { result.now ≡ heads_in self.now }
+    {
+        self.heads.as_slice()
+    }
+
+    /// What went over the wire in the last round.
+    pub fn counts(&self) -> &RoundCounts {
+        &self.counts
+    }
+}
+
+/// Takes a datagram that has come, which is written over the front of the bytes.
+fn poll<W: Wire>(wire: &mut W, bytes: &mut Vec<u8>) -> Option<usize>
+    ensures fits { IfSome result (λ n. n ≤ length bytes.new.items) }
+    ensures given { Gives (W.given wire.old) (option_map (λ n. take n bytes.new.items) result) (W.given wire.new) }
+    ensures quiet { W.handed wire.new ≡ W.handed wire.old }
+    ensures whole { length bytes.new.items ≡ length bytes.old.items }
+{
+    wire.poll(bytes.as_mut_slice())
+}
+
+/// The clock ticks, whatever has come, and what is to be sent is handed to the wire: a turn for which nothing came.
+pub fn tick_now<R: Records, W: Wire>(
+    node: &mut Node<R>,
+    wire: &mut W,
+    room: &mut Room,
+) -> Result<(), NodeFault>
+    ensures ticked { Ticked (standing W.Wire node.old wire.old room.old) (standing W.Wire node.new wire.new room.new)
+        (fault_of result) }
+    ensures unseen { seen_in room.new ≡ seen_in room.old }
+    ensures grows { applied_of node.old ≤ applied_of node.new }
+{
+    room.out.clear();
+    let result = act(node, None, &mut room.out);
+    send_all(
+        wire,
+        room.out.as_slice(),
+        &mut room.resender,
+        &mut room.counts,
+    );
+    result
+}
+
+/// What was taken is noted by its head: what that shows of its sender, the head itself, where there is memory, and a
+/// request that may come again.
+fn note(sight: &mut Sight, heads: &mut Vec<Head>, resender: &mut Resender, bytes: &[u8])
+    ensures kept { kept_of resender.new ≡ kept_of resender.old }
+    ensures requests { AreAmong (requests_of resender.new) (requests_of resender.old ++ bytes.now ∷ []) }
+    ensures shown { (g : Group) (from to : ℕ) (message : Message) → DatagramBytes g from to message bytes.now →
+        sight.new ≡ shown_by (head_of from to message) sight.old }
+    ensures heard { vec_len heads.old < vec_capacity heads.old →
+        (g : Group) (from to : ℕ) (message : Message) → DatagramBytes g from to message bytes.now →
+        heads.new.items ≡ heads.old.items ++ head_of from to message ∷ [] }
+{
+    let Some(head) = Head::read(bytes) else {
+        return;
+    };
+    *sight = sight.after(&head);
+    resender.took(&head, bytes);
+    let _kept = heads.push(head);
+}
+
+/// What came is received, and what its message shows of its sender is noted. A datagram that spells no message for this
+/// member changes nothing of that.
+fn receive<R: Records>(
+    node: &mut Node<R>,
+    sight: &mut Sight,
+    heads: &mut Vec<Head>,
+    resender: &mut Resender,
+    bytes: &[u8],
+    out: &mut Vec<Datagram>,
+) -> Result<(), NodeFault>
+    requires { out.old.items ≡ [] }
+    ensures kept { kept_of resender.new ≡ kept_of resender.old }
+    ensures requests { AreAmong (requests_of resender.new) (requests_of resender.old ++ bytes.now ∷ []) }
+    ensures acts { Acts (replica_of node.old) (replica_of node.new) (Some bytes.now) out.new.items (fault_of result) }
+    ensures grows { applied_of node.old ≤ applied_of node.new }
+    ensures nobodys { IsNobodys (replica_of node.old) bytes.now → sight.new ≡ sight.old }
+    ensures unheard { IsNobodys (replica_of node.old) bytes.now → heads.new.items ≡ heads.old.items }
+    ensures shown { fault_of result ≡ None → (from : ℕ) (message : Message) →
+        IsFrom (replica_of node.old) from message bytes.now →
+        sight.new ≡ shown_by (head_of from (membership_of node.old).me message) sight.old }
+    ensures heard { fault_of result ≡ None → vec_len heads.old < vec_capacity heads.old →
+        (from : ℕ) (message : Message) → IsFrom (replica_of node.old) from message bytes.now →
+        heads.new.items ≡ heads.old.items ++ head_of from (membership_of node.old).me message ∷ [] }
+{
+    match node.receive(bytes, out) {
+        Ok(Received::Done) => {
+            note(sight, heads, resender, bytes);
+            Ok(())
+        }
+        Ok(Received::Ignored(_)) => Ok(()),
+        Err(fault) => Err(fault),
+    }
+}
+
+/// Whether a datagram is of one who is no member, by its head.
+fn is_outside(bytes: &[u8]) -> bool
+    ensures outside { IsTrue result → (g : Group) (from to : ℕ) (message : Message) →
+        DatagramBytes g from to message bytes.now → from ≡ 255 }
+    ensures inside { result ≡ false → (g : Group) (from to : ℕ) (message : Message) →
+        DatagramBytes g from to message bytes.now → from ≢ 255 }
+{
+    match Head::read(bytes) {
+        Some(head) => head.from == ASKER,
+        None => false,
+    }
+}
+
+/// Whether a datagram that has come isn't shown to the node: an ask where these aren't heard, or the request that was
+/// taken last, which what is kept answers.
+fn passes_over<W: Wire>(
+    wire: &mut W,
+    resender: &mut Resender,
+    counts: &mut RoundCounts,
+    hears_asks: bool,
+    bytes: &[u8],
+) -> bool
+    ensures known { IsTrue result → (g : Group) (me : ℕ) →
+        IsKnown g me hears_asks (requests_of resender.old) bytes.now }
+    ensures members { result ≡ false → hears_asks ≡ false → (g : Group) (from to : ℕ) (message : Message) →
+        DatagramBytes g from to message bytes.now → from ≢ 255 }
+    ensures again { HandsAgain (kept_of resender.old) (W.handed wire.old) (W.handed wire.new) }
+    ensures others { result ≡ false → W.handed wire.new ≡ W.handed wire.old }
+    ensures given { W.given wire.new ≡ W.given wire.old }
+    ensures kept { kept_of resender.new ≡ kept_of resender.old }
+    ensures requests { requests_of resender.new ≡ requests_of resender.old }
+{
+    if !hears_asks && is_outside(bytes) {
+        counts.dropped = counts.dropped.saturating_add(1);
+        return true;
+    }
+    let is_answered = resender.answers(wire, bytes);
+    if is_answered {
+        counts.answered = counts.answered.saturating_add(1);
+    }
+    is_answered
+}
+
+/// One datagram that has come is taken, or passed over: whether there was one.
+fn take_one<R: Records, W: Wire>(
+    node: &mut Node<R>,
+    wire: &mut W,
+    room: &mut Room,
+) -> Result<bool, NodeFault>
+    ensures served { Served (standing W.Wire node.old wire.old room.old) (standing W.Wire node.new wire.new room.new)
+        (fault_of result) }
+    ensures saw { IfOk result (λ had. SawIf had (standing W.Wire node.old wire.old room.old)
+        (standing W.Wire node.new wire.new room.new) (seen_in room.old) (seen_in room.new)) }
+    ensures grows { applied_of node.old ≤ applied_of node.new }
+{
+    room.out.clear();
+    let len = poll(wire, &mut room.bytes);
+    let Some(bytes) = came(&room.bytes, len) else {
+        return Ok(false);
+    };
+    room.counts.count_in(bytes.len());
+    if passes_over(
+        wire,
+        &mut room.resender,
+        &mut room.counts,
+        room.hears_asks,
+        bytes,
+    ) {
+        return Ok(true);
+    }
+    let result = receive(
+        node,
+        &mut room.sight,
+        &mut room.heads,
+        &mut room.resender,
+        bytes,
+        &mut room.out,
+    );
+    send_all(
+        wire,
+        room.out.as_slice(),
+        &mut room.resender,
+        &mut room.counts,
+    );
+    match result {
+        Ok(()) => Ok(true),
+        Err(fault) => Err(fault),
+    }
+}
+
+/// Takes what has come, one datagram after the other, so many at most: how many there were. What is seen of other
+/// members comes from those alone that spell a message for this one. Their heads are kept until the next such call.
+pub(crate) fn drain<R: Records, W: Wire>(
+    node: &mut Node<R>,
+    wire: &mut W,
+    room: &mut Room,
+    most: u32,
+) -> Result<u32, NodeFault>
+    ensures served { Served (standing W.Wire node.old wire.old room.old) (standing W.Wire node.new wire.new room.new)
+        (fault_of result) }
+    ensures saw { IfOk result (λ n. SawAll n (standing W.Wire node.old wire.old room.old)
+        (standing W.Wire node.new wire.new room.new) (seen_in room.old) (seen_in room.new)) }
+    ensures grows { applied_of node.old ≤ applied_of node.new }
+{
+    room.heads.clear();
+    for taken in 0..most {
+        match take_one(node, wire, room) {
+            Ok(had) => {
+                if !had {
+                    return Ok(taken);
+                }
+            }
+            Err(fault) => return Err(fault),
+        }
+    }
+    Ok(most)
+}

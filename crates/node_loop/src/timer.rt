@@ -1,0 +1,59 @@
+//! What a node asks when its clock ticks.
+
+ghost use Rattle.std.specs.Prelude.{◌≡◌, ℕ, List, Option};
+ghost use Rattle.px_transport.specs.Wires.{Grows};
+ghost use Rattle.node_loop.specs.Timing.{Told};
+ghost use Rattle.node_loop.specs.Timing.Told.{Looks, Sends, Repeats, Ends};
+
+/// What is seen of a node when it is to be decided whether its clock ticks.
+#[derive(Clone, Copy, PartialEq, Eq)]
+pub struct View {
+    /// How many commands wait to be proposed.
+    pub waiting: usize,
+    /// Whether an attempt is under way.
+    pub is_attempting: bool,
+    /// Whether a majority has promised: then what an attempt waits for is votes.
+    pub is_leading: bool,
+    /// The least position not learned.
+    pub front: u32,
+    /// Whether an entry that was asked for has come since the last look.
+    pub is_told: bool,
+    /// A position below which another member has learned all, as far as is seen.
+    pub reached: u32,
+}
+
+/// What a node does next.
+#[derive(Clone, Copy, PartialEq, Eq)]
+pub enum Beat {
+    /// Its clock ticks.
+    Tick,
+    /// It waits for a datagram, so many milliseconds at most, 1 to 100.
+    Wait(u32),
+}
+
+/// When a node's clock ticks, and when what was sent is sent again. It decides by what it is told here and by nothing
+/// else. Times are in microseconds since the node started, and never go back.
+pub trait Timer {
+    // what it was told so far, where it tells
+    ghost told: { Self → Option (List Told) };
+
+    /// What the node does next, at this time, where this is seen of it.
+    fn beat(&mut self, now: u64, view: View) -> Beat
+        ensures told { Grows (told self.old) (Looks now view) (told self.new) };
+
+    /// Votes for what another proposes were sent, which may be lost.
+    fn sent(&mut self, now: u64)
+        ensures told { Grows (told self.old) (Sends now) (told self.new) };
+
+    /// Whether the accept requests and votes that were sent of the front's position are sent again now, since they may
+    /// be lost. It is asked after [`Timer::beat`], at the same time.
+    fn repeats(&mut self, now: u64) -> bool
+        ensures told { Grows (told self.old) (Repeats now) (told self.new) };
+
+    /// From now on the node takes no command in.
+    fn end(&mut self)
+        ensures told { Grows (told self.old) Ends (told self.new) };
+
+    /// Whether the node listens, and takes no command in.
+    fn is_listening(&self, now: u64) -> bool;
+}

@@ -1,0 +1,103 @@
+//! One turn of a node over a wire.
+
+ghost use Rattle.std.specs.Prelude.{◌≡◌, ◌≤◌, ◌++◌, [], option_map, length, take, IfSome};
+ghost use Rattle.px_replica.specs.Faults.{fault_of};
+ghost use Rattle.pf_node.specs.Nodes.{replica_of, applied_of};
+ghost use Rattle.px_transport.specs.Wires.{GrowsBy, Gives};
+ghost use Rattle.node_loop.specs.Again.{AreAmong};
+ghost use Rattle.node_loop.specs.Resends.{kept_of, requests_of};
+ghost use Rattle.node_loop.specs.Turns.{Acts, Turned, handed_over, standing};
+
+use crate::counts::RoundCounts;
+use crate::room::Room;
+use pf_node::Node;
+use px_records::Records;
+use px_replica::{Datagram, NodeFault};
+use crate::resender::Resender;
+use px_transport::Wire;
+
+/// Hands the datagrams to the wire, each once, in order, and shows them to the resender. One that isn't sent is lost.
+pub(crate) fn send_all<W: Wire>(
+    wire: &mut W,
+    out: &[Datagram],
+    resender: &mut Resender,
+    counts: &mut RoundCounts,
+)
+    ensures handed { GrowsBy (W.handed wire.old) (handed_over out.now) (W.handed wire.new) }
+    ensures given { W.given wire.new ≡ W.given wire.old }
+    ensures kept { AreAmong (kept_of resender.new) (kept_of resender.old ++ handed_over out.now) }
+    ensures requests { requests_of resender.new ≡ requests_of resender.old }
+{
+    for datagram in out {
+        let bytes = datagram.bytes.as_slice();
+        let is_sent = wire.send(datagram.to, bytes);
+        counts.count_out(datagram.to, bytes.len(), is_sent);
+        let _kept = resender.keep(datagram.to, bytes);
+    }
+}
+
+/// Waits for a datagram, which is written over the front of the bytes.
+fn hear<W: Wire>(wire: &mut W, bytes: &mut Vec<u8>) -> Option<usize>
+    ensures fits { IfSome result (λ n. n ≤ length bytes.new.items) }
+    ensures given { Gives (W.given wire.old) (option_map (λ n. take n bytes.new.items) result) (W.given wire.new) }
+    ensures quiet { W.handed wire.new ≡ W.handed wire.old }
+    ensures whole { length bytes.new.items ≡ length bytes.old.items }
+{
+    wire.recv(bytes.as_mut_slice())
+}
+
+/// The front of the room, as long as what came; none where nothing came.
+pub(crate) fn came(room: &[u8], len: Option<usize>) -> Option<&[u8]>
+    requires { IfSome len (λ n. n ≤ length room.now) }
+    ensures { option_map (λ b. b.now) result ≡ option_map (λ n. take n room.now) len }
+{
+    match len {
+        Some(n) => Some(&room[..n]),
+        None => None,
+    }
+}
+
+/// One call of a node, for a datagram or for none.
+pub(crate) fn act<R: Records>(
+    node: &mut Node<R>,
+    came: Option<&[u8]>,
+    out: &mut Vec<Datagram>,
+) -> Result<(), NodeFault>
+    requires { out.old.items ≡ [] }
+    ensures acts { Acts (replica_of node.old) (replica_of node.new) (option_map (λ b. b.now) came.entry) out.new.items
+        (fault_of result) }
+    ensures grows { applied_of node.old ≤ applied_of node.new }
+{
+    match came {
+        Some(bytes) => match node.receive(bytes, out) {
+            Ok(_) => Ok(()),
+            Err(fault) => Err(fault),
+        },
+        None => node.tick(out),
+    }
+}
+
+/// One turn: what comes is taken, else the clock ticks; then what is to be sent is handed to the wire, each datagram
+/// once, in order. Whether it was sent changes nothing.
+///
+/// The faults are those of [`Node::receive`] and [`Node::tick`]; after one nothing is to be sent.
+pub fn turn<R: Records, W: Wire>(
+    node: &mut Node<R>,
+    wire: &mut W,
+    room: &mut Room,
+) -> Result<(), NodeFault>
+    ensures turned { Turned (standing W.Wire node.old wire.old room.old) (standing W.Wire node.new wire.new room.new)
+        (fault_of result) }
+    ensures grows { applied_of node.old ≤ applied_of node.new }
+{
+    room.out.clear();
+    let len = hear(wire, &mut room.bytes);
+    let result = act(node, came(&room.bytes, len), &mut room.out);
+    send_all(
+        wire,
+        room.out.as_slice(),
+        &mut room.resender,
+        &mut room.counts,
+    );
+    result
+}

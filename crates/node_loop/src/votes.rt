@@ -1,0 +1,303 @@
+//! The votes that a member sent, for those who lack them later.
+
+ghost use Rattle.std.specs.Prelude.{◌≡◌, ◌≤◌, ◌<◌, ◌+◌, ◌++◌, [], ◌∷◌, OnOk, OnErr, length};
+ghost use Rattle.node_loop.specs.Again.{AreAmong, HandsFor};
+ghost use Rattle.node_loop.specs.Keeping.{votes_in};
+
+use crate::latest::proposal_of;
+use crate::packet::{MEMBERS, PACKET};
+use crate::state::{Sent, Told, Votes};
+use px_transport::Wire;
+use px_wire::{Head, Kind};
+use std::alloc::{AllocError, Global};
+use std::collections::VecDeque;
+
+/// How many votes are kept at most, and how many bytes of them.
+const MOST_VOTES: usize = 131_072;
+
+const MOST_BYTES: usize = 16 * 1_024 * 1_024;
+
+/// How many positions a member takes votes in at, from the first that it lacks on. It is answered the one below by who
+/// learned it, so one less than the 64 of its window are sent.
+const WINDOW: u32 = 63;
+
+/// How often a member comes on by just one before it is taken to lack what it was sent.
+const STEPS: u8 = 3;
+
+/// How long nothing is sent a second time to the same member, in microseconds.
+const PAUSE: u64 = 20_000;
+
+/// How often this member's part of a socket may be filled, in microseconds.
+const FILLING: u64 = 10_000;
+
+/// How many bytes a member's socket takes in before they are read, as Linux counts them, where nobody set another size
+/// (212,992) and with some left free.
+const ROOM: usize = 196_608;
+
+/// What such a socket counts for a datagram beside twice its bytes, over loopback and most devices, and twice a tag.
+const OVERHEAD: usize = 1_088;
+
+impl Told {
+    /// Nothing, with all of this room. Whatever it lacks, it is taken for one that went back.
+    fn new(room: usize) -> Told {
+        Told {
+            from: u32::MAX,
+            steps: 0,
+            end: 0,
+            again: 0,
+            room,
+            filled: 0,
+        }
+    }
+
+    /// The same with all of this room again, if it is time.
+    fn emptied(self, room: usize, now: u64) -> Told {
+        if now < self.filled.saturating_add(FILLING) {
+            return self;
+        }
+        Told {
+            room,
+            filled: now,
+            ..self
+        }
+    }
+
+    /// How many times in a row the member has come on by just one, if it lacks this position now.
+    fn steps(self, from: u32) -> u8 {
+        if self.from.checked_add(1) == Some(from) {
+            self.steps.saturating_add(1)
+        } else {
+            0
+        }
+    }
+
+    /// The position from which on votes are sent to the member, if it lacks this one and what comes after: none where
+    /// it doesn't come on, and it isn't time yet to send all again.
+    fn start(self, from: u32, now: u64) -> Option<u32> {
+        if from > self.from && self.steps(from) < STEPS {
+            return Some(from.max(self.end));
+        }
+        if now < self.again { None } else { Some(from) }
+    }
+
+    /// The same after votes up to before this position were sent, if any were.
+    fn after(self, from: u32, votes: Stretch, now: u64) -> Told {
+        let seen = Told {
+            from,
+            steps: self.steps(from),
+            ..self
+        };
+        match votes.position {
+            Some(end) => Told {
+                end,
+                again: now.saturating_add(PAUSE),
+                room: votes.room,
+                ..seen
+            },
+            None => seen,
+        }
+    }
+}
+
+/// Votes in a row, among which a member's are sent to it.
+#[derive(Clone, Copy)]
+pub(crate) struct Stretch {
+    /// The number of the first.
+    begin: usize,
+    /// One past the number of the last.
+    end: usize,
+    /// One past the last position that is the member's.
+    position: Option<u32>,
+    /// What they leave of the room in its socket.
+    room: usize,
+}
+
+impl Stretch {
+    /// Whether any of them is the member's.
+    pub(crate) fn has_any(self) -> bool {
+        self.position.is_some()
+    }
+}
+
+impl Votes {
+    /// Nothing is kept, of a group of that many members. Takes no memory.
+    pub(crate) fn new(alloc: Global, members: u8) -> Votes
+        ensures { votes_in result ≡ [] }
+    {
+        let room = ROOM / usize::from(members.saturating_sub(1).max(1));
+        Votes {
+            alloc,
+            votes: VecDeque::new(alloc),
+            size: 0,
+            told: [Told::new(room); MEMBERS],
+            room,
+        }
+    }
+
+    /// Lets go what is kept of this position in another ballot.
+    fn clear(&mut self, position: u32, ballot: u64)
+        ensures { AreAmong (votes_in self.new) (votes_in self.old) }
+    {
+        for _vote in 0..self.votes.len() {
+            match self.votes.back() {
+                Some(last) if last.position == position && last.ballot != ballot => {}
+                _ => return,
+            }
+            if let Some(last) = self.votes.pop_back() {
+                self.size = self.size.saturating_sub(last.bytes.len());
+            }
+        }
+    }
+
+    /// Whether this member's vote at the position is kept, which is that of the last.
+    fn has(&self, position: u32, to: u8) -> bool {
+        for vote in self.votes.iter().rev() {
+            if vote.position != position {
+                return false;
+            }
+            if vote.to == to {
+                return true;
+            }
+        }
+        false
+    }
+
+    /// Lets the oldest go, as long as there is no room for one more of that many bytes.
+    fn make_room(&mut self, bytes: usize)
+        ensures kept { AreAmong (votes_in self.new) (votes_in self.old) }
+        ensures few { length self.new.votes.items < 131072 }
+        ensures small { bytes ≤ 1200 → self.new.size + bytes ≤ 16777216 }
+    {
+        for _vote in 0..self.votes.len() {
+            if self.votes.len() < MOST_VOTES && self.size.saturating_add(bytes) <= MOST_BYTES {
+                return;
+            }
+            if let Some(first) = self.votes.pop_front() {
+                self.size = self.size.saturating_sub(first.bytes.len());
+            }
+        }
+    }
+
+    /// Keeps a vote of a packet, where there is room for it.
+    fn push(&mut self, position: u32, ballot: u64, to: u8, bytes: &[u8]) -> Result<(), AllocError>
+        requires few { length self.old.votes.items < 131072 }
+        requires small { self.old.size + length bytes.now ≤ 16777216 }
+        ensures kept { OnOk result (votes_in self.new ≡ votes_in self.old ++ (to, bytes.now) ∷ []) }
+        ensures lost { OnErr result (votes_in self.new ≡ votes_in self.old) }
+    {
+        let copy = Vec::from_slice(self.alloc, bytes)?;
+        self.votes.push_back(Sent {
+            position,
+            ballot,
+            to,
+            bytes: copy,
+        })?;
+        self.size += bytes.len();
+        Ok(())
+    }
+
+    /// Keeps a datagram that was sent to a member, if it is a vote that fits into a packet and isn't of a lower
+    /// position than the last; of its position what is of another ballot is let go. Where memory runs out it isn't
+    /// kept.
+    pub(crate) fn keep(&mut self, to: u8, head: &Head, bytes: &[u8])
+        ensures { AreAmong (votes_in self.new) (votes_in self.old ++ (to, bytes.now) ∷ []) }
+    {
+        if head.kind != Kind::Vote || bytes.len() > PACKET {
+            return;
+        }
+        let Some((ballot, position)) = proposal_of(head) else {
+            return;
+        };
+        if let Some(last) = self.votes.back() {
+            if position < last.position {
+                return;
+            }
+        }
+        self.clear(position, ballot);
+        if !self.has(position, to) {
+            self.make_room(bytes.len());
+            let _kept = self.push(position, ballot, to, bytes);
+        }
+    }
+
+    /// Hands the vote with this number to the wire, if it is this member's.
+    fn hand<W: Wire>(&self, wire: &mut W, to: u8, i: usize)
+        ensures again { HandsFor to (votes_in self.entry.now) (W.handed wire.old) (W.handed wire.new) }
+        ensures given { W.given wire.new ≡ W.given wire.old }
+    {
+        let Some(vote) = self.votes.get(i) else {
+            return;
+        };
+        if vote.to == to {
+            let _sent = wire.send(vote.to, vote.bytes.as_slice());
+        }
+    }
+
+    /// Hands those of these votes to the wire that are this member's.
+    pub(crate) fn send<W: Wire>(&self, wire: &mut W, to: u8, votes: Stretch)
+        ensures again { HandsFor to (votes_in self.entry.now) (W.handed wire.old) (W.handed wire.new) }
+        ensures given { W.given wire.new ≡ W.given wire.old }
+    {
+        for i in votes.begin..votes.end {
+            self.hand(wire, to, i);
+        }
+    }
+
+    /// The number of the first vote at this position or a later one.
+    fn place(&self, position: u32) -> usize {
+        self.votes.partition_point(|vote| vote.position < position)
+    }
+
+    /// The votes from this number on, before a position, that are the member's and fit into so much of its socket.
+    fn reach(&self, to: u8, begin: usize, before: u32, room: usize) -> Stretch {
+        let mut all = Stretch {
+            begin,
+            end: begin,
+            position: None,
+            room,
+        };
+        for i in begin..self.votes.len() {
+            let Some(vote) = self.votes.get(i) else {
+                return all;
+            };
+            if vote.position >= before {
+                return all;
+            }
+            if vote.to == to {
+                let cost = vote.bytes.len().saturating_mul(2).saturating_add(OVERHEAD);
+                if cost > all.room {
+                    return all;
+                }
+                all.room = all.room.saturating_sub(cost);
+                all.end = i + 1;
+                all.position = Some(vote.position.saturating_add(1));
+            }
+        }
+        all
+    }
+
+    /// The votes that are sent again to a member that lacks the entry of this position and those after it, at this time
+    /// in microseconds.
+    pub(crate) fn walk(&mut self, to: u8, from: u32, now: u64) -> Stretch
+        ensures { votes_in self.new ≡ votes_in self.old }
+    {
+        let mut all = Stretch {
+            begin: 0,
+            end: 0,
+            position: None,
+            room: 0,
+        };
+        let told = match self.told.get(usize::from(to)) {
+            Some(told) => told.emptied(self.room, now),
+            None => return all,
+        };
+        if let Some(start) = told.start(from, now) {
+            let before = from.saturating_add(WINDOW);
+            all = self.reach(to, self.place(start), before, told.room);
+        }
+        if let Some(place) = self.told.get_mut(usize::from(to)) {
+            *place = told.after(from, all, now);
+        }
+        all
+    }
+}

@@ -1,0 +1,6 @@
+pub mod Lines
+pub mod PositionsLogged
+pub mod Budget
+pub mod Logged
+pub mod HitsCounted
+pub mod Places

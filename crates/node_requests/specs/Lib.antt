@@ -1,0 +1,14 @@
+pub mod Outcomes
+pub mod Positions
+pub mod inner
+pub mod Answers
+pub mod Bounded
+pub mod Changing
+pub mod EntryLines
+pub mod Health
+pub mod Listings
+pub mod LogLines
+pub mod Requests
+pub mod Standing
+pub mod Status
+pub mod StatusJson

@@ -1,0 +1,93 @@
+-- What is answered to a request.
+use Rattle.std.specs.Prelude.{◌≡◌, ◌⊎◌, ◌-◌, ℕ, Bool, true, false, [], map, length, nat_lt, Option, Result, codes}
+use Rattle.px_model.specs.Step.{front, positions}
+use Rattle.px_records.specs.declared.records.Records.{Ghosts}
+use Rattle.pf_entry.specs.Entry as entries
+use Rattle.pf_scripts.specs.WordsRead.{change_in}
+use Rattle.pf_node.specs.Nodes.{learned_by, applied_of, config_of, membership_of, has_failed, state_in}
+use Rattle.pf_node.specs.declared.state.Node.{Node}
+use Rattle.node_requests.specs.declared.changing.Changed.{Changed}
+use Rattle.node_requests.specs.declared.desk.Desk.{Desk}
+use Rattle.node_requests.specs.declared.figures.Figures.{Figures}
+use Rattle.node_requests.specs.declared.request.Read.{Read}
+use Rattle.node_requests.specs.declared.request.Read.TheVariants as read
+use Rattle.node_requests.specs.declared.request.Request.{Request}
+use Rattle.node_requests.specs.declared.request.Request.TheVariants as request
+use Rattle.node_requests.specs.declared.tally.Tally.{Tally}
+use Rattle.node_requests.specs.Answers.{AnswerValue, shown, listed}
+use Rattle.node_requests.specs.Bounded.{verdicts_within}
+use Rattle.node_requests.specs.Changing.{Changes, with_number, change_answer}
+use Rattle.node_requests.specs.EntryLines.{entries_answer}
+use Rattle.node_requests.specs.Health.{health, health_answer, ready_answer}
+use Rattle.node_requests.specs.Listings.{words_of}
+use Rattle.node_requests.specs.LogLines.{log_answer}
+use Rattle.node_requests.specs.Standing.{standing}
+use Rattle.node_requests.specs.StatusJson.{status_as}
+
+-- ---- reads
+
+-- the figures are the node's
+pub record AreFigures {R : Type 0} {G : Ghosts R} (n : Node R G) (f : Figures) : Type 0 where
+  pub node : f.node ≡ (membership_of n).me
+  pub members : f.members ≡ (membership_of n).members
+  pub cluster : f.cluster ≡ (membership_of n).cluster
+  pub left : f.left ≡ positions - front (learned_by n)
+  pub front : f.front ≡ front (learned_by n)
+  pub applied : f.applied ≡ applied_of n
+  pub waiting : f.waiting ≡ length (state_in n).volatile.waiting
+  pub failed : f.has_failed ≡ has_failed n
+
+-- the status of figures that are the node's, as JSON or in lines
+-- Example: at front 412, 999,588 positions are left.
+pub record IsStatus {R : Type 0} {G : Ghosts R} (n : Node R G) (t : Tally) (json : Bool) (a : AnswerValue) :
+    Type 0 where
+  pub figures : Figures
+  pub are : AreFigures n figures
+  pub answered : a ≡ shown (status_as json figures (health n t) t)
+
+-- what a read answers; of the numbers for Prometheus only that they are there
+abbrev pub IsRead : {R : Type 0} {G : Ghosts R} → Node R G → Option (ℕ × ℕ) → Tally → Read → AnswerValue → Type 0
+IsRead n taken t (read.List listing) a = a ≡ listed (config_of n) (words_of listing)
+IsRead n taken t (read.Test packets) a = a ≡ verdicts_within (config_of n) (map (λ p. p.now) packets.items)
+IsRead n taken t (read.Standing origin number) a = a ≡ standing n taken origin number
+IsRead n taken t (read.Log from) a = a ≡ log_answer n from
+IsRead n taken t (read.Entries from count) a = a ≡ entries_answer n from count
+IsRead n taken t (read.Status json) a = IsStatus n t json a
+IsRead n taken t read.Health a = a ≡ health_answer (health n t)
+IsRead n taken t read.Ready a = a ≡ ready_answer (health n t)
+IsRead n taken t read.Metrics a = a.code ≡ 200
+
+-- fewer positions are applied than the reader asks for
+-- Example: with 411 applied, a read at 412 is waiting, one at 411 is read.
+abbrev pub not_yet : AnswerValue
+not_yet = record { code = 503; body = codes "waiting\n" }
+
+-- the answer of a read, and `not_yet` where it is to wait
+abbrev pub IsReadIf : {R : Type 0} {G : Ghosts R} → Bool → Node R G → Option (ℕ × ℕ) → Tally → Read →
+    AnswerValue → Type 0
+IsReadIf true n taken t r a = a ≡ not_yet
+IsReadIf false n taken t r a = IsRead n taken t r a
+
+-- ---- all requests
+
+-- where no memory is there for the line of a change that was made or refused
+abbrev pub no_memory : AnswerValue
+no_memory = record { code = 503; body = [] }
+
+-- one ask or none, and the line of it; the number that was given is kept
+pub record IsChange {R : Type 0} {G : Ghosts R} (s t : Desk R G) (asked : Result entries.Command ℕ) (a : AnswerValue) :
+    Type 0 where
+  pub changed : Changed
+  pub changes : Changes s.node t.node asked changed
+  pub taken : t.taken ≡ with_number s.taken changed
+  pub stopping : t.is_stopping ≡ s.is_stopping
+  pub answered : (a ≡ change_answer changed) ⊎ (a ≡ no_memory)
+
+-- A read leaves all as it was. A change is one ask of the node, or a refusal with nothing changed.
+-- Example: Stop is answered 200 and stopping.
+abbrev pub Answers : {R : Type 0} {G : Ghosts R} → (s t : Desk R G) → Tally → Request → AnswerValue → Type 0
+Answers s t counted (request.Change words text) a =
+    IsChange s t (change_in (map (λ w. w.now) words.items) text.now) a
+Answers s t counted (request.Read at r) a =
+    (t ≡ s) × IsReadIf (nat_lt (applied_of s.node) at) s.node s.taken counted r a
+Answers s t counted request.Stop a = (t ≡ record s { is_stopping = true }) × (a ≡ shown (codes "stopping\n"))

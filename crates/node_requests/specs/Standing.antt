@@ -1,0 +1,59 @@
+-- What became of a request.
+use Rattle.std.specs.Prelude.{ℕ, zero, suc, Bool, false, List, ◌++◌, ◌==◌, ◌&&◌, nat_lt, nat_le}
+use Rattle.std.specs.Prelude.{Option, Some, None, codes, decimal, if◌then◌else◌}
+use Rattle.px_model.specs.Node as node
+use Rattle.px_model.specs.Node.{Log}
+use Rattle.px_model.specs.Step.{front}
+use Rattle.px_model.specs.Spelling.{Bytes}
+use Rattle.px_records.specs.declared.records.Records.{Ghosts}
+use Rattle.pf_scripts.specs.Lines.{line}
+use Rattle.node_requests.specs.Outcomes.{kept_line}
+use Rattle.pf_node.specs.Nodes.{learned_by, applied_of, kept_of, membership_of}
+use Rattle.pf_node.specs.declared.state.Node.{Node}
+use Rattle.node_requests.specs.Answers.{AnswerValue, shown}
+
+-- ---- where it was learned
+
+-- an entry is the request's
+abbrev pub is_request : ℕ → ℕ → Option (node.Entry Bytes) → Bool
+is_request origin number None = false
+is_request origin number (Some e) = (e.origin == origin) && (e.number == number)
+
+-- the last position below k at which the request was learned
+abbrev pub place_below : Log Bytes → ℕ → ℕ → (k : ℕ) → Option ℕ
+place_below log origin number zero = None
+place_below log origin number (suc k) =
+    if is_request origin number (log k) then Some k else place_below log origin number k
+
+-- ---- what is answered
+
+-- the number is one of those that were given, from the first to the last
+abbrev pub is_taken : Option (ℕ × ℕ) → ℕ → Bool
+is_taken None number = false
+is_taken (Some (first, last)) number = nat_le first number && nat_le number last
+
+-- applied POSITION
+abbrev pub applied_line : ℕ → List ℕ
+applied_line p = line (codes "applied " ++ decimal p)
+
+-- it is taken in, or learned and not applied yet
+abbrev pub waiting : AnswerValue
+waiting = shown (codes "waiting\n")
+
+-- nothing is known of it here
+abbrev pub unknown : AnswerValue
+unknown = record { code = 404; body = codes "unknown\n" }
+
+-- of one that was learned, its place; of another one, whether this node took it in
+-- Example: applied 411 and ok 1 0.
+abbrev pub standing_at : Log Bytes → (applied kept : ℕ) → Bool → Option ℕ → AnswerValue
+standing_at log applied kept ours (Some p) =
+    if nat_lt p applied then shown (applied_line p ++ kept_line log applied kept p) else waiting
+standing_at log applied kept ours None = if ours then waiting else unknown
+
+-- what became of a request, where these numbers were given here
+abbrev pub standing : {R : Type 0} {G : Ghosts R} → Node R G → Option (ℕ × ℕ) → (origin number : ℕ) → AnswerValue
+standing n taken origin number =
+    standing_at (learned_by n) (applied_of n) (kept_of n)
+    ((origin == (membership_of n).me) && is_taken taken number)
+    (place_below (learned_by n) origin number (front (learned_by n)))

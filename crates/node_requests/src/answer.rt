@@ -1,0 +1,66 @@
+//! An answer as HTTP has it.
+
+ghost use Rattle.std.specs.Prelude.{◌≡◌, ◌++◌, IfOk, string_bytes};
+ghost use Rattle.node_requests.specs.Answers.{status_of, answer_value, refused, shown, answered};
+ghost use Rattle.pf_scripts.specs.WordsRead.{words_value};
+
+use pf_scripts::{WordsRead, push_refusal};
+use std::alloc::{AllocError, Global};
+
+/// What is answered: HTTP's status, and the body, which is what an operator reads.
+#[derive(Drop)]
+pub struct Answer {
+    /// HTTP's status (RFC 9110, 15).
+    pub code: u16,
+    /// The body: lines, each with its newline.
+    pub body: String,
+}
+
+/// HTTP's status for the number of a refusal: 404 no such table, 413 too long, 429 too many wait, 503 nothing is taken
+/// in, else 400.
+pub fn status_of(code: u8) -> u16
+    ensures { result ≡ status_of code }
+{
+    match code {
+        20 => 404,
+        41 => 413,
+        60 => 429,
+        62 => 503,
+        70 => 503,
+        72 => 503,
+        80 => 503,
+        _ => 400,
+    }
+}
+
+impl Answer {
+    /// What was asked for.
+    pub(crate) fn shown(body: String) -> Answer
+        ensures { answer_value result ≡ shown (string_bytes body) }
+    {
+        Answer { code: 200, body }
+    }
+
+    /// A refusal: its number, and the line of a refused text, 0 where there is none.
+    pub(crate) fn refused(alloc: Global, code: u8, at: u64) -> Result<Answer, AllocError>
+        ensures { IfOk result (λ a. answer_value a ≡ refused code at) }
+    {
+        let mut body = String::new(alloc);
+        push_refusal(alloc, &mut body, code, at)?;
+        Ok(Answer {
+            code: status_of(code),
+            body,
+        })
+    }
+
+    /// What words that only look give; words of a change are 40 here.
+    pub(crate) fn of_words(alloc: Global, read: WordsRead) -> Result<Answer, AllocError>
+        ensures { IfOk result (λ a. answer_value a ≡ answered (words_value read)) }
+    {
+        match read {
+            WordsRead::Change(_command) => Answer::refused(alloc, 40, 0),
+            WordsRead::Refused(code, at) => Answer::refused(alloc, code, at),
+            WordsRead::Output(output) => Ok(Answer::shown(output)),
+        }
+    }
+}

@@ -1,0 +1,225 @@
+//! What is asked at a desk.
+
+ghost use Rattle.std.specs.Prelude.{◌≡◌, IfOk, OnErr, OnOk, map, codes, nat_lt, true, false, None};
+ghost use Rattle.pf_node.specs.Nodes.{config_of, applied_of};
+ghost use Rattle.pf_scripts.specs.WordsRead.{change_in};
+ghost use Rattle.node_requests.specs.Answers.{answer_value, listed, shown};
+ghost use Rattle.node_requests.specs.Bounded.{verdicts_within};
+ghost use Rattle.node_requests.specs.Changing.{Changes, with_number};
+ghost use Rattle.node_requests.specs.Health.{health};
+ghost use Rattle.node_requests.specs.Listings.{words_of};
+ghost use Rattle.node_requests.specs.Requests.{IsStatus, IsRead, IsReadIf, IsChange, Answers};
+ghost use Rattle.node_requests.specs.Standing.{standing};
+ghost use Rattle.node_requests.specs.StatusJson.{status_as};
+
+use crate::answer::Answer;
+use crate::changing::{Changed, change_node};
+use crate::desk::Desk;
+use crate::entries::entries;
+use crate::figures::Figures;
+use crate::health::Health;
+use crate::json::status_json;
+use crate::listing::list;
+use crate::log::log;
+use crate::metrics::metrics;
+use crate::packets::test;
+use crate::request::{Listing, Read, Request};
+use crate::standing::standing;
+use crate::status::status;
+use crate::tally::Tally;
+use pf_node::Node;
+use px_records::Records;
+use std::alloc::{AllocError, Global};
+
+/// The first and the last number, with one more.
+fn with_number(taken: Option<(u64, u64)>, changed: Changed) -> Option<(u64, u64)>
+    ensures { result ≡ with_number taken changed }
+{
+    match changed {
+        Changed::Refused(_) => taken,
+        Changed::Memory => taken,
+        Changed::Asked(_, number) => match taken {
+            Some((first, _)) => Some((first, number)),
+            None => Some((number, number)),
+        },
+    }
+}
+
+/// A node's status, as JSON or in lines.
+fn status_as(
+    alloc: Global,
+    json: bool,
+    figures: &Figures,
+    health: Health,
+    tally: &Tally,
+) -> Result<Answer, AllocError>
+    ensures { IfOk result (λ a. answer_value a ≡ shown (status_as json figures.now health tally.now)) }
+{
+    if json {
+        status_json(alloc, figures, health, tally)
+    } else {
+        status(alloc, figures, health, tally)
+    }
+}
+
+impl<R: Records> Desk<R> {
+    /// A desk at a node.
+    pub fn new(alloc: Global, node: Node<R>) -> Desk<R>
+        ensures node { result.node ≡ node }
+        ensures works { result.is_stopping ≡ false }
+        ensures taken { result.taken ≡ None }
+    {
+        Desk {
+            node,
+            is_stopping: false,
+            taken: None,
+            alloc,
+        }
+    }
+
+    /// The node, with which the desk ends.
+    pub fn close(self) -> Node<R>
+        ensures { result ≡ self.node }
+    {
+        let Desk {
+            node,
+            is_stopping: _,
+            taken: _,
+            alloc: _,
+        } = self;
+        node
+    }
+
+    /// What a listing answers: what a script's line prints at the configuration after the positions that are applied.
+    /// 404 where it speaks of a table that isn't there, 400 where the words are refused.
+    pub fn list(&self, listing: &Listing) -> Result<Answer, AllocError>
+        ensures { IfOk result (λ a. answer_value a ≡ listed (config_of self.now.node) (words_of listing.now)) }
+    {
+        list(self.alloc, self.node.config(), listing)
+    }
+
+    /// A verdict line for each packet's text in turn, up to the first that is no packet: that is 30, and 400. It ends
+    /// before the verdicts may meet more than [`crate::MET_MAX`] rules together; where one may, that is 88, and 400.
+    pub fn test(&self, packets: &[&str]) -> Result<Answer, AllocError>
+        ensures { IfOk result (λ a. answer_value a
+            ≡ verdicts_within (config_of self.now.node) (map (λ p. p.now) packets.now)) }
+    {
+        test(self.alloc, self.node.config(), packets)
+    }
+
+    /// What became of a request: `applied`, its position and what came of it where that is applied, `waiting` where it
+    /// is learned, or was taken in here and isn't learned below the front, else 404 and `unknown`.
+    pub fn standing(&self, origin: u8, number: u64) -> Result<Answer, AllocError>
+        ensures { IfOk result (λ a. answer_value a ≡ standing self.now.node self.now.taken origin number) }
+    {
+        standing(self.alloc, &self.node, self.taken, origin, number)
+    }
+
+    /// How the node stands among the others.
+    pub fn health(&self, tally: &Tally) -> Health
+        ensures { result ≡ health self.now.node tally.now }
+    {
+        Health::of(&self.node, tally)
+    }
+
+    /// The node's status, as JSON or in lines.
+    fn status(&self, json: bool, tally: &Tally) -> Result<Answer, AllocError>
+        ensures { IfOk result (λ a. IsStatus self.now.node tally.now json (answer_value a)) }
+    {
+        let figures = Figures::of(&self.node)?;
+        status_as(self.alloc, json, &figures, self.health(tally), tally)
+    }
+
+    /// The node's numbers for Prometheus.
+    fn metrics(&self, tally: &Tally) -> Result<Answer, AllocError>
+        ensures { IfOk result (λ a. a.code ≡ 200) }
+    {
+        let figures = Figures::of(&self.node)?;
+        metrics(self.alloc, &figures, self.health(tally), tally)
+    }
+
+    /// What a read answers. Nothing changes.
+    pub fn read(&self, read: &Read, tally: &Tally) -> Result<Answer, AllocError>
+        ensures { IfOk result (λ a. IsRead self.now.node self.now.taken tally.now read.now (answer_value a)) }
+    {
+        match read {
+            Read::List(listing) => self.list(listing),
+            Read::Test { packets } => self.test(packets),
+            Read::Standing { origin, number } => self.standing(*origin, *number),
+            Read::Log { from } => log(self.alloc, &self.node, *from),
+            Read::Entries { from, count } => entries(self.alloc, &self.node, *from, *count),
+            Read::Status { json } => self.status(*json, tally),
+            Read::Health => self.health(tally).health_answer(self.alloc),
+            Read::Ready => self.health(tally).ready_answer(self.alloc),
+            Read::Metrics => self.metrics(tally),
+        }
+    }
+
+    /// The same, once that many positions are applied; before that it is 503 and `waiting`.
+    fn read_at(&self, at: u32, read: &Read, tally: &Tally) -> Result<Answer, AllocError>
+        ensures { IfOk result (λ a. IsReadIf (nat_lt (applied_of self.now.node) at) self.now.node self.now.taken
+            tally.now read.now (answer_value a)) }
+    {
+        if self.node.applied() < at {
+            let body = String::from_str(self.alloc, "waiting\n")?;
+            return Ok(Answer { code: 503, body });
+        }
+        self.read(read, tally)
+    }
+
+    /// Takes the change in that a line of pfctl's words asks for, `pfctl` itself first, with the text of its file: one
+    /// ask of the node, or a refusal with nothing changed: 62 where the positions that are left are those of commands
+    /// that wait. Where memory runs out nothing has changed, and the node wasn't asked.
+    pub fn change(&mut self, words: &[&str], text: &[u8]) -> Result<Changed, AllocError>
+        ensures changes { IfOk result (Changes self.old.node self.new.node
+            (change_in (map (λ w. w.now) words.now) text.now)) }
+        ensures taken { IfOk result (λ c. self.new.taken ≡ with_number self.old.taken c) }
+        ensures stopping { self.new.is_stopping ≡ self.old.is_stopping }
+        ensures memory { OnErr result (self.new ≡ self.old) }
+    {
+        let changed = change_node(self.alloc, &mut self.node, words, text)?;
+        self.taken = with_number(self.taken, changed);
+        Ok(changed)
+    }
+
+    /// What a change answers. Where no memory is there for its line it is 503 with an empty body, and the node may have
+    /// been asked.
+    fn change_answer(&mut self, words: &[&str], text: &[u8]) -> Result<Answer, AllocError>
+        ensures changes { IfOk result (λ a. IsChange self.old self.new
+            (change_in (map (λ w. w.now) words.now) text.now) (answer_value a)) }
+        ensures memory { OnErr result (self.new ≡ self.old) }
+    {
+        let changed = self.change(words, text)?;
+        match changed.to_answer(self.alloc) {
+            Ok(answer) => Ok(answer),
+            Err(_) => Ok(Answer {
+                code: 503,
+                body: String::new(self.alloc),
+            }),
+        }
+    }
+
+    /// The node is to end after this turn.
+    fn stop(&mut self) -> Result<Answer, AllocError>
+        ensures stops { OnOk result (self.new ≡ record self.old { is_stopping = true }) }
+        ensures answer { IfOk result (λ a. answer_value a ≡ shown (codes "stopping\n")) }
+        ensures memory { OnErr result (self.new ≡ self.old) }
+    {
+        let body = String::from_str(self.alloc, "stopping\n")?;
+        self.is_stopping = true;
+        Ok(Answer { code: 200, body })
+    }
+
+    /// What a request answers: a read leaves all as it was, a change is one ask of the node or a refusal with nothing
+    /// changed. Where memory runs out nothing has changed.
+    pub fn answer(&mut self, request: &Request, tally: &Tally) -> Result<Answer, AllocError>
+        ensures answers { IfOk result (λ a. Answers self.old self.new tally.now request.now (answer_value a)) }
+        ensures memory { OnErr result (self.new ≡ self.old) }
+    {
+        match request {
+            Request::Change { words, text } => self.change_answer(words, text),
+            Request::Read { at, read } => self.read_at(*at, read, tally),
+            Request::Stop => self.stop(),
+        }
+    }
+}

@@ -1,0 +1,116 @@
+//! A change is one ask, or a refusal.
+
+ghost use Rattle.std.specs.Prelude.{◌≡◌, OnErr, IfOk, map, string_bytes};
+ghost use Rattle.pf_entry.specs.Owned.{command_value};
+ghost use Rattle.pf_scripts.specs.WordsRead.{change_in};
+ghost use Rattle.node_requests.specs.Answers.{answer_value};
+ghost use Rattle.node_requests.specs.Changing.{Changes, AskedOnce, has_position, refused_by, asked_line, change_answer};
+
+use crate::answer::Answer;
+use crate::figures::positions_left;
+use pf_node::{Command, Node, NodeFault};
+use pf_scripts::{ChangeFault, push_number, read_change};
+use px_records::Records;
+use std::alloc::{AllocError, Global};
+
+/// What became of words of a change.
+#[derive(Clone, Copy, PartialEq, Eq)]
+pub enum Changed {
+    /// The node took the command in: its number as a member, and the number that the request got there.
+    Asked(u8, u64),
+    /// It wasn't taken in: the number of the refusal.
+    Refused(u8),
+    /// It wasn't taken in: memory runs out.
+    Memory,
+}
+
+/// What a fault of an ask is answered with.
+fn refused_by(fault: NodeFault) -> Changed
+    ensures { result ≡ refused_by fault }
+{
+    match fault {
+        NodeFault::Memory => Changed::Memory,
+        NodeFault::TooLong => Changed::Refused(41),
+        NodeFault::Full => Changed::Refused(60),
+        NodeFault::BallotsSpent => Changed::Refused(61),
+        NodeFault::PositionsSpent => Changed::Refused(62),
+        NodeFault::Store => Changed::Refused(70),
+        NodeFault::BadStore => Changed::Refused(72),
+        NodeFault::Failed => Changed::Refused(80),
+    }
+}
+
+/// Asks the node to take the command in.
+fn ask_once<R: Records>(node: &mut Node<R>, command: &Command) -> Changed
+    ensures { AskedOnce node.old node.new (command_value command.now) result }
+{
+    let me = node.membership().me();
+    match node.ask(command) {
+        Ok(number) => Changed::Asked(me, number),
+        Err(fault) => refused_by(fault),
+    }
+}
+
+/// Whether more positions are left than commands wait, so that one more has its own.
+fn has_position<R: Records>(node: &Node<R>) -> bool
+    ensures { result ≡ has_position node.now }
+{
+    let left = positions_left(node);
+    node.waiting() < left as usize
+}
+
+/// Takes the change in that a line of pfctl's words asks for, `pfctl` itself first, with the text of its file: one ask
+/// of the node, or a refusal with nothing changed, which is 62 where every position that is left is one of a command
+/// that waits.
+pub(crate) fn change_node<R: Records>(
+    alloc: Global,
+    node: &mut Node<R>,
+    words: &[&str],
+    text: &[u8],
+) -> Result<Changed, AllocError>
+    ensures changes { IfOk result (Changes node.old node.new (change_in (map (λ w. w.now) words.now) text.now)) }
+    ensures memory { OnErr result (node.new ≡ node.old) }
+{
+    match read_change(alloc, words, text) {
+        Ok(command) => {
+            if !has_position(node) {
+                return Ok(Changed::Refused(62));
+            }
+            Ok(ask_once(node, &command))
+        }
+        Err(ChangeFault::Refused(code)) => Ok(Changed::Refused(code)),
+        Err(ChangeFault::Memory) => Err(AllocError),
+    }
+}
+
+/// `asked N.NUMBER`
+fn asked_line(alloc: Global, origin: u8, number: u64) -> Result<String, AllocError>
+    ensures { IfOk result (λ s. string_bytes s ≡ asked_line origin number) }
+{
+    let mut body = String::new(alloc);
+    body.push_str("asked ")?;
+    push_number(alloc, &mut body, u64::from(origin))?;
+    body.push('.')?;
+    push_number(alloc, &mut body, number)?;
+    body.push('\n')?;
+    Ok(body)
+}
+
+impl Changed {
+    /// The answer to a change: 202 where it was taken in, else the refusal.
+    pub fn to_answer(self, alloc: Global) -> Result<Answer, AllocError>
+        ensures { IfOk result (λ a. answer_value a ≡ change_answer self) }
+    {
+        match self {
+            Changed::Asked(origin, number) => {
+                let body = asked_line(alloc, origin, number)?;
+                Ok(Answer { code: 202, body })
+            }
+            Changed::Refused(code) => Answer::refused(alloc, code, 0),
+            Changed::Memory => Ok(Answer {
+                code: 503,
+                body: String::new(alloc),
+            }),
+        }
+    }
+}

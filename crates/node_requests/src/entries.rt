@@ -1,0 +1,78 @@
+//! Entries of the log, as they are spelled.
+
+ghost use Rattle.std.specs.Prelude.{◌≡◌, ◌≤◌, ◌++◌, IfOk, OnOk, string_bytes};
+ghost use Rattle.pf_node.specs.Nodes.{learned_by};
+ghost use Rattle.node_requests.specs.Answers.{answer_value};
+ghost use Rattle.node_requests.specs.EntryLines.{entry_line, entries_before, entries_answer};
+
+use crate::answer::Answer;
+use pf_node::Node;
+use px_records::Records;
+use std::alloc::{AllocError, Global};
+
+/// How many entries are shown at most.
+pub const ENTRIES_MAX: u32 = 1_000;
+
+/// Once the lines have that many bytes, no further one is shown.
+pub const ENTRIES_BYTES: usize = 262_144;
+
+/// Puts the line of a position's entry behind the text.
+fn push_entry<R: Records>(
+    alloc: Global,
+    out: &mut String,
+    node: &Node<R>,
+    position: u32,
+) -> Result<(), AllocError>
+    ensures { OnOk result (string_bytes out.new ≡ string_bytes out.old ++ entry_line (learned_by node.now) position) }
+{
+    match node.learned(position) {
+        Some(bytes) => {
+            let digits = hex::encode(alloc, bytes)?;
+            out.push_str(digits.as_str())?;
+            out.push('\n')
+        }
+        None => Ok(()),
+    }
+}
+
+/// Puts the lines of the last `count` positions before an end behind the text, until it has that many bytes that no
+/// further one is shown.
+fn push_entries<R: Records>(
+    alloc: Global,
+    out: &mut String,
+    node: &Node<R>,
+    end: u32,
+    count: u32,
+) -> Result<(), AllocError>
+    requires { count ≤ end }
+    ensures { OnOk result (string_bytes out.new ≡ entries_before (learned_by node.now) end count
+        (string_bytes out.old)) }
+{
+    let mut left = count;
+    while left > 0 {
+        if out.as_bytes().len() >= ENTRIES_BYTES {
+            return Ok(());
+        }
+        push_entry(alloc, out, node, end - left)?;
+        left -= 1;
+    }
+    Ok(())
+}
+
+/// The entries at the applied positions, from a position on (0): a line each, the entry's bytes in hexadecimal digits.
+/// It ends after that many lines, 1,000 at most, and after the line with which it has 262,144 bytes.
+pub(crate) fn entries<R: Records>(
+    alloc: Global,
+    node: &Node<R>,
+    from: Option<u32>,
+    count: Option<u32>,
+) -> Result<Answer, AllocError>
+    ensures { IfOk result (λ a. answer_value a ≡ entries_answer node.now from count) }
+{
+    let first = from.unwrap_or(0);
+    let most = count.unwrap_or(ENTRIES_MAX).min(ENTRIES_MAX);
+    let end = node.applied().min(first.saturating_add(most));
+    let mut body = String::new(alloc);
+    push_entries(alloc, &mut body, node, end, end.saturating_sub(first))?;
+    Ok(Answer { code: 200, body })
+}

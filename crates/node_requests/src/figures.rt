@@ -1,0 +1,117 @@
+//! A node in numbers.
+
+ghost use Rattle.std.specs.Prelude.{◌≡◌, IfOk, ◌-◌};
+ghost use Rattle.px_model.specs.Step.{front, positions};
+ghost use Rattle.pf_node.specs.Nodes.{learned_by};
+ghost use Rattle.node_requests.specs.Requests.{AreFigures};
+
+use pf_config::Config;
+use pf_node::Node;
+use pf_rules::Name;
+use px_core::POSITIONS;
+use px_records::Records;
+use std::alloc::AllocError;
+
+/// A node in numbers.
+#[derive(Clone, Copy)]
+pub struct Figures {
+    /// Its number as a member.
+    pub node: u8,
+    /// How many members there are.
+    pub members: u8,
+    /// The cluster's number.
+    pub cluster: u32,
+    /// The least position not learned.
+    pub front: u32,
+    /// How many positions are applied.
+    pub applied: u32,
+    /// Its round.
+    pub round: u64,
+    /// How many commands wait to be proposed.
+    pub waiting: usize,
+    /// How many positions the log has left.
+    pub left: u32,
+    /// Paths that have rules or tables.
+    pub anchors: usize,
+    /// Rules, at all paths.
+    pub rules: usize,
+    /// Tables, at all paths.
+    pub tables: usize,
+    /// Entries, in all tables.
+    pub addresses: usize,
+    /// Whether its store failed.
+    pub has_failed: bool,
+}
+
+/// How much a configuration has.
+#[derive(Clone, Copy)]
+struct Counts {
+    anchors: usize,
+    rules: usize,
+    tables: usize,
+    addresses: usize,
+}
+
+/// How many entries the tables of a path have.
+fn entries_at(config: &Config, path: &[Name], names: &[&str]) -> usize {
+    let mut entries = 0usize;
+    for name in names {
+        if let Some(table) = config.table(path, name) {
+            entries = entries.saturating_add(table.entry_count());
+        }
+    }
+    entries
+}
+
+/// How much a configuration has.
+fn count_config(config: &Config) -> Result<Counts, AllocError> {
+    let paths = config.paths()?;
+    let mut counts = Counts {
+        anchors: paths.len(),
+        rules: 0,
+        tables: 0,
+        addresses: 0,
+    };
+    for path in &paths {
+        let names = config.table_names(path)?;
+        counts.rules = counts.rules.saturating_add(config.items(path).len());
+        counts.tables = counts.tables.saturating_add(names.len());
+        counts.addresses = counts
+            .addresses
+            .saturating_add(entries_at(config, path, &names));
+    }
+    Ok(counts)
+}
+
+/// How many positions the log has left.
+pub(crate) fn positions_left<R: Records>(node: &Node<R>) -> u32
+    ensures { result ≡ positions - front (learned_by node.now) }
+{
+    let front = node.front();
+    POSITIONS - front
+}
+
+impl Figures {
+    /// A node in numbers.
+    pub fn of<R: Records>(node: &Node<R>) -> Result<Figures, AllocError>
+        ensures { IfOk result (AreFigures node.now) }
+    {
+        let counts = count_config(node.config())?;
+        let m = node.membership();
+        Ok(Figures {
+            node: m.me(),
+            members: m.members(),
+            cluster: m.cluster(),
+            front: node.front(),
+            applied: node.applied(),
+            round: node.round(),
+            waiting: node.waiting(),
+            left: positions_left(node),
+            anchors: counts.anchors,
+            rules: counts.rules,
+            tables: counts.tables,
+            addresses: counts.addresses,
+            has_failed: node.has_failed(),
+        })
+    }
+}

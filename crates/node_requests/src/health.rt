@@ -1,0 +1,139 @@
+//! How a node stands among the others.
+
+ghost use Rattle.std.specs.Prelude.{◌≡◌, ◌≤◌, ◌+◌, IfOk, length, take};
+ghost use Rattle.node_requests.specs.Answers.{answer_value};
+ghost use Rattle.node_requests.specs.Health.{is_recent, is_shown, health_by, health_word, health_code};
+ghost use Rattle.node_requests.specs.Health.{ready_code, counted, health, health_answer, ready_answer};
+
+use crate::answer::Answer;
+use crate::tally::{PeerTally, Tally};
+use pf_node::Node;
+use pf_scripts::push_line;
+use px_records::Records;
+use std::alloc::{AllocError, Global};
+
+/// For how many seconds commands may wait while the front stands, before that is said.
+pub const STUCK: u64 = 10;
+
+/// How a node stands among the others.
+#[derive(Clone, Copy, PartialEq, Eq)]
+pub enum Health {
+    /// It hears a majority, has applied what it could, and what waits is learned.
+    Works,
+    /// Positions are learned, here or elsewhere, that it hasn't applied.
+    Behind,
+    /// It hears fewer than a majority of the members, itself counted.
+    Alone,
+    /// Commands have waited for ten seconds, here or at a member that proposes one, while the front stood.
+    Stuck,
+    /// Its store failed.
+    Failed,
+}
+
+/// Whether a datagram came in the last three seconds.
+fn is_recent(heard: Option<u64>) -> bool
+    ensures { result ≡ is_recent heard }
+{
+    match heard {
+        Some(seconds) => seconds < 3,
+        None => false,
+    }
+}
+
+/// How many of the rows are of members that were heard in the last three seconds.
+pub fn counted(peers: &[PeerTally]) -> usize
+    ensures { result ≡ counted peers.now }
+{
+    peers.iter().filter(|p| is_recent(p.heard)).count()
+}
+
+/// Whether a member showed, two seconds ago or earlier, that a position is learned which isn't applied here.
+fn is_shown(applied: u32, peers: &[PeerTally]) -> bool
+    ensures { result ≡ is_shown applied peers.now }
+{
+    peers.iter().any(|p| applied < p.shown)
+}
+
+impl Health {
+    /// How a node stands among the others: failed where its store failed, else stuck where commands have waited for ten
+    /// seconds while the front stood, else alone where fewer than a majority were heard in the last three seconds, this
+    /// one counted, else behind where not everything is applied that is learned here, or was learned two seconds ago as
+    /// a member shows, else it works. A row for each member but this one has what was heard of it.
+    pub fn of<R: Records>(node: &Node<R>, tally: &Tally) -> Health
+        ensures { result ≡ health node.now tally.now }
+    {
+        let applied = node.applied();
+        let heard = counted(&tally.peers);
+        let members = node.membership().members();
+        if node.has_failed() {
+            return Health::Failed;
+        }
+        if STUCK <= tally.stood {
+            return Health::Stuck;
+        }
+        if heard < (members / 2) as usize {
+            return Health::Alone;
+        }
+        if applied < node.front() || is_shown(applied, &tally.peers) {
+            return Health::Behind;
+        }
+        Health::Works
+    }
+
+    /// The word for it.
+    pub fn word(self) -> &'static str
+        ensures { result.now ≡ health_word self }
+    {
+        match self {
+            Health::Works => "ok",
+            Health::Behind => "behind",
+            Health::Alone => "alone",
+            Health::Stuck => "stuck",
+            Health::Failed => "failed",
+        }
+    }
+
+    /// 503 of a failed one alone.
+    fn health_code(self) -> u16
+        ensures { result ≡ health_code self }
+    {
+        match self {
+            Health::Works | Health::Behind | Health::Alone | Health::Stuck => 200,
+            Health::Failed => 503,
+        }
+    }
+
+    /// 200 of one that works alone.
+    fn ready_code(self) -> u16
+        ensures { result ≡ ready_code self }
+    {
+        match self {
+            Health::Works => 200,
+            Health::Behind | Health::Alone | Health::Stuck | Health::Failed => 503,
+        }
+    }
+
+    /// Whether the node works at all.
+    pub(crate) fn health_answer(self, alloc: Global) -> Result<Answer, AllocError>
+        ensures { IfOk result (λ a. answer_value a ≡ health_answer self) }
+    {
+        let mut body = String::new(alloc);
+        push_line(&mut body, self.word())?;
+        Ok(Answer {
+            code: self.health_code(),
+            body,
+        })
+    }
+
+    /// Whether it is up with the others.
+    pub(crate) fn ready_answer(self, alloc: Global) -> Result<Answer, AllocError>
+        ensures { IfOk result (λ a. answer_value a ≡ ready_answer self) }
+    {
+        let mut body = String::new(alloc);
+        push_line(&mut body, self.word())?;
+        Ok(Answer {
+            code: self.ready_code(),
+            body,
+        })
+    }
+}

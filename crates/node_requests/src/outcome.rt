@@ -1,0 +1,90 @@
+//! What came of a command, as a line.
+
+ghost use Rattle.std.specs.Prelude.{◌≡◌, ◌++◌, OnOk, string_bytes, option_map};
+ghost use Rattle.px_model.specs.Spelling.{spelled};
+ghost use Rattle.pf_entry.specs.Reading.{reading};
+ghost use Rattle.pf_entry.specs.Seen.{command_of};
+ghost use Rattle.pf_scripts.specs.Ctl.{is_counted};
+ghost use Rattle.pf_node.specs.Nodes.{learned_by, applied_of, kept_of};
+ghost use Rattle.node_requests.specs.Outcomes.{kept_line};
+ghost use Rattle.node_requests.specs.inner.Outcomes.{outcome_line, counts_read, counts_in};
+
+use pf_command::Applied;
+use pf_entry::{CommandView, decode};
+use pf_node::{Node, Outcome};
+use pf_scripts::{push_counts, push_refusal};
+use px_records::Records;
+use std::alloc::{AllocError, Global};
+
+/// Whether a command's counts are shown: it changes one table.
+fn is_counted(command: &CommandView) -> bool
+    ensures { result ≡ is_counted (command_of command.now) }
+{
+    match command {
+        CommandView::Load { .. } => false,
+        CommandView::FlushRules { .. } => false,
+        CommandView::FlushTables { .. } => false,
+        CommandView::FlushAll { .. } => false,
+        CommandView::Add { .. } => true,
+        CommandView::Delete { .. } => true,
+        CommandView::Replace { .. } => true,
+        CommandView::FlushTable { .. } => true,
+    }
+}
+
+/// The same of the command that bytes spell.
+fn counts_read(bytes: &[u8]) -> bool
+    ensures { result ≡ counts_read (reading bytes.now) }
+{
+    match decode(bytes) {
+        Ok(entry) => is_counted(&entry.command),
+        Err(_) => false,
+    }
+}
+
+/// The same of the command at a position.
+#[tactic(auto, using(crate::proofs::Lines::counts_some, crate::proofs::Lines::counts_none))]
+fn counts_at<R: Records>(node: &Node<R>, position: u32) -> bool
+    ensures { result ≡ counts_in (learned_by node.now position) }
+{
+    match node.learned(position) {
+        Some(bytes) => counts_read(bytes),
+        None => false,
+    }
+}
+
+/// Puts an outcome behind the text.
+fn push_line(
+    alloc: Global,
+    out: &mut String,
+    counts: bool,
+    outcome: Outcome,
+) -> Result<(), AllocError>
+    ensures { OnOk result (string_bytes out.new ≡ string_bytes out.old ++ outcome_line counts outcome) }
+{
+    match outcome {
+        Outcome::Done(added, removed) => {
+            push_counts(alloc, out, counts, Applied { added, removed })
+        }
+        Outcome::Refused(code, line) => push_refusal(alloc, out, code, line),
+        Outcome::NoCommand => Ok(()),
+    }
+}
+
+/// Puts what came of the command at a position behind the text, a line as a script prints it; nothing where that isn't
+/// kept any more.
+#[tactic(auto, using(crate::proofs::Lines::line_kept))]
+pub fn push_outcome<R: Records>(
+    alloc: Global,
+    out: &mut String,
+    node: &Node<R>,
+    position: u32,
+) -> Result<(), AllocError>
+    ensures { OnOk result (string_bytes out.new ≡ string_bytes out.old
+        ++ kept_line (learned_by node.now) (applied_of node.now) (kept_of node.now) position) }
+{
+    match node.outcome(position) {
+        Some(outcome) => push_line(alloc, out, counts_at(node, position), outcome),
+        None => Ok(()),
+    }
+}

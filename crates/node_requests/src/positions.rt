@@ -1,0 +1,85 @@
+//! The lines of a log.
+
+ghost use Rattle.std.specs.Prelude.{◌≡◌, ◌≤◌, ◌++◌, OnOk, string_bytes};
+ghost use Rattle.pf_entry.specs.Reading.{reading};
+ghost use Rattle.pf_node.specs.Nodes.{learned_by, applied_of, kept_of};
+ghost use Rattle.node_requests.specs.Positions.{words_read, behind_words, log_line, lines_before};
+
+use crate::outcome::push_outcome;
+use pf_command::push_command;
+use pf_entry::decode;
+use pf_node::Node;
+use pf_scripts::push_number;
+use px_records::Records;
+use std::alloc::{AllocError, Global};
+
+/// Puts the words of the command that bytes spell behind the text, with a blank before them.
+fn push_words(alloc: Global, out: &mut String, bytes: &[u8]) -> Result<(), AllocError>
+    ensures { OnOk result (string_bytes out.new ≡ string_bytes out.old ++ words_read (reading bytes.now)) }
+{
+    match decode(bytes) {
+        Ok(view) => {
+            let entry = view.to_entry(alloc)?;
+            out.push(' ')?;
+            push_command(alloc, out, &entry.command)
+        }
+        Err(_) => Ok(()),
+    }
+}
+
+/// Puts what came of a command behind its words.
+fn push_behind(out: &mut String, outcome: &str) -> Result<(), AllocError>
+    ensures { OnOk result (string_bytes out.new ≡ string_bytes out.old ++ behind_words outcome.now) }
+{
+    if outcome.is_empty() {
+        return out.push('\n');
+    }
+    out.push(' ')?;
+    out.push_str(outcome)
+}
+
+/// Puts the line of a position behind the text.
+pub fn push_position<R: Records>(
+    alloc: Global,
+    out: &mut String,
+    node: &Node<R>,
+    position: u32,
+) -> Result<(), AllocError>
+    ensures { OnOk result (string_bytes out.new ≡ string_bytes out.old
+        ++ log_line (learned_by node.now) (applied_of node.now) (kept_of node.now) position) }
+{
+    let mut outcome = String::new(alloc);
+    push_outcome(alloc, &mut outcome, node, position)?;
+    match node.entry(position) {
+        Some(entry) => {
+            push_number(alloc, out, u64::from(position))?;
+            out.push(' ')?;
+            push_number(alloc, out, u64::from(entry.origin()))?;
+            out.push('.')?;
+            push_number(alloc, out, entry.number())?;
+            push_words(alloc, out, entry.bytes())?;
+            push_behind(out, outcome.as_str())
+        }
+        None => Ok(()),
+    }
+}
+
+/// Puts the lines of the last `count` positions before an end behind the text.
+pub fn push_positions<R: Records>(
+    alloc: Global,
+    out: &mut String,
+    node: &Node<R>,
+    end: u32,
+    count: u32,
+) -> Result<(), AllocError>
+    requires { count ≤ end }
+    ensures { OnOk result (string_bytes out.new ≡ string_bytes out.old
+        ++ lines_before (learned_by node.now) (applied_of node.now) (kept_of node.now) end count) }
+{
+    let mut left = count;
+    while left > 0 {
+        push_position(alloc, out, node, end - left)?;
+        left -= 1;
+    }
+    Ok(())
+}

@@ -1,0 +1,104 @@
+//! What became of a request.
+
+ghost use Rattle.std.specs.Prelude.{◌≡◌, IfOk, string_bytes};
+ghost use Rattle.pf_node.specs.Nodes.{learned_by};
+ghost use Rattle.node_requests.specs.Answers.{answer_value};
+ghost use Rattle.node_requests.specs.Standing.{is_request, place_below, is_taken, applied_line, waiting, unknown, standing};
+
+use crate::answer::Answer;
+use crate::outcome::push_outcome;
+use pf_node::Node;
+use pf_scripts::push_number;
+use px_records::Records;
+use std::alloc::{AllocError, Global};
+
+/// Whether an entry is a request's.
+#[tactic(auto, using(crate::proofs::Places::request_some, crate::proofs::Places::request_none))]
+fn is_request<R: Records>(node: &Node<R>, position: u32, origin: u8, number: u64) -> bool
+    ensures { result ≡ is_request origin number (learned_by node.now position) }
+{
+    match node.entry(position) {
+        Some(entry) => entry.origin() == origin && entry.number() == number,
+        None => false,
+    }
+}
+
+/// The last position below an end at which a request was learned.
+fn place_below<R: Records>(node: &Node<R>, end: u32, origin: u8, number: u64) -> Option<u32>
+    ensures { result ≡ place_below (learned_by node.now) origin number end }
+{
+    let mut left = end;
+    while left > 0 {
+        left -= 1;
+        if is_request(node, left, origin, number) {
+            return Some(left);
+        }
+    }
+    None
+}
+
+/// Whether a number is one of those that were given.
+fn is_taken(taken: Option<(u64, u64)>, number: u64) -> bool
+    ensures { result ≡ is_taken taken number }
+{
+    match taken {
+        Some((first, last)) => first <= number && number <= last,
+        None => false,
+    }
+}
+
+/// `applied POSITION`
+fn applied_line(alloc: Global, position: u32) -> Result<String, AllocError>
+    ensures { IfOk result (λ s. string_bytes s ≡ applied_line position) }
+{
+    let mut body = String::new(alloc);
+    body.push_str("applied ")?;
+    push_number(alloc, &mut body, u64::from(position))?;
+    body.push('\n')?;
+    Ok(body)
+}
+
+/// It waits.
+fn waiting(alloc: Global) -> Result<Answer, AllocError>
+    ensures { IfOk result (λ a. answer_value a ≡ waiting) }
+{
+    let body = String::from_str(alloc, "waiting\n")?;
+    Ok(Answer { code: 200, body })
+}
+
+/// Nothing is known of it.
+fn unknown(alloc: Global) -> Result<Answer, AllocError>
+    ensures { IfOk result (λ a. answer_value a ≡ unknown) }
+{
+    let body = String::from_str(alloc, "unknown\n")?;
+    Ok(Answer { code: 404, body })
+}
+
+/// What became of a request: `applied`, its position and what came of it where that is applied, `waiting` where it is
+/// learned, or was taken in here and isn't learned below the front, else 404 and `unknown`.
+pub(crate) fn standing<R: Records>(
+    alloc: Global,
+    node: &Node<R>,
+    taken: Option<(u64, u64)>,
+    origin: u8,
+    number: u64,
+) -> Result<Answer, AllocError>
+    ensures { IfOk result (λ a. answer_value a ≡ standing node.now taken origin number) }
+{
+    match place_below(node, node.front(), origin, number) {
+        Some(position) => {
+            if position >= node.applied() {
+                return waiting(alloc);
+            }
+            let mut body = applied_line(alloc, position)?;
+            push_outcome(alloc, &mut body, node, position)?;
+            Ok(Answer { code: 200, body })
+        }
+        None => {
+            if origin == node.membership().me() && is_taken(taken, number) {
+                return waiting(alloc);
+            }
+            unknown(alloc)
+        }
+    }
+}

@@ -1,6 +1,0 @@
-pub mod Clusters
-pub mod Promised
-pub mod Lives
-pub mod Wires
-pub mod Carried
-pub mod Runs

@@ -1,0 +1,4 @@
+pub mod Effect
+pub mod Answers
+pub mod inner
+pub mod Arguments

@@ -1,4 +1,0 @@
-pub mod Budget
-pub mod Logged
-pub mod HitsCounted
-pub mod Places

@@ -1,0 +1,179 @@
+//! Whether two configurations are the same.
+
+ghost use Rattle.std.specs.Prelude.{◌≡◌, true, IfOk, map};
+ghost use Rattle.std.specs.Option.{option_copied};
+ghost use Rattle.pf_dump.specs.Contents.{tables_named, tables_of, content_at, IsSame};
+
+use crate::same_parts::same_prefix;
+use crate::same_rules::{same_interfaces, same_items, same_names};
+use pf_config::{Config, Table};
+use pf_rules::{Name, TableEntry};
+use std::alloc::{AllocError, Global};
+
+/// Whether two entries are the same.
+fn same_entry(a: TableEntry, b: TableEntry) -> bool
+    ensures { result ≡ true → a ≡ b }
+{
+    a.negated == b.negated && same_prefix(a.prefix, b.prefix)
+}
+
+/// Whether two lists have the same entries in one order.
+fn same_entries(a: &[TableEntry], b: &[TableEntry]) -> bool
+    ensures { result ≡ true → a.now ≡ b.now }
+{
+    let mut left = a;
+    let mut right = b;
+    while let [x, xs @ ..] = left {
+        let [y, ys @ ..] = right else {
+            return false;
+        };
+        if !same_entry(*x, *y) {
+            return false;
+        }
+        left = xs;
+        right = ys;
+    }
+    right.is_empty()
+}
+
+/// Whether two tables have the same flags and entries.
+fn same_table(alloc: Global, a: &Table, b: &Table) -> Result<bool, AllocError>
+    ensures { IfOk result (λ s. s ≡ true → a.now ≡ b.now) }
+{
+    if a.persist() != b.persist() || a.is_const() != b.is_const() {
+        return Ok(false);
+    }
+    let own = a.entries(alloc)?;
+    let others = b.entries(alloc)?;
+    Ok(same_entries(&own, &others))
+}
+
+/// The same where there may be none.
+fn same_table_if(alloc: Global, a: Option<&Table>, b: Option<&Table>) -> Result<bool, AllocError>
+    ensures { IfOk result (λ s. s ≡ true → option_copied a.entry ≡ option_copied b.entry) }
+{
+    match (a, b) {
+        (None, None) => Ok(true),
+        (Some(a), Some(b)) => same_table(alloc, a, b),
+        _ => Ok(false),
+    }
+}
+
+/// Whether two texts are the same.
+#[tactic(auto, using(pf_config::proofs::Treed::bytes_same))]
+fn same_text(a: &str, b: &str) -> bool
+    ensures { result ≡ true → a.now ≡ b.now }
+{
+    a == b
+}
+
+/// Whether two lists of texts are the same.
+fn same_texts(a: &[&str], b: &[&str]) -> bool
+    ensures { result ≡ true → map (λ x. x.now) a.now ≡ map (λ x. x.now) b.now }
+{
+    let mut left = a;
+    let mut right = b;
+    while let [x, xs @ ..] = left {
+        let [y, ys @ ..] = right else {
+            return false;
+        };
+        if !same_text(x, y) {
+            return false;
+        }
+        left = xs;
+        right = ys;
+    }
+    right.is_empty()
+}
+
+/// Whether the tables of these names are the same at a path.
+fn same_named(
+    alloc: Global,
+    a: &Config,
+    b: &Config,
+    path: &[Name],
+    names: &[&str],
+) -> Result<bool, AllocError>
+    ensures { IfOk result (λ s. s ≡ true → tables_named a.now path.now (map (λ x. x.now) names.now)
+        ≡ tables_named b.now path.now (map (λ x. x.now) names.now)) }
+{
+    let mut left = names;
+    while let [name, rest @ ..] = left {
+        if !same_table_if(alloc, a.table(path, name), b.table(path, name))? {
+            return Ok(false);
+        }
+        left = rest;
+    }
+    Ok(true)
+}
+
+/// Whether the same tables are at a path.
+fn same_tables(alloc: Global, a: &Config, b: &Config, path: &[Name]) -> Result<bool, AllocError>
+    ensures { IfOk result (λ s. s ≡ true → tables_of a.now path.now ≡ tables_of b.now path.now) }
+{
+    let names = a.table_names(path)?;
+    let others = b.table_names(path)?;
+    if !same_texts(&names, &others) {
+        return Ok(false);
+    }
+    same_named(alloc, a, b, path, &names)
+}
+
+/// Whether the same is at a path.
+fn same_at(alloc: Global, a: &Config, b: &Config, path: &[Name]) -> Result<bool, AllocError>
+    ensures { IfOk result (λ s. s ≡ true → content_at a.now path.now ≡ content_at b.now path.now) }
+{
+    if !same_items(a.items(path), b.items(path)) {
+        return Ok(false);
+    }
+    same_tables(alloc, a, b, path)
+}
+
+/// Whether two lists of paths are the same.
+fn same_paths(a: &[&[Name]], b: &[&[Name]]) -> bool
+    ensures { result ≡ true → map (λ x. x.now) a.now ≡ map (λ x. x.now) b.now }
+{
+    let mut left = a;
+    let mut right = b;
+    while let [x, xs @ ..] = left {
+        let [y, ys @ ..] = right else {
+            return false;
+        };
+        if !same_names(x, y) {
+            return false;
+        }
+        left = xs;
+        right = ys;
+    }
+    right.is_empty()
+}
+
+/// Whether the same is at each of these paths.
+fn same_at_all(alloc: Global, a: &Config, b: &Config, paths: &[&[Name]]) -> Result<bool, AllocError>
+    ensures { IfOk result (λ s. s ≡ true → map (content_at a.now) (map (λ x. x.now) paths.now)
+        ≡ map (content_at b.now) (map (λ x. x.now) paths.now)) }
+{
+    let mut left = paths;
+    while let [path, rest @ ..] = left {
+        if !same_at(alloc, a, b, path)? {
+            return Ok(false);
+        }
+        left = rest;
+    }
+    Ok(true)
+}
+
+/// Whether two configurations skip the same interfaces, and have the same rules and tables at the same paths.
+pub fn is_same(alloc: Global, a: &Config, b: &Config) -> Result<bool, AllocError>
+    ensures { IfOk result (λ s. s ≡ true → IsSame a.now b.now) }
+{
+    if !same_interfaces(a.skip(), b.skip()) {
+        return Ok(false);
+    }
+    let paths = a.paths()?;
+    let others = b.paths()?;
+    if !same_paths(&paths, &others) {
+        return Ok(false);
+    }
+    same_at_all(alloc, a, b, &paths)
+}

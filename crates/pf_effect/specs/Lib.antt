@@ -1,3 +1,0 @@
-pub mod Effect
-pub mod Answers
-pub mod inner

@@ -1,4 +1,0 @@
-mod Ends
-mod Texts
-pub mod Following
-pub mod Same

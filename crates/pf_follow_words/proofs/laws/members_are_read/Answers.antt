@@ -1,6 +1,0 @@
-use Rattle.cli_ask.proofs.Lines.{args_read, text_read}
-use Rattle.pf_follow_words.proofs.Told.{are_read}
-use Rattle.pf_follow_words.proofs.laws.members_are_read.Goals as goal
-
-pub returns : goal.returns
-returns c = λ addresses. are_read c.shown_is_read.ensures.read c.shown_is_read.ensures.word args_read text_read addresses

@@ -1,5 +1,0 @@
-pub mod Intervals
-pub mod Rows
-pub mod Columns
-pub mod Classes
-pub mod inner

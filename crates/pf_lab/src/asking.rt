@@ -1,0 +1,60 @@
+//! The words of an ask.
+
+ghost use Rattle.std.specs.Prelude.{◌≡◌, map};
+ghost use Rattle.std.specs.Option.{option_copied};
+ghost use Rattle.clap.specs.Words.{found_of, rows_of};
+ghost use Rattle.pf_arguments.specs.Asked.{given_in, asked};
+ghost use Rattle.pf_lab.specs.inner.Asking.{change_in, is_allowed, change_of};
+ghost use Rattle.pf_lab.specs.inner.Seen.{Reads};
+ghost use Rattle.pf_entry.specs.Owned.{command_value};
+
+use crate::fault::{LineFault, UNKNOWN};
+use clap::ArgMatches;
+use pf_arguments::{Action, Command, from_matches};
+use pf_scripts::{file_in, is_standard, matches_in};
+use std::alloc::Global;
+
+/// The change that matches ask for; any other action is 40, after the faults of the words.
+fn change_in(alloc: Global, matches: &ArgMatches<'_>, text: &[u8]) -> Result<Command, LineFault>
+    ensures { Reads command_value result (change_in (asked (given_in (rows_of (found_of matches.now))) text.now)) }
+{
+    match from_matches(alloc, matches, text) {
+        Ok(Action::Change(command)) => Ok(command),
+        Ok(_) => Err(UNKNOWN),
+        Err(fault) => match fault.code() {
+            Some(code) => Err(LineFault::Refused(code)),
+            None => Err(LineFault::Memory),
+        },
+    }
+}
+
+/// Whether a file may be named so: standard input where a text may be behind the line, else none.
+fn is_allowed(file: Option<&str>, text: Option<&[u8]>) -> bool
+    ensures { result ≡ is_allowed (option_copied file.entry) (option_copied text.entry) }
+{
+    match text {
+        Some(_) => is_standard(file),
+        None => file.is_none(),
+    }
+}
+
+/// The change that pfctl's words ask for; the first word stands for pfctl itself. `text` is what is behind the
+/// line, none where no text may.
+pub(crate) fn command_in(
+    alloc: Global,
+    words: &[&str],
+    text: Option<&[u8]>,
+) -> Result<Command, LineFault>
+    ensures { Reads command_value result (change_of (map (λ w. w.now) words.now) (option_copied text.entry)) }
+{
+    let Some(matches) = matches_in(alloc, words)? else {
+        return Err(UNKNOWN);
+    };
+    if !is_allowed(file_in(&matches), text) {
+        return Err(UNKNOWN);
+    }
+    match text {
+        Some(text) => change_in(alloc, &matches, text),
+        None => change_in(alloc, &matches, &[]),
+    }
+}

@@ -1,0 +1,37 @@
+//! Why a line gives nothing.
+
+ghost use Rattle.std.specs.Prelude.{◌≡◌};
+ghost use Rattle.pf_lab.specs.declared.fault.LineFault.TheVariants.{Memory};
+
+use std::alloc::{AllocError, AllocFailed};
+
+/// Why a line gives nothing.
+#[derive(Clone, Copy, PartialEq, Eq)]
+pub(crate) enum LineFault {
+    /// Memory is wanting: the script isn't gone on with.
+    Memory,
+    /// The number of the refusal, which is printed.
+    Refused(u8),
+}
+
+/// The number of an unknown line, and of words that don't go together.
+pub(crate) const UNKNOWN: LineFault = LineFault::Refused(40);
+
+/// The number where no such node or message is.
+pub(crate) const NOT_THERE: LineFault = LineFault::Refused(81);
+
+impl From<AllocError> for LineFault {
+    ghost from_gives = { λ _ e. e ≡ Memory };
+
+    fn from(_e: AllocError) -> LineFault {
+        LineFault::Memory
+    }
+}
+
+impl<T: Drop> From<AllocFailed<T>> for LineFault {
+    ghost from_gives = { λ _ e. e ≡ Memory };
+
+    fn from(_e: AllocFailed<T>) -> LineFault {
+        LineFault::Memory
+    }
+}

@@ -1,0 +1,175 @@
+//! Messages as lines.
+
+ghost use Rattle.std.specs.Prelude.{◌≡◌, ◌++◌, OnOk, string_bytes};
+ghost use Rattle.px_model.specs.Entries.{view_of};
+ghost use Rattle.px_wire.specs.Seen.{message_of, accepted_of};
+ghost use Rattle.pf_lab.specs.inner.Shown.{kind_word, ballot_part, position_part, entry_part, accepted_part};
+ghost use Rattle.pf_lab.specs.inner.Shown.{message_parts, message_line};
+
+use crate::printing::push_named;
+use pf_scripts::push_number;
+use px_model::{EntryView, Message, Proposal};
+use px_replica::Datagram;
+use px_wire::{Membership, MessageView, decode};
+use std::alloc::{AllocError, Global};
+
+/// The word for a message's kind.
+fn kind_of(message: &MessageView<'_>) -> &'static str
+    ensures { result.now ≡ kind_word (message_of message.now) }
+{
+    match message {
+        Message::Prepare { .. } => "prepare",
+        Message::Promise { .. } => "promise",
+        Message::PrepareAll { .. } => "prepareall",
+        Message::PromiseAll { .. } => "promiseall",
+        Message::Accept { .. } => "accept",
+        Message::Vote { .. } => "vote",
+        Message::Nack { .. } => "nack",
+        Message::Need { .. } => "need",
+        Message::Learned { .. } => "learned",
+        Message::Ask { .. } => "ask",
+        Message::Asked { .. } => "asked",
+        Message::AskRefused { .. } => "askrefused",
+    }
+}
+
+/// ` bROUND.NODE`
+fn push_ballot(alloc: Global, out: &mut String, ballot: u64) -> Result<(), AllocError>
+    ensures { OnOk result (string_bytes out.new ≡ string_bytes out.old ++ ballot_part ballot) }
+{
+    push_named(alloc, out, " b", ballot / 256)?;
+    push_named(alloc, out, ".", ballot % 256)
+}
+
+/// ` eORIGIN.NUMBER`
+fn push_entry(alloc: Global, out: &mut String, entry: &EntryView<'_>) -> Result<(), AllocError>
+    ensures { OnOk result (string_bytes out.new
+        ≡ string_bytes out.old ++ entry_part (view_of entry.now).origin (view_of entry.now).number) }
+{
+    push_named(alloc, out, " e", u64::from(entry.origin()))?;
+    push_named(alloc, out, ".", entry.number())
+}
+
+/// The ballot and the position of a message.
+fn push_place(alloc: Global, out: &mut String, ballot: u64, position: u32) -> Result<(), AllocError>
+    ensures { OnOk result (string_bytes out.new
+        ≡ string_bytes out.old ++ (ballot_part ballot ++ position_part position)) }
+{
+    push_ballot(alloc, out, ballot)?;
+    push_named(alloc, out, " p", u64::from(position))
+}
+
+/// ` none`, or the accepted ballot and entry.
+fn push_accepted(
+    alloc: Global,
+    out: &mut String,
+    accepted: &Option<Proposal<EntryView<'_>>>,
+) -> Result<(), AllocError>
+    ensures { OnOk result (string_bytes out.new ≡ string_bytes out.old ++ accepted_part (accepted_of accepted.now)) }
+{
+    match accepted {
+        Some(proposal) => {
+            push_ballot(alloc, out, proposal.ballot)?;
+            push_entry(alloc, out, &proposal.entry)
+        }
+        None => out.push_str(" none"),
+    }
+}
+
+/// What a message says, each part behind a blank. No member sends another what comes from outside or goes there.
+fn push_parts(alloc: Global, out: &mut String, message: &MessageView<'_>) -> Result<(), AllocError>
+    ensures { OnOk result (string_bytes out.new ≡ string_bytes out.old ++ message_parts (message_of message.now)) }
+{
+    match message {
+        Message::Prepare { ballot, position } => push_place(alloc, out, *ballot, *position),
+        Message::PrepareAll { ballot, position } => push_place(alloc, out, *ballot, *position),
+        Message::Promise {
+            ballot,
+            position,
+            accepted,
+        } => {
+            push_place(alloc, out, *ballot, *position)?;
+            push_accepted(alloc, out, accepted)
+        }
+        Message::PromiseAll {
+            ballot,
+            position,
+            top,
+            accepted,
+        } => {
+            push_place(alloc, out, *ballot, *position)?;
+            push_accepted(alloc, out, accepted)?;
+            push_named(alloc, out, " t", u64::from(*top))
+        }
+        Message::Accept {
+            ballot,
+            position,
+            entry,
+        } => {
+            push_place(alloc, out, *ballot, *position)?;
+            push_entry(alloc, out, entry)
+        }
+        Message::Vote {
+            ballot,
+            position,
+            entry,
+        } => {
+            push_place(alloc, out, *ballot, *position)?;
+            push_entry(alloc, out, entry)
+        }
+        Message::Nack {
+            ballot,
+            position,
+            promised,
+        } => {
+            push_place(alloc, out, *ballot, *position)?;
+            push_ballot(alloc, out, *promised)
+        }
+        Message::Need { position } => push_named(alloc, out, " p", u64::from(*position)),
+        Message::Learned { position, entry } => {
+            push_named(alloc, out, " p", u64::from(*position))?;
+            push_entry(alloc, out, entry)
+        }
+        Message::Ask { entry } => push_entry(alloc, out, entry),
+        Message::Asked { .. } => Ok(()),
+        Message::AskRefused { .. } => Ok(()),
+    }
+}
+
+/// `K KIND FROM>TO`, and what the message says.
+fn push_message(
+    alloc: Global,
+    out: &mut String,
+    k: usize,
+    from: u8,
+    to: u8,
+    message: &MessageView<'_>,
+) -> Result<(), AllocError>
+    ensures { OnOk result (string_bytes out.new
+        ≡ string_bytes out.old ++ message_line k from to (message_of message.now)) }
+{
+    push_number(alloc, out, k as u64)?;
+    out.push(' ')?;
+    out.push_str(kind_of(message))?;
+    push_named(alloc, out, " ", u64::from(from))?;
+    push_named(alloc, out, ">", u64::from(to))?;
+    push_parts(alloc, out, message)?;
+    out.push('\n')
+}
+
+/// The line of the message of this number, among that many members.
+pub(crate) fn push_datagram(
+    alloc: Global,
+    out: &mut String,
+    members: u8,
+    k: usize,
+    datagram: &Datagram,
+) -> Result<(), AllocError> {
+    let Some(m) = Membership::new(0, members, datagram.to) else {
+        return Ok(());
+    };
+    match decode(&m, datagram.bytes.as_slice()) {
+        Ok((from, message)) => push_message(alloc, out, k, from, datagram.to, &message),
+        Err(_) => Ok(()),
+    }
+}

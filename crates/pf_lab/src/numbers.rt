@@ -1,0 +1,66 @@
+//! The numbers of a line.
+
+ghost use Rattle.std.specs.Prelude.{◌≡◌};
+ghost use Rattle.std.specs.List.{list_all};
+ghost use Rattle.std.specs.Char.{is_ascii_digit};
+ghost use Rattle.pf_lab.specs.inner.Numbers.{is_number, number_of};
+ghost use Rattle.pf_lab.specs.inner.LabLines.{node_of, message_of};
+ghost use Rattle.pf_lab.specs.inner.Seen.{Reads};
+
+use crate::fault::{LineFault, UNKNOWN};
+
+/// Whether each byte is a digit.
+fn are_digits(text: &[u8]) -> bool
+    ensures { result ≡ list_all is_ascii_digit text.now }
+{
+    text.iter().all(|b| b.is_ascii_digit())
+}
+
+/// Whether the word is decimal digits.
+#[tactic(auto, using(crate::proofs::Digits::digits_all))]
+fn is_number(word: &str) -> bool
+    ensures { result ≡ is_number word.now }
+{
+    !word.is_empty() && are_digits(word.as_bytes())
+}
+
+/// The number that the word says, leading zeros read; none where it is no number. One past 2^64-1 is read as that,
+/// which no message has.
+#[tactic(auto, unfolding(crate::specs::inner::Numbers::number_of))]
+pub(crate) fn number_in(word: &str) -> Option<u64>
+    ensures { result ≡ number_of word.now }
+{
+    if !is_number(word) {
+        return None;
+    }
+    match word.parse::<u64>() {
+        Ok(number) => Some(number),
+        Err(_) => Some(u64::MAX),
+    }
+}
+
+/// The node that the word names. A number past 255 is read as that, which no node has.
+pub(crate) fn node_in(word: &str) -> Result<u8, LineFault>
+    ensures { Reads (λ m. m) result (node_of word.now) }
+{
+    match number_in(word) {
+        Some(number) => {
+            if number < 255 {
+                Ok(number as u8)
+            } else {
+                Ok(255)
+            }
+        }
+        None => Err(UNKNOWN),
+    }
+}
+
+/// The message that the word names.
+pub(crate) fn message_in(word: &str) -> Result<usize, LineFault>
+    ensures { Reads (λ k. k) result (message_of word.now) }
+{
+    match number_in(word) {
+        Some(number) => Ok(number as usize),
+        None => Err(UNKNOWN),
+    }
+}

@@ -1,0 +1,141 @@
+//! What a line asks for.
+
+ghost use Rattle.std.specs.Prelude.{◌≡◌, map, option_map};
+ghost use Rattle.std.specs.Option.{option_copied};
+ghost use Rattle.pf_lab.specs.inner.LabLines.{only, ask_of, action_of, event_of, test_of, bare, line_asked};
+ghost use Rattle.pf_lab.specs.inner.Seen.{Reads, action_value, event_value, line_value};
+
+use crate::asking::command_in;
+use crate::fault::{LineFault, UNKNOWN};
+use crate::numbers::{message_in, node_in};
+use crate::event::{LabAction, LabEvent};
+use std::alloc::Global;
+
+/// What a line asks for.
+#[derive(Drop)]
+pub(crate) enum LabLine<'w, 'a> {
+    /// An event happens.
+    Happens(LabEvent),
+    /// What waits is delivered, in four passes.
+    Run,
+    /// The verdict of a node for a packet.
+    Test(u8, &'w [&'a str]),
+    /// How far each node is.
+    State,
+    /// What a node has learned.
+    Log(u8),
+    /// The messages not shown yet.
+    Sent,
+}
+
+/// The one word.
+fn only<'a>(words: &[&'a str]) -> Result<&'a str, LineFault>
+    ensures { Reads (λ w. w.now) result (only (map (λ w. w.now) words.now)) }
+{
+    match words {
+        [word] => Ok(*word),
+        _ => Err(UNKNOWN),
+    }
+}
+
+/// `NODE WORDS`
+fn ask_in(alloc: Global, words: &[&str], text: Option<&[u8]>) -> Result<LabAction, LineFault>
+    ensures { Reads action_value result (ask_of (map (λ w. w.now) words.now) (option_copied text.entry)) }
+{
+    let [node, ..] = words else {
+        return Err(UNKNOWN);
+    };
+    let node = node_in(*node)?;
+    let command = command_in(alloc, words, text)?;
+    Ok(LabAction::Ask(node, command))
+}
+
+/// `ask NODE WORDS`, `tick NODE` or `deliver K`; `text` is what is behind the line, none where no text may.
+fn action_in(alloc: Global, words: &[&str], text: Option<&[u8]>) -> Result<LabAction, LineFault>
+    ensures { Reads action_value result (action_of (map (λ w. w.now) words.now) (option_copied text.entry)) }
+{
+    let [first, rest @ ..] = words else {
+        return Err(UNKNOWN);
+    };
+    if *first == "ask" {
+        return ask_in(alloc, rest, text);
+    }
+    if *first == "tick" {
+        return Ok(LabAction::Tick(node_in(only(rest)?)?));
+    }
+    if *first == "deliver" {
+        return Ok(LabAction::Deliver(message_in(only(rest)?)?));
+    }
+    Err(UNKNOWN)
+}
+
+/// An action, its stop, or `restart NODE`.
+fn event_in(alloc: Global, words: &[&str], text: &[u8]) -> Result<LabEvent, LineFault>
+    ensures { Reads event_value result (event_of (map (λ w. w.now) words.now) text.now) }
+{
+    let [first, rest @ ..] = words else {
+        return Err(UNKNOWN);
+    };
+    if *first == "stop-before" {
+        return Ok(LabEvent::StopBefore(action_in(alloc, rest, None)?));
+    }
+    if *first == "stop-after" {
+        return Ok(LabEvent::StopAfter(action_in(alloc, rest, None)?));
+    }
+    if *first == "restart" {
+        return Ok(LabEvent::Restart(node_in(only(rest)?)?));
+    }
+    Ok(LabEvent::Runs(action_in(alloc, words, Some(text))?))
+}
+
+/// `test NODE PACKET`
+fn test_in<'w, 'a>(words: &'w [&'a str]) -> Result<LabLine<'w, 'a>, LineFault>
+    ensures { Reads line_value result (test_of (map (λ w. w.now) words.now)) }
+{
+    match words {
+        [node, packet @ ..] => Ok(LabLine::Test(node_in(*node)?, packet)),
+        [] => Err(UNKNOWN),
+    }
+}
+
+/// What a line of one word asks for, none where it is no such word.
+fn bare<'w, 'a>(word: &str) -> Option<LabLine<'w, 'a>>
+    ensures { option_map line_value result ≡ bare word.now }
+{
+    if word == "run" {
+        return Some(LabLine::Run);
+    }
+    if word == "state" {
+        return Some(LabLine::State);
+    }
+    if word == "sent" {
+        return Some(LabLine::Sent);
+    }
+    None
+}
+
+/// What a line with these words asks for; `text` is what is behind it.
+pub(crate) fn line_in<'w, 'a>(
+    alloc: Global,
+    words: &'w [&'a str],
+    text: &[u8],
+) -> Result<LabLine<'w, 'a>, LineFault>
+    ensures { Reads line_value result (line_asked (map (λ w. w.now) words.now) text.now) }
+{
+    let [first, rest @ ..] = words else {
+        return Err(UNKNOWN);
+    };
+    if rest.is_empty() {
+        return match bare(*first) {
+            Some(line) => Ok(line),
+            None => Err(UNKNOWN),
+        };
+    }
+    if *first == "test" {
+        return test_in(rest);
+    }
+    if *first == "log" {
+        return Ok(LabLine::Log(node_in(only(rest)?)?));
+    }
+    Ok(LabLine::Happens(event_in(alloc, words, text)?))
+}

@@ -1,0 +1,110 @@
+//! A line of a script.
+
+ghost use Rattle.std.specs.Prelude.{◌≡◌, IfOk, map};
+ghost use Rattle.pf_lab.specs.inner.LabLines.{is_followed};
+
+use crate::bench::Bench;
+use crate::fault::LineFault;
+use crate::reading::{LabLine, line_in};
+use pf_scripts::{Line, Waiting, push_bytes, push_refusal, takes_text, words_in};
+use std::alloc::{AllocError, Global};
+
+/// Does what a line asks for.
+fn run_line(
+    alloc: Global,
+    bench: &mut Bench,
+    line: LabLine<'_, '_>,
+    out: &mut String,
+) -> Result<(), LineFault> {
+    match line {
+        LabLine::Happens(event) => bench.happen(alloc, &event, out)?,
+        LabLine::Run => bench.run()?,
+        LabLine::Test(m, packet) => bench.show_verdict(alloc, m, packet, out)?,
+        LabLine::State => bench.show_state(alloc, out)?,
+        LabLine::Log(m) => bench.show_log(alloc, m, out)?,
+        LabLine::Sent => bench.show_sent(alloc, out)?,
+    }
+    Ok(())
+}
+
+/// Does what a line with words asks for, or prints its refusal; `text` is what is behind it.
+pub(crate) fn run_words(
+    alloc: Global,
+    bench: &mut Bench,
+    words: &[&str],
+    text: &[u8],
+    out: &mut String,
+) -> Result<(), AllocError> {
+    let done = match line_in(alloc, words, text) {
+        Ok(line) => run_line(alloc, bench, line, out),
+        Err(fault) => Err(fault),
+    };
+    match done {
+        Ok(()) => Ok(()),
+        Err(LineFault::Refused(code)) => push_refusal(alloc, out, code, 0),
+        Err(LineFault::Memory) => Err(AllocError),
+    }
+}
+
+/// Whether a text follows a line with these words: one of an ask, `ask` in pfctl's place.
+fn is_followed(alloc: Global, words: &[&str]) -> Result<bool, AllocError>
+    ensures { IfOk result (λ b. b ≡ is_followed (map (λ w. w.now) words.now)) }
+{
+    match words {
+        [first, ..] => {
+            if *first == "ask" {
+                takes_text(alloc, words)
+            } else {
+                Ok(false)
+            }
+        }
+        [] => Ok(false),
+    }
+}
+
+/// Does a line with words, unless a text follows it.
+fn begin<'a>(
+    alloc: Global,
+    bench: &mut Bench,
+    words: Vec<&'a str>,
+    out: &mut String,
+) -> Result<Option<Waiting<'a>>, AllocError> {
+    if words.is_empty() {
+        return Ok(None);
+    }
+    if is_followed(alloc, &words)? {
+        return Ok(Some(Waiting {
+            words,
+            text: Vec::new(alloc),
+        }));
+    }
+    run_words(alloc, bench, &words, &[], out)?;
+    Ok(None)
+}
+
+/// Does a line: one of a text, or one with words. Answers what waits for its text then.
+pub(crate) fn step<'a>(
+    alloc: Global,
+    bench: &mut Bench,
+    waiting: Option<Waiting<'a>>,
+    line: Line<'a>,
+    out: &mut String,
+) -> Result<Option<Waiting<'a>>, AllocError> {
+    let Some(waiting) = waiting else {
+        let Some(words) = words_in(alloc, line.content)? else {
+            push_refusal(alloc, out, 40, 0)?;
+            return Ok(None);
+        };
+        return begin(alloc, bench, words, out);
+    };
+    if line.content == b".".as_slice() {
+        run_words(alloc, bench, &waiting.words, &waiting.text, out)?;
+        return Ok(None);
+    }
+    let mut text = waiting.text;
+    push_bytes(&mut text, line)?;
+    Ok(Some(Waiting {
+        words: waiting.words,
+        text,
+    }))
+}

@@ -1,5 +1,0 @@
-use Rattle.pf_laws.proofs.Logs.{log_map}
-use Rattle.pf_laws.proofs.maps.logs_leave_maps.Goals as goal
-
-pub returns : goal.returns
-returns c = λ es k. log_map es k

@@ -1,4 +1,0 @@
-pub mod Asking
-pub mod Honest
-pub mod Hosted
-pub mod Still

@@ -1,5 +1,0 @@
-use Rattle.pf_member.proofs.Honest.{hosted_runs_lived}
-use Rattle.pf_member.proofs.laws.hosted_runs_are_lived.Goals as goal
-
-pub returns : goal.returns
-returns g c = hosted_runs_lived g.R.Records c.hostings_are_lived.ensures

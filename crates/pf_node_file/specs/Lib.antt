@@ -1,3 +1,0 @@
-pub mod Settings
-pub mod Files
-pub mod inner

@@ -1,0 +1,50 @@
+//! Families and protocols.
+
+ghost use Rattle.std.specs.Prelude.{◌≡◌};
+ghost use Rattle.pf_tokens.specs.Parsing.{left, later};
+ghost use Rattle.pf_statements.specs.Conditions.{family_at, protocol_at};
+ghost use Rattle.pf_statements.specs.inner.Shorter.{protocol_shorter};
+
+use crate::conditions::Protocol;
+use pf_addr::Family;
+use pf_tokens::{Element, Parser, Stop};
+use pf_rules::{Profile, parse_protocol};
+use std::alloc::Global;
+
+/// The family, if it is said.
+#[tactic(auto, unfolding(pf_tokens::specs::Productions::option_at, crate::specs::Conditions::family_at))]
+pub(crate) fn read_family<'t: 's, 's>(parser: &mut Parser<'t, 's>) -> Option<Family>
+    ensures read { (result, left parser.new) ≡ family_at (left parser.old) }
+    ensures later { later parser.new ≡ later parser.old }
+{
+    if parser.accept(b"inet") {
+        Some(Family::Inet)
+    } else if parser.accept(b"inet6") {
+        Some(Family::Inet6)
+    } else {
+        None
+    }
+}
+
+impl Element for Protocol {
+    type Value = Protocol;
+
+    ghost read = { protocol_at };
+
+    #[tactic(auto, unfolding(crate::specs::Conditions::protocol_at))]
+    fn read<'t: 's, 's>(
+        _alloc: Global,
+        _profile: Profile,
+        parser: &mut Parser<'t, 's>,
+    ) -> Result<Protocol, Stop> {
+        let Some(text) = parser.word() else {
+            return Err(Stop::Syntax);
+        };
+        match parse_protocol(text) {
+            Some(number) => Ok(Protocol { number }),
+            None => Err(Stop::Syntax),
+        }
+    }
+
+    ghost shorter = { protocol_shorter };
+}

@@ -1,4 +1,0 @@
-pub mod Tables
-pub mod Contents
-pub mod Parts
-pub mod inner

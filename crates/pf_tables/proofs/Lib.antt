@@ -1,0 +1,10 @@
+pub mod Lookups
+pub mod Merging
+pub mod Longest
+pub mod Deciding
+pub mod Parting
+pub mod Keyed
+pub mod OneEdit
+pub mod Words
+pub mod Meeting
+pub mod Lists

@@ -1,5 +1,0 @@
-mod Given
-pub mod Chains
-pub mod Traffic
-pub mod Lives
-pub mod Hosting

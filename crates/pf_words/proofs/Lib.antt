@@ -1,3 +1,0 @@
-pub mod Ascii
-pub mod Digits
-pub mod Reserved

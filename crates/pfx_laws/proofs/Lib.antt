@@ -1,0 +1,31 @@
+-- How the proofs go: Laws over several crates (pfx_laws).
+--
+-- | File of `proofs/` | What it shows |
+-- |---|---|
+-- | `Depths` | a target lies deeper than its rule, so `hits` of one level less is the same from nine on; by the same induction any answer to the equation is `hits` |
+-- | `Changed` | each change keeps entries in order, none empty, and few: what is before and behind a path, with what was found at it, is no more than there was |
+-- | `Readings` | targets of a text have 1 to 8 names; `Room` of pf_grammar has the rest; the path of a block is a path of names |
+-- | `Logs` | the effect of each command by these, and a log by induction |
+-- | `Braces` | the tokens of each production lead back to the depth at which they began (`Level`); so a block's items nest no deeper than its braces |
+-- | `Again` | a shown rule has no fault: its tokens are clean, its braces are low (`item_low`), its length is asked; then as `RoundTrip` of pf_grammar, whose invariant it has with one field more |
+--
+-- - `Level` is a record: as an `abbrev` of a function its argument isn't found from the goal (`_` stays unsolved).
+-- - Newlines within a list change nothing of depths (`blank_low`), so that a list's tokens needn't be compared with those
+--   that `blanked` leaves.
+-- - `rw` with a fact that stands twice in the goal rewrites both; `both_from` says which.
+pub mod Depths
+pub mod Changed
+pub mod Braces
+pub mod Readings
+pub mod Again
+pub mod Logs
+pub mod Labels
+pub mod Backwards
+pub mod Alone
+pub mod Following
+pub mod Agreeing
+pub mod Living
+pub mod Carrying
+pub mod Carried
+pub mod Stretching
+pub mod Worked

@@ -1,0 +1,73 @@
+-- What members lived is a history.
+use Rattle.std.proofs.Common.{sym, subst, refl, ℕ, ◌<◌, nat_eq, List, [], ◌∷◌, inl, inr}
+use Rattle.std.proofs.lemmas.Bool.{cond-true, cond-false, eq-eqb}
+use Rattle.std.proofs.lemmas.Bool.Decides.{eqb_tells}
+use Rattle.px_model.specs.Step.{put}
+use Rattle.px_model.specs.World.{NodeState, started}
+use Rattle.px_model.specs.Spelling.{Bytes}
+use Rattle.px_wire.specs.Message.{Group}
+use Rattle.px_replica.specs.Lives.{Deed, Lived, stopped}
+use Rattle.pfx_laws.specs.Clusters as clusters
+use Rattle.pfx_laws.specs.Clusters.{Cluster, Happening, MayAllHappen, next}
+use Rattle.pfx_laws.specs.Clusters.Happening.{Calls, Stops, Opens}
+use Rattle.pfx_laws.specs.Lives.{member_of, deed, deeds_of, AreOfMembers, AreDelivered, LivesAreHistories}
+
+-- how the members stand, and what befalls each from there on
+abbrev Live : Group → (ℕ → NodeState Bytes) → List Happening → Type 0
+Live g nodes hs = (m : ℕ) → m < g.members → (t : NodeState Bytes) × Lived g m (nodes m) (deeds_of m hs) t
+
+-- what befalls a member first is what happens to it first
+own : (g : Group) (nodes : ℕ → NodeState Bytes) (h : Happening) (hs : List Happening) → member_of h < g.members → Live g nodes (h ∷ hs) →
+    (t : NodeState Bytes) × Lived g (member_of h) (nodes (member_of h)) (deed h ∷ deeds_of (member_of h) hs) t
+own g nodes h hs below live =
+    let m = member_of h in
+    let l = live m below in (
+      l.0,
+      subst (λ (ds : List Deed). Lived g m (nodes m) ds l.0)
+          (cond-true (nat_eq m m) (deed h ∷ deeds_of m hs) (deeds_of m hs) (eq-eqb m m refl)) l.1,
+    )
+
+-- the others go on as they stood
+on : (g : Group) (nodes : ℕ → NodeState Bytes) (h : Happening) (hs : List Happening) (s t : NodeState Bytes) →
+    Live g nodes (h ∷ hs) → Lived g (member_of h) s (deeds_of (member_of h) hs) t → Live g (put nodes (member_of h) s) hs
+on g nodes h hs s t live mine m below =
+    let k = member_of h in
+    let yes = deed h ∷ deeds_of m hs in
+    let none = deeds_of m hs in
+    elim (eqb_tells m k) [
+      | inl is ↦ (
+        t,
+        subst (λ (z : NodeState Bytes). Lived g m z none t) (sym (cond-true (nat_eq m k) s (nodes m) is.0))
+            (subst (λ (j : ℕ). Lived g j s (deeds_of j hs) t) (sym is.1) mine),
+      )
+      | inr other ↦ (
+          let l = live m below in (
+            l.0,
+            subst (λ (z : NodeState Bytes). Lived g m z none l.0) (sym (cond-false (nat_eq m k) s (nodes m) other.0))
+                (subst (λ (ds : List Deed). Lived g m (nodes m) ds l.0) (cond-false (nat_eq m k) yes none other.0) l.1),
+          ))
+    ]
+
+all_may : (g : Group) (hs : List Happening) (c : Cluster) → AreOfMembers g hs → Live g c.nodes hs → AreDelivered g hs c.sent →
+    MayAllHappen g hs c
+all_may g [] c below live delivered = tt
+all_may g (Calls m x t out ∷ hs) c below live delivered =
+    let o = own g c.nodes (Calls m x t out) hs below.0 live in
+    let l = o.1 in (
+      (record { below = below.0; is_up = l.0 }, ((l.1, delivered.0), l.2)),
+      all_may g hs (next c (Calls m x t out)) below.1 (on g c.nodes (Calls m x t out) hs t o.0 live l.3) delivered.1,
+    )
+all_may g (Stops m x left ∷ hs) c below live delivered =
+    let o = own g c.nodes (Stops m x left) hs below.0 live in
+    let l = o.1 in (
+      (record { below = below.0; is_up = l.0 }, ((l.1, delivered.0), l.2)),
+      all_may g hs (next c (Stops m x left)) below.1 (on g c.nodes (Stops m x left) hs (stopped left) o.0 live l.3) delivered.1,
+    )
+all_may g (Opens m ∷ hs) c below live delivered =
+    let o = own g c.nodes (Opens m) hs below.0 live in (
+      below.0,
+      all_may g hs (next c (Opens m)) below.1 (on g c.nodes (Opens m) hs (started (c.nodes m).stored) o.0 live o.1) delivered,
+    )
+
+pub lives_are_histories : LivesAreHistories
+lives_are_histories g history below live delivered = all_may g history clusters.begun below live delivered

@@ -1,0 +1,13 @@
+pub mod Targets
+pub mod Walks
+pub mod Maps
+pub mod Lengths
+pub mod Logs
+pub mod Labels
+pub mod Alone
+pub mod Clusters
+pub mod Promised
+pub mod Lives
+pub mod Wires
+pub mod Carried
+pub mod Runs

@@ -1,0 +1,68 @@
+-- What members live with their wires, in the order in which it happened, and what is asked of the network.
+use Rattle.std.specs.Prelude.{◌≡◌, ◌⊎◌, ◌<◌, ℕ, List, [], ◌∷◌, ◌++◌, map, nat_eq, if◌then◌else◌}
+use Rattle.px_model.specs.Law.{Among}
+use Rattle.px_model.specs.World.{NodeState, nothing_stored, started}
+use Rattle.px_model.specs.Spelling.{Bytes}
+use Rattle.px_wire.specs.Message.{Group}
+use Rattle.px_replica.specs.Lives.{Deed, stopped}
+use Rattle.node_loop.specs.Living.{messages_of, AreBrought, sent_by}
+use Rattle.node_loop.specs.Resending.{IsOutside}
+use Rattle.pfx_laws.specs.Clusters.{Happening}
+
+-- A stretch of a member's life: what befell it, one thing or several, and the datagrams that its wire gave meanwhile.
+-- What the wire was handed meanwhile is what the member sent (`sent_by`), and some of that again.
+pub record Stretch : Type 0 where
+  pub member : ℕ
+  pub deeds : List Deed
+  pub gave : List Bytes
+
+-- in all stretches, what befell this member
+abbrev pub deeds_in : (member : ℕ) → List Stretch → List Deed
+deeds_in m [] = []
+deeds_in m (x ∷ xs) = if nat_eq m x.member then x.deeds ++ deeds_in m xs else deeds_in m xs
+
+-- how a member stands after what befell it
+abbrev pub led_to : NodeState Bytes → List Deed → NodeState Bytes
+led_to s [] = s
+led_to s (Deed.Calls x t out ∷ ds) = led_to t ds
+led_to s (Deed.Stops x left ∷ ds) = led_to (stopped left) ds
+led_to s (Deed.Opens ∷ ds) = led_to (started s.stored) ds
+
+-- how a member stands after these stretches, of one that began with an empty record
+abbrev pub stand : List Stretch → (member : ℕ) → NodeState Bytes
+stand stretches m = led_to (started nothing_stored) (deeds_in m stretches)
+
+-- each stretch is one of a member, and each message that came to it there its wire gave it there, in a datagram
+abbrev pub AreStretches : Group → List Stretch → Type 0
+AreStretches g [] = Unit {0}
+AreStretches g (x ∷ xs) =
+    (x.member < g.members) × AreBrought g x.member x.gave (messages_of x.deeds) × AreStretches g xs
+
+-- ---- the network
+
+-- The datagram was handed to some member's wire, for this member, at any time before and however often it is given. Or
+-- it is no member's message to this member: what it spells, if anything, is a request from outside. So are garbage, a
+-- datagram of another cluster, and the empty one that a wire gives in place of one that it drops.
+abbrev pub IsCarried : Group → (handed : List (ℕ × Bytes)) → (member : ℕ) → Bytes → Type 0
+IsCarried g handed m bytes = Among handed (m, bytes) ⊎ IsOutside g m bytes
+
+-- So is each datagram that a wire gave in a stretch, by what wires were handed before that stretch began; these were
+-- handed already.
+abbrev pub AreCarried : Group → List Stretch → (handed : List (ℕ × Bytes)) → Type 0
+AreCarried g [] handed = Unit {0}
+AreCarried g (x ∷ xs) handed =
+    ((bytes : Bytes) → Among x.gave bytes → IsCarried g handed x.member bytes) ×
+    AreCarried g xs (handed ++ sent_by x.deeds)
+
+-- ---- what happens in the cluster
+
+-- what befalls this member
+abbrev pub happening : (member : ℕ) → Deed → Happening
+happening m (Deed.Calls x t out) = Happening.Calls m x t out
+happening m (Deed.Stops x left) = Happening.Stops m x left
+happening m Deed.Opens = Happening.Opens m
+
+-- what befalls the members in these stretches, in order
+abbrev pub history_of : List Stretch → List Happening
+history_of [] = []
+history_of (x ∷ xs) = map (happening x.member) x.deeds ++ history_of xs

@@ -1,0 +1,101 @@
+//! What holds of every cluster of nodes.
+
+ghost use Rattle.pfx_laws.specs.Lives.{LivesAreHistories};
+ghost use Rattle.pfx_laws.specs.Promised.{HistoriesAreRuns, NodesAgree, LearnWhatWasAsked, NeverDiffer};
+ghost use Rattle.pfx_laws.specs.Promised.{EquallyApplied};
+ghost use Rattle.pfx_laws.specs.Carried.{WiresAreHistories, WiresNeverDiffer, WiresLearnWhatWasAsked};
+ghost use Rattle.pfx_laws.specs.Carried.{EquallyAppliedOverWires};
+ghost use Rattle.pfx_laws.specs.Runs.{LivesAreStretches, OpeningsAreStretches, RunsAreStretches};
+ghost use Rattle.pfx_laws.specs.Runs.{LivesGo, RunsNeverDiffer};
+
+use px_records::Records;
+
+/// What members lived, each from an empty record, is a history, in whatever order of theirs each datagram that one took
+/// had been handed out to it. What turns make is such a life (`node_loop::laws::turns_are_lived`).
+pub fn lives_are_histories()
+    ensures { LivesAreHistories }
+{}
+
+/// Whatever happens to nodes over any records, calls, stops in the midst of one, failures of a store, openings, and
+/// datagrams lost, repeated, delayed and reordered: it is a run of the world. Its members are the nodes, with their
+/// records, and its messages are what they handed out, in order.
+///
+/// Source: Paxos Made Simple, 2.1.
+pub fn histories_are_runs()
+    ensures { HistoriesAreRuns }
+{}
+
+/// So the members agree: what was ever learned at a position is one entry, chosen there and asked, no entry is learned
+/// at two positions, and nothing learned is lost.
+pub fn nodes_agree()
+    ensures { NodesAgree }
+{}
+
+/// A node learns nothing but what was asked of a node and taken in, and nothing is taken in twice.
+pub fn nodes_learn_what_was_asked()
+    ensures { LearnWhatWasAsked }
+{}
+
+/// At whatever moments: two nodes never have different entries as learned at a position, nor one entry at two
+/// positions.
+pub fn nodes_never_differ()
+    ensures { NeverDiffer }
+{}
+
+/// At whatever moments: two nodes, over whatever records, that have applied equally many positions have one
+/// configuration, and so give one verdict for every packet.
+pub fn equally_applied_nodes_are_equal<R: Records, Q: Records>()
+    ensures { EquallyApplied R.Records Q.Records }
+{}
+
+/// What a member lived is a stretch of its life, which leads to where it stands in the end; and what it lived up to a
+/// stop there is one, whatever that leaves.
+pub fn lives_are_stretches<R: Records>()
+    ensures { LivesAreStretches R.Records }
+{}
+
+/// What a member lived from an opening on is a stretch, with that opening, from wherever it stood before.
+pub fn openings_are_stretches()
+    ensures { OpeningsAreStretches }
+{}
+
+/// What befell members in stretches, one of one member after another, is a history where each lived from an empty
+/// record on, and their wires gave no datagram but those that some wire had been handed for that member before,
+/// repeated, late and in whatever order, and asks from outside. It leaves each member as it stands.
+pub fn wires_are_histories()
+    ensures { WiresAreHistories }
+{}
+
+/// So over such a network two nodes never have different entries as learned at a position, nor one entry at two
+/// positions, at whatever moments.
+pub fn wires_never_differ()
+    ensures { WiresNeverDiffer }
+{}
+
+/// Over such a network a node learns nothing but what was asked of a node and taken in, and nothing is taken in twice.
+pub fn wires_learn_what_was_asked()
+    ensures { WiresLearnWhatWasAsked }
+{}
+
+/// Over such a network two nodes, over whatever records, that have applied equally many positions have one
+/// configuration, and so give one verdict for every packet.
+pub fn equally_applied_over_wires<R: Records, Q: Records>()
+    ensures { EquallyAppliedOverWires R.Records Q.Records }
+{}
+
+/// Members that run side by side, each from an empty record on, in whatever order of what befell them such a network is
+/// there: these laws hold of them as they stand in the end.
+pub fn lives_go<R: Records>()
+    ensures { LivesGo R.Records }
+{}
+
+/// Runs of members over wires that tell what they gave and were handed, one after another, are such stretches, and
+/// their network is such a network where it is one by the lists that the wires tell.
+pub fn runs_are_stretches<R: Records>()
+    ensures { RunsAreStretches R.Records }
+{}
+
+/// So members that run over such wires never differ.
+pub fn runs_never_differ<R: Records>()
+    ensures { RunsNeverDiffer R.Records }
+{}

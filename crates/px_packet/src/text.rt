@@ -1,0 +1,27 @@
+//! A key as it stands in a file.
+
+ghost use Rattle.std.specs.Prelude.{◌≡◌, ◌↔◌, Ok, IsSome, IsOk, IfSome};
+ghost use Rattle.hex.specs.Hex.{decode_sized};
+ghost use Rattle.px_packet.specs.Texts.{line};
+
+/// The text without a newline at its end.
+fn line(text: &[u8]) -> &[u8]
+    ensures { result.now ≡ line text.now }
+{
+    match text.split_last() {
+        Some((last, front)) => { if *last == b'\n' { front } else { text } }
+        None => text,
+    }
+}
+
+/// The key of 64 hexadecimal digits, behind which a newline may stand; none for every other text.
+pub fn parse_key(text: &[u8]) -> Option<[u8; 32]>
+    ensures key { IfSome result (λ k. decode_sized (line text.now) 32 ≡ Ok k) }
+    ensures some { IsSome result ↔ IsOk (decode_sized (line text.now) 32) }
+{
+    let mut key = [0u8; 32];
+    match hex::decode_to_slice(line(text), &mut key) {
+        Ok(()) => Some(key),
+        Err(_) => None,
+    }
+}

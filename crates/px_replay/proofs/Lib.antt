@@ -1,2 +1,0 @@
-mod Windows
-mod Arrivals

@@ -1,4 +1,0 @@
-pub mod Windows
-pub mod Arrivals
-pub mod Laws
-pub mod Examples

@@ -1,2 +1,0 @@
-pub mod Among
-mod Kept

@@ -1,2 +1,0 @@
-mod Filling
-mod Grouping

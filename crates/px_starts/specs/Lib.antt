@@ -1,3 +1,0 @@
-pub mod Texts
-pub mod Next
-pub mod Examples

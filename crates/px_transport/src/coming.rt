@@ -1,0 +1,15 @@
+//! What comes of a packet.
+
+use px_packet::PiecesHeld;
+
+/// What comes of a packet.
+pub(crate) enum Coming {
+    /// So many bytes are given.
+    Given(usize),
+    /// A member has these pieces of a datagram.
+    Held(u8, PiecesHeld),
+    /// It isn't heard.
+    Dropped,
+    /// It isn't heard: it is of a copied or restored machine.
+    OtherMachine,
+}

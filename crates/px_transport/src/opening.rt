@@ -1,0 +1,74 @@
+//! Packets that are opened and taken.
+
+ghost use Rattle.std.specs.Prelude.{◌≡◌, ◌≤◌, List, Some, length, take};
+ghost use Rattle.px_packet.specs.declared.start.Start.{Start};
+ghost use Rattle.px_packet.specs.Keyed.{keys_of};
+ghost use Rattle.px_transport.specs.Receiving.{Heard, Memory, Hears, heard_after, given_by};
+ghost use Rattle.px_transport.specs.Wiring.{opened, given_of, heard_with, Comes, IsWithin};
+ghost use Rattle.px_transport.specs.Senders.{sealer_of};
+
+use crate::coming::Coming;
+use crate::receiver::Receiver;
+use crate::sender::Sender;
+use crate::taken::Taken;
+use px_packet::Header;
+use px_packet::Arrival;
+
+/// Copies the bytes to the room that there is: how many these are.
+fn put(bytes: &[u8], into: &mut [u8]) -> usize
+    ensures fits { result ≤ length into.new }
+    ensures written { take result into.new ≡ take (length into.old) bytes.now }
+{
+    let n = bytes.len().min(into.len());
+    into[..n].copy_from_slice(&bytes[..n]);
+    n
+}
+
+/// What comes of a packet that was opened.
+fn take_opened(
+    receiver: &mut Receiver,
+    header: &Header,
+    body: &[u8],
+    now: u64,
+    into: &mut [u8],
+) -> Coming
+    ensures fits { IsWithin result into.new }
+    ensures comes { (mine : Start) (hs : List Heard) → Hears mine hs receiver.old → (m : Memory) ×
+        Hears mine (heard_after mine m hs header.now body.now now) receiver.new ×
+        Comes (Some (header.now, body.now)) (Some (given_by mine m hs header.now body.now now)) (length into.old)
+        result into.new }
+{
+    match receiver.take(header, body, now) {
+        Taken::Whole(datagram) => Coming::Given(put(datagram, into)),
+        Taken::Joined(datagram) => Coming::Given(put(datagram.as_slice(), into)),
+        Taken::Held(held) => Coming::Held(header.from, held),
+        Taken::Nothing => Coming::Given(0),
+        Taken::Dropped(arrival) => match arrival {
+            Arrival::OtherMachine => Coming::OtherMachine,
+            _ => Coming::Dropped,
+        },
+    }
+}
+
+/// What comes of a packet.
+pub(crate) fn take_packet(
+    sender: &Sender,
+    receiver: &mut Receiver,
+    packet: &[u8],
+    now: u64,
+    into: &mut [u8],
+) -> Coming
+    ensures fits { IsWithin result into.new }
+    ensures comes { (mine : Start) (hs : List Heard) → Hears mine hs receiver.old → (m : Memory) ×
+        (let p = opened (keys_of sender.now.keys) (sealer_of sender.now) packet.now in
+        Hears mine (heard_with mine m hs p now) receiver.new ×
+        Comes p (given_of mine m hs p now) (length into.old) result into.new) }
+{
+    match sender
+        .keys
+        .open(packet, sender.cluster, sender.members, sender.me)
+    {
+        Ok((header, body)) => take_opened(receiver, &header, body, now, into),
+        Err(_) => Coming::Dropped,
+    }
+}

@@ -1,0 +1,480 @@
+//! A wire of packets of the second format.
+
+ghost use Rattle.std.specs.Prelude.{◌≡◌, ◌≤◌, IfOk, length};
+ghost use Rattle.px_transport.specs.Wires.{Counts};
+ghost use Rattle.px_transport.specs.declared.packet_wire.TheConstants.{ROOM_BYTES};
+ghost use Rattle.px_transport.specs.Sending.{time_left};
+
+use crate::coming::Coming;
+use crate::opening::take_packet;
+use crate::receiver::Receiver;
+use crate::sender::Sender;
+use px_packet::{PacketKeys, Start};
+use px_packet::PiecesHeld;
+use crate::wire::Wire;
+use std::alloc::{AllocError, Global};
+use std::time::{Clock, Instant};
+
+/// Room for what comes.
+const ROOM_BYTES: usize = 33_056;
+
+/// How many reports are sent to a member before each receive and each wait at most.
+const REPORTS_MAX: u8 = 8;
+
+/// A wire over which datagrams go as packets of the second format, sealed with the cluster's key for one other member
+/// each. What is longer than a packet is cut, and reassembled by its receiver. What isn't heard is given as an empty
+/// datagram, which is no member's, and is counted.
+///
+/// Beside what it is handed it sends packets of kind state, each second and to a member that showed a new start; which
+/// pieces of a datagram have come; and pieces again that a member lacks.
+#[derive(Drop)]
+pub struct PacketWire<W, C> {
+    inner: W,
+    clock: C,
+    /// The clock's reading when the wire was made.
+    began: Option<Instant>,
+    sender: Sender,
+    receiver: Receiver,
+    /// Room for what comes.
+    incoming: Vec<u8>,
+    failures: u64,
+    dropped: u64,
+    copies: u64,
+    ghost room: { length incoming.items ≡ ROOM_BYTES },
+}
+
+/// The clock's reading.
+fn reading<C: Clock>(clock: &C) -> Option<Instant> {
+    match Instant::now(clock) {
+        Ok(now) => Some(now),
+        Err(_) => None,
+    }
+}
+
+/// Room for what comes.
+fn room(alloc: Global) -> Result<Vec<u8>, AllocError>
+    ensures { IfOk result (λ v. length v.items ≡ ROOM_BYTES) }
+{
+    let mut room = Vec::with_capacity(alloc, ROOM_BYTES)?;
+    room.resize(ROOM_BYTES, 0)?;
+    Ok(room)
+}
+
+/// How many of the given number of milliseconds are left before something is due.
+fn time_left(due: u64, now: u64, milliseconds: u32) -> u32
+    ensures left { result ≡ time_left due now milliseconds }
+    ensures within { result ≤ milliseconds }
+{
+    let left = due.saturating_sub(now).min(u64::from(milliseconds));
+    left as u32
+}
+
+/// How many sends failed with this one.
+fn count_sent(failures: u64, sent: bool) -> u64
+    ensures counts { Counts sent failures result }
+    ensures rises { failures ≤ result }
+{
+    if sent {
+        return failures;
+    }
+    failures.saturating_add(1)
+}
+
+/// How many sends and receives failed with those of the wire below, between two counts of these.
+fn count_below(failures: u64, before: u64, after: u64) -> u64
+    ensures { failures ≤ result }
+{
+    failures.saturating_add(after.saturating_sub(before))
+}
+
+impl<W: Wire + Drop, C: Clock + Drop> PacketWire<W, C> {
+    ghost use Rattle.std.specs.Prelude.{IfOk, replicate};
+    ghost use Rattle.px_packet.specs.Keyed as keyed;
+    ghost use Rattle.px_transport.specs.Receiving.{Hears, unheard};
+    ghost use Rattle.px_transport.specs.Sending.{new_to};
+    ghost use Rattle.px_transport.specs.Wiring.{inner_of, sealer_of, keys_of, outgoing_of, receiver_of, failures_of};
+    ghost use Rattle.px_transport.specs.Wiring.{dropped_of, copies_of};
+
+    /// The wire of a member of a cluster, whose start is this. Takes its room once.
+    pub fn new(
+        alloc: Global,
+        inner: W,
+        clock: C,
+        keys: PacketKeys,
+        cluster: u32,
+        members: u8,
+        me: u8,
+        start: Start,
+    ) -> Result<PacketWire<W, C>, AllocError>
+        ensures inner { IfOk result (λ w. inner_of w ≡ inner) }
+        ensures sealer { IfOk result (λ w. sealer_of w ≡ record {
+          cluster = cluster;
+          members = members;
+          me = me;
+          start = start;
+          key = keyed.key_of keys;
+        }) }
+        ensures keys { IfOk result (λ w. keys_of w ≡ keyed.keys_of keys) }
+        ensures outgoing { IfOk result (λ w. outgoing_of w ≡ replicate members new_to) }
+        ensures heard { IfOk result (λ w. Hears start (replicate members unheard) (receiver_of w)) }
+        ensures counts { IfOk result (λ w. (failures_of w ≡ 0) × (dropped_of w ≡ 0) × (copies_of w ≡ 0)) }
+    {
+        let sender = Sender::new(alloc, keys, cluster, members, me, start)?;
+        let receiver = Receiver::new(alloc, members, start)?;
+        let incoming = room(alloc)?;
+        let began = reading(&clock);
+        Ok(PacketWire {
+            inner,
+            clock,
+            began,
+            sender,
+            receiver,
+            incoming,
+            failures: 0,
+            dropped: 0,
+            copies: 0,
+        })
+    }
+}
+
+impl<W: Wire, C: Clock> PacketWire<W, C> {
+    ghost use Rattle.std.specs.Prelude.{◌<◌, List, IfSome, option_map, take};
+    ghost use Rattle.px_transport.specs.Wires.{Gives};
+    ghost use Rattle.px_transport.specs.Receiving.{Heard, Hears};
+    ghost use Rattle.px_transport.specs.Wiring.{inner_of, sealer_of, keys_of, receiver_of, dropped_of, copies_of};
+    ghost use Rattle.px_transport.specs.Wiring.{WireState, IsWireState, IsSameMember, IsSameCount, state_of, State};
+    ghost use Rattle.px_transport.specs.Wiring.{Report, Again, Does, DoesAll, duties, upkeep, Takes, TakesAny};
+    ghost use Rattle.px_transport.specs.Wiring.{outgoing_of, next_due, state_due};
+
+    /// The wire below, to be looked at.
+    pub fn inner(&self) -> &W
+        ensures { result.now ≡ inner_of self.now }
+    {
+        &self.inner
+    }
+
+    /// How many packets came that weren't heard, up to 2^64 - 1.
+    pub fn dropped(&self) -> u64
+        ensures { result ≡ dropped_of self.now }
+    {
+        self.dropped
+    }
+
+    /// How many of those were of a copied or restored machine, up to 2^64 - 1.
+    pub fn copies(&self) -> u64
+        ensures { result ≡ copies_of self.now }
+    {
+        self.copies
+    }
+
+    /// The time since the wire was made, in milliseconds; none has passed where the clock can't be read.
+    fn now(&self) -> u64 {
+        match (self.began, reading(&self.clock)) {
+            (Some(began), Some(now)) => {
+                u64::try_from(now.duration_since(began).as_millis()).unwrap_or(u64::MAX)
+            }
+            _ => 0,
+        }
+    }
+
+    /// Sends a member a packet of kind state, if it is due.
+    fn state_to(&mut self, member: u8, now: u64)
+        requires { member < self.old.sender.members }
+        ensures does { (hs : List Heard) → Hears (sealer_of self.old).start hs (receiver_of self.old) →
+            (k : WireState) × Does (sealer_of self.old) now (State member)
+            (state_of (W.handed (inner_of self.old)) hs self.old) k ×
+            IsWireState (W.handed (inner_of self.new)) k self.new }
+        ensures given { W.given (inner_of self.new) ≡ W.given (inner_of self.old) }
+        ensures member { IsSameMember self.old self.new }
+        ensures count { IsSameCount self.old self.new }
+        ensures rises { self.old.failures ≤ self.new.failures }
+    {
+        let echo = self.receiver.start_of(member);
+        let sent = self.sender.send_state(&mut self.inner, member, echo, now);
+        self.failures = count_sent(self.failures, sent);
+    }
+
+    /// Sends a member which pieces of a datagram of it have come, if that is due.
+    fn report_to(&mut self, member: u8, now: u64)
+        requires { member < self.old.sender.members }
+        ensures does { (hs : List Heard) → Hears (sealer_of self.old).start hs (receiver_of self.old) →
+            (k : WireState) × Does (sealer_of self.old) now (Report member)
+            (state_of (W.handed (inner_of self.old)) hs self.old) k ×
+            IsWireState (W.handed (inner_of self.new)) k self.new }
+        ensures given { W.given (inner_of self.new) ≡ W.given (inner_of self.old) }
+        ensures member { IsSameMember self.old self.new }
+        ensures count { IsSameCount self.old self.new }
+        ensures rises { self.old.failures ≤ self.new.failures }
+    {
+        let echo = self.receiver.start_of(member);
+        let Some(held) = self.receiver.report(member, now) else {
+            return;
+        };
+        let sent = self.sender.send_held(&mut self.inner, member, echo, held);
+        self.failures = count_sent(self.failures, sent);
+    }
+
+    /// Sends a member the pieces that it lacks of a datagram, while that is kept.
+    fn pieces_again(&mut self, member: u8, held: PiecesHeld, now: u64)
+        ensures does { (hs : List Heard) → Hears (sealer_of self.old).start hs (receiver_of self.old) →
+            (k : WireState) × Does (sealer_of self.old) now (Again member held)
+            (state_of (W.handed (inner_of self.old)) hs self.old) k ×
+            IsWireState (W.handed (inner_of self.new)) k self.new }
+        ensures given { W.given (inner_of self.new) ≡ W.given (inner_of self.old) }
+        ensures member { IsSameMember self.old self.new }
+        ensures count { IsSameCount self.old self.new }
+        ensures rises { self.old.failures ≤ self.new.failures }
+    {
+        self.sender.refill(member, now);
+        let echo = self.receiver.start_of(member);
+        if !self.sender.is_other(member) {
+            self.failures = count_sent(self.failures, false);
+            return;
+        }
+        let sent = self.sender.send_lacked(&mut self.inner, member, echo, held);
+        self.failures = count_sent(self.failures, sent);
+    }
+
+    /// Does what is due towards a member, if it is another one.
+    fn keep_up_with(&mut self, member: u8, now: u64)
+        requires { member < self.old.sender.members }
+        ensures does { (hs : List Heard) → Hears (sealer_of self.old).start hs (receiver_of self.old) →
+            (k : WireState) × DoesAll (sealer_of self.old) now (duties (sealer_of self.old) member)
+            (state_of (W.handed (inner_of self.old)) hs self.old) k ×
+            IsWireState (W.handed (inner_of self.new)) k self.new }
+        ensures given { W.given (inner_of self.new) ≡ W.given (inner_of self.old) }
+        ensures member { IsSameMember self.old self.new }
+        ensures count { IsSameCount self.old self.new }
+        ensures rises { self.old.failures ≤ self.new.failures }
+    {
+        if !self.sender.is_other(member) {
+            return;
+        }
+        self.state_to(member, now);
+        for _ in 0..REPORTS_MAX {
+            self.report_to(member, now);
+        }
+    }
+
+    /// Does what is due towards each other member.
+    fn keep_up(&mut self, now: u64)
+        ensures does { (hs : List Heard) → Hears (sealer_of self.old).start hs (receiver_of self.old) →
+            (k : WireState) × DoesAll (sealer_of self.old) now (upkeep (sealer_of self.old))
+            (state_of (W.handed (inner_of self.old)) hs self.old) k ×
+            IsWireState (W.handed (inner_of self.new)) k self.new }
+        ensures given { W.given (inner_of self.new) ≡ W.given (inner_of self.old) }
+        ensures member { IsSameMember self.old self.new }
+        ensures count { IsSameCount self.old self.new }
+        ensures rises { self.old.failures ≤ self.new.failures }
+    {
+        for member in 0..self.sender.members {
+            self.keep_up_with(member, now);
+        }
+    }
+
+    /// When a member is to be sent a packet of kind state next; never where it is this one.
+    fn state_due(&self, member: u8) -> u64
+        requires { member < self.now.sender.members }
+        ensures { (hs : List Heard) → Hears (sealer_of self.now).start hs (receiver_of self.now) →
+            result ≡ state_due (sealer_of self.now) (outgoing_of self.now) hs member }
+    {
+        if !self.sender.is_other(member) {
+            return u64::MAX;
+        }
+        self.sender.due(member, self.receiver.start_of(member))
+    }
+
+    /// When something is due next, in milliseconds since the wire was made.
+    fn next_due(&self) -> u64
+        ensures { (hs : List Heard) → Hears (sealer_of self.now).start hs (receiver_of self.now) →
+            result ≡ next_due (sealer_of self.now) (outgoing_of self.now) hs }
+    {
+        let mut due = self.receiver.due().unwrap_or(u64::MAX);
+        for member in 0..self.sender.members {
+            due = due.min(self.state_due(member));
+        }
+        due
+    }
+
+    /// Takes what came: how many bytes are given.
+    fn hear(&mut self, n: usize, now: u64, into: &mut [u8]) -> usize
+        requires { n ≤ length self.old.incoming.items }
+        ensures takes { (hs : List Heard) → Hears (sealer_of self.old).start hs (receiver_of self.old) →
+            (k : WireState) × Takes (keys_of self.old) (sealer_of self.old) now (take n self.old.incoming.items)
+            (length into.old) (take result into.new) (state_of (W.handed (inner_of self.old)) hs self.old) k
+            (dropped_of self.old) (dropped_of self.new) (copies_of self.old) (copies_of self.new) ×
+            IsWireState (W.handed (inner_of self.new)) k self.new }
+        ensures fits { result ≤ length into.new }
+        ensures given { W.given (inner_of self.new) ≡ W.given (inner_of self.old) }
+        ensures member { IsSameMember self.old self.new }
+        ensures rises { self.old.failures ≤ self.new.failures }
+    {
+        let packet = &self.incoming[..n];
+        match take_packet(&self.sender, &mut self.receiver, packet, now, into) {
+            Coming::Given(n) => return n,
+            Coming::Held(member, held) => self.pieces_again(member, held, now),
+            Coming::Dropped => self.dropped = self.dropped.saturating_add(1),
+            Coming::OtherMachine => {
+                self.dropped = self.dropped.saturating_add(1);
+                self.copies = self.copies.saturating_add(1);
+            }
+        }
+        0
+    }
+
+    /// Waits for a packet of the wire below, and counts what it failed at.
+    fn recv_below(&mut self) -> Option<usize>
+        ensures given { Gives (W.given (inner_of self.old))
+            (option_map (λ n. take n self.new.incoming.items) result) (W.given (inner_of self.new)) }
+        ensures fits { IfSome result (λ n. n ≤ length self.new.incoming.items) }
+        ensures quiet { W.handed (inner_of self.new) ≡ W.handed (inner_of self.old) }
+        ensures sender { self.new.sender ≡ self.old.sender }
+        ensures receiver { self.new.receiver ≡ self.old.receiver }
+        ensures count { IsSameCount self.old self.new }
+        ensures rises { self.old.failures ≤ self.new.failures }
+    {
+        let before = self.inner.failures();
+        let came = self.inner.recv(self.incoming.as_mut_slice());
+        self.failures = count_below(self.failures, before, self.inner.failures());
+        came
+    }
+
+    /// Takes a packet that has come to the wire below, and counts what it failed at.
+    fn poll_below(&mut self) -> Option<usize>
+        ensures given { Gives (W.given (inner_of self.old))
+            (option_map (λ n. take n self.new.incoming.items) result) (W.given (inner_of self.new)) }
+        ensures fits { IfSome result (λ n. n ≤ length self.new.incoming.items) }
+        ensures quiet { W.handed (inner_of self.new) ≡ W.handed (inner_of self.old) }
+        ensures sender { self.new.sender ≡ self.old.sender }
+        ensures receiver { self.new.receiver ≡ self.old.receiver }
+        ensures count { IsSameCount self.old self.new }
+        ensures rises { self.old.failures ≤ self.new.failures }
+    {
+        let before = self.inner.failures();
+        let came = self.inner.poll(self.incoming.as_mut_slice());
+        self.failures = count_below(self.failures, before, self.inner.failures());
+        came
+    }
+
+    /// Takes what came, if anything did: how many bytes are given.
+    fn take_came(&mut self, came: Option<usize>, now: u64, into: &mut [u8]) -> Option<usize>
+        requires { IfSome came (λ n. n ≤ length self.old.incoming.items) }
+        ensures takes { (hs : List Heard) → Hears (sealer_of self.old).start hs (receiver_of self.old) →
+            (k : WireState) × TakesAny (keys_of self.old) (sealer_of self.old) now
+            (option_map (λ n. take n self.old.incoming.items) came) (length into.old)
+            (option_map (λ n. take n into.new) result) (state_of (W.handed (inner_of self.old)) hs self.old) k
+            (dropped_of self.old) (dropped_of self.new) (copies_of self.old) (copies_of self.new) ×
+            IsWireState (W.handed (inner_of self.new)) k self.new }
+        ensures fits { IfSome result (λ n. n ≤ length into.new) }
+        ensures given { W.given (inner_of self.new) ≡ W.given (inner_of self.old) }
+        ensures member { IsSameMember self.old self.new }
+        ensures rises { self.old.failures ≤ self.new.failures }
+    {
+        match came {
+            Some(n) => Some(self.hear(n, now, into)),
+            None => None,
+        }
+    }
+}
+
+impl<W: Wire, C: Clock> Wire for PacketWire<W, C> {
+    ghost use Rattle.std.specs.Prelude.{ℕ, List, Option, None, Some, IsTrue, IfSome, option_map, take};
+    ghost use Rattle.px_transport.specs.Receiving.{Heard, Hears};
+    ghost use Rattle.px_transport.specs.Wiring.{inner_of, sealer_of, keys_of, receiver_of, failures_of, Receives};
+    ghost use Rattle.px_transport.specs.Wiring.{IsSameMember, IsSameCount, Waits, IsSent};
+    ghost use Rattle.px_transport.specs.Wiring.{outgoing_of, next_due};
+
+    // it sends packets of its own
+    ghost given = { λ w. None };
+
+    ghost handed = { λ w. None };
+
+    ghost failed = { λ w. w.failures };
+
+    fn recv(&mut self, into: &mut [u8]) -> Option<usize>
+        ensures receives { (hs : List Heard) → Hears (sealer_of self.old).start hs (receiver_of self.old) →
+            Receives (W.given (inner_of self.old)) (W.given (inner_of self.new)) (W.handed (inner_of self.old))
+            (W.handed (inner_of self.new)) hs (length into.old) (option_map (λ n. take n into.new) result) self.old
+            self.new }
+        ensures member { IsSameMember self.old self.new }
+        ensures fits { IfSome result (λ n. n ≤ length into.new) }
+        ensures given { Unit {0} }
+        ensures quiet { Unit {0} }
+        ensures counts { failures_of self.old ≤ failures_of self.new }
+    {
+        let now = self.now();
+        self.keep_up(now);
+        let came = self.recv_below();
+        self.take_came(came, now, into)
+    }
+
+    fn poll(&mut self, into: &mut [u8]) -> Option<usize>
+        ensures receives { (hs : List Heard) → Hears (sealer_of self.old).start hs (receiver_of self.old) →
+            Receives (W.given (inner_of self.old)) (W.given (inner_of self.new)) (W.handed (inner_of self.old))
+            (W.handed (inner_of self.new)) hs (length into.old) (option_map (λ n. take n into.new) result) self.old
+            self.new }
+        ensures member { IsSameMember self.old self.new }
+        ensures fits { IfSome result (λ n. n ≤ length into.new) }
+        ensures given { Unit {0} }
+        ensures quiet { Unit {0} }
+        ensures counts { failures_of self.old ≤ failures_of self.new }
+    {
+        let now = self.now();
+        self.keep_up(now);
+        let came = self.poll_below();
+        self.take_came(came, now, into)
+    }
+
+    fn wait(&mut self, milliseconds: u32)
+        ensures waits { (hs : List Heard) → Hears (sealer_of self.old).start hs (receiver_of self.old) →
+            Waits (W.handed (inner_of self.old)) (W.handed (inner_of self.new)) hs self.old self.new }
+        ensures below { W.given (inner_of self.new) ≡ W.given (inner_of self.old) }
+        ensures member { IsSameMember self.old self.new }
+        ensures count { IsSameCount self.old self.new }
+        ensures given { Unit {0} }
+        ensures quiet { Unit {0} }
+        ensures counts { failures_of self.old ≤ failures_of self.new }
+    {
+        let now = self.now();
+        self.keep_up(now);
+        let left = time_left(self.next_due(), now, milliseconds);
+        let before = self.inner.failures();
+        self.inner.wait(left);
+        self.failures = count_below(self.failures, before, self.inner.failures());
+    }
+
+    fn due(&self, milliseconds: u32) -> u32
+        ensures due { (hs : List Heard) → Hears (sealer_of self.now).start hs (receiver_of self.now) → (now : ℕ) ×
+            (result ≡ time_left (next_due (sealer_of self.now) (outgoing_of self.now) hs) now milliseconds) }
+        ensures within { result ≤ milliseconds }
+    {
+        time_left(self.next_due(), self.now(), milliseconds)
+    }
+
+    fn send(&mut self, to: u8, bytes: &[u8]) -> bool
+        ensures sent { (hs : List Heard) → Hears (sealer_of self.old).start hs (receiver_of self.old) →
+            IsSent (W.handed (inner_of self.old)) (W.handed (inner_of self.new)) hs to bytes.now result self.old
+            self.new }
+        ensures below { W.given (inner_of self.new) ≡ W.given (inner_of self.old) }
+        ensures member { IsSameMember self.old self.new }
+        ensures count { IsSameCount self.old self.new }
+        ensures handed { Unit {0} }
+        ensures quiet { Unit {0} }
+        ensures counts { Counts result (failures_of self.old) (failures_of self.new) }
+    {
+        let now = self.now();
+        self.sender.refill(to, now);
+        if !self.sender.is_other(to) {
+            self.failures = count_sent(self.failures, false);
+            return false;
+        }
+        let echo = self.receiver.start_of(to);
+        let sent = self.sender.send(&mut self.inner, to, echo, bytes);
+        self.failures = count_sent(self.failures, sent);
+        sent
+    }
+
+    fn failures(&self) -> u64 {
+        self.failures
+    }
+}

@@ -1,0 +1,312 @@
+//! What a member sends.
+
+ghost use Rattle.std.specs.Prelude.{◌≡◌, length};
+
+use crate::outgoing::{Outgoing, none_sent};
+use px_packet::{Header, Kind, PacketKeys, Start};
+use px_packet::{DATAGRAM_MAX, PiecesHeld, piece_count, write_piece};
+use crate::wire::Wire;
+use std::alloc::{AllocError, Global};
+
+/// How many bytes a packet has at most.
+const PACKET_MAX: usize = 1_232;
+
+/// How many bytes a datagram has at most that is sent in one packet: beside it are a header and a tag.
+const WHOLE_MAX: usize = 1_179;
+
+/// What a member sends: packets that it seals for the other members, each with the next counter of its receiver.
+#[derive(Drop)]
+pub(crate) struct Sender {
+    alloc: Global,
+    pub(crate) keys: PacketKeys,
+    pub(crate) cluster: u32,
+    pub(crate) members: u8,
+    pub(crate) me: u8,
+    pub(crate) start: Start,
+    /// Of each member, by its number.
+    pub(crate) outgoing: Vec<Outgoing>,
+    /// Room for a packet.
+    room: Vec<u8>,
+    ghost size: { length outgoing.items ≡ members },
+}
+
+impl Sender {
+    ghost use Rattle.std.specs.Prelude.{◌≡◌, ◌<◌, ◌≤◌, ◌*◌, ◌⊎◌, ◌∷◌, [], false, IsTrue, IfOk, replicate, take};
+    ghost use Rattle.px_packet.specs.Keyed.{key_of};
+    ghost use Rattle.px_packet.specs.declared.kind.Kind.TheVariants.{Piece};
+    ghost use Rattle.px_transport.specs.Sending.{is_other, can_be_cut, new_to, to_member, next_state, stated_for};
+    ghost use Rattle.px_transport.specs.Sending.{Sends, SendsUpTo, refilled_for};
+    ghost use Rattle.px_transport.specs.Sending.{piece, pieces, kept_with, packets_of, again, state, report, states};
+    ghost use Rattle.px_transport.specs.Senders.{sealer_of, outgoing_of};
+
+    /// A member that sent nothing.
+    pub(crate) fn new(
+        alloc: Global,
+        keys: PacketKeys,
+        cluster: u32,
+        members: u8,
+        me: u8,
+        start: Start,
+    ) -> Result<Sender, AllocError>
+        ensures sealer { IfOk result (λ s. sealer_of s ≡ record {
+          cluster = cluster;
+          members = members;
+          me = me;
+          start = start;
+          key = key_of keys;
+        }) }
+        ensures keys { IfOk result (λ s. s.keys ≡ keys) }
+        ensures outgoing { IfOk result (λ s. outgoing_of s ≡ replicate members new_to) }
+    {
+        let outgoing = none_sent(alloc, members)?;
+        let room = Vec::with_capacity(alloc, PACKET_MAX)?;
+        Ok(Sender {
+            alloc,
+            keys,
+            cluster,
+            members,
+            me,
+            start,
+            outgoing,
+            room,
+        })
+    }
+
+    /// Whether it is another member.
+    pub(crate) fn is_other(&self, member: u8) -> bool
+        ensures is { result ≡ is_other (sealer_of self.now) member }
+        ensures inside { IsTrue result → member < self.now.members }
+    {
+        member < self.members && member != self.me
+    }
+
+    /// Seals a packet for a member with the next counter, and hands it to the wire below. Whether it was sent; where no
+    /// counter is left or memory is refused nothing was handed over.
+    pub(crate) fn send_packet<W: Wire>(
+        &mut self,
+        inner: &mut W,
+        to: u8,
+        echo: Start,
+        kind: Kind,
+        body: &[u8],
+    ) -> bool
+        requires { to < self.old.members }
+        ensures sends { SendsUpTo (sealer_of self.old) result
+            (record { to = to; echo = echo; kind = kind; body = body.now } ∷ []) (W.handed inner.old)
+            (outgoing_of self.old) (W.handed inner.new) (outgoing_of self.new) }
+        ensures given { W.given inner.new ≡ W.given inner.old }
+        ensures rest { (sealer_of self.new ≡ sealer_of self.old) × (self.new.keys ≡ self.old.keys) }
+    {
+        let place = usize::from(to);
+        let last = &self.outgoing[place];
+        let Some(counter) = last.next() else {
+            return false;
+        };
+        let header = Header {
+            cluster: self.cluster,
+            members: self.members,
+            from: self.me,
+            to,
+            kind,
+            start: self.start,
+            echo,
+            counter,
+        };
+        if self.keys.seal(&header, body, &mut self.room).is_err() {
+            return false;
+        }
+        let outgoing = &mut self.outgoing[place];
+        outgoing.count(counter);
+        inner.send(to, self.room.as_slice())
+    }
+
+    /// Sends the piece of a datagram with this number.
+    fn send_piece<W: Wire>(
+        &mut self,
+        inner: &mut W,
+        to: u8,
+        echo: Start,
+        name: u32,
+        datagram: &[u8],
+        index: u8,
+    ) -> bool
+        requires to { to < self.old.members }
+        requires short { length datagram.now ≤ DATAGRAM_MAX }
+        requires inside { 1160 * index < length datagram.now }
+        ensures sends { SendsUpTo (sealer_of self.old) result (piece to echo name datagram.now index ∷ [])
+            (W.handed inner.old) (outgoing_of self.old) (W.handed inner.new) (outgoing_of self.new) }
+        ensures given { W.given inner.new ≡ W.given inner.old }
+        ensures rest { (sealer_of self.new ≡ sealer_of self.old) × (self.new.keys ≡ self.old.keys) }
+    {
+        let mut body = Vec::new(self.alloc);
+        if write_piece(name, datagram, index, &mut body).is_err() {
+            return false;
+        }
+        self.send_packet(inner, to, echo, Kind::Piece, body.as_slice())
+    }
+
+    /// It is this time: towards a member as many packets may go again as it reads.
+    pub(crate) fn refill(&mut self, to: u8, now: u64)
+        ensures refilled { outgoing_of self.new ≡ refilled_for (outgoing_of self.old) to now }
+        ensures rest { (sealer_of self.new ≡ sealer_of self.old) × (self.new.keys ≡ self.old.keys) }
+    {
+        let place = usize::from(to);
+        if place < self.outgoing.len() {
+            let outgoing = &mut self.outgoing[place];
+            outgoing.refill(now);
+        }
+    }
+
+    /// Sends the pieces of a datagram that a receiver lacks, so many at most, up to the first that isn't sent. Whether
+    /// these were.
+    pub(crate) fn send_pieces<W: Wire>(
+        &mut self,
+        inner: &mut W,
+        to: u8,
+        echo: Start,
+        held: PiecesHeld,
+        datagram: &[u8],
+        most: u8,
+    ) -> bool
+        requires to { to < self.old.members }
+        requires short { length datagram.now ≤ DATAGRAM_MAX }
+        ensures sends { SendsUpTo (sealer_of self.old) result (take most (pieces to echo held datagram.now))
+            (W.handed inner.old) (outgoing_of self.old) (W.handed inner.new) (outgoing_of self.new) }
+        ensures given { W.given inner.new ≡ W.given inner.old }
+        ensures rest { (sealer_of self.new ≡ sealer_of self.old) × (self.new.keys ≡ self.old.keys) }
+    {
+        let count = piece_count(datagram.len()) as u8;
+        let mut left = most;
+        for index in 0..count {
+            if held.has(index) {
+                continue;
+            }
+            if left == 0 {
+                return true;
+            }
+            left -= 1;
+            if !self.send_piece(inner, to, echo, held.name, datagram, index) {
+                return false;
+            }
+        }
+        true
+    }
+
+    /// Sends a datagram to a member: in one packet where it has room there, else cut, and of the pieces as many as may
+    /// still go to it. Whether these were sent.
+    pub(crate) fn send<W: Wire>(
+        &mut self,
+        inner: &mut W,
+        to: u8,
+        echo: Start,
+        datagram: &[u8],
+    ) -> bool
+        requires to { to < self.old.members }
+        ensures size { can_be_cut datagram.now ≡ false → (result ≡ false) ×
+            (W.handed inner.new ≡ W.handed inner.old) × (outgoing_of self.new ≡ outgoing_of self.old) }
+        ensures sends { ((result ≡ false) × (W.handed inner.new ≡ W.handed inner.old) ×
+            (outgoing_of self.new ≡ outgoing_of self.old)) ⊎
+            SendsUpTo (sealer_of self.old) result (packets_of (outgoing_of self.old) to echo datagram.now)
+            (W.handed inner.old) (kept_with (outgoing_of self.old) to datagram.now) (W.handed inner.new)
+            (outgoing_of self.new) }
+        ensures given { W.given inner.new ≡ W.given inner.old }
+        ensures rest { (sealer_of self.new ≡ sealer_of self.old) × (self.new.keys ≡ self.old.keys) }
+    {
+        if datagram.is_empty() || datagram.len() > DATAGRAM_MAX {
+            return false;
+        }
+        if datagram.len() <= WHOLE_MAX {
+            return self.send_packet(inner, to, echo, Kind::Whole, datagram);
+        }
+        let outgoing = &mut self.outgoing[usize::from(to)];
+        let left = outgoing.left();
+        let Some(name) = outgoing.name(datagram) else {
+            return false;
+        };
+        let none = PiecesHeld { name, bits: 0 };
+        self.send_pieces(inner, to, echo, none, datagram, left)
+    }
+
+    /// Sends a member the pieces that it lacks of a datagram, while that is kept, as many as may still go to it.
+    pub(crate) fn send_lacked<W: Wire>(
+        &mut self,
+        inner: &mut W,
+        to: u8,
+        echo: Start,
+        held: PiecesHeld,
+    ) -> bool
+        requires to { to < self.old.members }
+        ensures sends { SendsUpTo (sealer_of self.old) result (again (outgoing_of self.old) to echo held)
+            (W.handed inner.old) (outgoing_of self.old) (W.handed inner.new) (outgoing_of self.new) }
+        ensures given { W.given inner.new ≡ W.given inner.old }
+        ensures rest { (sealer_of self.new ≡ sealer_of self.old) × (self.new.keys ≡ self.old.keys) }
+    {
+        let outgoing = &self.outgoing[usize::from(to)];
+        let left = outgoing.left();
+        let Some(kept) = outgoing.get(held.name) else {
+            return true;
+        };
+        if kept.len() > DATAGRAM_MAX {
+            return false;
+        }
+        let Ok(datagram) = Vec::from_slice(self.alloc, kept) else {
+            return false;
+        };
+        self.send_pieces(inner, to, echo, held, datagram.as_slice(), left)
+    }
+
+    /// Sends a member a packet of kind state, if it is due.
+    pub(crate) fn send_state<W: Wire>(
+        &mut self,
+        inner: &mut W,
+        to: u8,
+        echo: Start,
+        now: u64,
+    ) -> bool
+        requires to { to < self.old.members }
+        ensures sends { SendsUpTo (sealer_of self.old) result (states (outgoing_of self.old) to echo now)
+            (W.handed inner.old) (stated_for (outgoing_of self.old) to echo now) (W.handed inner.new)
+            (outgoing_of self.new) }
+        ensures given { W.given inner.new ≡ W.given inner.old }
+        ensures rest { (sealer_of self.new ≡ sealer_of self.old) × (self.new.keys ≡ self.old.keys) }
+    {
+        let place = usize::from(to);
+        let last = &self.outgoing[place];
+        if now < last.due(echo) {
+            return true;
+        }
+        let outgoing = &mut self.outgoing[place];
+        outgoing.state(now, echo);
+        self.send_packet(inner, to, echo, Kind::State, &[])
+    }
+
+    /// Sends a member which pieces have come.
+    pub(crate) fn send_held<W: Wire>(
+        &mut self,
+        inner: &mut W,
+        to: u8,
+        echo: Start,
+        held: PiecesHeld,
+    ) -> bool
+        requires to { to < self.old.members }
+        ensures sends { SendsUpTo (sealer_of self.old) result (report to echo held ∷ [])
+            (W.handed inner.old) (outgoing_of self.old) (W.handed inner.new) (outgoing_of self.new) }
+        ensures given { W.given inner.new ≡ W.given inner.old }
+        ensures rest { (sealer_of self.new ≡ sealer_of self.old) × (self.new.keys ≡ self.old.keys) }
+    {
+        let mut body = Vec::new(self.alloc);
+        if held.write(&mut body).is_err() {
+            return false;
+        }
+        self.send_packet(inner, to, echo, Kind::PiecesHeld, body.as_slice())
+    }
+
+    /// When a packet of kind state is to be sent next to a member with this start.
+    pub(crate) fn due(&self, to: u8, start: Start) -> u64
+        requires { to < self.now.members }
+        ensures { result ≡ next_state (to_member (outgoing_of self.now) to) start }
+    {
+        let outgoing = &self.outgoing[usize::from(to)];
+        outgoing.due(start)
+    }
+}

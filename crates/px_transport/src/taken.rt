@@ -1,0 +1,20 @@
+//! What comes of a packet.
+
+use px_packet::PiecesHeld;
+use px_packet::Arrival;
+
+/// What comes of a packet that a receiver took.
+#[derive(Drop)]
+pub enum Taken<'a> {
+    /// A datagram that came in one packet: the body.
+    Whole(&'a [u8]),
+    /// A datagram of which the last piece came.
+    Joined(Vec<u8>),
+    /// Which pieces of a datagram the sender of the packet has.
+    Held(PiecesHeld),
+    /// Nothing is given: the packet is of kind state, or has a piece of an unfinished datagram, or a body that isn't
+    /// what its kind says; or its sender is no member; or memory was refused.
+    Nothing,
+    /// It isn't accepted.
+    Dropped(Arrival),
+}

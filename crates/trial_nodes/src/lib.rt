@@ -1,0 +1,37 @@
+//! Tests of members and nodes: in code, over wires in memory and over UDP, with datagrams that are lost, and over
+//! packets. Cores beside plain records made by hand, with what they send to each other on a list; when a node's clock
+//! ticks, what it does when it starts and when its turns are over, what it sends again and to whom.
+//!
+//! The tests are in a crate of their own, since they take longer to prove than what they try.
+#![tactic(auto)]
+
+#[cfg(test)]
+mod bus;
+#[cfg(test)]
+mod cluster;
+#[cfg(test)]
+mod ending;
+#[cfg(test)]
+mod latest;
+#[cfg(test)]
+mod listing;
+#[cfg(test)]
+mod member;
+#[cfg(test)]
+mod members;
+#[cfg(test)]
+mod pace;
+#[cfg(test)]
+mod packets;
+#[cfg(test)]
+mod reminding;
+#[cfg(test)]
+mod runs;
+#[cfg(test)]
+mod shown;
+#[cfg(test)]
+mod starting;
+#[cfg(test)]
+mod step;
+#[cfg(test)]
+mod votes;
