@@ -1,4 +1,4 @@
-//! An operator who asks at a node's door.
+//! `ask` at a node's control socket, from its arguments to what is printed.
 //!
 //! # Organization
 //!
@@ -28,8 +28,8 @@ mod telling;
 mod visiting;
 mod words;
 
-pub use exchange::{Reply, VisitFault, read_at};
 pub use cli_io::Status;
+pub use exchange::{Reply, VisitFault, read_at};
 pub use running::run_visit;
 pub use sending::change_line;
 pub use visiting::pause;

@@ -8,9 +8,9 @@ ghost use Rattle.toml.specs.View.{view, table_view, items_view};
 ghost use Rattle.cli_files.specs.Settings.{first_wrong, number_of, is_true, flag_at, texts_of, texts_at, IsRefused};
 ghost use Rattle.cli_files.specs.Files.{settings_of};
 
-use crate::settings_fault::FileFault;
 use crate::kinds::{is_setting, kind_of, number_of};
 use crate::lines::{line_at, line_of};
+use crate::settings_fault::FileFault;
 use std::alloc::{AllocError, Global};
 use toml::de::Error;
 use toml::{Table, Value, table_from_slice};

@@ -2,10 +2,10 @@
 
 ghost use Rattle.std.specs.Prelude.{◌≡◌, ◌≢◌, ◌++◌, ◌<◌, ◌≤◌, Err, IfOk, OnErr, codes, length, string_bytes};
 
-use crate::starts_fault::StartsFault;
 use crate::known::KnownMember;
 use crate::next::next_start;
 use crate::raise::RaiseFault;
+use crate::starts_fault::StartsFault;
 use crate::starts_reading::read_starts;
 use crate::starts_writing::write_starts;
 use cli_io::{InputFault, make_private, open_regular, read_all};

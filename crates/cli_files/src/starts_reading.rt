@@ -5,8 +5,8 @@ ghost use Rattle.hex.specs.Hex.{encode_lower};
 ghost use Rattle.cli_files.specs.declared.known.KnownMember as declared;
 ghost use Rattle.cli_files.specs.StartsTexts.{known_bytes, starts_text, version, Fits, AreFit};
 
-use crate::starts_fault::StartsFault;
 use crate::known::KnownMember;
+use crate::starts_fault::StartsFault;
 use crate::starts_writing::{VERSION, write_starts};
 use px_packet::Start;
 use std::alloc::Global;

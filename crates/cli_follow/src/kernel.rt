@@ -6,8 +6,8 @@ ghost use Rattle.cli_nft.specs.Outputs.{config_output};
 ghost use Rattle.cli_nft.specs.Seen.{written};
 ghost use Rattle.cli_follow.specs.Stepping.{line_end, two_lines, end_line, end_of, IsSameAs, IsStep};
 
-use pf_config::Config;
 use cli_nft::{Member, Written, config_output};
+use pf_config::Config;
 use std::alloc::{AllocError, Global};
 
 /// What was handed out last.

@@ -3,8 +3,7 @@
 ghost use Rattle.std.specs.Prelude.{◌≡◌, IfOk, map, option_map};
 ghost use Rattle.cli_follow.specs.Members.{some_texts, texts_on, members_told};
 
-use cli_nft::Member;
-use cli_nft::members_in;
+use cli_nft::{Member, members_in};
 use pf_scripts::{cut_line, words_in};
 use std::alloc::{AllocError, Global};
 

@@ -9,8 +9,8 @@ ghost use Rattle.pf_scripts.specs.Lines.{lines};
 ghost use Rattle.cli_follow.specs.Following.{after_decoded, after_lines, Follows, StopsIn};
 
 use hex::FromHexError;
-use pf_config::Config;
 use pf_command::{ApplyFault, apply};
+use pf_config::Config;
 use pf_entry::decode;
 use pf_scripts::cut_line;
 use std::alloc::{AllocError, Global};

@@ -1,17 +1,16 @@
 //! A run of `follow`.
 
 use crate::files::TextFiles;
+use crate::kernel::Kernel;
 use crate::members::members_told;
+use crate::mirror::{Mirror, TakeFault};
 use crate::outlets::{Outlets, WriteFault};
 use crate::words::command;
 use clap::ArgMatches;
-use node_requests::{ENTRIES_BYTES, ENTRIES_MAX};
-use crate::kernel::Kernel;
-use crate::mirror::{Mirror, TakeFault};
-use cli_io::{Shown, Status, knock, misused};
-use cli_nft::machine_in;
-use cli_nft::read_file;
 use cli_ask::{VisitFault, pause, read_at};
+use cli_io::{Shown, Status, knock, misused};
+use cli_nft::{machine_in, read_file};
+use node_requests::{ENTRIES_BYTES, ENTRIES_MAX};
 use std::alloc::{AllocError, Global};
 use std::convert::AsStr;
 use std::io::Write;

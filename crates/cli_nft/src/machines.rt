@@ -9,8 +9,8 @@ ghost use Rattle.nft_rules.specs.Seen.{machine_of};
 ghost use Rattle.pf_eval.specs.PacketTexts.{words};
 ghost use Rattle.cli_nft.specs.Machines.{lines, names_if, with_names, machine_in};
 
-use pf_eval::words_between_blanks;
 use nft_rules::MachineInterface;
+use pf_eval::words_between_blanks;
 use pf_rules::InterfaceName;
 use std::alloc::{AllocError, Global};
 

@@ -13,10 +13,10 @@ ghost use Rattle.cli_nft.specs.Seen.{written};
 ghost use Rattle.nft_text.specs.Loading.{rendered_lines};
 
 use crate::machines::machine_in;
-use pf_config::Config;
-use pf_grammar::{ParseFault, Place, Profile, parse};
 use nft_rules::{MachineInterface, Member};
 use nft_text::rendered_lines;
+use pf_config::Config;
+use pf_grammar::{ParseFault, Place, Profile, parse};
 use pf_rules::{Path, Ruleset};
 use std::alloc::{AllocError, Global};
 

@@ -7,10 +7,10 @@ ghost use Rattle.cli_nft.specs.Words.{named_in, position_text, IsPosition};
 ghost use Rattle.cli_nft.specs.Running.{asks_nft, Wrote, Ran};
 
 use crate::members::members_in;
+use crate::outputs::nft_output;
 use crate::words::command;
 use clap::ArgMatches;
 use cli_io::{InputFault, Status, misused, out_of_memory, read_all};
-use crate::outputs::nft_output;
 use nft_rules::Member;
 use std::alloc::{AllocError, Global};
 use std::convert::AsStr;

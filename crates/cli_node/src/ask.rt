@@ -10,9 +10,9 @@ ghost use Rattle.cli_node.specs.declared.ask.TheConstants.{ASKER};
 
 use crate::outcome::{Outcome, answer_outcome, fault_outcome};
 use clap::ArgMatches;
-use pf_arguments::{Action, Command, from_matches};
 use cli_io::{InputFault, read_all};
 use node_udp::{BindFault, Membership, UdpWire, ask_once};
+use pf_arguments::{Action, Command, from_matches};
 use px_transport::Wire;
 use std::alloc::Global;
 use std::fs;

@@ -1,4 +1,4 @@
-//! The words `node`, `ask` and `key` of the program: a node over UDP, a command asked of one, and a cluster's key.
+//! `node`, `ask` over UDP and `key`: a node that runs, a command asked of one, and a cluster's key.
 //!
 //! # Organization
 //!

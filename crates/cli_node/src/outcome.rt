@@ -5,10 +5,10 @@ ghost use Rattle.cli_node.specs.declared.outcome.Outcome.TheVariants.{Front, Ask
 ghost use Rattle.cli_node.specs.Outcomes.{line_of, status_of, Wrote};
 ghost use Rattle.cli_node.specs.inner.Outcomes.{outcome_of, ending_of, answer_outcome, ended_outcome};
 
+use cli_files::key_text;
 use cli_io::{Status, out_of_memory};
 use node_loop::Ended;
 use node_udp::AskAnswer;
-use cli_files::key_text;
 use px_replica::NodeFault;
 use std::alloc::{AllocError, Global};
 use std::io::Write;

@@ -6,10 +6,10 @@ ghost use Rattle.cli_node.specs.declared.outcome.Outcome.TheVariants.{Memory, Re
 use crate::key::Keys;
 use crate::node::NodeWords;
 use crate::outcome::Outcome;
+use cli_files::{RaiseFault, raise_start, starts_in, starts_path};
 use cli_io::Shown;
 use node_loop::Membership;
 use px_packet::Start;
-use cli_files::{RaiseFault, raise_start, starts_in, starts_path};
 use std::alloc::Global;
 
 /// A file of starts that is missing or damaged, or can't be written.

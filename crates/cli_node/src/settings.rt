@@ -4,8 +4,8 @@ use crate::check::check_outcome;
 use crate::node::{NodeWords, node_outcome};
 use crate::outcome::Outcome;
 use clap::ArgMatches;
-use cli_io::{InputFault, Shown, open_regular, read_all};
 use cli_files::{FileFault, NodeFile};
+use cli_io::{InputFault, Shown, open_regular, read_all};
 use std::alloc::Global;
 
 /// A file that can't be read.

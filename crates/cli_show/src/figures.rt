@@ -3,8 +3,8 @@
 ghost use Rattle.std.specs.Prelude.{◌≡◌, IfOk};
 ghost use Rattle.cli_show.specs.Writing.{figures, shown_value};
 
-use crate::shown::Shown;
 use crate::pfctl::as_shown;
+use crate::shown::Shown;
 use pf_scripts::push_number;
 use px_core::POSITIONS;
 use std::alloc::{AllocError, Global};

@@ -1,7 +1,7 @@
 //! The store of a node is opened, as far as that changes nothing.
 
-use crate::store::{Closed, show_store};
 use crate::shown::{Shown, Wanted};
+use crate::store::{Closed, show_store};
 use sqlite::{Connection, Error, ErrorCode, File, FileStore};
 use std::alloc::Global;
 use std::fs;

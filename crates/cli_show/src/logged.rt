@@ -4,8 +4,8 @@ ghost use Rattle.std.specs.Prelude.{◌≡◌, ◌≤◌, IfOk};
 ghost use Rattle.pf_node.specs.Nodes.{learned_by, applied_of, kept_of};
 ghost use Rattle.cli_show.specs.Writing.{first_of, end_of, log_shown, shown_value};
 
-use crate::shown::Shown;
 use crate::pfctl::as_shown;
+use crate::shown::Shown;
 use node_requests::push_positions;
 use pf_node::Node;
 use px_records::Records;

@@ -3,9 +3,9 @@
 ghost use Rattle.std.specs.Prelude.{◌≡◌};
 ghost use Rattle.cli_show.specs.Outcomes.{Wrote, status_of};
 
+use crate::shown::Shown;
 use crate::store::Closed;
 use cli_io::{Status, out_of_memory};
-use crate::shown::Shown;
 use std::alloc::Global;
 use std::io::Write;
 

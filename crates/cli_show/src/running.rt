@@ -4,14 +4,14 @@ ghost use Rattle.std.specs.Prelude.{Option};
 ghost use Rattle.cli_show.specs.declared.outcome.Outcome.{Outcome};
 ghost use Rattle.cli_show.specs.Outcomes.{Ran};
 
+use crate::arguments::command;
 use crate::file::show_file;
 use crate::outcome::{Outcome, outcome_for, write_outcome};
+use crate::shown::Wanted;
 use crate::wanted::{Kind, kind_of, line_of, rest_of};
-use crate::arguments::command;
 use clap::ArgMatches;
 use cli_io::{Status, misused, out_of_memory};
 use cli_nft::read_file;
-use crate::shown::Wanted;
 use std::alloc::Global;
 use std::convert::AsStr;
 use std::io::Write;

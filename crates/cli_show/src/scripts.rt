@@ -4,11 +4,11 @@ ghost use Rattle.std.specs.Prelude.{◌≡◌, true, false, IfOk, IfSome};
 ghost use Rattle.pf_dump.specs.Scripts.{Gives};
 ghost use Rattle.pf_node.specs.Nodes.{config_of};
 
-use crate::shown::Shown;
 use crate::pfctl::refused;
+use crate::shown::Shown;
+use pf_command::{ApplyFault, apply};
 use pf_config::Config;
 use pf_dump::{dump, gives, push_change};
-use pf_command::{ApplyFault, apply};
 use pf_entry::decode;
 use pf_node::Node;
 use px_records::Records;

@@ -9,12 +9,12 @@ ghost use Rattle.cli_show.specs.Showing.{Shows, ShowsRecord};
 
 use crate::figures::show_figures;
 use crate::logged::show_log;
+use crate::pfctl::{as_shown, show_verdicts, show_words};
 use crate::scripts::show_script;
 use crate::shown::{Shown, Wanted};
 use crate::texts::push_texts;
-use crate::pfctl::{as_shown, show_verdicts, show_words};
-use pf_config::Config;
 use cli_nft::config_output;
+use pf_config::Config;
 use pf_node::Node;
 use px_records::Records;
 use px_replica::{Membership, NodeFault};

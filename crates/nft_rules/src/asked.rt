@@ -15,8 +15,9 @@ use crate::machine::{MachineInterface, interfaces_meant};
 use crate::subset::{Match, Side};
 use pf_addr::Family;
 use pf_config::Config;
-use pf_rules::{Conditions, Direction, FlagTest, Interface, InterfaceName, Name, PortTest};
-use pf_rules::TcpFlags;
+use pf_rules::{
+    Conditions, Direction, FlagTest, Interface, InterfaceName, Name, PortTest, TcpFlags,
+};
 use std::alloc::{AllocError, Global};
 use std::rc::Rc;
 

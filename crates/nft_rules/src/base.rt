@@ -3,7 +3,8 @@
 ghost use Rattle.std.specs.Prelude.{◌≡◌, ◌++◌, ◌∷◌, [], IfOk, OnOk, map};
 ghost use Rattle.nft_rules.specs.Subset.{Unknown, Default};
 ghost use Rattle.nft_rules.specs.declared.subset.Outcome.TheVariants.{Accept, Drop};
-ghost use Rattle.nft_rules.specs.Rendering.{known, ending, unknown_matches, skip_rules, always, jump_rules, main_chains};
+ghost use Rattle.nft_rules.specs.Rendering.{known, ending, unknown_matches, skip_rules, always, jump_rules};
+ghost use Rattle.nft_rules.specs.Rendering.{main_chains};
 ghost use Rattle.nft_rules.specs.Rendering.{base_chain};
 ghost use Rattle.nft_rules.specs.Seen.{match_of, chain_name_of, nft_rule_of, chain_of, machine_of};
 

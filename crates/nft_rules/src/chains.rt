@@ -2,7 +2,8 @@
 
 ghost use Rattle.std.specs.Prelude.{◌≡◌, ◌≤◌, ◌+◌, ◌++◌, IfOk, OnOk, length, map};
 ghost use Rattle.nft_rules.specs.Rendering.{alternatives, outcome_of, filter_rules, anchor_chains, forward_rule};
-ghost use Rattle.nft_rules.specs.Rendering.{backward_rule, forward_rules, backward_rules, forward_chain, backward_chain};
+ghost use Rattle.nft_rules.specs.Rendering.{backward_rule, forward_rules, backward_rules, forward_chain};
+ghost use Rattle.nft_rules.specs.Rendering.{backward_chain};
 ghost use Rattle.pf_config.specs.declared.config.TheConstants.{RULES_MAX};
 ghost use Rattle.pf_rules.specs.Items.{AnchorRule};
 ghost use Rattle.pf_rules.specs.Seen.{heading_of, rule_of};

@@ -4,8 +4,7 @@ ghost use Rattle.std.specs.Prelude.{◌≡◌, IfOk};
 ghost use Rattle.nft_rules.specs.Seen.{match_of};
 
 use pf_addr::Family;
-use pf_rules::{InterfaceName, Name};
-use pf_rules::TcpFlags;
+use pf_rules::{InterfaceName, Name, TcpFlags};
 use std::alloc::AllocError;
 use std::rc::Rc;
 

@@ -9,8 +9,8 @@ ghost use Rattle.nft_text.specs.Texts.{port_text, match_text};
 use crate::flags::flags_byte;
 use crate::labels::{SetLabel, Whole};
 use crate::numbers::IntervalText;
-use pf_addr::Family;
 use nft_rules::{Match, Side, Where};
+use pf_addr::Family;
 use pf_rules::{Direction, InterfaceName};
 use std::fmt::{self, Display};
 

@@ -4,14 +4,15 @@ ghost use Rattle.std.specs.Prelude.{◌≡◌, Some, [], ◌∷◌};
 ghost use Rattle.std.specs.List.{flat_map};
 ghost use Rattle.pf_eval.specs.Matching.{of_family};
 ghost use Rattle.nft_rules.specs.declared.subset.Side.TheVariants.{Source, Destination};
-ghost use Rattle.nft_rules.specs.Guard.{has_family, AtMember, AtHome, OfUdp, IsLater, IsTooBig, family_rules, link_rules};
+ghost use Rattle.nft_rules.specs.Guard.{has_family, AtMember, AtHome, OfUdp, IsLater, IsTooBig, family_rules};
+ghost use Rattle.nft_rules.specs.Guard.{link_rules};
 ghost use Rattle.nft_text.specs.Texts.{member_text, udp_text, later_text, too_big_text};
 ghost use Rattle.nft_text.specs.Texts.{guard_match_text, guard_rule_text, members_text, members_gone};
 
 use crate::labels::Generation;
 use crate::matching::{address_text, family_text};
-use pf_addr::{Addr, Family};
 use nft_rules::{Member, Side};
+use pf_addr::{Addr, Family};
 use std::fmt::{self, Display};
 
 /// Whether the address is of the family.

@@ -7,8 +7,8 @@ ghost use Rattle.nft_text.specs.Texts.{element_text, elements_text, type_text, s
 
 use crate::labels::{SetLabel, Whole};
 use crate::numbers::IntervalText;
-use pf_addr::Family;
 use nft_rules::{Interval, NamedSet};
+use pf_addr::Family;
 use std::fmt::{self, Display};
 
 /// Elements, each with a comma behind it.

@@ -1,4 +1,4 @@
-//! The door at which operators ask a running node: HTTP/1.1 over a Unix socket, beside the members' datagrams.
+//! The control socket of a running node: HTTP/1.1 over a Unix socket, beside the members' datagrams.
 //!
 //! # Organization
 //!

@@ -5,8 +5,8 @@ ghost use Rattle.node_control.specs.inner.Watching.{proposal_in, proposed_by, pr
 ghost use Rattle.node_control.specs.inner.Watching.{is_proposed, stood_since, seconds_since};
 
 use crate::hearing::Hearing;
-use node_requests::{PeerTally, Tally};
 use node_loop::{Progress, RoundCounts};
+use node_requests::{PeerTally, Tally};
 use px_wire::{Head, Kind, Membership};
 use std::alloc::{AllocError, Global};
 use std::io::Eprint;

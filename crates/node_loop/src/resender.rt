@@ -6,7 +6,8 @@ ghost use Rattle.node_loop.specs.Again.{AreAmong, HandsAgain, HandsFor, HandsSho
 ghost use Rattle.px_wire.specs.Heads.{head_of};
 ghost use Rattle.px_wire.specs.Message.{Group, Message, DatagramBytes};
 ghost use Rattle.node_loop.specs.Proposals.{proposal_of};
-ghost use Rattle.node_loop.specs.Resends.{HandsVote, IsBounded, kept_of, latest_of, me_of, members_of, position_of, requests_of};
+ghost use Rattle.node_loop.specs.Resends.{HandsVote, IsBounded, kept_of, latest_of, me_of, members_of, position_of};
+ghost use Rattle.node_loop.specs.Resends.{requests_of};
 
 use crate::state::{Latest, Votes};
 use px_transport::Wire;

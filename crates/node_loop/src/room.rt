@@ -4,9 +4,9 @@ ghost use Rattle.std.specs.Prelude.{◌≡◌, [], IfOk, length};
 ghost use Rattle.node_loop.specs.Resends.{kept_of, requests_of};
 
 use crate::counts::RoundCounts;
+use crate::resender::Resender;
 use crate::sight::Sight;
 use px_replica::Datagram;
-use crate::resender::Resender;
 use px_wire::{Head, Membership};
 use std::alloc::{AllocError, Global};
 

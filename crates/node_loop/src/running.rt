@@ -11,6 +11,7 @@ ghost use Rattle.node_loop.specs.Timing.{SawThenLooked, looks, view_of};
 ghost use Rattle.node_loop.specs.Turns.{Served, TickedIf, TookThenTicked, standing};
 
 use crate::pacing::microseconds;
+use crate::resender::Resender;
 use crate::room::Room;
 use crate::serving::{drain, tick_now};
 use crate::sight::Sight;
@@ -18,7 +19,6 @@ use crate::timer::{Beat, Timer, View};
 use pf_node::Node;
 use px_records::Records;
 use px_replica::NodeFault;
-use crate::resender::Resender;
 use px_transport::Wire;
 use std::time::{Clock, Instant};
 

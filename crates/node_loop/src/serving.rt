@@ -16,6 +16,7 @@ ghost use Rattle.node_loop.specs.Resending.{IsKnown};
 ghost use Rattle.node_loop.specs.inner.Turns.{SawIf};
 
 use crate::counts::RoundCounts;
+use crate::resender::Resender;
 use crate::room::Room;
 use crate::sight::Sight;
 use crate::turning::{act, came, send_all};
@@ -23,7 +24,6 @@ use pf_entry::ASKER;
 use pf_node::Node;
 use px_records::Records;
 use px_replica::{Datagram, NodeFault, Received};
-use crate::resender::Resender;
 use px_transport::Wire;
 use px_wire::Head;
 

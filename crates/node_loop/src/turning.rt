@@ -9,11 +9,11 @@ ghost use Rattle.node_loop.specs.Resends.{kept_of, requests_of};
 ghost use Rattle.node_loop.specs.Turns.{Acts, Turned, handed_over, standing};
 
 use crate::counts::RoundCounts;
+use crate::resender::Resender;
 use crate::room::Room;
 use pf_node::Node;
 use px_records::Records;
 use px_replica::{Datagram, NodeFault};
-use crate::resender::Resender;
 use px_transport::Wire;
 
 /// Hands the datagrams to the wire, each once, in order, and shows them to the resender. One that isn't sent is lost.

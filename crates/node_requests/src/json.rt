@@ -2,7 +2,8 @@
 
 ghost use Rattle.std.specs.Prelude.{◌≡◌, ◌++◌, IfOk, OnOk, string_bytes};
 ghost use Rattle.node_requests.specs.Answers.{answer_value, shown};
-ghost use Rattle.node_requests.specs.StatusJson.{heard_json, peer_json, peers_json, figures_json, config_json, wire_json};
+ghost use Rattle.node_requests.specs.StatusJson.{heard_json, peer_json, peers_json, figures_json, config_json};
+ghost use Rattle.node_requests.specs.StatusJson.{wire_json};
 ghost use Rattle.node_requests.specs.StatusJson.{standing_json, store_json, status_json};
 
 use crate::answer::Answer;

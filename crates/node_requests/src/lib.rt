@@ -47,7 +47,7 @@ pub use changing::Changed;
 pub use desk::Desk;
 pub use entries::{ENTRIES_BYTES, ENTRIES_MAX};
 pub use figures::Figures;
-pub use health::{STUCK, Health, counted};
+pub use health::{Health, STUCK, counted};
 pub use outcome::push_outcome;
 pub use pf_node::Node;
 pub use positions::{push_position, push_positions};

@@ -3,7 +3,8 @@
 ghost use Rattle.std.specs.Prelude.{◌≡◌, IfOk, string_bytes};
 ghost use Rattle.pf_node.specs.Nodes.{learned_by};
 ghost use Rattle.node_requests.specs.Answers.{answer_value};
-ghost use Rattle.node_requests.specs.Standing.{is_request, place_below, is_taken, applied_line, waiting, unknown, standing};
+ghost use Rattle.node_requests.specs.Standing.{is_request, place_below, is_taken, applied_line, waiting, unknown};
+ghost use Rattle.node_requests.specs.Standing.{standing};
 
 use crate::answer::Answer;
 use crate::outcome::push_outcome;

@@ -1,18 +1,18 @@
-//! The words of pfctl (pfctl(8)).
+//! The arguments of pfctl(8), read to the action that they ask for.
 //!
 //! # Organization
 //!
 //! - [`pfctl_args`] adds pfctl's options to a command line that `clap` reads.
 //! - [`from_matches`] answers the [`Action`] that its matches ask for, or the first fault.
-//! - Of the crates below: [`Command`], [`Entry`] and their bytes, and [`apply`], what a command does.
+//! - Of the crates below: [`Command`], [`Entry`] and their bytes.
 //!
 //! # Why
 //!
 //! - What a command counts is found before its change is made: a change can't be taken back, so nothing may be
 //!   wanting behind it. A table is therefore made twice for a command on it.
 //! - The two flushes of `-F all` are one call of a configuration, for the same reason.
-//! - `pf_arguments` has the name that the project's scope gives to what reads pfctl's words; the commands themselves
-//!   are pf_entry's, and what they do pf_command's.
+//! - Arguments are read without the grammar, so they are proved beside it; what a command does is pf_command's, which
+//!   hands out these calls too.
 //! - `apply` asks of its caller that the command's names, table and addresses are such as entries may have.
 //!   `decode` gives just such views.
 //! - A path's text is read by a function of `pf_config`, beside its refusal 24; the type of paths is

@@ -14,8 +14,7 @@ use crate::fault::ApplyFault;
 use pf_config::{Config, ConfigFault};
 use pf_entry::{Addresses, CommandView, addresses_owned, path_owned, table_owned};
 use pf_grammar::{ParseFault, Place, parse};
-use pf_rules::{Name, Path, TableEntry, TableName};
-use pf_rules::Profile;
+use pf_rules::{Name, Path, Profile, TableEntry, TableName};
 use std::alloc::{AllocError, Global};
 
 /// How many entries, with their signs, were added to a command's table and removed from it; 0 and 0 for loads and for flushes of

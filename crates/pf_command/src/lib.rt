@@ -27,4 +27,6 @@ pub use commands::{Applied, apply};
 pub use fault::ApplyFault;
 pub use laws::a_log_goes_on;
 pub use pf_arguments::{Action, CommandFault, from_matches, pfctl_args};
-pub use pf_entry::{Command, CommandView, EncodeFault, Entry, EntryView, Path, TableName, decode, encode};
+pub use pf_entry::{
+    Command, CommandView, EncodeFault, Entry, EntryView, Path, TableName, decode, encode,
+};

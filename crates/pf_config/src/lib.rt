@@ -83,6 +83,5 @@ pub use candidate_list::{CandidateList, Search};
 pub use config::{Config, RULES_MAX};
 pub use fault::ConfigFault;
 pub use path_text::parse_path;
-pub use pf_tables::{Interval, is_within};
-pub use pf_tables::Table;
+pub use pf_tables::{Interval, Table, is_within};
 pub use sieve::front_bits;

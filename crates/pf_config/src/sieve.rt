@@ -6,8 +6,8 @@ ghost use Rattle.pf_config.specs.Orders.{host_interval, test_interval, port_inte
 
 use crate::candidate::Sieve;
 use pf_addr::Addr;
-use pf_tables::Interval;
 use pf_rules::{Addresses, Conditions, Host, PortTest};
+use pf_tables::Interval;
 
 /// All numbers.
 fn everything() -> Interval

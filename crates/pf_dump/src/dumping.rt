@@ -4,8 +4,8 @@ ghost use Rattle.std.specs.Prelude.{◌≡◌, true, IfOk, IfSome};
 ghost use Rattle.pf_dump.specs.Scripts.{Gives};
 
 use crate::replay::replayed;
-use crate::script::script_of;
 use crate::same::is_same;
+use crate::script::script_of;
 use pf_config::Config;
 use std::alloc::{AllocError, Global};
 

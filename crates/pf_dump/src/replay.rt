@@ -12,8 +12,8 @@ ghost use Rattle.pf_dump.specs.Scripts.{configured};
 ghost use Rattle.pf_dump.specs.inner.Seen.{StepsTo};
 
 use pf_arguments::{Command, CommandView, EncodeFault, Entry, decode, encode};
-use pf_config::Config;
 use pf_command::{ApplyFault, apply};
+use pf_config::Config;
 use pf_scripts::{
     Line, Waiting, WordsRead, cut_line, push_bytes, read_words, takes_text, words_in,
 };

@@ -4,9 +4,8 @@ ghost use Rattle.std.specs.Prelude.{◌≡◌, true};
 
 use pf_addr::{Addr, Family, Prefix, Range};
 use pf_rules::{
-    Action, Addresses, Direction, FlagTest, Host, Interface, InterfaceName, PortTest,
+    Action, Addresses, Direction, FlagTest, Host, Interface, InterfaceName, PortTest, TcpFlags,
 };
-use pf_rules::TcpFlags;
 
 /// Whether two actions are the same.
 pub(crate) fn same_action(a: Action, b: Action) -> bool

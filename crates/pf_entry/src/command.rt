@@ -3,8 +3,7 @@
 ghost use Rattle.std.specs.Prelude.{◌<◌, ◌^◌, IsTrue, length};
 ghost use Rattle.pf_entry.specs.Entry.{is_origin};
 
-use pf_rules::{Path, TableEntry, TableName};
-use pf_rules::Profile;
+use pf_rules::{Path, Profile, TableEntry, TableName};
 
 /// One address or more.
 #[derive(Drop)]

@@ -43,6 +43,5 @@ pub use encoding::{encode, encode_asked};
 pub use fault::{BadEntry, EncodeFault};
 pub use limits::{ADDRESSES, ASKER, ENTRY_BYTES};
 pub use owning::{addresses_owned, path_owned, table_owned};
-pub use pf_rules::{Name, Path, TableEntry, TableName};
-pub use pf_rules::Profile;
+pub use pf_rules::{Name, Path, Profile, TableEntry, TableName};
 pub use view::{Addresses, CommandView, EntryView, Names};

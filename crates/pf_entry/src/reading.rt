@@ -13,8 +13,7 @@ ghost use Rattle.pf_entry.specs.Seen.{address_of, names_of, addresses_of, comman
 use crate::limits::{ADDRESSES, ASKER, ENTRY_BYTES, HALF, LAST_MEMBER, NAMES, NUMBERS};
 use crate::view::{Addresses, CommandView, EntryView, Names};
 use pf_addr::{Addr, Prefix};
-use pf_rules::TableEntry;
-use pf_rules::{Profile, is_anchor_text, is_table_name};
+use pf_rules::{Profile, TableEntry, is_anchor_text, is_table_name};
 
 fn byte_at(bytes: &[u8]) -> Option<(u8, &[u8])>
     ensures { option_map (λ x. (x.0, x.1.now)) result ≡ byte_at bytes.now }

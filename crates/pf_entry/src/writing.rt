@@ -14,8 +14,7 @@ use crate::command::{Command, Entry};
 use crate::limits::{ADDRESSES, ENTRY_BYTES, HALF};
 use crate::numbers::{put_u16, put_u32, put_u64};
 use pf_addr::Addr;
-use pf_rules::{Path, TableEntry, TableName};
-use pf_rules::Profile;
+use pf_rules::{Path, Profile, TableEntry, TableName};
 use std::alloc::AllocError;
 
 /// A length of one byte, and the bytes.

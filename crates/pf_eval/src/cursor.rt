@@ -16,9 +16,9 @@ ghost use Rattle.pf_eval.specs.inner.Cursors.{left, end_of, Reads, ReadsAll};
 use crate::fault::PacketFault;
 use crate::word::{behind, first_word};
 use pf_addr::{Addr, parse_bytes};
-use pf_rules::{Direction, InterfaceName};
 use pf_rules::{
-    Profile, TcpFlags, is_reserved, is_same_word, parse_decimal, parse_flags, parse_protocol,
+    Direction, InterfaceName, Profile, TcpFlags, is_reserved, is_same_word, parse_decimal,
+    parse_flags, parse_protocol,
 };
 use std::alloc::Global;
 

@@ -10,9 +10,8 @@ use crate::packet::Packet;
 use crate::scope::Scope;
 use pf_addr::{Addr, Family};
 use pf_rules::{
-    Addresses, Conditions, Direction, FlagTest, Host, Interface, PortTest, TableName,
+    Addresses, Conditions, Direction, FlagTest, Host, Interface, PortTest, TableName, TcpFlags,
 };
-use pf_rules::TcpFlags;
 
 /// Whether each condition holds of the packet; those are asked first that cost least.
 #[tactic(auto, unfolding(crate::specs::Matching::matches))]

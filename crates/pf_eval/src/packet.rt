@@ -6,8 +6,7 @@ ghost use Rattle.std.specs.Str.{bytes_eq};
 ghost use Rattle.pf_eval.specs.Packets.{without_digits, interfaces};
 
 use pf_addr::Addr;
-use pf_rules::{Direction, InterfaceName};
-use pf_rules::TcpFlags;
+use pf_rules::{Direction, InterfaceName, TcpFlags};
 use std::marker::Model;
 
 /// A packet record: what the filter reads of a packet that belongs to no state. It is made by `parse_packet`.

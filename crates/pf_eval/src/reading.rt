@@ -11,8 +11,7 @@ use crate::fault::PacketFault;
 use crate::packet::{Packet, stem};
 use crate::word::has_outer_blank;
 use pf_addr::Addr;
-use pf_rules::InterfaceName;
-use pf_rules::TcpFlags;
+use pf_rules::{InterfaceName, TcpFlags};
 use std::alloc::Global;
 
 /// How many groups a packet's interface is in at most.

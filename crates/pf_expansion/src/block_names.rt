@@ -9,9 +9,8 @@ ghost use Rattle.pf_expansion.specs.Blocks.{item_misnamed, next_unnamed, target_
 ghost use Rattle.pf_expansion.specs.Blocks.{unnamed_in, unnamed_with};
 
 use crate::anchors::is_reserved;
-use pf_rules::{Item, Name, Target};
+use pf_rules::{Item, Name, Target, parse_decimal};
 use pf_statements::WrittenItem;
-use pf_rules::parse_decimal;
 use std::alloc::{AllocError, Global};
 
 /// The most unnamed blocks that are distinguished: a statement has no more tokens.

@@ -9,8 +9,8 @@ ghost use Rattle.pf_expansion.specs.inner.Counts.{is_of_one, count_hosts, pairs_
 
 use crate::expand::{host_family, with_family};
 use pf_addr::Family;
-use pf_statements::WrittenConditions;
 use pf_rules::Host;
+use pf_statements::WrittenConditions;
 use pf_tokens::Listed;
 
 /// How many elements are to be combined: one where there is no list.

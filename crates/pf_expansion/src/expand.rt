@@ -10,8 +10,8 @@ ghost use Rattle.pf_expansion.specs.Expansion.{by_protocol, by_interface, combin
 ghost use Rattle.pf_statements.specs.ConditionsSeen.{conditions_of};
 
 use pf_addr::Family;
-use pf_statements::{Protocol, WrittenConditions, WrittenPort, WrittenType};
 use pf_rules::{Addresses, Conditions, FlagTest, Host, Interface, PortTest};
+use pf_statements::{Protocol, WrittenConditions, WrittenPort, WrittenType};
 use std::alloc::{AllocError, Global};
 
 /// What is chosen from each list.

@@ -14,8 +14,8 @@ ghost use Rattle.pf_expansion.specs.declared.judge.TheConstants.{MOST_RULES};
 use crate::cause::Cause;
 use crate::counts::{count_combined, count_of};
 use crate::expand::combined;
-use pf_statements::{Protocol, WrittenConditions, WrittenPort, WrittenType};
 use pf_rules::{Conditions, FlagTest};
+use pf_statements::{Protocol, WrittenConditions, WrittenPort, WrittenType};
 use pf_tokens::Listed;
 use std::alloc::{AllocError, Global};
 

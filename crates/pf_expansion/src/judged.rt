@@ -9,8 +9,7 @@ ghost use Rattle.pf_expansion.specs.Blocks.{rule_count, ruleset_judged};
 
 use crate::counts::count_combined;
 use crate::judge::{bad_ports, bad_types, has_deep_list, is_too_wide};
-use pf_statements::WrittenConditions;
-use pf_statements::WrittenItem;
+use pf_statements::{WrittenConditions, WrittenItem};
 
 /// One rule more than a ruleset may have.
 const TOO_MANY_RULES: usize = 1_025;

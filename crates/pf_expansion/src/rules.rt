@@ -8,9 +8,8 @@ ghost use Rattle.pf_expansion.specs.declared.judge.TheConstants.{MOST_RULES};
 
 use crate::cause::Cause;
 use crate::judge::judge_conditions;
-use pf_rules::{Action, Conditions, FlagTest, Policy, Rule};
+use pf_rules::{Action, Conditions, FlagTest, Policy, Rule, TcpFlags};
 use pf_statements::{WrittenAction, WrittenRule};
-use pf_rules::TcpFlags;
 use std::alloc::{AllocError, Global};
 
 /// The flags of the packet that begins a connection: of SYN and ACK just SYN.

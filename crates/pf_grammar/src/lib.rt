@@ -52,14 +52,11 @@ pub use pf_addr::Family;
 pub use pf_expansion::Cause;
 pub use pf_rules::{
     Action, Addresses, AnchorHeading, AnchorRule, Conditions, Direction, FlagTest, Host, Interface,
-    InterfaceName, Item, Name, Policy, PortTest, Rule, Ruleset, TableDef, TableEntry, TableName,
-    Target,
+    InterfaceName, Item, Name, Policy, PortTest, Profile, Rule, Ruleset, TableDef, TableEntry,
+    TableName, Target, TcpFlags, is_interface_name, is_reserved, parse_decimal, parse_flags,
+    parse_icmp_type, parse_port, parse_protocol,
 };
 pub use pf_show::{show, show_items};
 pub use pf_statements::reads_the_grammar;
-pub use pf_rules::{
-    Profile, TcpFlags, is_interface_name, is_reserved, parse_decimal, parse_flags, parse_icmp_type,
-    parse_port, parse_protocol,
-};
 pub use place::Place;
 pub use reading::parse;

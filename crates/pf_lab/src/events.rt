@@ -1,8 +1,8 @@
 //! An event of a script.
 
 use crate::bench::Bench;
-use crate::fault::{LineFault, NOT_THERE};
 use crate::event::{LabAction, LabEvent, LabFault, Outcome};
+use crate::fault::{LineFault, NOT_THERE};
 use pf_scripts::{push_line, push_number, push_refusal};
 use std::alloc::{AllocError, Global};
 

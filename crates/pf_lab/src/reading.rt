@@ -6,9 +6,9 @@ ghost use Rattle.pf_lab.specs.inner.LabLines.{only, ask_of, action_of, event_of,
 ghost use Rattle.pf_lab.specs.inner.Seen.{Reads, action_value, event_value, line_value};
 
 use crate::asking::command_in;
+use crate::event::{LabAction, LabEvent};
 use crate::fault::{LineFault, UNKNOWN};
 use crate::numbers::{message_in, node_in};
-use crate::event::{LabAction, LabEvent};
 use std::alloc::Global;
 
 /// What a line asks for.

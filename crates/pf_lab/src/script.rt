@@ -4,10 +4,10 @@ ghost use Rattle.std.specs.Prelude.{◌≤◌, IfOk, IfSome};
 ghost use Rattle.pf_lab.specs.declared.script.TheConstants.{MEMBERS};
 
 use crate::bench::Bench;
-use crate::numbers::number_in;
-use crate::stepping::{run_words, step};
 use crate::event::LabFault;
+use crate::numbers::number_in;
 use crate::state::Lab;
+use crate::stepping::{run_words, step};
 use pf_scripts::{Waiting, cut_line, push_refusal, words_in};
 use std::alloc::{AllocError, Global};
 

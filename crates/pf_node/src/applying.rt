@@ -14,8 +14,8 @@ ghost use Rattle.pf_node.specs.Outcomes.{outcome_of, outcome_read};
 ghost use Rattle.pf_node.specs.inner.Outcomes.{outcomes_below};
 
 use crate::outcomes::{Outcome, Outcomes};
-use pf_config::Config;
 use pf_command::{ApplyFault, apply};
+use pf_config::Config;
 use pf_entry::{CommandView, decode};
 use px_model::Entry;
 use px_records::Records;

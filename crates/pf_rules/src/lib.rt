@@ -35,11 +35,16 @@ pub use flags::TcpFlags;
 pub use interface_name::InterfaceName;
 pub use item::{AnchorHeading, AnchorRule, Item, Target};
 pub use name::Name;
-pub use names::{is_anchor_text, is_interface_name, is_interface_text, is_table_name, is_table_text};
+pub use names::{
+    is_anchor_text, is_interface_name, is_interface_text, is_table_name, is_table_text,
+};
 pub use parts::{Addresses, Direction, FlagTest, Host, Interface, Policy, PortTest};
 pub use path::{PATH_MAX, Path};
 pub use profile::Profile;
 pub use rule::{Action, Conditions, Rule};
 pub use ruleset::{Ruleset, TableDef, TableEntry};
 pub use table_name::TableName;
-pub use words::{is_reserved, is_same_word, parse_decimal, parse_flags, parse_icmp_type, parse_port, parse_protocol};
+pub use words::{
+    is_reserved, is_same_word, parse_decimal, parse_flags, parse_icmp_type, parse_port,
+    parse_protocol,
+};

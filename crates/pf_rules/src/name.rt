@@ -4,8 +4,8 @@ ghost use Rattle.std.specs.Prelude.{◌≡◌, IfOk, true, string_bytes};
 ghost use Rattle.pf_rules.specs.Words.{is_anchor_text};
 ghost use Rattle.pf_rules.specs.Names.{name_if, is_before, begins_below};
 
-use crate::text::ascii_text;
 use crate::names::is_anchor_text;
+use crate::text::ascii_text;
 use std::alloc::{AllocError, Global};
 use std::cmp::Ordering;
 use std::marker::Model;

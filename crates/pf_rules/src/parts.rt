@@ -1,9 +1,9 @@
 //! Parts of a rule.
 
+use crate::flags::TcpFlags;
 use crate::interface_name::InterfaceName;
 use crate::table_name::TableName;
 use pf_addr::{Prefix, Range};
-use crate::flags::TcpFlags;
 
 /// What a plain `block` does (pf.conf(5), `set block-policy`).
 #[derive(Clone, Copy, PartialEq, Eq)]

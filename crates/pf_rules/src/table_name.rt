@@ -6,9 +6,9 @@ ghost use Rattle.pf_rules.specs.Words.{is_table_name};
 ghost use Rattle.std.specs.Str.{bytes_eq};
 ghost use Rattle.pf_rules.specs.Names.{name_if, is_before};
 
-use crate::text::ascii_text;
 use crate::names::is_table_name;
 use crate::profile::Profile;
+use crate::text::ascii_text;
 use std::alloc::{AllocError, Global};
 use std::cmp::Ordering;
 use std::marker::Model;

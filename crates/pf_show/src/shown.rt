@@ -14,9 +14,8 @@ use crate::tables::TableLines;
 use pf_addr::Family;
 use pf_rules::{
     Action, Addresses, Conditions, Direction, FlagTest, Host, Interface, InterfaceName, Item,
-    PortTest, Rule, Ruleset,
+    PortTest, Rule, Ruleset, TcpFlags,
 };
-use pf_rules::TcpFlags;
 use std::alloc::{AllocError, Global};
 use std::fmt::{self, Display};
 

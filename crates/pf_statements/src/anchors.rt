@@ -6,15 +6,14 @@ ghost use Rattle.pf_rules.specs.Seen.{target_of};
 ghost use Rattle.pf_statements.specs.Anchors.{said_flags, heading_at, optional_target_at};
 ghost use Rattle.pf_statements.specs.Seen.{heading_text_of};
 
-use crate::directions::read_direction;
-use crate::written::WrittenHeading;
 use crate::common::read_common;
 use crate::conditions::WrittenConditions;
+use crate::directions::read_direction;
 use crate::flags::read_flags;
 use crate::targets::{may_begin_target, read_target};
-use pf_rules::{FlagTest, Target};
+use crate::written::WrittenHeading;
+use pf_rules::{FlagTest, Profile, Target};
 use pf_tokens::{Parser, Stop};
-use pf_rules::Profile;
 use std::alloc::Global;
 
 /// The flags behind their word, if it comes next.

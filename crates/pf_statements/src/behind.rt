@@ -6,8 +6,8 @@ ghost use Rattle.pf_tokens.specs.Parsing.{left, later, Parses};
 ghost use Rattle.pf_statements.specs.Conditions.{behind_word};
 ghost use Rattle.pf_statements.specs.ConditionsSeen.{list_of};
 
-use pf_tokens::{Element, Listed, Parser, Stop, some};
 use pf_rules::Profile;
+use pf_tokens::{Element, Listed, Parser, Stop, some};
 use std::alloc::{AllocError, Global};
 
 /// The list behind the word, if the word comes next.

@@ -10,9 +10,8 @@ use crate::anchors::read_heading;
 use crate::options::is_over;
 use crate::statements::read_rule;
 use crate::written::{WrittenAnchor, WrittenHeading, WrittenItem};
-use pf_rules::Target;
+use pf_rules::{Profile, Target};
 use pf_tokens::{Parser, Stop, Symbol};
-use pf_rules::Profile;
 use std::alloc::Global;
 
 /// The most blocks that may be in one another: a statement has no more braces open at once.

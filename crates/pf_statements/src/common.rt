@@ -6,12 +6,12 @@ ghost use Rattle.pf_statements.specs.Conditions.{common_at};
 ghost use Rattle.pf_statements.specs.ConditionsSeen.{common_of};
 
 use crate::behind::read_behind;
+use crate::conditions::{Common, Protocol};
 use crate::ends::read_ends;
 use crate::interfaces::InterfaceProduction;
 use crate::protocols::read_family;
-use crate::conditions::{Common, Protocol};
-use pf_tokens::{Parser, Stop};
 use pf_rules::Profile;
+use pf_tokens::{Parser, Stop};
 use std::alloc::Global;
 
 /// The interfaces, the family, the protocols and the hosts of a rule or an anchor rule.

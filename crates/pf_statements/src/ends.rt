@@ -8,11 +8,10 @@ ghost use Rattle.pf_statements.specs.ConditionsSeen.{ends_of};
 ghost use Rattle.pf_statements.specs.inner.ConditionsSeen.{pair_of};
 
 use crate::behind::read_behind;
-use crate::hosts::{HostProduction, any_host};
 use crate::conditions::{End, WrittenPort};
-use pf_rules::Host;
+use crate::hosts::{HostProduction, any_host};
+use pf_rules::{Host, Profile};
 use pf_tokens::{Listed, Parser, Stop, some};
-use pf_rules::Profile;
 use std::alloc::{AllocError, Global};
 
 /// Any host and any port.

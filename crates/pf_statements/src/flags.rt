@@ -5,9 +5,8 @@ ghost use Rattle.pf_tokens.specs.Parsing.{left, later, Reads};
 ghost use Rattle.pf_rules.specs.Words.{implies, is_within};
 ghost use Rattle.pf_statements.specs.Conditions.{letters_at, flags_at};
 
-use pf_rules::FlagTest;
+use pf_rules::{FlagTest, TcpFlags, parse_flags};
 use pf_tokens::{Parser, Symbol};
-use pf_rules::{TcpFlags, parse_flags};
 
 /// Whether a flag of the first is one of the second.
 fn implies(set: bool, of: bool) -> bool

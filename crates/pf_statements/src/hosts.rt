@@ -11,9 +11,8 @@ ghost use Rattle.pf_rules.specs.Names.{name_if};
 
 use crate::behind::lone;
 use pf_addr::{Prefix, Range, parse_bytes, parse_words};
-use pf_rules::{Addresses, Host, TableName};
+use pf_rules::{Addresses, Host, Profile, TableName, is_table_name};
 use pf_tokens::{Element, Listed, Parser, Stop, Symbol};
-use pf_rules::{Profile, is_table_name};
 use std::alloc::{AllocError, Global};
 
 /// The hosts in the set, or those outside it; without a set any host.

@@ -5,9 +5,8 @@ ghost use Rattle.pf_tokens.specs.Parsing.{left, later, Parses};
 ghost use Rattle.pf_statements.specs.Conditions.{interface_name_at, interface_at};
 ghost use Rattle.pf_statements.specs.inner.Shorter.{interface_name_shorter, interface_shorter};
 
-use pf_rules::{Interface, InterfaceName};
+use pf_rules::{Interface, InterfaceName, Profile, is_reserved};
 use pf_tokens::{Element, Parser, Stop, Symbol};
-use pf_rules::{Profile, is_reserved};
 use std::alloc::Global;
 
 /// The name of an interface or of a group of them: a word or a string.

@@ -49,4 +49,7 @@ pub use laws::{entries_of_tables, reads_the_grammar};
 pub use statements::read_statement;
 pub use targets::{may_begin_target, read_target};
 pub use types::read_types;
-pub use written::{RuleOptions, Setting, Statement, WrittenAction, WrittenAnchor, WrittenHeading, WrittenItem, WrittenRule, WrittenTable};
+pub use written::{
+    RuleOptions, Setting, Statement, WrittenAction, WrittenAnchor, WrittenHeading, WrittenItem,
+    WrittenRule, WrittenTable,
+};

@@ -7,11 +7,11 @@ ghost use Rattle.pf_statements.specs.Statements.{option_with, options_at};
 ghost use Rattle.pf_statements.specs.Options.{is_over};
 ghost use Rattle.pf_statements.specs.inner.Seen.{options_of};
 
-use crate::written::RuleOptions;
 use crate::flags::read_flags;
 use crate::types::read_types;
-use pf_tokens::{Lexeme, Parser, Stop, Symbol};
+use crate::written::RuleOptions;
 use pf_rules::Profile;
+use pf_tokens::{Lexeme, Parser, Stop, Symbol};
 use std::alloc::Global;
 
 /// The flags, if they weren't said before.

@@ -11,11 +11,10 @@ ghost use Rattle.pf_statements.specs.Conditions.{operator_at, compared_at, port_
 ghost use Rattle.pf_statements.specs.inner.ConditionsSeen.{compared};
 ghost use Rattle.pf_statements.specs.inner.Shorter.{port_shorter};
 
-use crate::cut::cut;
 use crate::conditions::{Comparison, WrittenPort};
-use pf_rules::PortTest;
+use crate::cut::cut;
+use pf_rules::{PortTest, Profile, is_reserved, parse_port};
 use pf_tokens::{Element, Parser, Stop, Symbol};
-use pf_rules::{Profile, is_reserved, parse_port};
 use std::alloc::Global;
 
 /// The test of the operator with this port.

@@ -7,8 +7,8 @@ ghost use Rattle.pf_statements.specs.inner.Shorter.{protocol_shorter};
 
 use crate::conditions::Protocol;
 use pf_addr::Family;
-use pf_tokens::{Element, Parser, Stop};
 use pf_rules::{Profile, parse_protocol};
+use pf_tokens::{Element, Parser, Stop};
 use std::alloc::Global;
 
 /// The family, if it is said.

@@ -8,16 +8,15 @@ ghost use Rattle.pf_statements.specs.Seen.{text_of, statement_of, Spells};
 ghost use Rattle.pf_statements.specs.Seen as seen;
 
 use crate::blocks::read_item;
+use crate::common::read_common;
+use crate::conditions::WrittenConditions;
 use crate::directions::read_direction;
+use crate::interfaces::InterfaceNameProduction;
 use crate::options::read_options;
 use crate::tables::read_table_text;
 use crate::written::{RuleOptions, Setting, Statement, WrittenAction, WrittenRule};
-use crate::common::read_common;
-use crate::conditions::WrittenConditions;
-use crate::interfaces::InterfaceNameProduction;
-use pf_rules::Policy;
+use pf_rules::{Policy, Profile};
 use pf_tokens::{Parser, Stop, some};
-use pf_rules::Profile;
 use std::alloc::Global;
 
 /// What a block does, if it is said.

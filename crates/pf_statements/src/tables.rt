@@ -9,11 +9,10 @@ ghost use Rattle.pf_statements.specs.Tables.{table_of};
 ghost use Rattle.pf_statements.specs.inner.TableShorter.{entry_shorter};
 ghost use Rattle.pf_statements.specs.Seen.{table_text_of, Spells};
 
-use crate::written::WrittenTable;
 use crate::hosts::{read_prefix, read_table};
-use pf_rules::{TableEntry, TableName};
+use crate::written::WrittenTable;
+use pf_rules::{Profile, TableEntry, TableName};
 use pf_tokens::{Element, Listed, Parser, Stop, Symbol, list};
-use pf_rules::Profile;
 use std::alloc::Global;
 
 /// An entry of a table, behind `!` or not.

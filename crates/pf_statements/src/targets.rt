@@ -10,9 +10,8 @@ ghost use Rattle.pf_tokens.specs.Productions.{starts};
 ghost use Rattle.pf_statements.specs.Targets.{is_star, may_name, target_at, target_of, target_text, target_with};
 
 use crate::cut::cut;
-use pf_rules::{Name, PATH_MAX, Target};
+use pf_rules::{Name, PATH_MAX, Profile, Target, is_reserved};
 use pf_tokens::{Lexeme, Parser, Stop};
-use pf_rules::{Profile, is_reserved};
 use std::alloc::{AllocError, Global};
 
 /// Whether `*` is what is left.

@@ -6,10 +6,10 @@ ghost use Rattle.pf_tokens.specs.Parsing.{left, later, Parses};
 ghost use Rattle.pf_statements.specs.Conditions.{type_at, types_at};
 ghost use Rattle.pf_statements.specs.inner.Shorter.{type_shorter};
 
-use crate::ports::read_port_word;
 use crate::conditions::WrittenType;
-use pf_tokens::{Element, Listed, Parser, Stop, Symbol, some};
+use crate::ports::read_port_word;
 use pf_rules::{Profile, parse_icmp_type};
+use pf_tokens::{Element, Listed, Parser, Stop, Symbol, some};
 use std::alloc::Global;
 
 impl Element for WrittenType {

@@ -31,7 +31,7 @@ mod parted;
 mod row;
 mod table;
 
-pub use classes::{PLACES_MAX, Classes};
+pub use classes::{Classes, PLACES_MAX};
 pub use edits::Edit;
 pub use interval::{Interval, is_within};
 pub use row::Row;

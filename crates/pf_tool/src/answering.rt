@@ -20,9 +20,8 @@ use crate::remarks::Remarks;
 use crate::scripts::{lab_output, script_output};
 use crate::source::{Source, source_at, sources_at};
 use crate::testing::{test_output, tested_texts};
+use cli_io::{Explanation, InputFault, read_all};
 use pf_grammar::Place;
-use cli_io::{InputFault, read_all};
-use cli_io::Explanation;
 use std::alloc::{AllocError, AllocFailed, Global};
 use std::io::Read;
 

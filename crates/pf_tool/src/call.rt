@@ -8,8 +8,8 @@ ghost use Rattle.pf_tool.specs.Words.{called_by, called};
 ghost use Rattle.pf_tool.specs.inner.Calls.{asked};
 
 use clap::ArgMatches;
-use pf_grammar::Place;
 use cli_io::{Explanation, named};
+use pf_grammar::Place;
 
 /// What the words ask for.
 #[derive(Clone, Copy)]

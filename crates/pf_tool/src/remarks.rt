@@ -1,7 +1,6 @@
 //! Words for people: what is refused, and which rules decide.
 
-use cli_io::Shown;
-use cli_io::{Explanation, NO_PACKET, Remark, explanation};
+use cli_io::{Explanation, NO_PACKET, Remark, Shown, explanation};
 use std::alloc::{AllocError, Global};
 
 /// What is printed for people.

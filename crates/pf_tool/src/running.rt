@@ -10,8 +10,7 @@ use crate::call::{Call, call_in, is_verbose, misnamed};
 use crate::output::Ending;
 use crate::remarks::{Level, Remarks};
 use crate::words::command;
-use cli_io::{Status, misused, out_of_memory};
-use cli_io::Explanation;
+use cli_io::{Explanation, Status, misused, out_of_memory};
 use std::convert::AsStr;
 use std::io::{Read, Write};
 

@@ -2,14 +2,13 @@
 
 use crate::telling::{Heard, tell};
 use crate::version::write_version;
+use cli_ask::run_visit;
 use cli_follow::run_follow;
-use cli_io::Status;
+use cli_io::{REFUSALS, Status};
 use cli_nft::{asks_nft, run_nft};
 use cli_node::run_net;
-use cli_io::REFUSALS;
 use cli_show::run_show;
 use pf_tool::run;
-use cli_ask::run_visit;
 use std::convert::AsStr;
 use std::io::{Read, Write};
 

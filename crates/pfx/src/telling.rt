@@ -1,7 +1,6 @@
 //! What is printed for people of a refusal that an argument's crate only prints the number of.
 
-use cli_io::{Shown, knock};
-use cli_io::{REFUSALS, explanation};
+use cli_io::{REFUSALS, Shown, explanation, knock};
 use std::convert::AsStr;
 use std::io::{self, Write};
 

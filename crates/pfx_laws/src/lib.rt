@@ -27,6 +27,9 @@ pub mod nodes;
 mod shown;
 
 pub use levels::{flat_verdicts_are_verdicts, nine_levels_are_all, one_walk};
-pub use maps::{changes_keep_a_map, commands_keep_a_map, logs_have_targets, logs_leave_maps, parts_are_in_order, spelled_logs_have_paths};
+pub use maps::{
+    changes_keep_a_map, commands_keep_a_map, logs_have_targets, logs_leave_maps,
+    parts_are_in_order, spelled_logs_have_paths,
+};
 pub use nftables::{labels_are_unambiguous, logs_never_lead_back};
 pub use shown::shown_is_read_again;

@@ -4,10 +4,10 @@ ghost use Rattle.std.specs.Prelude.{◌≡◌, IfOk};
 ghost use Rattle.px_packet.specs.Arrivals.{Known, IsKnown, new_start, is_for, known_with, arrival_of, known_after};
 
 use crate::arrival::Arrival;
-use crate::window::Window;
 use crate::header::Header;
 use crate::kind::Kind;
 use crate::start::Start;
+use crate::window::Window;
 use std::alloc::{AllocError, Global};
 
 /// What a receiver remembers of a member: its start, and which counters of that start it accepted.

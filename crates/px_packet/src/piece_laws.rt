@@ -1,6 +1,7 @@
 //! What is true of pieces.
 
-ghost use Rattle.px_packet.specs.PieceLaws.{PiecesDiffer, BitsReport, NamedOnce, CutIsJoined, JoinedWasCut, ReportKeeps};
+ghost use Rattle.px_packet.specs.PieceLaws.{PiecesDiffer, BitsReport, NamedOnce, CutIsJoined, JoinedWasCut};
+ghost use Rattle.px_packet.specs.PieceLaws.{ReportKeeps};
 ghost use Rattle.px_packet.specs.PieceLaws.{CutIsPiece, LogGrows, PiecesAreJoined, StaysBounded};
 
 /// Pieces that have the same bytes are the same.

@@ -6,7 +6,8 @@
 //! - [`MemoryRecords`]: a record in memory, which never fails.
 //! - [`FaultyRecords`]: any record, with one commit that fails, for tests of what a failure leaves.
 //!
-//! A keeper over SQLite is px_store's.
+//! A keeper over SQLite is px_store's, which hands out these too. Here nothing links SQLite, so a node is proved and
+//! tested without it.
 #![tactic(auto)]
 
 mod faulty;

@@ -8,6 +8,7 @@
 //! - [`SqlRecords`] keeps [`Records`](px_records::Records) (`sql`): reads by a position (`looking`), writes of one row
 //!   each (`writing`), over one call that puts a row and one that asks for rows (`calls`). What rows say is in
 //!   `reading`.
+//! - Of px_records: [`Records`], what a node asks of whoever keeps its record, [`MemoryRecords`] and [`FaultyRecords`].
 //! - `specs/Tables.antt` has the tables, `inner/Tables.antt` the statements, `Seen.antt` the record that rows show,
 //!   `Formats.antt` that of an older format.
 //!

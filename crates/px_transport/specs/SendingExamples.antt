@@ -1,7 +1,8 @@
 -- Worked examples of what is sent.
 use Rattle.std.specs.Prelude.{◌≡◌, length, [], ◌∷◌, refl}
 use Rattle.px_packet.specs.declared.start.Start.{Start}
-use Rattle.px_transport.specs.Sending.{Sealer, new_to, to_member, next_state, stated, lacked, state, counted, counted_all}
+use Rattle.px_transport.specs.Sending.{Sealer, new_to, to_member, next_state, stated, lacked, state, counted}
+use Rattle.px_transport.specs.Sending.{counted_all}
 use Rattle.px_transport.specs.Sending.{refilled, refilled_for, burst, time_left}
 use Rattle.px_transport.specs.Wiring.{upkeep}
 

@@ -11,8 +11,7 @@ use crate::coming::Coming;
 use crate::receiver::Receiver;
 use crate::sender::Sender;
 use crate::taken::Taken;
-use px_packet::Header;
-use px_packet::Arrival;
+use px_packet::{Arrival, Header};
 
 /// Copies the bytes to the room that there is: how many these are.
 fn put(bytes: &[u8], into: &mut [u8]) -> usize

@@ -5,8 +5,7 @@ ghost use Rattle.std.specs.Prelude.{replicate};
 ghost use Rattle.px_packet.specs.Sending.{name_of, sent_after, cut_with};
 ghost use Rattle.px_transport.specs.Sending.{new_to, named, counted, next_state, stated, refilled};
 
-use px_packet::Start;
-use px_packet::SendBuffer;
+use px_packet::{SendBuffer, Start};
 use std::alloc::{AllocError, Global};
 use std::marker::Model;
 

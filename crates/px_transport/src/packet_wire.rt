@@ -9,9 +9,8 @@ use crate::coming::Coming;
 use crate::opening::take_packet;
 use crate::receiver::Receiver;
 use crate::sender::Sender;
-use px_packet::{PacketKeys, Start};
-use px_packet::PiecesHeld;
 use crate::wire::Wire;
+use px_packet::{PacketKeys, PiecesHeld, Start};
 use std::alloc::{AllocError, Global};
 use std::time::{Clock, Instant};
 

@@ -9,9 +9,7 @@ ghost use Rattle.px_transport.specs.Receiving.{with_body, heard_by, of_member, h
 ghost use Rattle.px_transport.specs.Receiving.{due_of, IsHeard, Hears, seen};
 
 use crate::taken::Taken;
-use px_packet::{Header, Kind, Start};
-use px_packet::{Piece, PiecesHeld, Reassembly};
-use px_packet::{Arrival, Peer};
+use px_packet::{Arrival, Header, Kind, Peer, Piece, PiecesHeld, Reassembly, Start};
 use std::alloc::{AllocError, Global};
 
 /// What is heard of one member: which packets of it were accepted, and its unfinished datagrams.

@@ -3,9 +3,10 @@
 ghost use Rattle.std.specs.Prelude.{◌≡◌, length};
 
 use crate::outgoing::{Outgoing, none_sent};
-use px_packet::{Header, Kind, PacketKeys, Start};
-use px_packet::{DATAGRAM_MAX, PiecesHeld, piece_count, write_piece};
 use crate::wire::Wire;
+use px_packet::{
+    DATAGRAM_MAX, Header, Kind, PacketKeys, PiecesHeld, Start, piece_count, write_piece,
+};
 use std::alloc::{AllocError, Global};
 
 /// How many bytes a packet has at most.

@@ -1,7 +1,6 @@
 //! What comes of a packet.
 
-use px_packet::PiecesHeld;
-use px_packet::Arrival;
+use px_packet::{Arrival, PiecesHeld};
 
 /// What comes of a packet that a receiver took.
 #[derive(Drop)]

@@ -1,5 +1,4 @@
-use px_packet::{Header, Kind, Start};
-use px_packet::{Arrival, Peer};
+use px_packet::{Arrival, Header, Kind, Peer, Start};
 use std::test::Fail;
 
 const MINE: Start = Start {

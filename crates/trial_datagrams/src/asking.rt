@@ -1,5 +1,5 @@
-use pf_entry::Command;
 use node_udp::{AskAnswer, Membership, ask_once};
+use pf_entry::Command;
 use pf_rules::Path;
 use px_transport::{MemoryWire, Wire};
 use std::alloc::Global;

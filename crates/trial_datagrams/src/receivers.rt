@@ -1,7 +1,5 @@
-use px_packet::{Header, Kind, Start};
+use px_packet::{Arrival, Header, Kind, PiecesHeld, Start, write_piece};
 use px_transport::{Receiver, Taken};
-use px_packet::{PiecesHeld, write_piece};
-use px_packet::Arrival;
 use std::alloc::Global;
 use std::test::Fail;
 

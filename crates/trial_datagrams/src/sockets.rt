@@ -1,6 +1,6 @@
 use crate::bench::Bench;
-use pf_addr::Addr;
 use node_udp::{BindFault, UdpWire, parse_address};
+use pf_addr::Addr;
 use px_transport::Wire;
 use std::cell::Cell;
 use std::test::Fail;

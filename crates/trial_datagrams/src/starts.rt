@@ -1,5 +1,5 @@
-use px_packet::Start;
 use cli_files::{KnownMember, StartsFault, read_starts, write_starts};
+use px_packet::Start;
 use std::test::Fail;
 
 const TEXT: &str = "pfx starts 1\n\

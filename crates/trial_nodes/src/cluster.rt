@@ -2,13 +2,13 @@ ghost use Rattle.std.specs.Prelude.{◌<◌};
 
 use crate::listing::listing;
 use crate::members::{ask, ask_load, member};
+use node_loop::{Room, turn};
+use node_udp::UdpWire;
 use pf_addr::parse_prefix;
 use pf_entry::TableName;
 use pf_eval::{parse_packet, show_verdict};
-use node_udp::UdpWire;
 use pf_node::{Command, Membership, Node};
 use pf_rules::{Path, TableEntry};
-use node_loop::{Room, turn};
 use px_records::MemoryRecords;
 use px_transport::{FaultyWire, Wire};
 use std::alloc::Global;

@@ -1,9 +1,9 @@
 //! Members with empty records in memory, and what is asked of them.
 
+use node_loop::{Pace, Room, finish, round};
 use pf_entry::Profile;
 use pf_node::{Command, Membership, Node};
 use pf_rules::Path;
-use node_loop::{Pace, Room, finish, round};
 use px_records::MemoryRecords;
 use px_transport::{LoopbackWire, MemoryWire};
 use std::alloc::Global;

@@ -4,13 +4,12 @@ ghost use Rattle.std.specs.Prelude.{◌<◌};
 
 use crate::listing::listing;
 use crate::members::{ask_load, member};
+use node_loop::{Room, turn};
 use node_udp::UdpWire;
 use pf_node::{Membership, Node};
-use node_loop::{Room, turn};
 use px_packet::{PacketKeys, Start};
-use px_transport::PacketWire;
 use px_records::MemoryRecords;
-use px_transport::{FaultyWire, LoopbackWire, Wire};
+use px_transport::{FaultyWire, LoopbackWire, PacketWire, Wire};
 use std::alloc::Global;
 use std::test::Fail;
 

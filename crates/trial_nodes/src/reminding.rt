@@ -1,8 +1,8 @@
 //! Members that tell how far they are, and what they are sent again.
 
 use crate::members::member;
-use pf_node::Node;
 use node_loop::{Pace, Room, round};
+use pf_node::Node;
 use px_records::MemoryRecords;
 use px_transport::MemoryWire;
 use std::alloc::Global;

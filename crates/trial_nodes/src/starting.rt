@@ -1,8 +1,8 @@
 //! What is asked of a node by datagrams.
 
 use crate::members::member;
-use pf_node::Node;
 use node_loop::{Pace, Room, round};
+use pf_node::Node;
 use px_records::MemoryRecords;
 use px_transport::MemoryWire;
 use std::test::Fail;

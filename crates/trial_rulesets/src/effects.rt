@@ -1,7 +1,7 @@
 //! Loads as entries: what `apply` does with them in each profile.
 
-use pf_config::Config;
 use pf_command::{Applied, ApplyFault, apply};
+use pf_config::Config;
 use pf_entry::decode;
 use pf_grammar::show_items;
 use std::alloc::Global;

@@ -3,11 +3,11 @@
 ghost use Rattle.trial_rulesets.specs.inner.Answers.{negated_at, negated_shorter};
 
 use crate::told::expect;
+use pf_rules::Profile;
 use pf_tokens::{
     DefinitionFault, Element, Lexeme, Lexer, Macro, Macros, Parser, ReadingFault, Stop, Symbol,
     Text, definition, list, lists_as_spelled, macros_as_spelled, some,
 };
-use pf_rules::Profile;
 use std::alloc::Global;
 use std::test::Fail;
 

@@ -9,8 +9,8 @@ ghost use Rattle.pf_command.specs.Answers.{Leaves};
 ghost use Rattle.pf_command.specs.Effect.{after_command};
 
 use pf_addr::Addr;
-use pf_config::{Config, ConfigFault};
 use pf_command::{Applied, ApplyFault};
+use pf_config::{Config, ConfigFault};
 use pf_entry::CommandView;
 use pf_rules::Name;
 use pf_tables::Table;
