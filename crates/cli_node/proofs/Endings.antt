@@ -85,7 +85,7 @@ wireless o (inr e) = as_is o (Refused 82) e n82
 
 pub of_run : {R : Type 0} (G : Ghosts R) (m : Membership) (given back : R) (o : Outcome) → ComesOpenOr G m given o back →
     (file new : Bool) → IsStoreless file new o
-of_run G m given back o (inl (w, v, how, without, runs, is, none)) =
+of_run G m given back o (inl (events, how, without, runs, is, none)) =
     as_is o (ended_outcome without how) is (of_ended without how (wireless without none))
 of_run G m given back o (inr (none, same)) = wireless o none
 

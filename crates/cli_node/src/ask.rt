@@ -17,6 +17,7 @@ use px_transport::Wire;
 use std::alloc::Global;
 use std::fs;
 use std::io::Read;
+use std::net::UdpSocket;
 
 /// The number of whoever is no member.
 const ASKER: u8 = 255;
@@ -129,7 +130,11 @@ fn change_in(alloc: Global, matches: &ArgMatches<'_>, text: &[u8]) -> Result<Com
 }
 
 /// The asker's wire.
-fn bind(rt: &HostRuntime, alloc: Global, to: &str) -> Result<UdpWire<HostRuntime>, Outcome>
+fn bind(
+    rt: &HostRuntime,
+    alloc: Global,
+    to: &str,
+) -> Result<UdpWire<UdpSocket, HostRuntime>, Outcome>
     ensures { OnErr result ((result ≡ Err Memory) ⊎ (result ≡ Err (Refused 82))) }
 {
     match UdpWire::bind(rt, alloc, &[to], ASKER, WAIT_MS) {

@@ -1,7 +1,8 @@
 //! The word `node`: a node over UDP.
 
 ghost use Rattle.std.specs.Prelude.{◌≡◌, ◌≢◌, ◌<◌, ◌≤◌, ◌⊎◌, ◌↔◌, Err, false, length, IfSome, OnErr, IsSome, IsTrue};
-ghost use Rattle.std.specs.Prelude.{ℕ, Bool, Some, None, IfOk, option_map, option_and_then};
+ghost use Rattle.std.specs.Prelude.{ℕ, Bool, [], Some, None, IfOk, option_map, option_and_then};
+ghost use Rattle.px_transport.specs.Loopback.{Looped, below_of};
 ghost use Rattle.toml.specs.Data.{as_str, get_member};
 ghost use Rattle.px_packet.specs.Hmac.{key_block};
 ghost use Rattle.px_packet.specs.Packets.{packet_key};
@@ -31,7 +32,7 @@ use px_store::SqlRecords;
 use px_transport::{LoopbackWire, PacketWire, Wire};
 use sqlite::{File, FileStore};
 use std::alloc::{AllocError, Global};
-use std::net::SocketAddr;
+use std::net::{SocketAddr, UdpSocket};
 
 /// How long a turn waits for a datagram, in milliseconds.
 const WAIT_MS: u32 = 100;
@@ -190,8 +191,9 @@ fn bind(
     rt: &HostRuntime,
     alloc: Global,
     words: NodeWords<'_, '_, '_>,
-) -> Result<UdpWire<HostRuntime>, Outcome>
-    ensures { OnErr result ((result ≡ Err Memory) ⊎ (result ≡ Err (Refused 82))) }
+) -> Result<UdpWire<UdpSocket, HostRuntime>, Outcome>
+    ensures refused { OnErr result ((result ≡ Err Memory) ⊎ (result ≡ Err (Refused 82))) }
+    ensures new { IfOk result (λ w. ⟦<UdpWire<UdpSocket, HostRuntime> as Wire>⟧.traffic w []) }
 {
     match UdpWire::bind(rt, alloc, words.members, words.me, WAIT_MS) {
         Ok(wire) => {
@@ -211,11 +213,14 @@ fn sealed(
     rt: &HostRuntime,
     alloc: Global,
     m: Membership,
-    wire: Result<UdpWire<HostRuntime>, Outcome>,
+    wire: Result<UdpWire<UdpSocket, HostRuntime>, Outcome>,
     sealing: Sealing,
-) -> Result<PacketWire<UdpWire<HostRuntime>, HostRuntime>, Outcome>
-    requires { OnErr wire ((wire ≡ Err Memory) ⊎ (wire ≡ Err (Refused 82))) }
+) -> Result<PacketWire<UdpWire<UdpSocket, HostRuntime>, HostRuntime>, Outcome>
+    requires refused { OnErr wire ((wire ≡ Err Memory) ⊎ (wire ≡ Err (Refused 82))) }
+    requires new { IfOk wire (λ w. ⟦<UdpWire<UdpSocket, HostRuntime> as Wire>⟧.traffic w []) }
     ensures refused { OnErr result ((result ≡ Err Memory) ⊎ (result ≡ Err (Refused 82))) }
+    ensures new { IfOk result (λ w.
+        ⟦<PacketWire<UdpWire<UdpSocket, HostRuntime>, HostRuntime> as Wire>⟧.traffic w []) }
     ensures sealer { IfOk result (λ w. sealer_of w ≡ record {
       cluster = m.cluster;
       members = m.members;
@@ -254,8 +259,10 @@ fn observed<W: Wire + Drop>(
     m: Membership,
     wire: Result<W, Outcome>,
 ) -> Result<(LoopbackWire<W>, Observer), Outcome>
-    requires { OnErr wire ((wire ≡ Err Memory) ⊎ (wire ≡ Err (Refused 82))) }
-    ensures { OnErr result ((result ≡ Err Memory) ⊎ (result ≡ Err (Refused 82))) }
+    requires refused { OnErr wire ((wire ≡ Err Memory) ⊎ (wire ≡ Err (Refused 82))) }
+    requires new { IfOk wire (λ w. W.traffic w []) }
+    ensures refused { OnErr result ((result ≡ Err Memory) ⊎ (result ≡ Err (Refused 82))) }
+    ensures new { IfOk result (λ it. Looped (W.traffic (below_of it.0)) it.0 []) }
 {
     let wire = match wire {
         Ok(wire) => LoopbackWire::new(alloc, wire, m.me()),
@@ -281,6 +288,7 @@ fn run_over<R: Records, W: Wire + Drop>(
     requires members { R.members records ≡ m.members }
     requires here { m.me < m.members }
     requires refused { OnErr wire ((wire ≡ Err Memory) ⊎ (wire ≡ Err (Refused 82))) }
+    requires new { IfOk wire (λ w. W.traffic w []) }
     ensures hosted { ComesOpen R.Records m records result.0 result.1 }
     ensures turns { place.entry ≡ None → ComesTo R.Records m records result.0 result.1 }
 {

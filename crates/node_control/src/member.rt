@@ -4,7 +4,8 @@ ghost use Rattle.std.specs.Prelude.{◌≡◌, ◌<◌, ℕ, None, Ok, IfErr};
 ghost use Rattle.px_model.specs.Step.{front};
 ghost use Rattle.px_replica.specs.Faults.{fault_of};
 ghost use Rattle.pf_node.specs.Nodes.{learned_by, applied_of};
-ghost use Rattle.node_loop.specs.Lives.{HostTells, HostedRuns, Hosts, Runs, Serves, Tells, told_by};
+ghost use Rattle.px_transport.specs.Wires.{Moves};
+ghost use Rattle.node_loop.specs.Lives.{HostTells, HostedRuns, Hosts, Runs, Serves, Tells};
 
 use crate::clerk::Clerk;
 use crate::door::{Door, DoorFault};
@@ -105,10 +106,9 @@ fn run_node<R: Records, W: Wire, RT: Clock + Eprint>(
     door: &mut Option<Door>,
     turns: u64,
 ) -> (Ended, Node<R>)
-    ensures hosted { Hosts node result.1 (told_by W.Wire wire.old) (told_by W.Wire wire.new)
-        result.0 }
-    ensures turns { door.old ≡ None → Serves node result.1 (told_by W.Wire wire.old)
-        (told_by W.Wire wire.new) result.0 }
+    ensures hosted { Moves (W.traffic wire.old) (W.traffic wire.new) (λ es es'. Hosts node result.1 es es' result.0) }
+    ensures turns { door.old ≡ None →
+        Moves (W.traffic wire.old) (W.traffic wire.new) (λ es es'. Serves node result.1 es es' result.0) }
 {
     let Ok(tally) = observer.first_tally(alloc, members) else {
         return (Ended::Fault(NodeFault::Memory), node);
@@ -135,10 +135,9 @@ fn run_at<R: Records, W: Wire, RT>(
 ) -> (Ended, Node<R>)
 where
     RT: Clock + Eprint + Files + Net<Listener = TcpListener, Stream = TcpStream> + RandomSource,
-    ensures hosted { Hosts node result.1 (told_by W.Wire wire.old) (told_by W.Wire wire.new)
-        result.0 }
-    ensures turns { place.entry ≡ None → Serves node result.1 (told_by W.Wire wire.old)
-        (told_by W.Wire wire.new) result.0 }
+    ensures hosted { Moves (W.traffic wire.old) (W.traffic wire.new) (λ es es'. Hosts node result.1 es es' result.0) }
+    ensures turns { place.entry ≡ None →
+        Moves (W.traffic wire.old) (W.traffic wire.new) (λ es es'. Serves node result.1 es es' result.0) }
 {
     let mut door = match open_at(rt, alloc, place) {
         Ok(door) => door,
@@ -182,10 +181,10 @@ where
     RT: Clock + Eprint + Files + Net<Listener = TcpListener, Stream = TcpStream> + RandomSource,
     requires members { R.members records ≡ m.members }
     requires here { m.me < m.members }
-    ensures hosted { HostedRuns R.Records m records (told_by W.Wire wire.old)
-        (told_by W.Wire wire.new) result.0 result.1 }
-    ensures turns { place.entry ≡ None → Runs R.Records m records (told_by W.Wire wire.old)
-        (told_by W.Wire wire.new) result.0 result.1 }
+    ensures hosted { Moves (W.traffic wire.old) (W.traffic wire.new)
+        (λ es es'. HostedRuns R.Records m records es es' result.0 result.1) }
+    ensures turns { place.entry ≡ None → Moves (W.traffic wire.old) (W.traffic wire.new)
+        (λ es es'. Runs R.Records m records es es' result.0 result.1) }
 {
     let node = match Node::open(alloc, m, records) {
         Ok(node) => node,

@@ -2,6 +2,7 @@
 
 ghost use Rattle.std.specs.Prelude.{◌≡◌, None};
 ghost use Rattle.px_replica.specs.Faults.{fault_of};
+ghost use Rattle.px_transport.specs.Wires.{IsQuiet, Moves};
 ghost use Rattle.node_loop.specs.Hosting.{AsksSome, Hosted};
 ghost use Rattle.node_loop.specs.Turns.{Served, standing};
 
@@ -35,8 +36,7 @@ fn serve<R: Records, RT: Clock + Eprint>(
 
 /// Waits until something comes, over the wire or at the control socket, the given number of milliseconds at most.
 fn wait<W: Wire>(wire: &mut W, door: &mut Option<Door>, milliseconds: u32)
-    ensures given { W.given wire.new ≡ W.given wire.old }
-    ensures quiet { W.handed wire.new ≡ W.handed wire.old }
+    ensures quiet { IsQuiet (W.traffic wire.old) (W.traffic wire.new) }
     ensures none { door.old ≡ None → door.new ≡ None }
 {
     match door {
@@ -56,10 +56,12 @@ fn pass<R: Records, W: Wire, T: Timer, RT: Clock + Eprint>(
     timer: &mut T,
     now: u64,
 ) -> Result<u32, NodeFault>
-    ensures hosted { Hosted (standing W.Wire clerk.old.desk.node wire.old room.old)
-        (standing W.Wire clerk.new.desk.node wire.new room.new) (fault_of result) }
-    ensures turns { door.old ≡ None → Served (standing W.Wire clerk.old.desk.node wire.old room.old)
-        (standing W.Wire clerk.new.desk.node wire.new room.new) (fault_of result) × (door.new ≡ None) }
+    ensures hosted { Moves (W.traffic wire.old) (W.traffic wire.new)
+        (λ es es'. Hosted (standing clerk.old.desk.node es room.old)
+        (standing clerk.new.desk.node es' room.new) (fault_of result)) }
+    ensures turns { door.old ≡ None → Moves (W.traffic wire.old) (W.traffic wire.new)
+        (λ es es'. Served (standing clerk.old.desk.node es room.old)
+        (standing clerk.new.desk.node es' room.new) (fault_of result)) × (door.new ≡ None) }
 {
     observer.begin(now, clerk.desk.node.front(), clerk.desk.node.waiting() > 0);
     let made = match round(&mut clerk.desk.node, wire, room, timer, now) {
@@ -96,10 +98,12 @@ fn passes<R: Records, W: Wire, T: Timer, RT: Clock + Eprint>(
     start: Option<Instant>,
     turns: u64,
 ) -> Result<(), NodeFault>
-    ensures hosted { Hosted (standing W.Wire clerk.old.desk.node wire.old room.old)
-        (standing W.Wire clerk.new.desk.node wire.new room.new) (fault_of result) }
-    ensures turns { door.old ≡ None → Served (standing W.Wire clerk.old.desk.node wire.old room.old)
-        (standing W.Wire clerk.new.desk.node wire.new room.new) (fault_of result) × (door.new ≡ None) }
+    ensures hosted { Moves (W.traffic wire.old) (W.traffic wire.new)
+        (λ es es'. Hosted (standing clerk.old.desk.node es room.old)
+        (standing clerk.new.desk.node es' room.new) (fault_of result)) }
+    ensures turns { door.old ≡ None → Moves (W.traffic wire.old) (W.traffic wire.new)
+        (λ es es'. Served (standing clerk.old.desk.node es room.old)
+        (standing clerk.new.desk.node es' room.new) (fault_of result)) × (door.new ≡ None) }
 {
     let mut left = turns;
     for _round in 0..turns {
@@ -133,10 +137,12 @@ pub(crate) fn pass_on<R: Records, W: Wire, RT: Clock + Eprint>(
     door: &mut Option<Door>,
     turns: u64,
 ) -> Result<(), NodeFault>
-    ensures hosted { Hosted (standing W.Wire clerk.old.desk.node wire.old room.old)
-        (standing W.Wire clerk.new.desk.node wire.new room.new) (fault_of result) }
-    ensures turns { door.old ≡ None → Served (standing W.Wire clerk.old.desk.node wire.old room.old)
-        (standing W.Wire clerk.new.desk.node wire.new room.new) (fault_of result) }
+    ensures hosted { Moves (W.traffic wire.old) (W.traffic wire.new)
+        (λ es es'. Hosted (standing clerk.old.desk.node es room.old)
+        (standing clerk.new.desk.node es' room.new) (fault_of result)) }
+    ensures turns { door.old ≡ None → Moves (W.traffic wire.old) (W.traffic wire.new)
+        (λ es es'. Served (standing clerk.old.desk.node es room.old)
+        (standing clerk.new.desk.node es' room.new) (fault_of result)) }
 {
     let mut pace = Pace::new(clerk.desk.node.membership().me());
     let start = Instant::now(rt).ok();

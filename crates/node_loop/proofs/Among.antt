@@ -4,7 +4,9 @@ use Rattle.std.proofs.lemmas.Option.{slice_get_within}
 use Rattle.std.proofs.lemmas.List.{append-nil}
 use Rattle.px_model.proofs.Basics.{among_left, among_right, among_cases, among_get}
 use Rattle.px_model.specs.Law.{Among}
-use Rattle.px_transport.specs.Wires.{GrowsBy, Grows}
+use Rattle.px_transport.specs.Wires.{WireEvent, Handed, Adds, IsQuiet}
+use Rattle.px_transport.proofs.Traffic as traffic
+use Rattle.px_transport.proofs.Traffic.{adds_none}
 use Rattle.node_loop.specs.Again.{Addressed, AreAmong, HandsAgain, HandsFor, HandsShort, HandsFirst, HandsAt}
 
 pub among_all : {X : Type 0} (xs : List X) → AreAmong xs xs
@@ -36,45 +38,33 @@ among_sides xs ys vs ws a b = among_both xs ys (vs ++ ws) (among_front xs vs ws 
 
 -- ---- what is handed over again
 
-pub hands_none : (kept : List Addressed) (old new : Option (List Addressed)) → new ≡ old → HandsAgain kept old new
-hands_none kept None new e = ([], among_none kept, e)
-hands_none kept (Some all) new e = ([], among_none kept, inr (e ∙ ap Some (sym (append-nil all))))
+pub hands_none : (kept : List Addressed) (old new : List WireEvent → Type 0) → IsQuiet old new → HandsAgain kept old new
+hands_none kept old new q = ([], among_none kept, adds_none old new q)
 
-pub hands_one : (kept : List Addressed) (d : Addressed) (old new : Option (List Addressed)) → Among kept d → Grows old d new →
+pub hands_one : (kept : List Addressed) (d : Addressed) (old new : List WireEvent → Type 0) → Among kept d → Adds old new (Handed d.0 d.1 ∷ []) →
     HandsAgain kept old new
 hands_one kept d old new a g =
     (d ∷ [], λ x h. elim h [ inl e ↦ subst (λ (y : Addressed). Among kept y) e a | inr n ↦ absurd n ], g)
 
-grows_then : (old mid new : Option (List Addressed)) (xs ys : List Addressed) → GrowsBy old xs mid → GrowsBy mid ys new →
-    GrowsBy old (xs ++ ys) new
-grows_then None mid new xs ys a b = subst (λ (o : Option (List Addressed)). GrowsBy o ys new) a b
-grows_then (Some all) mid new xs ys (inl gone) b = inl (subst (λ (o : Option (List Addressed)). GrowsBy o ys new) gone b)
-grows_then (Some all) mid new xs ys (inr is) b =
-    elim (subst (λ (o : Option (List Addressed)). GrowsBy o ys new) is b) [
-      | inl gone ↦ inl gone
-      | inr more ↦ inr (more ∙ ap Some (append_assoc all xs ys))
-    ]
-
-pub hands_then : (kept : List Addressed) (old mid new : Option (List Addressed)) → HandsAgain kept old mid → HandsAgain kept mid new →
+pub hands_then : (kept : List Addressed) (old mid new : List WireEvent → Type 0) → HandsAgain kept old mid → HandsAgain kept mid new →
     HandsAgain kept old new
-hands_then kept old mid new (xs, a, g) (ys, b, h) = (xs ++ ys, among_both xs ys kept a b, grows_then old mid new xs ys g h)
+hands_then kept old mid new (xs, a, g) (ys, b, h) = (xs ++ ys, among_both xs ys kept a b, traffic.hands_then old mid new xs ys g h)
 
 -- of more that is kept
-pub hands_more : (few many : List Addressed) (old new : Option (List Addressed)) → AreAmong few many → HandsAgain few old new →
+pub hands_more : (few many : List Addressed) (old new : List WireEvent → Type 0) → AreAmong few many → HandsAgain few old new →
     HandsAgain many old new
 hands_more few many old new a (xs, b, g) = (xs, among_then xs few many b a, g)
 
 -- ---- for one member
 
-pub for_again : (m : ℕ) (kept : List Addressed) (old new : Option (List Addressed)) → HandsFor m kept old new → HandsAgain kept old new
+pub for_again : (m : ℕ) (kept : List Addressed) (old new : List WireEvent → Type 0) → HandsFor m kept old new → HandsAgain kept old new
 for_again m kept old new (again, a, g, to) = (again, a, g)
 
-pub for_none : (m : ℕ) (kept : List Addressed) (old new : Option (List Addressed)) → new ≡ old → HandsFor m kept old new
-for_none m kept None new e = ([], among_none kept, e, λ d h. absurd h)
-for_none m kept (Some all) new e = ([], among_none kept, inr (e ∙ ap Some (sym (append-nil all))), λ d h. absurd h)
+pub for_none : (m : ℕ) (kept : List Addressed) (old new : List WireEvent → Type 0) → IsQuiet old new → HandsFor m kept old new
+for_none m kept old new q = ([], among_none kept, adds_none old new q, λ d h. absurd h)
 
-pub for_one : (m : ℕ) (kept : List Addressed) (d : Addressed) (old new : Option (List Addressed)) → d.0 ≡ m → Among kept d →
-    Grows old d new → HandsFor m kept old new
+pub for_one : (m : ℕ) (kept : List Addressed) (d : Addressed) (old new : List WireEvent → Type 0) → d.0 ≡ m → Among kept d →
+    Adds old new (Handed d.0 d.1 ∷ []) → HandsFor m kept old new
 for_one m kept d old new to a g = (
   d ∷ [],
   λ x h. elim h [ inl e ↦ subst (λ (y : Addressed). Among kept y) e a | inr n ↦ absurd n ],
@@ -82,32 +72,31 @@ for_one m kept d old new to a g = (
   λ x h. elim h [ inl e ↦ subst (λ (y : Addressed). y.0 ≡ m) e to | inr n ↦ absurd n ],
 )
 
-pub for_then : (m : ℕ) (kept : List Addressed) (old mid new : Option (List Addressed)) → HandsFor m kept old mid → HandsFor m kept mid new →
+pub for_then : (m : ℕ) (kept : List Addressed) (old mid new : List WireEvent → Type 0) → HandsFor m kept old mid → HandsFor m kept mid new →
     HandsFor m kept old new
 for_then m kept old mid new (xs, a, g, to) (ys, b, h, too) = (
   xs ++ ys,
   among_both xs ys kept a b,
-  grows_then old mid new xs ys g h,
+  traffic.hands_then old mid new xs ys g h,
   λ d is. elim (among_cases xs ys d is) [ inl p ↦ to d p | inr q ↦ too d q ],
 )
 
-pub for_more : (m : ℕ) (few many : List Addressed) (old new : Option (List Addressed)) → AreAmong few many → HandsFor m few old new →
+pub for_more : (m : ℕ) (few many : List Addressed) (old new : List WireEvent → Type 0) → AreAmong few many → HandsFor m few old new →
     HandsFor m many old new
 for_more m few many old new a (xs, b, g, to) = (xs, among_then xs few many b a, g, to)
 
 -- ---- which of them
 
-pub at_again : (i : ℕ) (kept : List Addressed) (old new : Option (List Addressed)) → HandsAt i kept old new → HandsAgain kept old new
+pub at_again : (i : ℕ) (kept : List Addressed) (old new : List WireEvent → Type 0) → HandsAt i kept old new → HandsAgain kept old new
 at_again i kept old new (again, a, g, all) = (again, λ d h. among_get kept i d (a d h), g)
 
 -- none is handed over, since none is there or it is too long
-pub at_none : (i : ℕ) (kept : List Addressed) (old new : Option (List Addressed)) → new ≡ old →
+pub at_none : (i : ℕ) (kept : List Addressed) (old new : List WireEvent → Type 0) → IsQuiet old new →
     ((d : Addressed) → slice_get kept i ≡ Some d → length d.1 ≤ 1200 → ⊥) → HandsAt i kept old new
-at_none i kept None new e never = ([], λ d none. absurd none, e, λ d at short. absurd (never d at short))
-at_none i kept (Some all) new e never = ([], λ d none. absurd none, inr (e ∙ ap Some (sym (append-nil all))), λ d at short. absurd (never d at short))
+at_none i kept old new q never = ([], λ d none. absurd none, adds_none old new q, λ d at short. absurd (never d at short))
 
-pub at_one : (i : ℕ) (kept : List Addressed) (d : Addressed) (old new : Option (List Addressed)) →
-    slice_get kept i ≡ Some d → Grows old d new → HandsAt i kept old new
+pub at_one : (i : ℕ) (kept : List Addressed) (d : Addressed) (old new : List WireEvent → Type 0) →
+    slice_get kept i ≡ Some d → Adds old new (Handed d.0 d.1 ∷ []) → HandsAt i kept old new
 at_one i kept d old new at g = (
   d ∷ [],
   λ x h. elim h [ inl e ↦ subst (λ (y : Addressed). slice_get kept i ≡ Some y) e at | inr n ↦ absurd n ],
@@ -115,9 +104,8 @@ at_one i kept d old new at g = (
   λ x is short. inl (cc),
 )
 
-pub first_none : (kept : List Addressed) (old : Option (List Addressed)) → HandsFirst 0 kept old old
-first_none kept None = ([], among_none kept, refl, λ k d less at short. absurd (omega (arith, less)))
-first_none kept (Some all) = ([], among_none kept, inr (ap Some (sym (append-nil all))), λ k d less at short. absurd (omega (arith, less)))
+pub first_none : (kept : List Addressed) (old : List WireEvent → Type 0) → HandsFirst 0 kept old old
+first_none kept old = ([], among_none kept, adds_none old old (λ es h. h), λ k d less at short. absurd (omega (arith, less)))
 
 first_at : (n k : ℕ) (kept : List Addressed) (d : Addressed) (xs ys : List Addressed) → k < n + 1 →
     ((k : ℕ) (d : Addressed) → k < n → slice_get kept k ≡ Some d → length d.1 ≤ 1200 → Among xs d) →
@@ -133,12 +121,12 @@ less_or zero (suc n) less = inl (omega arith)
 less_or (suc k) (suc n) less =
     elim (less_or k n (omega (arith, less))) [ inl a ↦ inl (omega (arith, a)) | inr e ↦ inr (ap suc e) ]
 
-pub first_more : (n : ℕ) (kept : List Addressed) (old mid new : Option (List Addressed)) → HandsFirst n kept old mid → HandsAt n kept mid new →
+pub first_more : (n : ℕ) (kept : List Addressed) (old mid new : List WireEvent → Type 0) → HandsFirst n kept old mid → HandsAt n kept mid new →
     HandsFirst (n + 1) kept old new
 first_more n kept old mid new (xs, a, g, some) (ys, b, h, one) = (
   xs ++ ys,
   among_both xs ys kept a (λ d m. among_get kept n d (b d m)),
-  grows_then old mid new xs ys g h,
+  traffic.hands_then old mid new xs ys g h,
   λ k d less at short. first_at n k kept d xs ys less some one at short (less_or k n less),
 )
 
@@ -148,7 +136,7 @@ place_of (e ∷ xs) d (inl is) = (zero, ap Some is)
 place_of (e ∷ xs) d (inr later) = let r = place_of xs d later in (suc r.0, r.1)
 
 -- all of them
-pub first_short : (kept : List Addressed) (old new : Option (List Addressed)) → HandsFirst (length kept) kept old new → HandsShort kept old new
+pub first_short : (kept : List Addressed) (old new : List WireEvent → Type 0) → HandsFirst (length kept) kept old new → HandsShort kept old new
 first_short kept old new (again, a, g, some) = (
   again,
   a,
@@ -156,5 +144,5 @@ first_short kept old new (again, a, g, some) = (
   λ d h short. (let r = place_of kept d h in some r.0 d (slice_get_within kept r.0 d r.1) r.1 short),
 )
 
-pub first_again : (n : ℕ) (kept : List Addressed) (old new : Option (List Addressed)) → HandsFirst n kept old new → HandsAgain kept old new
+pub first_again : (n : ℕ) (kept : List Addressed) (old new : List WireEvent → Type 0) → HandsFirst n kept old new → HandsAgain kept old new
 first_again n kept old new (again, a, g, some) = (again, a, g)

@@ -9,21 +9,22 @@ use Rattle.px_replica.specs.Calls.{Call}
 use Rattle.px_replica.specs.declared.datagram.Datagram.{Datagram}
 use Rattle.px_replica.specs.declared.fault.NodeFault.{NodeFault}
 use Rattle.px_replica.specs.declared.state.Replica.{Replica}
-use Rattle.px_transport.specs.Wires.{GrowsBy, Grows, Gives}
+use Rattle.px_transport.specs.Wires.{WireEvent, Gave, Handed, Adds, hands}
+use Rattle.px_transport.proofs.Traffic.{adds_then}
+use Rattle.std.proofs.lemmas.List.{append-nil, append_assoc}
 use Rattle.px_wire.specs.Members.{as_sent}
 use Rattle.px_wire.specs.declared.membership.Membership.{Membership}
 use Rattle.px_model.specs.Law.{Among}
 use Rattle.px_model.proofs.Basics.{among_cases}
-use Rattle.node_loop.specs.Again.{AreAmong, HandsAgain}
-use Rattle.node_loop.proofs.Among.{among_all, among_is, among_front, hands_none, hands_then}
+use Rattle.node_loop.specs.Again.{AreAmong}
+use Rattle.node_loop.proofs.Among.{among_all, among_is, among_front}
 use Rattle.px_wire.specs.Message.{group}
 use Rattle.px_replica.specs.Replicas.{membership_of}
 use Rattle.node_loop.specs.Resending.{IsKnown}
 use Rattle.node_loop.specs.Turns.{Acts, Stand, Turned, Ticked, TickedIf, Took, TookAll, TookThenTicked, Same, Turns, Ends, Served}
-use Rattle.node_loop.specs.Turns.{Resent, Passed, Between, IsKnownTo}
+use Rattle.node_loop.specs.Turns.{Resent, Passed, Between, IsIdle, IsKnownTo}
 use Rattle.node_loop.specs.Progress.{IsNobodys, Saw, SawOne, SawAll, looked}
 use Rattle.node_loop.specs.Timing.{Told, SawThenLooked, looks, sends_if, view_of}
-use Rattle.node_loop.proofs.Traffic.{grows_none, grows_then}
 use Rattle.px_model.specs.Step.{front}
 use Rattle.px_replica.specs.Replicas.{learned_by}
 use Rattle.node_loop.specs.inner.Turns.{SawIf}
@@ -35,25 +36,23 @@ use Rattle.node_loop.specs.declared.timer.View.{View}
 -- then the whole stand is as it was
 pub same_is : {R : Type 0} {G : Ghosts R} (x y : Stand G) → Same x y → y ≡ x
 same_is {R} {G} x y s =
-    ap {B = Stand G} (λ (r : Replica R G). record { replica = r; given = y.given; handed = y.handed; kept = y.kept; requests = y.requests; hears_asks = y.hears_asks }) s.replica
-    ∙ (ap {B = Stand G} (λ (o : Option (List Bytes)). record { replica = x.replica; given = o; handed = y.handed; kept = y.kept; requests = y.requests; hears_asks = y.hears_asks }) s.given
-    ∙ (ap {B = Stand G} (λ (o : Option (List (ℕ × Bytes))). record { replica = x.replica; given = x.given; handed = o; kept = y.kept; requests = y.requests; hears_asks = y.hears_asks }) s.handed
-    ∙ (ap {B = Stand G} (λ (k : List (ℕ × Bytes)). record { replica = x.replica; given = x.given; handed = x.handed; kept = k; requests = y.requests; hears_asks = y.hears_asks }) s.kept
-    ∙ (ap {B = Stand G} (λ (q : List Bytes). record { replica = x.replica; given = x.given; handed = x.handed; kept = x.kept; requests = q; hears_asks = y.hears_asks }) s.requests
-    ∙ ap {B = Stand G} (λ (h : Bool). record { replica = x.replica; given = x.given; handed = x.handed; kept = x.kept; requests = x.requests; hears_asks = h }) s.hears))))
+    ap {B = Stand G} (λ (r : Replica R G). record { replica = r; traffic = y.traffic; kept = y.kept; requests = y.requests; hears_asks = y.hears_asks }) s.replica
+    ∙ (ap {B = Stand G} (λ (o : List WireEvent). record { replica = x.replica; traffic = o; kept = y.kept; requests = y.requests; hears_asks = y.hears_asks }) s.traffic
+    ∙ (ap {B = Stand G} (λ (k : List (ℕ × Bytes)). record { replica = x.replica; traffic = x.traffic; kept = k; requests = y.requests; hears_asks = y.hears_asks }) s.kept
+    ∙ (ap {B = Stand G} (λ (q : List Bytes). record { replica = x.replica; traffic = x.traffic; kept = x.kept; requests = q; hears_asks = y.hears_asks }) s.requests
+    ∙ ap {B = Stand G} (λ (h : Bool). record { replica = x.replica; traffic = x.traffic; kept = x.kept; requests = x.requests; hears_asks = h }) s.hears)))
 
 pub same_then : {R : Type 0} {G : Ghosts R} (x y z : Stand G) → Same x y → Same y z → Same x z
 same_then x y z s t = record {
   replica = t.replica ∙ s.replica;
-  given = t.given ∙ s.given;
-  handed = t.handed ∙ s.handed;
+  traffic = t.traffic ∙ s.traffic;
   kept = t.kept ∙ s.kept;
   requests = t.requests ∙ s.requests;
   hears = t.hears ∙ s.hears;
 }
 
 pub same_all : {R : Type 0} {G : Ghosts R} (x : Stand G) → Same x x
-same_all x = record { replica = refl; given = refl; handed = refl; kept = refl; requests = refl; hears = refl }
+same_all x = record { replica = refl; traffic = refl; kept = refl; requests = refl; hears = refl }
 
 -- ---- between turns
 
@@ -65,13 +64,25 @@ known_from {R} {G} x y b m q h (inr outside) =
     subst (λ (n : Membership). IsKnown (group n) n.me x.hears_asks x.requests b) m
     (subst (λ (e : Bool). IsKnown (group (membership_of y.replica)) (membership_of y.replica).me e x.requests b) h (inr outside))
 
+-- what is handed over again is idle
+idle_hands : {R : Type 0} {G : Ghosts R} (x : Stand G) (again : List (ℕ × Bytes)) → AreAmong again x.kept →
+    (e : WireEvent) → Among (hands again) e → IsIdle x e
+idle_hands x [] a e m = absurd m
+idle_hands x (d ∷ ds) a e (inl is) = subst (IsIdle x) is (a d (inl refl))
+idle_hands x (d ∷ ds) a e (inr later) = idle_hands x ds (λ y h. a y (inr h)) e later
+
+-- what is idle for a member that knows and keeps no more
+pub idle_from : {R : Type 0} {G : Ghosts R} (x y : Stand G) (e : WireEvent) → membership_of y.replica ≡ membership_of x.replica →
+    AreAmong y.requests x.requests → y.hears_asks ≡ x.hears_asks → AreAmong y.kept x.kept → IsIdle y e → IsIdle x e
+idle_from x y (Gave b) m q h k i = known_from x y b m q h i
+idle_from x y (Handed to b) m q h k i = k (to, b) i
+
 pub between_all : {R : Type 0} {G : Ghosts R} (x : Stand G) → Between x x
 between_all x = record {
   replica = refl;
-  passed = [];
-  gave = grows_none x.given x.given refl;
-  known = λ b m. absurd m;
-  again = hands_none x.kept x.handed x.handed refl;
+  events = [];
+  idle = λ e m. absurd m;
+  went = sym (append-nil x.traffic);
   kept = refl;
   requests = refl;
   hears = refl;
@@ -83,10 +94,9 @@ between_same {R} {G} x y s = subst (λ (z : Stand G). Between x z) (sym (same_is
 pub between_passed : {R : Type 0} {G : Ghosts R} (x y : Stand G) → Passed x y → Between x y
 between_passed x y p = record {
   replica = p.replica;
-  passed = p.bytes ∷ [];
-  gave = p.gave;
-  known = λ b m. elim m [ inl e ↦ subst (λ (c : Bytes). IsKnownTo x c) e p.known | inr none ↦ absurd none ];
-  again = p.again;
+  events = Gave p.bytes ∷ hands p.again;
+  idle = λ e m. elim m [ inl is ↦ subst (IsIdle x) is p.known | inr later ↦ idle_hands x p.again p.among e later ];
+  went = p.went;
   kept = p.kept;
   requests = p.requests;
   hears = p.hears;
@@ -95,37 +105,28 @@ between_passed x y p = record {
 pub between_resent : {R : Type 0} {G : Ghosts R} (x y : Stand G) → Resent x y → Between x y
 between_resent x y r = record {
   replica = r.replica;
-  passed = [];
-  gave = grows_none x.given y.given r.given;
-  known = λ b m. absurd m;
-  again = r.again;
+  events = hands r.again;
+  idle = idle_hands x r.again r.among;
+  went = r.went;
   kept = r.kept;
   requests = r.requests;
   hears = r.hears;
 }
 
+-- what went before, and what went after it
+pub went_then : (x y z a b : List WireEvent) → y ≡ x ++ a → z ≡ y ++ b → z ≡ x ++ (a ++ b)
+went_then x y z a b e f = f ∙ ap (λ (es : List WireEvent). es ++ b) e ∙ append_assoc x a b
+
 pub between_then : {R : Type 0} {G : Ghosts R} (x y z : Stand G) → Between x y → Between y z → Between x z
 between_then {R} {G} x y z a b = record {
   replica = b.replica ∙ a.replica;
-  passed = a.passed ++ b.passed;
-  gave = grows_then x.given y.given z.given a.passed b.passed a.gave b.gave;
-  known = λ c m. elim (among_cases a.passed b.passed c m) [
-    | inl here ↦ a.known c here
-    | inr later ↦ known_from x y c (ap (λ (r : Replica R G). membership_of r) a.replica) (among_is y.requests x.requests a.requests) a.hears (b.known c later)
+  events = a.events ++ b.events;
+  idle = λ e m. elim (among_cases a.events b.events e m) [
+    | inl here ↦ a.idle e here
+    | inr later ↦ idle_from x y e (ap (λ (r : Replica R G). membership_of r) a.replica) (among_is y.requests x.requests a.requests) a.hears
+        (among_is y.kept x.kept a.kept) (b.idle e later)
   ];
-  again = hands_then x.kept x.handed y.handed z.handed a.again
-      (subst (λ (k : List (ℕ × Bytes)). HandsAgain k y.handed z.handed) a.kept b.again);
-  kept = b.kept ∙ a.kept;
-  requests = b.requests ∙ a.requests;
-  hears = b.hears ∙ a.hears;
-}
-
-pub resent_then : {R : Type 0} {G : Ghosts R} (x y z : Stand G) → Resent x y → Resent y z → Resent x z
-resent_then {R} {G} x y z a b = record {
-  replica = b.replica ∙ a.replica;
-  given = b.given ∙ a.given;
-  again = hands_then x.kept x.handed y.handed z.handed a.again
-      (subst (λ (k : List (ℕ × Bytes)). HandsAgain k y.handed z.handed) a.kept b.again);
+  went = went_then x.traffic y.traffic z.traffic a.events b.events a.went b.went;
   kept = b.kept ∙ a.kept;
   requests = b.requests ∙ a.requests;
   hears = b.hears ∙ a.hears;
@@ -165,10 +166,9 @@ served_on x y z a s d = served_then x y z a s (served_turn y z a d)
 pub turned_by_clock : {R : Type 0} {G : Ghosts R} (x y : Stand G) (a : Option NodeFault) → Ticked x y a → Turned x y a
 turned_by_clock x y a t = record {
   came = None;
-  gave = t.given;
   out = t.out;
   acts = t.call;
-  sent = t.sent;
+  went = t.went;
   kept = t.kept;
   requests = among_front y.requests x.requests [] (among_is y.requests x.requests t.requests);
   hears = t.hears;
@@ -177,10 +177,9 @@ turned_by_clock x y a t = record {
 pub turned_by_datagram : {R : Type 0} {G : Ghosts R} (x y : Stand G) (a : Option NodeFault) → Took x y a → Turned x y a
 turned_by_datagram x y a t = record {
   came = Some t.bytes;
-  gave = t.gave;
   out = t.out;
   acts = t.acts;
-  sent = t.sent;
+  went = t.went;
   kept = t.kept;
   requests = t.requests;
   hears = t.hears;
@@ -225,35 +224,29 @@ then_ticked {R} {G} n is_due w x y z v s t a b c d =
     (y, z, subst (λ (p : Stand G). TookAll n p y) (same_is w x a) (took_all n x y s t b), c, d)
 
 -- what a round that ended well did
-pub round_took : {P E R : Type 0} {G : Ghosts R} (r : Result P E) (n : ℕ) (w x y z v : Stand G) (s t : Sight) →
-    Same w x → SawAll n x y s t → Resent y z → IfOk r (λ p. (d : Bool) × TickedIf d z v) →
-    IfOk r (λ p. (k : ℕ) × (d : Bool) × TookThenTicked k d w v)
-round_took (Ok p) n w x y z v s t a b c (d, e) = (n, d, then_ticked n d w x y z v s t a b c e)
-round_took (Err e) n w x y z v s t a b c d = tt
+pub round_took : {R : Type 0} {G : Ghosts R} (n : ℕ) (d : Bool) (w x y z v : Stand G) (s t : Sight) →
+    Same w x → SawAll n x y s t → Resent y z → TickedIf d z v → (k : ℕ) × (d : Bool) × TookThenTicked k d w v
+round_took n d w x y z v s t a b c e = (n, d, then_ticked n d w x y z v s t a b c e)
 
 -- what a timer is told at a look
-pub looked_so : (a b c : Option (List Told)) (now : ℕ) (v : View) (t : Sight) (q : Bool) → t.is_accepting ≡ q → Grows a (Told.Looks now v) b →
-    GrowsBy b (sends_if q now) c → GrowsBy a (looks now v t) c
+pub looked_so : (a b c : List Told → Type 0) (now : ℕ) (v : View) (t : Sight) (q : Bool) → t.is_accepting ≡ q →
+    Adds a b (Told.Looks now v ∷ []) → Adds b c (sends_if q now) → Adds a c (looks now v t)
 looked_so a b c now v t q e g h =
-    grows_then a b c (Told.Looks now v ∷ []) (sends_if t.is_accepting now) g
-    (subst (λ (p : Bool). GrowsBy b (sends_if p now) c) (sym e) h)
+    adds_then a b c (Told.Looks now v ∷ []) (sends_if t.is_accepting now) g
+    (subst (λ (p : Bool). Adds b c (sends_if p now)) (sym e) h)
 
 -- what is seen in it, and what the timer is told
-pub round_saw : {P E R : Type 0} {G : Ghosts R} (r : Result P E) (n now was : ℕ) (w x y : Stand G) (o s t u : Sight) (v : View)
-    (a b c : Option (List Told)) → Same w x → s ≡ o → SawAll n x y s t → u ≡ looked t → was ≡ front (learned_by w.replica) →
-    v ≡ view_of y.replica was t → GrowsBy a (looks now v t) b → Grows b (Told.Repeats now) c →
-    IfOk r (λ p. (k : ℕ) × SawThenLooked k now w o u a c)
-round_saw {P} {E} {R} {G} (Ok p) n now was w x y o s t u v a b c same seen saw e f g d h = (
-  n,
-  record {
-    then = y;
-    seen = t;
-    saw = subst (λ (q : Sight). SawAll n w y q t) seen (subst (λ (p : Stand G). SawAll n p y s t) (same_is w x same) saw);
-    looked = e;
-    told =
-        grows_then a b c _ _
-        (subst (λ (q : ℕ). GrowsBy a (looks now (view_of y.replica q t) t) b) f (subst (λ (q : View). GrowsBy a (looks now q t) b) g d))
-        h;
-  },
-)
-round_saw (Err e) n now was w x y o s t u v a b c same seen saw f g h d i = tt
+pub round_saw : {R : Type 0} {G : Ghosts R} (n now was : ℕ) (w x y : Stand G) (o s t u : Sight) (v : View)
+    (a b c : List Told → Type 0) → Same w x → s ≡ o → SawAll n x y s t → u ≡ looked t → was ≡ front (learned_by w.replica) →
+    v ≡ view_of y.replica was t → Adds a b (looks now v t) → Adds b c (Told.Repeats now ∷ []) →
+    SawThenLooked n now w o u a c
+round_saw {R} {G} n now was w x y o s t u v a b c same seen saw e f g d h = record {
+  then = y;
+  seen = t;
+  saw = subst (λ (q : Sight). SawAll n w y q t) seen (subst (λ (p : Stand G). SawAll n p y s t) (same_is w x same) saw);
+  looked = e;
+  told =
+      adds_then a b c _ _
+      (subst (λ (q : ℕ). Adds a b (looks now (view_of y.replica q t) t)) f (subst (λ (q : View). Adds a b (looks now q t)) g d))
+      h;
+}

@@ -1,5 +1,5 @@
 -- What became of a record in a run, in the words of the model.
-use Rattle.std.proofs.Common.{◌≢◌, ◌∙◌, ℕ, Bool, List, [], ◌∷◌, ◌++◌, Option, Some, None, refl, sym, ap, subst, subst₂, append_assoc}
+use Rattle.std.proofs.Common.{◌≢◌, ◌∙◌, ℕ, Bool, List, [], ◌∷◌, ◌++◌, Option, Some, None, refl, sym, ap, subst, inl, inr}
 use Rattle.px_model.specs.Node.{Record}
 use Rattle.px_model.specs.Spelling.{Bytes}
 use Rattle.px_model.specs.World.{NodeState, started}
@@ -12,13 +12,11 @@ use Rattle.px_replica.specs.declared.fault.NodeFault.{NodeFault}
 use Rattle.px_replica.specs.declared.fault.NodeFault.TheVariants as fault
 use Rattle.pf_node.specs.Nodes.{records_of, state_in}
 use Rattle.pf_node.specs.declared.state.Node.{Node}
-use Rattle.node_loop.specs.Living.{Heard, message_in, messages_of, Brings, AreBrought, sent_by, LeavesThere, Living, TurnsAreLived, HostingsAreLived}
-use Rattle.node_loop.proofs.Among.{among_none}
-use Rattle.node_loop.specs.Resending.{SentAgain}
-use Rattle.node_loop.proofs.Traffic.{messages_then, sent_then, are_brought, brought_then, sent_again_then}
+use Rattle.px_transport.specs.Wires.{WireEvent, given_in}
+use Rattle.node_loop.specs.Living.{deeds_of, AreMoves, LeavesThere, Living, TurnsAreLived, HostingsAreLived}
 use Rattle.node_loop.proofs.Lives.{lived_then, served_before}
 use Rattle.node_loop.proofs.Hosting.{hosted_before}
-use Rattle.node_loop.specs.Lives.{Told, Buffers, new_buffers, stands, Tells, Serves, Hosts, Life, LivedOver, RunsAreLived, HostedRunsAreLived, OneLife, RunsGoOn}
+use Rattle.node_loop.specs.Lives.{Buffers, new_buffers, stands, Tells, Serves, Hosts, Life, LivedOver, RunsAreLived, HostedRunsAreLived, OneLife, RunsGoOn}
 use Rattle.node_loop.specs.declared.ended.Ended.{Ended}
 use Rattle.node_loop.specs.declared.ended.Ended.TheVariants.{Fault}
 
@@ -32,28 +30,24 @@ module _ {R : Type 0} (G : Ghosts R) (How : (s t : Node R G) → Type 0)
       before l.begun l.done l.went (subst (λ (r : R). G.is_honest r) l.closed honest)
 
   -- a life from where the node began is one from what its record held
-  pub life_lived : (m : Membership) (given back : R) (w v : Told) (a : Option NodeFault) → G.is_honest back → (l : Life G How m given back) →
+  pub life_lived : (m : Membership) (given back : R) (w v : List WireEvent) (a : Option NodeFault) → G.is_honest back → (l : Life G How m given back) →
       (hears : Bool) (buffers : Buffers) → Living (stands l.begun w (new_buffers hears)) (stands l.done v buffers) a → LivedOver G m given back w v
   life_lived m given back w v a honest l hears buffers living =
       let began = l.starts (at_start m given back honest l) in
-      let deeds = living.deeds in
       record {
-        deeds = deeds;
+        moves = living.moves;
         then = living.then;
-        lived = subst (λ (b : NodeState Bytes). Lived (group m) m.me b deeds living.then) began
-            (subst (λ (n : Membership). Lived (group n) n.me (state_in l.begun) deeds living.then) l.membership living.lived);
+        lived = subst (λ (b : NodeState Bytes). Lived (group m) m.me b (deeds_of living.moves) living.then) began
+            (subst (λ (n : Membership). Lived (group n) n.me (state_in l.begun) (deeds_of living.moves) living.then) l.membership living.lived);
         up = living.up;
-        came = living.came;
-        last = living.last;
         hears = hears;
-        brought = subst (λ (n : Membership). Brings (group n) n.me hears [] living.came (messages_of deeds)) l.membership living.brought;
-        gave = living.gave;
-        handed = living.handed;
+        are = subst (λ (n : Membership). AreMoves (group n) n.me hears living.moves [] []) l.membership living.are;
+        last = living.last;
+        went = living.went;
         again = living.again;
-        sent = living.sent;
         stays = λ none. ap G.stored l.closed
             ∙ ap (λ (t : NodeState Bytes). t.stored) (living.stays (sym (ap G.failed l.closed) ∙ none));
-        stop = λ left may. subst (λ (n : Membership). LeavesThere (group n) n.me living.last living.then left) l.membership
+        stop = λ left may. subst (λ (n : Membership). LeavesThere (group n) n.me (given_in living.last) living.then left) l.membership
             (living.stop left (subst (λ (r : R). G.may_leave r left) l.closed may));
       }
 
@@ -88,57 +82,34 @@ hosted_runs_lived {R} G law m given back w v ended honest l =
 
 -- ---- several runs
 
-one_life : {R : Type 0} (G : Ghosts R) (m : Membership) (given back : R) (w v : Told) → LivedOver G m given back w v →
-    OneLife G m (G.stored given) back ((w, v) ∷ [])
-one_life G m given back w v l = record {
-  deeds = l.deeds;
+one_life : {R : Type 0} (G : Ghosts R) (m : Membership) (given back : R) (es : List WireEvent) → LivedOver G m given back [] es →
+    OneLife G m (G.stored given) back (es ∷ [])
+one_life G m given back es l = record {
+  deeds = deeds_of l.moves;
   then = l.then;
   lived = l.lived;
   up = l.up;
-  gave = l.came;
   last = l.last;
-  brought = are_brought (group m) m.me l.hears [] l.came (messages_of l.deeds) l.brought;
-  handed = l.handed;
-  again = l.again;
-  told = ([], l.came ++ l.last, [], l.handed, (refl, refl), l.gave, l.sent, refl, refl);
+  over = ([], [], [], l.hears, l.moves, (refl, refl), inl refl, l.are, l.went, l.again, refl);
   stays = l.stays;
   stop = l.stop;
 }
 
-next_life : {R : Type 0} (G : Ghosts R) (m : Membership) (first : Record Bytes) (back given end : R) (runs : List (Told × Told)) (w v : Told) → OneLife G m first back runs →
-    G.may_leave back (G.stored given) → LivedOver G m given end w v → OneLife G m first end ((w, v) ∷ runs)
-next_life G m first back given end runs w v a may b =
+next_life : {R : Type 0} (G : Ghosts R) (m : Membership) (first : Record Bytes) (back given end : R) (runs : List (List WireEvent))
+    (es : List WireEvent) → OneLife G m first back runs → G.may_leave back (G.stored given) → LivedOver G m given end [] es →
+    OneLife G m first end (es ∷ runs)
+next_life G m first back given end runs es a may b =
     let g = group m in
     let left = G.stored given in
     let s = a.stop left may in
-    let tail = Stops s.0 left ∷ Opens ∷ b.deeds in
-    let last : AreBrought g m.me (a.last ++ b.came) (messages_of tail) =
-    brought_then g m.me a.last b.came (message_in s.0) (messages_of b.deeds) s.2
-    (are_brought g m.me b.hears [] b.came (messages_of b.deeds) b.brought) in
+    let start = Stops s.0 left ∷ Opens ∷ [] in
     record {
-      deeds = a.deeds ++ tail;
+      deeds = a.deeds ++ (start ++ deeds_of b.moves);
       then = b.then;
-      lived = lived_then g m.me (started first) a.then b.then a.deeds tail a.lived (a.up, s.1, s.3, b.lived);
+      lived = lived_then g m.me (started first) a.then b.then a.deeds (start ++ deeds_of b.moves) a.lived (a.up, s.1, s.3, b.lived);
       up = b.up;
-      gave = (a.gave ++ a.last) ++ b.came;
       last = b.last;
-      brought = subst₂ (λ (bs : List Bytes) (ms : List Heard). AreBrought g m.me bs ms) (sym (append_assoc a.gave a.last b.came))
-          (sym (messages_then a.deeds tail))
-          (brought_then g m.me a.gave (a.last ++ b.came) (messages_of a.deeds) (messages_of tail) a.brought last);
-      handed = a.handed ++ b.handed;
-      again = subst (λ (ds : List (ℕ × Bytes)). SentAgain [] ds (a.handed ++ b.handed)) (sym (sent_then a.deeds tail))
-          (sent_again_then [] (sent_by a.deeds) a.handed [] (sent_by b.deeds) b.handed a.again b.again (among_none (sent_by a.deeds)));
-      told = (
-        a.gave ++ a.last,
-        b.came ++ b.last,
-        a.handed,
-        b.handed,
-        a.told,
-        b.gave,
-        b.sent,
-        append_assoc (a.gave ++ a.last) b.came b.last,
-        refl,
-      );
+      over = (a.deeds, a.last, start, b.hears, b.moves, a.over, inr (s.0, left, s.2, refl), b.are, b.went, b.again, refl);
       stays = b.stays;
       stop = b.stop;
     }

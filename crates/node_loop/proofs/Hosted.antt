@@ -1,20 +1,21 @@
 -- A run without a control socket is one in which no command is asked.
-use Rattle.std.proofs.Common.{ℕ, Option, None, Some, inl, inr}
+use Rattle.std.proofs.Common.{ℕ, List, Option, None, Some, inl, inr}
 use Rattle.px_model.specs.Step.{front}
 use Rattle.px_records.specs.declared.records.Records.{Ghosts}
+use Rattle.px_transport.specs.Wires.{WireEvent}
 use Rattle.px_wire.specs.declared.membership.Membership.{Membership}
 use Rattle.px_replica.specs.declared.fault.NodeFault.{NodeFault}
 use Rattle.pf_node.specs.Nodes.{learned_by, applied_of}
 use Rattle.pf_node.specs.declared.state.Node.{Node}
 use Rattle.node_loop.proofs.Hosting.{hosted_served}
-use Rattle.node_loop.specs.Lives.{Told, new_buffers, stands, Tells, HostTells, Serves, Hosts, Runs, HostedRuns}
+use Rattle.node_loop.specs.Lives.{new_buffers, stands, Tells, HostTells, Serves, Hosts, Runs, HostedRuns}
 use Rattle.node_loop.specs.declared.ended.Ended.{Ended}
 
 pub tells : (n k : ℕ) (answered : Option NodeFault) (ended : Ended) → Tells n k answered ended → HostTells n k answered ended
 tells n k None ended told = inl told
 tells n k (Some e) ended told = told
 
-pub serves : {R : Type 0} {G : Ghosts R} (s t : Node R G) (w v : Told) (ended : Ended) → Serves s t w v ended → Hosts s t w v ended
+pub serves : {R : Type 0} {G : Ghosts R} (s t : Node R G) (w v : List WireEvent) (ended : Ended) → Serves s t w v ended → Hosts s t w v ended
 serves s t w v ended k = record {
   answered = k.answered;
   hears = k.hears;
@@ -23,7 +24,7 @@ serves s t w v ended k = record {
   told = tells (front (learned_by t)) (applied_of t) k.answered ended k.told;
 }
 
-pub runs : {R : Type 0} (G : Ghosts R) (m : Membership) (given back : R) (w v : Told) (ended : Ended) →
+pub runs : {R : Type 0} (G : Ghosts R) (m : Membership) (given back : R) (w v : List WireEvent) (ended : Ended) →
     Runs G m given w v ended back → HostedRuns G m given w v ended back
 runs G m given back w v ended (inl unopened) = inl unopened
 runs G m given back w v ended (inr l) = inr (record {

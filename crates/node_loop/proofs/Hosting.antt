@@ -13,15 +13,16 @@ use Rattle.px_model.specs.Law.{Among}
 use Rattle.px_model.proofs.Basics.{among_cases}
 use Rattle.px_wire.specs.Message.{group}
 use Rattle.px_wire.specs.declared.membership.Membership.{Membership}
+use Rattle.px_transport.specs.Wires.{WireEvent}
+use Rattle.px_replica.specs.Lives.{Deed, Lived}
 use Rattle.node_loop.specs.Again.{AreAmong}
-use Rattle.node_loop.proofs.Among.{among_all, among_is, among_then, among_front}
-use Rattle.node_loop.specs.Turns.{Stand, Same, Between, Served, IsKnownTo}
+use Rattle.node_loop.proofs.Among.{among_is, among_then, among_front, among_none}
+use Rattle.node_loop.specs.Turns.{Stand, Same, IsIdle, Between, Served}
 use Rattle.node_loop.specs.Hosting.{AskedOnce, AskedTimes, Goes, Steps, Stops, Hosted}
-use Rattle.node_loop.specs.Resending.{SentAgain, IsKnown}
-use Rattle.node_loop.specs.Living.{Heard, Brings, messages_of, sent_by, LeavesThere, Living, HostingsAreLived}
-use Rattle.node_loop.proofs.Traffic.{grows_none, grows_then, none_brought, among_chain, among_nil, brings_then, brings_known, sent_none, sent_again_then}
-use Rattle.node_loop.proofs.Chains.{same_is, known_from, between_all}
-use Rattle.node_loop.proofs.Lives.{Led, called, led_between, led_then, served_before, served_led, served_ended, Ended, failed_call, between_lost, broken_served, broken_between, ended_more, led_living, ended_living}
+use Rattle.node_loop.specs.Living.{sent_by, LeavesThere, deeds_of, events_of, came_by, AreMoves, Living, HostingsAreLived}
+use Rattle.node_loop.proofs.Traffic.{none_brought, among_chain, among_nil, deeds_then, events_then, came_then, moves_then, idly, idle_deeds, idle_events, idle_moves}
+use Rattle.node_loop.proofs.Chains.{same_is, idle_from, between_all, went_then}
+use Rattle.node_loop.proofs.Lives.{Led, called, idles_in, led_between, led_then, served_before, served_led, served_ended, Ended, failed_call, between_lost, broken_served, broken_between, ended_more, led_living, ended_living}
 
 -- ---- one thing behind the other
 
@@ -55,16 +56,16 @@ pub hosted_asked : {R : Type 0} {G : Ghosts R} (n : ℕ) (x : Stand G) (t : Repl
 hosted_asked n x t a = record { steps = n; then = record x { replica = t }; made = asked_steps n x t a; last = refl }
 
 -- the wire and the buffers are as they were
-stand_is : {R : Type 0} {G : Ghosts R} (y z : Stand G) → z.given ≡ y.given → z.handed ≡ y.handed → z.kept ≡ y.kept →
+stand_is : {R : Type 0} {G : Ghosts R} (y z : Stand G) → z.traffic ≡ y.traffic → z.kept ≡ y.kept →
     z.requests ≡ y.requests → z.hears_asks ≡ y.hears_asks → z ≡ record y { replica = z.replica }
-stand_is y z g h k q e =
-    same_is (record y { replica = z.replica }) z (record { replica = refl; given = g; handed = h; kept = k; requests = q; hears = e })
+stand_is y z t k q e =
+    same_is (record y { replica = z.replica }) z (record { replica = refl; traffic = t; kept = k; requests = q; hears = e })
 
 -- and then asks, with a wire and buffers that are left alone
 pub hosted_on : {R : Type 0} {G : Ghosts R} (x y z : Stand G) (n : ℕ) → Hosted x y None → AskedTimes n y.replica z.replica →
-    z.given ≡ y.given → z.handed ≡ y.handed → z.kept ≡ y.kept → z.requests ≡ y.requests → z.hears_asks ≡ y.hears_asks → Hosted x z None
-hosted_on {R} {G} x y z n a b g h k q e =
-    subst (λ (w : Stand G). Hosted x w None) (sym (stand_is y z g h k q e))
+    z.traffic ≡ y.traffic → z.kept ≡ y.kept → z.requests ≡ y.requests → z.hears_asks ≡ y.hears_asks → Hosted x z None
+hosted_on {R} {G} x y z n a b t k q e =
+    subst (λ (w : Stand G). Hosted x w None) (sym (stand_is y z t k q e))
     (hosted_then x y (record y { replica = z.replica }) None a (hosted_asked n y z.replica b))
 
 once_before : {R : Type 0} {G : Ghosts R} (s t : Replica R G) → AskedOnce s t → G.is_honest (records_of t) → G.is_honest (records_of s)
@@ -76,13 +77,14 @@ goes_before x y (inr asked) honest = once_before x.replica y.replica asked.asked
 
 -- ---- a member that works, and one whose store failed in a request
 
--- The request after which it works no more is the last thing that befell it. What its wire gave since is known.
+-- The request after which it works no more is the last thing that befell it. Since then nothing but what is idle is
+-- done.
 record Broken {R : Type 0} {G : Ghosts R} (x z : Stand G) : Type 0 where
   stood : Stand G
   fault : NodeFault
   led : Led (membership_of x.replica) x stood
   ended : Ended stood z fault
-  known : (b : Bytes) → Among ended.last b → IsKnownTo stood b
+  idle : (e : WireEvent) → Among ended.last e → IsIdle stood e
   asked : AreAmong z.requests stood.requests
   stop : (left : Record Bytes) → G.may_leave (records_of z.replica) left →
       LeavesThere (group (membership_of stood.replica)) (membership_of stood.replica).me [] (state_in stood.replica) left
@@ -99,9 +101,9 @@ lost_on {R} {G} x y z b d = record {
   fault = b.fault;
   led = b.led;
   ended = ended_more b.stood y z b.fault b.ended (between_lost y z d);
-  known = λ c m. elim (among_cases b.ended.last d.passed c m) [
-    | inl here ↦ b.known c here
-    | inr later ↦ known_from b.stood y c b.ended.membership b.asked b.ended.hears (d.known c later)
+  idle = λ e m. elim (among_cases b.ended.last d.events e m) [
+    | inl here ↦ b.idle e here
+    | inr later ↦ idle_from b.stood y e b.ended.membership b.asked b.ended.hears b.ended.kept (d.idle e later)
   ];
   asked = among_then z.requests y.requests b.stood.requests (among_is z.requests y.requests d.requests) b.asked;
   stop = λ left may. b.stop left (subst (λ (r : Replica R G). G.may_leave (records_of r) left) d.replica may);
@@ -116,8 +118,8 @@ unfolding failed_call
 refused {R} {G} x y z command e true is l honest call rest =
     let kept : z.kept ≡ y.kept = ap (λ (s : Stand G). s.kept) rest in
     let requests : z.requests ≡ y.requests = ap (λ (s : Stand G). s.requests) rest in
-    let d = failed_call y z (Asks command) [] [] e l.works honest tt (none_brought _ _ []) call
-    (grows_none y.given z.given (ap (λ (s : Stand G). s.given) rest)) (grows_none y.handed z.handed (ap (λ (s : Stand G). s.handed) rest))
+    let d = failed_call y z (Asks command) None [] e l.works honest tt (none_brought _ _ []) call
+    (ap (λ (s : Stand G). s.traffic) rest ∙ sym (append-nil y.traffic))
     (among_nil z.kept y.kept (among_is z.kept y.kept kept)) (among_nil z.requests y.requests (among_is z.requests y.requests requests))
     (ap (λ (s : Stand G). s.hears_asks) rest) in
     inr (record {
@@ -125,7 +127,7 @@ refused {R} {G} x y z command e true is l honest call rest =
       fault = e;
       led = l;
       ended = d;
-      known = λ c m. absurd m;
+      idle = λ e m. absurd m;
       asked = among_is z.requests y.requests requests;
       stop = λ left may. d.stop left may;
       failed = is;
@@ -133,19 +135,15 @@ refused {R} {G} x y z command e true is l honest call rest =
 refused {R} {G} x y z command e false is l honest call rest =
     let kept : z.kept ≡ y.kept = ap (λ (s : Stand G). s.kept) rest in
     let requests : z.requests ≡ y.requests = ap (λ (s : Stand G). s.requests) rest in
-    let d = failed_call y z (Asks command) [] [] e l.works honest tt (none_brought _ _ []) call
-    (grows_none y.given z.given (ap (λ (s : Stand G). s.given) rest)) (grows_none y.handed z.handed (ap (λ (s : Stand G). s.handed) rest))
+    let went : z.traffic ≡ y.traffic ++ [] = ap (λ (s : Stand G). s.traffic) rest ∙ sym (append-nil y.traffic) in
+    let d = failed_call y z (Asks command) None [] e l.works honest tt (none_brought _ _ []) call went
     (among_nil z.kept y.kept (among_is z.kept y.kept kept)) (among_nil z.requests y.requests (among_is z.requests y.requests requests))
     (ap (λ (s : Stand G). s.hears_asks) rest) in
     let on : Led (membership_of y.replica) y z = record {
-      deeds = [];
+      moves = [];
       lived = d.stays (z.replica.works is);
-      came = [];
-      brought = tt;
-      gave = grows_none y.given z.given (ap (λ (s : Stand G). s.given) rest);
-      handed = [];
-      again = tt;
-      sent = grows_none y.handed z.handed (ap (λ (s : Stand G). s.handed) rest);
+      are = tt;
+      went = went;
       kept = among_nil z.kept y.kept (among_is z.kept y.kept kept);
       requests = among_nil z.requests y.requests (among_is z.requests y.requests requests);
       hears = ap (λ (s : Stand G). s.hears_asks) rest;
@@ -159,8 +157,8 @@ asks : {R : Type 0} {G : Ghosts R} (x y z : Stand G) → Led (membership_of x.re
     AskedOnce y.replica z.replica → z ≡ record y { replica = z.replica } → GoesOn x z
 asks {R} {G} x y z l honest (command, None, call) rest =
     inl (led_then (membership_of x.replica) x y z l
-    (called y z (Asks command) [] [] l.works honest tt tt call (grows_none y.given z.given (ap (λ (s : Stand G). s.given) rest))
-    (grows_none y.handed z.handed (ap (λ (s : Stand G). s.handed) rest))
+    (called y z (Asks command) None [] l.works honest tt tt call
+    (ap (λ (s : Stand G). s.traffic) rest ∙ sym (append-nil y.traffic))
     (among_nil z.kept y.kept (among_is z.kept y.kept (ap (λ (s : Stand G). s.kept) rest)))
     (among_nil z.requests y.requests (among_is z.requests y.requests (ap (λ (s : Stand G). s.requests) rest)))
     (ap (λ (s : Stand G). s.hears_asks) rest)))
@@ -211,34 +209,37 @@ hosted_before x z a o honest = steps_before o.steps x o.then o.made (stops_befor
 
 module _ {R : Type 0} (G : Ghosts R)
     (settled : (r : R) → G.is_honest r → G.failed r ≡ 0 → (d : Record Bytes) → G.may_leave r d → d ≡ G.stored r) where
-  -- Where the call that failed was an ask, what the wire gave since is known, and has come.
+  -- Where the call that failed was an ask, nothing but what is idle was done since.
   broken_living : (x z : Stand G) → Broken x z → Living x z None
   broken_living x z b =
       let l = b.led in
       let d = b.ended in
       let m = membership_of x.replica in
-      let known : Brings (group m) m.me x.hears_asks b.stood.requests d.last [] =
-      subst (λ (h : Bool). Brings (group m) m.me h b.stood.requests d.last []) l.hears
-      (subst (λ (n : Membership). Brings (group n) n.me b.stood.hears_asks b.stood.requests d.last []) l.membership
-      (brings_known (group (membership_of b.stood.replica)) (membership_of b.stood.replica).me b.stood.hears_asks b.stood.requests d.last b.known)) in
+      let on = idly d.last in
+      let still : AreMoves (group m) m.me x.hears_asks on b.stood.requests b.stood.kept =
+      subst (λ (h : Bool). AreMoves (group m) m.me h on b.stood.requests b.stood.kept) l.hears
+      (subst (λ (n : Membership). AreMoves (group n) n.me b.stood.hears_asks on b.stood.requests b.stood.kept) l.membership
+      (idle_moves (group (membership_of b.stood.replica)) (membership_of b.stood.replica).me b.stood.hears_asks d.last b.stood.requests b.stood.kept
+      (λ e n. idles_in b.stood e (b.idle e n)))) in
+      let same : deeds_of (l.moves ++ on) ≡ deeds_of l.moves =
+      deeds_then l.moves on ∙ ap (λ (ds : List Deed). deeds_of l.moves ++ ds) (idle_deeds d.last) ∙ append-nil (deeds_of l.moves) in
       record {
-        deeds = l.deeds;
+        moves = l.moves ++ on;
         then = state_in b.stood.replica;
-        lived = l.lived;
+        lived = subst (λ (ds : List Deed). Lived (group m) m.me (state_in x.replica) ds (state_in b.stood.replica)) (sym same) l.lived;
         up = refl;
-        came = l.came ++ d.last;
+        are = moves_then (group m) m.me x.hears_asks l.moves on x.requests b.stood.requests x.kept b.stood.kept l.are still l.requests l.kept;
         last = [];
-        brought = subst (λ (ms : List Heard). Brings (group m) m.me x.hears_asks x.requests (l.came ++ d.last) ms) (append-nil (messages_of l.deeds))
-            (brings_then (group m) m.me x.hears_asks x.requests l.came b.stood.requests d.last (messages_of l.deeds) [] l.brought known l.requests);
-        gave = grows_then x.given z.given z.given (l.came ++ d.last) []
-            (grows_then x.given b.stood.given z.given l.came d.last l.gave d.gave) (grows_none z.given z.given refl);
-        handed = l.handed ++ d.again.0;
-        again = subst (λ (ds : List (ℕ × Bytes)). SentAgain x.kept ds (l.handed ++ d.again.0)) (append-nil (sent_by l.deeds))
-            (sent_again_then x.kept (sent_by l.deeds) l.handed b.stood.kept [] d.again.0 l.again (sent_none b.stood.kept d.again.0 d.again.1) l.kept);
-        sent = grows_then x.handed b.stood.handed z.handed l.handed d.again.0 l.sent d.again.2;
-        kept = among_then z.kept b.stood.kept (x.kept ++ sent_by l.deeds) d.kept l.kept;
-        requests = subst (λ (bs : List Bytes). AreAmong z.requests (x.requests ++ bs)) (sym (append-nil (l.came ++ d.last)))
-            (among_chain x.requests b.stood.requests z.requests l.came d.last l.requests d.requests);
+        went = went_then x.traffic b.stood.traffic z.traffic (events_of l.moves) d.last l.went d.went
+            ∙ ap (λ (es : List WireEvent). x.traffic ++ (events_of l.moves ++ es)) (sym (idle_events d.last))
+            ∙ ap (λ (es : List WireEvent). x.traffic ++ es) (sym (events_then l.moves on) ∙ sym (append-nil (events_of (l.moves ++ on))));
+        again = among_none (x.kept ++ sent_by (deeds_of (l.moves ++ on)));
+        kept = subst (λ (ds : List Deed). AreAmong z.kept (x.kept ++ sent_by ds)) (sym same)
+            (among_then z.kept b.stood.kept (x.kept ++ sent_by (deeds_of l.moves)) d.kept l.kept);
+        requests = subst (λ (bs : List Bytes). AreAmong z.requests (x.requests ++ bs))
+            (sym (append-nil (came_by (l.moves ++ on)) ∙ came_then l.moves on))
+            (among_chain x.requests b.stood.requests z.requests (came_by l.moves) (came_by on) l.requests
+            (among_front z.requests b.stood.requests (came_by on) b.asked));
         hears = d.hears ∙ l.hears;
         stays = d.stays;
         stop = λ left may. subst (λ (n : Membership). LeavesThere (group n) n.me [] (state_in b.stood.replica) left) l.membership (b.stop left may);

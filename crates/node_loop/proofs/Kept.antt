@@ -17,7 +17,7 @@ use Rattle.node_loop.specs.declared.state.Sent.{Sent}
 use Rattle.node_loop.proofs.Among.{among_all, among_is, among_then, among_front, among_back, among_sides, for_one, at_one, at_none}
 use Rattle.node_loop.specs.Again.{HandsFor, HandsAt}
 use Rattle.std.proofs.lemmas.Option.{slice_get_within}
-use Rattle.px_transport.specs.Wires.{Grows}
+use Rattle.px_transport.specs.Wires.{WireEvent, Handed, Adds, IsQuiet}
 use Rattle.std.specs.Prelude.{OnOk, OnErr}
 
 -- ---- a request
@@ -81,23 +81,23 @@ get_map f (x ∷ xs) zero v h = cc
 get_map f (x ∷ xs) (suc i) v h = get_map f xs i v h
 
 -- the one at this place, among others that may be long
-pub only_at : {V : Type 0} (f : V → Addressed) (xs ys : List V) (i : ℕ) (v : V) (sent : List ℕ) (old new : Option (List Addressed)) →
-    xs ≡ ys → slice_get xs i ≡ Some v → sent ≡ (f v).1 → Grows old ((f v).0, sent) new → HandsAt i (map f ys) old new
+pub only_at : {V : Type 0} (f : V → Addressed) (xs ys : List V) (i : ℕ) (v : V) (sent : List ℕ) (old new : List WireEvent → Type 0) →
+    xs ≡ ys → slice_get xs i ≡ Some v → sent ≡ (f v).1 → Adds old new (Handed (f v).0 sent ∷ []) → HandsAt i (map f ys) old new
 only_at {V} f xs ys i v sent old new e at is grows =
     let there : slice_get ys i ≡ Some v = subst (λ (zs : List V). slice_get zs i ≡ Some v) e at in
     at_one i (map f ys) (f v) old new (get_map f ys i v there)
-    (subst (λ (b : List ℕ). Grows old ((f v).0, b) new) is grows)
+    (subst (λ (b : List ℕ). Adds old new (Handed (f v).0 b ∷ [])) is grows)
 
 -- none is there
-pub none_at : {V : Type 0} (f : V → Addressed) (xs ys : List V) (i : ℕ) (old new : Option (List Addressed)) → xs ≡ ys → length xs ≤ i →
-    new ≡ old → HandsAt i (map f ys) old new
+pub none_at : {V : Type 0} (f : V → Addressed) (xs ys : List V) (i : ℕ) (old new : List WireEvent → Type 0) → xs ≡ ys → length xs ≤ i →
+    IsQuiet old new → HandsAt i (map f ys) old new
 none_at {V} f xs ys i old new e past same =
     at_none i (map f ys) old new same
     (λ d at short. (let w = slice_get_within (map f ys) i d at in omega (arith, w, past, ap length e, length-map ys f)))
 
 -- the one that is there is too long
-pub long_at : {V : Type 0} (f : V → Addressed) (xs ys : List V) (i : ℕ) (v : V) (old new : Option (List Addressed)) → xs ≡ ys →
-    slice_get xs i ≡ Some v → 1200 < length (f v).1 → new ≡ old → HandsAt i (map f ys) old new
+pub long_at : {V : Type 0} (f : V → Addressed) (xs ys : List V) (i : ℕ) (v : V) (old new : List WireEvent → Type 0) → xs ≡ ys →
+    slice_get xs i ≡ Some v → 1200 < length (f v).1 → IsQuiet old new → HandsAt i (map f ys) old new
 long_at {V} f xs ys i v old new e at long same =
     at_none i (map f ys) old new same
     (λ d is short. (let there : slice_get (map f ys) i ≡ Some (f v) = get_map f ys i v (subst (λ (zs : List V). slice_get zs i ≡ Some v) e at) in
@@ -106,11 +106,11 @@ long_at {V} f xs ys i v old new e at long same =
     omega (arith, long, short, ap (λ (x : Addressed). length x.1) same')))
 
 -- the one at this place
-pub hand_at : {V : Type 0} (m : ℕ) (f : V → Addressed) (xs ys : List V) (i : ℕ) (v : V) (sent : List ℕ) (old new : Option (List Addressed)) →
-    (f v).0 ≡ m → xs ≡ ys → slice_get xs i ≡ Some v → sent ≡ (f v).1 → Grows old ((f v).0, sent) new → HandsFor m (map f ys) old new
+pub hand_at : {V : Type 0} (m : ℕ) (f : V → Addressed) (xs ys : List V) (i : ℕ) (v : V) (sent : List ℕ) (old new : List WireEvent → Type 0) →
+    (f v).0 ≡ m → xs ≡ ys → slice_get xs i ≡ Some v → sent ≡ (f v).1 → Adds old new (Handed (f v).0 sent ∷ []) → HandsFor m (map f ys) old new
 hand_at {V} m f xs ys i v sent old new to e at is grows =
     for_one m (map f ys) (f v) old new to (among_map f ys v (subst (λ (zs : List V). Among zs v) e (among_get xs i v at)))
-    (subst (λ (b : List ℕ). Grows old ((f v).0, b) new) is grows)
+    (subst (λ (b : List ℕ). Adds old new (Handed (f v).0 b ∷ [])) is grows)
 
 -- one more, if there is memory
 pub pushed : {P E : Type 0} (r : Result P E) (old mid new : List Addressed) (d : Addressed) → AreAmong mid old →

@@ -7,7 +7,9 @@ use Rattle.px_model.specs.Node.Input.{Ticks, Comes}
 use Rattle.px_model.specs.Spelling.{Bytes}
 use Rattle.px_model.specs.World.{NodeState}
 use Rattle.px_records.specs.declared.records.Records.{Ghosts}
-use Rattle.px_transport.specs.Wires.{GrowsBy, Gives}
+use Rattle.px_model.specs.Law.{Among}
+use Rattle.px_transport.specs.Wires.{WireEvent, Gave, Handed, given_in, handed_in, gives, hands}
+use Rattle.px_transport.proofs.Traffic.{given_append, handed_append}
 use Rattle.px_wire.specs.Message.{Group, group}
 use Rattle.px_wire.specs.declared.membership.Membership.{Membership}
 use Rattle.px_replica.specs.Calls.{Call, Receives}
@@ -20,14 +22,15 @@ use Rattle.px_replica.specs.declared.fault.NodeFault.{NodeFault}
 use Rattle.px_replica.specs.declared.fault.NodeFault.TheVariants as fault
 use Rattle.px_replica.specs.declared.receiving.Received.{Received}
 use Rattle.px_replica.specs.declared.state.Replica.{Replica}
-use Rattle.node_loop.specs.Again.{AreAmong, HandsAgain}
-use Rattle.node_loop.proofs.Among.{among_all, among_is, among_front, among_then, among_none, hands_none, hands_then, hands_more}
-use Rattle.node_loop.specs.Resending.{SentAgain, came_in}
-use Rattle.node_loop.specs.Turns.{Acts, Stand, Between, Turns, Ends, Served, handed_over}
-use Rattle.node_loop.specs.Living.{Heard, message_in, messages_of, Brings, AreBrought, sent_by, LeavesThere, Living, TurnsAreLived}
-use Rattle.node_loop.proofs.Traffic.{grows_none, grows_then, messages_then, sent_then, brings_then, brings_known, are_brought, brought_more, none_brought}
-use Rattle.node_loop.proofs.Traffic.{among_chain, among_nil, sent_once, sent_none, sent_again_then}
-use Rattle.node_loop.proofs.Chains.{between_then}
+use Rattle.node_loop.specs.Again.{AreAmong}
+use Rattle.node_loop.proofs.Among.{among_is, among_front, among_then, among_none, among_both}
+use Rattle.node_loop.specs.Resending.{came_in}
+use Rattle.node_loop.specs.Turns.{Acts, Stand, IsIdle, Between, Turns, Ends, Served, handed_over}
+use Rattle.node_loop.specs.Living.{message_in, AreBrought, sent_by, LeavesThere, Living, TurnsAreLived}
+use Rattle.node_loop.specs.Living.{Move, Does, Passes, deeds_of, events_of, came_by, IsBrought, AreMoves}
+use Rattle.node_loop.proofs.Traffic.{sent_then, brought_more, none_brought, one_brought, among_chain, deeds_then, events_then, came_then, moves_then}
+use Rattle.node_loop.proofs.Traffic.{idly, idle_deeds, idle_events, Idles, idle_moves}
+use Rattle.node_loop.proofs.Chains.{between_then, went_then}
 
 -- one life behind the other
 pub lived_then : (g : Group) (me : ℕ) (s t u : NodeState Bytes) (xs ys : List Deed) → Lived g me s xs t → Lived g me t ys u →
@@ -39,16 +42,12 @@ lived_then g me s t u (Opens ∷ xs) ys rest b = lived_then g me _ t u xs ys res
 
 -- what calls without a fault lead to
 pub record Led {R : Type 0} {G : Ghosts R} (m : Membership) (x y : Stand G) : Type 0 where
-  pub deeds : List Deed
-  pub lived : Lived (group m) m.me (state_in x.replica) deeds (state_in y.replica)
-  pub came : List Bytes
-  pub brought : Brings (group m) m.me x.hears_asks x.requests came (messages_of deeds)
-  pub gave : GrowsBy x.given came y.given
-  pub handed : List (ℕ × Bytes)
-  pub again : SentAgain x.kept (sent_by deeds) handed
-  pub sent : GrowsBy x.handed handed y.handed
-  pub kept : AreAmong y.kept (x.kept ++ sent_by deeds)
-  pub requests : AreAmong y.requests (x.requests ++ came)
+  pub moves : List Move
+  pub lived : Lived (group m) m.me (state_in x.replica) (deeds_of moves) (state_in y.replica)
+  pub are : AreMoves (group m) m.me x.hears_asks moves x.requests x.kept
+  pub went : y.traffic ≡ x.traffic ++ events_of moves
+  pub kept : AreAmong y.kept (x.kept ++ sent_by (deeds_of moves))
+  pub requests : AreAmong y.requests (x.requests ++ came_by moves)
   pub hears : y.hears_asks ≡ x.hears_asks
   pub was : G.is_honest (records_of y.replica) → G.is_honest (records_of x.replica)
   pub works : has_failed y.replica ≡ false
@@ -58,45 +57,43 @@ some_none : (e : NodeFault) → Some e ≡ None → ⊥
 some_none e h = absurd cc
 
 -- a call that answered Ok, for which this came
-pub called : {R : Type 0} {G : Ghosts R} (x y : Stand G) (i : Input Bytes) (came : List Bytes) (out : List Datagram) →
+pub called : {R : Type 0} {G : Ghosts R} (x y : Stand G) (i : Input Bytes) (came : Option Bytes) (out : List Datagram) →
     has_failed x.replica ≡ false → G.is_honest (records_of y.replica) →
     IsInput (group (membership_of x.replica)) (membership_of x.replica).me i →
-    Brings (group (membership_of x.replica)) (membership_of x.replica).me x.hears_asks x.requests came (message_in i) →
-    Call x.replica y.replica i [] out None → GrowsBy x.given came y.given → GrowsBy x.handed (handed_over out) y.handed →
-    AreAmong y.kept (x.kept ++ handed_over out) → AreAmong y.requests (x.requests ++ came) → y.hears_asks ≡ x.hears_asks →
+    IsBrought (group (membership_of x.replica)) (membership_of x.replica).me came i →
+    Call x.replica y.replica i [] out None → y.traffic ≡ x.traffic ++ (gives came ++ hands (handed_over out)) →
+    AreAmong y.kept (x.kept ++ handed_over out) → AreAmong y.requests (x.requests ++ came_in came) → y.hears_asks ≡ x.hears_asks →
     Led (membership_of x.replica) x y
-called {R} {G} x y i came out works honest input brings call gave sent kept requests hears = record {
-  deeds = Calls i (state_in y.replica) out ∷ [];
+called {R} {G} x y i came out works honest input brought call went kept requests hears = record {
+  moves = Does came i (state_in y.replica) out ∷ [];
   lived = (refl, input, call.made honest refl, refl);
-  came = came;
-  brought = subst (λ (ms : List Heard). Brings (group (membership_of x.replica)) (membership_of x.replica).me x.hears_asks x.requests came ms)
-      (sym (append-nil (message_in i))) brings;
-  gave = gave;
-  handed = handed_over out;
-  again = subst (λ (ds : List (ℕ × Bytes)). SentAgain x.kept ds (handed_over out)) (sym (append-nil (handed_over out)))
-      (sent_once x.kept (handed_over out));
-  sent = sent;
+  are = (brought, tt);
+  went = went ∙ ap (λ (es : List WireEvent). x.traffic ++ es) (sym (append-nil (gives came ++ hands (handed_over out))));
   kept = subst (λ (ds : List (ℕ × Bytes)). AreAmong y.kept (x.kept ++ ds)) (sym (append-nil (handed_over out))) kept;
-  requests = requests;
+  requests = subst (λ (bs : List Bytes). AreAmong y.requests (x.requests ++ bs)) (sym (append-nil (came_in came))) requests;
   hears = hears;
   was = call.was;
   works = false_from_ne_true (has_failed y.replica) (λ h. (call.fails works).0 h);
   membership = call.membership;
 }
 
+-- what is idle for a member, by what it knows and keeps
+pub idles_in : {R : Type 0} {G : Ghosts R} (x : Stand G) (e : WireEvent) → IsIdle x e →
+    Idles (group (membership_of x.replica)) (membership_of x.replica).me x.hears_asks x.requests x.kept e
+idles_in x (Gave b) i = i
+idles_in x (Handed to b) i = i
+
 -- no turn is made
 pub led_between : {R : Type 0} {G : Ghosts R} (x y : Stand G) → Between x y → has_failed x.replica ≡ false → Led (membership_of x.replica) x y
 led_between {R} {G} x y b works = record {
-  deeds = [];
-  lived = ap (λ (z : Replica R G). state_in z) b.replica;
-  came = b.passed;
-  brought = brings_known (group (membership_of x.replica)) (membership_of x.replica).me x.hears_asks x.requests b.passed b.known;
-  gave = b.gave;
-  handed = b.again.0;
-  again = sent_none x.kept b.again.0 b.again.1;
-  sent = b.again.2;
-  kept = among_nil y.kept x.kept (among_is y.kept x.kept b.kept);
-  requests = among_front y.requests x.requests b.passed (among_is y.requests x.requests b.requests);
+  moves = idly b.events;
+  lived = subst (λ (ds : List Deed). Lived (group (membership_of x.replica)) (membership_of x.replica).me (state_in x.replica) ds (state_in y.replica))
+      (sym (idle_deeds b.events)) (ap (λ (z : Replica R G). state_in z) b.replica);
+  are = idle_moves (group (membership_of x.replica)) (membership_of x.replica).me x.hears_asks b.events x.requests x.kept
+      (λ e m. idles_in x e (b.idle e m));
+  went = b.went ∙ ap (λ (es : List WireEvent). x.traffic ++ es) (sym (idle_events b.events));
+  kept = among_front y.kept x.kept (sent_by (deeds_of (idly b.events))) (among_is y.kept x.kept b.kept);
+  requests = among_front y.requests x.requests (came_by (idly b.events)) (among_is y.requests x.requests b.requests);
   hears = b.hears;
   was = subst (λ (z : Replica R G). G.is_honest (records_of z) → G.is_honest (records_of x.replica)) (sym b.replica) (λ h. h);
   works = ap (λ (z : Replica R G). has_failed z) b.replica ∙ works;
@@ -105,20 +102,16 @@ led_between {R} {G} x y b works = record {
 
 received : {R : Type 0} {G : Ghosts R} (x y : Stand G) (bytes : Bytes) (out : List Datagram) (r : Result Received NodeFault) →
     has_failed x.replica ≡ false → G.is_honest (records_of y.replica) → Receives x.replica y.replica bytes [] out r → fault_of r ≡ None →
-    GrowsBy x.given (bytes ∷ []) y.given → GrowsBy x.handed (handed_over out) y.handed →
+    y.traffic ≡ x.traffic ++ (Gave bytes ∷ hands (handed_over out)) →
     AreAmong y.kept (x.kept ++ handed_over out) → AreAmong y.requests (x.requests ++ bytes ∷ []) → y.hears_asks ≡ x.hears_asks →
     Led (membership_of x.replica) x y
-received x y bytes out r works honest (inl lost) none gave sent kept requests hears =
+received x y bytes out r works honest (inl lost) none went kept requests hears =
     absurd (let is : true ≡ false = sym lost.failed ∙ works in cc)
-received {R} {G} x y bytes out r works honest (inr (inl passed)) none gave sent kept requests hears = record {
-  deeds = [];
+received {R} {G} x y bytes out r works honest (inr (inl passed)) none went kept requests hears = record {
+  moves = Passes bytes ∷ [];
   lived = ap (λ (z : Replica R G). state_in z) passed.still;
-  came = bytes ∷ [];
-  brought = (inl passed.unspelled, tt);
-  gave = gave;
-  handed = [];
-  again = tt;
-  sent = subst (λ (ds : List Datagram). GrowsBy x.handed (handed_over ds) y.handed) passed.silent sent;
+  are = (inl passed.unspelled, tt);
+  went = subst (λ (ds : List Datagram). y.traffic ≡ x.traffic ++ (Gave bytes ∷ hands (handed_over ds))) passed.silent went;
   kept = subst (λ (ds : List Datagram). AreAmong y.kept (x.kept ++ handed_over ds)) passed.silent kept;
   requests = requests;
   hears = hears;
@@ -126,44 +119,42 @@ received {R} {G} x y bytes out r works honest (inr (inl passed)) none gave sent 
   works = ap (λ (z : Replica R G). has_failed z) passed.still ∙ works;
   membership = ap (λ (z : Replica R G). membership_of z) passed.still;
 }
-received {R} {G} x y bytes out r works honest (inr (inr taken)) none gave sent kept requests hears =
-    called x y (Comes taken.sender taken.message) (bytes ∷ []) out works honest taken.passes (inr (taken.spelled, tt))
-    (subst (λ (o : Option NodeFault). Call x.replica y.replica (Comes taken.sender taken.message) [] out o) none taken.call) gave sent
+received {R} {G} x y bytes out r works honest (inr (inr taken)) none went kept requests hears =
+    called x y (Comes taken.sender taken.message) (Some bytes) out works honest taken.passes taken.spelled
+    (subst (λ (o : Option NodeFault). Call x.replica y.replica (Comes taken.sender taken.message) [] out o) none taken.call) went
     kept requests hears
 
 acted : {R : Type 0} {G : Ghosts R} (x y : Stand G) (came : Option Bytes) (out : List Datagram) → has_failed x.replica ≡ false →
-    G.is_honest (records_of y.replica) → Acts x.replica y.replica came out None → Gives x.given came y.given →
-    GrowsBy x.handed (handed_over out) y.handed → AreAmong y.kept (x.kept ++ handed_over out) →
+    G.is_honest (records_of y.replica) → Acts x.replica y.replica came out None →
+    y.traffic ≡ x.traffic ++ (gives came ++ hands (handed_over out)) → AreAmong y.kept (x.kept ++ handed_over out) →
     AreAmong y.requests (x.requests ++ came_in came) → y.hears_asks ≡ x.hears_asks → Led (membership_of x.replica) x y
-acted x y None out works honest call gave sent kept requests hears =
-    called x y Ticks [] out works honest tt tt call (grows_none x.given y.given gave) sent kept requests hears
-acted x y (Some bytes) out works honest (r, receives, none) gave sent kept requests hears =
-    received x y bytes out r works honest receives none gave sent kept requests hears
+acted x y None out works honest call went kept requests hears =
+    called x y Ticks None out works honest tt tt call went kept requests hears
+acted x y (Some bytes) out works honest (r, receives, none) went kept requests hears =
+    received x y bytes out r works honest receives none went kept requests hears
+
+sent_all : (ms ns : List Move) → sent_by (deeds_of (ms ++ ns)) ≡ sent_by (deeds_of ms) ++ sent_by (deeds_of ns)
+sent_all ms ns = ap sent_by (deeds_then ms ns) ∙ sent_then (deeds_of ms) (deeds_of ns)
 
 -- one behind the other
 pub led_then : {R : Type 0} {G : Ghosts R} (m : Membership) (x y z : Stand G) → Led m x y → Led (membership_of y.replica) y z → Led m x z
 led_then {R} {G} m x y z a b =
-    let lived : Lived (group m) m.me (state_in y.replica) b.deeds (state_in z.replica) =
-    subst (λ (n : Membership). Lived (group n) n.me (state_in y.replica) b.deeds (state_in z.replica)) a.membership b.lived in
-    let brought : Brings (group m) m.me x.hears_asks y.requests b.came (messages_of b.deeds) =
-    subst (λ (h : Bool). Brings (group m) m.me h y.requests b.came (messages_of b.deeds)) a.hears
-    (subst (λ (n : Membership). Brings (group n) n.me y.hears_asks y.requests b.came (messages_of b.deeds)) a.membership b.brought) in
+    let lived : Lived (group m) m.me (state_in y.replica) (deeds_of b.moves) (state_in z.replica) =
+    subst (λ (n : Membership). Lived (group n) n.me (state_in y.replica) (deeds_of b.moves) (state_in z.replica)) a.membership b.lived in
+    let are : AreMoves (group m) m.me x.hears_asks b.moves y.requests y.kept =
+    subst (λ (h : Bool). AreMoves (group m) m.me h b.moves y.requests y.kept) a.hears
+    (subst (λ (n : Membership). AreMoves (group n) n.me y.hears_asks b.moves y.requests y.kept) a.membership b.are) in
     record {
-      deeds = a.deeds ++ b.deeds;
-      lived = lived_then (group m) m.me (state_in x.replica) (state_in y.replica) (state_in z.replica) a.deeds b.deeds a.lived lived;
-      came = a.came ++ b.came;
-      brought = subst (λ (ms : List Heard). Brings (group m) m.me x.hears_asks x.requests (a.came ++ b.came) ms)
-          (sym (messages_then a.deeds b.deeds))
-          (brings_then (group m) m.me x.hears_asks x.requests a.came y.requests b.came (messages_of a.deeds) (messages_of b.deeds)
-          a.brought brought a.requests);
-      gave = grows_then x.given y.given z.given a.came b.came a.gave b.gave;
-      handed = a.handed ++ b.handed;
-      again = subst (λ (ds : List (ℕ × Bytes)). SentAgain x.kept ds (a.handed ++ b.handed)) (sym (sent_then a.deeds b.deeds))
-          (sent_again_then x.kept (sent_by a.deeds) a.handed y.kept (sent_by b.deeds) b.handed a.again b.again a.kept);
-      sent = grows_then x.handed y.handed z.handed a.handed b.handed a.sent b.sent;
-      kept = subst (λ (ds : List (ℕ × Bytes)). AreAmong z.kept (x.kept ++ ds)) (sym (sent_then a.deeds b.deeds))
-          (among_chain x.kept y.kept z.kept (sent_by a.deeds) (sent_by b.deeds) a.kept b.kept);
-      requests = among_chain x.requests y.requests z.requests a.came b.came a.requests b.requests;
+      moves = a.moves ++ b.moves;
+      lived = subst (λ (ds : List Deed). Lived (group m) m.me (state_in x.replica) ds (state_in z.replica)) (sym (deeds_then a.moves b.moves))
+          (lived_then (group m) m.me (state_in x.replica) (state_in y.replica) (state_in z.replica) (deeds_of a.moves) (deeds_of b.moves) a.lived lived);
+      are = moves_then (group m) m.me x.hears_asks a.moves b.moves x.requests y.requests x.kept y.kept a.are are a.requests a.kept;
+      went = went_then x.traffic y.traffic z.traffic (events_of a.moves) (events_of b.moves) a.went b.went
+          ∙ ap (λ (es : List WireEvent). x.traffic ++ es) (sym (events_then a.moves b.moves));
+      kept = subst (λ (ds : List (ℕ × Bytes)). AreAmong z.kept (x.kept ++ ds)) (sym (sent_all a.moves b.moves))
+          (among_chain x.kept y.kept z.kept (sent_by (deeds_of a.moves)) (sent_by (deeds_of b.moves)) a.kept b.kept);
+      requests = subst (λ (bs : List Bytes). AreAmong z.requests (x.requests ++ bs)) (sym (came_then a.moves b.moves))
+          (among_chain x.requests y.requests z.requests (came_by a.moves) (came_by b.moves) a.requests b.requests);
       hears = b.hears ∙ a.hears;
       was = λ h. a.was (b.was h);
       works = b.works;
@@ -203,7 +194,7 @@ turns_led zero x y b works honest = led_between x y b works
 turns_led {R} {G} (suc n) x y (v, w, turns, turn, b) works honest =
     let honest' : G.is_honest (records_of w.replica) = subst (λ (z : Replica R G). G.is_honest (records_of z)) b.replica honest in
     let a = turns_led n x v turns works (acted_before v.replica w.replica turn.came turn.out None turn.acts honest') in
-    let d = acted v w turn.came turn.out a.works honest' turn.acts turn.gave turn.sent turn.kept turn.requests turn.hears in
+    let d = acted v w turn.came turn.out a.works honest' turn.acts turn.went turn.kept turn.requests turn.hears in
     let c = led_then (membership_of x.replica) x v w a d in
     led_then (membership_of x.replica) x w y c (led_between w y b c.works)
 
@@ -218,15 +209,15 @@ served_led {R} {G} x y s works honest =
 
 -- What a last call that failed leaves. It came from w, which worked.
 pub record Ended {R : Type 0} {G : Ghosts R} (w z : Stand G) (e : NodeFault) : Type 0 where
-  pub last : List Bytes
-  pub gave : GrowsBy w.given last z.given
-  pub again : HandsAgain w.kept w.handed z.handed
+  pub last : List WireEvent
+  pub went : z.traffic ≡ w.traffic ++ last
+  pub again : AreAmong (handed_in last) w.kept
   pub kept : AreAmong z.kept w.kept
-  pub requests : AreAmong z.requests (w.requests ++ last)
+  pub requests : AreAmong z.requests (w.requests ++ given_in last)
   pub hears : z.hears_asks ≡ w.hears_asks
   pub stays : G.failed (records_of z.replica) ≡ 0 → state_in z.replica ≡ state_in w.replica
   pub stop : (left : Record Bytes) → G.may_leave (records_of z.replica) left →
-      LeavesThere (group (membership_of w.replica)) (membership_of w.replica).me last (state_in w.replica) left
+      LeavesThere (group (membership_of w.replica)) (membership_of w.replica).me (given_in last) (state_in w.replica) left
   pub counts : Some e ≢ Some fault.Store → G.failed (records_of z.replica) ≡ 0
   pub membership : membership_of z.replica ≡ membership_of w.replica
 
@@ -234,43 +225,59 @@ pub none_above : (n : ℕ) → (0 < n → ⊥) → n ≡ 0
 none_above zero h = refl
 none_above (suc n) h = absurd (h (omega arith))
 
+gives_given : (came : Option Bytes) → given_in (gives came) ≡ came_in came
+gives_given None = refl
+gives_given (Some bytes) = refl
+
+gives_handed : (came : Option Bytes) → handed_in (gives came) ≡ []
+gives_handed None = refl
+gives_handed (Some bytes) = refl
+
+-- nothing is sent
+went_silent : (old new : List WireEvent) (came : Option Bytes) (out : List Datagram) → out ≡ [] →
+    new ≡ old ++ (gives came ++ hands (handed_over out)) → new ≡ old ++ gives came
+went_silent old new came out none went =
+    subst (λ (ds : List Datagram). new ≡ old ++ (gives came ++ hands (handed_over ds))) none went
+    ∙ ap (λ (es : List WireEvent). old ++ es) (append-nil (gives came))
+
 -- the call that failed, for which this came
-unfoldable pub failed_call : {R : Type 0} {G : Ghosts R} (w z : Stand G) (i : Input Bytes) (last : List Bytes) (out : List Datagram) (e : NodeFault) →
+unfoldable pub failed_call : {R : Type 0} {G : Ghosts R} (w z : Stand G) (i : Input Bytes) (came : Option Bytes) (out : List Datagram) (e : NodeFault) →
     has_failed w.replica ≡ false → G.is_honest (records_of z.replica) →
     IsInput (group (membership_of w.replica)) (membership_of w.replica).me i →
-    AreBrought (group (membership_of w.replica)) (membership_of w.replica).me last (message_in i) →
-    Call w.replica z.replica i [] out (Some e) → GrowsBy w.given last z.given → GrowsBy w.handed (handed_over out) z.handed →
-    AreAmong z.kept (w.kept ++ handed_over out) → AreAmong z.requests (w.requests ++ last) → z.hears_asks ≡ w.hears_asks → Ended w z e
-failed_call {R} {G} w z i last out e works honest input brought call gave sent kept requests hears = record {
-  last = last;
-  gave = gave;
-  again = ([], among_none w.kept, subst (λ (ds : List Datagram). GrowsBy w.handed (handed_over ds) z.handed) (call.silent refl) sent);
+    AreBrought (group (membership_of w.replica)) (membership_of w.replica).me (came_in came) (message_in i) →
+    Call w.replica z.replica i [] out (Some e) → z.traffic ≡ w.traffic ++ (gives came ++ hands (handed_over out)) →
+    AreAmong z.kept (w.kept ++ handed_over out) → AreAmong z.requests (w.requests ++ came_in came) → z.hears_asks ≡ w.hears_asks → Ended w z e
+failed_call {R} {G} w z i came out e works honest input brought call went kept requests hears = record {
+  last = gives came;
+  went = went_silent w.traffic z.traffic came out (call.silent refl) went;
+  again = subst (λ (ds : List (ℕ × Bytes)). AreAmong ds w.kept) (sym (gives_handed came)) (among_none w.kept);
   kept = among_then z.kept (w.kept ++ []) w.kept
       (subst (λ (ds : List Datagram). AreAmong z.kept (w.kept ++ handed_over ds)) (call.silent refl) kept)
       (among_is (w.kept ++ []) w.kept (append-nil w.kept));
-  requests = requests;
+  requests = subst (λ (bs : List Bytes). AreAmong z.requests (w.requests ++ bs)) (sym (gives_given came)) requests;
   hears = hears;
   stays = λ none. call.stays honest refl (λ is. let above : 0 < G.failed (records_of z.replica) = (call.counts works).0 is in
       let none' : G.failed (records_of z.replica) ≡ 0 = none in omega arith);
-  stop = λ left may. (i, input, brought, call.stop works honest left may);
+  stop = λ left may. subst (λ (bs : List Bytes). LeavesThere (group (membership_of w.replica)) (membership_of w.replica).me bs (state_in w.replica) left)
+      (sym (gives_given came)) (i, input, brought, call.stop works honest left may);
   counts = λ other. none_above (G.failed (records_of z.replica)) (λ above. other ((call.counts works).1 above));
   membership = call.membership;
 }
 
 failed_turn : {R : Type 0} {G : Ghosts R} (w z : Stand G) (came : Option Bytes) (out : List Datagram) (e : NodeFault) →
     has_failed w.replica ≡ false → G.is_honest (records_of z.replica) → Acts w.replica z.replica came out (Some e) →
-    Gives w.given came z.given → GrowsBy w.handed (handed_over out) z.handed → AreAmong z.kept (w.kept ++ handed_over out) →
+    z.traffic ≡ w.traffic ++ (gives came ++ hands (handed_over out)) → AreAmong z.kept (w.kept ++ handed_over out) →
     AreAmong z.requests (w.requests ++ came_in came) → z.hears_asks ≡ w.hears_asks → Ended w z e
-failed_turn w z None out e works honest call gave sent kept requests hears =
-    failed_call w z Ticks [] out e works honest tt (none_brought _ _ []) call (grows_none w.given z.given gave) sent kept requests hears
-failed_turn w z (Some bytes) out e works honest (r, inl lost, is) gave sent kept requests hears =
+failed_turn w z None out e works honest call went kept requests hears =
+    failed_call w z Ticks None out e works honest tt (none_brought _ _ []) call went kept requests hears
+failed_turn w z (Some bytes) out e works honest (r, inl lost, is) went kept requests hears =
     absurd (let h : true ≡ false = sym lost.failed ∙ works in cc)
-failed_turn w z (Some bytes) out e works honest (r, inr (inl passed), is) gave sent kept requests hears =
+failed_turn w z (Some bytes) out e works honest (r, inr (inl passed), is) went kept requests hears =
     absurd (some_none e (sym is ∙ ap fault_of passed.answered))
-failed_turn w z (Some bytes) out e works honest (r, inr (inr taken), is) gave sent kept requests hears =
-    failed_call w z (Comes taken.sender taken.message) (bytes ∷ []) out e works honest taken.passes
-    (are_brought _ _ w.hears_asks w.requests (bytes ∷ []) ((taken.sender, taken.message) ∷ []) (inr (taken.spelled, tt)))
-    (subst (λ (o : Option NodeFault). Call w.replica z.replica (Comes taken.sender taken.message) [] out o) is taken.call) gave sent
+failed_turn w z (Some bytes) out e works honest (r, inr (inr taken), is) went kept requests hears =
+    failed_call w z (Comes taken.sender taken.message) (Some bytes) out e works honest taken.passes
+    (one_brought _ _ bytes taken.sender taken.message taken.spelled)
+    (subst (λ (o : Option NodeFault). Call w.replica z.replica (Comes taken.sender taken.message) [] out o) is taken.call) went
     kept requests hears
 
 -- turns that end with a fault: those without, and the last one
@@ -279,39 +286,63 @@ pub served_ended : {R : Type 0} {G : Ghosts R} (x z : Stand G) (e : NodeFault) �
 served_ended x z e s works honest =
     let t = s.last in
     let l = turns_led s.turns x s.then s.made works (acted_before s.then.replica z.replica t.came t.out (Some e) t.acts honest) in
-    (s.then, l, failed_turn s.then z t.came t.out e l.works honest t.acts t.gave t.sent t.kept t.requests t.hears)
+    (s.then, l, failed_turn s.then z t.came t.out e l.works honest t.acts t.went t.kept t.requests t.hears)
 
 -- ---- a member that has failed
 
 -- It does nothing and sends nothing but again what is kept; what its wire gave is lost.
 pub record Lost {R : Type 0} {G : Ghosts R} (y z : Stand G) : Type 0 where
   pub replica : z.replica ≡ y.replica
-  pub lost : List Bytes
-  pub gave : GrowsBy y.given lost z.given
-  pub again : HandsAgain y.kept y.handed z.handed
+  pub lost : List WireEvent
+  pub went : z.traffic ≡ y.traffic ++ lost
+  pub again : AreAmong (handed_in lost) y.kept
   pub kept : AreAmong z.kept y.kept
-  pub requests : AreAmong z.requests (y.requests ++ lost)
+  pub requests : AreAmong z.requests (y.requests ++ given_in lost)
   pub hears : z.hears_asks ≡ y.hears_asks
+
+-- what is handed over where nothing but what is idle is done
+pub idle_handed : {R : Type 0} {G : Ghosts R} (x : Stand G) (es : List WireEvent) → ((e : WireEvent) → Among es e → IsIdle x e) →
+    AreAmong (handed_in es) x.kept
+idle_handed x [] i = among_none x.kept
+idle_handed x (Gave b ∷ es) i = idle_handed x es (λ e m. i e (inr m))
+idle_handed x (Handed to b ∷ es) i =
+    λ d m. elim m [
+      | inl is ↦ subst (λ (c : ℕ × Bytes). Among x.kept c) is (i (Handed to b) (inl refl))
+      | inr later ↦ idle_handed x es (λ e n. i e (inr n)) d later
+    ]
 
 unfoldable pub between_lost : {R : Type 0} {G : Ghosts R} (y z : Stand G) → Between y z → Lost y z
 between_lost y z b = record {
   replica = b.replica;
-  lost = b.passed;
-  gave = b.gave;
-  again = b.again;
+  lost = b.events;
+  went = b.went;
+  again = idle_handed y b.events b.idle;
   kept = among_is z.kept y.kept b.kept;
-  requests = among_front z.requests y.requests b.passed (among_is z.requests y.requests b.requests);
+  requests = among_front z.requests y.requests (given_in b.events) (among_is z.requests y.requests b.requests);
   hears = b.hears;
 }
+
+-- what was handed over of two lists
+handed_both : (kept keeps : List (ℕ × Bytes)) (es fs : List WireEvent) → AreAmong (handed_in es) kept → AreAmong keeps kept →
+    AreAmong (handed_in fs) keeps → AreAmong (handed_in (es ++ fs)) kept
+handed_both kept keeps es fs a k b =
+    subst (λ (ds : List (ℕ × Bytes)). AreAmong ds kept) (sym (handed_append es fs))
+    (among_both (handed_in es) (handed_in fs) kept a (among_then (handed_in fs) keeps kept b k))
+
+given_both : (olds mids news : List Bytes) (es fs : List WireEvent) → AreAmong mids (olds ++ given_in es) →
+    AreAmong news (mids ++ given_in fs) → AreAmong news (olds ++ given_in (es ++ fs))
+given_both olds mids news es fs a b =
+    subst (λ (bs : List Bytes). AreAmong news (olds ++ bs)) (sym (given_append es fs))
+    (among_chain olds mids news (given_in es) (given_in fs) a b)
 
 lost_then : {R : Type 0} {G : Ghosts R} (x y z : Stand G) → Lost x y → Lost y z → Lost x z
 lost_then x y z a b = record {
   replica = b.replica ∙ a.replica;
   lost = a.lost ++ b.lost;
-  gave = grows_then x.given y.given z.given a.lost b.lost a.gave b.gave;
-  again = hands_then x.kept x.handed y.handed z.handed a.again (hands_more y.kept x.kept y.handed z.handed a.kept b.again);
+  went = went_then x.traffic y.traffic z.traffic a.lost b.lost a.went b.went;
+  again = handed_both x.kept y.kept a.lost b.lost a.again a.kept b.again;
   kept = among_then z.kept y.kept x.kept b.kept a.kept;
-  requests = among_chain x.requests y.requests z.requests a.lost b.lost a.requests b.requests;
+  requests = given_both x.requests y.requests z.requests a.lost b.lost a.requests b.requests;
   hears = b.hears ∙ a.hears;
 }
 
@@ -332,10 +363,6 @@ broken_turns {R} {G} (suc n) x y broken (v, w, turns, turn, b) =
     let c = broken_turns n x v broken turns in
     absurd (no_turn v.replica w.replica turn.came turn.out (ap (λ (z : Replica R G). has_failed z) c.replica ∙ broken) turn.acts)
 
-silent : {R : Type 0} {G : Ghosts R} (x y : Stand G) (out : List Datagram) → out ≡ [] → GrowsBy x.handed (handed_over out) y.handed →
-    HandsAgain x.kept x.handed y.handed
-silent x y out none sent = ([], among_none x.kept, subst (λ (ds : List Datagram). GrowsBy x.handed (handed_over ds) y.handed) none sent)
-
 still_kept : {R : Type 0} {G : Ghosts R} (x y : Stand G) (out : List Datagram) → out ≡ [] → AreAmong y.kept (x.kept ++ handed_over out) →
     AreAmong y.kept x.kept
 still_kept x y out none kept =
@@ -343,30 +370,30 @@ still_kept x y out none kept =
     (among_is (x.kept ++ []) x.kept (append-nil x.kept))
 
 broken_turn : {R : Type 0} {G : Ghosts R} (x y : Stand G) (came : Option Bytes) (out : List Datagram) (e : NodeFault) →
-    has_failed x.replica ≡ true → Acts x.replica y.replica came out (Some e) → Gives x.given came y.given →
-    GrowsBy x.handed (handed_over out) y.handed → AreAmong y.kept (x.kept ++ handed_over out) →
+    has_failed x.replica ≡ true → Acts x.replica y.replica came out (Some e) →
+    y.traffic ≡ x.traffic ++ (gives came ++ hands (handed_over out)) → AreAmong y.kept (x.kept ++ handed_over out) →
     AreAmong y.requests (x.requests ++ came_in came) → y.hears_asks ≡ x.hears_asks → Lost x y
-broken_turn x y None out e broken call gave sent kept requests hears = record {
+broken_turn x y None out e broken call went kept requests hears = record {
   replica = call.still broken;
   lost = [];
-  gave = grows_none x.given y.given gave;
-  again = silent x y out (call.silent refl) sent;
+  went = went_silent x.traffic y.traffic None out (call.silent refl) went;
+  again = among_none x.kept;
   kept = still_kept x y out (call.silent refl) kept;
   requests = requests;
   hears = hears;
 }
-broken_turn x y (Some bytes) out e broken (r, inl lost, is) gave sent kept requests hears = record {
+broken_turn x y (Some bytes) out e broken (r, inl lost, is) went kept requests hears = record {
   replica = lost.still;
-  lost = bytes ∷ [];
-  gave = gave;
-  again = silent x y out lost.silent sent;
+  lost = Gave bytes ∷ [];
+  went = went_silent x.traffic y.traffic (Some bytes) out lost.silent went;
+  again = among_none x.kept;
   kept = still_kept x y out lost.silent kept;
   requests = requests;
   hears = hears;
 }
-broken_turn x y (Some bytes) out e broken (r, inr (inl passed), is) gave sent kept requests hears =
+broken_turn x y (Some bytes) out e broken (r, inr (inl passed), is) went kept requests hears =
     absurd (let h : true ≡ false = sym broken ∙ passed.works in cc)
-broken_turn x y (Some bytes) out e broken (r, inr (inr taken), is) gave sent kept requests hears =
+broken_turn x y (Some bytes) out e broken (r, inr (inr taken), is) went kept requests hears =
     absurd (let h : true ≡ false = sym broken ∙ taken.works in cc)
 
 -- turns that it makes, with whatever end
@@ -377,7 +404,7 @@ broken_served {R} {G} x z (Some e) broken s =
     let b = broken_turns s.turns x s.then broken s.made in
     let t = s.last in
     lost_then x s.then z (between_lost x s.then b)
-    (broken_turn s.then z t.came t.out e (ap (λ (y : Replica R G). has_failed y) b.replica ∙ broken) t.acts t.gave t.sent t.kept t.requests t.hears)
+    (broken_turn s.then z t.came t.out e (ap (λ (y : Replica R G). has_failed y) b.replica ∙ broken) t.acts t.went t.kept t.requests t.hears)
 
 pub broken_between : {R : Type 0} {G : Ghosts R} (x z : Stand G) → has_failed x.replica ≡ true → Served x z None → Between x z
 broken_between x z broken s = between_then x s.then z (broken_turns s.turns x s.then broken s.made) s.last
@@ -387,16 +414,17 @@ unfoldable pub ended_more : {R : Type 0} {G : Ghosts R} (w y z : Stand G) (e : N
 ended_more {R} {G} w y z e d l =
     let m = membership_of w.replica in record {
       last = d.last ++ l.lost;
-      gave = grows_then w.given y.given z.given d.last l.lost d.gave l.gave;
-      again = hands_then w.kept w.handed y.handed z.handed d.again (hands_more y.kept w.kept y.handed z.handed d.kept l.again);
+      went = went_then w.traffic y.traffic z.traffic d.last l.lost d.went l.went;
+      again = handed_both w.kept y.kept d.last l.lost d.again d.kept l.again;
       kept = among_then z.kept y.kept w.kept l.kept d.kept;
-      requests = among_chain w.requests y.requests z.requests d.last l.lost d.requests l.requests;
+      requests = given_both w.requests y.requests z.requests d.last l.lost d.requests l.requests;
       hears = l.hears ∙ d.hears;
       stays = λ none. ap (λ (r : Replica R G). state_in r) l.replica
           ∙ d.stays (sym (ap (λ (r : Replica R G). G.failed (records_of r)) l.replica) ∙ none);
       stop = λ left may.
           let s = d.stop left (subst (λ (r : Replica R G). G.may_leave (records_of r) left) l.replica may) in
-          (s.0, s.1, brought_more (group m) m.me d.last l.lost (message_in s.0) s.2, s.3);
+          subst (λ (bs : List Bytes). LeavesThere (group m) m.me bs (state_in w.replica) left) (sym (given_append d.last l.lost))
+          (s.0, s.1, brought_more (group m) m.me (given_in d.last) (given_in l.lost) (message_in s.0) s.2, s.3);
       counts = λ other. ap (λ (r : Replica R G). G.failed (records_of r)) l.replica ∙ d.counts other;
       membership = ap (λ (r : Replica R G). membership_of r) l.replica ∙ d.membership;
     }
@@ -408,19 +436,16 @@ module _ {R : Type 0} (G : Ghosts R)
   -- calls without a fault alone
   pub led_living : (x z : Stand G) → G.is_honest (records_of z.replica) → Led (membership_of x.replica) x z → Living x z None
   led_living x z honest l = record {
-    deeds = l.deeds;
+    moves = l.moves;
     then = state_in z.replica;
     lived = l.lived;
     up = refl;
-    came = l.came;
+    are = l.are;
     last = [];
-    brought = l.brought;
-    gave = grows_then x.given z.given z.given l.came [] l.gave (grows_none z.given z.given refl);
-    handed = l.handed;
-    again = l.again;
-    sent = l.sent;
+    went = l.went ∙ ap (λ (es : List WireEvent). x.traffic ++ es) (sym (append-nil (events_of l.moves)));
+    again = among_none (x.kept ++ sent_by (deeds_of l.moves));
     kept = l.kept;
-    requests = subst (λ (bs : List Bytes). AreAmong z.requests (x.requests ++ bs)) (sym (append-nil l.came)) l.requests;
+    requests = subst (λ (bs : List Bytes). AreAmong z.requests (x.requests ++ bs)) (sym (append-nil (came_by l.moves))) l.requests;
     hears = l.hears;
     stays = λ none. refl;
     stop = λ left may. (Ticks, tt, none_brought _ _ [], inl (settled (records_of z.replica) honest (z.replica.works l.works) left may));
@@ -432,23 +457,19 @@ module _ {R : Type 0} (G : Ghosts R)
   pub ended_living : (x w z : Stand G) (e : NodeFault) (a : Option NodeFault) → Led (membership_of x.replica) x w →
       (d : Ended w z e) → (a ≡ None → d.last ≡ []) → Living x z a
   ended_living x w z e a l d whole = record {
-    deeds = l.deeds;
+    moves = l.moves;
     then = state_in w.replica;
     lived = l.lived;
     up = refl;
-    came = l.came;
+    are = l.are;
     last = d.last;
-    brought = l.brought;
-    gave = grows_then x.given w.given z.given l.came d.last l.gave d.gave;
-    handed = l.handed ++ d.again.0;
-    again = subst (λ (ds : List (ℕ × Bytes)). SentAgain x.kept ds (l.handed ++ d.again.0)) (append-nil (sent_by l.deeds))
-        (sent_again_then x.kept (sent_by l.deeds) l.handed w.kept [] d.again.0 l.again (sent_none w.kept d.again.0 d.again.1) l.kept);
-    sent = grows_then x.handed w.handed z.handed l.handed d.again.0 l.sent d.again.2;
-    kept = among_then z.kept w.kept (x.kept ++ sent_by l.deeds) d.kept l.kept;
-    requests = among_chain x.requests w.requests z.requests l.came d.last l.requests d.requests;
+    went = went_then x.traffic w.traffic z.traffic (events_of l.moves) d.last l.went d.went;
+    again = among_then (handed_in d.last) w.kept (x.kept ++ sent_by (deeds_of l.moves)) d.again l.kept;
+    kept = among_then z.kept w.kept (x.kept ++ sent_by (deeds_of l.moves)) d.kept l.kept;
+    requests = among_chain x.requests w.requests z.requests (came_by l.moves) (given_in d.last) l.requests d.requests;
     hears = d.hears ∙ l.hears;
     stays = d.stays;
-    stop = λ left may. subst (λ (m : Membership). LeavesThere (group m) m.me d.last (state_in w.replica) left) l.membership
+    stop = λ left may. subst (λ (m : Membership). LeavesThere (group m) m.me (given_in d.last) (state_in w.replica) left) l.membership
         (d.stop left may);
     whole = whole;
     membership = d.membership ∙ l.membership;
@@ -463,7 +484,7 @@ module _ {R : Type 0} (G : Ghosts R)
       (led_living x z honest all, λ other. z.replica.works all.works)
   ended x w z (Some e) n honest works turns turn =
       let l = turns_led n x w turns works (acted_before w.replica z.replica turn.came turn.out (Some e) turn.acts honest) in
-      let d = failed_turn w z turn.came turn.out e l.works honest turn.acts turn.gave turn.sent turn.kept turn.requests turn.hears in
+      let d = failed_turn w z turn.came turn.out e l.works honest turn.acts turn.went turn.kept turn.requests turn.hears in
       (ended_living x w z e (Some e) l d (λ none. absurd (some_none e none)), d.counts)
 
   pub turns_lived : TurnsAreLived G

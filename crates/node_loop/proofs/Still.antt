@@ -1,14 +1,15 @@
 -- Where no turn is made nothing changes.
-use Rattle.std.proofs.Common.{None, false}
+use Rattle.std.proofs.Common.{List, None, false}
 use Rattle.px_model.specs.Step.{front}
 use Rattle.px_records.specs.declared.records.Records.{Ghosts}
+use Rattle.px_transport.specs.Wires.{WireEvent}
 use Rattle.pf_node.specs.Nodes.{learned_by, applied_of}
 use Rattle.pf_node.specs.declared.state.Node.{Node}
 use Rattle.node_loop.proofs.Chains.{served_none, same_all}
-use Rattle.node_loop.specs.Lives.{Told, new_buffers, stands, Tells, Serves}
+use Rattle.node_loop.specs.Lives.{new_buffers, stands, Tells, Serves}
 use Rattle.node_loop.specs.declared.ended.Ended.{Ended}
 
-pub still : {R : Type 0} {G : Ghosts R} (s : Node R G) (w : Told) (ended : Ended) →
+pub still : {R : Type 0} {G : Ghosts R} (s : Node R G) (w : List WireEvent) (ended : Ended) →
     Tells (front (learned_by s)) (applied_of s) None ended → Serves s s w w ended
 still s w ended told = record {
   answered = None;

@@ -3,35 +3,19 @@ use Rattle.std.proofs.Common.{◌≡◌, ◌∙◌, ℕ, Bool, List, [], ◌∷�
 use Rattle.std.proofs.lemmas.List.{append-nil}
 use Rattle.px_model.proofs.Basics.{among_left, among_right, among_cases}
 use Rattle.px_model.specs.Law.{Among}
+use Rattle.px_model.specs.Node as node
 use Rattle.px_model.specs.Spelling.{Bytes}
 use Rattle.node_loop.proofs.Among.{among_is, among_front, among_sides, among_all, among_then, among_both, among_none}
 use Rattle.node_loop.specs.Again.{AreAmong}
-use Rattle.px_transport.specs.Wires.{GrowsBy}
+use Rattle.px_transport.specs.Wires.{WireEvent, Gave, Handed, gives, hands}
 use Rattle.px_wire.specs.Message.{Group, DatagramBytes}
 use Rattle.px_wire.specs.Members.{as_sent}
 use Rattle.px_replica.specs.Lives.{Deed}
 use Rattle.px_replica.specs.Lives.Deed.{Calls, Stops, Opens}
-use Rattle.node_loop.specs.Resending.{SentAgain, IsKnown, IsPassedOver}
+use Rattle.node_loop.specs.Resending.{IsKnown, IsPassedOver, came_in}
 use Rattle.node_loop.specs.Turns.{handed_over}
-use Rattle.node_loop.specs.Living.{Heard, message_in, messages_of, Brings, AreBrought, sent_by}
-
--- ---- lists that a wire tells
-
--- it tells the same
-pub grows_none : {X : Type 0} (old new : Option (List X)) → new ≡ old → GrowsBy old [] new
-grows_none None new e = e
-grows_none (Some all) new e = inr (e ∙ ap Some (sym (append-nil all)))
-
--- it has grown by some, and then by others
-pub grows_then : {X : Type 0} (old mid new : Option (List X)) (xs ys : List X) → GrowsBy old xs mid → GrowsBy mid ys new →
-    GrowsBy old (xs ++ ys) new
-grows_then {X} None mid new xs ys a b = subst (λ (o : Option (List X)). GrowsBy o ys new) a b
-grows_then {X} (Some all) mid new xs ys (inl gone) b = inl (subst (λ (o : Option (List X)). GrowsBy o ys new) gone b)
-grows_then {X} (Some all) mid new xs ys (inr is) b =
-    elim (subst (λ (o : Option (List X)). GrowsBy o ys new) is b) [
-      | inl gone ↦ inl gone
-      | inr more ↦ inr (more ∙ ap Some (append_assoc all xs ys))
-    ]
+use Rattle.node_loop.specs.Living.{Heard, message_in, messages_of, AreBrought, sent_by}
+use Rattle.node_loop.specs.Living.{Move, Does, Passes, Repeats, deeds_of, events_of, came_by, IsBrought, AreMoves}
 
 -- ---- lists of what is kept
 
@@ -69,65 +53,28 @@ sent_then (Calls x t out ∷ xs) ys =
 sent_then (Stops x left ∷ xs) ys = sent_then xs ys
 sent_then (Opens ∷ xs) ys = sent_then xs ys
 
--- ---- what is sent again
+-- ---- moves, one behind the other
 
--- each once
-pub sent_once : (kept sent : List (ℕ × Bytes)) → SentAgain kept sent sent
-sent_once kept [] = tt
-sent_once kept (x ∷ xs) = inr (refl, sent_once (kept ++ x ∷ []) xs)
+pub deeds_then : (ms ns : List Move) → deeds_of (ms ++ ns) ≡ deeds_of ms ++ deeds_of ns
+deeds_then [] ns = refl
+deeds_then (Does came i t out ∷ ms) ns = ap (λ (ds : List Deed). Calls i t out ∷ ds) (deeds_then ms ns)
+deeds_then (Passes b ∷ ms) ns = deeds_then ms ns
+deeds_then (Repeats to b ∷ ms) ns = deeds_then ms ns
 
--- what is kept alone
-pub sent_none : (kept again : List (ℕ × Bytes)) → AreAmong again kept → SentAgain kept [] again
-sent_none kept [] a = tt
-sent_none kept (h ∷ hs) a = (a h (inl refl), sent_none kept hs (λ x b. a x (inr b)))
+pub events_then : (ms ns : List Move) → events_of (ms ++ ns) ≡ events_of ms ++ events_of ns
+events_then [] ns = refl
+events_then (Does came i t out ∷ ms) ns =
+    ap (λ (es : List WireEvent). (gives came ++ hands (handed_over out)) ++ es) (events_then ms ns)
+    ∙ sym (append_assoc (gives came ++ hands (handed_over out)) (events_of ms) (events_of ns))
+events_then (Passes b ∷ ms) ns = ap (λ (es : List WireEvent). Gave b ∷ es) (events_then ms ns)
+events_then (Repeats to b ∷ ms) ns = ap (λ (es : List WireEvent). Handed to b ∷ es) (events_then ms ns)
 
--- more is kept
-sent_after : (few many sent handed : List (ℕ × Bytes)) → AreAmong few many → SentAgain few sent handed → SentAgain many sent handed
-sent_after few many [] [] a s = tt
-sent_after few many (x ∷ xs) [] a s = absurd s
-sent_after few many [] (h ∷ hs) a s = (a h s.0, sent_after few many [] hs a s.1)
-sent_after few many (x ∷ xs) (h ∷ hs) a (inl s) = inl (a h s.0, sent_after few many (x ∷ xs) hs a s.1)
-sent_after few many (x ∷ xs) (h ∷ hs) a (inr s) =
-    inr (s.0, sent_after (few ++ x ∷ []) (many ++ x ∷ []) xs hs (among_sides few (x ∷ []) many (x ∷ []) a (among_all (x ∷ []))) s.1)
-
--- what is kept first
-sent_more : (kept sent handed : List (ℕ × Bytes)) (h : ℕ × Bytes) → Among kept h → SentAgain kept sent handed → SentAgain kept sent (h ∷ handed)
-sent_more kept [] handed h a s = (a, s)
-sent_more kept (x ∷ xs) handed h a s = inl (a, s)
-
-pub sent_again_then : (kept sent handed later sends hands : List (ℕ × Bytes)) → SentAgain kept sent handed → SentAgain later sends hands →
-    AreAmong later (kept ++ sent) → SentAgain kept (sent ++ sends) (handed ++ hands)
-sent_again_then kept [] [] later sends hands s t a =
-    sent_after later kept sends hands (among_then later (kept ++ []) kept a (among_is (kept ++ []) kept (append-nil kept))) t
-sent_again_then kept (x ∷ xs) [] later sends hands s t a = absurd s
-sent_again_then kept [] (h ∷ hs) later sends hands s t a =
-    sent_more kept sends (hs ++ hands) h s.0 (sent_again_then kept [] hs later sends hands s.1 t a)
-sent_again_then kept (x ∷ xs) (h ∷ hs) later sends hands (inl s) t a =
-    inl (s.0, sent_again_then kept (x ∷ xs) hs later sends hands s.1 t a)
-sent_again_then kept (x ∷ xs) (h ∷ hs) later sends hands (inr s) t a =
-    inr (s.0, sent_again_then (kept ++ x ∷ []) xs hs later sends hands s.1 t (among_one kept x xs later a))
-
--- nothing else is handed over
-pub sent_all : (kept sent handed : List (ℕ × Bytes)) → SentAgain kept sent handed → AreAmong handed (kept ++ sent)
-sent_all kept sent [] s = among_none (kept ++ sent)
-sent_all kept [] (h ∷ hs) s =
-    λ x m. elim m [
-      | inl e ↦ among_left kept [] x (subst (λ (y : ℕ × Bytes). Among kept y) e s.0)
-      | inr later ↦ sent_all kept [] hs s.1 x later
-    ]
-sent_all kept (y ∷ ys) (h ∷ hs) (inl s) =
-    λ x m. elim m [
-      | inl e ↦ among_left kept (y ∷ ys) x (subst (λ (z : ℕ × Bytes). Among kept z) e s.0)
-      | inr later ↦ sent_all kept (y ∷ ys) hs s.1 x later
-    ]
-sent_all kept (y ∷ ys) (h ∷ hs) (inr s) =
-    λ x m. elim m [
-      | inl e ↦ among_right kept (y ∷ ys) x (inl (sym s.0 ∙ e))
-      | inr later ↦ subst (λ (us : List (ℕ × Bytes)). Among us x) (append_assoc kept (y ∷ []) ys)
-          (sent_all (kept ++ y ∷ []) ys hs s.1 x later)
-    ]
-
--- ---- what datagrams bring
+pub came_then : (ms ns : List Move) → came_by (ms ++ ns) ≡ came_by ms ++ came_by ns
+came_then [] ns = refl
+came_then (Does came i t out ∷ ms) ns =
+    ap (λ (bs : List Bytes). came_in came ++ bs) (came_then ms ns) ∙ sym (append_assoc (came_in came) (came_by ms) (came_by ns))
+came_then (Passes b ∷ ms) ns = ap (λ (bs : List Bytes). b ∷ bs) (came_then ms ns)
+came_then (Repeats to b ∷ ms) ns = came_then ms ns
 
 over_after : (g : Group) (me : ℕ) (hears : Bool) (few many : List Bytes) (b : Bytes) → AreAmong few many →
     IsPassedOver g me hears few b → IsPassedOver g me hears many b
@@ -135,70 +82,91 @@ over_after g me hears few many b a (inl nobody) = inl nobody
 over_after g me hears few many b a (inr (inl known)) = inr (inl (a b known))
 over_after g me hears few many b a (inr (inr outside)) = inr (inr outside)
 
--- more came before
-pub brings_after : (g : Group) (me : ℕ) (hears : Bool) (few many gave : List Bytes) (xs : List Heard) → AreAmong few many →
-    Brings g me hears few gave xs → Brings g me hears many gave xs
-brings_after g me hears few many [] [] a s = tt
-brings_after g me hears few many [] (x ∷ xs) a s = absurd s
-brings_after g me hears few many (b ∷ bs) [] a s = (
-  over_after g me hears few many b a s.0,
-  brings_after g me hears (few ++ b ∷ []) (many ++ b ∷ []) bs [] (among_sides few (b ∷ []) many (b ∷ []) a (among_all (b ∷ []))) s.1,
+-- more came before, and more is kept
+pub moves_after : (g : Group) (me : ℕ) (hears : Bool) (ms : List Move) (few many : List Bytes) (less more : List (ℕ × Bytes)) →
+    AreAmong few many → AreAmong less more → AreMoves g me hears ms few less → AreMoves g me hears ms many more
+moves_after g me hears [] few many less more a k m = tt
+moves_after g me hears (Does came i t out ∷ ms) few many less more a k m = (
+  m.0,
+  moves_after g me hears ms (few ++ came_in came) (many ++ came_in came) (less ++ handed_over out) (more ++ handed_over out)
+      (among_sides few (came_in came) many (came_in came) a (among_all (came_in came)))
+      (among_sides less (handed_over out) more (handed_over out) k (among_all (handed_over out))) m.1,
 )
-brings_after g me hears few many (b ∷ bs) (x ∷ xs) a (inl s) =
-    inl (
-      over_after g me hears few many b a s.0,
-      brings_after g me hears (few ++ b ∷ []) (many ++ b ∷ []) bs (x ∷ xs) (among_sides few (b ∷ []) many (b ∷ []) a (among_all (b ∷ []))) s.1,
-    )
-brings_after g me hears few many (b ∷ bs) (x ∷ xs) a (inr s) =
-    inr (
-      s.0,
-      brings_after g me hears (few ++ b ∷ []) (many ++ b ∷ []) bs xs (among_sides few (b ∷ []) many (b ∷ []) a (among_all (b ∷ []))) s.1,
-    )
-
-brings_more : (g : Group) (me : ℕ) (hears : Bool) (before bs : List Bytes) (ys : List Heard) (c : Bytes) →
-    IsPassedOver g me hears before c → Brings g me hears (before ++ c ∷ []) bs ys → Brings g me hears before (c ∷ bs) ys
-brings_more g me hears before bs [] c over rest = (over, rest)
-brings_more g me hears before bs (y ∷ ys) c over rest = inl (over, rest)
-
-pub brings_then : (g : Group) (me : ℕ) (hears : Bool) (before cs later bs : List Bytes) (xs ys : List Heard) → Brings g me hears before cs xs →
-    Brings g me hears later bs ys → AreAmong later (before ++ cs) → Brings g me hears before (cs ++ bs) (xs ++ ys)
-brings_then g me hears before [] later bs [] ys a b among =
-    brings_after g me hears later before bs ys
-    (among_then later (before ++ []) before among (among_is (before ++ []) before (append-nil before))) b
-brings_then g me hears before [] later bs (x ∷ xs) ys a b among = absurd a
-brings_then g me hears before (c ∷ cs) later bs [] ys a b among =
-    brings_more g me hears before (cs ++ bs) ys c a.0
-    (brings_then g me hears (before ++ c ∷ []) cs later bs [] ys a.1 b (among_one before c cs later among))
-brings_then g me hears before (c ∷ cs) later bs (x ∷ xs) ys (inl a) b among =
-    inl (a.0, brings_then g me hears (before ++ c ∷ []) cs later bs (x ∷ xs) ys a.1 b (among_one before c cs later among))
-brings_then g me hears before (c ∷ cs) later bs (x ∷ xs) ys (inr a) b among =
-    inr (a.0, brings_then g me hears (before ++ c ∷ []) cs later bs xs ys a.1 b (among_one before c cs later among))
-
--- datagrams that are known bring nothing
-pub brings_known : (g : Group) (me : ℕ) (hears : Bool) (before gave : List Bytes) →
-    ((b : Bytes) → Among gave b → IsKnown g me hears before b) → Brings g me hears before gave []
-brings_known g me hears before [] known = tt
-brings_known g me hears before (b ∷ bs) known = (
-  inr (known b (inl refl)),
-  brings_after g me hears before (before ++ b ∷ []) bs [] (among_front before before (b ∷ []) (among_all before))
-      (brings_known g me hears before bs (λ c m. known c (inr m))),
+moves_after g me hears (Passes b ∷ ms) few many less more a k m = (
+  over_after g me hears few many b a m.0,
+  moves_after g me hears ms (few ++ b ∷ []) (many ++ b ∷ []) less more
+      (among_sides few (b ∷ []) many (b ∷ []) a (among_all (b ∷ []))) k m.1,
 )
+moves_after g me hears (Repeats to b ∷ ms) few many less more a k m =
+    (k (to, b) m.0, moves_after g me hears ms few many less more a k m.1)
 
--- what datagrams bring in order each of them brings
-pub are_brought : (g : Group) (me : ℕ) (hears : Bool) (before gave : List Bytes) (xs : List Heard) → Brings g me hears before gave xs →
-    AreBrought g me gave xs
-are_brought g me hears before [] [] a x among = absurd among
-are_brought g me hears before [] (y ∷ xs) a x among = absurd a
-are_brought g me hears before (b ∷ bs) [] a x among = absurd among
-are_brought g me hears before (b ∷ bs) (y ∷ xs) (inl a) x among =
-    let r = are_brought g me hears (before ++ b ∷ []) bs (y ∷ xs) a.1 x among in (r.0, inr r.1, r.2)
-are_brought g me hears before (b ∷ bs) (y ∷ xs) (inr a) x (inl is) =
-    (b, inl refl, subst (λ (z : Heard). DatagramBytes g z.0 me (as_sent z.1) b) is a.0)
-are_brought g me hears before (b ∷ bs) (y ∷ xs) (inr a) x (inr later) =
-    let r = are_brought g me hears (before ++ b ∷ []) bs xs a.1 x later in (r.0, inr r.1, r.2)
+-- one of the first list
+among_behind : {X : Type 0} (xs ys us zs : List X) → AreAmong zs (xs ++ (ys ++ us)) → AreAmong zs ((xs ++ ys) ++ us)
+among_behind {X} xs ys us zs a = subst (λ (vs : List X). AreAmong zs vs) (sym (append_assoc xs ys us)) a
+
+pub moves_then : (g : Group) (me : ℕ) (hears : Bool) (ms ns : List Move) (before later : List Bytes)
+    (kept keeps : List (ℕ × Bytes)) → AreMoves g me hears ms before kept → AreMoves g me hears ns later keeps →
+    AreAmong later (before ++ came_by ms) → AreAmong keeps (kept ++ sent_by (deeds_of ms)) →
+    AreMoves g me hears (ms ++ ns) before kept
+moves_then g me hears [] ns before later kept keeps a b r k =
+    moves_after g me hears ns later before keeps kept
+    (among_then later (before ++ []) before r (among_is (before ++ []) before (append-nil before)))
+    (among_then keeps (kept ++ []) kept k (among_is (kept ++ []) kept (append-nil kept))) b
+moves_then g me hears (Does came i t out ∷ ms) ns before later kept keeps a b r k = (
+  a.0,
+  moves_then g me hears ms ns (before ++ came_in came) later (kept ++ handed_over out) keeps a.1 b
+      (among_behind before (came_in came) (came_by ms) later r)
+      (among_behind kept (handed_over out) (sent_by (deeds_of ms)) keeps k),
+)
+moves_then g me hears (Passes c ∷ ms) ns before later kept keeps a b r k =
+    (a.0, moves_then g me hears ms ns (before ++ c ∷ []) later kept keeps a.1 b (among_one before c (came_by ms) later r) k)
+moves_then g me hears (Repeats to c ∷ ms) ns before later kept keeps a b r k =
+    (a.0, moves_then g me hears ms ns before later kept keeps a.1 b r k)
+
+-- ---- what is idle
+
+-- as moves
+abbrev pub idly : List WireEvent → List Move
+idly [] = []
+idly (Gave b ∷ es) = Passes b ∷ idly es
+idly (Handed to b ∷ es) = Repeats to b ∷ idly es
+
+pub idle_deeds : (es : List WireEvent) → deeds_of (idly es) ≡ []
+idle_deeds [] = refl
+idle_deeds (Gave b ∷ es) = idle_deeds es
+idle_deeds (Handed to b ∷ es) = idle_deeds es
+
+pub idle_events : (es : List WireEvent) → events_of (idly es) ≡ es
+idle_events [] = refl
+idle_events (Gave b ∷ es) = ap (λ (fs : List WireEvent). Gave b ∷ fs) (idle_events es)
+idle_events (Handed to b ∷ es) = ap (λ (fs : List WireEvent). Handed to b ∷ fs) (idle_events es)
+
+-- an event of a member with these requests and this kept
+abbrev pub Idles : Group → (me : ℕ) → (hears : Bool) → (before : List Bytes) → (kept : List (ℕ × Bytes)) → WireEvent → Type 0
+Idles g me hears before kept (Gave b) = IsKnown g me hears before b
+Idles g me hears before kept (Handed to b) = Among kept (to, b)
+
+pub idle_moves : (g : Group) (me : ℕ) (hears : Bool) (es : List WireEvent) (before : List Bytes) (kept : List (ℕ × Bytes)) →
+    ((e : WireEvent) → Among es e → Idles g me hears before kept e) → AreMoves g me hears (idly es) before kept
+idle_moves g me hears [] before kept i = tt
+idle_moves g me hears (Gave b ∷ es) before kept i = (
+  inr (i (Gave b) (inl refl)),
+  moves_after g me hears (idly es) before (before ++ b ∷ []) kept kept (among_front before before (b ∷ []) (among_all before))
+      (among_all kept) (idle_moves g me hears es before kept (λ e m. i e (inr m))),
+)
+idle_moves g me hears (Handed to b ∷ es) before kept i =
+    (i (Handed to b) (inl refl), idle_moves g me hears es before kept (λ e m. i e (inr m)))
+
+-- ---- what datagrams bring
 
 pub none_brought : (g : Group) (me : ℕ) (gave : List Bytes) → AreBrought g me gave []
 none_brought g me gave x among = absurd among
+
+pub one_brought : (g : Group) (me : ℕ) (bytes : Bytes) (sender : ℕ) (message : node.Message Bytes) →
+    DatagramBytes g sender me (as_sent message) bytes → AreBrought g me (bytes ∷ []) ((sender, message) ∷ [])
+one_brought g me bytes sender message spelled x (inl is) =
+    (bytes, inl refl, subst (λ (z : Heard). DatagramBytes g z.0 me (as_sent z.1) bytes) is spelled)
+one_brought g me bytes sender message spelled x (inr none) = absurd none
 
 -- more was given
 pub brought_more : (g : Group) (me : ℕ) (cs bs : List Bytes) (xs : List Heard) → AreBrought g me cs xs → AreBrought g me (cs ++ bs) xs

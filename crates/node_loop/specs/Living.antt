@@ -9,16 +9,17 @@ use Rattle.px_model.specs.World.{NodeState}
 use Rattle.px_records.specs.declared.records.Records.{Ghosts}
 use Rattle.px_wire.specs.Message.{Group, group, DatagramBytes}
 use Rattle.px_wire.specs.Members.{as_sent}
-use Rattle.px_transport.specs.Wires.{GrowsBy}
+use Rattle.px_transport.specs.Wires.{WireEvent, Gave, Handed, given_in, handed_in, gives, hands}
 use Rattle.px_replica.specs.Lives.{Deed, IsInput, Lived}
 use Rattle.px_replica.specs.Lives.Deed.{Calls, Stops, Opens}
 use Rattle.px_replica.specs.Made.{LeavesOne}
 use Rattle.px_replica.specs.Replicas.{records_of, membership_of, has_failed, state_in}
+use Rattle.px_replica.specs.declared.datagram.Datagram.{Datagram}
 use Rattle.px_replica.specs.declared.fault.NodeFault.{NodeFault}
 use Rattle.px_replica.specs.declared.fault.NodeFault.TheVariants as fault
 use Rattle.node_loop.specs.Again.{AreAmong}
 use Rattle.node_loop.specs.Hosting.{Hosted}
-use Rattle.node_loop.specs.Resending.{SentAgain, IsPassedOver}
+use Rattle.node_loop.specs.Resending.{IsPassedOver, came_in}
 use Rattle.node_loop.specs.Turns.{Stand, Served, handed_over}
 
 -- ---- what comes
@@ -40,17 +41,6 @@ messages_of (Calls x t out ∷ ds) = message_in x ++ messages_of ds
 messages_of (Stops x left ∷ ds) = message_in x ++ messages_of ds
 messages_of (Opens ∷ ds) = messages_of ds
 
--- The datagrams that a wire gave are these messages, each spelled by the datagram in its place; the other datagrams are
--- passed over. These came before them.
-abbrev pub Brings : Group → (me : ℕ) → (hears_asks : Bool) → (before gave : List Bytes) → List Heard → Type 0
-Brings g me hears before [] [] = Unit {0}
-Brings g me hears before [] (x ∷ xs) = ⊥
-Brings g me hears before (b ∷ bs) [] =
-    IsPassedOver g me hears before b × Brings g me hears (before ++ b ∷ []) bs []
-Brings g me hears before (b ∷ bs) (x ∷ xs) =
-    (IsPassedOver g me hears before b × Brings g me hears (before ++ b ∷ []) bs (x ∷ xs)) ⊎
-    (DatagramBytes g x.0 me (as_sent x.1) b × Brings g me hears (before ++ b ∷ []) bs xs)
-
 -- each of the messages is spelled by one of the datagrams
 abbrev pub AreBrought : Group → (me : ℕ) → (gave : List Bytes) → List Heard → Type 0
 AreBrought g me gave xs =
@@ -65,6 +55,59 @@ sent_by (Calls x t out ∷ ds) = handed_over out ++ sent_by ds
 sent_by (Stops x left ∷ ds) = sent_by ds
 sent_by (Opens ∷ ds) = sent_by ds
 
+-- ---- what a member does with its wire
+
+-- what it does, one thing after another
+pub data Move : Type 0 where
+  -- a call answers, for a datagram that the wire gave or for none; then the wire is handed what is to be sent
+  Does : (came : Option Bytes) (input : Input Bytes) (then : NodeState Bytes) (out : List Datagram) → Move
+  -- a datagram is given and passed over
+  Passes : (bytes : Bytes) → Move
+  -- a datagram is handed over again
+  Repeats : (to : ℕ) (bytes : Bytes) → Move
+
+-- its calls
+abbrev pub deeds_of : List Move → List Deed
+deeds_of [] = []
+deeds_of (Does came input then out ∷ ms) = Calls input then out ∷ deeds_of ms
+deeds_of (Passes bytes ∷ ms) = deeds_of ms
+deeds_of (Repeats to bytes ∷ ms) = deeds_of ms
+
+-- what goes over the wire
+abbrev pub events_of : List Move → List WireEvent
+events_of [] = []
+events_of (Does came input then out ∷ ms) = (gives came ++ hands (handed_over out)) ++ events_of ms
+events_of (Passes bytes ∷ ms) = Gave bytes ∷ events_of ms
+events_of (Repeats to bytes ∷ ms) = Handed to bytes ∷ events_of ms
+
+-- what the wire gives
+abbrev pub came_by : List Move → List Bytes
+came_by [] = []
+came_by (Does came input then out ∷ ms) = came_in came ++ came_by ms
+came_by (Passes bytes ∷ ms) = bytes ∷ came_by ms
+came_by (Repeats to bytes ∷ ms) = came_by ms
+
+-- the input is the message that the datagram spells; or there is no datagram, and it is none
+abbrev pub IsBrought : Group → (me : ℕ) → (came : Option Bytes) → Input Bytes → Type 0
+IsBrought g me None (Asks command) = Unit {0}
+IsBrought g me None Ticks = Unit {0}
+IsBrought g me None (Comes sender message) = ⊥
+IsBrought g me (Some bytes) (Asks command) = ⊥
+IsBrought g me (Some bytes) Ticks = ⊥
+IsBrought g me (Some bytes) (Comes sender message) = DatagramBytes g sender me (as_sent message) bytes
+
+-- Each message that comes is spelled by the datagram in its place; what is passed over is no message to the member, or
+-- known; and what is handed over again was kept or handed over before. These came before, and these are kept.
+abbrev pub AreMoves : Group → (me : ℕ) → (hears_asks : Bool) → List Move → (before : List Bytes) →
+    (kept : List (ℕ × Bytes)) → Type 0
+AreMoves g me hears [] before kept = Unit {0}
+AreMoves g me hears (Does came input then out ∷ ms) before kept =
+    IsBrought g me came input × AreMoves g me hears ms (before ++ came_in came) (kept ++ handed_over out)
+AreMoves g me hears (Passes bytes ∷ ms) before kept =
+    IsPassedOver g me hears before bytes × AreMoves g me hears ms (before ++ bytes ∷ []) kept
+AreMoves g me hears (Repeats to bytes ∷ ms) before kept =
+    Among kept (to, bytes) × AreMoves g me hears ms before kept
+
 -- ---- a life
 
 -- What a stop leaves of a member: its record, or with the change of one step more. If that step is for a message, one
@@ -76,31 +119,28 @@ LeavesThere g me gave s left =
 -- Steps of the model, one after the other, befell the member, up to the call that failed, if one did. There it stands,
 -- unless a call on its record failed; and whenever it stops it leaves its record as it was there, or with the change of
 -- the next step.
--- Its wire gave the datagrams that are the messages which came to it, each in its place, and others that are nobody's
--- or known; and then, where a call failed, what came for that call and after it. And it was handed what the steps
--- handed out, each datagram once, in order, and between these nothing but what was kept or handed out before.
+-- What went over its wire are its moves: each message that came to it was given in its place, and what each step sends
+-- was handed over after it, each datagram once, in order. And then, where a call failed, what came for that call and
+-- after it, and what was handed over again.
 pub record Living {R : Type 0} {G : Ghosts R} (x z : Stand G) (answered : Option NodeFault) : Type 0 where
-  pub deeds : List Deed
+  pub moves : List Move
   pub then : NodeState Bytes
-  pub lived : Lived (group (membership_of x.replica)) (membership_of x.replica).me (state_in x.replica) deeds then
+  pub lived : Lived (group (membership_of x.replica)) (membership_of x.replica).me (state_in x.replica)
+      (deeds_of moves) then
   pub up : then.is_up ≡ true
   -- the wire
-  pub came : List Bytes
-  pub last : List Bytes
-  pub brought : Brings (group (membership_of x.replica)) (membership_of x.replica).me x.hears_asks x.requests came
-      (messages_of deeds)
-  pub gave : GrowsBy x.given (came ++ last) z.given
-  pub handed : List (ℕ × Bytes)
-  pub again : SentAgain x.kept (sent_by deeds) handed
-  pub sent : GrowsBy x.handed handed z.handed
+  pub are : AreMoves (group (membership_of x.replica)) (membership_of x.replica).me x.hears_asks moves x.requests x.kept
+  pub last : List WireEvent
+  pub went : z.traffic ≡ x.traffic ++ (events_of moves ++ last)
+  pub again : AreAmong (handed_in last) (x.kept ++ sent_by (deeds_of moves))
   -- the buffers
-  pub kept : AreAmong z.kept (x.kept ++ sent_by deeds)
-  pub requests : AreAmong z.requests (x.requests ++ (came ++ last))
+  pub kept : AreAmong z.kept (x.kept ++ sent_by (deeds_of moves))
+  pub requests : AreAmong z.requests (x.requests ++ (came_by moves ++ given_in last))
   pub hears : z.hears_asks ≡ x.hears_asks
   -- the end
   pub stays : G.failed (records_of z.replica) ≡ 0 → state_in z.replica ≡ then
   pub stop : (left : Record Bytes) → G.may_leave (records_of z.replica) left →
-      LeavesThere (group (membership_of x.replica)) (membership_of x.replica).me last then left
+      LeavesThere (group (membership_of x.replica)) (membership_of x.replica).me (given_in last) then left
   -- lives chain: where no call failed, all that the wire gave has come
   pub whole : answered ≡ None → last ≡ []
   pub membership : membership_of z.replica ≡ membership_of x.replica

@@ -1,18 +1,9 @@
--- What a node's wire is handed again, and what the node isn't shown.
-use Rattle.std.specs.Prelude.{◌≡◌, ◌⊎◌, ℕ, Bool, false, List, [], ◌∷◌, ◌++◌, Option, Some, None}
+-- Which datagrams the node isn't shown.
+use Rattle.std.specs.Prelude.{◌≡◌, ◌⊎◌, ℕ, Bool, false, List, [], ◌∷◌, Option, Some, None}
 use Rattle.px_model.specs.Law.{Among}
 use Rattle.px_model.specs.Spelling.{Bytes}
 use Rattle.px_wire.specs.Message.{Group, Message, DatagramBytes}
 use Rattle.px_replica.specs.Replicas.{IsUnspelled}
-
--- What a wire is handed while this is sent: each of it once, in order; and between these, however often, what was kept
--- from before, and what was sent by then.
-abbrev pub SentAgain : (kept sent handed : List (ℕ × Bytes)) → Type 0
-SentAgain kept [] [] = Unit {0}
-SentAgain kept (x ∷ xs) [] = ⊥
-SentAgain kept [] (h ∷ hs) = Among kept h × SentAgain kept [] hs
-SentAgain kept (x ∷ xs) (h ∷ hs) =
-    (Among kept h × SentAgain kept (x ∷ xs) hs) ⊎ ((h ≡ x) × SentAgain (kept ++ x ∷ []) xs hs)
 
 -- what a datagram spells for this member, if anything, is of one who is no member
 abbrev pub IsOutside : Group → (me : ℕ) → Bytes → Type 0

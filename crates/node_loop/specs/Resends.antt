@@ -1,5 +1,6 @@
 -- What a resender keeps.
 use Rattle.std.specs.Prelude.{◌≡◌, ℕ, ◌≤◌, List, ◌++◌, Option, Some, length, map}
+use Rattle.px_transport.specs.Wires.{WireEvent}
 use Rattle.node_loop.specs.Again.{Addressed, HandsAt}
 use Rattle.node_loop.specs.Total.{total}
 use Rattle.node_loop.specs.Keeping.{IsVoteAt, asker_in, sent_in, requests_in, votes_in}
@@ -35,6 +36,6 @@ IsBounded r =
 
 -- a wire was handed the vote that is kept for the member that sent the request which was taken last, where with a tag
 -- it fits into a packet; else it or nothing
-abbrev pub HandsVote : Resender → (handed handed' : Option (List Addressed)) → Type 0
+abbrev pub HandsVote : Resender → (old new : List WireEvent → Type 0) → Type 0
 HandsVote r old new =
     (m i : ℕ) × (asker_in r.latest ≡ Some m) × IsVoteAt r.latest m i × HandsAt i (sent_in r.latest) old new

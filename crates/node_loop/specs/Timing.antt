@@ -1,9 +1,9 @@
 -- What a node's timer is told in a round: the time, how the node is, and what was seen of others, all as the datagrams
 -- that were taken left them. So one that is nobody's changes nothing of it.
-use Rattle.std.specs.Prelude.{◌≡◌, ℕ, ◌==◌, ◌&&◌, Bool, true, false, not, List, [], ◌∷◌, ◌++◌, Option, is_some, length}
+use Rattle.std.specs.Prelude.{◌≡◌, ℕ, ◌==◌, ◌&&◌, Bool, true, false, not, List, [], ◌∷◌, ◌++◌, is_some, length}
 use Rattle.px_model.specs.Step.{front}
 use Rattle.px_records.specs.declared.records.Records.{Ghosts}
-use Rattle.px_transport.specs.Wires.{GrowsBy}
+use Rattle.px_transport.specs.Wires.{Adds}
 use Rattle.px_replica.specs.Replicas.{learned_by, state_in}
 use Rattle.px_replica.specs.declared.state.Replica.{Replica}
 use Rattle.node_loop.specs.Progress.{SawAll, looked}
@@ -45,10 +45,10 @@ looks now v t = Told.Looks now v ∷ sends_if t.is_accepting now
 -- n datagrams were taken, one after the other; then the timer was told what they left to see, and nothing else; and
 -- what was seen was looked at.
 pub record SawThenLooked {R : Type 0} {G : Ghosts R} (n now : ℕ) (x : Stand G) (s u : Sight)
-    (before after : Option (List Told)) : Type 0 where
+    (before after : List Told → Type 0) : Type 0 where
   pub then : Stand G
   pub seen : Sight
   pub saw : SawAll n x then s seen
   pub looked : u ≡ looked seen
-  pub told : GrowsBy before (looks now (view_of then.replica (front (learned_by x.replica)) seen) seen ++
-      (Told.Repeats now ∷ [])) after
+  pub told : Adds before after (looks now (view_of then.replica (front (learned_by x.replica)) seen) seen ++
+      (Told.Repeats now ∷ []))

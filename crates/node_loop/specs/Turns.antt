@@ -1,5 +1,5 @@
 -- One turn of a node, and several in a row.
-use Rattle.std.specs.Prelude.{◌≡◌, ◌⊎◌, ℕ, zero, suc, Bool, true, false, List, [], ◌++◌, map, Option, Some, None}
+use Rattle.std.specs.Prelude.{◌≡◌, ◌⊎◌, ℕ, zero, suc, Bool, true, false, List, [], ◌∷◌, ◌++◌, map, Option, Some, None}
 use Rattle.std.specs.Prelude.{Result}
 use Rattle.px_model.specs.Law.{Among}
 use Rattle.px_model.specs.Node.Input.{Ticks}
@@ -11,11 +11,10 @@ use Rattle.px_replica.specs.declared.datagram.Datagram.{Datagram}
 use Rattle.px_replica.specs.declared.fault.NodeFault.{NodeFault}
 use Rattle.px_replica.specs.declared.receiving.Received.{Received}
 use Rattle.px_replica.specs.declared.state.Replica.{Replica}
-use Rattle.px_transport.specs.declared.wire.Wire as wires
-use Rattle.px_transport.specs.Wires.{GrowsBy, Gives}
+use Rattle.px_transport.specs.Wires.{WireEvent, Gave, Handed, gives, hands}
 use Rattle.px_wire.specs.Message.{group}
 use Rattle.px_replica.specs.Replicas.{membership_of}
-use Rattle.node_loop.specs.Again.{AreAmong, HandsAgain}
+use Rattle.node_loop.specs.Again.{AreAmong}
 use Rattle.node_loop.specs.Resends.{kept_of, requests_of}
 use Rattle.node_loop.specs.Resending.{IsKnown, came_in}
 use Rattle.node_loop.specs.declared.room.Room.{Room}
@@ -33,23 +32,20 @@ Acts s t (Some bytes) out answered =
 abbrev pub handed_over : List Datagram → List (ℕ × Bytes)
 handed_over out = map (λ d. (d.to, d.bytes.items)) out
 
--- A member of a cluster with its wire and its buffers: how it stands; what the wire gave so far, and what it was
--- handed, where it tells these; what may be handed to it again; the requests that are known where they come again; and
--- whether asks from outside are heard.
+-- A member of a cluster with its wire and its buffers: how it stands; what went over the wire so far; what may be
+-- handed to it again; the requests that are known where they come again; and whether asks from outside are heard.
 pub record Stand {R : Type 0} (G : Ghosts R) : Type 0 where
   pub replica : Replica R G
-  pub given : Option (List Bytes)
-  pub handed : Option (List (ℕ × Bytes))
+  pub traffic : List WireEvent
   pub kept : List (ℕ × Bytes)
   pub requests : List Bytes
   pub hears_asks : Bool
 
--- a node with its wire and its buffers
-abbrev pub standing : {R W : Type 0} {G : Ghosts R} → wires.Ghosts W → Node R G → W → Room → Stand G
-standing H n w room = record {
+-- a node with its buffers, and what went over its wire
+abbrev pub standing : {R : Type 0} {G : Ghosts R} → Node R G → (traffic : List WireEvent) → Room → Stand G
+standing n traffic room = record {
   replica = replica_of n;
-  given = H.given w;
-  handed = H.handed w;
+  traffic = traffic;
   kept = kept_of room.resender;
   requests = requests_of room.resender;
   hears_asks = room.hears_asks;
@@ -59,20 +55,18 @@ standing H n w room = record {
 -- order. After a fault nothing is to be sent.
 pub record Turned {R : Type 0} {G : Ghosts R} (x y : Stand G) (answered : Option NodeFault) : Type 0 where
   pub came : Option Bytes
-  pub gave : Gives x.given came y.given
   pub out : List Datagram
   pub acts : Acts x.replica y.replica came out answered
-  pub sent : GrowsBy x.handed (handed_over out) y.handed
+  pub went : y.traffic ≡ x.traffic ++ (gives came ++ hands (handed_over out))
   pub kept : AreAmong y.kept (x.kept ++ handed_over out)
   pub requests : AreAmong y.requests (x.requests ++ came_in came)
   pub hears : y.hears_asks ≡ x.hears_asks
 
 -- A turn of the clock: nothing is taken from the wire.
 pub record Ticked {R : Type 0} {G : Ghosts R} (x y : Stand G) (answered : Option NodeFault) : Type 0 where
-  pub given : y.given ≡ x.given
   pub out : List Datagram
   pub call : Call x.replica y.replica Ticks [] out answered
-  pub sent : GrowsBy x.handed (handed_over out) y.handed
+  pub went : y.traffic ≡ x.traffic ++ hands (handed_over out)
   pub kept : AreAmong y.kept (x.kept ++ handed_over out)
   pub requests : y.requests ≡ x.requests
   pub hears : y.hears_asks ≡ x.hears_asks
@@ -80,10 +74,9 @@ pub record Ticked {R : Type 0} {G : Ghosts R} (x y : Stand G) (answered : Option
 -- A turn for a datagram that the wire gave.
 pub record Took {R : Type 0} {G : Ghosts R} (x y : Stand G) (answered : Option NodeFault) : Type 0 where
   pub bytes : Bytes
-  pub gave : Gives x.given (Some bytes) y.given
   pub out : List Datagram
   pub acts : Acts x.replica y.replica (Some bytes) out answered
-  pub sent : GrowsBy x.handed (handed_over out) y.handed
+  pub went : y.traffic ≡ x.traffic ++ (Gave bytes ∷ hands (handed_over out))
   pub kept : AreAmong y.kept (x.kept ++ handed_over out)
   pub requests : AreAmong y.requests (x.requests ++ came_in (Some bytes))
   pub hears : y.hears_asks ≡ x.hears_asks
@@ -91,8 +84,7 @@ pub record Took {R : Type 0} {G : Ghosts R} (x y : Stand G) (answered : Option N
 -- nothing is done
 pub record Same {R : Type 0} {G : Ghosts R} (x y : Stand G) : Type 0 where
   pub replica : y.replica ≡ x.replica
-  pub given : y.given ≡ x.given
-  pub handed : y.handed ≡ x.handed
+  pub traffic : y.traffic ≡ x.traffic
   pub kept : y.kept ≡ x.kept
   pub requests : y.requests ≡ x.requests
   pub hears : y.hears_asks ≡ x.hears_asks
@@ -100,8 +92,9 @@ pub record Same {R : Type 0} {G : Ghosts R} (x y : Stand G) : Type 0 where
 -- Nothing is done but that the wire is handed again some of what is kept.
 pub record Resent {R : Type 0} {G : Ghosts R} (x y : Stand G) : Type 0 where
   pub replica : y.replica ≡ x.replica
-  pub given : y.given ≡ x.given
-  pub again : HandsAgain x.kept x.handed y.handed
+  pub again : List (ℕ × Bytes)
+  pub among : AreAmong again x.kept
+  pub went : y.traffic ≡ x.traffic ++ hands again
   pub kept : y.kept ≡ x.kept
   pub requests : y.requests ≡ x.requests
   pub hears : y.hears_asks ≡ x.hears_asks
@@ -115,20 +108,25 @@ IsKnownTo x bytes =
 pub record Passed {R : Type 0} {G : Ghosts R} (x y : Stand G) : Type 0 where
   pub replica : y.replica ≡ x.replica
   pub bytes : Bytes
-  pub gave : Gives x.given (Some bytes) y.given
   pub known : IsKnownTo x bytes
-  pub again : HandsAgain x.kept x.handed y.handed
+  pub again : List (ℕ × Bytes)
+  pub among : AreAmong again x.kept
+  pub went : y.traffic ≡ x.traffic ++ (Gave bytes ∷ hands again)
   pub kept : y.kept ≡ x.kept
   pub requests : y.requests ≡ x.requests
   pub hears : y.hears_asks ≡ x.hears_asks
 
+-- a datagram is given that is known, or one is handed over again that is kept
+abbrev pub IsIdle : {R : Type 0} {G : Ghosts R} → Stand G → WireEvent → Type 0
+IsIdle x (Gave bytes) = IsKnownTo x bytes
+IsIdle x (Handed to bytes) = Among x.kept (to, bytes)
+
 -- Between two turns: the wire gave datagrams that are known, and was handed again some of what is kept.
 pub record Between {R : Type 0} {G : Ghosts R} (x y : Stand G) : Type 0 where
   pub replica : y.replica ≡ x.replica
-  pub passed : List Bytes
-  pub gave : GrowsBy x.given passed y.given
-  pub known : (bytes : Bytes) → Among passed bytes → IsKnownTo x bytes
-  pub again : HandsAgain x.kept x.handed y.handed
+  pub events : List WireEvent
+  pub idle : (e : WireEvent) → Among events e → IsIdle x e
+  pub went : y.traffic ≡ x.traffic ++ events
   pub kept : y.kept ≡ x.kept
   pub requests : y.requests ≡ x.requests
   pub hears : y.hears_asks ≡ x.hears_asks

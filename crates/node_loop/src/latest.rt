@@ -195,8 +195,7 @@ impl Latest {
     /// Hands the datagram with this number to the wire, unless it is longer than a packet and it is too early for that:
     /// its addressee and its length, if it was handed over.
     fn hand<W: Wire>(&self, wire: &mut W, i: usize, now: u64) -> Option<(u8, usize)>
-        ensures again { HandsAt i (sent_in self.entry.now) (W.handed wire.old) (W.handed wire.new) }
-        ensures given { W.given wire.new ≡ W.given wire.old }
+        ensures again { HandsAt i (sent_in self.entry.now) (W.traffic wire.old) (W.traffic wire.new) }
     {
         let Some(kept) = self.kept.get(i) else {
             return None;
@@ -211,8 +210,7 @@ impl Latest {
 
     /// The same, and notes what was handed over.
     pub(crate) fn send<W: Wire>(&mut self, wire: &mut W, i: usize, now: u64)
-        ensures again { HandsAt i (sent_in self.old) (W.handed wire.old) (W.handed wire.new) }
-        ensures given { W.given wire.new ≡ W.given wire.old }
+        ensures again { HandsAt i (sent_in self.old) (W.traffic wire.old) (W.traffic wire.new) }
         ensures kept { sent_in self.new ≡ sent_in self.old }
         ensures request { requests_in self.new ≡ requests_in self.old }
     {

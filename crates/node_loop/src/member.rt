@@ -1,7 +1,8 @@
 //! A member's run.
 
-ghost use Rattle.std.specs.Prelude.{◌≡◌, ◌<◌};
-ghost use Rattle.node_loop.specs.Lives.{Runs, Told};
+ghost use Rattle.std.specs.Prelude.{◌≡◌, ◌<◌, List};
+ghost use Rattle.px_transport.specs.Wires.{WireEvent};
+ghost use Rattle.node_loop.specs.Lives.{Runs};
 
 use crate::ended::Ended;
 use pf_node::{Membership, Node};
@@ -12,7 +13,7 @@ use std::alloc::Global;
 pub fn open_member<R: Records>(alloc: Global, m: Membership, records: R) -> (Ended, R)
     requires members { R.members records ≡ m.members }
     requires here { m.me < m.members }
-    ensures { (w : Told) → Runs R.Records m records w w result.0 result.1 }
+    ensures { (w : List WireEvent) → Runs R.Records m records w w result.0 result.1 }
 {
     match Node::open(alloc, m, records) {
         Ok(node) => (Ended::NoWire, node.close()),

@@ -1,8 +1,6 @@
 //! When a node's clock ticks.
 
-ghost use Rattle.std.specs.Prelude.{◌≡◌, ◌≤◌, ◌<◌, ◌+◌, ◌/◌, None, false, max};
-ghost use Rattle.px_transport.specs.Wires.{Grows};
-ghost use Rattle.node_loop.specs.Timing.Told.{Looks, Sends, Repeats, Ends};
+ghost use Rattle.std.specs.Prelude.{◌≡◌, ◌≤◌, ◌<◌, ◌+◌, ◌/◌, Unit, false, max};
 ghost use Rattle.node_loop.specs.Pacing.{AreTimes, IfTicks, IfWaits, IsShort, answer_of, front_of, hold_of, later};
 ghost use Rattle.node_loop.specs.Pacing.{latest_of, moved_of, patience_of, rest_of, ticked_of};
 
@@ -448,10 +446,10 @@ impl Pace {
 }
 
 impl Timer for Pace {
-    ghost told = { λ p. None };
+    // what it was told isn't kept, and is all that it decides by
+    ghost told = { λ p told. Unit {0} };
 
     fn beat(&mut self, now: u64, view: View) -> Beat
-        ensures told { Grows None (Looks now view) None }
         // The clock ticks in time, whatever is seen.
         ensures latest { IfWaits result (now < latest_of self.new) }
         ensures wait { IsShort result }
@@ -480,7 +478,6 @@ impl Timer for Pace {
     }
 
     fn sent(&mut self, now: u64)
-        ensures told { Grows None (Sends now) None }
         ensures times { AreTimes self.old self.new }
     {
         self.repeated = now;
@@ -489,7 +486,6 @@ impl Timer for Pace {
     }
 
     fn repeats(&mut self, now: u64) -> bool
-        ensures told { Grows None (Repeats now) None }
         ensures times { AreTimes self.old self.new }
     {
         if now < self.next_repeat() {
@@ -503,7 +499,6 @@ impl Timer for Pace {
     }
 
     fn end(&mut self)
-        ensures told { Grows None Ends None }
         ensures times { AreTimes self.old self.new }
     {
         self.is_ending = true;

@@ -2,6 +2,7 @@
 
 ghost use Rattle.std.specs.Prelude.{◌≡◌, ◌≢◌, ◌≤◌, ◌<◌, ◌++◌, [], ◌∷◌, ℕ, IsTrue, OnOk, Some, false, length};
 ghost use Rattle.px_model.specs.Law.{Among};
+ghost use Rattle.px_transport.specs.Wires.{IsQuiet};
 ghost use Rattle.node_loop.specs.Again.{AreAmong, HandsAgain, HandsFor, HandsShort};
 ghost use Rattle.px_wire.specs.Heads.{head_of};
 ghost use Rattle.px_wire.specs.Message.{Group, Message, DatagramBytes};
@@ -105,10 +106,9 @@ impl Resender {
     /// that is handed over again, unless it is longer than a packet and too early.
     pub fn answers<W: Wire>(&mut self, wire: &mut W, bytes: &[u8]) -> bool
         ensures answered { IsTrue result → Among (requests_of self.old) bytes.now }
-        ensures again { HandsAgain (kept_of self.old) (W.handed wire.old) (W.handed wire.new) }
-        ensures vote { IsTrue result → HandsVote self.old (W.handed wire.old) (W.handed wire.new) }
-        ensures others { result ≡ false → W.handed wire.new ≡ W.handed wire.old }
-        ensures given { W.given wire.new ≡ W.given wire.old }
+        ensures again { HandsAgain (kept_of self.old) (W.traffic wire.old) (W.traffic wire.new) }
+        ensures vote { IsTrue result → HandsVote self.old (W.traffic wire.old) (W.traffic wire.new) }
+        ensures others { result ≡ false → IsQuiet (W.traffic wire.old) (W.traffic wire.new) }
         ensures kept { kept_of self.new ≡ kept_of self.old }
         ensures request { requests_of self.new ≡ requests_of self.old }
     {
@@ -122,11 +122,10 @@ impl Resender {
     /// The accept requests and votes of the last proposal are handed over again, if that is of a position from this one
     /// on: those longer than a packet where it isn't too early.
     pub fn repeat<W: Wire>(&mut self, wire: &mut W, front: u32)
-        ensures again { HandsAgain (kept_of self.old) (W.handed wire.old) (W.handed wire.new) }
+        ensures again { HandsAgain (kept_of self.old) (W.traffic wire.old) (W.traffic wire.new) }
         ensures all { front ≤ position_of self.old →
-            HandsShort (latest_of self.old) (W.handed wire.old) (W.handed wire.new) }
-        ensures none { position_of self.old < front → W.handed wire.new ≡ W.handed wire.old }
-        ensures given { W.given wire.new ≡ W.given wire.old }
+            HandsShort (latest_of self.old) (W.traffic wire.old) (W.traffic wire.new) }
+        ensures none { position_of self.old < front → IsQuiet (W.traffic wire.old) (W.traffic wire.new) }
         ensures kept { kept_of self.new ≡ kept_of self.old }
         ensures request { requests_of self.new ≡ requests_of self.old }
     {
@@ -138,9 +137,8 @@ impl Resender {
     /// The votes that were sent to this member are handed over again, which lacks the entry of this position and those
     /// after it.
     pub fn repeat_to<W: Wire>(&mut self, wire: &mut W, to: u8, from: u32)
-        ensures again { HandsAgain (kept_of self.old) (W.handed wire.old) (W.handed wire.new) }
-        ensures own { HandsFor to (kept_of self.old) (W.handed wire.old) (W.handed wire.new) }
-        ensures given { W.given wire.new ≡ W.given wire.old }
+        ensures again { HandsAgain (kept_of self.old) (W.traffic wire.old) (W.traffic wire.new) }
+        ensures own { HandsFor to (kept_of self.old) (W.traffic wire.old) (W.traffic wire.new) }
         ensures kept { kept_of self.new ≡ kept_of self.old }
         ensures request { requests_of self.new ≡ requests_of self.old }
     {
@@ -151,9 +149,8 @@ impl Resender {
     /// The votes that the member sent to itself are handed over again, where it lacks the entry of this position and
     /// those after it. Returns whether there were any.
     pub fn repeat_own<W: Wire>(&mut self, wire: &mut W, front: u32) -> bool
-        ensures again { HandsAgain (kept_of self.old) (W.handed wire.old) (W.handed wire.new) }
-        ensures own { HandsFor (me_of self.old) (kept_of self.old) (W.handed wire.old) (W.handed wire.new) }
-        ensures given { W.given wire.new ≡ W.given wire.old }
+        ensures again { HandsAgain (kept_of self.old) (W.traffic wire.old) (W.traffic wire.new) }
+        ensures own { HandsFor (me_of self.old) (kept_of self.old) (W.traffic wire.old) (W.traffic wire.new) }
         ensures kept { kept_of self.new ≡ kept_of self.old }
         ensures request { requests_of self.new ≡ requests_of self.old }
     {

@@ -1,8 +1,8 @@
 //! A node that runs.
 
-ghost use Rattle.std.specs.Prelude.{◌≡◌, ◌≤◌, ℕ, Bool, IfOk};
+ghost use Rattle.std.specs.Prelude.{◌≡◌, ◌≤◌, ℕ, Bool, List, OnOk};
 ghost use Rattle.px_replica.specs.Faults.{fault_of};
-ghost use Rattle.px_transport.specs.Wires.{GrowsBy};
+ghost use Rattle.px_transport.specs.Wires.{Adds, Moves, WireEvent};
 ghost use Rattle.node_loop.specs.Again.{HandsAgain};
 ghost use Rattle.node_loop.specs.Resends.{kept_of, requests_of};
 ghost use Rattle.pf_node.specs.Nodes.{applied_of, replica_of};
@@ -63,10 +63,10 @@ fn tick_if<R: Records, W: Wire>(
     taken: u32,
     has_own: bool,
 ) -> Result<Progress, NodeFault>
-    ensures served { Served (standing W.Wire node.old wire.old room.old) (standing W.Wire node.new wire.new room.new)
-        (fault_of result) }
-    ensures ticked { IfOk result (λ p. (is_due : Bool) × TickedIf is_due (standing W.Wire node.old wire.old room.old)
-        (standing W.Wire node.new wire.new room.new)) }
+    ensures served { Moves (W.traffic wire.old) (W.traffic wire.new)
+        (λ es es'. Served (standing node.old es room.old) (standing node.new es' room.new) (fault_of result)) }
+    ensures ticked { OnOk result (Moves (W.traffic wire.old) (W.traffic wire.new) (λ es es'. (is_due : Bool) ×
+        TickedIf is_due (standing node.old es room.old) (standing node.new es' room.new))) }
     ensures unseen { seen_in room.new ≡ seen_in room.old }
     ensures grows { applied_of node.old ≤ applied_of node.new }
 {
@@ -92,7 +92,7 @@ fn tick_if<R: Records, W: Wire>(
 /// What the clock does, by what has come.
 fn beat<T: Timer>(timer: &mut T, sight: &mut Sight, now: u64, view: View) -> Beat
     ensures looked { sight.new ≡ looked sight.old }
-    ensures told { GrowsBy (T.told timer.old) (looks now view sight.old) (T.told timer.new) }
+    ensures told { Adds (T.told timer.old) (T.told timer.new) (looks now view sight.old) }
 {
     let beat = timer.beat(now, view);
     if sight.is_accepting {
@@ -104,8 +104,7 @@ fn beat<T: Timer>(timer: &mut T, sight: &mut Sight, now: u64, view: View) -> Bea
 
 /// Members that told that they lack entries below the front are sent again what was sent to them of those.
 fn remind<W: Wire>(wire: &mut W, resender: &mut Resender, sight: &Sight, front: u32)
-    ensures again { HandsAgain (kept_of resender.old) (W.handed wire.old) (W.handed wire.new) }
-    ensures given { W.given wire.new ≡ W.given wire.old }
+    ensures again { HandsAgain (kept_of resender.old) (W.traffic wire.old) (W.traffic wire.new) }
     ensures kept { kept_of resender.new ≡ kept_of resender.old }
     ensures requests { requests_of resender.new ≡ requests_of resender.old }
 {
@@ -118,8 +117,7 @@ fn remind<W: Wire>(wire: &mut W, resender: &mut Resender, sight: &Sight, front: 
 
 /// The same; and what was sent of the positions from the front on is sent again, if that is due.
 fn repeat<W: Wire>(wire: &mut W, resender: &mut Resender, sight: &Sight, is_due: bool, front: u32)
-    ensures again { HandsAgain (kept_of resender.old) (W.handed wire.old) (W.handed wire.new) }
-    ensures given { W.given wire.new ≡ W.given wire.old }
+    ensures again { HandsAgain (kept_of resender.old) (W.traffic wire.old) (W.traffic wire.new) }
     ensures kept { kept_of resender.new ≡ kept_of resender.old }
     ensures requests { requests_of resender.new ≡ requests_of resender.old }
 {
@@ -131,8 +129,7 @@ fn repeat<W: Wire>(wire: &mut W, resender: &mut Resender, sight: &Sight, is_due:
 
 /// A member that others have passed is handed its own votes again that its window has reached: whether there were any.
 fn recall<W: Wire>(wire: &mut W, resender: &mut Resender, sight: &Sight, front: u32) -> bool
-    ensures again { HandsAgain (kept_of resender.old) (W.handed wire.old) (W.handed wire.new) }
-    ensures given { W.given wire.new ≡ W.given wire.old }
+    ensures again { HandsAgain (kept_of resender.old) (W.traffic wire.old) (W.traffic wire.new) }
     ensures kept { kept_of resender.new ≡ kept_of resender.old }
     ensures requests { requests_of resender.new ≡ requests_of resender.old }
 {
@@ -150,8 +147,7 @@ fn resend<W: Wire>(
     is_due: bool,
     front: u32,
 ) -> bool
-    ensures again { HandsAgain (kept_of resender.old) (W.handed wire.old) (W.handed wire.new) }
-    ensures given { W.given wire.new ≡ W.given wire.old }
+    ensures again { HandsAgain (kept_of resender.old) (W.traffic wire.old) (W.traffic wire.new) }
     ensures kept { kept_of resender.new ≡ kept_of resender.old }
     ensures requests { requests_of resender.new ≡ requests_of resender.old }
 {
@@ -186,12 +182,12 @@ pub fn round<R: Records, W: Wire, T: Timer>(
     timer: &mut T,
     now: u64,
 ) -> Result<Progress, NodeFault>
-    ensures served { Served (standing W.Wire node.old wire.old room.old) (standing W.Wire node.new wire.new room.new)
-        (fault_of result) }
-    ensures took { IfOk result (λ p. (n : ℕ) × (is_due : Bool) × TookThenTicked n is_due
-        (standing W.Wire node.old wire.old room.old) (standing W.Wire node.new wire.new room.new)) }
-    ensures saw { IfOk result (λ p. (n : ℕ) × SawThenLooked n now (standing W.Wire node.old wire.old room.old)
-        (seen_in room.old) (seen_in room.new) (T.told timer.old) (T.told timer.new)) }
+    ensures served { Moves (W.traffic wire.old) (W.traffic wire.new)
+        (λ es es'. Served (standing node.old es room.old) (standing node.new es' room.new) (fault_of result)) }
+    ensures took { OnOk result (Moves (W.traffic wire.old) (W.traffic wire.new) (λ es es'. (n : ℕ) × (is_due : Bool) ×
+        TookThenTicked n is_due (standing node.old es room.old) (standing node.new es' room.new))) }
+    ensures saw { OnOk result ((es : List WireEvent) → W.traffic wire.old es → (n : ℕ) × SawThenLooked n now
+        (standing node.old es room.old) (seen_in room.old) (seen_in room.new) (T.told timer.old) (T.told timer.new)) }
     ensures grows { applied_of node.old ≤ applied_of node.new }
 {
     let was = node.front();
@@ -220,8 +216,8 @@ pub fn finish<R: Records, W: Wire, T: Timer, C: Clock>(
     clock: &C,
     start: Option<Instant>,
 ) -> Result<(), NodeFault>
-    ensures served { Served (standing W.Wire node.old wire.old room.old) (standing W.Wire node.new wire.new room.new)
-        (fault_of result) }
+    ensures served { Moves (W.traffic wire.old) (W.traffic wire.new)
+        (λ es es'. Served (standing node.old es room.old) (standing node.new es' room.new) (fault_of result)) }
     ensures grows { applied_of node.old ≤ applied_of node.new }
 {
     timer.end();

@@ -7,7 +7,7 @@ ghost use Rattle.px_replica.specs.Faults.{fault_of};
 ghost use Rattle.px_wire.specs.Message.{Group, Message, DatagramBytes};
 ghost use Rattle.px_wire.specs.Heads.{head_of};
 ghost use Rattle.pf_node.specs.Nodes.{replica_of, applied_of, membership_of};
-ghost use Rattle.px_transport.specs.Wires.{Gives};
+ghost use Rattle.px_transport.specs.Wires.{Adds, IsQuiet, Moves, gives};
 ghost use Rattle.node_loop.specs.Again.{AreAmong, HandsAgain};
 ghost use Rattle.node_loop.specs.Resends.{kept_of, requests_of};
 ghost use Rattle.node_loop.specs.Progress.{IsFrom, heads_in, IsNobodys, SawAll, seen_in, shown_by};
@@ -46,8 +46,8 @@ impl Room {
 /// Takes a datagram that has come, which is written over the front of the bytes.
 fn poll<W: Wire>(wire: &mut W, bytes: &mut Vec<u8>) -> Option<usize>
     ensures fits { IfSome result (λ n. n ≤ length bytes.new.items) }
-    ensures given { Gives (W.given wire.old) (option_map (λ n. take n bytes.new.items) result) (W.given wire.new) }
-    ensures quiet { W.handed wire.new ≡ W.handed wire.old }
+    ensures gave { Adds (W.traffic wire.old) (W.traffic wire.new)
+        (gives (option_map (λ n. take n bytes.new.items) result)) }
     ensures whole { length bytes.new.items ≡ length bytes.old.items }
 {
     wire.poll(bytes.as_mut_slice())
@@ -59,8 +59,8 @@ pub fn tick_now<R: Records, W: Wire>(
     wire: &mut W,
     room: &mut Room,
 ) -> Result<(), NodeFault>
-    ensures ticked { Ticked (standing W.Wire node.old wire.old room.old) (standing W.Wire node.new wire.new room.new)
-        (fault_of result) }
+    ensures ticked { Moves (W.traffic wire.old) (W.traffic wire.new)
+        (λ es es'. Ticked (standing node.old es room.old) (standing node.new es' room.new) (fault_of result)) }
     ensures unseen { seen_in room.new ≡ seen_in room.old }
     ensures grows { applied_of node.old ≤ applied_of node.new }
 {
@@ -154,9 +154,8 @@ fn passes_over<W: Wire>(
         IsKnown g me hears_asks (requests_of resender.old) bytes.now }
     ensures members { result ≡ false → hears_asks ≡ false → (g : Group) (from to : ℕ) (message : Message) →
         DatagramBytes g from to message bytes.now → from ≢ 255 }
-    ensures again { HandsAgain (kept_of resender.old) (W.handed wire.old) (W.handed wire.new) }
-    ensures others { result ≡ false → W.handed wire.new ≡ W.handed wire.old }
-    ensures given { W.given wire.new ≡ W.given wire.old }
+    ensures again { HandsAgain (kept_of resender.old) (W.traffic wire.old) (W.traffic wire.new) }
+    ensures others { result ≡ false → IsQuiet (W.traffic wire.old) (W.traffic wire.new) }
     ensures kept { kept_of resender.new ≡ kept_of resender.old }
     ensures requests { requests_of resender.new ≡ requests_of resender.old }
 {
@@ -177,10 +176,10 @@ fn take_one<R: Records, W: Wire>(
     wire: &mut W,
     room: &mut Room,
 ) -> Result<bool, NodeFault>
-    ensures served { Served (standing W.Wire node.old wire.old room.old) (standing W.Wire node.new wire.new room.new)
-        (fault_of result) }
-    ensures saw { IfOk result (λ had. SawIf had (standing W.Wire node.old wire.old room.old)
-        (standing W.Wire node.new wire.new room.new) (seen_in room.old) (seen_in room.new)) }
+    ensures served { Moves (W.traffic wire.old) (W.traffic wire.new)
+        (λ es es'. Served (standing node.old es room.old) (standing node.new es' room.new) (fault_of result)) }
+    ensures saw { IfOk result (λ had. Moves (W.traffic wire.old) (W.traffic wire.new) (λ es es'. SawIf had
+        (standing node.old es room.old) (standing node.new es' room.new) (seen_in room.old) (seen_in room.new))) }
     ensures grows { applied_of node.old ≤ applied_of node.new }
 {
     room.out.clear();
@@ -226,10 +225,10 @@ pub(crate) fn drain<R: Records, W: Wire>(
     room: &mut Room,
     most: u32,
 ) -> Result<u32, NodeFault>
-    ensures served { Served (standing W.Wire node.old wire.old room.old) (standing W.Wire node.new wire.new room.new)
-        (fault_of result) }
-    ensures saw { IfOk result (λ n. SawAll n (standing W.Wire node.old wire.old room.old)
-        (standing W.Wire node.new wire.new room.new) (seen_in room.old) (seen_in room.new)) }
+    ensures served { Moves (W.traffic wire.old) (W.traffic wire.new)
+        (λ es es'. Served (standing node.old es room.old) (standing node.new es' room.new) (fault_of result)) }
+    ensures saw { IfOk result (λ n. Moves (W.traffic wire.old) (W.traffic wire.new) (λ es es'. SawAll n
+        (standing node.old es room.old) (standing node.new es' room.new) (seen_in room.old) (seen_in room.new))) }
     ensures grows { applied_of node.old ≤ applied_of node.new }
 {
     room.heads.clear();

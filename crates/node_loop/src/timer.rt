@@ -1,7 +1,7 @@
 //! What a node asks when its clock ticks.
 
-ghost use Rattle.std.specs.Prelude.{◌≡◌, ℕ, List, Option};
-ghost use Rattle.px_transport.specs.Wires.{Grows};
+ghost use Rattle.std.specs.Prelude.{ℕ, List, [], ◌∷◌};
+ghost use Rattle.px_transport.specs.Wires.{Adds};
 ghost use Rattle.node_loop.specs.Timing.{Told};
 ghost use Rattle.node_loop.specs.Timing.Told.{Looks, Sends, Repeats, Ends};
 
@@ -34,25 +34,25 @@ pub enum Beat {
 /// When a node's clock ticks, and when what was sent is sent again. It decides by what it is told here and by nothing
 /// else. Times are in microseconds since the node started, and never go back.
 pub trait Timer {
-    // what it was told so far, where it tells
-    ghost told: { Self → Option (List Told) };
+    // it was told this so far, in order
+    ghost told: { Self → List Told → Type 0 };
 
     /// What the node does next, at this time, where this is seen of it.
     fn beat(&mut self, now: u64, view: View) -> Beat
-        ensures told { Grows (told self.old) (Looks now view) (told self.new) };
+        ensures told { Adds (told self.old) (told self.new) (Looks now view ∷ []) };
 
     /// Votes for what another proposes were sent, which may be lost.
     fn sent(&mut self, now: u64)
-        ensures told { Grows (told self.old) (Sends now) (told self.new) };
+        ensures told { Adds (told self.old) (told self.new) (Sends now ∷ []) };
 
     /// Whether the accept requests and votes that were sent of the front's position are sent again now, since they may
     /// be lost. It is asked after [`Timer::beat`], at the same time.
     fn repeats(&mut self, now: u64) -> bool
-        ensures told { Grows (told self.old) (Repeats now) (told self.new) };
+        ensures told { Adds (told self.old) (told self.new) (Repeats now ∷ []) };
 
     /// From now on the node takes no command in.
     fn end(&mut self)
-        ensures told { Grows (told self.old) Ends (told self.new) };
+        ensures told { Adds (told self.old) (told self.new) (Ends ∷ []) };
 
     /// Whether the node listens, and takes no command in.
     fn is_listening(&self, now: u64) -> bool;

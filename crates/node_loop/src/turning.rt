@@ -3,7 +3,7 @@
 ghost use Rattle.std.specs.Prelude.{◌≡◌, ◌≤◌, ◌++◌, [], option_map, length, take, IfSome};
 ghost use Rattle.px_replica.specs.Faults.{fault_of};
 ghost use Rattle.pf_node.specs.Nodes.{replica_of, applied_of};
-ghost use Rattle.px_transport.specs.Wires.{GrowsBy, Gives};
+ghost use Rattle.px_transport.specs.Wires.{Adds, Moves, gives, hands};
 ghost use Rattle.node_loop.specs.Again.{AreAmong};
 ghost use Rattle.node_loop.specs.Resends.{kept_of, requests_of};
 ghost use Rattle.node_loop.specs.Turns.{Acts, Turned, handed_over, standing};
@@ -23,8 +23,7 @@ pub(crate) fn send_all<W: Wire>(
     resender: &mut Resender,
     counts: &mut RoundCounts,
 )
-    ensures handed { GrowsBy (W.handed wire.old) (handed_over out.now) (W.handed wire.new) }
-    ensures given { W.given wire.new ≡ W.given wire.old }
+    ensures handed { Adds (W.traffic wire.old) (W.traffic wire.new) (hands (handed_over out.now)) }
     ensures kept { AreAmong (kept_of resender.new) (kept_of resender.old ++ handed_over out.now) }
     ensures requests { requests_of resender.new ≡ requests_of resender.old }
 {
@@ -39,8 +38,8 @@ pub(crate) fn send_all<W: Wire>(
 /// Waits for a datagram, which is written over the front of the bytes.
 fn hear<W: Wire>(wire: &mut W, bytes: &mut Vec<u8>) -> Option<usize>
     ensures fits { IfSome result (λ n. n ≤ length bytes.new.items) }
-    ensures given { Gives (W.given wire.old) (option_map (λ n. take n bytes.new.items) result) (W.given wire.new) }
-    ensures quiet { W.handed wire.new ≡ W.handed wire.old }
+    ensures gave { Adds (W.traffic wire.old) (W.traffic wire.new)
+        (gives (option_map (λ n. take n bytes.new.items) result)) }
     ensures whole { length bytes.new.items ≡ length bytes.old.items }
 {
     wire.recv(bytes.as_mut_slice())
@@ -86,8 +85,8 @@ pub fn turn<R: Records, W: Wire>(
     wire: &mut W,
     room: &mut Room,
 ) -> Result<(), NodeFault>
-    ensures turned { Turned (standing W.Wire node.old wire.old room.old) (standing W.Wire node.new wire.new room.new)
-        (fault_of result) }
+    ensures turned { Moves (W.traffic wire.old) (W.traffic wire.new)
+        (λ es es'. Turned (standing node.old es room.old) (standing node.new es' room.new) (fault_of result)) }
     ensures grows { applied_of node.old ≤ applied_of node.new }
 {
     room.out.clear();

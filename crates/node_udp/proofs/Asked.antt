@@ -13,6 +13,7 @@ use Rattle.px_wire.specs.Message.{Group, Lent, Message, DatagramBytes}
 use Rattle.px_wire.specs.Seen.{lent_of}
 use Rattle.node_udp.specs.declared.answer.AskAnswer.{AskAnswer}
 use Rattle.node_udp.specs.declared.answer.AskAnswer.TheVariants.{NoAnswer}
+use Rattle.px_transport.specs.Wires.{WireEvent}
 use Rattle.node_udp.specs.Asking.{ask_answer, Answers, Hears, Listens}
 
 abbrev seen : (o k : ℕ) → Bytes → node.Entry Bytes
@@ -68,19 +69,19 @@ answers_told g from me n bytes x None e f d t only = λ a is.
 
 -- ---- waits
 
-pub heard_at : (g : Group) (node n k : ℕ) (given : Option (List (List ℕ))) (a : AskAnswer) (given' : Option (List (List ℕ))) →
+pub heard_at : (g : Group) (node n k : ℕ) (given : List WireEvent) (a : AskAnswer) (given' : List WireEvent) →
     n ≡ suc k → Hears g node given (Some a) given' → Listens g node n given a given'
 unfolding Listens
 heard_at g node n k given a given' e h =
     subst (λ (i : ℕ). Listens g node i given a given') (sym e) (inl h)
 
-pub passed_at : (g : Group) (node n k : ℕ) (given next : Option (List (List ℕ))) (a : AskAnswer)
-    (given' : Option (List (List ℕ))) → n ≡ suc k → Hears g node given None next → Listens g node k next a given' →
+pub passed_at : (g : Group) (node n k : ℕ) (given next : List WireEvent) (a : AskAnswer)
+    (given' : List WireEvent) → n ≡ suc k → Hears g node given None next → Listens g node k next a given' →
     Listens g node n given a given'
 unfolding Listens
 passed_at g node n k given next a given' e h l =
     subst (λ (i : ℕ). Listens g node i given a given') (sym e) (inr (next, h, l))
 
-pub ended_at : (g : Group) (node n : ℕ) (given : Option (List (List ℕ))) → n ≡ 0 → Listens g node n given NoAnswer given
+pub ended_at : (g : Group) (node n : ℕ) (given : List WireEvent) → n ≡ 0 → Listens g node n given NoAnswer given
 unfolding Listens
 ended_at g node n given e = subst (λ (i : ℕ). Listens g node i given NoAnswer given) (sym e) (refl, refl)

@@ -1,5 +1,5 @@
 -- A command asked of a node from outside.
-use Rattle.std.specs.Prelude.{◌≡◌, ◌⊎◌, ℕ, zero, suc, ◌==◌, List, Option, Some, None, if◌then◌else◌}
+use Rattle.std.specs.Prelude.{◌≡◌, ◌⊎◌, ℕ, zero, suc, ◌==◌, List, ◌++◌, Option, Some, None, if◌then◌else◌}
 use Rattle.pf_entry.specs.declared.command.Command.{Command}
 use Rattle.pf_entry.specs.Entry as entries
 use Rattle.pf_entry.specs.Entry.{spelling}
@@ -7,7 +7,7 @@ use Rattle.pf_entry.specs.Owned.{command_value}
 use Rattle.px_wire.specs.Message.{Group, Lent, Message, DatagramBytes}
 use Rattle.px_wire.specs.Message.{prepare, promise, accept, vote, nack, need, learned, ask, asked, ask_refused}
 use Rattle.px_wire.specs.Message.{prepare_all, promise_all}
-use Rattle.px_transport.specs.Wires.{Gives}
+use Rattle.px_transport.specs.Wires.{WireEvent, gives}
 use Rattle.node_udp.specs.declared.answer.AskAnswer.{AskAnswer}
 use Rattle.node_udp.specs.declared.answer.AskAnswer.TheVariants.{Asked, Refused, NoAnswer}
 
@@ -61,15 +61,13 @@ abbrev pub Answers : Group → (node : ℕ) → Option (List ℕ) → Option Ask
 Answers g node came None = IsPassedOver g node came
 Answers g node came (Some a) = IsTheAnswer g node came a
 
--- one wait, of what the wire gave before and after it: the answer, or none
-abbrev pub Hears : Group → (node : ℕ) → (given : Option (List (List ℕ))) → Option AskAnswer →
-    (given' : Option (List (List ℕ))) → Type 0
-Hears g node given r given' = (came : Option (List ℕ)) × Gives given came given' × Answers g node came r
+-- one wait, of what went over the wire before it and after it: the answer, or none
+abbrev pub Hears : Group → (node : ℕ) → (es : List WireEvent) → Option AskAnswer → (es' : List WireEvent) → Type 0
+Hears g node es r es' = (came : Option (List ℕ)) × (es' ≡ es ++ gives came) × Answers g node came r
 
 -- so many waits at most: the first answer ends them
-unfoldable pub Listens : Group → (node waits : ℕ) → (given : Option (List (List ℕ))) → AskAnswer →
-    (given' : Option (List (List ℕ))) → Type 0
-Listens g node zero given a given' = (a ≡ NoAnswer) × (given' ≡ given)
-Listens g node (suc n) given a given' =
-    Hears g node given (Some a) given'
-    ⊎ ((next : Option (List (List ℕ))) × Hears g node given None next × Listens g node n next a given')
+unfoldable pub Listens : Group → (node waits : ℕ) → (es : List WireEvent) → AskAnswer → (es' : List WireEvent) → Type 0
+Listens g node zero es a es' = (a ≡ NoAnswer) × (es' ≡ es)
+Listens g node (suc n) es a es' =
+    Hears g node es (Some a) es'
+    ⊎ ((next : List WireEvent) × Hears g node es None next × Listens g node n next a es')

@@ -1,3 +1,5 @@
 pub mod Addresses
 pub mod Members
 pub mod Asking
+pub mod Sockets
+pub mod MemorySockets

@@ -4,16 +4,20 @@ use Rattle.px_transport.specs.Wires.{one_more}
 use Rattle.node_udp.specs.declared.address.Address.{Address}
 use Rattle.node_udp.specs.declared.udp.UdpWire.{UdpWire}
 
+-- its socket
+abbrev pub socket_of : {S C : Type 0} → UdpWire S C → S
+socket_of w = w.socket
+
 -- where the members listen, in order
-abbrev pub peers_of : {C : Type 0} → UdpWire C → List Address
+abbrev pub peers_of : {S C : Type 0} → UdpWire S C → List Address
 peers_of w = w.peers.items
 
 -- a member, or 255 for who is none
-abbrev pub me_of : {C : Type 0} → UdpWire C → ℕ
+abbrev pub me_of : {S C : Type 0} → UdpWire S C → ℕ
 me_of w = w.me
 
 -- how many datagrams were dropped whose source is no member's address, up to 2^64 - 1
-abbrev pub strangers_of : {C : Type 0} → UdpWire C → ℕ
+abbrev pub strangers_of : {S C : Type 0} → UdpWire S C → ℕ
 strangers_of w = w.strangers
 
 -- none was dropped, or this one was: it is given as an empty one, and counted

@@ -6,6 +6,7 @@ ghost use Rattle.pf_addr.specs.Spelling.{addr_of};
 ghost use Rattle.pf_rules.specs.Words.{number_of};
 ghost use Rattle.node_udp.specs.Addresses.{address_of, four_of, six_of, four_in, six_in, joined};
 ghost use Rattle.node_udp.specs.Addresses.{is_no_colon, is_no_bracket, shown_address};
+ghost use Rattle.node_udp.specs.Sockets.{IsSocketOf};
 
 use pf_addr::{Addr, parse_bytes};
 use pf_rules::parse_decimal;
@@ -139,7 +140,9 @@ pub(crate) fn bits_of(ip: IpAddr) -> Addr {
 
 impl Address {
     /// The same as a socket takes it.
-    pub(crate) fn socket(self) -> SocketAddr {
+    pub(crate) fn socket(self) -> SocketAddr
+        ensures { IsSocketOf self result }
+    {
         let ip = match self.ip {
             Addr::V4(bits) => IpAddr::V4(Ipv4Addr::from_bits(bits)),
             Addr::V6(bits) => IpAddr::V6(Ipv6Addr::from_bits(bits)),

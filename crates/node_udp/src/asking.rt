@@ -1,13 +1,13 @@
 //! A command asked of a node from outside.
 
 ghost use Rattle.std.specs.Prelude.{◌≡◌, ◌⊎◌, ◌<◌, Err, Some, false, IfOk, IfSome, OnOk, OnErr, IsSome, IsTrue};
-ghost use Rattle.std.specs.Prelude.{ℕ, List};
+ghost use Rattle.std.specs.Prelude.{◌++◌, [], ◌∷◌, ℕ, List};
 ghost use Rattle.pf_entry.specs.Entry.{EntryBytes};
 ghost use Rattle.pf_entry.specs.Owned.{is_over};
 ghost use Rattle.pf_entry.specs.declared.limits.TheConstants.{ASKER};
 ghost use Rattle.px_wire.specs.Message.{group};
 ghost use Rattle.px_wire.specs.Seen.{lent_of, message_of};
-ghost use Rattle.px_transport.specs.Wires.{Grows};
+ghost use Rattle.px_transport.specs.Wires.{Handed, IsQuiet, Moves};
 ghost use Rattle.node_udp.specs.Asking.{asked_entry, lent_ask, IsAsk, ask_answer, Answers, Hears, Listens};
 
 use crate::answer::AskAnswer;
@@ -122,8 +122,7 @@ fn answer_in(m: &Membership, node: u8, bytes: &[u8]) -> Option<AskAnswer>
 /// Waits once: the node's answer, if it comes.
 fn listen<W: Wire>(m: &Membership, node: u8, wire: &mut W) -> Option<AskAnswer>
     requires { m.now.me ≡ ASKER }
-    ensures heard { Hears (group m.now) node (W.given wire.old) result (W.given wire.new) }
-    ensures quiet { W.handed wire.new ≡ W.handed wire.old }
+    ensures { Moves (W.traffic wire.old) (W.traffic wire.new) (λ es es'. Hears (group m.now) node es result es') }
 {
     let mut room = [0u8; ANSWER_ROOM];
     match wire.recv(&mut room) {
@@ -135,8 +134,8 @@ fn listen<W: Wire>(m: &Membership, node: u8, wire: &mut W) -> Option<AskAnswer>
 /// Waits so many times at most: the node's first answer.
 fn listen_on<W: Wire>(m: &Membership, node: u8, waits: u32, wire: &mut W) -> AskAnswer
     requires { m.now.me ≡ ASKER }
-    ensures heard { Listens (group m.now) node waits (W.given wire.old) result (W.given wire.new) }
-    ensures quiet { W.handed wire.new ≡ W.handed wire.old }
+    ensures { Moves (W.traffic wire.old) (W.traffic wire.new)
+        (λ es es'. Listens (group m.now) node waits es result es') }
 {
     for _wait in 0..waits {
         if let Some(answer) = listen(m, node, wire) {
@@ -161,10 +160,10 @@ pub fn ask_once<W: Wire>(
 ) -> Result<AskAnswer, NodeFault>
     requires asker { m.now.me ≡ ASKER }
     requires member { node < m.now.members }
-    ensures sent { OnOk result ((bytes : List ℕ) × IsAsk (group m.now) node command.now bytes ×
-        Grows (W.handed wire.old) (node, bytes) (W.handed wire.new)) }
-    ensures heard { IfOk result (λ a. Listens (group m.now) node waits (W.given wire.old) a (W.given wire.new)) }
-    ensures silent { OnErr result ((W.handed wire.new ≡ W.handed wire.old) × (W.given wire.new ≡ W.given wire.old)) }
+    ensures asked { IfOk result (λ a. (bytes : List ℕ) × IsAsk (group m.now) node command.now bytes ×
+        Moves (W.traffic wire.old) (W.traffic wire.new)
+        (λ es es'. Listens (group m.now) node waits (es ++ Handed node bytes ∷ []) a es')) }
+    ensures silent { OnErr result (IsQuiet (W.traffic wire.old) (W.traffic wire.new)) }
     ensures long { result ≡ Err NodeFault.TooLong → IsTrue (is_over (asked_entry command.now)) }
     ensures short { OnOk result (is_over (asked_entry command.now) ≡ false) }
     ensures why { OnErr result ((result ≡ Err NodeFault.TooLong) ⊎ (result ≡ Err NodeFault.Memory)) }

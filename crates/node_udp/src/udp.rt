@@ -1,13 +1,16 @@
 //! Datagrams over a UDP socket.
 
 ghost use Rattle.std.specs.Prelude.{◌≡◌, ◌⊎◌, ◌<◌, ◌≤◌, ◌==◌, Some, None, Err, IfOk, IfSome, OnErr, IsTrue};
-ghost use Rattle.std.specs.Prelude.{map, length};
+ghost use Rattle.std.specs.Prelude.{[], ◌∷◌, map, length, option_map, take};
+ghost use Rattle.px_transport.specs.Wires.{Adds, IsQuiet, gives};
 ghost use Rattle.node_udp.specs.declared.udp.BindFault.TheVariants.{Memory};
 ghost use Rattle.node_udp.specs.Addresses.{AreFound};
-ghost use Rattle.node_udp.specs.Members.{peers_of, me_of, strangers_of, Drops};
+ghost use Rattle.node_udp.specs.Members.{socket_of, peers_of, me_of, strangers_of, Drops};
+ghost use Rattle.node_udp.specs.Sockets.{GoesTo, IsStill, Went, WentOver};
 
 use crate::address::Address;
 use crate::host::find;
+use crate::socket::Socket;
 use pf_entry::ASKER;
 use px_transport::Wire;
 use px_wire::Head;
@@ -48,8 +51,7 @@ impl<T: Drop> From<AllocFailed<T>> for BindFault {
     }
 }
 
-/// Datagrams over a UDP socket (RFC 768). What came and what was sent it doesn't tell: they are datagrams on their way
-/// through a network, which may lose, repeat and reorder them.
+/// Datagrams over a UDP socket (RFC 768), on their way through a network, which may lose, repeat and reorder them.
 ///
 /// Each receive of an asker waits on its own. A member's wait goes on from receive to receive until it has passed, and
 /// then none is answered, whatever has come: that stays for the next receive, with which a new wait begins. Of the time
@@ -59,8 +61,8 @@ impl<T: Drop> From<AllocFailed<T>> for BindFault {
 /// counted, unless it has a head ([`Head::read`]) whose sender is 255, one who asks. With [`UdpWire::hear_members`] its
 /// address alone decides, and no byte of it is looked at.
 #[derive(Drop)]
-pub struct UdpWire<C> {
-    socket: UdpSocket,
+pub struct UdpWire<S, C> {
+    socket: S,
     clock: C,
     peers: Vec<Address>,
     me: u8,
@@ -127,7 +129,7 @@ fn is_asking(datagram: &[u8]) -> bool {
     }
 }
 
-impl<R: Net + Clock + Copy> UdpWire<R> {
+impl<R: Net + Clock + Copy> UdpWire<UdpSocket, R> {
     /// A wire of a member, which listens at its address of these, or with 255 of an asker on any free port, of whom the
     /// first address takes every send. A wait is so many milliseconds long.
     ///
@@ -139,11 +141,12 @@ impl<R: Net + Clock + Copy> UdpWire<R> {
         addrs: &[&str],
         me: u8,
         wait_ms: u32,
-    ) -> Result<UdpWire<R>, BindFault>
+    ) -> Result<UdpWire<UdpSocket, R>, BindFault>
         requires wait { 0 < wait_ms }
         ensures peers { IfOk result (λ w. AreFound (map (λ t. t.now) addrs.now) (peers_of w)) }
         ensures me { IfOk result (λ w. me_of w ≡ me) }
         ensures strangers { IfOk result (λ w. strangers_of w ≡ 0) }
+        ensures traffic { IfOk result (λ w. WentOver (⟦<UdpSocket as Socket>⟧.traffic (socket_of w)) w []) }
     {
         let peers = addresses(rt, alloc, addrs)?;
         let Some(own) = own_address(peers.as_slice(), me) else {
@@ -152,13 +155,42 @@ impl<R: Net + Clock + Copy> UdpWire<R> {
         let Ok(socket) = UdpSocket::bind(rt, own) else {
             return Err(BindFault::NoSocket);
         };
+        UdpWire::over(socket, *rt, peers, me, wait_ms)
+    }
+}
+
+impl<C> UdpWire<UdpSocket, C> {
+    /// The socket's descriptor, for whoever waits for several.
+    pub fn raw_fd(&self) -> RawFd {
+        self.socket.as_raw_fd()
+    }
+}
+
+impl<S: Socket + Drop, C: Clock + Drop> UdpWire<S, C> {
+    /// A wire over a socket that is bound, of a member with these addresses of all members, or with 255 of an asker.
+    ///
+    /// `NoSocket` where no time can be set for the socket's waits.
+    pub fn over(
+        socket: S,
+        clock: C,
+        peers: Vec<Address>,
+        me: u8,
+        wait_ms: u32,
+    ) -> Result<UdpWire<S, C>, BindFault>
+        requires wait { 0 < wait_ms }
+        ensures peers { IfOk result (λ w. peers_of w ≡ peers.items) }
+        ensures me { IfOk result (λ w. me_of w ≡ me) }
+        ensures strangers { IfOk result (λ w. strangers_of w ≡ 0) }
+        ensures traffic { IfOk result (λ w. S.traffic socket [] → WentOver (S.traffic (socket_of w)) w []) }
+    {
         let wait = Duration::from_millis(u64::from(wait_ms));
-        if socket.set_read_timeout(Some(wait)).is_err() {
+        let mut socket = socket;
+        if socket.set_timeout(wait).is_err() {
             return Err(BindFault::NoSocket);
         }
         Ok(UdpWire {
             socket,
-            clock: *rt,
+            clock,
             peers,
             me,
             wait,
@@ -174,7 +206,7 @@ impl<R: Net + Clock + Copy> UdpWire<R> {
     }
 }
 
-impl<C> UdpWire<C> {
+impl<S: Socket, C> UdpWire<S, C> {
     /// Where each member listens, as it was found when the wire was made.
     pub fn peers(&self) -> &[Address]
         ensures { result.now ≡ peers_of self.now }
@@ -182,13 +214,10 @@ impl<C> UdpWire<C> {
         self.peers.as_slice()
     }
 
-    /// The socket's descriptor, for whoever waits for several.
-    pub fn raw_fd(&self) -> RawFd {
-        self.socket.as_raw_fd()
-    }
-
     /// From now on members alone are heard, by their addresses.
     pub fn hear_members(&mut self)
+        ensures quiet { IsQuiet (WentOver (S.traffic (socket_of self.old)) self.old)
+            (WentOver (S.traffic (socket_of self.new)) self.new) }
         ensures strangers { strangers_of self.new ≡ strangers_of self.old }
         ensures peers { peers_of self.new ≡ peers_of self.old }
         ensures me { me_of self.new ≡ me_of self.old }
@@ -205,6 +234,7 @@ impl<C> UdpWire<C> {
 
     /// Counts a fault.
     fn count_failure(&mut self)
+        ensures still { IsStill (S.traffic (socket_of self.old)) (S.traffic (socket_of self.new)) self.old self.new }
         ensures failures { self.old.failures ≤ self.new.failures }
         ensures strangers { self.new.strangers ≡ self.old.strangers }
     {
@@ -213,6 +243,7 @@ impl<C> UdpWire<C> {
 
     /// Counts what a receive or a wait met, unless nothing came in time.
     fn met(&mut self, kind: ErrorKind)
+        ensures still { IsStill (S.traffic (socket_of self.old)) (S.traffic (socket_of self.new)) self.old self.new }
         ensures failures { self.old.failures ≤ self.new.failures }
         ensures strangers { self.new.strangers ≡ self.old.strangers }
     {
@@ -223,11 +254,12 @@ impl<C> UdpWire<C> {
 
     /// Whether the socket waits from now on, or doesn't, as is asked.
     fn set_blocking(&mut self, is_blocking: bool) -> bool
+        ensures still { IsStill (S.traffic (socket_of self.old)) (S.traffic (socket_of self.new)) self.old self.new }
         ensures failures { self.old.failures ≤ self.new.failures }
         ensures strangers { self.new.strangers ≡ self.old.strangers }
     {
         if self.is_blocking != is_blocking {
-            if self.socket.set_nonblocking(!is_blocking).is_err() {
+            if self.socket.set_blocking(is_blocking).is_err() {
                 self.count_failure();
                 return false;
             }
@@ -238,11 +270,12 @@ impl<C> UdpWire<C> {
 
     /// Whether the socket waits so long from now on.
     fn set_timeout(&mut self, timeout: Duration) -> bool
+        ensures still { IsStill (S.traffic (socket_of self.old)) (S.traffic (socket_of self.new)) self.old self.new }
         ensures failures { self.old.failures ≤ self.new.failures }
         ensures strangers { self.new.strangers ≡ self.old.strangers }
     {
         if self.timeout != timeout {
-            if self.socket.set_read_timeout(Some(timeout)).is_err() {
+            if self.socket.set_timeout(timeout).is_err() {
                 self.count_failure();
                 return false;
             }
@@ -259,6 +292,8 @@ impl<C> UdpWire<C> {
 
     /// What is given of a datagram that came: all its bytes, or none of a stranger's, which is counted.
     fn admit(&mut self, from: SocketAddr, datagram: &[u8]) -> usize
+        ensures still { IsStill (S.traffic (socket_of self.old)) (S.traffic (socket_of self.new)) self.old self.new }
+        ensures whole { (result ≡ length datagram.now) ⊎ (result ≡ 0) }
         ensures failures { self.new.failures ≡ self.old.failures }
         ensures fits { result ≤ length datagram.now }
         ensures dropped { Drops (strangers_of self.old) (Some result) (strangers_of self.new) }
@@ -272,7 +307,7 @@ impl<C> UdpWire<C> {
     }
 }
 
-impl<C: Clock> UdpWire<C> {
+impl<S: Socket, C: Clock> UdpWire<S, C> {
     /// The clock's reading, for a member.
     fn now(&self) -> Option<Instant> {
         reading(&self.clock, self.me)
@@ -280,6 +315,7 @@ impl<C: Clock> UdpWire<C> {
 
     /// Takes the time between two readings off what is left of the wait, or the most that counts.
     fn pass(&mut self, from: Option<Instant>, to: Option<Instant>, most: Duration)
+        ensures still { IsStill (S.traffic (socket_of self.old)) (S.traffic (socket_of self.new)) self.old self.new }
         ensures failures { self.new.failures ≡ self.old.failures }
         ensures strangers { self.new.strangers ≡ self.old.strangers }
     {
@@ -291,6 +327,7 @@ impl<C: Clock> UdpWire<C> {
 
     /// Ends the wait.
     fn end_wait(&mut self)
+        ensures still { IsStill (S.traffic (socket_of self.old)) (S.traffic (socket_of self.new)) self.old self.new }
         ensures failures { self.new.failures ≡ self.old.failures }
         ensures strangers { self.new.strangers ≡ self.old.strangers }
     {
@@ -300,6 +337,7 @@ impl<C: Clock> UdpWire<C> {
 
     /// Whether any of the wait is left. The socket waits no longer than that.
     fn is_waiting(&mut self, now: Option<Instant>) -> bool
+        ensures still { IsStill (S.traffic (socket_of self.old)) (S.traffic (socket_of self.new)) self.old self.new }
         ensures failures { self.old.failures ≤ self.new.failures }
         ensures strangers { self.new.strangers ≡ self.old.strangers }
     {
@@ -320,7 +358,9 @@ impl<C: Clock> UdpWire<C> {
     }
 
     /// Where a datagram for this member goes.
-    fn address(&self, to: u8) -> Option<SocketAddr> {
+    fn address(&self, to: u8) -> Option<SocketAddr>
+        ensures { IfSome result (λ there. GoesTo (peers_of self.now) (me_of self.now) to there) }
+    {
         if self.me != ASKER && to == ASKER {
             return self.last;
         }
@@ -332,26 +372,28 @@ impl<C: Clock> UdpWire<C> {
     }
 
     /// Whether all of the bytes were sent there.
-    fn sent_to(&self, bytes: &[u8], to: SocketAddr) -> bool {
-        match self.socket.send_to(bytes, to) {
+    fn sent_to(&mut self, bytes: &[u8], to: SocketAddr) -> bool
+        ensures went { Adds (S.traffic (socket_of self.old)) (S.traffic (socket_of self.new)) (Went to bytes.now ∷ []) }
+        ensures rest { (peers_of self.new ≡ peers_of self.old) × (me_of self.new ≡ me_of self.old) ×
+            (self.new.failures ≡ self.old.failures) }
+    {
+        match self.socket.send(bytes, to) {
             Ok(n) => n == bytes.len(),
             Err(_) => false,
         }
     }
 }
 
-impl<C: Clock> Wire for UdpWire<C> {
-    ghost given = { λ w. None };
-
-    ghost handed = { λ w. None };
+impl<S: Socket, C: Clock> Wire for UdpWire<S, C> {
+    ghost traffic = { λ w es. WentOver (S.traffic w.socket) w es };
 
     ghost failed = { λ w. w.failures };
 
     fn recv(&mut self, into: &mut [u8]) -> Option<usize>
         ensures dropped { Drops (strangers_of self.old) result (strangers_of self.new) }
         ensures fits { IfSome result (λ n. n ≤ length into.new) }
-        ensures given { Unit {0} }
-        ensures quiet { Unit {0} }
+        ensures gave { Adds (WentOver (S.traffic (socket_of self.old)) self.old)
+            (WentOver (S.traffic (socket_of self.new)) self.new) (gives (option_map (λ n. take n into.new) result)) }
         ensures counts { self.old.failures ≤ self.new.failures }
     {
         let began = self.now();
@@ -359,14 +401,14 @@ impl<C: Clock> Wire for UdpWire<C> {
             self.end_wait();
             return None;
         }
-        match self.socket.recv_from(into) {
+        match self.socket.receive(into) {
             Ok((n, from)) => {
                 self.since = self.now();
                 self.pass(began, self.since, self.wait);
                 Some(self.admit(from, &into[..n]))
             }
-            Err(error) => {
-                self.met(error.kind());
+            Err(kind) => {
+                self.met(kind);
                 self.end_wait();
                 None
             }
@@ -376,17 +418,17 @@ impl<C: Clock> Wire for UdpWire<C> {
     fn poll(&mut self, into: &mut [u8]) -> Option<usize>
         ensures dropped { Drops (strangers_of self.old) result (strangers_of self.new) }
         ensures fits { IfSome result (λ n. n ≤ length into.new) }
-        ensures given { Unit {0} }
-        ensures quiet { Unit {0} }
+        ensures gave { Adds (WentOver (S.traffic (socket_of self.old)) self.old)
+            (WentOver (S.traffic (socket_of self.new)) self.new) (gives (option_map (λ n. take n into.new) result)) }
         ensures counts { self.old.failures ≤ self.new.failures }
     {
         if !self.set_blocking(false) {
             return None;
         }
-        match self.socket.recv_from(into) {
+        match self.socket.receive(into) {
             Ok((n, from)) => Some(self.admit(from, &into[..n])),
-            Err(error) => {
-                self.met(error.kind());
+            Err(kind) => {
+                self.met(kind);
                 None
             }
         }
@@ -399,9 +441,8 @@ impl<C: Clock> Wire for UdpWire<C> {
         if !self.set_timeout(Duration::from_millis(u64::from(milliseconds))) {
             return;
         }
-        let mut room = [0u8; 1];
-        if let Err(error) = self.socket.peek_from(&mut room) {
-            self.met(error.kind());
+        if let Err(kind) = self.socket.peek() {
+            self.met(kind);
         }
     }
 

@@ -11,3 +11,5 @@ pub mod Lives
 pub mod Wires
 pub mod Carried
 pub mod Runs
+pub mod Networks
+pub mod Sockets

@@ -5,10 +5,13 @@ ghost use Rattle.pfx_laws.specs.Promised.{HistoriesAreRuns, NodesAgree, LearnWha
 ghost use Rattle.pfx_laws.specs.Promised.{EquallyApplied};
 ghost use Rattle.pfx_laws.specs.Carried.{WiresAreHistories, WiresNeverDiffer, WiresLearnWhatWasAsked};
 ghost use Rattle.pfx_laws.specs.Carried.{EquallyAppliedOverWires};
-ghost use Rattle.pfx_laws.specs.Runs.{LivesAreStretches, OpeningsAreStretches, RunsAreStretches};
-ghost use Rattle.pfx_laws.specs.Runs.{LivesGo, RunsNeverDiffer};
+ghost use Rattle.pfx_laws.specs.Runs.{LivesAreStretches, LivesGo, OpeningsAreStretches};
+ghost use Rattle.pfx_laws.specs.Networks.{LivesAreRuns, NetworksGo, NetworksNeverDiffer};
+ghost use Rattle.pfx_laws.specs.Sockets.{RunsAreAtSockets, SocketsGo, SocketsNeverDiffer};
 
+use node_udp::Socket;
 use px_records::Records;
+use std::time::Clock;
 
 /// What members lived, each from an empty record, is a history, in whatever order of theirs each datagram that one took
 /// had been handed out to it. What turns make is such a life (`node_loop::laws::turns_are_lived`).
@@ -89,13 +92,38 @@ pub fn lives_go<R: Records>()
     ensures { LivesGo R.Records }
 {}
 
-/// Runs of members over wires that tell what they gave and were handed, one after another, are such stretches, and
-/// their network is such a network where it is one by the lists that the wires tell.
-pub fn runs_are_stretches<R: Records>()
-    ensures { RunsAreStretches R.Records }
+/// What a run lived over an empty record and over a wire over which nothing went before, a member ran.
+pub fn lives_are_runs<R: Records>()
+    ensures { LivesAreRuns R.Records }
 {}
 
-/// So members that run over such wires never differ.
-pub fn runs_never_differ<R: Records>()
-    ensures { RunsNeverDiffer R.Records }
+/// Members that ran side by side, over wires that gave no datagram but those that some wire was handed for that member
+/// before, repeated, late and in whatever order, and asks from outside: what befell them went in stretches, and these
+/// laws hold of them as they stand in the end.
+pub fn networks_go()
+    ensures { NetworksGo }
+{}
+
+/// So over such wires two members never have different entries as learned at a position, nor one entry at two
+/// positions.
+pub fn networks_never_differ()
+    ensures { NetworksNeverDiffer }
+{}
+
+/// A member that ran over a wire with a socket, above which its own datagrams are kept, ran over what went over that
+/// socket.
+pub fn runs_are_at_sockets<S: Socket, C: Clock>()
+    ensures { RunsAreAtSockets S C }
+{}
+
+/// Members that ran over sockets to which no datagram came but those that some member's socket was handed before, and
+/// asks from outside: what befell them went in stretches, and these laws hold of them as they stand in the end.
+pub fn sockets_go()
+    ensures { SocketsGo }
+{}
+
+/// So over such sockets two members never have different entries as learned at a position, nor one entry at two
+/// positions.
+pub fn sockets_never_differ()
+    ensures { SocketsNeverDiffer }
 {}

@@ -1,6 +1,7 @@
 -- What comes of packets.
-use Rattle.std.proofs.Common.{◌≡◌, ◌∙◌, ℕ, ◌≤◌, true, false, List, [], ◌∷◌, length, take, ap, sym, subst, refl, arith, Option, Some}
-use Rattle.std.proofs.Math.Seq.{take-nil}
+use Rattle.std.proofs.Common.{◌≡◌, ◌∙◌, ℕ, ◌≤◌, Bool, true, false, List, [], ◌∷◌, length, take, ap, sym, subst, refl, arith, Option, Some}
+use Rattle.std.specs.Prelude.{nat_le, if◌then◌else◌}
+use Rattle.px_transport.specs.Wires.{within}
 use Rattle.px_packet.specs.declared.header.Header.{Header}
 use Rattle.px_packet.specs.declared.arrival.Arrival.{Arrival}
 use Rattle.px_packet.specs.declared.arrival.Arrival.TheVariants as arrivals
@@ -11,15 +12,22 @@ use Rattle.px_transport.specs.Sending.{Sealer}
 use Rattle.px_transport.specs.Wiring.{WireState, Comes, Takes, DoesAll, Duty, Again, opened, given_of, heard_with}
 use Rattle.px_transport.specs.Wiring.{is_other_machine, more_if}
 
+none_either : (fits : Bool) (m : List ℕ) → m ≡ [] → (if fits then m else []) ≡ []
+none_either true m e = e
+none_either false m e = refl
+
+none_within : (room : ℕ) → within room [] ≡ []
+none_within room = none_either (nat_le 0 room) [] refl
+
 -- ---- of a packet that was opened
 
 pub comes_whole : (p : Header × List ℕ) (g : Given) (m : List ℕ) (room n : ℕ) (into : List ℕ) → Whole m ≡ g →
-    n ≤ length into → take n into ≡ take room m → Comes (Some p) (Some g) room (coming.Given n) into
+    n ≤ length into → take n into ≡ within room m → Comes (Some p) (Some g) room (coming.Given n) into
 comes_whole p g m room n into e l w =
     subst (λ x. Comes (Some p) (Some x) room (coming.Given n) into) e (l, w, refl, refl, refl)
 
 pub comes_joined : (p : Header × List ℕ) (g : Given) (m : List ℕ) (room n : ℕ) (into : List ℕ) → Joined m ≡ g →
-    n ≤ length into → take n into ≡ take room m → Comes (Some p) (Some g) room (coming.Given n) into
+    n ≤ length into → take n into ≡ within room m → Comes (Some p) (Some g) room (coming.Given n) into
 comes_joined p g m room n into e l w =
     subst (λ x. Comes (Some p) (Some x) room (coming.Given n) into) e (l, w, refl, refl, refl)
 
@@ -32,7 +40,7 @@ pub comes_nothing : (p : Header × List ℕ) (g : Given) (room : ℕ) (into : Li
     Comes (Some p) (Some g) room (coming.Given 0) into
 comes_nothing p g room into e =
     subst (λ x. Comes (Some p) (Some x) room (coming.Given 0) into) e
-    (omega arith, sym (take-nil room), refl, refl, refl)
+    (omega arith, sym (none_within room), refl, refl, refl)
 
 pub comes_dropped : (p : Header × List ℕ) (g : Given) (a : Arrival) (room : ℕ) (into : List ℕ) → Dropped a ≡ g →
     is_other_machine a ≡ false → Comes (Some p) (Some g) room coming.Dropped into
@@ -55,8 +63,8 @@ given_then keys s now came m k = given_of s.start m k.heard (opened keys s came)
 none_done : (s : Sealer) (now : ℕ) (ds : List Duty) (k : WireState) → ds ≡ [] → DoesAll s now ds k k
 none_done s now ds k e = subst (λ x. DoesAll s now x k k) (sym e) refl
 
-empty_given : (room : ℕ) (m into : List ℕ) → m ≡ [] → take 0 into ≡ take room m
-empty_given room m into e = sym (ap (take room) e ∙ take-nil room)
+empty_given : (room : ℕ) (m into : List ℕ) → m ≡ [] → take 0 into ≡ within room m
+empty_given room m into e = sym (ap (within room) e ∙ none_within room)
 
 pub takes_given : (keys : List (List ℕ)) (s : Sealer) (now : ℕ) (came : List ℕ) (m : Memory) (k : WireState)
     (room n : ℕ) (into : List ℕ) (dropped copies : ℕ) →

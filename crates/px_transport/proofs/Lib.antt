@@ -10,6 +10,8 @@
 -- - What is given of one member's packets is some of what px_packet accepts of them (`Sub`), and it is that crate's law
 --   that none of these comes twice.
 pub mod Following
+pub mod Traffic
+pub mod Layers
 mod Bodies
 mod Entries
 mod Members

@@ -1,9 +1,10 @@
 -- Packets that are handed over one after another.
 use Rattle.std.proofs.Common.{◌≡◌, ◌∙◌, ℕ, zero, suc, ◌+◌, ◌-◌, ◌<◌, Bool, true, false, List, [], ◌∷◌, ◌++◌, length, map, take, ap, sym, subst, refl, arith, inl, inr, Option, Some, None}
-use Rattle.std.specs.Prelude.{IsTrue, not, if◌then◌else◌, slice_set, slice_index_or}
+use Rattle.std.specs.Prelude.{◌⊎◌, IsTrue, not, if◌then◌else◌, slice_set, slice_index_or}
 use Rattle.std.specs.List.{filter, range_with_len}
 use Rattle.std.proofs.lemmas.List.{append-nil, append_assoc}
-use Rattle.px_transport.specs.Wires.{GrowsBy}
+use Rattle.px_transport.specs.Wires.{WireEvent, Adds, IsQuiet, hands}
+use Rattle.px_transport.proofs.Traffic.{adds_none, hands_then}
 use Rattle.px_packet.specs.declared.start.Start.{Start}
 use Rattle.px_packet.specs.declared.held.PiecesHeld.{PiecesHeld}
 use Rattle.px_packet.specs.Held.{has_bit}
@@ -11,24 +12,15 @@ use Rattle.px_packet.specs.Pieces.{count_of}
 use Rattle.px_transport.specs.Sending.{ToMember, Sealer, Unsealed, packet, packets, counted_for, counted_all, Sends, SendsUpTo}
 use Rattle.px_transport.specs.Sending.{new_to, to_member, lacked, piece, pieces_from}
 
-abbrev Handed : Type 0
-Handed = Option (List (ℕ × List ℕ))
+-- what a wire's traffic may be
+abbrev Handed : Type 1
+Handed = List WireEvent → Type 0
 
--- ---- lists that grow
+abbrev All : Sealer → List Unsealed → Handed → List ToMember → Handed → List ToMember → Type 0
+All s ps h os h' os' = Sends s ps (Adds h h') os os'
 
-pub grows_none : {X : Type 0} (h : Option (List X)) → GrowsBy h [] h
-grows_none None = refl
-grows_none (Some all) = inr (ap Some (sym (append-nil all)))
-
-pub grows_append : {X : Type 0} (h : Option (List X)) (xs ys : List X) (h1 h2 : Option (List X)) → GrowsBy h xs h1 →
-    GrowsBy h1 ys h2 → GrowsBy h (xs ++ ys) h2
-grows_append None xs ys h1 h2 a b = subst (λ h. GrowsBy h ys h2) a b
-grows_append (Some all) xs ys h1 h2 (inl e) b = inl (subst (λ h. GrowsBy h ys h2) e b)
-grows_append (Some all) xs ys h1 h2 (inr e) b = at (subst (λ h. GrowsBy h ys h2) e b)
-  where
-    at : GrowsBy (Some (all ++ xs)) ys h2 → GrowsBy (Some all) (xs ++ ys) h2
-    at (inl f) = inl f
-    at (inr f) = inr (f ∙ ap Some (append_assoc all xs ys))
+abbrev Upto : Sealer → Bool → List Unsealed → Handed → List ToMember → Handed → List ToMember → Type 0
+Upto s b ps h os h' os' = SendsUpTo s b ps (Adds h h') os os'
 
 -- ---- packets one after another
 
@@ -43,34 +35,34 @@ counted_append : (os : List ToMember) (ps qs : List Unsealed) →
 counted_append os [] qs = refl
 counted_append os (p ∷ ps) qs = counted_append (counted_for os p.to) ps qs
 
-pub sends_none : (s : Sealer) (h : Handed) (os : List ToMember) → Sends s [] h os h os
-sends_none s h os = (grows_none h, refl)
+pub sends_none : (s : Sealer) (h : Handed) (os : List ToMember) → All s [] h os h os
+sends_none s h os = (adds_none h h (λ es x. x), refl)
 
 pub sends_append : (s : Sealer) (ps qs : List Unsealed) (h : Handed) (os : List ToMember) (h1 : Handed)
-    (os1 : List ToMember) (h2 : Handed) (os2 : List ToMember) → Sends s ps h os h1 os1 → Sends s qs h1 os1 h2 os2 →
-    Sends s (ps ++ qs) h os h2 os2
+    (os1 : List ToMember) (h2 : Handed) (os2 : List ToMember) → All s ps h os h1 os1 → All s qs h1 os1 h2 os2 →
+    All s (ps ++ qs) h os h2 os2
 sends_append s ps qs h os h1 os1 h2 os2 a b =
-    let b0 : GrowsBy h1 (packets s (counted_all os ps) qs) h2 =
-    subst (λ x. GrowsBy h1 (packets s x qs) h2) a.1 b.0 in (
-      subst (λ x. GrowsBy h x h2) (sym (packets_append s os ps qs))
-          (grows_append h (packets s os ps) (packets s (counted_all os ps) qs) h1 h2 a.0 b0),
+    let b0 : Adds h1 h2 (hands (packets s (counted_all os ps) qs)) =
+    subst (λ x. Adds h1 h2 (hands (packets s x qs))) a.1 b.0 in (
+      subst (λ x. Adds h h2 (hands x)) (sym (packets_append s os ps qs))
+          (hands_then h h1 h2 (packets s os ps) (packets s (counted_all os ps) qs) a.0 b0),
       b.1 ∙ ap (λ x. counted_all x qs) a.1 ∙ sym (counted_append os ps qs),
     )
 
 -- ---- up to one that isn't sent
 
 pub upto_none : (s : Sealer) (b : Bool) (ps : List Unsealed) (h : Handed) (os : List ToMember) →
-    (IsTrue b → ps ≡ []) → SendsUpTo s b ps h os h os
+    (IsTrue b → ps ≡ []) → Upto s b ps h os h os
 upto_none s b ps h os e = ([], ps, refl, e, sends_none s h os)
 
 pub upto_one : (s : Sealer) (b : Bool) (p : Unsealed) (h : Handed) (os : List ToMember) (h' : Handed)
-    (os' : List ToMember) → GrowsBy h (packet s p ((to_member os p.to).counter + 1) ∷ []) h' →
-    os' ≡ counted_for os p.to → SendsUpTo s b (p ∷ []) h os h' os'
+    (os' : List ToMember) → Adds h h' (hands (packet s p ((to_member os p.to).counter + 1) ∷ [])) →
+    os' ≡ counted_for os p.to → Upto s b (p ∷ []) h os h' os'
 upto_one s b p h os h' os' g e = (p ∷ [], [], refl, (λ _. refl), (g, e))
 
 pub upto_after : (s : Sealer) (b : Bool) (ps qs : List Unsealed) (h : Handed) (os : List ToMember) (h1 : Handed)
-    (os1 : List ToMember) (h2 : Handed) (os2 : List ToMember) → Sends s ps h os h1 os1 →
-    SendsUpTo s b qs h1 os1 h2 os2 → SendsUpTo s b (ps ++ qs) h os h2 os2
+    (os1 : List ToMember) (h2 : Handed) (os2 : List ToMember) → All s ps h os h1 os1 →
+    Upto s b qs h1 os1 h2 os2 → Upto s b (ps ++ qs) h os h2 os2
 upto_after s b ps qs h os h1 os1 h2 os2 a (first, rest, e, all, c) = (
   ps ++ first,
   rest,
@@ -81,16 +73,16 @@ upto_after s b ps qs h os h1 os1 h2 os2 a (first, rest, e, all, c) = (
 
 -- of more, the first of these
 pub upto_more : (s : Sealer) (ps qs : List Unsealed) (h : Handed) (os : List ToMember) (h' : Handed)
-    (os' : List ToMember) → SendsUpTo s false ps h os h' os' → SendsUpTo s false (ps ++ qs) h os h' os'
+    (os' : List ToMember) → Upto s false ps h os h' os' → Upto s false (ps ++ qs) h os h' os'
 upto_more s ps qs h os h' os' (first, rest, e, all, c) =
     (first, rest ++ qs, ap (λ x. x ++ qs) e ∙ append_assoc first rest qs, (λ f. absurd cc), c)
 
 -- all of them, where that is answered
 pub upto_all : (s : Sealer) (ps : List Unsealed) (h : Handed) (os : List ToMember) (h' : Handed)
-    (os' : List ToMember) → SendsUpTo s true ps h os h' os' → Sends s ps h os h' os'
+    (os' : List ToMember) → Upto s true ps h os h' os' → All s ps h os h' os'
 upto_all s ps h os h' os' (first, rest, e, all, c) =
     let same : ps ≡ first = e ∙ ap (λ x. first ++ x) (all refl) ∙ append-nil first in
-    subst (λ x. Sends s x h os h' os') (sym same) c
+    subst (λ x. All s x h os h' os') (sym same) c
 
 -- ---- pieces from one on
 
@@ -150,14 +142,14 @@ take_none n to echo held m i e = ap (λ x. take x (pieces_from to echo held m i)
 
 -- all that were to be sent were
 pub upto_done : (s : Sealer) (r : Bool) (all first rest : List Unsealed) (h : Handed) (os : List ToMember) (h' : Handed)
-    (os' : List ToMember) → all ≡ first ++ rest → rest ≡ [] → Sends s first h os h' os' → SendsUpTo s r all h os h' os'
+    (os' : List ToMember) → all ≡ first ++ rest → rest ≡ [] → All s first h os h' os' → Upto s r all h os h' os'
 upto_done s r all first rest h os h' os' split none done = (first, rest, split, (λ _. none), done)
 
 -- ---- one of two ways
 
 pub upto_if : (s : Sealer) (b r : Bool) (ps qs : List Unsealed) (h : Handed) (os os1 : List ToMember) (h' : Handed)
-    (os' : List ToMember) → (b ≡ true → SendsUpTo s r ps h os h' os') → (b ≡ false → SendsUpTo s r qs h os1 h' os') →
-    SendsUpTo s r (if b then ps else qs) h (if b then os else os1) h' os'
+    (os' : List ToMember) → (b ≡ true → Upto s r ps h os h' os') → (b ≡ false → Upto s r qs h os1 h' os') →
+    Upto s r (if b then ps else qs) h (if b then os else os1) h' os'
 upto_if s true r ps qs h os os1 h' os' x y = x refl
 upto_if s false r ps qs h os os1 h' os' x y = y refl
 
@@ -165,14 +157,14 @@ upto_if s false r ps qs h os os1 h' os' x y = y refl
 
 pub piece_fails : (s s' : Sealer) (r : Bool) (all first from : List Unsealed) (p : Unsealed) (rest : List Unsealed)
     (h : Handed) (os : List ToMember) (h1 : Handed) (os1 : List ToMember) (h2 : Handed) (os2 : List ToMember) →
-    all ≡ first ++ from → from ≡ p ∷ rest → s' ≡ s → r ≡ false → Sends s first h os h1 os1 →
-    SendsUpTo s' r (p ∷ []) h1 os1 h2 os2 → SendsUpTo s false all h os h2 os2
+    all ≡ first ++ from → from ≡ p ∷ rest → s' ≡ s → r ≡ false → All s first h os h1 os1 →
+    Upto s' r (p ∷ []) h1 os1 h2 os2 → Upto s false all h os h2 os2
 piece_fails s s' r all first from p rest h os h1 os1 h2 os2 split more same failed done last =
-    let one : SendsUpTo s r (p ∷ []) h1 os1 h2 os2 = subst (λ x. SendsUpTo x r (p ∷ []) h1 os1 h2 os2) same last in
-    let none : SendsUpTo s false (p ∷ []) h1 os1 h2 os2 =
-    subst (λ b. SendsUpTo s b (p ∷ []) h1 os1 h2 os2) failed one in
-    let longer : SendsUpTo s false (p ∷ rest) h1 os1 h2 os2 = upto_more s (p ∷ []) rest h1 os1 h2 os2 none in
-    subst (λ x. SendsUpTo s false x h os h2 os2) (sym (split ∙ ap (λ x. first ++ x) more))
+    let one : Upto s r (p ∷ []) h1 os1 h2 os2 = subst (λ x. Upto x r (p ∷ []) h1 os1 h2 os2) same last in
+    let none : Upto s false (p ∷ []) h1 os1 h2 os2 =
+    subst (λ b. Upto s b (p ∷ []) h1 os1 h2 os2) failed one in
+    let longer : Upto s false (p ∷ rest) h1 os1 h2 os2 = upto_more s (p ∷ []) rest h1 os1 h2 os2 none in
+    subst (λ x. Upto s false x h os h2 os2) (sym (split ∙ ap (λ x. first ++ x) more))
     (upto_after s false first (p ∷ rest) h os h1 os1 h2 os2 done longer)
 
 pub piece_splits : (all first from : List Unsealed) (p : Unsealed) (rest : List Unsealed) → all ≡ first ++ from →
@@ -182,11 +174,11 @@ piece_splits all first from p rest split more =
 
 pub piece_sends : (s s' : Sealer) (r : Bool) (first : List Unsealed) (p : Unsealed) (h : Handed) (os : List ToMember)
     (h1 : Handed) (os1 : List ToMember) (h2 : Handed) (os2 : List ToMember) → s' ≡ s → r ≡ true →
-    Sends s first h os h1 os1 → SendsUpTo s' r (p ∷ []) h1 os1 h2 os2 → Sends s (first ++ p ∷ []) h os h2 os2
+    All s first h os h1 os1 → Upto s' r (p ∷ []) h1 os1 h2 os2 → All s (first ++ p ∷ []) h os h2 os2
 piece_sends s s' r first p h os h1 os1 h2 os2 same sent done last =
-    let one : SendsUpTo s r (p ∷ []) h1 os1 h2 os2 = subst (λ x. SendsUpTo x r (p ∷ []) h1 os1 h2 os2) same last in
+    let one : Upto s r (p ∷ []) h1 os1 h2 os2 = subst (λ x. Upto x r (p ∷ []) h1 os1 h2 os2) same last in
     sends_append s first (p ∷ []) h os h1 os1 h2 os2 done
-    (upto_all s (p ∷ []) h1 os1 h2 os2 (subst (λ b. SendsUpTo s b (p ∷ []) h1 os1 h2 os2) sent one))
+    (upto_all s (p ∷ []) h1 os1 h2 os2 (subst (λ b. Upto s b (p ∷ []) h1 os1 h2 os2) sent one))
 
 -- ---- what a sender has of a member, as an index gives it
 
@@ -203,3 +195,37 @@ pub set_at : (os : List ToMember) (i j : ℕ) (o n : ToMember) (f : ToMember →
     o ≡ slice_index_or os j o → n ≡ f o → slice_set os j n ≡ slice_set os i (f (to_member os i))
 set_at os i j o n f e l read m =
     ap (λ k. slice_set os k n) e ∙ ap (slice_set os i) (m ∙ ap f (at_index os i j o e l read))
+
+-- ---- on a list
+
+-- what is added to the traffic of a wire below that was this
+pub upto_at : (s : Sealer) (b : Bool) (ps : List Unsealed) (h h' : Handed) (os os' : List ToMember)
+    (es : List WireEvent) → h es → SendsUpTo s b ps (Adds h h') os os' →
+    (es' : List WireEvent) × h' es' × SendsUpTo s b ps (λ more. es' ≡ es ++ more) os os'
+upto_at s b ps h h' os os' es t (first, rest, e, all, c) =
+    let more = hands (packets s os first) in (es ++ more, c.0 es t, first, rest, e, all, refl, c.1)
+
+-- none is added
+pub upto_nothing : (s : Sealer) (b : Bool) (ps : List Unsealed) (es : List WireEvent) (os : List ToMember) →
+    (IsTrue b → ps ≡ []) → SendsUpTo s b ps (λ more. es ≡ es ++ more) os os
+upto_nothing s b ps es os e = ([], ps, refl, e, sym (append-nil es), refl)
+
+sent_at : (s : Sealer) (r : Bool) (ps : List Unsealed) (h h' : Handed) (os os1 os' : List ToMember)
+    (es : List WireEvent) → h es →
+    ((r ≡ false) × IsQuiet h h' × (os' ≡ os)) ⊎ SendsUpTo s r ps (Adds h h') os1 os' →
+    (es' : List WireEvent) × h' es' ×
+    (((r ≡ false) × (es' ≡ es) × (os' ≡ os)) ⊎ SendsUpTo s r ps (λ more. es' ≡ es ++ more) os1 os')
+sent_at s r ps h h' os os1 os' es t (inl q) = (es, q.1 es t, inl (q.0, refl, q.2))
+sent_at s r ps h h' os os1 os' es t (inr u) =
+    let x = upto_at s r ps h h' os1 os' es t u in (x.0, x.1, inr x.2)
+
+-- a datagram is sent, or can't be
+pub sent_with : (s : Sealer) (can r : Bool) (ps : List Unsealed) (h h' : Handed) (os os1 os' : List ToMember)
+    (es : List WireEvent) → h es → (can ≡ false → (r ≡ false) × IsQuiet h h' × (os' ≡ os)) →
+    ((r ≡ false) × IsQuiet h h' × (os' ≡ os)) ⊎ SendsUpTo s r ps (Adds h h') os1 os' →
+    (es' : List WireEvent) × h' es' × (can ≡ false → (es' ≡ es) × (os' ≡ os)) ×
+    (((r ≡ false) × (es' ≡ es) × (os' ≡ os)) ⊎ SendsUpTo s r ps (λ more. es' ≡ es ++ more) os1 os')
+sent_with s true r ps h h' os os1 os' es t size sends =
+    let x = sent_at s r ps h h' os os1 os' es t sends in (x.0, x.1, (λ f. absurd cc), x.2)
+sent_with s false r ps h h' os os1 os' es t size sends =
+    let q = size refl in (es, q.1 es t, (λ f. (refl, q.2)), inl (q.0, refl, q.2))

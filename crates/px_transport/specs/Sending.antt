@@ -2,7 +2,7 @@
 use Rattle.std.specs.Prelude.{◌≡◌, ℕ, ◌+◌, ◌-◌, ◌^◌, ◌==◌, ◌&&◌, Bool, not, min, List, [], ◌∷◌, ◌++◌, length, map, take}
 use Rattle.std.specs.Prelude.{Option, Some, None, slice_set, slice_index_or, nat_le, nat_lt, if◌then◌else◌, IsTrue}
 use Rattle.std.specs.List.{range_with_len, filter}
-use Rattle.px_transport.specs.Wires.{GrowsBy}
+use Rattle.px_transport.specs.Wires.{WireEvent, hands}
 use Rattle.px_packet.specs.declared.start.Start.{Start}
 use Rattle.px_packet.specs.declared.kind.Kind.{Kind}
 use Rattle.px_packet.specs.declared.kind.Kind.TheVariants as kinds
@@ -130,17 +130,15 @@ counted_all os (p ∷ ps) = counted_all (counted_for os p.to) ps
 
 -- ---- what is handed to the wire below
 
--- these are the packets that it was handed more, and the counters after them
-abbrev pub Sends : Sealer → List Unsealed → (handed : Option (List (ℕ × List ℕ))) → List ToMember →
-    (handed' : Option (List (ℕ × List ℕ))) → List ToMember → Type 0
-Sends s ps handed os handed' os' = GrowsBy handed (packets s os ps) handed' × (os' ≡ counted_all os ps)
+-- these packets are added to its traffic, and the counters after them
+abbrev pub Sends : Sealer → List Unsealed → (adds : List WireEvent → Type 0) → (os os' : List ToMember) → Type 0
+Sends s ps adds os os' = adds (hands (packets s os ps)) × (os' ≡ counted_all os ps)
 
 -- the first of these packets: all of them, where that is answered
-abbrev pub SendsUpTo : Sealer → (is_all : Bool) → List Unsealed → (handed : Option (List (ℕ × List ℕ))) →
-    List ToMember → (handed' : Option (List (ℕ × List ℕ))) → List ToMember → Type 0
-SendsUpTo s is_all ps handed os handed' os' =
-    (first rest : List Unsealed) × (ps ≡ first ++ rest) × (IsTrue is_all → rest ≡ []) ×
-    Sends s first handed os handed' os'
+abbrev pub SendsUpTo : Sealer → (is_all : Bool) → List Unsealed → (adds : List WireEvent → Type 0) →
+    (os os' : List ToMember) → Type 0
+SendsUpTo s is_all ps adds os os' =
+    (first rest : List Unsealed) × (ps ≡ first ++ rest) × (IsTrue is_all → rest ≡ []) × Sends s first adds os os'
 
 -- ---- what a member sends
 

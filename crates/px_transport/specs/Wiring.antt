@@ -1,8 +1,8 @@
 -- What a wire of packets does.
-use Rattle.std.specs.Prelude.{◌≡◌, ℕ, zero, suc, ◌-◌, ◌^◌, ◌≤◌, min, Bool, true, false, List, [], ◌∷◌, length, take}
+use Rattle.std.specs.Prelude.{◌≡◌, ℕ, zero, suc, ◌-◌, ◌^◌, ◌≤◌, min, Bool, true, false, List, [], ◌∷◌, ◌++◌, length, take}
 use Rattle.std.specs.Prelude.{drop, replicate, Option, Some, None, IsTrue, ◌&&◌, ◌⊎◌, if◌then◌else◌}
 use Rattle.std.specs.List.{range_with_len, flat_map}
-use Rattle.px_transport.specs.Wires.{Gives, Counts, one_more}
+use Rattle.px_transport.specs.Wires.{WireEvent, Handed, Counts, gives, one_more, within}
 use Rattle.px_packet.specs.declared.start.Start.{Start}
 use Rattle.px_packet.specs.declared.header.Header.{Header}
 use Rattle.px_packet.specs.declared.fault.PacketFault.{PacketFault}
@@ -18,8 +18,10 @@ use Rattle.px_transport.specs.declared.coming.Coming.TheVariants as coming
 use Rattle.px_transport.specs.declared.receiver.Receiver.{Receiver}
 use Rattle.px_transport.specs.declared.packet_wire.PacketWire.{PacketWire}
 use Rattle.px_transport.specs.Receiving.{Heard, Given, Whole, Joined, Held, Nothing, Dropped, Memory, Hears, of_member}
+use Rattle.px_transport.specs.Receiving.{unheard}
 use Rattle.px_transport.specs.Receiving.{heard_after, given_by, reported_of, due_of}
 use Rattle.px_transport.specs.Sending.{is_other, can_be_cut, ToMember, Sealer, Unsealed, SendsUpTo, states, stated_for}
+use Rattle.px_transport.specs.Sending.{new_to}
 use Rattle.px_transport.specs.Sending.{report, again, packets_of, kept_with, to_member, next_state, refilled_for}
 use Rattle.px_transport.specs.Senders as senders
 
@@ -59,25 +61,24 @@ copies_of w = w.copies
 
 -- ---- what a wire knows, and does of its own
 
--- what was handed to the wire below, what was sent to each member, what was heard of each, and how many sends failed
+-- what went over the wire below, what was sent to each member, what was heard of each, and how many sends failed
 pub record WireState : Type 0 where
-  pub handed : Option (List (ℕ × List ℕ))
+  pub traffic : List WireEvent
   pub outgoing : List ToMember
   pub heard : List Heard
   pub failures : ℕ
 
--- this is so: `handed` is what the wire below tells
-pub record IsWireState {W C : Type 0} (handed : Option (List (ℕ × List ℕ))) (k : WireState) (w : PacketWire W C) :
+-- this is so, where that went over the wire below
+pub record IsWireState {W C : Type 0} (below : List WireEvent → Type 0) (k : WireState) (w : PacketWire W C) :
     Type 0 where
-  pub handed_is : handed ≡ k.handed
+  pub traffic_is : below k.traffic
   pub outgoing_is : outgoing_of w ≡ k.outgoing
   pub heard_is : Hears (sealer_of w).start k.heard w.receiver
   pub failures_is : w.failures ≡ k.failures
 
--- the state of a wire: `handed` is what the wire below tells, and `hs` what was heard
-abbrev pub state_of : {W C : Type 0} → (handed : Option (List (ℕ × List ℕ))) → (hs : List Heard) → PacketWire W C →
-    WireState
-state_of handed hs w = record { handed = handed; outgoing = outgoing_of w; heard = hs; failures = w.failures }
+-- the state of a wire: `es` went over the wire below, and `hs` was heard
+abbrev pub state_of : {W C : Type 0} → (es : List WireEvent) → (hs : List Heard) → PacketWire W C → WireState
+state_of es hs w = record { traffic = es; outgoing = outgoing_of w; heard = hs; failures = w.failures }
 
 -- it stays this member's, with these keys
 pub record IsSameMember {W C : Type 0} (w w' : PacketWire W C) : Type 0 where
@@ -123,7 +124,8 @@ state_for now k (Again to held) = record k { outgoing = refilled_for k.outgoing 
 -- a duty is done: its packets are sent, or one of them isn't, no later ones are, and that is counted
 pub record Does (s : Sealer) (now : ℕ) (d : Duty) (k k' : WireState) : Type 0 where
   pub is_all : Bool
-  pub sends : SendsUpTo s is_all (packets_for now k d) k.handed (state_for now k d).outgoing k'.handed k'.outgoing
+  pub sends : SendsUpTo s is_all (packets_for now k d) (λ more. k'.traffic ≡ k.traffic ++ more)
+      (state_for now k d).outgoing k'.outgoing
   pub heard_is : k'.heard ≡ (state_for now k d).heard
   pub counts : Counts is_all k.failures k'.failures
 
@@ -234,7 +236,7 @@ more_if b n = if b then one_more n else n
 -- what comes of a packet in code
 abbrev pub Comes : Option (Header × List ℕ) → Option Given → (room : ℕ) → Coming → (into : List ℕ) → Type 0
 Comes p g room (coming.Given n) into =
-    (n ≤ length into) × (take n into ≡ take room (datagram_of g)) × (duties_of p g ≡ []) × (is_dropped g ≡ false) ×
+    (n ≤ length into) × (take n into ≡ within room (datagram_of g)) × (duties_of p g ≡ []) × (is_dropped g ≡ false) ×
     (is_copy g ≡ false)
 Comes p g room (coming.Held from held) into =
     (datagram_of g ≡ []) × (duties_of p g ≡ Again from held ∷ []) × (is_dropped g ≡ false) × (is_copy g ≡ false)
@@ -250,12 +252,12 @@ IsWithin (coming.Held from held) into = Unit {0}
 IsWithin coming.Dropped into = Unit {0}
 IsWithin coming.OtherMachine into = Unit {0}
 
--- bytes that came are heard: what is given of them, cut to the room that there is, and what is counted then
+-- bytes that came are heard: what is given of them, where there is room for it, and what is counted then
 pub record Takes (keys : List (List ℕ)) (s : Sealer) (now : ℕ) (came : List ℕ) (room : ℕ) (given : List ℕ)
     (k k' : WireState) (dropped dropped' copies copies' : ℕ) : Type 0 where
   pub memory : Memory
   pub given_is :
-      given ≡ take room (datagram_of (given_of s.start memory k.heard (opened keys s came) now))
+      given ≡ within room (datagram_of (given_of s.start memory k.heard (opened keys s came) now))
   pub does :
       DoesAll s now (duties_of (opened keys s came) (given_of s.start memory k.heard (opened keys s came) now))
       (record k { heard = heard_with s.start memory k.heard (opened keys s came) now }) k'
@@ -272,29 +274,25 @@ TakesAny keys s now (Some b) room (Some g) k k' dropped dropped' copies copies' 
     Takes keys s now b room g k k' dropped dropped' copies copies'
 
 -- a receive: first what is due is done; then the wire below is asked, which may fail; then what came is heard
-pub record Receives {W C : Type 0} (below below' : Option (List (List ℕ))) (handed handed' : Option (List (ℕ × List ℕ)))
-    (hs : List Heard) (room : ℕ) (given : Option (List ℕ)) (w w' : PacketWire W C) : Type 0 where
+pub record Received (keys : List (List ℕ)) (s : Sealer) (room : ℕ) (given : Option (List ℕ)) (k k' : WireState)
+    (dropped dropped' copies copies' : ℕ) : Type 0 where
   pub now : ℕ
-  pub came : Option (List ℕ)
-  pub came_is : Gives below came below'
   pub before : WireState
-  pub does : DoesAll (sealer_of w) now (upkeep (sealer_of w)) (state_of handed hs w) before
+  pub does : DoesAll s now (upkeep s) k before
+  pub came : Option (List ℕ)
   pub failed : ℕ
   pub counts : before.failures ≤ failed
-  pub after : WireState
-  pub takes : TakesAny (keys_of w) (sealer_of w) now came room given (record before { failures = failed }) after
-      w.dropped w'.dropped w.copies w'.copies
-  pub state_is : IsWireState handed' after w'
+  pub takes : TakesAny keys s now came room given
+      (record before { traffic = before.traffic ++ gives came; failures = failed }) k' dropped dropped' copies copies'
 
 -- a wait: what is due is done, and the wire below is waited for, which may fail
-pub record Waits {W C : Type 0} (handed handed' : Option (List (ℕ × List ℕ))) (hs : List Heard)
-    (w w' : PacketWire W C) : Type 0 where
+pub record Waited (s : Sealer) (k k' : WireState) : Type 0 where
   pub now : ℕ
   pub before : WireState
-  pub does : DoesAll (sealer_of w) now (upkeep (sealer_of w)) (state_of handed hs w) before
+  pub does : DoesAll s now (upkeep s) k before
   pub failed : ℕ
   pub counts : before.failures ≤ failed
-  pub state_is : IsWireState handed' (record before { failures = failed }) w'
+  pub after : k' ≡ record before { failures = failed }
 
 -- whether a datagram for a member can be sent: it is for another member, isn't empty, and isn't too long to be cut
 abbrev pub can_send : Sealer → (to : ℕ) → List ℕ → Bool
@@ -302,14 +300,44 @@ can_send s to m = is_other s to && can_be_cut m
 
 -- a send: the packets of the datagram were handed over and sent; or they were up to one that wasn't sent; or nothing
 -- was, as where it can't be sent
-pub record IsSent {W C : Type 0} (handed handed' : Option (List (ℕ × List ℕ))) (hs : List Heard) (to : ℕ)
-    (m : List ℕ) (sent : Bool) (w w' : PacketWire W C) : Type 0 where
+pub record IsSent (s : Sealer) (to : ℕ) (m : List ℕ) (sent : Bool) (k k' : WireState) : Type 0 where
   pub now : ℕ
-  pub can : IsTrue sent → can_send (sealer_of w) to m ≡ true
-  pub cannot : can_send (sealer_of w) to m ≡ false →
-      (handed' ≡ handed) × (outgoing_of w' ≡ refilled_for (outgoing_of w) to now)
+  pub can : IsTrue sent → can_send s to m ≡ true
+  pub cannot : can_send s to m ≡ false →
+      (k'.traffic ≡ k.traffic) × (k'.outgoing ≡ refilled_for k.outgoing to now)
   pub sends :
-      ((sent ≡ false) × (handed' ≡ handed) × (outgoing_of w' ≡ refilled_for (outgoing_of w) to now)) ⊎
-      SendsUpTo (sealer_of w) sent (packets_of (refilled_for (outgoing_of w) to now) to (start_of hs to) m) handed
-      (kept_with (refilled_for (outgoing_of w) to now) to m) handed' (outgoing_of w')
-  pub receiver_is : receiver_of w' ≡ receiver_of w
+      ((sent ≡ false) × (k'.traffic ≡ k.traffic) × (k'.outgoing ≡ refilled_for k.outgoing to now)) ⊎
+      SendsUpTo s sent (packets_of (refilled_for k.outgoing to now) to (start_of k.heard to) m)
+      (λ more. k'.traffic ≡ k.traffic ++ more) (kept_with (refilled_for k.outgoing to now) to m) k'.outgoing
+  pub heard_is : k'.heard ≡ k.heard
+
+-- ---- traffic
+
+-- a wire that is new, over one that is new
+pub record IsNew (s : Sealer) (k : WireState) : Type 0 where
+  pub traffic_is : k.traffic ≡ []
+  pub outgoing_is : k.outgoing ≡ replicate s.members new_to
+  pub heard_is : k.heard ≡ replicate s.members unheard
+
+-- a call: a receive, which may give a datagram; a wait; or a send
+pub data Call (keys : List (List ℕ)) (s : Sealer) (k k' : WireState) (more : List WireEvent) : Type 0 where
+  Receive : (room : ℕ) (given : Option (List ℕ)) (dropped dropped' copies copies' : ℕ) →
+      Received keys s room given k k' dropped dropped' copies copies' → more ≡ gives given → Call keys s k k' more
+  Wait : Waited s k k' → more ≡ [] → Call keys s k k' more
+  Send : (to : ℕ) (m : List ℕ) (sent : Bool) → IsSent s to m sent k k' → more ≡ Handed to m ∷ [] →
+      Call keys s k k' more
+
+-- n calls of a new wire, one after another, lead to this state, and this went over the wire in them, in order
+abbrev pub Calls : (keys : List (List ℕ)) → Sealer → (n : ℕ) → (k : WireState) → (es : List WireEvent) → Type 0
+Calls keys s zero k es = IsNew s k × (es ≡ [])
+Calls keys s (suc n) k es =
+    (j : WireState) × (before more : List WireEvent) × Calls keys s n j before × Call keys s j k more ×
+    (es ≡ before ++ more)
+
+-- this went over a wire of packets, where that is what went over the wire below
+pub record WentSealed {W C : Type 0} (below : List WireEvent → Type 0) (w : PacketWire W C) (es : List WireEvent) :
+    Type 0 where
+  pub calls : ℕ
+  pub state : WireState
+  pub made : Calls (keys_of w) (sealer_of w) calls state es
+  pub state_is : IsWireState below state w

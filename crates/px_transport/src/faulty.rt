@@ -1,9 +1,10 @@
 //! A wire that fails at times.
 
-ghost use Rattle.std.specs.Prelude.{◌≡◌, ◌<◌, ◌≤◌, ◌+◌, ℕ, List, None, false, IfSome, IsTrue, length, option_map};
-ghost use Rattle.std.specs.Prelude.{take};
-ghost use Rattle.px_transport.specs.Wires.{Gives, Grows, Counts, one_more};
+ghost use Rattle.std.specs.Prelude.{◌≡◌, ◌<◌, ◌≤◌, ◌+◌, ℕ, List, [], ◌∷◌, None, false, IfSome, IsTrue, length};
+ghost use Rattle.std.specs.Prelude.{option_map, take};
+ghost use Rattle.px_transport.specs.Wires.{Adds, Counts, IsQuiet, WireEvent, Handed, gives, one_more};
 ghost use Rattle.px_transport.specs.Faulty.{inner_of, recvs_left, sends_left, period_of, missed_of, failures_of};
+ghost use Rattle.px_transport.specs.Faulty.{WentFaulty};
 
 use crate::wire::Wire;
 
@@ -30,6 +31,7 @@ impl<W: Wire> FaultyWire<W> {
         ensures recvs { recvs_left result ≡ k }
         ensures sends { sends_left result ≡ k }
         ensures missed { missed_of result ≡ 0 }
+        ensures traffic { W.traffic inner [] → WentFaulty (W.traffic (inner_of result)) [] }
     {
         FaultyWire {
             inner,
@@ -74,10 +76,7 @@ impl<W: Wire> FaultyWire<W> {
 }
 
 impl<W: Wire> Wire for FaultyWire<W> {
-    ghost given = { λ w. W.given w.inner };
-
-    // not all that it was handed came to the wire below
-    ghost handed = { λ w. None };
+    ghost traffic = { λ w es. WentFaulty (W.traffic w.inner) es };
 
     ghost failed = { λ w. failures_of (W.failed w.inner) w };
 
@@ -88,9 +87,8 @@ impl<W: Wire> Wire for FaultyWire<W> {
             (missed_of self.new ≡ missed_of self.old) }
         ensures rest { (sends_left self.new ≡ sends_left self.old) × (period_of self.new ≡ period_of self.old) }
         ensures fits { IfSome result (λ n. n ≤ length into.new) }
-        ensures given { Gives (W.given (inner_of self.old)) (option_map (λ n. take n into.new) result)
-            (W.given (inner_of self.new)) }
-        ensures quiet { W.handed (inner_of self.new) ≡ W.handed (inner_of self.old) }
+        ensures gave { Adds (WentFaulty (W.traffic (inner_of self.old)))
+            (WentFaulty (W.traffic (inner_of self.new))) (gives (option_map (λ n. take n into.new) result)) }
         ensures counts { failures_of (W.failed (inner_of self.old)) self.old ≤
             failures_of (W.failed (inner_of self.new)) self.new }
     {
@@ -107,9 +105,8 @@ impl<W: Wire> Wire for FaultyWire<W> {
             (missed_of self.new ≡ missed_of self.old) }
         ensures rest { (sends_left self.new ≡ sends_left self.old) × (period_of self.new ≡ period_of self.old) }
         ensures fits { IfSome result (λ n. n ≤ length into.new) }
-        ensures given { Gives (W.given (inner_of self.old)) (option_map (λ n. take n into.new) result)
-            (W.given (inner_of self.new)) }
-        ensures quiet { W.handed (inner_of self.new) ≡ W.handed (inner_of self.old) }
+        ensures gave { Adds (WentFaulty (W.traffic (inner_of self.old)))
+            (WentFaulty (W.traffic (inner_of self.new))) (gives (option_map (λ n. take n into.new) result)) }
         ensures counts { failures_of (W.failed (inner_of self.old)) self.old ≤
             failures_of (W.failed (inner_of self.new)) self.new }
     {
@@ -122,8 +119,8 @@ impl<W: Wire> Wire for FaultyWire<W> {
     fn wait(&mut self, milliseconds: u32)
         ensures rest { (sends_left self.new ≡ sends_left self.old) × (recvs_left self.new ≡ recvs_left self.old) ×
             (period_of self.new ≡ period_of self.old) × (missed_of self.new ≡ missed_of self.old) }
-        ensures given { W.given (inner_of self.new) ≡ W.given (inner_of self.old) }
-        ensures quiet { W.handed (inner_of self.new) ≡ W.handed (inner_of self.old) }
+        ensures quiet { IsQuiet (WentFaulty (W.traffic (inner_of self.old)))
+            (WentFaulty (W.traffic (inner_of self.new))) }
         ensures counts { failures_of (W.failed (inner_of self.old)) self.old ≤
             failures_of (W.failed (inner_of self.new)) self.new }
     {
@@ -139,10 +136,11 @@ impl<W: Wire> Wire for FaultyWire<W> {
             (sends_left self.new ≡ period_of self.old) × (missed_of self.new ≡ one_more (missed_of self.old)) }
         ensures passed { 1 < sends_left self.old → (sends_left self.new + 1 ≡ sends_left self.old) ×
             (missed_of self.new ≡ missed_of self.old) ×
-            Grows (W.handed (inner_of self.old)) (to, bytes.now) (W.handed (inner_of self.new)) ×
+            Adds (W.traffic (inner_of self.old)) (W.traffic (inner_of self.new)) (Handed to bytes.now ∷ []) ×
             Counts result (W.failed (inner_of self.old)) (W.failed (inner_of self.new)) }
         ensures rest { (recvs_left self.new ≡ recvs_left self.old) × (period_of self.new ≡ period_of self.old) }
-        ensures quiet { W.given (inner_of self.new) ≡ W.given (inner_of self.old) }
+        ensures handed { Adds (WentFaulty (W.traffic (inner_of self.old)))
+            (WentFaulty (W.traffic (inner_of self.new))) (Handed to bytes.now ∷ []) }
         ensures counts { Counts result (failures_of (W.failed (inner_of self.old)) self.old)
             (failures_of (W.failed (inner_of self.new)) self.new) }
     {

@@ -1,12 +1,11 @@
 //! A wire that keeps what a member sends to itself.
 
-ghost use Rattle.std.specs.Prelude.{◌≡◌, ◌≢◌, ◌⊎◌, ◌≤◌, ◌<◌, ◌++◌, ℕ, List, [], ◌∷◌, None, Option, true};
-ghost use Rattle.std.specs.Prelude.{OnOk, OnErr, IfSome, length, option_map, take};
-ghost use Rattle.px_transport.specs.Wires.{Gives, Grows, Counts};
-ghost use Rattle.px_transport.specs.Memory.{IsNext};
-ghost use Rattle.px_transport.specs.Loopback.{below_of, me_of, kept_of, given_past, handed_past, IsKept};
+ghost use Rattle.std.specs.Prelude.{◌≡◌, ◌≢◌, ◌⊎◌, ◌≤◌, ◌<◌, ◌++◌, [], ◌∷◌, None, OnOk, OnErr, IfSome, length};
+ghost use Rattle.std.specs.Prelude.{option_map, take};
+ghost use Rattle.px_transport.specs.Wires.{Adds, Counts, IsQuiet, Handed, gives};
+ghost use Rattle.px_transport.specs.Loopback.{below_of, me_of, kept_of, IsReturned, Looped, IsKept};
 
-use crate::cutting::put;
+use crate::cutting::put_whole;
 use crate::wire::Wire;
 use std::alloc::{AllocError, Global};
 use std::collections::VecDeque;
@@ -15,18 +14,13 @@ use std::collections::VecDeque;
 const MOST_KEPT: usize = 64;
 
 /// A wire that keeps what a member sends to itself, and gives that back before it asks the wire below. Where 64 are
-/// kept or memory is wanting, a datagram goes to the wire below as any other.
-///
-/// It tells what was given and handed over as the wire below does, up to the first datagram that it gave or kept.
+/// kept or memory is refused, a datagram goes to the wire below as any other. In place of one that is longer than the
+/// slice an empty one is given, which is no member's.
 #[derive(Drop)]
 pub struct LoopbackWire<W> {
     below: W,
     me: u8,
     kept: VecDeque<Vec<u8>>,
-    /// Whether any that was kept was given.
-    has_given: bool,
-    /// Whether any was kept.
-    has_kept: bool,
     alloc: Global,
 }
 
@@ -36,15 +30,12 @@ impl<W: Wire> LoopbackWire<W> {
         ensures below { below_of result ≡ below }
         ensures me { me_of result ≡ me }
         ensures kept { kept_of result ≡ [] }
-        ensures given { (all : Option (List (List ℕ))) → given_past all result ≡ all }
-        ensures handed { (all : Option (List (ℕ × List ℕ))) → handed_past all result ≡ all }
+        ensures traffic { W.traffic below [] → Looped (W.traffic (below_of result)) result [] }
     {
         LoopbackWire {
             below,
             me,
             kept: VecDeque::new(alloc),
-            has_given: false,
-            has_kept: false,
             alloc,
         }
     }
@@ -57,8 +48,6 @@ impl<W: Wire> LoopbackWire<W> {
             below,
             me: _,
             kept: _,
-            has_given: _,
-            has_kept: _,
             alloc: _,
         } = self;
         below
@@ -73,55 +62,44 @@ impl<W: Wire> LoopbackWire<W> {
 
     /// Takes the first that is kept.
     fn take_kept(&mut self, into: &mut [u8]) -> Option<usize>
-        ensures next { IsNext (kept_of self.old) (length into.old) (option_map (λ n. take n into.new) result)
+        ensures next { IsReturned (kept_of self.old) (length into.old) (option_map (λ n. take n into.new) result)
             (kept_of self.new) }
         ensures fits { IfSome result (λ n. n ≤ length into.new) }
-        ensures given { IfSome result (λ n. self.new.has_given ≡ true) }
-        ensures none { result ≡ None → (kept_of self.old ≡ []) × (kept_of self.new ≡ []) ×
-            (self.new.has_given ≡ self.old.has_given) }
+        ensures none { result ≡ None → (kept_of self.old ≡ []) × (kept_of self.new ≡ []) }
         ensures below { (below_of self.new ≡ below_of self.old) × (me_of self.new ≡ me_of self.old) }
-        ensures handed { self.new.has_kept ≡ self.old.has_kept }
     {
-        let Some(mut datagram) = self.kept.pop_front() else {
+        let Some(datagram) = self.kept.pop_front() else {
             return None;
         };
-        self.has_given = true;
-        Some(put(&mut datagram, into))
+        Some(put_whole(datagram.as_slice(), into))
     }
 
     /// Keeps a datagram.
     fn keep(&mut self, bytes: &[u8]) -> Result<(), AllocError>
         ensures kept { OnOk result (kept_of self.new ≡ kept_of self.old ++ bytes.now ∷ []) }
-        ensures handed { OnOk result (self.new.has_kept ≡ true) }
-        ensures lost { OnErr result ((kept_of self.new ≡ kept_of self.old) × (self.new.has_kept ≡ self.old.has_kept)) }
+        ensures lost { OnErr result (kept_of self.new ≡ kept_of self.old) }
         ensures below { (below_of self.new ≡ below_of self.old) × (me_of self.new ≡ me_of self.old) }
-        ensures given { self.new.has_given ≡ self.old.has_given }
     {
         let copy = Vec::from_slice(self.alloc, bytes)?;
         self.kept.push_back(copy)?;
-        self.has_kept = true;
         Ok(())
     }
 }
 
 impl<W: Wire> Wire for LoopbackWire<W> {
-    ghost given = { λ w. given_past (W.given w.below) w };
-
-    ghost handed = { λ w. handed_past (W.handed w.below) w };
+    ghost traffic = { λ w es. Looped (W.traffic w.below) w es };
 
     ghost failed = { λ w. W.failed w.below };
 
     fn recv(&mut self, into: &mut [u8]) -> Option<usize>
-        ensures own { kept_of self.old ≢ [] → (below_of self.new ≡ below_of self.old) × IsNext (kept_of self.old)
+        ensures own { kept_of self.old ≢ [] → (below_of self.new ≡ below_of self.old) × IsReturned (kept_of self.old)
             (length into.old) (option_map (λ n. take n into.new) result) (kept_of self.new) }
-        ensures below { kept_of self.old ≡ [] → (kept_of self.new ≡ []) × Gives (W.given (below_of self.old))
-            (option_map (λ n. take n into.new) result) (W.given (below_of self.new)) }
+        ensures below { kept_of self.old ≡ [] → (kept_of self.new ≡ []) × Adds (W.traffic (below_of self.old))
+            (W.traffic (below_of self.new)) (gives (option_map (λ n. take n into.new) result)) }
         ensures me { me_of self.new ≡ me_of self.old }
         ensures fits { IfSome result (λ n. n ≤ length into.new) }
-        ensures given { Gives (given_past (W.given (below_of self.old)) self.old)
-            (option_map (λ n. take n into.new) result) (given_past (W.given (below_of self.new)) self.new) }
-        ensures quiet { handed_past (W.handed (below_of self.new)) self.new ≡
-            handed_past (W.handed (below_of self.old)) self.old }
+        ensures gave { Adds (Looped (W.traffic (below_of self.old)) self.old)
+            (Looped (W.traffic (below_of self.new)) self.new) (gives (option_map (λ n. take n into.new) result)) }
         ensures counts { W.failed (below_of self.old) ≤ W.failed (below_of self.new) }
     {
         if let Some(n) = self.take_kept(into) {
@@ -131,16 +109,14 @@ impl<W: Wire> Wire for LoopbackWire<W> {
     }
 
     fn poll(&mut self, into: &mut [u8]) -> Option<usize>
-        ensures own { kept_of self.old ≢ [] → (below_of self.new ≡ below_of self.old) × IsNext (kept_of self.old)
+        ensures own { kept_of self.old ≢ [] → (below_of self.new ≡ below_of self.old) × IsReturned (kept_of self.old)
             (length into.old) (option_map (λ n. take n into.new) result) (kept_of self.new) }
-        ensures below { kept_of self.old ≡ [] → (kept_of self.new ≡ []) × Gives (W.given (below_of self.old))
-            (option_map (λ n. take n into.new) result) (W.given (below_of self.new)) }
+        ensures below { kept_of self.old ≡ [] → (kept_of self.new ≡ []) × Adds (W.traffic (below_of self.old))
+            (W.traffic (below_of self.new)) (gives (option_map (λ n. take n into.new) result)) }
         ensures me { me_of self.new ≡ me_of self.old }
         ensures fits { IfSome result (λ n. n ≤ length into.new) }
-        ensures given { Gives (given_past (W.given (below_of self.old)) self.old)
-            (option_map (λ n. take n into.new) result) (given_past (W.given (below_of self.new)) self.new) }
-        ensures quiet { handed_past (W.handed (below_of self.new)) self.new ≡
-            handed_past (W.handed (below_of self.old)) self.old }
+        ensures gave { Adds (Looped (W.traffic (below_of self.old)) self.old)
+            (Looped (W.traffic (below_of self.new)) self.new) (gives (option_map (λ n. take n into.new) result)) }
         ensures counts { W.failed (below_of self.old) ≤ W.failed (below_of self.new) }
     {
         if let Some(n) = self.take_kept(into) {
@@ -152,10 +128,8 @@ impl<W: Wire> Wire for LoopbackWire<W> {
     fn wait(&mut self, milliseconds: u32)
         ensures own { kept_of self.old ≢ [] → self.new ≡ self.old }
         ensures kept { (kept_of self.new ≡ kept_of self.old) × (me_of self.new ≡ me_of self.old) }
-        ensures given { given_past (W.given (below_of self.new)) self.new ≡
-            given_past (W.given (below_of self.old)) self.old }
-        ensures quiet { handed_past (W.handed (below_of self.new)) self.new ≡
-            handed_past (W.handed (below_of self.old)) self.old }
+        ensures quiet { IsQuiet (Looped (W.traffic (below_of self.old)) self.old)
+            (Looped (W.traffic (below_of self.new)) self.new) }
         ensures counts { W.failed (below_of self.old) ≤ W.failed (below_of self.new) }
     {
         if self.kept.is_empty() {
@@ -176,13 +150,11 @@ impl<W: Wire> Wire for LoopbackWire<W> {
 
     fn send(&mut self, to: u8, bytes: &[u8]) -> bool
         ensures kept { IsKept self.old to bytes.now result self.new ⊎ ((kept_of self.new ≡ kept_of self.old) ×
-            Grows (W.handed (below_of self.old)) (to, bytes.now) (W.handed (below_of self.new)) ×
+            Adds (W.traffic (below_of self.old)) (W.traffic (below_of self.new)) (Handed to bytes.now ∷ []) ×
             Counts result (W.failed (below_of self.old)) (W.failed (below_of self.new))) }
         ensures me { me_of self.new ≡ me_of self.old }
-        ensures handed { Grows (handed_past (W.handed (below_of self.old)) self.old) (to, bytes.now)
-            (handed_past (W.handed (below_of self.new)) self.new) }
-        ensures quiet { given_past (W.given (below_of self.new)) self.new ≡
-            given_past (W.given (below_of self.old)) self.old }
+        ensures handed { Adds (Looped (W.traffic (below_of self.old)) self.old)
+            (Looped (W.traffic (below_of self.new)) self.new) (Handed to bytes.now ∷ []) }
         ensures counts { Counts result (W.failed (below_of self.old)) (W.failed (below_of self.new)) }
     {
         if to == self.me && self.kept.len() < MOST_KEPT && self.keep(bytes).is_ok() {

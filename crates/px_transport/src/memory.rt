@@ -1,15 +1,15 @@
 //! A wire in memory.
 
-ghost use Rattle.std.specs.Prelude.{◌≡◌, ◌≤◌, [], Some, None, true, IfSome, OnOk, OnErr, length, map, option_map};
-ghost use Rattle.std.specs.Prelude.{take};
-ghost use Rattle.px_transport.specs.Wires.{Gives, Grows};
-ghost use Rattle.px_transport.specs.Memory.{given_of, handed_of, coming_of, IsNext};
+ghost use Rattle.std.specs.Prelude.{◌≡◌, ◌≤◌, ◌++◌, [], ◌∷◌, Some, None, true, IfSome, OnOk, OnErr, length, map};
+ghost use Rattle.std.specs.Prelude.{option_map, take};
+ghost use Rattle.px_transport.specs.Wires.{Adds, IsQuiet, gives};
+ghost use Rattle.px_transport.specs.Memory.{given_of, handed_of, sent_of, coming_of, IsNext, WentOver};
 
 use crate::cutting::put;
 use crate::wire::Wire;
 use std::alloc::{AllocError, Global};
 
-/// A wire in memory: it gives the datagrams that it was made with, in order, and tells what it was handed as long as
+/// A wire in memory: it gives the datagrams that it was made with, in order, and keeps what it is handed as long as
 /// memory holds that.
 #[derive(Drop)]
 pub struct MemoryWire {
@@ -27,8 +27,9 @@ impl MemoryWire {
     /// A wire that gives these datagrams, and was handed nothing. Takes no memory.
     pub fn new(alloc: Global, coming: Vec<Vec<u8>>) -> MemoryWire
         ensures coming { coming_of result ≡ map (λ d. d.items) coming.items }
-        ensures given { given_of result ≡ Some [] }
+        ensures given { given_of result ≡ [] }
         ensures handed { handed_of result ≡ Some [] }
+        ensures traffic { WentOver result [] }
     {
         MemoryWire {
             coming,
@@ -40,7 +41,7 @@ impl MemoryWire {
         }
     }
 
-    /// What it was handed: for whom, and the bytes. `None` once memory was wanting.
+    /// What it was handed: for whom, and the bytes. `None` once memory was refused.
     pub fn sent(&self) -> Option<&[(u8, Vec<u8>)]>
         ensures { option_map (λ s. map (λ d. (d.0, d.1.items)) s.now) result ≡ handed_of self.now }
     {
@@ -52,8 +53,8 @@ impl MemoryWire {
     }
 
     fn keep(&mut self, to: u8, bytes: &[u8]) -> Result<(), AllocError>
-        ensures kept { OnOk result (Grows (handed_of self.old) (to, bytes.now) (handed_of self.new)) }
-        ensures lost { OnErr result (handed_of self.new ≡ handed_of self.old) }
+        ensures kept { OnOk result (sent_of self.new ≡ sent_of self.old ++ (to, bytes.now) ∷ []) }
+        ensures whole { self.new.is_whole ≡ self.old.is_whole }
         ensures given { given_of self.new ≡ given_of self.old }
         ensures failures { self.new.failures ≡ self.old.failures }
     {
@@ -64,9 +65,7 @@ impl MemoryWire {
 }
 
 impl Wire for MemoryWire {
-    ghost given = { given_of };
-
-    ghost handed = { handed_of };
+    ghost traffic = { WentOver };
 
     ghost failed = { λ w. w.failures };
 
@@ -74,8 +73,7 @@ impl Wire for MemoryWire {
         ensures next { IsNext (coming_of self.old) (length into.old) (option_map (λ n. take n into.new) result)
             (coming_of self.new) }
         ensures fits { IfSome result (λ n. n ≤ length into.new) }
-        ensures given { Gives (given_of self.old) (option_map (λ n. take n into.new) result) (given_of self.new) }
-        ensures quiet { handed_of self.new ≡ handed_of self.old }
+        ensures gave { Adds (WentOver self.old) (WentOver self.new) (gives (option_map (λ n. take n into.new) result)) }
         ensures counts { self.old.failures ≤ self.new.failures }
     {
         if self.next >= self.coming.len() {
@@ -90,8 +88,7 @@ impl Wire for MemoryWire {
         ensures next { IsNext (coming_of self.old) (length into.old) (option_map (λ n. take n into.new) result)
             (coming_of self.new) }
         ensures fits { IfSome result (λ n. n ≤ length into.new) }
-        ensures given { Gives (given_of self.old) (option_map (λ n. take n into.new) result) (given_of self.new) }
-        ensures quiet { handed_of self.new ≡ handed_of self.old }
+        ensures gave { Adds (WentOver self.old) (WentOver self.new) (gives (option_map (λ n. take n into.new) result)) }
         ensures counts { self.old.failures ≤ self.new.failures }
     {
         self.recv(into)
@@ -99,8 +96,7 @@ impl Wire for MemoryWire {
 
     fn wait(&mut self, _milliseconds: u32)
         ensures stays { coming_of self.new ≡ coming_of self.old }
-        ensures given { given_of self.new ≡ given_of self.old }
-        ensures quiet { handed_of self.new ≡ handed_of self.old }
+        ensures quiet { IsQuiet (WentOver self.old) (WentOver self.new) }
         ensures counts { self.new.failures ≡ self.old.failures }
     {}
 
@@ -111,12 +107,14 @@ impl Wire for MemoryWire {
     }
 
     fn send(&mut self, to: u8, bytes: &[u8]) -> bool {
-        let kept = self.keep(to, bytes).is_ok();
-        if !kept {
-            self.is_whole = false;
-            self.failures = self.failures.saturating_add(1);
+        match self.keep(to, bytes) {
+            Ok(()) => true,
+            Err(_) => {
+                self.is_whole = false;
+                self.failures = self.failures.saturating_add(1);
+                false
+            }
         }
-        kept
     }
 
     fn failures(&self) -> u64 {

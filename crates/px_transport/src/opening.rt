@@ -1,6 +1,7 @@
 //! Packets that are opened and taken.
 
 ghost use Rattle.std.specs.Prelude.{◌≡◌, ◌≤◌, List, Some, length, take};
+ghost use Rattle.px_transport.specs.Wires.{within};
 ghost use Rattle.px_packet.specs.declared.start.Start.{Start};
 ghost use Rattle.px_packet.specs.Keyed.{keys_of};
 ghost use Rattle.px_transport.specs.Receiving.{Heard, Memory, Hears, heard_after, given_by};
@@ -13,13 +14,16 @@ use crate::sender::Sender;
 use crate::taken::Taken;
 use px_packet::{Arrival, Header};
 
-/// Copies the bytes to the room that there is: how many these are.
+/// Copies the bytes to the room that there is, where they fit, or else none: how many these are.
 fn put(bytes: &[u8], into: &mut [u8]) -> usize
     ensures fits { result ≤ length into.new }
-    ensures written { take result into.new ≡ take (length into.old) bytes.now }
+    ensures written { take result into.new ≡ within (length into.old) bytes.now }
 {
-    let n = bytes.len().min(into.len());
-    into[..n].copy_from_slice(&bytes[..n]);
+    let n = bytes.len();
+    if n > into.len() {
+        return 0;
+    }
+    into[..n].copy_from_slice(bytes);
     n
 }
 

@@ -87,12 +87,12 @@ fn count_below(failures: u64, before: u64, after: u64) -> u64
 }
 
 impl<W: Wire + Drop, C: Clock + Drop> PacketWire<W, C> {
-    ghost use Rattle.std.specs.Prelude.{IfOk, replicate};
+    ghost use Rattle.std.specs.Prelude.{[], IfOk, replicate};
     ghost use Rattle.px_packet.specs.Keyed as keyed;
     ghost use Rattle.px_transport.specs.Receiving.{Hears, unheard};
     ghost use Rattle.px_transport.specs.Sending.{new_to};
     ghost use Rattle.px_transport.specs.Wiring.{inner_of, sealer_of, keys_of, outgoing_of, receiver_of, failures_of};
-    ghost use Rattle.px_transport.specs.Wiring.{dropped_of, copies_of};
+    ghost use Rattle.px_transport.specs.Wiring.{dropped_of, copies_of, WentSealed};
 
     /// The wire of a member of a cluster, whose start is this. Takes its room once.
     pub fn new(
@@ -117,6 +117,7 @@ impl<W: Wire + Drop, C: Clock + Drop> PacketWire<W, C> {
         ensures outgoing { IfOk result (λ w. outgoing_of w ≡ replicate members new_to) }
         ensures heard { IfOk result (λ w. Hears start (replicate members unheard) (receiver_of w)) }
         ensures counts { IfOk result (λ w. (failures_of w ≡ 0) × (dropped_of w ≡ 0) × (copies_of w ≡ 0)) }
+        ensures traffic { IfOk result (λ w. W.traffic inner [] → WentSealed (W.traffic (inner_of w)) w []) }
     {
         let sender = Sender::new(alloc, keys, cluster, members, me, start)?;
         let receiver = Receiver::new(alloc, members, start)?;
@@ -138,7 +139,7 @@ impl<W: Wire + Drop, C: Clock + Drop> PacketWire<W, C> {
 
 impl<W: Wire, C: Clock> PacketWire<W, C> {
     ghost use Rattle.std.specs.Prelude.{◌<◌, List, IfSome, option_map, take};
-    ghost use Rattle.px_transport.specs.Wires.{Gives};
+    ghost use Rattle.px_transport.specs.Wires.{WireEvent, Adds, gives};
     ghost use Rattle.px_transport.specs.Receiving.{Heard, Hears};
     ghost use Rattle.px_transport.specs.Wiring.{inner_of, sealer_of, keys_of, receiver_of, dropped_of, copies_of};
     ghost use Rattle.px_transport.specs.Wiring.{WireState, IsWireState, IsSameMember, IsSameCount, state_of, State};
@@ -180,10 +181,9 @@ impl<W: Wire, C: Clock> PacketWire<W, C> {
     fn state_to(&mut self, member: u8, now: u64)
         requires { member < self.old.sender.members }
         ensures does { (hs : List Heard) → Hears (sealer_of self.old).start hs (receiver_of self.old) →
-            (k : WireState) × Does (sealer_of self.old) now (State member)
-            (state_of (W.handed (inner_of self.old)) hs self.old) k ×
-            IsWireState (W.handed (inner_of self.new)) k self.new }
-        ensures given { W.given (inner_of self.new) ≡ W.given (inner_of self.old) }
+            (es : List WireEvent) → W.traffic (inner_of self.old) es → (k : WireState) ×
+            Does (sealer_of self.old) now (State member)
+            (state_of es hs self.old) k × IsWireState (W.traffic (inner_of self.new)) k self.new }
         ensures member { IsSameMember self.old self.new }
         ensures count { IsSameCount self.old self.new }
         ensures rises { self.old.failures ≤ self.new.failures }
@@ -197,10 +197,9 @@ impl<W: Wire, C: Clock> PacketWire<W, C> {
     fn report_to(&mut self, member: u8, now: u64)
         requires { member < self.old.sender.members }
         ensures does { (hs : List Heard) → Hears (sealer_of self.old).start hs (receiver_of self.old) →
-            (k : WireState) × Does (sealer_of self.old) now (Report member)
-            (state_of (W.handed (inner_of self.old)) hs self.old) k ×
-            IsWireState (W.handed (inner_of self.new)) k self.new }
-        ensures given { W.given (inner_of self.new) ≡ W.given (inner_of self.old) }
+            (es : List WireEvent) → W.traffic (inner_of self.old) es → (k : WireState) ×
+            Does (sealer_of self.old) now (Report member)
+            (state_of es hs self.old) k × IsWireState (W.traffic (inner_of self.new)) k self.new }
         ensures member { IsSameMember self.old self.new }
         ensures count { IsSameCount self.old self.new }
         ensures rises { self.old.failures ≤ self.new.failures }
@@ -216,10 +215,9 @@ impl<W: Wire, C: Clock> PacketWire<W, C> {
     /// Sends a member the pieces that it lacks of a datagram, while that is kept.
     fn pieces_again(&mut self, member: u8, held: PiecesHeld, now: u64)
         ensures does { (hs : List Heard) → Hears (sealer_of self.old).start hs (receiver_of self.old) →
-            (k : WireState) × Does (sealer_of self.old) now (Again member held)
-            (state_of (W.handed (inner_of self.old)) hs self.old) k ×
-            IsWireState (W.handed (inner_of self.new)) k self.new }
-        ensures given { W.given (inner_of self.new) ≡ W.given (inner_of self.old) }
+            (es : List WireEvent) → W.traffic (inner_of self.old) es → (k : WireState) ×
+            Does (sealer_of self.old) now (Again member held)
+            (state_of es hs self.old) k × IsWireState (W.traffic (inner_of self.new)) k self.new }
         ensures member { IsSameMember self.old self.new }
         ensures count { IsSameCount self.old self.new }
         ensures rises { self.old.failures ≤ self.new.failures }
@@ -238,10 +236,9 @@ impl<W: Wire, C: Clock> PacketWire<W, C> {
     fn keep_up_with(&mut self, member: u8, now: u64)
         requires { member < self.old.sender.members }
         ensures does { (hs : List Heard) → Hears (sealer_of self.old).start hs (receiver_of self.old) →
-            (k : WireState) × DoesAll (sealer_of self.old) now (duties (sealer_of self.old) member)
-            (state_of (W.handed (inner_of self.old)) hs self.old) k ×
-            IsWireState (W.handed (inner_of self.new)) k self.new }
-        ensures given { W.given (inner_of self.new) ≡ W.given (inner_of self.old) }
+            (es : List WireEvent) → W.traffic (inner_of self.old) es → (k : WireState) ×
+            DoesAll (sealer_of self.old) now (duties (sealer_of self.old) member)
+            (state_of es hs self.old) k × IsWireState (W.traffic (inner_of self.new)) k self.new }
         ensures member { IsSameMember self.old self.new }
         ensures count { IsSameCount self.old self.new }
         ensures rises { self.old.failures ≤ self.new.failures }
@@ -258,10 +255,9 @@ impl<W: Wire, C: Clock> PacketWire<W, C> {
     /// Does what is due towards each other member.
     fn keep_up(&mut self, now: u64)
         ensures does { (hs : List Heard) → Hears (sealer_of self.old).start hs (receiver_of self.old) →
-            (k : WireState) × DoesAll (sealer_of self.old) now (upkeep (sealer_of self.old))
-            (state_of (W.handed (inner_of self.old)) hs self.old) k ×
-            IsWireState (W.handed (inner_of self.new)) k self.new }
-        ensures given { W.given (inner_of self.new) ≡ W.given (inner_of self.old) }
+            (es : List WireEvent) → W.traffic (inner_of self.old) es → (k : WireState) ×
+            DoesAll (sealer_of self.old) now (upkeep (sealer_of self.old))
+            (state_of es hs self.old) k × IsWireState (W.traffic (inner_of self.new)) k self.new }
         ensures member { IsSameMember self.old self.new }
         ensures count { IsSameCount self.old self.new }
         ensures rises { self.old.failures ≤ self.new.failures }
@@ -299,12 +295,12 @@ impl<W: Wire, C: Clock> PacketWire<W, C> {
     fn hear(&mut self, n: usize, now: u64, into: &mut [u8]) -> usize
         requires { n ≤ length self.old.incoming.items }
         ensures takes { (hs : List Heard) → Hears (sealer_of self.old).start hs (receiver_of self.old) →
-            (k : WireState) × Takes (keys_of self.old) (sealer_of self.old) now (take n self.old.incoming.items)
-            (length into.old) (take result into.new) (state_of (W.handed (inner_of self.old)) hs self.old) k
+            (es : List WireEvent) → W.traffic (inner_of self.old) es → (k : WireState) ×
+            Takes (keys_of self.old) (sealer_of self.old) now (take n self.old.incoming.items)
+            (length into.old) (take result into.new) (state_of es hs self.old) k
             (dropped_of self.old) (dropped_of self.new) (copies_of self.old) (copies_of self.new) ×
-            IsWireState (W.handed (inner_of self.new)) k self.new }
+            IsWireState (W.traffic (inner_of self.new)) k self.new }
         ensures fits { result ≤ length into.new }
-        ensures given { W.given (inner_of self.new) ≡ W.given (inner_of self.old) }
         ensures member { IsSameMember self.old self.new }
         ensures rises { self.old.failures ≤ self.new.failures }
     {
@@ -323,10 +319,9 @@ impl<W: Wire, C: Clock> PacketWire<W, C> {
 
     /// Waits for a packet of the wire below, and counts what it failed at.
     fn recv_below(&mut self) -> Option<usize>
-        ensures given { Gives (W.given (inner_of self.old))
-            (option_map (λ n. take n self.new.incoming.items) result) (W.given (inner_of self.new)) }
+        ensures gave { Adds (W.traffic (inner_of self.old)) (W.traffic (inner_of self.new))
+            (gives (option_map (λ n. take n self.new.incoming.items) result)) }
         ensures fits { IfSome result (λ n. n ≤ length self.new.incoming.items) }
-        ensures quiet { W.handed (inner_of self.new) ≡ W.handed (inner_of self.old) }
         ensures sender { self.new.sender ≡ self.old.sender }
         ensures receiver { self.new.receiver ≡ self.old.receiver }
         ensures count { IsSameCount self.old self.new }
@@ -340,10 +335,9 @@ impl<W: Wire, C: Clock> PacketWire<W, C> {
 
     /// Takes a packet that has come to the wire below, and counts what it failed at.
     fn poll_below(&mut self) -> Option<usize>
-        ensures given { Gives (W.given (inner_of self.old))
-            (option_map (λ n. take n self.new.incoming.items) result) (W.given (inner_of self.new)) }
+        ensures gave { Adds (W.traffic (inner_of self.old)) (W.traffic (inner_of self.new))
+            (gives (option_map (λ n. take n self.new.incoming.items) result)) }
         ensures fits { IfSome result (λ n. n ≤ length self.new.incoming.items) }
-        ensures quiet { W.handed (inner_of self.new) ≡ W.handed (inner_of self.old) }
         ensures sender { self.new.sender ≡ self.old.sender }
         ensures receiver { self.new.receiver ≡ self.old.receiver }
         ensures count { IsSameCount self.old self.new }
@@ -359,13 +353,13 @@ impl<W: Wire, C: Clock> PacketWire<W, C> {
     fn take_came(&mut self, came: Option<usize>, now: u64, into: &mut [u8]) -> Option<usize>
         requires { IfSome came (λ n. n ≤ length self.old.incoming.items) }
         ensures takes { (hs : List Heard) → Hears (sealer_of self.old).start hs (receiver_of self.old) →
-            (k : WireState) × TakesAny (keys_of self.old) (sealer_of self.old) now
+            (es : List WireEvent) → W.traffic (inner_of self.old) es → (k : WireState) ×
+            TakesAny (keys_of self.old) (sealer_of self.old) now
             (option_map (λ n. take n self.old.incoming.items) came) (length into.old)
-            (option_map (λ n. take n into.new) result) (state_of (W.handed (inner_of self.old)) hs self.old) k
+            (option_map (λ n. take n into.new) result) (state_of es hs self.old) k
             (dropped_of self.old) (dropped_of self.new) (copies_of self.old) (copies_of self.new) ×
-            IsWireState (W.handed (inner_of self.new)) k self.new }
+            IsWireState (W.traffic (inner_of self.new)) k self.new }
         ensures fits { IfSome result (λ n. n ≤ length into.new) }
-        ensures given { W.given (inner_of self.new) ≡ W.given (inner_of self.old) }
         ensures member { IsSameMember self.old self.new }
         ensures rises { self.old.failures ≤ self.new.failures }
     {
@@ -377,28 +371,27 @@ impl<W: Wire, C: Clock> PacketWire<W, C> {
 }
 
 impl<W: Wire, C: Clock> Wire for PacketWire<W, C> {
-    ghost use Rattle.std.specs.Prelude.{ℕ, List, Option, None, Some, IsTrue, IfSome, option_map, take};
+    ghost use Rattle.std.specs.Prelude.{ℕ, List, [], ◌∷◌, IsTrue, IfSome, option_map, take};
+    ghost use Rattle.px_transport.specs.Wires.{WireEvent, Adds, IsQuiet, Handed, gives};
     ghost use Rattle.px_transport.specs.Receiving.{Heard, Hears};
-    ghost use Rattle.px_transport.specs.Wiring.{inner_of, sealer_of, keys_of, receiver_of, failures_of, Receives};
-    ghost use Rattle.px_transport.specs.Wiring.{IsSameMember, IsSameCount, Waits, IsSent};
-    ghost use Rattle.px_transport.specs.Wiring.{outgoing_of, next_due};
+    ghost use Rattle.px_transport.specs.Wiring.{inner_of, sealer_of, keys_of, receiver_of, failures_of, dropped_of};
+    ghost use Rattle.px_transport.specs.Wiring.{copies_of, WireState, IsWireState, IsSameMember, IsSameCount, state_of};
+    ghost use Rattle.px_transport.specs.Wiring.{Received, Waited, IsSent, WentSealed, outgoing_of, next_due};
 
-    // it sends packets of its own
-    ghost given = { λ w. None };
-
-    ghost handed = { λ w. None };
+    ghost traffic = { λ w es. WentSealed (W.traffic w.inner) w es };
 
     ghost failed = { λ w. w.failures };
 
     fn recv(&mut self, into: &mut [u8]) -> Option<usize>
         ensures receives { (hs : List Heard) → Hears (sealer_of self.old).start hs (receiver_of self.old) →
-            Receives (W.given (inner_of self.old)) (W.given (inner_of self.new)) (W.handed (inner_of self.old))
-            (W.handed (inner_of self.new)) hs (length into.old) (option_map (λ n. take n into.new) result) self.old
-            self.new }
+            (es : List WireEvent) → W.traffic (inner_of self.old) es → (k : WireState) ×
+            Received (keys_of self.old) (sealer_of self.old) (length into.old) (option_map (λ n. take n into.new) result)
+            (state_of es hs self.old) k (dropped_of self.old) (dropped_of self.new) (copies_of self.old)
+            (copies_of self.new) × IsWireState (W.traffic (inner_of self.new)) k self.new }
         ensures member { IsSameMember self.old self.new }
         ensures fits { IfSome result (λ n. n ≤ length into.new) }
-        ensures given { Unit {0} }
-        ensures quiet { Unit {0} }
+        ensures gave { Adds (WentSealed (W.traffic (inner_of self.old)) self.old)
+            (WentSealed (W.traffic (inner_of self.new)) self.new) (gives (option_map (λ n. take n into.new) result)) }
         ensures counts { failures_of self.old ≤ failures_of self.new }
     {
         let now = self.now();
@@ -409,13 +402,14 @@ impl<W: Wire, C: Clock> Wire for PacketWire<W, C> {
 
     fn poll(&mut self, into: &mut [u8]) -> Option<usize>
         ensures receives { (hs : List Heard) → Hears (sealer_of self.old).start hs (receiver_of self.old) →
-            Receives (W.given (inner_of self.old)) (W.given (inner_of self.new)) (W.handed (inner_of self.old))
-            (W.handed (inner_of self.new)) hs (length into.old) (option_map (λ n. take n into.new) result) self.old
-            self.new }
+            (es : List WireEvent) → W.traffic (inner_of self.old) es → (k : WireState) ×
+            Received (keys_of self.old) (sealer_of self.old) (length into.old) (option_map (λ n. take n into.new) result)
+            (state_of es hs self.old) k (dropped_of self.old) (dropped_of self.new) (copies_of self.old)
+            (copies_of self.new) × IsWireState (W.traffic (inner_of self.new)) k self.new }
         ensures member { IsSameMember self.old self.new }
         ensures fits { IfSome result (λ n. n ≤ length into.new) }
-        ensures given { Unit {0} }
-        ensures quiet { Unit {0} }
+        ensures gave { Adds (WentSealed (W.traffic (inner_of self.old)) self.old)
+            (WentSealed (W.traffic (inner_of self.new)) self.new) (gives (option_map (λ n. take n into.new) result)) }
         ensures counts { failures_of self.old ≤ failures_of self.new }
     {
         let now = self.now();
@@ -426,12 +420,13 @@ impl<W: Wire, C: Clock> Wire for PacketWire<W, C> {
 
     fn wait(&mut self, milliseconds: u32)
         ensures waits { (hs : List Heard) → Hears (sealer_of self.old).start hs (receiver_of self.old) →
-            Waits (W.handed (inner_of self.old)) (W.handed (inner_of self.new)) hs self.old self.new }
-        ensures below { W.given (inner_of self.new) ≡ W.given (inner_of self.old) }
+            (es : List WireEvent) → W.traffic (inner_of self.old) es → (k : WireState) ×
+            Waited (sealer_of self.old) (state_of es hs self.old) k ×
+            IsWireState (W.traffic (inner_of self.new)) k self.new }
         ensures member { IsSameMember self.old self.new }
         ensures count { IsSameCount self.old self.new }
-        ensures given { Unit {0} }
-        ensures quiet { Unit {0} }
+        ensures quiet { IsQuiet (WentSealed (W.traffic (inner_of self.old)) self.old)
+            (WentSealed (W.traffic (inner_of self.new)) self.new) }
         ensures counts { failures_of self.old ≤ failures_of self.new }
     {
         let now = self.now();
@@ -452,13 +447,13 @@ impl<W: Wire, C: Clock> Wire for PacketWire<W, C> {
 
     fn send(&mut self, to: u8, bytes: &[u8]) -> bool
         ensures sent { (hs : List Heard) → Hears (sealer_of self.old).start hs (receiver_of self.old) →
-            IsSent (W.handed (inner_of self.old)) (W.handed (inner_of self.new)) hs to bytes.now result self.old
-            self.new }
-        ensures below { W.given (inner_of self.new) ≡ W.given (inner_of self.old) }
+            (es : List WireEvent) → W.traffic (inner_of self.old) es → (k : WireState) ×
+            IsSent (sealer_of self.old) to bytes.now result (state_of es hs self.old) k ×
+            IsWireState (W.traffic (inner_of self.new)) k self.new }
         ensures member { IsSameMember self.old self.new }
         ensures count { IsSameCount self.old self.new }
-        ensures handed { Unit {0} }
-        ensures quiet { Unit {0} }
+        ensures handed { Adds (WentSealed (W.traffic (inner_of self.old)) self.old)
+            (WentSealed (W.traffic (inner_of self.new)) self.new) (Handed to bytes.now ∷ []) }
         ensures counts { Counts result (failures_of self.old) (failures_of self.new) }
     {
         let now = self.now();

@@ -33,6 +33,7 @@ pub(crate) struct Sender {
 
 impl Sender {
     ghost use Rattle.std.specs.Prelude.{◌≡◌, ◌<◌, ◌≤◌, ◌*◌, ◌⊎◌, ◌∷◌, [], false, IsTrue, IfOk, replicate, take};
+    ghost use Rattle.px_transport.specs.Wires.{Adds, IsQuiet};
     ghost use Rattle.px_packet.specs.Keyed.{key_of};
     ghost use Rattle.px_packet.specs.declared.kind.Kind.TheVariants.{Piece};
     ghost use Rattle.px_transport.specs.Sending.{is_other, can_be_cut, new_to, to_member, next_state, stated_for};
@@ -93,9 +94,8 @@ impl Sender {
     ) -> bool
         requires { to < self.old.members }
         ensures sends { SendsUpTo (sealer_of self.old) result
-            (record { to = to; echo = echo; kind = kind; body = body.now } ∷ []) (W.handed inner.old)
-            (outgoing_of self.old) (W.handed inner.new) (outgoing_of self.new) }
-        ensures given { W.given inner.new ≡ W.given inner.old }
+            (record { to = to; echo = echo; kind = kind; body = body.now } ∷ [])
+            (Adds (W.traffic inner.old) (W.traffic inner.new)) (outgoing_of self.old) (outgoing_of self.new) }
         ensures rest { (sealer_of self.new ≡ sealer_of self.old) × (self.new.keys ≡ self.old.keys) }
     {
         let place = usize::from(to);
@@ -135,8 +135,7 @@ impl Sender {
         requires short { length datagram.now ≤ DATAGRAM_MAX }
         requires inside { 1160 * index < length datagram.now }
         ensures sends { SendsUpTo (sealer_of self.old) result (piece to echo name datagram.now index ∷ [])
-            (W.handed inner.old) (outgoing_of self.old) (W.handed inner.new) (outgoing_of self.new) }
-        ensures given { W.given inner.new ≡ W.given inner.old }
+            (Adds (W.traffic inner.old) (W.traffic inner.new)) (outgoing_of self.old) (outgoing_of self.new) }
         ensures rest { (sealer_of self.new ≡ sealer_of self.old) × (self.new.keys ≡ self.old.keys) }
     {
         let mut body = Vec::new(self.alloc);
@@ -172,8 +171,7 @@ impl Sender {
         requires to { to < self.old.members }
         requires short { length datagram.now ≤ DATAGRAM_MAX }
         ensures sends { SendsUpTo (sealer_of self.old) result (take most (pieces to echo held datagram.now))
-            (W.handed inner.old) (outgoing_of self.old) (W.handed inner.new) (outgoing_of self.new) }
-        ensures given { W.given inner.new ≡ W.given inner.old }
+            (Adds (W.traffic inner.old) (W.traffic inner.new)) (outgoing_of self.old) (outgoing_of self.new) }
         ensures rest { (sealer_of self.new ≡ sealer_of self.old) × (self.new.keys ≡ self.old.keys) }
     {
         let count = piece_count(datagram.len()) as u8;
@@ -204,13 +202,12 @@ impl Sender {
     ) -> bool
         requires to { to < self.old.members }
         ensures size { can_be_cut datagram.now ≡ false → (result ≡ false) ×
-            (W.handed inner.new ≡ W.handed inner.old) × (outgoing_of self.new ≡ outgoing_of self.old) }
-        ensures sends { ((result ≡ false) × (W.handed inner.new ≡ W.handed inner.old) ×
+            (IsQuiet (W.traffic inner.old) (W.traffic inner.new)) × (outgoing_of self.new ≡ outgoing_of self.old) }
+        ensures sends { ((result ≡ false) × (IsQuiet (W.traffic inner.old) (W.traffic inner.new)) ×
             (outgoing_of self.new ≡ outgoing_of self.old)) ⊎
             SendsUpTo (sealer_of self.old) result (packets_of (outgoing_of self.old) to echo datagram.now)
-            (W.handed inner.old) (kept_with (outgoing_of self.old) to datagram.now) (W.handed inner.new)
+            (Adds (W.traffic inner.old) (W.traffic inner.new)) (kept_with (outgoing_of self.old) to datagram.now)
             (outgoing_of self.new) }
-        ensures given { W.given inner.new ≡ W.given inner.old }
         ensures rest { (sealer_of self.new ≡ sealer_of self.old) × (self.new.keys ≡ self.old.keys) }
     {
         if datagram.is_empty() || datagram.len() > DATAGRAM_MAX {
@@ -238,8 +235,7 @@ impl Sender {
     ) -> bool
         requires to { to < self.old.members }
         ensures sends { SendsUpTo (sealer_of self.old) result (again (outgoing_of self.old) to echo held)
-            (W.handed inner.old) (outgoing_of self.old) (W.handed inner.new) (outgoing_of self.new) }
-        ensures given { W.given inner.new ≡ W.given inner.old }
+            (Adds (W.traffic inner.old) (W.traffic inner.new)) (outgoing_of self.old) (outgoing_of self.new) }
         ensures rest { (sealer_of self.new ≡ sealer_of self.old) × (self.new.keys ≡ self.old.keys) }
     {
         let outgoing = &self.outgoing[usize::from(to)];
@@ -266,9 +262,8 @@ impl Sender {
     ) -> bool
         requires to { to < self.old.members }
         ensures sends { SendsUpTo (sealer_of self.old) result (states (outgoing_of self.old) to echo now)
-            (W.handed inner.old) (stated_for (outgoing_of self.old) to echo now) (W.handed inner.new)
+            (Adds (W.traffic inner.old) (W.traffic inner.new)) (stated_for (outgoing_of self.old) to echo now)
             (outgoing_of self.new) }
-        ensures given { W.given inner.new ≡ W.given inner.old }
         ensures rest { (sealer_of self.new ≡ sealer_of self.old) × (self.new.keys ≡ self.old.keys) }
     {
         let place = usize::from(to);
@@ -291,8 +286,7 @@ impl Sender {
     ) -> bool
         requires to { to < self.old.members }
         ensures sends { SendsUpTo (sealer_of self.old) result (report to echo held ∷ [])
-            (W.handed inner.old) (outgoing_of self.old) (W.handed inner.new) (outgoing_of self.new) }
-        ensures given { W.given inner.new ≡ W.given inner.old }
+            (Adds (W.traffic inner.old) (W.traffic inner.new)) (outgoing_of self.old) (outgoing_of self.new) }
         ensures rest { (sealer_of self.new ≡ sealer_of self.old) × (self.new.keys ≡ self.old.keys) }
     {
         let mut body = Vec::new(self.alloc);

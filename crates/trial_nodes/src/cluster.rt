@@ -12,6 +12,7 @@ use pf_rules::{Path, TableEntry};
 use px_records::MemoryRecords;
 use px_transport::{FaultyWire, Wire};
 use std::alloc::Global;
+use std::net::UdpSocket;
 use std::test::Fail;
 
 const PACKET: &str = "in on em0 proto tcp from 10.0.0.1 port 4000 to 192.0.2.1 port 22 flags S";
@@ -40,7 +41,7 @@ const ASKED: [u8; 29] = [
 #[derive(Drop)]
 struct Party {
     node: Node<MemoryRecords>,
-    wire: FaultyWire<UdpWire<HostRuntime>>,
+    wire: FaultyWire<UdpWire<UdpSocket, HostRuntime>>,
 }
 
 /// The member with this number, of whose wire each `k`-th receive and send fails.

@@ -11,6 +11,7 @@ use px_packet::{PacketKeys, Start};
 use px_records::MemoryRecords;
 use px_transport::{FaultyWire, LoopbackWire, PacketWire, Wire};
 use std::alloc::Global;
+use std::net::UdpSocket;
 use std::test::Fail;
 
 const KEY: [u8; 32] = [7; 32];
@@ -18,7 +19,7 @@ const KEY: [u8; 32] = [7; 32];
 const MEMBERS: [&str; 3] = ["127.0.0.1:39461", "127.0.0.1:39462", "127.0.0.1:39463"];
 
 /// A member's wire: packets over UDP, of which some are lost.
-type Packets = LoopbackWire<PacketWire<FaultyWire<UdpWire<HostRuntime>>, HostRuntime>>;
+type Packets = LoopbackWire<PacketWire<FaultyWire<UdpWire<UdpSocket, HostRuntime>>, HostRuntime>>;
 
 /// A member with its wire.
 #[derive(Drop)]

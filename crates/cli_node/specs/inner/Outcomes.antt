@@ -6,7 +6,8 @@ use Rattle.px_replica.specs.declared.fault.NodeFault.{NodeFault}
 use Rattle.px_replica.specs.declared.fault.NodeFault.TheVariants as fault
 use Rattle.px_store.specs.declared.fault.AdoptFault.{AdoptFault}
 use Rattle.px_store.specs.declared.fault.AdoptFault.TheVariants as adopt
-use Rattle.node_loop.specs.Lives.{Told, Runs, HostedRuns}
+use Rattle.px_transport.specs.Wires.{WireEvent}
+use Rattle.node_loop.specs.Lives.{Runs, HostedRuns}
 use Rattle.node_loop.specs.declared.ended.Ended.{Ended}
 use Rattle.node_loop.specs.declared.ended.Ended.TheVariants as ended
 use Rattle.node_udp.specs.declared.answer.AskAnswer.{AskAnswer}
@@ -63,13 +64,13 @@ IsWireless outcome = (outcome ≡ Memory) ⊎ (outcome ≡ Refused 82)
 -- and it is given back. There may be no wire.
 abbrev pub ComesTo : {R : Type 0} → Ghosts R → Membership → (given : R) → Outcome → (back : R) → Type 0
 ComesTo G m given outcome back =
-    (w : Told) × (v : Told) × (how : Ended) × (without : Outcome) × Runs G m given w v how back
+    (events : List WireEvent) × (how : Ended) × (without : Outcome) × Runs G m given [] events how back
     × (outcome ≡ ended_outcome without how) × IsWireless without
 
 -- the same with a control socket: commands are asked of the member between its turns
 abbrev pub ComesOpen : {R : Type 0} → Ghosts R → Membership → (given : R) → Outcome → (back : R) → Type 0
 ComesOpen G m given outcome back =
-    (w : Told) × (v : Told) × (how : Ended) × (without : Outcome) × HostedRuns G m given w v how back
+    (events : List WireEvent) × (how : Ended) × (without : Outcome) × HostedRuns G m given [] events how back
     × (outcome ≡ ended_outcome without how) × IsWireless without
 
 -- the same where the record may stay closed

@@ -6,13 +6,17 @@ use Rattle.node_control.proofs.Rounds.{no_door, some_door}
 use Rattle.node_control.proofs.member.run_at.Goals as goal
 
 pub returns-in-Err-clause-hosted : goal.returns-in-Err-clause-hosted
-returns-in-Err-clause-hosted g c = record {
-  answered = None;
-  hears = false;
-  buffers = new_buffers false;
-  hosted = hosted_none _ _ refl;
-  told = c.in-Err.ensures.fault _ _;
-}
+returns-in-Err-clause-hosted g c es t = (
+  es,
+  t,
+  record {
+    answered = None;
+    hears = false;
+    buffers = new_buffers false;
+    hosted = hosted_none _ _ refl;
+    told = c.in-Err.ensures.fault _ _;
+  },
+)
 
 pub returns-in-Err-clause-turns : goal.returns-in-Err-clause-turns
 returns-in-Err-clause-turns g c none = absurd (some_door _ _ c.in-Err.is (c.open_at.ensures.none none))

@@ -1,34 +1,41 @@
 -- no turn, or those that were made
 use Rattle.std.proofs.Common.{refl, inr}
 use Rattle.px_replica.specs.Faults.{fault_of}
-use Rattle.node_loop.specs.Lives.{told_by}
 use Rattle.node_loop.proofs.Still.{still}
 use Rattle.node_loop.proofs.Hosted as hosted
 use Rattle.node_control.proofs.Rounds.{hosts, serves}
 use Rattle.node_control.proofs.member.run_node.Goals as goal
 
 pub returns-in_default-clause-hosted : goal.returns-in_default-clause-hosted
-returns-in_default-clause-hosted g c =
-    hosted.serves _ _ _ _ _ (still c.args.node (told_by g.W.Wire c.args.wire.now) _ (inr (inr refl)))
+returns-in_default-clause-hosted g c es t =
+    (es, t, hosted.serves _ _ _ _ _ (still c.args.node es _ (inr (inr refl))))
 
 pub returns-in_default-clause-turns : goal.returns-in_default-clause-turns
-returns-in_default-clause-turns g c none = still c.args.node (told_by g.W.Wire c.args.wire.now) _ (inr (inr refl))
+returns-in_default-clause-turns g c none es t = (es, t, still c.args.node es _ (inr (inr refl)))
 
 pub returns-in_default-new-clause-hosted : goal.returns-in_default-new-clause-hosted
-returns-in_default-new-clause-hosted g c =
-    hosted.serves _ _ _ _ _ (still c.args.node (told_by g.W.Wire c.args.wire.now) _ (inr (inr refl)))
+returns-in_default-new-clause-hosted g c es t =
+    (es, t, hosted.serves _ _ _ _ _ (still c.args.node es _ (inr (inr refl))))
 
 pub returns-in_default-new-clause-turns : goal.returns-in_default-new-clause-turns
-returns-in_default-new-clause-turns g c none = still c.args.node (told_by g.W.Wire c.args.wire.now) _ (inr (inr refl))
+returns-in_default-new-clause-turns g c none es t = (es, t, still c.args.node es _ (inr (inr refl)))
 
 pub returns-clause-hosted : goal.returns-clause-hosted
-returns-clause-hosted g c =
-    hosts g.W.Wire _ _ _ _ c.args.wire.now c.pass_on-ended.new.wire c.in-Ok-new.room c.pass_on-ended.new.room c.args.hears_asks (fault_of c.pass_on-ended.result) _
-    c.new-clerk.ensures c.close-node.ensures c.in-Ok-new.ensures.kept c.in-Ok-new.ensures.requests c.in-Ok-new.ensures.hears
-    c.pass_on-ended.ensures.hosted c.ended_of.ensures
+returns-clause-hosted g c es t =
+    let r = c.pass_on-ended.ensures.hosted es t in (
+      r.0,
+      r.1,
+      hosts _ _ _ _ es r.0 c.in-Ok-new.room c.pass_on-ended.new.room c.args.hears_asks (fault_of c.pass_on-ended.result) _
+          c.new-clerk.ensures c.close-node.ensures c.in-Ok-new.ensures.kept c.in-Ok-new.ensures.requests c.in-Ok-new.ensures.hears
+          r.2 c.ended_of.ensures,
+    )
 
 pub returns-clause-turns : goal.returns-clause-turns
-returns-clause-turns g c none =
-    serves g.W.Wire _ _ _ _ c.args.wire.now c.pass_on-ended.new.wire c.in-Ok-new.room c.pass_on-ended.new.room c.args.hears_asks (fault_of c.pass_on-ended.result) _
-    c.new-clerk.ensures c.close-node.ensures c.in-Ok-new.ensures.kept c.in-Ok-new.ensures.requests c.in-Ok-new.ensures.hears
-    (c.pass_on-ended.ensures.turns none) c.ended_of.ensures
+returns-clause-turns g c none es t =
+    let r = c.pass_on-ended.ensures.turns none es t in (
+      r.0,
+      r.1,
+      serves _ _ _ _ es r.0 c.in-Ok-new.room c.pass_on-ended.new.room c.args.hears_asks (fault_of c.pass_on-ended.result) _
+          c.new-clerk.ensures c.close-node.ensures c.in-Ok-new.ensures.kept c.in-Ok-new.ensures.requests c.in-Ok-new.ensures.hears
+          r.2 c.ended_of.ensures,
+    )

@@ -2,32 +2,41 @@
 use Rattle.std.proofs.Common.{None, refl}
 use Rattle.node_loop.proofs.Chains.{served_then}
 use Rattle.node_loop.proofs.Hosting.{hosted_served, hosted_on}
-use Rattle.node_control.proofs.Rounds.{still}
+use Rattle.node_control.proofs.Rounds.{still, served_over}
 use Rattle.node_control.proofs.running.pass.Goals as goal
 
 pub returns-in-Err-clause-hosted : goal.returns-in-Err-clause-hosted
-returns-in-Err-clause-hosted g c = hosted_served _ _ _ c.in-Err.ensures.served
+returns-in-Err-clause-hosted g c = served_over _ _ _ _ _ c.in-Err.ensures.served
 
 pub returns-else-not-serve-clause-hosted : goal.returns-else-not-serve-clause-hosted
-returns-else-not-serve-clause-hosted g c =
-    hosted_on _ _ _ c.serve.ensures.asks.0 (hosted_served _ _ None c.in-Ok.ensures.served) c.serve.ensures.asks.1 refl refl refl refl refl
+returns-else-not-serve-clause-hosted g c es t =
+    let r = c.in-Ok.ensures.served es t in (
+      r.0,
+      r.1,
+      hosted_on _ _ _ c.serve.ensures.asks.0 (hosted_served _ _ None r.2) c.serve.ensures.asks.1 refl refl refl refl,
+    )
 
 pub returns-then-not-serve-clause-hosted : goal.returns-then-not-serve-clause-hosted
-returns-then-not-serve-clause-hosted g c =
-    hosted_on _ _ _ c.serve.ensures.asks.0 (hosted_served _ _ None c.in-Ok.ensures.served) c.serve.ensures.asks.1
-    c.wait.ensures.given c.wait.ensures.quiet refl refl refl
+returns-then-not-serve-clause-hosted g c es t =
+    let r = c.in-Ok.ensures.served es t in (
+      r.0,
+      c.wait.ensures.quiet r.0 r.1,
+      hosted_on _ _ _ c.serve.ensures.asks.0 (hosted_served _ _ None r.2) c.serve.ensures.asks.1 refl refl refl refl,
+    )
 
 pub returns-in-Err-clause-turns : goal.returns-in-Err-clause-turns
 returns-in-Err-clause-turns g c none = (c.in-Err.ensures.served, none)
 
 pub returns-else-not-serve-clause-turns : goal.returns-else-not-serve-clause-turns
 returns-else-not-serve-clause-turns g c none = (
-  served_then _ _ _ None c.in-Ok.ensures.served (still g.W.Wire _ _ _ _ c.round.new.room (c.serve.ensures.none none).0 refl refl),
+  λ es t. (let r = c.in-Ok.ensures.served es t in
+      (r.0, r.1, served_then _ _ _ None r.2 (still _ _ r.0 c.round.new.room (c.serve.ensures.none none).0))),
   (c.serve.ensures.none none).1,
 )
 
 pub returns-then-not-serve-clause-turns : goal.returns-then-not-serve-clause-turns
 returns-then-not-serve-clause-turns g c none = (
-  served_then _ _ _ None c.in-Ok.ensures.served (still g.W.Wire _ _ _ _ c.round.new.room (c.serve.ensures.none none).0 c.wait.ensures.given c.wait.ensures.quiet),
+  λ es t. (let r = c.in-Ok.ensures.served es t in
+      (r.0, c.wait.ensures.quiet r.0 r.1, served_then _ _ _ None r.2 (still _ _ r.0 c.round.new.room (c.serve.ensures.none none).0))),
   c.wait.ensures.none (c.serve.ensures.none none).1,
 )

@@ -1,13 +1,17 @@
 -- all rounds, and the last ones
-use Rattle.node_loop.proofs.Chains.{served_then}
-use Rattle.node_loop.proofs.Hosting.{hosted_then, hosted_served}
+use Rattle.node_loop.specs.Turns.{standing}
+use Rattle.node_loop.proofs.Given.{over_then}
+use Rattle.node_control.proofs.Rounds.{hosted_over, served_over}
 use Rattle.node_control.proofs.running.pass_on.Goals as goal
 
 pub returns-in-Ok-clause-hosted : goal.returns-in-Ok-clause-hosted
-returns-in-Ok-clause-hosted g c = hosted_then _ _ _ _ c.in-Ok.ensures.hosted (hosted_served _ _ _ c.finish.ensures.served)
+returns-in-Ok-clause-hosted g c =
+    hosted_over _ _ _ _ (λ es. standing c.passes.new.clerk.desk.node es c.passes.new.room) _ _ c.in-Ok.ensures.hosted
+    (served_over _ _ _ _ _ c.finish.ensures.served)
 
 pub returns-in-Ok-clause-turns : goal.returns-in-Ok-clause-turns
-returns-in-Ok-clause-turns g c none = served_then _ _ _ _ (c.in-Ok.ensures.turns none).0 c.finish.ensures.served
+returns-in-Ok-clause-turns g c none =
+    over_then _ _ _ _ (λ es. standing c.passes.new.clerk.desk.node es c.passes.new.room) _ _ (c.in-Ok.ensures.turns none).0 c.finish.ensures.served
 
 pub returns-in-Err-clause-turns : goal.returns-in-Err-clause-turns
 returns-in-Err-clause-turns g c none = (c.in-Err.ensures.turns none).0

@@ -1,21 +1,27 @@
 -- one round more
 use Rattle.std.proofs.Common.{refl}
+use Rattle.node_loop.specs.Turns.{standing}
 use Rattle.node_loop.proofs.Chains.{served_none, same_all}
-use Rattle.node_loop.proofs.Hosting.{hosted_none, hosted_then}
-use Rattle.node_control.proofs.Rounds.{turns_then}
+use Rattle.node_loop.proofs.Hosting.{hosted_none}
+use Rattle.node_control.proofs.Rounds.{hosted_over, turns_then}
 use Rattle.node_control.proofs.running.passes.Goals as goal
 
 pub loop-round-init : goal.loop-round-init
-loop-round-init g c = record { hosted = hosted_none _ _ refl; turns = λ none. (served_none _ _ (same_all _), none) }
+loop-round-init g c = record {
+  hosted = λ es t. (es, t, hosted_none _ _ refl);
+  turns = λ none. (λ es t. (es, t, served_none _ _ (same_all _)), none);
+}
 
 pub loop-round-preserved : goal.loop-round-preserved
 loop-round-preserved g c = record {
-  hosted = hosted_then _ _ _ _ c.loop-round.invariant.hosted c.in-Ok.ensures.hosted;
-  turns = λ none. turns_then _ _ _ _ _ _ (c.loop-round.invariant.turns none) c.in-Ok.ensures.turns;
+  hosted = hosted_over _ _ _ _ (λ es. standing c.loop-round.clerk.desk.node es c.loop-round.room) _ _ c.loop-round.invariant.hosted c.in-Ok.ensures.hosted;
+  turns = λ none. turns_then _ _ _ _ (λ es. standing c.loop-round.clerk.desk.node es c.loop-round.room) _ _ _ _ (c.loop-round.invariant.turns none) c.in-Ok.ensures.turns;
 }
 
 pub returns-in-Err-clause-hosted : goal.returns-in-Err-clause-hosted
-returns-in-Err-clause-hosted g c = hosted_then _ _ _ _ c.loop-round.invariant.hosted c.in-Err.ensures.hosted
+returns-in-Err-clause-hosted g c =
+    hosted_over _ _ _ _ (λ es. standing c.loop-round.clerk.desk.node es c.loop-round.room) _ _ c.loop-round.invariant.hosted c.in-Err.ensures.hosted
 
 pub returns-in-Err-clause-turns : goal.returns-in-Err-clause-turns
-returns-in-Err-clause-turns g c none = turns_then _ _ _ _ _ _ (c.loop-round.invariant.turns none) c.in-Err.ensures.turns
+returns-in-Err-clause-turns g c none =
+    turns_then _ _ _ _ (λ es. standing c.loop-round.clerk.desk.node es c.loop-round.room) _ _ _ _ (c.loop-round.invariant.turns none) c.in-Err.ensures.turns

@@ -1,12 +1,15 @@
 -- what led here from the start
 use Rattle.std.proofs.Common.{◌≡◌, None}
+use Rattle.px_transport.specs.Wires.{Moves}
 use Rattle.node_loop.specs.Hosting.{Hosted}
 use Rattle.node_loop.specs.Turns.{Served, standing}
 use Rattle.node_control.proofs.running.passes.Given as goal
 
 abbrev pub invariant-loop-round : goal.invariant-loop-round
 invariant-loop-round g l = record {
-  hosted : Hosted (standing g.W.Wire l.fn.clerk.desk.node l.fn.wire l.fn.room) (standing g.W.Wire l.clerk.desk.node l.wire l.room) None;
-  turns : l.fn.door ≡ None → Served (standing g.W.Wire l.fn.clerk.desk.node l.fn.wire l.fn.room) (standing g.W.Wire l.clerk.desk.node l.wire l.room) None
+  hosted : Moves (g.W.Wire.traffic l.fn.wire) (g.W.Wire.traffic l.wire)
+      (λ es es'. Hosted (standing l.fn.clerk.desk.node es l.fn.room) (standing l.clerk.desk.node es' l.room) None);
+  turns : l.fn.door ≡ None → Moves (g.W.Wire.traffic l.fn.wire) (g.W.Wire.traffic l.wire)
+      (λ es es'. Served (standing l.fn.clerk.desk.node es l.fn.room) (standing l.clerk.desk.node es' l.room) None)
       × (l.door ≡ None);
 }

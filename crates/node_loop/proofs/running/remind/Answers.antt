@@ -12,7 +12,6 @@ loop-member-preserved g c =
       | in-Some w ↦ again_is g.W.Wire _ _ _ _ _ _ w.wire-is w.resender-is
           (again_then g.W.Wire _ _ _ _ _ _ c.loop-member.invariant (record {
             again = w.repeat_to.ensures.again;
-            given = w.repeat_to.ensures.given;
             kept = w.repeat_to.ensures.kept;
             requests = w.repeat_to.ensures.request;
           }))

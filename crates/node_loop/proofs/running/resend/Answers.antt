@@ -6,6 +6,6 @@ use Rattle.node_loop.proofs.running.resend.Goals as goal
 
 pub returns-clause-again : goal.returns-clause-again
 returns-clause-again g c =
-    hands_then _ _ (g.W.Wire.handed c.repeat.new.wire) _ c.repeat.ensures.again
-    (subst (λ (k : _). HandsAgain k (g.W.Wire.handed c.repeat.new.wire) (g.W.Wire.handed c.recall.new.wire)) c.repeat.ensures.kept
+    hands_then _ _ (g.W.Wire.traffic c.repeat.new.wire) _ c.repeat.ensures.again
+    (subst (λ (k : _). HandsAgain k (g.W.Wire.traffic c.repeat.new.wire) (g.W.Wire.traffic c.recall.new.wire)) c.repeat.ensures.kept
     c.recall.ensures.again)

@@ -1,5 +1,6 @@
 -- turns led here from the start
 use Rattle.std.proofs.Common.{◌≤◌, None}
+use Rattle.px_transport.specs.Wires.{Moves}
 use Rattle.pf_node.specs.Nodes.{applied_of}
 use Rattle.node_loop.specs.Progress.{SawAll, seen_in}
 use Rattle.node_loop.specs.Turns.{Served, standing}
@@ -7,7 +8,9 @@ use Rattle.node_loop.proofs.serving.drain.Given as goal
 
 abbrev pub invariant-loop-taken : goal.invariant-loop-taken
 invariant-loop-taken g l = record {
-  served : Served (standing g.W.Wire l.fn.node l.fn.wire l.fn.room) (standing g.W.Wire l.node l.wire l.room) None;
-  saw : SawAll l.taken (standing g.W.Wire l.fn.node l.fn.wire l.fn.room) (standing g.W.Wire l.node l.wire l.room) (seen_in l.fn.room) (seen_in l.room);
+  served : Moves (g.W.Wire.traffic l.fn.wire) (g.W.Wire.traffic l.wire)
+      (λ es es'. Served (standing l.fn.node es l.fn.room) (standing l.node es' l.room) None);
+  saw : Moves (g.W.Wire.traffic l.fn.wire) (g.W.Wire.traffic l.wire) (λ es es'. SawAll l.taken
+      (standing l.fn.node es l.fn.room) (standing l.node es' l.room) (seen_in l.fn.room) (seen_in l.room));
   grows : applied_of l.fn.node ≤ applied_of l.node;
 }

@@ -2,14 +2,13 @@
 use Rattle.std.proofs.Common.{◌≡◌, ◌++◌, take}
 use Rattle.node_loop.specs.Again.{AreAmong}
 use Rattle.node_loop.specs.Resends.{kept_of, requests_of}
-use Rattle.px_transport.specs.Wires.{GrowsBy}
+use Rattle.px_transport.specs.Wires.{Adds, hands}
 use Rattle.node_loop.specs.Turns.{handed_over}
 use Rattle.node_loop.proofs.turning.send_all.Given as goal
 
 abbrev pub invariant-loop-datagram : goal.invariant-loop-datagram
 invariant-loop-datagram g l = record {
-  handed : GrowsBy (g.W.Wire.handed l.fn.wire) (handed_over (take l.datagram-index l.out)) (g.W.Wire.handed l.wire);
-  given : g.W.Wire.given l.wire ≡ g.W.Wire.given l.fn.wire;
+  handed : Adds (g.W.Wire.traffic l.fn.wire) (g.W.Wire.traffic l.wire) (hands (handed_over (take l.datagram-index l.out)));
   kept : AreAmong (kept_of l.resender) (kept_of l.fn.resender ++ handed_over (take l.datagram-index l.out));
   requests : requests_of l.resender ≡ requests_of l.fn.resender;
 }

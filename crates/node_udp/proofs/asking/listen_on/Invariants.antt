@@ -1,5 +1,6 @@
 -- what was heard so far was passed over
-use Rattle.std.proofs.Common.{◌≡◌, ◌-◌, List, ℕ, Option}
+use Rattle.std.proofs.Common.{◌-◌, List, ℕ}
+use Rattle.px_transport.specs.Wires.{WireEvent, Moves}
 use Rattle.px_wire.specs.Message.{group}
 use Rattle.node_udp.specs.declared.answer.AskAnswer.{AskAnswer}
 use Rattle.node_udp.specs.Asking.{Listens}
@@ -7,7 +8,5 @@ use Rattle.node_udp.proofs.asking.listen_on.Given as goal
 
 abbrev pub invariant-loop-wait : goal.invariant-loop-wait
 invariant-loop-wait g l =
-    ((a : AskAnswer) (given : Option (List (List ℕ))) →
-    Listens (group l.m) l.node (l.waits - l._wait) (g.W.Wire.given l.wire) a given →
-    Listens (group l.m) l.node l.waits (g.W.Wire.given l.fn.wire) a given)
-    × (g.W.Wire.handed l.wire ≡ g.W.Wire.handed l.fn.wire)
+    Moves (g.W.Wire.traffic l.fn.wire) (g.W.Wire.traffic l.wire) (λ es now. (a : AskAnswer) (end : List WireEvent) →
+    Listens (group l.m) l.node (l.waits - l._wait) now a end → Listens (group l.m) l.node l.waits es a end)

@@ -1,5 +1,6 @@
 -- what the receiver gives is what comes of the packet
-use Rattle.std.proofs.Common.{◌∙◌, length, take, ap, sym}
+use Rattle.std.proofs.Common.{◌∙◌, length, ap, sym}
+use Rattle.px_transport.specs.Wires.{within}
 use Rattle.px_transport.specs.Receiving.{given_by, seen}
 use Rattle.px_transport.specs.Wiring.{is_other_machine}
 use Rattle.px_transport.proofs.Arriving.{comes_whole, comes_joined, comes_held, comes_nothing, comes_dropped, comes_copy}
@@ -26,7 +27,7 @@ returns-in-Joined-clause-comes c mine hs h =
       comes_joined (a.header.now, a.body.now) (given_by mine r.0 hs a.header.now a.body.now a.now)
           c.in-Joined.datagram.items (length a.into.now) c.put-in-Joined.result c.put-in-Joined.new.into
           (sym (ap seen c.in-Joined.is) ∙ r.2) c.put-in-Joined.ensures.fits
-          (c.put-in-Joined.ensures.written ∙ ap (take (length a.into.now)) c.as_slice.ensures.value),
+          (c.put-in-Joined.ensures.written ∙ ap (within (length a.into.now)) c.as_slice.ensures.value),
     )
 
 pub returns-in-Held-clause-comes : goal.returns-in-Held-clause-comes

@@ -9,15 +9,15 @@ loop-member-preserved g c =
     let inv = c.loop-member.invariant in
     let s = sealer_of c.args.self.now in
     record {
-      does = λ hs h.
-          let r = inv.does hs h in
+      does = λ hs h es t.
+          let r = inv.does hs h es t in
           let w = c.loop-member.self in
-          let n = c.keep_up_with.ensures.does r.0.heard r.2.heard_is in
-          let k0 = state_of (g.W.Wire.handed (inner_of c.args.self.now)) hs c.args.self.now in (
+          let n = c.keep_up_with.ensures.does r.0.heard r.2.heard_is r.0.traffic r.2.traffic_is in
+          let k0 = state_of es hs c.args.self.now in (
             n.0,
             member_done s (sealer_of w) c.args.now c.loop-member.member k0 r.0
-                (state_of (g.W.Wire.handed (inner_of w)) r.0.heard w) n.0 inv.member.sealer_is
-                (state_eq (g.W.Wire.handed (inner_of w)) r.0 w r.2) r.1 n.1,
+                (state_of r.0.traffic r.0.heard w) n.0 inv.member.sealer_is
+                (state_eq (g.W.Wire.traffic (inner_of w)) r.0 w r.2) r.1 n.1,
             n.2,
           );
       member = record {
@@ -29,6 +29,5 @@ loop-member-preserved g c =
         copies_is = c.keep_up_with.ensures.count.copies_is ∙ inv.count.copies_is;
       };
       members = ap (λ s. s.members) c.keep_up_with.ensures.member.sealer_is ∙ inv.members;
-      given = c.keep_up_with.ensures.given ∙ inv.given;
       rises = omega (arith, c.keep_up_with.ensures.rises, inv.rises);
     }

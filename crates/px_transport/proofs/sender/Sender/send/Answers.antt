@@ -1,6 +1,7 @@
 -- all pieces are sent under its name
 use Rattle.std.proofs.Common.{rules, ◌≡◌, ℕ, List, false, [], ◌∷◌, ◌∙◌, ◌<◌, length, take, subst, ap, arith, inr}
 use Rattle.std.specs.Prelude.{slice_set}
+use Rattle.px_transport.specs.Wires.{Adds}
 use Rattle.px_packet.specs.Sending.{name_of}
 use Rattle.px_transport.specs.Sending.{ToMember, SendsUpTo, to_member, named, whole, pieces, burst, is_short, named_for}
 use Rattle.px_transport.specs.Senders.{sealer_of, outgoing_of}
@@ -27,7 +28,8 @@ returns-clause-sends g c =
     let left : c.left-left.result ≡ (to_member os a.to).left = c.left-left.ensures ∙ ap (λ x. x.left) read in
     let P : ℕ → ℕ → List ToMember → Type 0 =
     λ k n o. SendsUpTo s c.send_pieces.result (take k (pieces a.to a.echo (record { name = n; bits = 0 }) m))
-    (g.W.Wire.handed a.inner.now) o (g.W.Wire.handed c.send_pieces.new.inner) (outgoing_of c.send_pieces.new.self) in
+    (Adds (g.W.Wire.traffic a.inner.now) (g.W.Wire.traffic c.send_pieces.new.inner)) o
+    (outgoing_of c.send_pieces.new.self) in
     let sends : P c.left-left.result c.in-Some.name (slice_set os c.from.result c.name.new.self) =
     c.send_pieces.ensures.sends in
     let all : P (to_member os a.to).left (name_of (to_member os a.to).sent m) (named_for os a.to m) =
@@ -36,5 +38,5 @@ returns-clause-sends g c =
     (subst (λ k. P k c.in-Some.name (slice_set os c.from.result c.name.new.self)) left sends)) in
     inr (upto_if s (is_short m) c.send_pieces.result (whole a.to a.echo m ∷ [])
     (burst os a.to (pieces a.to a.echo (record { name = name_of (to_member os a.to).sent m; bits = 0 }) m))
-    (g.W.Wire.handed a.inner.now) os (named_for os a.to m) (g.W.Wire.handed c.send_pieces.new.inner)
+    (g.W.Wire.traffic a.inner.now) os (named_for os a.to m) (g.W.Wire.traffic c.send_pieces.new.inner)
     (outgoing_of c.send_pieces.new.self) (λ f. absurd cc) (λ _. all))

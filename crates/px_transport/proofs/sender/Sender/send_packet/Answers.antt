@@ -1,7 +1,7 @@
 -- the packet is handed over, or nothing is
-use Rattle.std.proofs.Common.{rules, ◌≡◌, ◌∙◌, ℕ, ◌+◌, ◌<◌, List, ◌++◌, length, subst, ap, arith}
+use Rattle.std.proofs.Common.{rules, ◌≡◌, ◌∙◌, ℕ, ◌+◌, ◌<◌, List, [], ◌∷◌, ◌++◌, length, subst, ap, arith}
 use Rattle.std.specs.Prelude.{slice_set}
-use Rattle.px_transport.specs.Wires.{Grows}
+use Rattle.px_transport.specs.Wires.{Handed, Adds}
 use Rattle.px_packet.specs.Keyed.{key_of}
 use Rattle.px_packet.specs.Headers.{header_bytes}
 use Rattle.px_packet.specs.Packets.{sealed}
@@ -28,7 +28,7 @@ returns-clause-sends g c =
     let p : Unsealed = record { to = a.to; echo = a.echo; kind = a.kind; body = a.body.now } in
     let bytes : ℕ → List ℕ = λ n. sealed (key_of a.self.now.keys) (header_bytes (header_of s p n) ++ a.body.now) in
     let P : List ℕ → Type 0 =
-    λ b. Grows (g.W.Wire.handed a.inner.now) (a.to, b) (g.W.Wire.handed c.send.new.self) in
+    λ b. Adds (g.W.Wire.traffic a.inner.now) (g.W.Wire.traffic c.send.new.self) (Handed a.to b ∷ []) in
     let m : c.in-Some.counter ≡ c.index-last.result.now.counter + 1 = search rules in
     let n : c.in-Some.counter ≡ (to_member os a.to).counter + 1 = m ∙ ap (λ x. x.counter + 1) o in
     let b : c.seal.new.buffer.items ≡ bytes c.in-Some.counter = search rules in
@@ -37,5 +37,5 @@ returns-clause-sends g c =
     let kept : slice_set os c.from-place.result c.count.new.self ≡ counted_for os a.to =
     set_at os a.to c.from-place.result c.index_mut-outgoing.result.now c.count.new.self counted place inside
     c.index_mut-outgoing.ensures.value c.count.ensures in
-    upto_one s c.send.result p (g.W.Wire.handed a.inner.now) os (g.W.Wire.handed c.send.new.self)
+    upto_one s c.send.result p (g.W.Wire.traffic a.inner.now) os (g.W.Wire.traffic c.send.new.self)
     (slice_set os c.from-place.result c.count.new.self) (subst P e c.send.ensures.handed) kept

@@ -22,9 +22,10 @@ returns-then-not-send_piece-clause-sends g c =
     piece_fails (sealer_of a.self.now) (sealer_of c.loop-index.self) c.send_piece.result
     (take a.most (pieces a.to a.echo a.held a.datagram.now)) inv.first
     (take n (pieces_from a.to a.echo a.held a.datagram.now i)) p
-    (take (n - 1) (pieces_from a.to a.echo a.held a.datagram.now (i + 1))) (g.W.Wire.handed a.inner.now) (outgoing_of a.self.now)
-    (g.W.Wire.handed c.loop-index.inner) (outgoing_of c.loop-index.self) (g.W.Wire.handed c.send_piece.new.inner)
-    (outgoing_of c.send_piece.new.self) inv.split (take_lacked n (n - 1) a.to a.echo a.held a.datagram.now i more l lacks)
+    (take (n - 1) (pieces_from a.to a.echo a.held a.datagram.now (i + 1))) (g.W.Wire.traffic a.inner.now)
+    (outgoing_of a.self.now) (g.W.Wire.traffic c.loop-index.inner) (outgoing_of c.loop-index.self)
+    (g.W.Wire.traffic c.send_piece.new.inner) (outgoing_of c.send_piece.new.self) inv.split
+    (take_lacked n (n - 1) a.to a.echo a.held a.datagram.now i more l lacks)
     inv.sealer failed inv.sends c.send_piece.ensures.sends
 
 pub loop-index-preserved : goal.loop-index-preserved
@@ -46,12 +47,11 @@ loop-index-preserved g c =
           (take (n - 1) (pieces_from a.to a.echo a.held a.datagram.now (i + 1))) inv.split
           (take_lacked n (n - 1) a.to a.echo a.held a.datagram.now i more l lacks);
       sends = piece_sends (sealer_of a.self.now) (sealer_of c.loop-index.self) c.send_piece.result inv.first p
-          (g.W.Wire.handed a.inner.now) (outgoing_of a.self.now) (g.W.Wire.handed c.loop-index.inner)
-          (outgoing_of c.loop-index.self) (g.W.Wire.handed c.send_piece.new.inner)
+          (g.W.Wire.traffic a.inner.now) (outgoing_of a.self.now) (g.W.Wire.traffic c.loop-index.inner)
+          (outgoing_of c.loop-index.self) (g.W.Wire.traffic c.send_piece.new.inner)
           (outgoing_of c.send_piece.new.self) inv.sealer sent inv.sends c.send_piece.ensures.sends;
       sealer = search rules;
       keys = search rules;
-      given = search rules;
       count = inv.count;
     }
 
@@ -69,6 +69,5 @@ loop-index-preserved-then-has g c =
       sends = inv.sends;
       sealer = inv.sealer;
       keys = inv.keys;
-      given = inv.given;
       count = inv.count;
     }

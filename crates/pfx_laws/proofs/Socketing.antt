@@ -1,0 +1,190 @@
+-- What goes over members' sockets is what goes over their wires.
+use Rattle.std.proofs.Common.{◌≡◌, ◌∙◌, ◌⊎◌, sym, ap, subst, refl, ℕ, ◌<◌, ◌≤◌, nat_eq, List, [], ◌∷◌, ◌++◌, Option, Some, None, inl, inr, arith}
+use Rattle.std.specs.List.{AllByRecursion}
+use Rattle.std.proofs.lemmas.Bool.{cond-true, cond-false, eq-eqb}
+use Rattle.std.proofs.lemmas.Bool.Decides.{eqb_tells}
+use Rattle.std.proofs.lemmas.List.{append-nil}
+use Rattle.px_model.specs.Law.{Among}
+use Rattle.px_model.specs.Node.{Entry}
+use Rattle.px_model.specs.Spelling.{Bytes}
+use Rattle.px_model.specs.World.{NodeState}
+use Rattle.node_loop.specs.Again.{AreAmong}
+use Rattle.node_loop.proofs.Among.{among_all, among_front, among_none, among_sides}
+use Rattle.px_transport.specs.Wires.{WireEvent, Gave, Handed}
+use Rattle.px_wire.specs.Message.{Group, Message, DatagramBytes}
+use Rattle.node_udp.specs.Sockets.{SocketEvent, Came, Went, Passage, Hears, Sends, Loses, IsSound, above_in, below_in}
+use Rattle.node_udp.specs.declared.address.Address.{Address}
+use Rattle.pfx_laws.specs.Promised.{IsGroup}
+use Rattle.pfx_laws.specs.Wires.{Stretch, stand}
+use Rattle.pfx_laws.specs.Carried.{Goes}
+use Rattle.pfx_laws.specs.Networks.{events_at, WasHanded, Carries, Ran, RanAbove}
+use Rattle.pfx_laws.specs.Sockets.{SocketsCarry, RanAt, RunsAreAtSockets, SocketsGo, SocketsNeverDiffer}
+use Rattle.pfx_laws.proofs.Carried.{wires_never_differ}
+use Rattle.pfx_laws.proofs.Lifting as lifting
+use Rattle.pfx_laws.proofs.Lifting.{AreBelow}
+use Rattle.pfx_laws.proofs.Looping.{carried_more, no_message, below_or, networks_go}
+
+-- over the socket
+abbrev lower : Passage → Option SocketEvent
+lower (Hears from came given) = Some (Came from came)
+lower (Sends to bytes there) = Some (Went there bytes)
+lower (Loses to bytes) = None
+
+lowers_are : (xs : List Passage) → lifting.lowers lower xs ≡ below_in xs
+lowers_are [] = refl
+lowers_are (Hears from came given ∷ xs) = ap (λ (es : List SocketEvent). Came from came ∷ es) (lowers_are xs)
+lowers_are (Sends to bytes there ∷ xs) = ap (λ (es : List SocketEvent). Went there bytes ∷ es) (lowers_are xs)
+lowers_are (Loses to bytes ∷ xs) = lowers_are xs
+
+-- over the wire
+abbrev one_above : Passage → WireEvent
+one_above (Hears from came given) = Gave given
+one_above (Sends to bytes there) = Handed to bytes
+one_above (Loses to bytes) = Handed to bytes
+
+abbrev upper : List (ℕ × Passage) → List (ℕ × WireEvent)
+upper [] = []
+upper ((m, x) ∷ xs) = (m, one_above x) ∷ upper xs
+
+above_first : (x : Passage) (xs : List Passage) → above_in (x ∷ xs) ≡ one_above x ∷ above_in xs
+above_first (Hears from came given) xs = refl
+above_first (Sends to bytes there) xs = refl
+above_first (Loses to bytes) xs = refl
+
+upper_at : (k : ℕ) (xs : List (ℕ × Passage)) → events_at k (upper xs) ≡ above_in (events_at k xs)
+upper_at k [] = refl
+upper_at k ((m, x) ∷ xs) =
+    elim (eqb_tells k m) [
+      | inl is ↦ cond-true (nat_eq k m) _ _ is.0 ∙ ap (λ (es : List WireEvent). one_above x ∷ es) (upper_at k xs)
+          ∙ sym (above_first x (events_at k xs))
+          ∙ ap above_in (sym (cond-true (nat_eq k m) (x ∷ events_at k xs) (events_at k xs) is.0))
+      | inr other ↦ cond-false (nat_eq k m) _ _ other.0 ∙ upper_at k xs
+          ∙ ap above_in (sym (cond-false (nat_eq k m) (x ∷ events_at k xs) (events_at k xs) other.0))
+    ]
+
+-- ---- it is carried
+
+-- what comes is given, or an empty datagram
+abbrev IsFaithful : Passage → Type 0
+IsFaithful (Hears from came given) = (given ≡ came) ⊎ (given ≡ [])
+IsFaithful (Sends to bytes there) = Unit {0}
+IsFaithful (Loses to bytes) = Unit {0}
+
+abbrev AreFaithful : List Passage → Type 0
+AreFaithful [] = Unit {0}
+AreFaithful (x ∷ xs) = IsFaithful x × AreFaithful xs
+
+faithful : (addresses : List Address) (me : ℕ) (xs : List Passage) → AllByRecursion (IsSound addresses me) xs → AreFaithful xs
+faithful addresses me [] s = tt
+faithful addresses me (Hears from came given ∷ xs) s = (s.0, faithful addresses me xs s.1)
+faithful addresses me (Sends to bytes there ∷ xs) s = (tt, faithful addresses me xs s.1)
+faithful addresses me (Loses to bytes ∷ xs) s = (tt, faithful addresses me xs s.1)
+
+-- each member's
+abbrev AllFaithful : (n : ℕ) → List (ℕ × Passage) → Type 0
+AllFaithful n xs = (m : ℕ) → m < n → AreFaithful (events_at m xs)
+
+faithful_first : (n m : ℕ) (x : Passage) (xs : List (ℕ × Passage)) → m < n → AllFaithful n ((m, x) ∷ xs) → IsFaithful x × AreFaithful (events_at m xs)
+faithful_first n m x xs below f =
+    subst AreFaithful (cond-true (nat_eq m m) (x ∷ events_at m xs) (events_at m xs) (eq-eqb m m refl)) (f m below)
+
+faithful_rest : (n m : ℕ) (x : Passage) (xs : List (ℕ × Passage)) → m < n → AllFaithful n ((m, x) ∷ xs) → AllFaithful n xs
+faithful_rest n m x xs below f k l =
+    elim (eqb_tells k m) [
+      | inl is ↦ subst (λ (j : ℕ). AreFaithful (events_at j xs)) (sym is.1) (faithful_first n m x xs below f).1
+      | inr other ↦ subst AreFaithful (cond-false (nat_eq k m) (x ∷ events_at k xs) (events_at k xs) other.0) (f k l)
+    ]
+
+carries_above : (g : Group) (xs : List (ℕ × Passage)) (went handed : List Bytes) → AllFaithful g.members xs → AreAmong went handed →
+    AreBelow g.members xs → SocketsCarry g (lifting.all_lower lower xs) went → Carries g (upper xs) handed
+carries_above g [] went handed f a b c = tt
+carries_above g ((m, Hears from came given) ∷ xs) went handed f a b c = (
+  b.0,
+  elim (faithful_first g.members m (Hears from came given) xs b.0 f).0 [
+    | inl same ↦ subst (λ (x : Bytes). WasHanded g handed m x) (sym same) (carried_more g m came went handed a c.1)
+    | inr empty ↦ inr (λ k message spelled. no_message g k m message (subst (λ (x : Bytes). DatagramBytes g k m message x) empty spelled))
+  ],
+  carries_above g xs went handed (faithful_rest g.members m (Hears from came given) xs b.0 f) a b.1 c.2,
+)
+carries_above g ((m, Sends to bytes there) ∷ xs) went handed f a b c = (
+  b.0,
+  carries_above g xs (went ++ bytes ∷ []) (handed ++ bytes ∷ []) (faithful_rest g.members m (Sends to bytes there) xs b.0 f)
+      (among_sides went (bytes ∷ []) handed (bytes ∷ []) a (among_all (bytes ∷ []))) b.1 c.1,
+)
+carries_above g ((m, Loses to bytes) ∷ xs) went handed f a b c = (
+  b.0,
+  carries_above g xs went (handed ++ bytes ∷ []) (faithful_rest g.members m (Loses to bytes) xs b.0 f)
+      (among_front went handed (bytes ∷ []) a) b.1 c,
+)
+
+are_below : (g : Group) (network : List (ℕ × SocketEvent)) (went : List Bytes) → SocketsCarry g network went → AreBelow g.members network
+are_below g [] went c = tt
+are_below g ((m, Came from b) ∷ xs) went c = (c.0, are_below g xs went c.2)
+are_below g ((m, Went to b) ∷ xs) went c = (c.0, are_below g xs _ c.1)
+
+-- ---- the laws
+
+module _ (g : Group) (network : List (ℕ × SocketEvent)) (stands : ℕ → NodeState Bytes)
+    (ran : (m : ℕ) → m < g.members → RanAt g m (events_at m network) (stands m)) where
+  abbrev passages_of : (m : ℕ) → (m < g.members) ⊎ (g.members ≤ m) → List Passage
+  passages_of m (inl below) = (ran m below).passages
+  passages_of m (inr above) = []
+
+  abbrev steps : ℕ → List Passage
+  steps m = passages_of m (below_or m g.members)
+
+  low_at : (m : ℕ) (w : (m < g.members) ⊎ (g.members ≤ m)) → m < g.members → events_at m network ≡ lifting.lowers lower (passages_of m w)
+  low_at m (inl b) below = (ran m b).below_is ∙ sym (lowers_are (ran m b).passages)
+  low_at m (inr above) below = absurd (omega (arith, above, below))
+
+  faithful_at : (m : ℕ) (w : (m < g.members) ⊎ (g.members ≤ m)) → m < g.members → AreFaithful (passages_of m w)
+  faithful_at m (inl b) below = let r = ran m b in faithful r.addresses r.me r.passages r.sound
+  faithful_at m (inr above) below = absurd (omega (arith, above, below))
+
+  ran_at : (m : ℕ) (w : (m < g.members) ⊎ (g.members ≤ m)) → m < g.members → RanAbove g m (above_in (passages_of m w)) (stands m)
+  ran_at m (inl b) below = (ran m b).ran
+  ran_at m (inr above) below = absurd (omega (arith, above, below))
+
+  pub passages_go : IsGroup g → SocketsCarry g network [] →
+      (stretches : List Stretch) × Goes g stretches × ((m : ℕ) → m < g.members → stand stretches m ≡ stands m)
+  passages_go few carries =
+      let l = lifting.lift lower g.members network steps (λ m below. low_at m (below_or m g.members) below) (are_below g network [] carries) in
+      let up : Carries g (upper l.above) [] =
+      carries_above g l.above [] []
+      (λ m below. subst AreFaithful (sym (l.own m below)) (faithful_at m (below_or m g.members) below))
+      (among_none []) l.within (subst (λ (net : List (ℕ × SocketEvent)). SocketsCarry g net []) (sym l.low) carries) in
+      networks_go g few (upper l.above) up stands
+      (λ m below. subst (λ (es : List WireEvent). RanAbove g m es (stands m))
+      (sym (upper_at m l.above ∙ ap above_in (l.own m below))) (ran_at m (below_or m g.members) below))
+
+pub sockets_go : SocketsGo
+sockets_go g few network carries stands ran = passages_go g network stands ran few carries
+
+pub sockets_never_differ : SocketsNeverDiffer
+sockets_never_differ g few network carries stands ran i j p q e f mine theirs has also =
+    let n = sockets_go g few network carries stands ran in
+    let xs = n.0 in
+    wires_never_differ g xs [] (subst (λ (ys : List Stretch). Goes g ys) (sym (append-nil xs)) n.1) i j p q e f
+    (ap (λ (s : NodeState Bytes). s.stored.learned p) (n.2 i mine) ∙ has)
+    (ap (λ (ys : List Stretch). (stand ys j).stored.learned q) (append-nil xs) ∙ ap (λ (s : NodeState Bytes). s.stored.learned q) (n.2 j theirs) ∙ also)
+
+pub runs_are_at_sockets : (S C : Type 0) → RunsAreAtSockets S C
+runs_are_at_sockets S C g below w es then looped ran =
+    let o = looped.below_is in (
+      below_in o.passages,
+      o.below_is,
+      record {
+        addresses = _;
+        me = _;
+        passages = o.passages;
+        sound = o.sound;
+        below_is = refl;
+        ran = record {
+          loops = looped.loops;
+          kept = _;
+          queue = looped.queue;
+          below_is = sym o.above_is;
+          ran = subst (λ (fs : List WireEvent). Ran g _ fs then) looped.above_is ran;
+        };
+      },
+    )
