@@ -203,12 +203,12 @@ pub upto_at : (s : Sealer) (b : Bool) (ps : List Unsealed) (h h' : Handed) (os o
     (es : List WireEvent) → h es → SendsUpTo s b ps (Adds h h') os os' →
     (es' : List WireEvent) × h' es' × SendsUpTo s b ps (λ more. es' ≡ es ++ more) os os'
 upto_at s b ps h h' os os' es t (first, rest, e, all, c) =
-    let more = hands (packets s os first) in (es ++ more, c.0 es t, first, rest, e, all, refl, c.1)
+    let more = hands (packets s os first) in (es ++ more, c.0 es t, (first, rest, e, all, (refl, c.1)))
 
 -- none is added
 pub upto_nothing : (s : Sealer) (b : Bool) (ps : List Unsealed) (es : List WireEvent) (os : List ToMember) →
     (IsTrue b → ps ≡ []) → SendsUpTo s b ps (λ more. es ≡ es ++ more) os os
-upto_nothing s b ps es os e = ([], ps, refl, e, sym (append-nil es), refl)
+upto_nothing s b ps es os e = ([], ps, refl, e, (sym (append-nil es), refl))
 
 sent_at : (s : Sealer) (r : Bool) (ps : List Unsealed) (h h' : Handed) (os os1 os' : List ToMember)
     (es : List WireEvent) → h es →

@@ -450,6 +450,7 @@ impl<W: Wire, C: Clock> Wire for PacketWire<W, C> {
             (es : List WireEvent) → W.traffic (inner_of self.old) es → (k : WireState) ×
             IsSent (sealer_of self.old) to bytes.now result (state_of es hs self.old) k ×
             IsWireState (W.traffic (inner_of self.new)) k self.new }
+        ensures receiver { receiver_of self.new ≡ receiver_of self.old }
         ensures member { IsSameMember self.old self.new }
         ensures count { IsSameCount self.old self.new }
         ensures handed { Adds (WentSealed (W.traffic (inner_of self.old)) self.old)

@@ -17,5 +17,5 @@ returns-in_default-clause-sends g c =
     let n : cut_with c.index-outgoing.result.now.sent c.args.held.name ≡ None = search rules in
     let none : cut_with o.sent c.args.held.name ≡ None =
     ap (λ x. cut_with x.sent c.args.held.name) (sym read) ∙ n in
-    upto_none _ _ _ _ _ (λ _. ap (λ x. burst os c.args.to (again_of c.args.to c.args.echo c.args.held x)) none
+    upto_none _ _ _ (g.W.Wire.traffic c.args.inner.now) _ (λ _. ap (λ x. burst os c.args.to (again_of c.args.to c.args.echo c.args.held x)) none
     ∙ take_nil o.left)

@@ -11,10 +11,10 @@ use Rattle.px_transport.proofs.Sending.{upto_none, upto_one, at_index, set_at}
 use Rattle.px_transport.proofs.sender.Sender.send_packet.Goals as goal
 
 pub returns-in_default-clause-sends : goal.returns-in_default-clause-sends
-returns-in_default-clause-sends g c = upto_none _ _ _ _ _ (λ f. absurd cc)
+returns-in_default-clause-sends g c = upto_none _ _ _ (g.W.Wire.traffic c.args.inner.now) _ (λ f. absurd cc)
 
 pub returns-then-is_err-clause-sends : goal.returns-then-is_err-clause-sends
-returns-then-is_err-clause-sends g c = upto_none _ _ _ _ _ (λ f. absurd cc)
+returns-then-is_err-clause-sends g c = upto_none _ _ _ (g.W.Wire.traffic c.args.inner.now) _ (λ f. absurd cc)
 
 pub returns-clause-sends : goal.returns-clause-sends
 returns-clause-sends g c =

@@ -18,6 +18,7 @@ returns-then-now-due-clause-sends g c =
     c.due.ensures ∙ ap (λ x. next_state x c.args.echo) last in
     let now : nat_lt c.args.now c.due.result ≡ true = search rules in
     let due : nat_lt c.args.now (next_state o c.args.echo) ≡ true = subst (λ x. nat_lt c.args.now x ≡ true) e now in
+    let below = g.W.Wire.traffic c.args.inner.now in
     upto_if (sealer_of c.args.self.now) (nat_lt c.args.now (next_state o c.args.echo)) true []
-    (state c.args.to c.args.echo ∷ []) _ os (slice_set os c.args.to (stated c.args.now c.args.echo o)) _ os
-    (λ _. upto_none _ _ _ _ _ (λ _. refl)) (λ f. absurd cc)
+    (state c.args.to c.args.echo ∷ []) below os (slice_set os c.args.to (stated c.args.now c.args.echo o)) below os
+    (λ _. upto_none _ _ _ below _ (λ _. refl)) (λ f. absurd cc)
