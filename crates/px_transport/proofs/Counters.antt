@@ -1,10 +1,10 @@
 -- Counters of packets that are sent one after another.
-use Rattle.std.proofs.Common.{◌≡◌, ◌∙◌, ◌≢◌, ℕ, suc, ◌+◌, ◌<◌, Bool, true, false, List, [], ◌∷◌, length, map, ap, sym, subst, refl, arith}
+use Rattle.std.proofs.Common.{◌≡◌, ◌∙◌, ℕ, ◌+◌, Bool, true, false, List, [], ◌∷◌, length, map, ap, sym, subst, refl, arith}
 use Rattle.std.specs.Prelude.{◌==◌, if◌then◌else◌}
 use Rattle.std.specs.List.{range_with_len, filter}
 use Rattle.std.proofs.lemmas.Bool.{eqb-true, eqb-false}
 use Rattle.std.proofs.lemmas.List.{get_or-set_same, get_or-set_other, length-set}
-use Rattle.px_transport.specs.Sending.{ToMember, Unsealed, new_to, to_member, counted, counted_for, counted_all}
+use Rattle.px_transport.specs.Sending.{new_to, to_member, counted, counted_for, counted_all}
 use Rattle.px_transport.specs.SendingLaws.{numbers, counters_for, AreForMembers, CountersFollow}
 
 abbrev Follow : (start after : ℕ) → List ℕ → Type 0

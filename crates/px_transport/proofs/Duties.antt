@@ -4,7 +4,7 @@ use Rattle.std.specs.List.{range_with_len, flat_map}
 use Rattle.std.specs.Prelude.{replicate, ◌&&◌, IsTrue, Option}
 use Rattle.std.proofs.lemmas.List.{flat_map_more, replicate_more}
 use Rattle.px_transport.specs.declared.packet_wire.PacketWire.{PacketWire}
-use Rattle.px_transport.specs.Wires.{WireEvent, Handed, Adds, IsQuiet, gives}
+use Rattle.px_transport.specs.Wires.{WireEvent, Adds, gives}
 use Rattle.px_packet.specs.Keyed as keyed
 use Rattle.px_transport.specs.Receiving.{Heard, Hears, unheard}
 use Rattle.px_transport.specs.Senders as senders

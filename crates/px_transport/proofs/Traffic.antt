@@ -1,5 +1,5 @@
 -- Traffic that grows.
-use Rattle.std.proofs.Common.{◌≡◌, ◌∙◌, ℕ, List, [], ◌∷◌, ◌++◌, refl, sym, ap, subst, append_assoc}
+use Rattle.std.proofs.Common.{◌≡◌, ℕ, List, [], ◌∷◌, ◌++◌, refl, sym, ap, subst, append_assoc}
 use Rattle.std.proofs.lemmas.List.{append-nil, map-append}
 use Rattle.px_transport.specs.Wires.{WireEvent, Gave, Handed, Adds, IsQuiet, Moves, given_in, handed_in, hands}
 

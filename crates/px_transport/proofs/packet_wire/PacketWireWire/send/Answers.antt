@@ -1,6 +1,6 @@
 -- the packets of the datagram are handed over
-use Rattle.std.proofs.Common.{rules, ◌≡◌, ◌∙◌, ◌++◌, List, true, false, subst, refl, sym, ap, inl}
-use Rattle.std.specs.Prelude.{◌⊎◌, ◌&&◌, IsTrue}
+use Rattle.std.proofs.Common.{rules, ◌≡◌, ◌∙◌, List, true, false, subst, refl, sym, ap, inl}
+use Rattle.std.specs.Prelude.{◌⊎◌, IsTrue}
 use Rattle.px_transport.specs.Wires.{Adds, IsQuiet}
 use Rattle.px_packet.specs.Keyed as keyed
 use Rattle.px_packet.specs.declared.start.Start.{Start}
