@@ -1,8 +1,7 @@
 -- What goes over a wire and over the wire below.
 use Rattle.std.proofs.Common.{◌≡◌, ◌∙◌, ◌⊎◌, inl, inr, ℕ, Bool, true, false, Option, Some, None, List, [], ◌∷◌, ◌++◌, refl, sym, ap, subst, map, length}
 use Rattle.std.specs.Prelude.{nat_le, if◌then◌else◌}
-use Rattle.std.proofs.lemmas.List.{append-nil}
-use Rattle.px_transport.specs.Wires.{WireEvent, Gave, Handed, Adds, IsQuiet, gives, within}
+use Rattle.px_transport.specs.Wires.{WireEvent, Gave, Handed, Adds, IsQuiet}
 use Rattle.px_transport.specs.Loopback as loop
 use Rattle.px_transport.specs.Loopback.{Loop, Keeps, Returns, IsQueue, IsReturned, Looped, me_of, kept_of}
 use Rattle.px_transport.specs.Faulty as fault

@@ -3,7 +3,7 @@
 //! # Organization
 //!
 //! - [`Wire`]: what a node asks of whoever carries its datagrams, in `specs/Wires`' words.
-//! - [`MemoryWire`]: a wire in memory, which reports all that went over it. [`FaultyWire`]: any wire, of which each
+//! - [`MemoryWire`]: a wire in memory, which keeps all that went over it. [`FaultyWire`]: any wire, of which each
 //!   `k`-th receive and send fails, for tests of lost datagrams. [`LoopbackWire`]: any wire, which keeps what a member
 //!   sends to itself and gives it back.
 //! - [`PacketWire`]: any wire, over which datagrams go as sealed packets (`px_packet`), cut where they are longer than
@@ -16,7 +16,6 @@
 //!
 //! - `px_packet` knows packets and pieces. Here is who sends which packet when, and what is given of those that come.
 //! - A wire over UDP is node_udp's, so nothing here knows of sockets.
-//! The layers below know packets and pieces. Here is who sends which packet when, and what is given of those that come.
 #![tactic(auto)]
 
 mod coming;

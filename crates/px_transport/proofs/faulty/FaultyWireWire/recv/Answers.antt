@@ -1,5 +1,5 @@
 -- what the wire below gave goes over both
-use Rattle.std.proofs.Common.{◌++◌, subst, option_map, take}
+use Rattle.std.proofs.Common.{subst, option_map, take}
 use Rattle.px_transport.specs.Wires.{Adds, gives}
 use Rattle.px_transport.proofs.Layers.{faulty_passes}
 use Rattle.px_transport.proofs.faulty.FaultyWireWire.recv.Goals as goal

@@ -1,5 +1,5 @@
 -- it is kept, or is so no longer
-use Rattle.std.proofs.Common.{rules, refl}
+use Rattle.std.proofs.Common.{refl}
 use Rattle.px_transport.proofs.Following.{went_handed, went_lost}
 use Rattle.px_transport.proofs.memory.MemoryWireWire.send.Goals as goal
 
