@@ -1,6 +1,6 @@
 -- What a wire of packets does.
-use Rattle.std.specs.Prelude.{◌≡◌, ℕ, zero, suc, ◌-◌, ◌^◌, ◌≤◌, min, Bool, true, false, List, [], ◌∷◌, ◌++◌, length, take}
-use Rattle.std.specs.Prelude.{drop, replicate, Option, Some, None, IsTrue, ◌&&◌, ◌⊎◌, if◌then◌else◌}
+use Rattle.std.specs.Prelude.{◌≡◌, ℕ, zero, suc, ◌-◌, ◌^◌, ◌≤◌, min, Bool, true, false, List, [], ◌∷◌, ◌++◌, length}
+use Rattle.std.specs.Prelude.{take, drop, replicate, Option, Some, None, IsTrue, ◌&&◌, ◌⊎◌, if◌then◌else◌}
 use Rattle.std.specs.List.{range_with_len, flat_map}
 use Rattle.px_transport.specs.Wires.{WireEvent, Handed, Counts, gives, one_more, within}
 use Rattle.px_packet.specs.declared.start.Start.{Start}
@@ -18,11 +18,10 @@ use Rattle.px_transport.specs.declared.coming.Coming.TheVariants as coming
 use Rattle.px_transport.specs.declared.receiver.Receiver.{Receiver}
 use Rattle.px_transport.specs.declared.packet_wire.PacketWire.{PacketWire}
 use Rattle.px_transport.specs.Receiving.{Heard, Given, Whole, Joined, Held, Nothing, Dropped, Memory, Hears, of_member}
-use Rattle.px_transport.specs.Receiving.{unheard}
-use Rattle.px_transport.specs.Receiving.{heard_after, given_by, reported_of, due_of}
+use Rattle.px_transport.specs.Receiving.{unheard, heard_after, given_by, reported_of, due_of}
 use Rattle.px_transport.specs.Sending.{is_other, can_be_cut, ToMember, Sealer, Unsealed, SendsUpTo, states, stated_for}
-use Rattle.px_transport.specs.Sending.{new_to}
-use Rattle.px_transport.specs.Sending.{report, again, packets_of, kept_with, to_member, next_state, refilled_for}
+use Rattle.px_transport.specs.Sending.{report, again, packets_of, kept_with, to_member, new_to, next_state}
+use Rattle.px_transport.specs.Sending.{refilled_for}
 use Rattle.px_transport.specs.Senders as senders
 
 -- ---- a wire in code

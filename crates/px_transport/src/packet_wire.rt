@@ -385,9 +385,10 @@ impl<W: Wire, C: Clock> Wire for PacketWire<W, C> {
     fn recv(&mut self, into: &mut [u8]) -> Option<usize>
         ensures receives { (hs : List Heard) → Hears (sealer_of self.old).start hs (receiver_of self.old) →
             (es : List WireEvent) → W.traffic (inner_of self.old) es → (k : WireState) ×
-            Received (keys_of self.old) (sealer_of self.old) (length into.old) (option_map (λ n. take n into.new) result)
-            (state_of es hs self.old) k (dropped_of self.old) (dropped_of self.new) (copies_of self.old)
-            (copies_of self.new) × IsWireState (W.traffic (inner_of self.new)) k self.new }
+            Received (keys_of self.old) (sealer_of self.old) (length into.old)
+            (option_map (λ n. take n into.new) result) (state_of es hs self.old) k (dropped_of self.old)
+            (dropped_of self.new) (copies_of self.old) (copies_of self.new) ×
+            IsWireState (W.traffic (inner_of self.new)) k self.new }
         ensures member { IsSameMember self.old self.new }
         ensures fits { IfSome result (λ n. n ≤ length into.new) }
         ensures gave { Adds (WentSealed (W.traffic (inner_of self.old)) self.old)
@@ -403,9 +404,10 @@ impl<W: Wire, C: Clock> Wire for PacketWire<W, C> {
     fn poll(&mut self, into: &mut [u8]) -> Option<usize>
         ensures receives { (hs : List Heard) → Hears (sealer_of self.old).start hs (receiver_of self.old) →
             (es : List WireEvent) → W.traffic (inner_of self.old) es → (k : WireState) ×
-            Received (keys_of self.old) (sealer_of self.old) (length into.old) (option_map (λ n. take n into.new) result)
-            (state_of es hs self.old) k (dropped_of self.old) (dropped_of self.new) (copies_of self.old)
-            (copies_of self.new) × IsWireState (W.traffic (inner_of self.new)) k self.new }
+            Received (keys_of self.old) (sealer_of self.old) (length into.old)
+            (option_map (λ n. take n into.new) result) (state_of es hs self.old) k (dropped_of self.old)
+            (dropped_of self.new) (copies_of self.old) (copies_of self.new) ×
+            IsWireState (W.traffic (inner_of self.new)) k self.new }
         ensures member { IsSameMember self.old self.new }
         ensures fits { IfSome result (λ n. n ≤ length into.new) }
         ensures gave { Adds (WentSealed (W.traffic (inner_of self.old)) self.old)
