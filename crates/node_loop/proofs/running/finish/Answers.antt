@@ -10,12 +10,20 @@ loop-round-init g c = record { served = λ es t. (es, t, served_none _ _ (same_a
 
 pub returns-in-Err-clause-served : goal.returns-in-Err-clause-served
 returns-in-Err-clause-served g c =
-    over_then _ _ _ _ (λ es. standing c.loop-round.node es c.loop-round.room) _ _ c.loop-round.invariant.served c.in-Err.ensures.served
+    over_then (g.W.Wire.traffic c.args.wire.now) (g.W.Wire.traffic c.loop-round.wire) (g.W.Wire.traffic c.round.new.wire)
+    (λ es. standing c.args.node.now es c.args.room.now) (λ es. standing c.loop-round.node es c.loop-round.room)
+    (λ es. standing c.round.new.node es c.round.new.room) _ c.loop-round.invariant.served c.in-Err.ensures.served
 
 pub loop-round-preserved : goal.loop-round-preserved
 loop-round-preserved g c = record {
-  served = over_then _ _ _ _ (λ es. standing c.loop-round.node es c.loop-round.room) _ _ c.loop-round.invariant.served
-      (over_then _ _ _ _ (λ es. standing c.round.new.node es c.round.new.room) _ _ c.in-Ok.ensures.served
-      (over_same _ _ _ _ c.wait.ensures.quiet (λ es. same_all _)));
+  served = over_then (g.W.Wire.traffic c.args.wire.now) (g.W.Wire.traffic c.loop-round.wire) (g.W.Wire.traffic c.wait.new.self)
+      (λ es. standing c.args.node.now es c.args.room.now) (λ es. standing c.loop-round.node es c.loop-round.room)
+      (λ es. standing c.round.new.node es c.round.new.room) _ c.loop-round.invariant.served
+      (over_then (g.W.Wire.traffic c.loop-round.wire) (g.W.Wire.traffic c.round.new.wire) (g.W.Wire.traffic c.wait.new.self)
+      (λ es. standing c.loop-round.node es c.loop-round.room) (λ es. standing c.round.new.node es c.round.new.room)
+      (λ es. standing c.round.new.node es c.round.new.room) _ c.in-Ok.ensures.served
+      (over_same (g.W.Wire.traffic c.round.new.wire) (g.W.Wire.traffic c.wait.new.self)
+      (λ es. standing c.round.new.node es c.round.new.room) (λ es. standing c.round.new.node es c.round.new.room)
+      c.wait.ensures.quiet (λ es. same_all (standing c.round.new.node es c.round.new.room))));
   grows = omega (arith, c.loop-round.invariant.grows, c.round.ensures.grows);
 }

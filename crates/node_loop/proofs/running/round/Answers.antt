@@ -1,14 +1,18 @@
 -- what came, what is sent again, and the clock
 use Rattle.std.proofs.Common.{◌∙◌, refl}
 use Rattle.node_loop.specs.Turns.{standing}
+use Rattle.node_loop.specs.Resends.{kept_of, requests_of}
 use Rattle.node_loop.proofs.Chains.{round_took, round_saw}
 use Rattle.node_loop.proofs.Given.{over_then, over_same, over_resent, over_between, on_ok}
 use Rattle.node_loop.proofs.running.round.Goals as goal
 
 pub returns-in-Err-clause-served : goal.returns-in-Err-clause-served
 returns-in-Err-clause-served g c =
-    over_then _ _ _ _ (λ es. standing c.args.node.now es c.begin.new.room) _ _
-    (over_same _ _ _ _ (λ es t. t) (λ es. record {
+    over_then (g.W.Wire.traffic c.args.wire.now) (g.W.Wire.traffic c.args.wire.now) (g.W.Wire.traffic c.drain.new.wire)
+    (λ es. standing c.args.node.now es c.args.room.now) (λ es. standing c.args.node.now es c.begin.new.room)
+    (λ es. standing c.drain.new.node es c.drain.new.room) _
+    (over_same (g.W.Wire.traffic c.args.wire.now) (g.W.Wire.traffic c.args.wire.now)
+    (λ es. standing c.args.node.now es c.args.room.now) (λ es. standing c.args.node.now es c.begin.new.room) (λ es t. t) (λ es. record {
       replica = refl;
       traffic = refl;
       kept = c.begin.ensures.kept;
@@ -18,16 +22,31 @@ returns-in-Err-clause-served g c =
 
 pub returns-clause-served : goal.returns-clause-served
 returns-clause-served g c =
-    over_then _ _ _ _ (λ es. standing c.args.node.now es c.begin.new.room) _ _
-    (over_same _ _ _ _ (λ es t. t) (λ es. record {
+    over_then (g.W.Wire.traffic c.args.wire.now) (g.W.Wire.traffic c.args.wire.now) (g.W.Wire.traffic c.tick_if.new.wire)
+    (λ es. standing c.args.node.now es c.args.room.now) (λ es. standing c.args.node.now es c.begin.new.room)
+    (λ es. standing c.tick_if.new.node es c.tick_if.new.room) _
+    (over_same (g.W.Wire.traffic c.args.wire.now) (g.W.Wire.traffic c.args.wire.now)
+    (λ es. standing c.args.node.now es c.args.room.now) (λ es. standing c.args.node.now es c.begin.new.room) (λ es t. t) (λ es. record {
       replica = refl;
       traffic = refl;
       kept = c.begin.ensures.kept;
       requests = c.begin.ensures.requests;
       hears = c.begin.ensures.hears;
     }))
-    (over_then _ _ _ _ (λ es. standing c.drain.new.node es c.drain.new.room) _ _ c.in-Ok.ensures.served
-    (over_then _ _ _ _ _ _ _ (over_between _ _ _ _ (over_resent _ _ _ _ _ c.resend-has_own.ensures.again (λ es again among. record {
+    (over_then (g.W.Wire.traffic c.args.wire.now) (g.W.Wire.traffic c.drain.new.wire) (g.W.Wire.traffic c.tick_if.new.wire)
+    (λ es. standing c.args.node.now es c.begin.new.room) (λ es. standing c.drain.new.node es c.drain.new.room)
+    (λ es. standing c.tick_if.new.node es c.tick_if.new.room) _ c.in-Ok.ensures.served
+    (over_then (g.W.Wire.traffic c.drain.new.wire) (g.W.Wire.traffic c.resend-has_own.new.wire) (g.W.Wire.traffic c.tick_if.new.wire)
+    (λ es. standing c.drain.new.node es c.drain.new.room)
+    (λ es. record (standing c.drain.new.node es c.drain.new.room) { kept = kept_of c.resend-has_own.new.resender; requests = requests_of c.resend-has_own.new.resender })
+    (λ es. standing c.tick_if.new.node es c.tick_if.new.room) _
+    (over_between (g.W.Wire.traffic c.drain.new.wire) (g.W.Wire.traffic c.resend-has_own.new.wire)
+    (λ es. standing c.drain.new.node es c.drain.new.room)
+    (λ es. record (standing c.drain.new.node es c.drain.new.room) { kept = kept_of c.resend-has_own.new.resender; requests = requests_of c.resend-has_own.new.resender })
+    (over_resent (g.W.Wire.traffic c.drain.new.wire) (g.W.Wire.traffic c.resend-has_own.new.wire)
+    (λ es. standing c.drain.new.node es c.drain.new.room)
+    (λ es. record (standing c.drain.new.node es c.drain.new.room) { kept = kept_of c.resend-has_own.new.resender; requests = requests_of c.resend-has_own.new.resender })
+    (kept_of c.drain.new.room.resender) c.resend-has_own.ensures.again (λ es again among. record {
       replica = refl;
       again = again;
       among = among;
@@ -67,7 +86,8 @@ returns-clause-saw g c =
     on_ok c.tick_if.result (λ ticked es t.
     let r = c.in-Ok.ensures.saw es t in (
       c.in-Ok.taken,
-      round_saw c.in-Ok.taken _ _ _ _ _ _ _ _ _ _ _ _ _ (record {
+      round_saw c.in-Ok.taken _ _ _ _ _ _ _ _ _ _ (g.T.Timer.told c.args.timer.now) (g.T.Timer.told c.beat-beat.new.timer)
+          (g.T.Timer.told c.repeats-is_due.new.self) (record {
         replica = refl;
         traffic = refl;
         kept = c.begin.ensures.kept;

@@ -1,6 +1,5 @@
 -- one datagram more
 use Rattle.std.proofs.Common.{arith, refl}
-use Rattle.px_transport.proofs.Traffic.{moves_then}
 use Rattle.node_loop.specs.Turns.{standing}
 use Rattle.node_loop.proofs.Chains.{served_none, same_all, saw_more, saw_no_more}
 use Rattle.node_loop.proofs.Given.{over_then}
@@ -15,7 +14,9 @@ loop-taken-init g c = record {
 
 pub loop-taken-preserved : goal.loop-taken-preserved
 loop-taken-preserved g c = record {
-  served = over_then _ _ _ _ (λ es. standing c.loop-taken.node es c.loop-taken.room) _ _ c.loop-taken.invariant.served c.in-Ok.ensures.served;
+  served = over_then (g.W.Wire.traffic c.args.wire.now) (g.W.Wire.traffic c.loop-taken.wire) (g.W.Wire.traffic c.take_one.new.wire)
+    (λ es. standing c.args.node.now es c.args.room.now) (λ es. standing c.loop-taken.node es c.loop-taken.room)
+    (λ es. standing c.take_one.new.node es c.take_one.new.room) _ c.loop-taken.invariant.served c.in-Ok.ensures.served;
   saw = λ es t.
       let r = c.loop-taken.invariant.saw es t in
       let s = c.in-Ok.ensures.saw r.0 r.1 in
@@ -25,7 +26,9 @@ loop-taken-preserved g c = record {
 
 pub returns-then-not-had-clause-served : goal.returns-then-not-had-clause-served
 returns-then-not-had-clause-served g c =
-    over_then _ _ _ _ (λ es. standing c.loop-taken.node es c.loop-taken.room) _ _ c.loop-taken.invariant.served c.in-Ok.ensures.served
+    over_then (g.W.Wire.traffic c.args.wire.now) (g.W.Wire.traffic c.loop-taken.wire) (g.W.Wire.traffic c.take_one.new.wire)
+    (λ es. standing c.args.node.now es c.args.room.now) (λ es. standing c.loop-taken.node es c.loop-taken.room)
+    (λ es. standing c.take_one.new.node es c.take_one.new.room) _ c.loop-taken.invariant.served c.in-Ok.ensures.served
 
 pub returns-then-not-had-clause-saw : goal.returns-then-not-had-clause-saw
 returns-then-not-had-clause-saw g c es t =
@@ -35,4 +38,6 @@ returns-then-not-had-clause-saw g c es t =
 
 pub returns-in-Err-clause-served : goal.returns-in-Err-clause-served
 returns-in-Err-clause-served g c =
-    over_then _ _ _ _ (λ es. standing c.loop-taken.node es c.loop-taken.room) _ _ c.loop-taken.invariant.served c.in-Err.ensures.served
+    over_then (g.W.Wire.traffic c.args.wire.now) (g.W.Wire.traffic c.loop-taken.wire) (g.W.Wire.traffic c.take_one.new.wire)
+    (λ es. standing c.args.node.now es c.args.room.now) (λ es. standing c.loop-taken.node es c.loop-taken.room)
+    (λ es. standing c.take_one.new.node es c.take_one.new.room) _ c.loop-taken.invariant.served c.in-Err.ensures.served

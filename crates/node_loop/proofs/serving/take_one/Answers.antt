@@ -1,7 +1,11 @@
 -- the turn of what had come, what is passed over, or none
-use Rattle.std.proofs.Common.{◌≡◌, ◌∙◌, refl, subst, ap, inl, inr, Option, Some, None, option_map}
-use Rattle.px_transport.specs.Wires.{Adds, gives}
-use Rattle.px_transport.proofs.Traffic.{adds_then, quiet_adds, quiet_by, moves_by, moves_still}
+use Rattle.std.proofs.Common.{◌≡◌, ◌∙◌, ◌×◌, ◌++◌, [], ◌∷◌, refl, subst, ap, inl, inr, Option, Some, None, option_map, true, false}
+use Rattle.px_transport.specs.Wires.{Adds, Gave, gives, hands}
+use Rattle.px_transport.proofs.Traffic.{adds_then, quiet_adds, quiet_by, moves_by, moves_still, moves_map}
+use Rattle.node_loop.specs.Progress.{seen_in}
+use Rattle.node_loop.specs.Resends.{kept_of, requests_of}
+use Rattle.node_loop.specs.Turns.{Turned, Served, Passed, handed_over, standing}
+use Rattle.node_loop.specs.inner.Turns.{SawIf}
 use Rattle.node_loop.proofs.Given.{gave_some, handed_on, kept_on, requests_on, over_turn}
 use Rattle.node_loop.proofs.Chains.{served_none, served_between, between_passed, nobodys_still}
 use Rattle.node_loop.proofs.serving.take_one.Goals as goal
@@ -10,7 +14,10 @@ pub returns-in_default-clause-saw : goal.returns-in_default-clause-saw
 returns-in_default-clause-saw g c =
     let old = g.W.Wire.traffic c.args.wire.now in
     let new = g.W.Wire.traffic c.poll-len.new.wire in
-    moves_still old new _ (quiet_by old new
+    moves_still old new
+    (λ es es'. SawIf false (standing c.args.node.now es c.args.room.now) (standing c.args.node.now es' c.args.room.now)
+    (seen_in c.args.room.now) (seen_in c.args.room.now))
+    (quiet_by old new
     (gave_some old new c.poll-len.new.bytes.items c.deref.result.now c.poll-len.result (option_map (λ b. b.now) c.came.result) None
     c.poll-len.ensures.gave c.came.ensures c.deref.ensures.value (ap (option_map (λ b. b.now)) c.in_default.is)))
     (λ es. (record { replica = refl; traffic = refl; kept = refl; requests = refl; hears = refl }, refl))
@@ -25,7 +32,11 @@ returns-then-passes_over-clause-saw g c =
     let mid = g.W.Wire.traffic c.poll-len.new.wire in
     let new = g.W.Wire.traffic c.passes_over.new.wire in
     let again = c.passes_over.ensures.again in
-    moves_by old new _ _ (adds_then old mid new _ _
+    moves_by old new (Gave c.in-Some.bytes.now ∷ hands again.0)
+    (λ es es'. SawIf true (standing c.args.node.now es c.args.room.now)
+    (record (standing c.args.node.now es' c.args.room.now) { kept = kept_of c.passes_over.new.resender; requests = requests_of c.passes_over.new.resender })
+    (seen_in c.args.room.now) (seen_in c.args.room.now))
+    (adds_then old mid new (Gave c.in-Some.bytes.now ∷ []) (hands again.0)
     (gave_some old mid c.poll-len.new.bytes.items c.deref.result.now c.poll-len.result (option_map (λ b. b.now) c.came.result)
     (Some c.in-Some.bytes.now) c.poll-len.ensures.gave c.came.ensures c.deref.ensures.value (ap (option_map (λ b. b.now)) c.in-Some.is))
     again.2)
@@ -46,11 +57,15 @@ returns-then-passes_over-clause-saw g c =
 
 pub returns-then-passes_over-clause-served : goal.returns-then-passes_over-clause-served
 returns-then-passes_over-clause-served g c es t =
+    let again = c.passes_over.ensures.again in
     let old = g.W.Wire.traffic c.args.wire.now in
     let mid = g.W.Wire.traffic c.poll-len.new.wire in
     let new = g.W.Wire.traffic c.passes_over.new.wire in
-    let again = c.passes_over.ensures.again in
-    moves_by old new _ _ (adds_then old mid new _ _
+    moves_by old new (Gave c.in-Some.bytes.now ∷ hands again.0)
+    (λ es es'. Served (standing c.args.node.now es c.args.room.now)
+    (record (standing c.args.node.now es' c.args.room.now) { kept = kept_of c.passes_over.new.resender; requests = requests_of c.passes_over.new.resender })
+    None)
+    (adds_then old mid new (Gave c.in-Some.bytes.now ∷ []) (hands again.0)
     (gave_some old mid c.poll-len.new.bytes.items c.deref.result.now c.poll-len.result (option_map (λ b. b.now) c.came.result)
     (Some c.in-Some.bytes.now) c.poll-len.ensures.gave c.came.ensures c.deref.ensures.value (ap (option_map (λ b. b.now)) c.in-Some.is))
     again.2)
@@ -72,10 +87,14 @@ returns-in-Ok-clause-saw g c =
     let mid = g.W.Wire.traffic c.poll-len.new.wire in
     let wait = g.W.Wire.traffic c.passes_over.new.wire in
     let new = g.W.Wire.traffic c.send_all.new.wire in
-    moves_by old new _ _ (adds_then old mid new _ _
+    moves_by old new (Gave c.in-Some.bytes.now ∷ hands (handed_over c.receive-result.new.out.items))
+    (λ es es'. SawIf true (standing c.args.node.now es c.args.room.now)
+    (record (standing c.receive-result.new.node es' c.args.room.now) { kept = kept_of c.send_all.new.resender; requests = requests_of c.send_all.new.resender })
+    (seen_in c.args.room.now) c.receive-result.new.sight)
+    (adds_then old mid new (Gave c.in-Some.bytes.now ∷ []) (hands (handed_over c.receive-result.new.out.items))
     (gave_some old mid c.poll-len.new.bytes.items c.deref.result.now c.poll-len.result (option_map (λ b. b.now) c.came.result)
     (Some c.in-Some.bytes.now) c.poll-len.ensures.gave c.came.ensures c.deref.ensures.value (ap (option_map (λ b. b.now)) c.in-Some.is))
-    (quiet_adds mid wait new _ (c.passes_over.ensures.others c.if-passes_over.false)
+    (quiet_adds mid wait new (hands (handed_over c.receive-result.new.out.items)) (c.passes_over.ensures.others c.if-passes_over.false)
     (handed_on wait new c.receive-result.new.out.items c.as_slice.result.now c.as_slice.ensures.value c.send_all.ensures.handed)))
     (λ es. inl (record {
       took = record {
@@ -100,10 +119,17 @@ returns-in-Ok-clause-served g c =
     let mid = g.W.Wire.traffic c.poll-len.new.wire in
     let wait = g.W.Wire.traffic c.passes_over.new.wire in
     let new = g.W.Wire.traffic c.send_all.new.wire in
-    over_turn old new _ _ _ (moves_by old new _ _ (adds_then old mid new _ _
+    over_turn old new (λ es. standing c.args.node.now es c.args.room.now)
+    (λ es. record (standing c.receive-result.new.node es c.args.room.now) { kept = kept_of c.send_all.new.resender; requests = requests_of c.send_all.new.resender })
+    None
+    (moves_by old new (Gave c.in-Some.bytes.now ∷ hands (handed_over c.receive-result.new.out.items))
+    (λ es es'. Turned (standing c.args.node.now es c.args.room.now)
+    (record (standing c.receive-result.new.node es' c.args.room.now) { kept = kept_of c.send_all.new.resender; requests = requests_of c.send_all.new.resender })
+    None)
+    (adds_then old mid new (Gave c.in-Some.bytes.now ∷ []) (hands (handed_over c.receive-result.new.out.items))
     (gave_some old mid c.poll-len.new.bytes.items c.deref.result.now c.poll-len.result (option_map (λ b. b.now) c.came.result)
     (Some c.in-Some.bytes.now) c.poll-len.ensures.gave c.came.ensures c.deref.ensures.value (ap (option_map (λ b. b.now)) c.in-Some.is))
-    (quiet_adds mid wait new _ (c.passes_over.ensures.others c.if-passes_over.false)
+    (quiet_adds mid wait new (hands (handed_over c.receive-result.new.out.items)) (c.passes_over.ensures.others c.if-passes_over.false)
     (handed_on wait new c.receive-result.new.out.items c.as_slice.result.now c.as_slice.ensures.value c.send_all.ensures.handed)))
     (λ es. record {
       came = Some c.in-Some.bytes.now;
@@ -122,10 +148,17 @@ returns-in-Err-clause-served g c =
     let mid = g.W.Wire.traffic c.poll-len.new.wire in
     let wait = g.W.Wire.traffic c.passes_over.new.wire in
     let new = g.W.Wire.traffic c.send_all.new.wire in
-    over_turn old new _ _ _ (moves_by old new _ _ (adds_then old mid new _ _
+    over_turn old new (λ es. standing c.args.node.now es c.args.room.now)
+    (λ es. record (standing c.receive-result.new.node es c.args.room.now) { kept = kept_of c.send_all.new.resender; requests = requests_of c.send_all.new.resender })
+    (Some c.in-Err.fault)
+    (moves_by old new (Gave c.in-Some.bytes.now ∷ hands (handed_over c.receive-result.new.out.items))
+    (λ es es'. Turned (standing c.args.node.now es c.args.room.now)
+    (record (standing c.receive-result.new.node es' c.args.room.now) { kept = kept_of c.send_all.new.resender; requests = requests_of c.send_all.new.resender })
+    (Some c.in-Err.fault))
+    (adds_then old mid new (Gave c.in-Some.bytes.now ∷ []) (hands (handed_over c.receive-result.new.out.items))
     (gave_some old mid c.poll-len.new.bytes.items c.deref.result.now c.poll-len.result (option_map (λ b. b.now) c.came.result)
     (Some c.in-Some.bytes.now) c.poll-len.ensures.gave c.came.ensures c.deref.ensures.value (ap (option_map (λ b. b.now)) c.in-Some.is))
-    (quiet_adds mid wait new _ (c.passes_over.ensures.others c.if-passes_over.false)
+    (quiet_adds mid wait new (hands (handed_over c.receive-result.new.out.items)) (c.passes_over.ensures.others c.if-passes_over.false)
     (handed_on wait new c.receive-result.new.out.items c.as_slice.result.now c.as_slice.ensures.value c.send_all.ensures.handed)))
     (λ es. record {
       came = Some c.in-Some.bytes.now;

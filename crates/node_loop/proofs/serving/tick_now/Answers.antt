@@ -1,6 +1,10 @@
 -- a turn for which nothing came
 use Rattle.std.proofs.Common.{refl}
+use Rattle.px_transport.specs.Wires.{hands}
 use Rattle.px_transport.proofs.Traffic.{moves_by}
+use Rattle.px_replica.specs.Faults.{fault_of}
+use Rattle.node_loop.specs.Resends.{kept_of, requests_of}
+use Rattle.node_loop.specs.Turns.{Ticked, handed_over, standing}
 use Rattle.node_loop.proofs.Given.{handed_on, kept_on}
 use Rattle.node_loop.proofs.serving.tick_now.Goals as goal
 
@@ -8,7 +12,10 @@ pub returns-clause-ticked : goal.returns-clause-ticked
 returns-clause-ticked g c =
     let old = g.W.Wire.traffic c.args.wire.now in
     let new = g.W.Wire.traffic c.send_all.new.wire in
-    moves_by old new _ _
+    moves_by old new (hands (handed_over c.act-result.new.out.items))
+    (λ es es'. Ticked (standing c.args.node.now es c.args.room.now)
+    (record (standing c.act-result.new.node es' c.args.room.now) { kept = kept_of c.send_all.new.resender; requests = requests_of c.send_all.new.resender })
+    (fault_of c.act-result.result))
     (handed_on old new c.act-result.new.out.items c.as_slice.result.now c.as_slice.ensures.value c.send_all.ensures.handed)
     (λ es. record {
       out = c.act-result.new.out.items;
