@@ -5,7 +5,6 @@ use Rattle.std.proofs.lemmas.Bool.Decides.{eqb_tells}
 use Rattle.std.proofs.lemmas.List.{append-nil}
 use Rattle.px_model.proofs.Basics.{among_left, among_right, among_cases}
 use Rattle.px_model.specs.Law.{Among}
-use Rattle.px_model.specs.Node.{Entry}
 use Rattle.px_model.specs.Spelling.{Bytes}
 use Rattle.px_model.specs.Step.{put}
 use Rattle.px_model.specs.World.{NodeState}
@@ -14,10 +13,11 @@ use Rattle.node_loop.proofs.Among.{among_all, among_front, among_none, among_sid
 use Rattle.px_transport.specs.Wires.{WireEvent, Gave, Handed}
 use Rattle.px_transport.specs.Loopback.{Loop, Passes, Keeps, Returns, IsQueue, above_in, below_in}
 use Rattle.px_wire.specs.Message.{Group, Message, DatagramBytes}
+use Rattle.px_replica.specs.Lives.{Deed}
 use Rattle.pfx_laws.specs.Promised.{IsGroup}
 use Rattle.pfx_laws.specs.Wires.{Stretch, stand}
-use Rattle.pfx_laws.specs.Carried.{Goes, HasLearned}
-use Rattle.pfx_laws.specs.Networks.{events_at, WasHanded, Carries, Ran, RanAbove, NetworksGo, NetworksNeverDiffer}
+use Rattle.pfx_laws.specs.Carried.{Goes}
+use Rattle.pfx_laws.specs.Networks.{events_at, WasHanded, Carries, Ran, RanAbove, InStretches, NeverDiffer, NetworksGo, NetworksNeverDiffer}
 use Rattle.pfx_laws.proofs.Carried.{wires_never_differ}
 use Rattle.pfx_laws.proofs.Lifting as lifting
 use Rattle.pfx_laws.proofs.Lifting.{AreBelow, Lifted}
@@ -179,8 +179,8 @@ below_or m zero = inr (omega arith)
 below_or zero (suc n) = inl (omega arith)
 below_or (suc m) (suc n) = elim (below_or m n) [ inl l ↦ inl (omega (arith, l)) | inr h ↦ inr (omega (arith, h)) ]
 
-module _ (g : Group) (network : List (ℕ × WireEvent)) (stands : ℕ → NodeState Bytes)
-    (ran : (m : ℕ) → m < g.members → RanAbove g m (events_at m network) (stands m)) where
+module _ (g : Group) (network : List (ℕ × WireEvent)) (deeds : ℕ → List Deed) (stands : ℕ → NodeState Bytes)
+    (ran : (m : ℕ) → m < g.members → RanAbove g m (events_at m network) (deeds m) (stands m)) where
   abbrev loops_of : (m : ℕ) → (m < g.members) ⊎ (g.members ≤ m) → List Loop
   loops_of m (inl below) = (ran m below).loops
   loops_of m (inr above) = []
@@ -200,12 +200,11 @@ module _ (g : Group) (network : List (ℕ × WireEvent)) (stands : ℕ → NodeS
   queue_at m (inl b) below = (ran m b).queue
   queue_at m (inr above) below = absurd (omega (arith, above, below))
 
-  ran_at : (m : ℕ) (w : (m < g.members) ⊎ (g.members ≤ m)) → m < g.members → Ran g m (above_in m (loops_of m w)) (stands m)
+  ran_at : (m : ℕ) (w : (m < g.members) ⊎ (g.members ≤ m)) → m < g.members → Ran g m (above_in m (loops_of m w)) (deeds m) (stands m)
   ran_at m (inl b) below = (ran m b).ran
   ran_at m (inr above) below = absurd (omega (arith, above, below))
 
-  pub loops_go : IsGroup g → Carries g network [] →
-      (stretches : List Stretch) × Goes g stretches × ((m : ℕ) → m < g.members → stand stretches m ≡ stands m)
+  pub loops_go : IsGroup g → Carries g network [] → (stretches : List Stretch) × InStretches g deeds stands stretches
   loops_go few carries =
       let l = lifting.lift lower g.members network steps (λ m below. low_at m (below_or m g.members) below) (are_below g network [] carries) in
       let thens = λ (m : ℕ). kept_of m (below_or m g.members) in
@@ -214,17 +213,21 @@ module _ (g : Group) (network : List (ℕ × WireEvent)) (stands : ℕ → NodeS
       (λ m below. subst (λ (ls : List Loop). IsQueue ls [] (thens m)) (sym (l.own m below)) (queue_at m (below_or m g.members) below))
       (λ m d below none. absurd none) (among_none []) l.within
       (subst (λ (net : List (ℕ × WireEvent)). Carries g net []) (sym l.low) carries) in
-      go_above g few (upper l.above) up stands
-      (λ m below. subst (λ (es : List WireEvent). Ran g m es (stands m))
+      go_above g few (upper l.above) up deeds stands
+      (λ m below. subst (λ (es : List WireEvent). Ran g m es (deeds m) (stands m))
       (sym (upper_at m l.above ∙ ap (λ (ls : List Loop). above_in m ls) (l.own m below))) (ran_at m (below_or m g.members) below))
 
 pub networks_go : NetworksGo
-networks_go g few network carries stands ran = loops_go g network stands ran few carries
+networks_go g network deeds stands r = loops_go g network deeds stands r.ran r.group r.carries
+
+-- what went in stretches never differs
+pub never_differ : (g : Group) (deeds : ℕ → List Deed) (stands : ℕ → NodeState Bytes) (xs : List Stretch) →
+    InStretches g deeds stands xs → NeverDiffer g stands
+never_differ g deeds stands xs n i j p q e f mine theirs has also =
+    wires_never_differ g xs [] (subst (λ (ys : List Stretch). Goes g ys) (sym (append-nil xs)) n.goes) i j p q e f
+    (ap (λ (s : NodeState Bytes). s.stored.learned p) (n.leaves i mine) ∙ has)
+    (ap (λ (ys : List Stretch). (stand ys j).stored.learned q) (append-nil xs) ∙ ap (λ (s : NodeState Bytes). s.stored.learned q) (n.leaves j theirs) ∙ also)
 
 pub networks_never_differ : NetworksNeverDiffer
-networks_never_differ g few network carries stands ran i j p q e f mine theirs has also =
-    let n = networks_go g few network carries stands ran in
-    let xs = n.0 in
-    wires_never_differ g xs [] (subst (λ (ys : List Stretch). Goes g ys) (sym (append-nil xs)) n.1) i j p q e f
-    (ap (λ (s : NodeState Bytes). s.stored.learned p) (n.2 i mine) ∙ has)
-    (ap (λ (ys : List Stretch). (stand ys j).stored.learned q) (append-nil xs) ∙ ap (λ (s : NodeState Bytes). s.stored.learned q) (n.2 j theirs) ∙ also)
+networks_never_differ g network deeds stands r =
+    let n = networks_go g network deeds stands r in never_differ g deeds stands n.0 n.1

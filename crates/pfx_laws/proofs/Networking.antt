@@ -28,8 +28,7 @@ use Rattle.node_loop.proofs.Traffic.{messages_then, sent_then, one_brought, none
 use Rattle.node_loop.specs.Lives.{LivedOver}
 use Rattle.pfx_laws.specs.Promised.{IsGroup}
 use Rattle.pfx_laws.specs.Wires.{Stretch, AreStretches, IsCarried, AreCarried, deeds_in, led_to, stand}
-use Rattle.pfx_laws.specs.Carried.{Goes}
-use Rattle.pfx_laws.specs.Networks.{events_at, WasHanded, Carries, Ran, LivesAreRuns}
+use Rattle.pfx_laws.specs.Networks.{events_at, WasHanded, Carries, Ran, LivesAreRuns, InStretches}
 use Rattle.pfx_laws.proofs.Carrying.{lived_to}
 
 -- ---- what a member still does
@@ -384,19 +383,16 @@ whole g ((m, e) ∷ xs) handed sent plans sound rests a spelled c =
 -- ---- the laws
 
 pub lives_are_runs : {R : Type 0} (G : Ghosts R) → LivesAreRuns G
-lives_are_runs G m given back events l empty = (
-  l.then,
-  record {
-    moves = l.moves;
-    lived = subst (λ (d : Record Bytes). Lived (group m) m.me (started d) (deeds_of l.moves) l.then) empty l.lived;
-    hears = l.hears;
-    are = l.are;
-    last = l.last;
-    went = l.went;
-    again = l.again;
-  },
-  l.stays,
-)
+lives_are_runs G m given back events l empty = record {
+  moves = l.moves;
+  does = refl;
+  lived = subst (λ (d : Record Bytes). Lived (group m) m.me (started d) (deeds_of l.moves) l.then) empty l.lived;
+  hears = l.hears;
+  are = l.are;
+  last = l.last;
+  went = l.went;
+  again = l.again;
+}
 
 below_or : (m n : ℕ) → (m < n) ⊎ (n ≤ m)
 below_or m zero = inr (omega arith)
@@ -404,8 +400,8 @@ below_or zero (suc n) = inl (omega arith)
 below_or (suc m) (suc n) = elim (below_or m n) [ inl l ↦ inl (omega (arith, l)) | inr g ↦ inr (omega (arith, g)) ]
 
 -- members that ran
-module _ (g : Group) (network : List (ℕ × WireEvent)) (stands : ℕ → NodeState Bytes)
-    (ran : (m : ℕ) → m < g.members → Ran g m (events_at m network) (stands m)) where
+module _ (g : Group) (network : List (ℕ × WireEvent)) (deeds : ℕ → List Deed) (stands : ℕ → NodeState Bytes)
+    (ran : (m : ℕ) → m < g.members → Ran g m (events_at m network) (deeds m) (stands m)) where
   -- what a member does from the start on; nothing of no member
   abbrev plan_of : (m : ℕ) → (m < g.members) ⊎ (g.members ≤ m) → Plan
   plan_of m (inl below) = record { pending = []; moves = (ran m below).moves; last = (ran m below).last }
@@ -421,9 +417,9 @@ module _ (g : Group) (network : List (ℕ × WireEvent)) (stands : ℕ → NodeS
   rest_at m (inr above) below = absurd (omega (arith, above, below))
 
   lived_at : (m : ℕ) (w : (m < g.members) ⊎ (g.members ≤ m)) → m < g.members → (ds : List Deed) → ds ≡ deeds_of (plan_of m w).moves →
-      Lived g m (started nothing_stored) ds (stands m)
+      Lived g m (started nothing_stored) ds (stands m) × (ds ≡ deeds m)
   lived_at m (inl b) below ds e =
-      subst (λ (xs : List Deed). Lived g m (started nothing_stored) xs (stands m)) (sym e) (ran m b).lived
+      (subst (λ (xs : List Deed). Lived g m (started nothing_stored) xs (stands m)) (sym e) (ran m b).lived, e ∙ sym (ran m b).does)
   lived_at m (inr above) below ds e = absurd (omega (arith, above, below))
 
   in_stretches : Carries g network [] → Whole g (λ m. plan_of m (below_or m g.members)) []
@@ -434,19 +430,22 @@ module _ (g : Group) (network : List (ℕ × WireEvent)) (stands : ℕ → NodeS
 as_led : (g : Group) (me : ℕ) (s t : NodeState Bytes) (ds : List Deed) → Lived g me s ds t → Lived g me s ds (led_to s ds)
 as_led g me s t ds l = subst (λ (u : NodeState Bytes). Lived g me s ds u) (lived_to g me s t ds l) l
 
-pub go_above : (g : Group) → IsGroup g → (network : List (ℕ × WireEvent)) → Carries g network [] → (stands : ℕ → NodeState Bytes) →
-    ((m : ℕ) → m < g.members → Ran g m (events_at m network) (stands m)) →
-    (stretches : List Stretch) × Goes g stretches × ((m : ℕ) → m < g.members → stand stretches m ≡ stands m)
-go_above g few network carries stands ran =
-    let w = in_stretches g network stands ran carries in
+pub go_above : (g : Group) → IsGroup g → (network : List (ℕ × WireEvent)) → Carries g network [] → (deeds : ℕ → List Deed)
+    (stands : ℕ → NodeState Bytes) → ((m : ℕ) → m < g.members → Ran g m (events_at m network) (deeds m) (stands m)) →
+    (stretches : List Stretch) × InStretches g deeds stands stretches
+go_above g few network carries deeds stands ran =
+    let w = in_stretches g network deeds stands ran carries in
     let lived = λ (m : ℕ) (below : m < g.members).
-    lived_at g network stands ran m (below_or m g.members) below (deeds_in m w.stretches) (w.deeds m below) in (
+    lived_at g network deeds stands ran m (below_or m g.members) below (deeds_in m w.stretches) (w.deeds m below) in (
       w.stretches,
       record {
-        group = few;
-        are = w.are;
-        lived = λ m below. as_led g m (started nothing_stored) (stands m) (deeds_in m w.stretches) (lived m below);
-        carried = w.carried;
+        goes = record {
+          group = few;
+          are = w.are;
+          lived = λ m below. as_led g m (started nothing_stored) (stands m) (deeds_in m w.stretches) (lived m below).0;
+          carried = w.carried;
+        };
+        befell = λ m below. (lived m below).1;
+        leaves = λ m below. sym (lived_to g m (started nothing_stored) (stands m) (deeds_in m w.stretches) (lived m below).0);
       },
-      λ m below. sym (lived_to g m (started nothing_stored) (stands m) (deeds_in m w.stretches) (lived m below)),
     )

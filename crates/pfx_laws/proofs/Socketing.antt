@@ -5,7 +5,6 @@ use Rattle.std.proofs.lemmas.Bool.{cond-true, cond-false, eq-eqb}
 use Rattle.std.proofs.lemmas.Bool.Decides.{eqb_tells}
 use Rattle.std.proofs.lemmas.List.{append-nil}
 use Rattle.px_model.specs.Law.{Among}
-use Rattle.px_model.specs.Node.{Entry}
 use Rattle.px_model.specs.Spelling.{Bytes}
 use Rattle.px_model.specs.World.{NodeState}
 use Rattle.node_loop.specs.Again.{AreAmong}
@@ -14,15 +13,20 @@ use Rattle.px_transport.specs.Wires.{WireEvent, Gave, Handed}
 use Rattle.px_wire.specs.Message.{Group, Message, DatagramBytes}
 use Rattle.node_udp.specs.Sockets.{SocketEvent, Came, Went, Passage, Hears, Sends, Loses, IsSound, above_in, below_in}
 use Rattle.node_udp.specs.declared.address.Address.{Address}
+use Rattle.px_records.specs.declared.records.Records.{Ghosts}
+use Rattle.px_replica.specs.Lives.{Deed}
+use Rattle.px_transport.specs.Loopback as loopback
+use Rattle.node_udp.specs.Members.{peers_of, me_of}
 use Rattle.pfx_laws.specs.Promised.{IsGroup}
 use Rattle.pfx_laws.specs.Wires.{Stretch, stand}
-use Rattle.pfx_laws.specs.Carried.{Goes}
-use Rattle.pfx_laws.specs.Networks.{events_at, WasHanded, Carries, Ran, RanAbove}
+use Rattle.pfx_laws.specs.Carried.{Goes, StandsSo}
+use Rattle.pfx_laws.specs.Networks.{events_at, WasHanded, Carries, Ran, RanAbove, InStretches}
 use Rattle.pfx_laws.specs.Sockets.{SocketsCarry, RanAt, RunsAreAtSockets, SocketsGo, SocketsNeverDiffer}
-use Rattle.pfx_laws.proofs.Carried.{wires_never_differ}
+use Rattle.pfx_laws.specs.Sockets.{SocketsLearnWhatWasAsked, EquallyAppliedAtSockets}
+use Rattle.pfx_laws.proofs.Carried.{wires_learn_what_was_asked, equally_applied_over_wires}
 use Rattle.pfx_laws.proofs.Lifting as lifting
 use Rattle.pfx_laws.proofs.Lifting.{AreBelow}
-use Rattle.pfx_laws.proofs.Looping.{carried_more, no_message, below_or, networks_go}
+use Rattle.pfx_laws.proofs.Looping.{carried_more, no_message, below_or, networks_go, never_differ}
 
 -- over the socket
 abbrev lower : Passage → Option SocketEvent
@@ -124,8 +128,8 @@ are_below g ((m, Went to b) ∷ xs) went c = (c.0, are_below g xs _ c.1)
 
 -- ---- the laws
 
-module _ (g : Group) (network : List (ℕ × SocketEvent)) (stands : ℕ → NodeState Bytes)
-    (ran : (m : ℕ) → m < g.members → RanAt g m (events_at m network) (stands m)) where
+module _ (g : Group) (network : List (ℕ × SocketEvent)) (deeds : ℕ → List Deed) (stands : ℕ → NodeState Bytes)
+    (ran : (m : ℕ) → m < g.members → RanAt g m (events_at m network) (deeds m) (stands m)) where
   abbrev passages_of : (m : ℕ) → (m < g.members) ⊎ (g.members ≤ m) → List Passage
   passages_of m (inl below) = (ran m below).passages
   passages_of m (inr above) = []
@@ -141,50 +145,67 @@ module _ (g : Group) (network : List (ℕ × SocketEvent)) (stands : ℕ → Nod
   faithful_at m (inl b) below = let r = ran m b in faithful r.addresses r.me r.passages r.sound
   faithful_at m (inr above) below = absurd (omega (arith, above, below))
 
-  ran_at : (m : ℕ) (w : (m < g.members) ⊎ (g.members ≤ m)) → m < g.members → RanAbove g m (above_in (passages_of m w)) (stands m)
+  ran_at : (m : ℕ) (w : (m < g.members) ⊎ (g.members ≤ m)) → m < g.members → RanAbove g m (above_in (passages_of m w)) (deeds m) (stands m)
   ran_at m (inl b) below = (ran m b).ran
   ran_at m (inr above) below = absurd (omega (arith, above, below))
 
-  pub passages_go : IsGroup g → SocketsCarry g network [] →
-      (stretches : List Stretch) × Goes g stretches × ((m : ℕ) → m < g.members → stand stretches m ≡ stands m)
+  pub passages_go : IsGroup g → SocketsCarry g network [] → (stretches : List Stretch) × InStretches g deeds stands stretches
   passages_go few carries =
       let l = lifting.lift lower g.members network steps (λ m below. low_at m (below_or m g.members) below) (are_below g network [] carries) in
       let up : Carries g (upper l.above) [] =
       carries_above g l.above [] []
       (λ m below. subst AreFaithful (sym (l.own m below)) (faithful_at m (below_or m g.members) below))
       (among_none []) l.within (subst (λ (net : List (ℕ × SocketEvent)). SocketsCarry g net []) (sym l.low) carries) in
-      networks_go g few (upper l.above) up stands
-      (λ m below. subst (λ (es : List WireEvent). RanAbove g m es (stands m))
-      (sym (upper_at m l.above ∙ ap above_in (l.own m below))) (ran_at m (below_or m g.members) below))
+      networks_go g (upper l.above) deeds stands (record {
+        group = few;
+        carries = up;
+        ran = λ m below. subst (λ (es : List WireEvent). RanAbove g m es (deeds m) (stands m))
+            (sym (upper_at m l.above ∙ ap above_in (l.own m below))) (ran_at m (below_or m g.members) below);
+      })
 
 pub sockets_go : SocketsGo
-sockets_go g few network carries stands ran = passages_go g network stands ran few carries
+sockets_go g network deeds stands r = passages_go g network deeds stands r.ran r.group r.carry
 
 pub sockets_never_differ : SocketsNeverDiffer
-sockets_never_differ g few network carries stands ran i j p q e f mine theirs has also =
-    let n = sockets_go g few network carries stands ran in
+sockets_never_differ g network deeds stands r =
+    let n = sockets_go g network deeds stands r in never_differ g deeds stands n.0 n.1
+
+pub sockets_learn_what_was_asked : SocketsLearnWhatWasAsked
+sockets_learn_what_was_asked g network deeds stands r =
+    let n = sockets_go g network deeds stands r in
+    let w = wires_learn_what_was_asked g n.0 n.1.goes in (
+      n.0,
+      n.1,
+      λ m p e below has. w.0 m p e (ap (λ (s : NodeState Bytes). s.stored.learned p) (n.1.leaves m below) ∙ has),
+      w.1,
+    )
+
+pub equally_applied_at_sockets : {R Q : Type 0} (G : Ghosts R) (H : Ghosts Q) → EquallyAppliedAtSockets G H
+equally_applied_at_sockets G H g network deeds stands r i j x y mine theirs a b same =
+    let n = sockets_go g network deeds stands r in
     let xs = n.0 in
-    wires_never_differ g xs [] (subst (λ (ys : List Stretch). Goes g ys) (sym (append-nil xs)) n.1) i j p q e f
-    (ap (λ (s : NodeState Bytes). s.stored.learned p) (n.2 i mine) ∙ has)
-    (ap (λ (ys : List Stretch). (stand ys j).stored.learned q) (append-nil xs) ∙ ap (λ (s : NodeState Bytes). s.stored.learned q) (n.2 j theirs) ∙ also)
+    equally_applied_over_wires G H g xs [] (subst (λ (ys : List Stretch). Goes g ys) (sym (append-nil xs)) n.1.goes) i j x y
+    (subst (λ (s : NodeState Bytes). StandsSo x s) (sym (n.1.leaves i mine)) a)
+    (subst (λ (ys : List Stretch). StandsSo y (stand ys j)) (sym (append-nil xs))
+    (subst (λ (s : NodeState Bytes). StandsSo y s) (sym (n.1.leaves j theirs)) b)) same
 
 pub runs_are_at_sockets : (S C : Type 0) → RunsAreAtSockets S C
-runs_are_at_sockets S C g below w es then looped ran =
+runs_are_at_sockets S C g below w es deeds then looped ran =
     let o = looped.below_is in (
       below_in o.passages,
       o.below_is,
       record {
-        addresses = _;
-        me = _;
+        addresses = peers_of (loopback.below_of w);
+        me = me_of (loopback.below_of w);
         passages = o.passages;
         sound = o.sound;
         below_is = refl;
         ran = record {
           loops = looped.loops;
-          kept = _;
+          kept = loopback.kept_of w;
           queue = looped.queue;
           below_is = sym o.above_is;
-          ran = subst (λ (fs : List WireEvent). Ran g _ fs then) looped.above_is ran;
+          ran = subst (λ (fs : List WireEvent). Ran g (loopback.me_of w) fs deeds then) looped.above_is ran;
         };
       },
     )

@@ -10,12 +10,12 @@ use Rattle.px_transport.specs.Wires.{WireEvent, Gave, Handed, handed_in}
 use Rattle.px_transport.specs.Loopback.{Loop, IsQueue, above_in, below_in}
 use Rattle.px_wire.specs.Message.{Group, group}
 use Rattle.px_wire.specs.declared.membership.Membership.{Membership}
-use Rattle.px_replica.specs.Lives.{Lived}
+use Rattle.px_replica.specs.Lives.{Deed, Lived}
 use Rattle.node_loop.specs.Living.{Move, deeds_of, events_of, sent_by, AreMoves}
 use Rattle.node_loop.specs.Lives.{LivedOver}
 use Rattle.pfx_laws.specs.Promised.{IsGroup}
 use Rattle.node_loop.specs.Resending.{IsOutside}
-use Rattle.pfx_laws.specs.Wires.{Stretch, stand}
+use Rattle.pfx_laws.specs.Wires.{Stretch, deeds_in, stand}
 use Rattle.pfx_laws.specs.Carried.{Goes, HasLearned}
 
 -- ---- the network
@@ -43,10 +43,11 @@ Carries g ((m, Handed to bytes) ∷ xs) handed = (m < g.members) × Carries g xs
 
 -- ---- the members
 
--- A member of the group ran from an empty record on, and stands so then. This went over its wire: its moves, and then,
--- where a call failed, what came for it and after it, and what was handed over again.
-pub record Ran (g : Group) (m : ℕ) (events : List WireEvent) (then : NodeState Bytes) : Type 0 where
+-- A member of the group ran from an empty record on; this befell it, and it stands so then. This went over its wire: its
+-- moves, and then, where a call failed, what came for it and after it, and what was handed over again.
+pub record Ran (g : Group) (m : ℕ) (events : List WireEvent) (deeds : List Deed) (then : NodeState Bytes) : Type 0 where
   pub moves : List Move
+  pub does : deeds ≡ deeds_of moves
   pub lived : Lived g m (started nothing_stored) (deeds_of moves) then
   pub hears : Bool
   pub are : AreMoves g m hears moves [] []
@@ -55,33 +56,51 @@ pub record Ran (g : Group) (m : ℕ) (events : List WireEvent) (then : NodeState
   pub again : AreAmong (handed_in last) (sent_by (deeds_of moves))
 
 -- The same over a wire that keeps what the member sends to itself: this went over the wire below.
-pub record RanAbove (g : Group) (m : ℕ) (events : List WireEvent) (then : NodeState Bytes) : Type 0 where
+pub record RanAbove (g : Group) (m : ℕ) (events : List WireEvent) (deeds : List Deed) (then : NodeState Bytes) :
+    Type 0 where
   pub loops : List Loop
   pub kept : List Bytes
   pub queue : IsQueue loops [] kept
   pub below_is : events ≡ below_in loops
-  pub ran : Ran g m (above_in m loops) then
+  pub ran : Ran g m (above_in m loops) deeds then
 
--- What a run over an empty record lived, over a wire over which nothing went before, a member ran; and it stands as its
--- record holds in the end, unless a call on that failed.
+-- What a run over an empty record lived, over a wire over which nothing went before, a member ran. It stands as its
+-- record holds in the end, unless a call on that failed (`stays` of LivedOver).
 abbrev pub LivesAreRuns : {R : Type 0} → Ghosts R → Type 0
 LivesAreRuns {R} G =
-    (m : Membership) (given back : R) (events : List WireEvent) → LivedOver G m given back [] events →
-    G.stored given ≡ nothing_stored →
-    (then : NodeState Bytes) × Ran (group m) m.me events then × (G.failed back ≡ 0 → G.stored back ≡ then.stored)
+    (m : Membership) (given back : R) (events : List WireEvent) (l : LivedOver G m given back [] events) →
+    G.stored given ≡ nothing_stored → Ran (group m) m.me events (deeds_of l.moves) l.then
 
--- Members that ran over such a network, each over what went over the wire below its own datagrams to itself, went in
--- stretches, and stand as these lead: so what is promised of stretches is promised of them.
+-- Members that ran over such a network, each over what went over the wire below its own datagrams to itself: what befell
+-- each, and how it stands then.
+pub record RanOver (g : Group) (network : List (ℕ × WireEvent)) (deeds : ℕ → List Deed)
+    (stands : ℕ → NodeState Bytes) : Type 0 where
+  pub group : IsGroup g
+  pub carries : Carries g network []
+  pub ran : (m : ℕ) → m < g.members → RanAbove g m (events_at m network) (deeds m) (stands m)
+
+-- What befell these members went in these stretches, one after another, which leave each of them as it stands. So what
+-- is promised of stretches is promised of them.
+pub record InStretches (g : Group) (deeds : ℕ → List Deed) (stands : ℕ → NodeState Bytes)
+    (stretches : List Stretch) : Type 0 where
+  pub goes : Goes g stretches
+  pub befell : (m : ℕ) → m < g.members → deeds_in m stretches ≡ deeds m
+  pub leaves : (m : ℕ) → m < g.members → stand stretches m ≡ stands m
+
+-- members that ran over such a network went in stretches
 abbrev pub NetworksGo : Type 0
 NetworksGo =
-    (g : Group) → IsGroup g → (network : List (ℕ × WireEvent)) → Carries g network [] → (stands : ℕ → NodeState Bytes) →
-    ((m : ℕ) → m < g.members → RanAbove g m (events_at m network) (stands m)) →
-    (stretches : List Stretch) × Goes g stretches × ((m : ℕ) → m < g.members → stand stretches m ≡ stands m)
+    (g : Group) (network : List (ℕ × WireEvent)) (deeds : ℕ → List Deed) (stands : ℕ → NodeState Bytes) →
+    RanOver g network deeds stands → (stretches : List Stretch) × InStretches g deeds stands stretches
 
--- Two members never have different entries as learned at a position, nor one entry at two positions.
-abbrev pub NetworksNeverDiffer : Type 0
-NetworksNeverDiffer =
-    (g : Group) → IsGroup g → (network : List (ℕ × WireEvent)) → Carries g network [] → (stands : ℕ → NodeState Bytes) →
-    ((m : ℕ) → m < g.members → RanAbove g m (events_at m network) (stands m)) →
+-- Of members that stand so, two never have different entries as learned at a position, nor one entry at two positions.
+abbrev pub NeverDiffer : Group → (stands : ℕ → NodeState Bytes) → Type 0
+NeverDiffer g stands =
     (i j p q : ℕ) (e f : Entry Bytes) → i < g.members → j < g.members →
     HasLearned (stands i) p e → HasLearned (stands j) q f → (p ≡ q → e ≡ f) × (e ≡ f → p ≡ q)
+
+-- members that ran over such a network never differ
+abbrev pub NetworksNeverDiffer : Type 0
+NetworksNeverDiffer =
+    (g : Group) (network : List (ℕ × WireEvent)) (deeds : ℕ → List Deed) (stands : ℕ → NodeState Bytes) →
+    RanOver g network deeds stands → NeverDiffer g stands

@@ -7,7 +7,8 @@ ghost use Rattle.pfx_laws.specs.Carried.{WiresAreHistories, WiresNeverDiffer, Wi
 ghost use Rattle.pfx_laws.specs.Carried.{EquallyAppliedOverWires};
 ghost use Rattle.pfx_laws.specs.Runs.{LivesAreStretches, LivesGo, OpeningsAreStretches};
 ghost use Rattle.pfx_laws.specs.Networks.{LivesAreRuns, NetworksGo, NetworksNeverDiffer};
-ghost use Rattle.pfx_laws.specs.Sockets.{RunsAreAtSockets, SocketsGo, SocketsNeverDiffer};
+ghost use Rattle.pfx_laws.specs.Sockets.{EquallyAppliedAtSockets, RunsAreAtSockets, SocketsGo, SocketsLearnWhatWasAsked};
+ghost use Rattle.pfx_laws.specs.Sockets.{SocketsNeverDiffer};
 
 use node_udp::Socket;
 use px_records::Records;
@@ -126,4 +127,15 @@ pub fn sockets_go()
 /// positions.
 pub fn sockets_never_differ()
     ensures { SocketsNeverDiffer }
+{}
+
+/// Over such sockets a member learns nothing but what was asked of a member and taken in, and nothing is taken in twice.
+pub fn sockets_learn_what_was_asked()
+    ensures { SocketsLearnWhatWasAsked }
+{}
+
+/// Over such sockets two nodes, over whatever records, that have applied equally many positions have one configuration,
+/// and so give one verdict for every packet.
+pub fn equally_applied_at_sockets<R: Records, Q: Records>()
+    ensures { EquallyAppliedAtSockets R.Records Q.Records }
 {}

@@ -10,8 +10,8 @@ use Rattle.node_loop.proofs.running.beat.Goals.{then-sight, else-sight}
 pub returns-clause-told : goal.returns-clause-told
 returns-clause-told g c =
     elim c.if-sight.branch [
-      | then-sight w ↦ looked_so _ (g.T.Timer.told c.beat-beat.new.self) _ _ _ c.args.sight.now true w.if-sight.true c.beat-beat.ensures.told
+      | then-sight w ↦ looked_so (g.T.Timer.told c.args.timer.now) (g.T.Timer.told c.beat-beat.new.self) (g.T.Timer.told c.if-sight.timer) c.args.now c.args.view c.args.sight.now true w.if-sight.true c.beat-beat.ensures.told
           (subst (λ (z : _). Adds (g.T.Timer.told c.beat-beat.new.self) (g.T.Timer.told z) (sends_if true c.args.now)) (sym w.timer-is) w.sent.ensures.told)
-      | else-sight w ↦ looked_so _ (g.T.Timer.told c.beat-beat.new.self) _ _ _ c.args.sight.now false w.if-sight.false c.beat-beat.ensures.told
-          (subst (λ (z : _). Adds (g.T.Timer.told c.beat-beat.new.self) (g.T.Timer.told z) (sends_if false c.args.now)) (sym w.timer-is) (adds_none _ _ (λ es h. h)))
+      | else-sight w ↦ looked_so (g.T.Timer.told c.args.timer.now) (g.T.Timer.told c.beat-beat.new.self) (g.T.Timer.told c.if-sight.timer) c.args.now c.args.view c.args.sight.now false w.if-sight.false c.beat-beat.ensures.told
+          (subst (λ (z : _). Adds (g.T.Timer.told c.beat-beat.new.self) (g.T.Timer.told z) (sends_if false c.args.now)) (sym w.timer-is) (adds_none (g.T.Timer.told c.beat-beat.new.self) (g.T.Timer.told c.beat-beat.new.self) (λ es h. h)))
     ]

@@ -1,11 +1,13 @@
 -- what is lacked and what is due, and own votes
 use Rattle.std.proofs.Common.{subst}
 use Rattle.node_loop.specs.Again.{HandsAgain}
+use Rattle.node_loop.specs.Resends.{kept_of}
 use Rattle.node_loop.proofs.Among.{hands_then}
 use Rattle.node_loop.proofs.running.resend.Goals as goal
 
 pub returns-clause-again : goal.returns-clause-again
 returns-clause-again g c =
-    hands_then _ _ (g.W.Wire.traffic c.repeat.new.wire) _ c.repeat.ensures.again
+    hands_then (kept_of c.args.resender.now) (g.W.Wire.traffic c.args.wire.now) (g.W.Wire.traffic c.repeat.new.wire)
+    (g.W.Wire.traffic c.recall.new.wire) c.repeat.ensures.again
     (subst (λ (k : _). HandsAgain k (g.W.Wire.traffic c.repeat.new.wire) (g.W.Wire.traffic c.recall.new.wire)) c.repeat.ensures.kept
     c.recall.ensures.again)

@@ -1,10 +1,10 @@
 -- the turn of what had come, what is passed over, or none
-use Rattle.std.proofs.Common.{◌≡◌, ◌∙◌, ◌×◌, ◌++◌, [], ◌∷◌, refl, subst, ap, inl, inr, Option, Some, None, option_map, true, false}
-use Rattle.px_transport.specs.Wires.{Adds, Gave, gives, hands}
-use Rattle.px_transport.proofs.Traffic.{adds_then, quiet_adds, quiet_by, moves_by, moves_still, moves_map}
+use Rattle.std.proofs.Common.{◌∙◌, [], ◌∷◌, refl, ap, inl, inr, Some, None, option_map, true, false}
+use Rattle.px_transport.specs.Wires.{Gave, hands}
+use Rattle.px_transport.proofs.Traffic.{adds_then, quiet_adds, quiet_by, moves_by, moves_still}
 use Rattle.node_loop.specs.Progress.{seen_in}
 use Rattle.node_loop.specs.Resends.{kept_of, requests_of}
-use Rattle.node_loop.specs.Turns.{Turned, Served, Passed, handed_over, standing}
+use Rattle.node_loop.specs.Turns.{Turned, Served, handed_over, standing}
 use Rattle.node_loop.specs.inner.Turns.{SawIf}
 use Rattle.node_loop.proofs.Given.{gave_some, handed_on, kept_on, requests_on, over_turn}
 use Rattle.node_loop.proofs.Chains.{served_none, served_between, between_passed, nobodys_still}

@@ -8,14 +8,14 @@ use Rattle.node_loop.proofs.turning.send_all.Goals as goal
 
 pub loop-datagram-init : goal.loop-datagram-init
 loop-datagram-init g c = record {
-  handed = adds_none _ _ (λ es h. h);
+  handed = adds_none (g.W.Wire.traffic c.args.wire.now) (g.W.Wire.traffic c.args.wire.now) (λ es h. h);
   kept = among_front _ _ _ (among_all _);
   requests = refl;
 }
 
 pub loop-datagram-preserved : goal.loop-datagram-preserved
 loop-datagram-preserved g c = record {
-  handed = handed_more _ _ _ c.args.out.now c.loop-datagram.datagram-index c.datagram-item.result c.as_slice-bytes.result.now (grind (arith, common_steps))
+  handed = handed_more (g.W.Wire.traffic c.args.wire.now) (g.W.Wire.traffic c.loop-datagram.wire) (g.W.Wire.traffic c.send-is_sent.new.self) c.args.out.now c.loop-datagram.datagram-index c.datagram-item.result c.as_slice-bytes.result.now (grind (arith, common_steps))
       c.as_slice-bytes.ensures.value c.loop-datagram.invariant.handed c.send-is_sent.ensures.handed;
   kept = kept_more _ _ _ c.args.out.now c.loop-datagram.datagram-index c.datagram-item.result c.as_slice-bytes.result.now (grind (arith, common_steps))
       c.as_slice-bytes.ensures.value c.loop-datagram.invariant.kept c.keep-kept.ensures.kept;
