@@ -1,6 +1,6 @@
 //! When a node's clock ticks.
 
-ghost use Rattle.std.specs.Prelude.{◌≡◌, ◌≤◌, ◌<◌, ◌+◌, ◌/◌, Unit, false, max};
+ghost use Rattle.std.specs.Prelude.{◌≡◌, ◌≤◌, ◌<◌, ◌+◌, ◌/◌, false, max};
 ghost use Rattle.node_loop.specs.Pacing.{AreTimes, IfTicks, IfWaits, IsShort, answer_of, front_of, hold_of, later};
 ghost use Rattle.node_loop.specs.Pacing.{latest_of, moved_of, patience_of, rest_of, ticked_of};
 

@@ -1,6 +1,6 @@
 //! Sockets of datagrams.
 
-ghost use Rattle.std.specs.Prelude.{◌≡◌, ◌≤◌, List, [], ◌∷◌, Unit, IfOk, length};
+ghost use Rattle.std.specs.Prelude.{◌≡◌, ◌≤◌, List, [], ◌∷◌, IfOk, length};
 ghost use Rattle.px_transport.specs.Wires.{Adds, IsQuiet};
 ghost use Rattle.node_udp.specs.Sockets.{SocketEvent, Went, comes};
 

@@ -1,12 +1,15 @@
 -- turns, and the requests behind them
 use Rattle.std.proofs.Common.{None, refl}
+use Rattle.node_loop.specs.Turns.{standing}
 use Rattle.node_loop.proofs.Chains.{served_then}
 use Rattle.node_loop.proofs.Hosting.{hosted_served, hosted_on}
 use Rattle.node_control.proofs.Rounds.{still, served_over}
 use Rattle.node_control.proofs.running.pass.Goals as goal
 
 pub returns-in-Err-clause-hosted : goal.returns-in-Err-clause-hosted
-returns-in-Err-clause-hosted g c = served_over _ _ _ _ _ c.in-Err.ensures.served
+returns-in-Err-clause-hosted g c = served_over (g.W.Wire.traffic c.args.wire.now) (g.W.Wire.traffic c.round.new.wire)
+    (λ es. standing c.args.clerk.now.desk.node es c.args.room.now) (λ es. standing c.round.new.node es c.round.new.room) _
+    c.in-Err.ensures.served
 
 pub returns-else-not-serve-clause-hosted : goal.returns-else-not-serve-clause-hosted
 returns-else-not-serve-clause-hosted g c es t =

@@ -88,11 +88,11 @@ returns-clause-saw g c =
       c.in-Ok.taken,
       round_saw c.in-Ok.taken _ _ _ _ _ _ _ _ _ _ (g.T.Timer.told c.args.timer.now) (g.T.Timer.told c.beat-beat.new.timer)
           (g.T.Timer.told c.repeats-is_due.new.self) (record {
-        replica = refl;
-        traffic = refl;
-        kept = c.begin.ensures.kept;
-        requests = c.begin.ensures.requests;
-        hears = c.begin.ensures.hears;
-      }) c.begin.ensures.unseen r.2 (c.tick_if.ensures.unseen ∙ c.beat-beat.ensures.looked) c.front-was.ensures.front c.view_of-view.ensures
+            replica = refl;
+            traffic = refl;
+            kept = c.begin.ensures.kept;
+            requests = c.begin.ensures.requests;
+            hears = c.begin.ensures.hears;
+          }) c.begin.ensures.unseen r.2 (c.tick_if.ensures.unseen ∙ c.beat-beat.ensures.looked) c.front-was.ensures.front c.view_of-view.ensures
           c.beat-beat.ensures.told c.repeats-is_due.ensures.told,
     )) c.tick_if.ensures.ticked

@@ -15,8 +15,8 @@ loop-taken-init g c = record {
 pub loop-taken-preserved : goal.loop-taken-preserved
 loop-taken-preserved g c = record {
   served = over_then (g.W.Wire.traffic c.args.wire.now) (g.W.Wire.traffic c.loop-taken.wire) (g.W.Wire.traffic c.take_one.new.wire)
-    (λ es. standing c.args.node.now es c.args.room.now) (λ es. standing c.loop-taken.node es c.loop-taken.room)
-    (λ es. standing c.take_one.new.node es c.take_one.new.room) _ c.loop-taken.invariant.served c.in-Ok.ensures.served;
+      (λ es. standing c.args.node.now es c.args.room.now) (λ es. standing c.loop-taken.node es c.loop-taken.room)
+      (λ es. standing c.take_one.new.node es c.take_one.new.room) _ c.loop-taken.invariant.served c.in-Ok.ensures.served;
   saw = λ es t.
       let r = c.loop-taken.invariant.saw es t in
       let s = c.in-Ok.ensures.saw r.0 r.1 in

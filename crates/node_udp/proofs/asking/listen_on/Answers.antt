@@ -1,11 +1,15 @@
 -- one wait more
-use Rattle.std.proofs.Common.{arith, ◌-◌, ◌+◌}
+use Rattle.std.proofs.Common.{◌≡◌, arith, ◌-◌, ◌+◌, ℕ, subst}
 use Rattle.px_wire.specs.Message.{group}
+use Rattle.node_udp.specs.declared.answer.AskAnswer.TheVariants.{NoAnswer}
+use Rattle.node_udp.specs.Asking.{Listens}
 use Rattle.node_udp.proofs.Asked.{heard_at, passed_at, ended_at}
 use Rattle.node_udp.proofs.asking.listen_on.Goals as goal
 
 pub loop-wait-init : goal.loop-wait-init
-loop-wait-init g c es t = (es, t, λ a end l. l)
+loop-wait-init g c es t =
+    let all : c.args.waits - 0 ≡ c.args.waits = omega arith in
+    (es, t, λ a end l. subst (λ (n : ℕ). Listens (group c.args.m.now) c.args.node n es a end) all l)
 
 pub returns-in-Some : goal.returns-in-Some
 returns-in-Some g c es t =
@@ -23,7 +27,7 @@ pub loop-wait-preserved : goal.loop-wait-preserved
 loop-wait-preserved g c es t =
     let w = c.loop-wait._wait in
     let r = c.loop-wait.invariant es t in
-    let s = c.in-None.ensures r.0 r.1 in (
+    let s = c.in_default.ensures r.0 r.1 in (
       s.0,
       s.1,
       λ a end l. r.2 a end
@@ -37,5 +41,5 @@ returns g c es t =
     let r = c.loop-wait.invariant es t in (
       r.0,
       r.1,
-      r.2 _ r.0 (ended_at (group c.args.m.now) c.args.node (c.args.waits - w) r.0 (omega (arith, c.loop-wait-test.false))),
+      r.2 NoAnswer r.0 (ended_at (group c.args.m.now) c.args.node (c.args.waits - w) r.0 (omega (arith, c.loop-wait-test.false))),
     )

@@ -1,0 +1,33 @@
+-- what came is given, or an empty datagram, or nothing came
+use Rattle.std.proofs.Common.{refl, take}
+use Rattle.px_transport.proofs.Traffic.{quiet_by}
+use Rattle.node_udp.proofs.Passing.{still_then, over_none, over_hears, whole_or_none}
+use Rattle.node_udp.proofs.udp.UdpWireWire.poll.Goals as goal
+
+pub returns-then-not-set_blocking-clause-gave : goal.returns-then-not-set_blocking-clause-gave
+returns-then-not-set_blocking-clause-gave g c =
+    over_none (g.S.Socket.traffic c.args.self.now.socket) (g.S.Socket.traffic c.set_blocking.new.self.socket) c.args.self.now c.set_blocking.new.self
+    c.set_blocking.ensures.still
+
+pub returns-in-Ok-clause-gave : goal.returns-in-Ok-clause-gave
+returns-in-Ok-clause-gave g c =
+    let bytes = c.receive.new.into in
+    over_hears (g.S.Socket.traffic c.args.self.now.socket) (g.S.Socket.traffic c.set_blocking.new.self.socket) (g.S.Socket.traffic c.receive.new.self)
+    (g.S.Socket.traffic c.admit.new.self.socket) c.args.self.now c.set_blocking.new.self
+    (record c.set_blocking.new.self { socket = c.receive.new.self }) c.admit.new.self c.in-Ok.from
+    (take c.in-Ok.n bytes) (take c.admit.result bytes) c.set_blocking.ensures.still c.in-Ok.ensures.came refl refl c.admit.ensures.still
+    (whole_or_none c.admit.result c.in-Ok.n bytes (take c.in-Ok.n bytes) refl c.admit.ensures.whole c.in-Ok.ensures.fits)
+
+pub returns-in-Err-clause-gave : goal.returns-in-Err-clause-gave
+returns-in-Err-clause-gave g c =
+    over_none (g.S.Socket.traffic c.args.self.now.socket) (g.S.Socket.traffic c.met.new.self.socket) c.args.self.now c.met.new.self
+    (still_then (g.S.Socket.traffic c.args.self.now.socket) (g.S.Socket.traffic c.set_blocking.new.self.socket)
+    (g.S.Socket.traffic c.met.new.self.socket) c.args.self.now c.set_blocking.new.self c.met.new.self c.set_blocking.ensures.still
+    (still_then (g.S.Socket.traffic c.set_blocking.new.self.socket) (g.S.Socket.traffic c.receive.new.self)
+    (g.S.Socket.traffic c.met.new.self.socket) c.set_blocking.new.self (record c.set_blocking.new.self { socket = c.receive.new.self })
+    c.met.new.self
+    (record {
+      quiet = quiet_by (g.S.Socket.traffic c.set_blocking.new.self.socket) (g.S.Socket.traffic c.receive.new.self) c.in-Err.ensures.came;
+      peers_is = refl;
+      me_is = refl;
+    }) c.met.ensures.still))
