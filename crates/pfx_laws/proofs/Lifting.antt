@@ -71,11 +71,12 @@ module _ {L A : Type 0} (lower : L → Option A) where
 
   silent : (m : ℕ) (ls : List L) → lowers ls ≡ [] → all_lower (tagged m ls) ≡ []
   silent m [] e = refl
-  silent m (l ∷ ls) e = at (lower l) e
+  silent m (l ∷ ls) e = at (lower l) e (λ h. silent m ls h)
     where
-      at : (o : Option A) → one_below o ++ lowers ls ≡ [] → tag m o ++ all_lower (tagged m ls) ≡ []
-      at None h = silent m ls h
-      at (Some a) h = absurd (cc)
+      at : (o : Option A) → one_below o ++ lowers ls ≡ [] → (lowers ls ≡ [] → all_lower (tagged m ls) ≡ []) →
+          tag m o ++ all_lower (tagged m ls) ≡ []
+      at None h more = more h
+      at (Some a) h more = absurd (cc)
 
   -- the first step that is one of the layer below
   record Split (ls : List L) (a : A) (later : List A) : Type 0 where
@@ -89,11 +90,12 @@ module _ {L A : Type 0} (lower : L → Option A) where
 
   split : (ls : List L) (a : A) (later : List A) → lowers ls ≡ a ∷ later → Split ls a later
   split [] a later e = absurd (cc)
-  split (l ∷ ls) a later e = at (lower l) refl e
+  split (l ∷ ls) a later e = at (lower l) refl e (λ h. split ls a later h)
     where
-      at : (o : Option A) → lower l ≡ o → one_below o ++ lowers ls ≡ a ∷ later → Split (l ∷ ls) a later
-      at None is h =
-          let r = split ls a later h in
+      at : (o : Option A) → lower l ≡ o → one_below o ++ lowers ls ≡ a ∷ later → (lowers ls ≡ a ∷ later → Split ls a later) →
+          Split (l ∷ ls) a later
+      at None is h more =
+          let r = more h in
           record {
             before = l ∷ r.before;
             it = r.it;
@@ -103,10 +105,10 @@ module _ {L A : Type 0} (lower : L → Option A) where
             low = r.low;
             rest = r.rest;
           }
-      at (Some b) is h =
+      at (Some b) is h more =
           let one : b ≡ a = cc in
-          let more : lowers ls ≡ later = cc in
-          record { before = []; it = l; after = ls; is = refl; quiet = refl; low = is ∙ ap Some one; rest = more }
+          let same : lowers ls ≡ later = cc in
+          record { before = []; it = l; after = ls; is = refl; quiet = refl; low = is ∙ ap Some one; rest = same }
 
   -- ---- all members
 

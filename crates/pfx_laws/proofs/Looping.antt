@@ -12,7 +12,8 @@ use Rattle.node_loop.specs.Again.{AreAmong}
 use Rattle.node_loop.proofs.Among.{among_all, among_front, among_none, among_sides}
 use Rattle.px_transport.specs.Wires.{WireEvent, Gave, Handed}
 use Rattle.px_transport.specs.Loopback.{Loop, Passes, Keeps, Returns, IsQueue, above_in, below_in}
-use Rattle.px_wire.specs.Message.{Group, Message, DatagramBytes}
+use Rattle.std.specs.Int.{w32, to_be_bytes}
+use Rattle.px_wire.specs.Message.{Group, Message, DatagramBytes, kind, body}
 use Rattle.px_replica.specs.Lives.{Deed}
 use Rattle.pfx_laws.specs.Promised.{IsGroup}
 use Rattle.pfx_laws.specs.Wires.{Stretch, stand}
@@ -77,7 +78,9 @@ behind [] y ys e = absurd (cc)
 behind (x ∷ xs) y ys e = absurd (cc)
 
 pub no_message : (g : Group) (from me : ℕ) (message : Message) → DatagramBytes g from me message [] → from ≡ 255
-no_message g from me message d = absurd (behind _ _ _ (sym d.spelled))
+no_message g from me message d =
+    absurd (behind (to_be_bytes w32 0x50465852 ++ 1 ∷ to_be_bytes w32 g.cluster) g.members (from ∷ me ∷ kind message ∷ body message)
+    (sym d.spelled))
 
 pub carried_more : (g : Group) (m : ℕ) (b : Bytes) (few many : List Bytes) → AreAmong few many → WasHanded g few m b → WasHanded g many m b
 carried_more g m b few many a (inl handed) = inl (a b handed)
@@ -153,18 +156,21 @@ carries_above g ((m, Keeps d) ∷ xs) queues thens below above q w a b c = (
 )
 carries_above g ((m, Returns d) ∷ xs) queues thens below above q w a b c =
     returns (queues m) refl (own_queue m (Returns d) xs (queues m) (thens m) (q m b.0))
+    (λ es p v. carries_above g xs (put queues m es) thens below above p v a b.1 c)
   where
-    returns : (queue : List Bytes) → queues m ≡ queue → IsQueue (Returns d ∷ events_at m xs) queue (thens m) → Carries g (upper ((m, Returns d) ∷ xs)) above
-    returns [] is r = absurd r
-    returns (e ∷ es) is r = (
+    returns : (queue : List Bytes) → queues m ≡ queue → IsQueue (Returns d ∷ events_at m xs) queue (thens m) →
+        ((es : List Bytes) → Queues g.members xs (put queues m es) thens → WereHanded g.members (put queues m es) above → Carries g (upper xs) above) →
+        Carries g (upper ((m, Returns d) ∷ xs)) above
+    returns [] is r more = absurd r
+    returns (e ∷ es) is r more = (
       b.0,
       elim r.0 [
         | inl whole ↦ inl (w m d b.0 (subst (λ (ds : List Bytes). Among ds d) (sym is) (inl (sym whole))))
         | inr empty ↦ inr (λ from message spelled. no_message g from m message (subst (λ (x : Bytes). DatagramBytes g from m message x) empty spelled))
       ],
-      carries_above g xs (put queues m es) thens below above (queues_put g.members m (Returns d) xs queues thens es q r.1)
+      more es (queues_put g.members m (Returns d) xs queues thens es q r.1)
           (handed_put g.members m queues es above above w (among_all above)
-          (λ x n. w m x b.0 (subst (λ (ds : List Bytes). Among ds x) (sym is) (inr n)))) a b.1 c,
+          (λ x n. w m x b.0 (subst (λ (ds : List Bytes). Among ds x) (sym is) (inr n)))),
     )
 
 -- ---- the laws

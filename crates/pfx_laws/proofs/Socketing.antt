@@ -17,6 +17,7 @@ use Rattle.px_records.specs.declared.records.Records.{Ghosts}
 use Rattle.px_replica.specs.Lives.{Deed}
 use Rattle.px_transport.specs.Loopback as loopback
 use Rattle.node_udp.specs.Members.{peers_of, me_of}
+use Rattle.node_udp.specs.declared.socket.Socket as sockets
 use Rattle.pfx_laws.specs.Promised.{IsGroup}
 use Rattle.pfx_laws.specs.Wires.{Stretch, stand}
 use Rattle.pfx_laws.specs.Carried.{Goes, StandsSo}
@@ -189,8 +190,8 @@ equally_applied_at_sockets G H g network deeds stands r i j x y mine theirs a b 
     (subst (λ (ys : List Stretch). StandsSo y (stand ys j)) (sym (append-nil xs))
     (subst (λ (s : NodeState Bytes). StandsSo y s) (sym (n.1.leaves j theirs)) b)) same
 
-pub runs_are_at_sockets : (S C : Type 0) → RunsAreAtSockets S C
-runs_are_at_sockets S C g below w es deeds then looped ran =
+pub runs_are_at_sockets : {S : Type 0} (G : sockets.Ghosts S) (C : Type 0) → RunsAreAtSockets G C
+runs_are_at_sockets G C g w es deeds end looped ran =
     let o = looped.below_is in (
       below_in o.passages,
       o.below_is,
@@ -205,7 +206,7 @@ runs_are_at_sockets S C g below w es deeds then looped ran =
           kept = loopback.kept_of w;
           queue = looped.queue;
           below_is = sym o.above_is;
-          ran = subst (λ (fs : List WireEvent). Ran g (loopback.me_of w) fs deeds then) looped.above_is ran;
+          ran = subst (λ (fs : List WireEvent). Ran g (loopback.me_of w) fs deeds end) looped.above_is ran;
         };
       },
     )

@@ -45,10 +45,10 @@ Carries g ((m, Handed to bytes) ∷ xs) handed = (m < g.members) × Carries g xs
 
 -- A member of the group ran from an empty record on; this befell it, and it stands so then. This went over its wire: its
 -- moves, and then, where a call failed, what came for it and after it, and what was handed over again.
-pub record Ran (g : Group) (m : ℕ) (events : List WireEvent) (deeds : List Deed) (then : NodeState Bytes) : Type 0 where
+pub record Ran (g : Group) (m : ℕ) (events : List WireEvent) (deeds : List Deed) (end : NodeState Bytes) : Type 0 where
   pub moves : List Move
   pub does : deeds ≡ deeds_of moves
-  pub lived : Lived g m (started nothing_stored) (deeds_of moves) then
+  pub lived : Lived g m (started nothing_stored) (deeds_of moves) end
   pub hears : Bool
   pub are : AreMoves g m hears moves [] []
   pub last : List WireEvent
@@ -56,13 +56,13 @@ pub record Ran (g : Group) (m : ℕ) (events : List WireEvent) (deeds : List Dee
   pub again : AreAmong (handed_in last) (sent_by (deeds_of moves))
 
 -- The same over a wire that keeps what the member sends to itself: this went over the wire below.
-pub record RanAbove (g : Group) (m : ℕ) (events : List WireEvent) (deeds : List Deed) (then : NodeState Bytes) :
+pub record RanAbove (g : Group) (m : ℕ) (events : List WireEvent) (deeds : List Deed) (end : NodeState Bytes) :
     Type 0 where
   pub loops : List Loop
   pub kept : List Bytes
   pub queue : IsQueue loops [] kept
   pub below_is : events ≡ below_in loops
-  pub ran : Ran g m (above_in m loops) deeds then
+  pub ran : Ran g m (above_in m loops) deeds end
 
 -- What a run over an empty record lived, over a wire over which nothing went before, a member ran. It stands as its
 -- record holds in the end, unless a call on that failed (`stays` of LivedOver).

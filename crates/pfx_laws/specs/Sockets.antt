@@ -7,13 +7,14 @@ use Rattle.px_model.specs.Spelling.{Bytes}
 use Rattle.px_model.specs.World.{NodeState}
 use Rattle.px_records.specs.declared.records.Records.{Ghosts}
 use Rattle.px_replica.specs.Lives.{Deed}
-use Rattle.px_transport.specs.Loopback as loopback
-use Rattle.px_transport.specs.Loopback.{Looped}
+use Rattle.px_transport.specs.Loopback.{Looped, below_of, me_of}
 use Rattle.px_transport.specs.Wires.{WireEvent}
 use Rattle.px_transport.specs.declared.loopback.LoopbackWire.{LoopbackWire}
 use Rattle.px_wire.specs.Message.{Group}
 use Rattle.node_udp.specs.Sockets.{SocketEvent, Came, Went, Passage, IsSound, WentOver, above_in, below_in}
 use Rattle.node_udp.specs.declared.address.Address.{Address}
+use Rattle.node_udp.specs.Members.{socket_of}
+use Rattle.node_udp.specs.declared.socket.Socket as sockets
 use Rattle.node_udp.specs.declared.udp.UdpWire.{UdpWire}
 use Rattle.pf_eval.specs.Verdicts.{judgement}
 use Rattle.pf_eval.specs.declared.packet.Packet.{Packet}
@@ -33,22 +34,21 @@ SocketsCarry g ((m, Came from bytes) ∷ xs) went = (m < g.members) × WasHanded
 SocketsCarry g ((m, Went to bytes) ∷ xs) went = (m < g.members) × SocketsCarry g xs (went ++ bytes ∷ [])
 
 -- A member ran from an empty record on over a socket; this befell it, and it stands so then. This went over the socket.
-pub record RanAt (g : Group) (m : ℕ) (events : List SocketEvent) (deeds : List Deed) (then : NodeState Bytes) :
+pub record RanAt (g : Group) (m : ℕ) (events : List SocketEvent) (deeds : List Deed) (end : NodeState Bytes) :
     Type 0 where
   pub addresses : List Address
   pub me : ℕ
   pub passages : List Passage
   pub sound : AllByRecursion (IsSound addresses me) passages
   pub below_is : events ≡ below_in passages
-  pub ran : RanAbove g m (above_in passages) deeds then
+  pub ran : RanAbove g m (above_in passages) deeds end
 
 -- A member that ran over a wire that keeps its own datagrams, over a wire with a socket, ran over what went over that.
-abbrev pub RunsAreAtSockets : (S C : Type 0) → Type 0
-RunsAreAtSockets S C =
-    (g : Group) (below : List SocketEvent → Type 0) (w : LoopbackWire (UdpWire S C)) (es : List WireEvent)
-    (deeds : List Deed) (then : NodeState Bytes) → Looped (WentOver below (loopback.below_of w)) w es →
-    Ran g (loopback.me_of w) es deeds then →
-    (events : List SocketEvent) × below events × RanAt g (loopback.me_of w) events deeds then
+abbrev pub RunsAreAtSockets : {S : Type 0} → sockets.Ghosts S → (C : Type 0) → Type 0
+RunsAreAtSockets {S} G C =
+    (g : Group) (w : LoopbackWire (UdpWire S C)) (es : List WireEvent) (deeds : List Deed) (end : NodeState Bytes) →
+    Looped (WentOver (G.traffic (socket_of (below_of w))) (below_of w)) w es → Ran g (me_of w) es deeds end →
+    (events : List SocketEvent) × G.traffic (socket_of (below_of w)) events × RanAt g (me_of w) events deeds end
 
 -- Members that ran over such sockets, each over what went over its own: what befell each, and how it stands then.
 pub record RanOver (g : Group) (network : List (ℕ × SocketEvent)) (deeds : ℕ → List Deed)

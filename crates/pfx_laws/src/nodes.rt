@@ -114,7 +114,7 @@ pub fn networks_never_differ()
 /// A member that ran over a wire with a socket, above which its own datagrams are kept, ran over what went over that
 /// socket.
 pub fn runs_are_at_sockets<S: Socket, C: Clock>()
-    ensures { RunsAreAtSockets S C }
+    ensures { RunsAreAtSockets S.Socket C }
 {}
 
 /// Members that ran over sockets to which no datagram came but those that some member's socket was handed before, and

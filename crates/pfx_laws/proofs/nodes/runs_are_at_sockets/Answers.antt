@@ -2,4 +2,4 @@ use Rattle.pfx_laws.proofs.Socketing.{runs_are_at_sockets}
 use Rattle.pfx_laws.proofs.nodes.runs_are_at_sockets.Goals as goal
 
 pub returns : goal.returns
-returns g c = runs_are_at_sockets g.S g.C
+returns g c = runs_are_at_sockets g.S.Socket g.row.C.Denot
