@@ -11,8 +11,7 @@ use Rattle.node_loop.specs.Hosting.{Hosted}
 use Rattle.node_loop.specs.Resends.{kept_of, requests_of}
 use Rattle.node_loop.specs.Turns.{Stand, Served, standing}
 use Rattle.node_loop.specs.declared.room.Room.{Room}
-use Rattle.node_loop.proofs.Chains.{same_is, served_none}
-use Rattle.node_loop.proofs.Given.{over_then}
+use Rattle.node_loop.proofs.Chains.{same_is, served_none, served_then}
 use Rattle.node_loop.proofs.Hosting.{hosted_then, hosted_served}
 use Rattle.node_loop.specs.Lives.{Buffers, new_buffers, stands, Tells, Serves, Hosts}
 use Rattle.node_loop.specs.declared.ended.Ended.{Ended}
@@ -55,6 +54,14 @@ hosted_over o m n x y z a f g es t =
     let r = f es t in
     let s = g r.0 r.1 in
     (s.0, s.1, hosted_then (x es) (y r.0) (z s.0) a r.2 s.2)
+
+pub over_then : {R : Type 0} {G : Ghosts R} (o m n : List WireEvent → Type 0) (x y z : List WireEvent → Stand G)
+    (a : Option NodeFault) → Moves o m (λ es es'. Served (x es) (y es') None) → Moves m n (λ es es'. Served (y es) (z es') a) →
+    Moves o n (λ es es'. Served (x es) (z es') a)
+over_then o m n x y z a f g es t =
+    let r = f es t in
+    let s = g r.0 r.1 in
+    (s.0, s.1, served_then (x es) (y r.0) (z s.0) a r.2 s.2)
 
 -- turns alone
 pub served_over : {R : Type 0} {G : Ghosts R} (o n : List WireEvent → Type 0) (x y : List WireEvent → Stand G)

@@ -1,7 +1,6 @@
 -- all rounds, and the last ones
 use Rattle.node_loop.specs.Turns.{standing}
-use Rattle.node_loop.proofs.Given.{over_then}
-use Rattle.node_control.proofs.Rounds.{hosted_over, served_over}
+use Rattle.node_control.proofs.Rounds.{hosted_over, over_then, served_over}
 use Rattle.node_control.proofs.running.pass_on.Goals as goal
 
 pub returns-in-Ok-clause-hosted : goal.returns-in-Ok-clause-hosted
