@@ -3,7 +3,6 @@ use Rattle.std.proofs.Common.{◌≡◌, Bool, List, [], Option, None, Result, O
 use Rattle.px_model.specs.Step.{front}
 use Rattle.px_records.specs.declared.records.Records.{Ghosts}
 use Rattle.px_replica.specs.declared.fault.NodeFault.{NodeFault}
-use Rattle.px_replica.specs.declared.state.Replica.{Replica}
 use Rattle.px_transport.specs.Wires.{WireEvent, Moves}
 use Rattle.pf_node.specs.Nodes.{replica_of, learned_by, applied_of}
 use Rattle.pf_node.specs.declared.state.Node.{Node}
