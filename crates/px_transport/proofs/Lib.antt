@@ -23,3 +23,4 @@ mod Sending
 mod Duties
 mod Arriving
 mod Counters
+mod Stepping

@@ -8,6 +8,7 @@ pub mod Sending
 pub mod Senders
 pub mod Wiring
 pub mod Laws
+pub mod Steps
 pub mod Examples
 pub mod SendingLaws
 pub mod SendingExamples

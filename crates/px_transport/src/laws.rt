@@ -1,6 +1,7 @@
 //! What is true of what a receiver gives.
 
 ghost use Rattle.px_transport.specs.Laws.{GivenWasSent, GivenOnce, GivenIsPresent, LastPieceGives, StaysBounded};
+ghost use Rattle.px_transport.specs.Steps.{CallsAreSteps};
 
 use px_packet::piece_laws::{joined_was_cut, pieces_are_joined, report_keeps};
 
@@ -39,4 +40,13 @@ pub fn stays_bounded()
     ensures { StaysBounded }
 {
     px_packet::piece_laws::stays_bounded();
+}
+
+/// What goes over a wire of packets in its calls are steps, each at most one packet below and one datagram here: each
+/// packet was sealed with what was handed over before, and what is given is what the receiver makes of a packet.
+pub fn calls_are_steps()
+    ensures { CallsAreSteps }
+{
+    px_packet::piece_laws::named_once();
+    px_packet::piece_laws::cut_is_piece();
 }
