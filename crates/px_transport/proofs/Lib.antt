@@ -24,3 +24,4 @@ mod Duties
 mod Arriving
 mod Counters
 mod Stepping
+mod Carrying

@@ -1,28 +1,26 @@
 -- The calls of a wire of packets, step by step.
-use Rattle.std.proofs.Common.{◌≡◌, ◌≢◌, ◌∙◌, ◌⊎◌, ℕ, zero, suc, ◌+◌, ◌-◌, ◌*◌, ◌<◌, ◌≤◌, Bool, true, false, List, [], ◌∷◌, ◌++◌, length, map, take, ap, sym, subst, refl, arith, inl, inr, Option, Some, None, set}
-use Rattle.std.specs.Prelude.{◌==◌, ◌&&◌, not, nat_lt, nat_le, IsTrue, if◌then◌else◌, replicate, option_map, slice_get, slice_set, slice_index_or}
-use Rattle.std.specs.List.{All, Contains, filter, range_with_len, position_or_len, prefix_len, flat_map}
-use Rattle.std.proofs.lemmas.Bool.{cases_eq, eq-eqb, eqb-true, eqb-false, ltb-true, leb-true, and_parts}
+use Rattle.std.proofs.Common.{◌≡◌, ◌≢◌, ◌∙◌, ◌⊎◌, ℕ, zero, suc, ◌+◌, ◌-◌, ◌*◌, ◌<◌, ◌≤◌, Bool, true, false, List, [], ◌∷◌, ◌++◌, length, map, take, ap, sym, subst, refl, arith, inl, inr, Option, Some, None}
+use Rattle.std.specs.Prelude.{◌==◌, not, nat_lt, nat_le, if◌then◌else◌, replicate, option_map, slice_get, slice_set}
+use Rattle.std.specs.List.{All, Contains, position_or_len}
+use Rattle.std.proofs.lemmas.Bool.{eq-eqb, eqb-true, eqb-false, ltb-true, leb-true, and_parts}
 use Rattle.std.proofs.lemmas.List.{append-nil, append_assoc, length-set, length-replicate}
-use Rattle.std.proofs.lemmas.List.Elements.{All-nil, All-cons, All-head, All-tail, All-push, Contains-append_right, Contains-append_left}
+use Rattle.std.proofs.lemmas.List.Elements.{All-nil, All-head, All-tail, All-push, Contains-append_right}
 use Rattle.px_packet.specs.declared.start.Start.{Start}
-use Rattle.px_packet.specs.declared.kind.Kind.TheVariants as kinds
-use Rattle.px_packet.specs.declared.header.Header.{Header}
 use Rattle.px_packet.specs.declared.held.PiecesHeld.{PiecesHeld}
 use Rattle.px_packet.specs.Held.{has_bit}
 use Rattle.px_packet.specs.Reassembling.{due_held}
-use Rattle.px_packet.specs.Pieces.{count_of, piece_of, piece_bytes}
+use Rattle.px_packet.specs.Pieces.{count_of, piece_of}
 use Rattle.px_packet.specs.Sending.{Sent, CanBeCut, is_kept, name_of, sent_after, cut_with, latest}
-use Rattle.px_packet.specs.PieceLaws.{IsPieceOf, Keeps, NamedOnce, CutIsPiece, log_after}
+use Rattle.px_packet.specs.PieceLaws.{Keeps, NamedOnce, CutIsPiece, log_after}
 use Rattle.px_transport.specs.Wires.{WireEvent, Gave, Handed, hands, gives, within}
-use Rattle.px_transport.specs.Receiving.{Heard, Given, Memory, reported_of, of_member}
-use Rattle.px_transport.specs.Sending.{ToMember, Unsealed, Sealer, Sends, SendsUpTo, packet, packets, to_member, new_to, counted, counted_for, counted_all}
-use Rattle.px_transport.specs.Sending.{refilled, refilled_for, stated, stated_for, states, state, report, again, again_of, burst, pieces, pieces_from, piece, lacked}
-use Rattle.px_transport.specs.Sending.{packets_of, kept_with, is_short, named, named_for, whole, is_other, can_be_cut, next_state}
-use Rattle.px_transport.specs.Wiring.{WireState, Duty, State, Report, Again, reports, packets_for, state_for, start_of, Does, DoesAll, upkeep, duties_of}
-use Rattle.px_transport.specs.Wiring.{opened, given_of, heard_with, datagram_of, Takes as TakesIt, TakesAny, Received, Waited, IsSent, IsNew, Call, Receive, Wait, Send, Calls, can_send}
-use Rattle.px_transport.specs.Laws.{Traffic, IsBodyOf, nobody}
-use Rattle.px_transport.specs.Steps.{Step, Hears, Puts, Takes, Reports, below_of, above_of, below_in, above_in, wholes_for, cuts_for, heard_in, handed_for, IsPut, IsHeard, IsStep, AreSteps, CallsAreSteps}
+use Rattle.px_transport.specs.Receiving.{Heard, Memory, reported_of, of_member}
+use Rattle.px_transport.specs.Sending.{ToMember, Unsealed, Sealer, SendsUpTo, packet, packets, to_member, new_to, counted, counted_for, counted_all}
+use Rattle.px_transport.specs.Sending.{refilled, refilled_for, stated, state, again, again_of, burst, pieces, piece, lacked}
+use Rattle.px_transport.specs.Sending.{is_short, named, whole, is_other, can_be_cut, next_state}
+use Rattle.px_transport.specs.Wiring.{WireState, Duty, State, Report, Again, reports, start_of, Does, DoesAll, upkeep, duties_of}
+use Rattle.px_transport.specs.Wiring.{opened, given_of, heard_with, datagram_of, TakesAny, IsSent, IsNew, Call, Receive, Wait, Send, Calls, can_send}
+use Rattle.px_transport.specs.Laws.{Traffic, IsBodyOf}
+use Rattle.px_transport.specs.Steps.{Step, Hears, Puts, Takes, Reports, below_of, above_of, below_in, above_in, wholes_for, cuts_for, heard_in, handed_for, IsStep, AreSteps, CallsAreSteps}
 
 -- ---- what a sender has of a member
 
@@ -305,7 +303,7 @@ module _ (keys : List (List ℕ)) (s : Sealer) (named_once : NamedOnce) (is_piec
       at false = inl refl
 
   is_heard : (room : ℕ) (given d : List ℕ) → given ≡ within room d → (given ≡ []) ⊎ (given ≡ d)
-  is_heard room given d e = elim (within_is room d) [ | inl none ↦ inl (e ∙ none) | inr all ↦ inr (e ∙ all) ]
+  is_heard room given d e = elim (within_is room d) [ inl none ↦ inl (e ∙ none) | inr all ↦ inr (e ∙ all) ]
 
   hears : (t : List WireEvent) (os : List ToMember) (hs : List Heard) (es : List WireEvent) (came given : List ℕ) (memory : Memory)
       (now : ℕ) → (given ≡ []) ⊎ (given ≡ datagram_of (given_of s.start memory hs (opened keys s came) now)) → At t os hs es →

@@ -9,6 +9,7 @@ pub mod Senders
 pub mod Wiring
 pub mod Laws
 pub mod Steps
+pub mod Networks
 pub mod Examples
 pub mod SendingLaws
 pub mod SendingExamples

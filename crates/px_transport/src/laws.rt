@@ -2,6 +2,7 @@
 
 ghost use Rattle.px_transport.specs.Laws.{GivenWasSent, GivenOnce, GivenIsPresent, LastPieceGives, StaysBounded};
 ghost use Rattle.px_transport.specs.Steps.{CallsAreSteps};
+ghost use Rattle.px_transport.specs.Networks.{SealedIsCarried};
 
 use px_packet::piece_laws::{joined_was_cut, pieces_are_joined, report_keeps};
 
@@ -49,4 +50,14 @@ pub fn calls_are_steps()
 {
     px_packet::piece_laws::named_once();
     px_packet::piece_laws::cut_is_piece();
+}
+
+/// Members that open with a key what only members seal with it are given only what members handed over.
+pub fn sealed_is_carried()
+    ensures { SealedIsCarried }
+{
+    px_packet::packet_laws::front_was_sealed();
+    joined_was_cut();
+    report_keeps();
+    px_packet::piece_laws::log_grows();
 }
