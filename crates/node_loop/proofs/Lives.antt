@@ -225,16 +225,16 @@ pub none_above : (n : ℕ) → (0 < n → ⊥) → n ≡ 0
 none_above zero h = refl
 none_above (suc n) h = absurd (h (omega arith))
 
-gives_given : (came : Option Bytes) → given_in (gives came) ≡ came_in came
+pub gives_given : (came : Option Bytes) → given_in (gives came) ≡ came_in came
 gives_given None = refl
 gives_given (Some bytes) = refl
 
-gives_handed : (came : Option Bytes) → handed_in (gives came) ≡ []
+pub gives_handed : (came : Option Bytes) → handed_in (gives came) ≡ []
 gives_handed None = refl
 gives_handed (Some bytes) = refl
 
 -- nothing is sent
-went_silent : (old new : List WireEvent) (came : Option Bytes) (out : List Datagram) → out ≡ [] →
+pub went_silent : (old new : List WireEvent) (came : Option Bytes) (out : List Datagram) → out ≡ [] →
     new ≡ old ++ (gives came ++ hands (handed_over out)) → new ≡ old ++ gives came
 went_silent old new came out none went =
     subst (λ (ds : List Datagram). new ≡ old ++ (gives came ++ hands (handed_over ds))) none went
@@ -323,13 +323,13 @@ between_lost y z b = record {
 }
 
 -- what was handed over of two lists
-handed_both : (kept keeps : List (ℕ × Bytes)) (es fs : List WireEvent) → AreAmong (handed_in es) kept → AreAmong keeps kept →
+pub handed_both : (kept keeps : List (ℕ × Bytes)) (es fs : List WireEvent) → AreAmong (handed_in es) kept → AreAmong keeps kept →
     AreAmong (handed_in fs) keeps → AreAmong (handed_in (es ++ fs)) kept
 handed_both kept keeps es fs a k b =
     subst (λ (ds : List (ℕ × Bytes)). AreAmong ds kept) (sym (handed_append es fs))
     (among_both (handed_in es) (handed_in fs) kept a (among_then (handed_in fs) keeps kept b k))
 
-given_both : (olds mids news : List Bytes) (es fs : List WireEvent) → AreAmong mids (olds ++ given_in es) →
+pub given_both : (olds mids news : List Bytes) (es fs : List WireEvent) → AreAmong mids (olds ++ given_in es) →
     AreAmong news (mids ++ given_in fs) → AreAmong news (olds ++ given_in (es ++ fs))
 given_both olds mids news es fs a b =
     subst (λ (bs : List Bytes). AreAmong news (olds ++ bs)) (sym (given_append es fs))

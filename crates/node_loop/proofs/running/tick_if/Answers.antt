@@ -12,7 +12,7 @@ returns-in-Ok-clause-served g c =
     (λ es t. let r = c.in-Ok.ensures.ticked es t in (r.0, r.1, turned_by_clock _ _ _ r.2))
 
 pub returns-in-Ok-clause-ticked : goal.returns-in-Ok-clause-ticked
-returns-in-Ok-clause-ticked g c es t = let r = c.in-Ok.ensures.ticked es t in (r.0, r.1, true, r.2)
+returns-in-Ok-clause-ticked g c es t = let r = c.in-Ok.ensures.ticked es t in (r.0, r.1, (true, r.2))
 
 pub returns-in-Err-clause-served : goal.returns-in-Err-clause-served
 returns-in-Err-clause-served g c =
@@ -24,10 +24,10 @@ pub returns-then-not-has_own-clause-served : goal.returns-then-not-has_own-claus
 returns-then-not-has_own-clause-served g c es t = (es, t, served_none _ _ (same_all _))
 
 pub returns-then-not-has_own-clause-ticked : goal.returns-then-not-has_own-clause-ticked
-returns-then-not-has_own-clause-ticked g c es t = (es, t, false, same_all _)
+returns-then-not-has_own-clause-ticked g c es t = (es, t, (false, same_all _))
 
 pub returns-else-taken-eq0-clause-served : goal.returns-else-taken-eq0-clause-served
 returns-else-taken-eq0-clause-served g c es t = (es, t, served_none _ _ (same_all _))
 
 pub returns-else-taken-eq0-clause-ticked : goal.returns-else-taken-eq0-clause-ticked
-returns-else-taken-eq0-clause-ticked g c es t = (es, t, false, same_all _)
+returns-else-taken-eq0-clause-ticked g c es t = (es, t, (false, same_all _))

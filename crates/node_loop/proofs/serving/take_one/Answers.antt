@@ -24,7 +24,8 @@ returns-in_default-clause-saw g c =
 
 pub returns-in_default-clause-served : goal.returns-in_default-clause-served
 returns-in_default-clause-served g c es t =
-    let r = returns-in_default-clause-saw g c es t in (r.0, r.1, served_none _ _ r.2.0)
+    let r = returns-in_default-clause-saw g c es t in
+    (r.0, r.1, served_none (standing c.args.node.now es c.args.room.now) (standing c.args.node.now r.0 c.args.room.now) r.2.0)
 
 pub returns-then-passes_over-clause-saw : goal.returns-then-passes_over-clause-saw
 returns-then-passes_over-clause-saw g c =
