@@ -46,3 +46,7 @@ OpenedWasSealed = (keys : List (List ℕ)) (cluster members me : ℕ) (b : List 
     packet_fault keys cluster members me b ≡ None →
     (key : List ℕ) × Among keys key × (b ≡ sealed key (header_bytes (header_in (front_of b)) ++ drop 37 (front_of b))) ×
     IsFor cluster members me (header_in (front_of b))
+
+-- what is in front of the tag of a packet is what was sealed
+abbrev pub FrontWasSealed : Type 0
+FrontWasSealed = (key front : List ℕ) → front_of (sealed key front) ≡ front

@@ -1,6 +1,7 @@
 //! What is true of packets.
 
 ghost use Rattle.px_packet.specs.PacketLaws.{HeaderIsRead, HeaderIsWritten, PacketOpens, OpenedWasSealed};
+ghost use Rattle.px_packet.specs.PacketLaws.{FrontWasSealed};
 
 /// The bytes of a header for a member are read as that header.
 pub fn header_is_read()
@@ -20,4 +21,9 @@ pub fn packet_opens()
 /// What is opened was sealed with one of the keys, with this header and this body, for the member that opens it.
 pub fn opened_was_sealed()
     ensures { OpenedWasSealed }
+{}
+
+/// What is in front of the tag of a packet is what was sealed.
+pub fn front_was_sealed()
+    ensures { FrontWasSealed }
 {}

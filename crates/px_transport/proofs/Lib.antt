@@ -23,3 +23,5 @@ mod Sending
 mod Duties
 mod Arriving
 mod Counters
+mod Stepping
+mod Carrying

@@ -8,6 +8,8 @@ pub mod Sending
 pub mod Senders
 pub mod Wiring
 pub mod Laws
+pub mod Steps
+pub mod Networks
 pub mod Examples
 pub mod SendingLaws
 pub mod SendingExamples

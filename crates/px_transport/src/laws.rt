@@ -1,6 +1,8 @@
 //! What is true of what a receiver gives.
 
 ghost use Rattle.px_transport.specs.Laws.{GivenWasSent, GivenOnce, GivenIsPresent, LastPieceGives, StaysBounded};
+ghost use Rattle.px_transport.specs.Steps.{CallsAreSteps};
+ghost use Rattle.px_transport.specs.Networks.{SealedIsCarried};
 
 use px_packet::piece_laws::{joined_was_cut, pieces_are_joined, report_keeps};
 
@@ -39,4 +41,23 @@ pub fn stays_bounded()
     ensures { StaysBounded }
 {
     px_packet::piece_laws::stays_bounded();
+}
+
+/// What goes over a wire of packets in its calls are steps, each at most one packet below and one datagram here: each
+/// packet was sealed with what was handed over before, and what is given is what the receiver makes of a packet.
+pub fn calls_are_steps()
+    ensures { CallsAreSteps }
+{
+    px_packet::piece_laws::named_once();
+    px_packet::piece_laws::cut_is_piece();
+}
+
+/// Members that open with a key what only members seal with it are given only what members handed over.
+pub fn sealed_is_carried()
+    ensures { SealedIsCarried }
+{
+    px_packet::packet_laws::front_was_sealed();
+    joined_was_cut();
+    report_keeps();
+    px_packet::piece_laws::log_grows();
 }
