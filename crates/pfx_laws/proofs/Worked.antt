@@ -1,17 +1,17 @@
 -- What a network may carry, worked on small cases. No law rests on these.
-use Rattle.std.proofs.Common.{◌≡◌, ◌≢◌, ◌∙◌, sym, ap, subst, refl, ℕ, List, [], ◌∷◌, Some, inl, inr}
+use Rattle.std.proofs.Common.{◌≡◌, ◌≢◌, ◌∙◌, sym, ap, subst, refl, ℕ, ◌<◌, false, List, [], ◌∷◌, inl, inr, arith}
 use Rattle.std.specs.Prelude.{slice_index}
 use Rattle.px_model.specs.Node.Input.{Ticks}
 use Rattle.px_model.specs.Spelling.{Bytes}
-use Rattle.px_model.specs.World.{NodeState}
+use Rattle.px_model.specs.World.{NodeState, nothing_stored, started}
 use Rattle.px_wire.specs.Message.{Group, Message, DatagramBytes}
 use Rattle.px_replica.specs.Lives.Deed.{Calls}
 use Rattle.node_loop.specs.Resending.{IsOutside}
 use Rattle.px_replica.specs.declared.datagram.Datagram.{Datagram}
-use Rattle.px_transport.specs.Memory.{given_of}
-use Rattle.px_transport.specs.declared.memory.MemoryWire.{MemoryWire}
+use Rattle.std.specs.declared.net.socket_addr.SocketAddr.{SocketAddr}
+use Rattle.node_udp.specs.Sockets.{Came, Went}
 use Rattle.pfx_laws.specs.Wires.{AreCarried}
-use Rattle.pfx_laws.specs.Runs.{TellsMore}
+use Rattle.pfx_laws.specs.Sockets.{SocketsCarry, RanAt}
 
 empty_is_nobodys : (g : Group) (m : ℕ) → IsOutside g m []
 empty_is_nobodys g m from x spelled = let e : 0 ≡ 0x50 = ap (λ (b : Bytes). slice_index b 0) spelled.spelled in absurd cc
@@ -62,7 +62,46 @@ misled_is_not g t d sender x to spelled other carried = elim (carried.1.0 d.byte
   | inr outside ↦ other (outside sender x spelled)
 ]
 
--- a wire in memory that gave nothing before tells just what it gave
-pub memory_tells : (old new : MemoryWire) (gave : List Bytes) → given_of old ≡ Some [] → given_of new ≡ Some gave →
-    TellsMore (given_of old) gave (given_of new)
-memory_tells old new gave o n = ([], o, n)
+-- ---- at sockets
+
+-- Member 0's socket is handed a datagram, which comes to member 1 twice; to member 2 comes a request from outside, and an
+-- empty datagram. Sockets may carry all of this.
+pub may_come : (g : Group) (there from : SocketAddr) (d ask : Bytes) → 2 < g.members → IsOutside g 2 ask →
+    SocketsCarry g ((0, Went there d) ∷ (1, Came from d) ∷ (1, Came from d) ∷ (2, Came from ask) ∷ (2, Came from []) ∷ []) []
+may_come g there from d ask three asks =
+    (omega (arith, three), (omega (arith, three), inl (inl refl), (omega (arith, three), inl (inl refl), (three, inr asks, (three, inr (empty_is_nobodys g 2), tt)))))
+
+-- A member's message that no socket was handed may not come.
+pub forged_never_comes : (g : Group) (m sender : ℕ) (x : Message) (from : SocketAddr) (forged : Bytes) → DatagramBytes g sender m x forged →
+    sender ≢ 255 → SocketsCarry g ((m, Came from forged) ∷ []) [] → ⊥
+forged_never_comes g m sender x from forged spelled other carried =
+    elim carried.1 [
+      | inl none ↦ none
+      | inr outside ↦ other (outside sender x spelled)
+    ]
+
+-- Nor before a socket was handed it.
+pub never_comes_before : (g : Group) (m sender : ℕ) (x : Message) (there from : SocketAddr) (early : Bytes) → DatagramBytes g sender m x early →
+    sender ≢ 255 → SocketsCarry g ((m, Came from early) ∷ (0, Went there early) ∷ []) [] → ⊥
+never_comes_before g m sender x there from early spelled other carried =
+    elim carried.1 [
+      | inl none ↦ none
+      | inr outside ↦ other (outside sender x spelled)
+    ]
+
+-- A member that did nothing yet ran over a socket over which nothing went.
+pub nothing_yet : (g : Group) (m : ℕ) → RanAt g m [] [] (started nothing_stored)
+nothing_yet g m = record {
+  addresses = [];
+  me = m;
+  passages = [];
+  sound = tt;
+  below_is = refl;
+  ran = record {
+    loops = [];
+    kept = [];
+    queue = refl;
+    below_is = refl;
+    ran = record { moves = []; does = refl; lived = refl; hears = false; are = tt; last = []; went = refl; again = λ d none. none };
+  };
+}
