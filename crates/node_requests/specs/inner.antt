@@ -4,4 +4,3 @@
 pub mod Outcomes
 pub mod Left
 pub mod Metrics
-pub mod Targets

@@ -1,0 +1,6 @@
+use Rattle.node_control.proofs.Routing.{passed_over}
+use Rattle.node_control.proofs.clerk.Clerk.handle_as.Goals as goal
+
+pub returns-in-Asked-clause-handled : goal.returns-in-Asked-clause-handled
+returns-in-Asked-clause-handled g c =
+    passed_over c.pass_on.result _ _ c.in-Asked.request.now _ c.pass_on.ensures.passed
