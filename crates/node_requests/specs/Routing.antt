@@ -2,8 +2,10 @@
 use Rattle.std.specs.Prelude.{ℕ, ◌==◌, ◌&&◌, Bool, List, [], ◌∷◌, map, length, take, drop, nat_lt, nat_le}
 use Rattle.std.specs.Prelude.{Option, Some, None, option_map, unwrap_or, codes, bytes_eq, if◌then◌else◌}
 use Rattle.std.specs.List.{before_first, after_first, position_or_len}
+use Rattle.std.specs.Str.{is_utf8}
+use Rattle.std.specs.Str.Lines.{lines}
 use Rattle.clap.specs.Words.{Text}
-use Rattle.pf_scripts.specs.Lines.{ScriptLine, lines, words_in, words_if}
+use Rattle.pf_scripts.specs.Lines.{words_in}
 use Rattle.node_requests.specs.declared.request.Read.{Read}
 use Rattle.node_requests.specs.declared.request.Read.TheVariants as read
 use Rattle.node_requests.specs.declared.request.Request.{Request}
@@ -57,9 +59,9 @@ change_of (Some words) text = Asked (Changes (codes "pfctl" ∷ words) text)
 abbrev pub change_in : List ℕ → RoutedValue
 change_in body = change_of (words_in (before_first is_newline body)) (after_first is_newline body)
 
--- the lines of a body, if each is UTF-8
+-- the lines of a body, if it is UTF-8; a line ends with a newline, or with a carriage return and a newline
 abbrev pub lines_in : List ℕ → Option (List Text)
-lines_in body = words_if (map (λ (l : ScriptLine). l.content) (lines body))
+lines_in body = if is_utf8 body then Some (lines body) else None
 
 -- ---- reads
 

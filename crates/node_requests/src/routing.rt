@@ -3,8 +3,8 @@
 ghost use Rattle.std.specs.Prelude.{◌≡◌, IfOk, map, option_map, option_copied, string_bytes, if◌then◌else◌, Some};
 ghost use Rattle.std.specs.Prelude.{None};
 ghost use Rattle.std.specs.Str.{is_utf8};
+ghost use Rattle.std.specs.Str.Lines.{lines};
 ghost use Rattle.std.specs.List.{before_first, after_first};
-ghost use Rattle.pf_scripts.specs.Lines.{ScriptLine, lines, words_if};
 ghost use Rattle.node_requests.specs.Queries.{pairs_of};
 ghost use Rattle.node_requests.specs.Routing.{is_newline, change_in, lines_in, text_in, reads, rules_asked};
 ghost use Rattle.node_requests.specs.Routing.{tables_asked};
@@ -17,7 +17,7 @@ ghost use Rattle.node_requests.specs.Routing.{read_value, routed_value};
 use crate::query::{Parameter, are_parameters, number_in, parameters, position_of, value_of};
 use crate::request::{Listing, Read, Request, Routed};
 use crate::target::Target;
-use pf_scripts::{cut_line, words_in};
+use pf_scripts::words_in;
 use std::alloc::{AllocError, Global};
 
 /// How many packets one request may have.
@@ -34,51 +34,32 @@ fn cut_at_newline(body: &[u8]) -> (&[u8], &[u8])
     }
 }
 
-/// A line as text, none where it isn't UTF-8.
+/// Bytes as text, none where they aren't UTF-8.
 #[tactic(auto, using(pf_scripts::proofs::LinesCut::utf8_text, pf_scripts::proofs::LinesCut::no_text))]
-fn text_of(line: &[u8]) -> Option<&str>
-    ensures { option_map (λ s. s.now) result ≡ (if is_utf8 line.now then Some line.now else None) }
+fn text_of(bytes: &[u8]) -> Option<&str>
+    ensures { option_map (λ s. s.now) result ≡ (if is_utf8 bytes.now then Some bytes.now else None) }
 {
-    match str::from_utf8(line) {
+    match str::from_utf8(bytes) {
         Ok(text) => Some(text),
         Err(_) => None,
     }
 }
 
-/// Lines as text, none where one of them isn't UTF-8.
-fn texts<'a>(alloc: Global, found: &[&'a [u8]]) -> Result<Option<Vec<&'a str>>, AllocError>
-    ensures { IfOk result (λ lines. option_map (λ v. map (λ w. w.now) v.items) lines
-        ≡ words_if (map (λ w. w.now) found.now)) }
+/// The lines of a text.
+fn lines(alloc: Global, text: &str) -> Result<Vec<&str>, AllocError>
+    ensures { IfOk result (λ v. map (λ w. w.now) v.items ≡ lines text.now) }
 {
-    let mut texts = Vec::new(alloc);
-    for line in found {
-        match text_of(line) {
-            Some(text) => texts.push(text)?,
-            None => return Ok(None),
-        }
-    }
-    Ok(Some(texts))
+    text.lines().collect(alloc)
 }
 
-/// The lines of a body, without their newlines.
-fn contents(alloc: Global, body: &[u8]) -> Result<Vec<&[u8]>, AllocError>
-    ensures { IfOk result (λ v. map (λ w. w.now) v.items ≡ map (λ (l : ScriptLine). l.content) (lines body.now)) }
-{
-    let mut found = Vec::new(alloc);
-    let mut left = body;
-    while let Some((line, rest)) = cut_line(left) {
-        found.push(line.content)?;
-        left = rest;
-    }
-    Ok(found)
-}
-
-/// The lines of a body, none where one of them isn't UTF-8.
+/// The lines of a body, none where it isn't UTF-8.
 fn lines_in(alloc: Global, body: &[u8]) -> Result<Option<Vec<&str>>, AllocError>
     ensures { IfOk result (λ found. option_map (λ v. map (λ w. w.now) v.items) found ≡ lines_in body.now) }
 {
-    let found = contents(alloc, body)?;
-    texts(alloc, &found)
+    match text_of(body) {
+        Some(text) => Ok(Some(lines(alloc, text)?)),
+        None => Ok(None),
+    }
 }
 
 /// `N.NUMBER`
