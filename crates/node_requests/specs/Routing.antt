@@ -90,7 +90,7 @@ table_asked given = lists given (codes "-t" ∷ text_in (codes "t") given ∷ co
 abbrev pub table_test_of : List (Text × Text) → Option (List Text) → RoutedValue
 table_test_of given None = Unread 40
 table_test_of given (Some addresses) =
-    lists given (codes "-t" ∷ text_in (codes "t") given ∷ codes "-T" ∷ codes "test" ∷ addresses)
+    lists given (codes "-t" ∷ text_in (codes "t") given ∷ codes "-T" ∷ codes "test" ∷ codes "--" ∷ addresses)
 
 abbrev pub table_test_asked : List (Text × Text) → (body : List ℕ) → RoutedValue
 table_test_asked given body = table_test_of given (lines_in body)
