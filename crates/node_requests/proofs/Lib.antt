@@ -6,3 +6,4 @@ pub mod HitsCounted
 pub mod Places
 mod Digits
 mod Behind
+mod Posted
