@@ -7,6 +7,7 @@ use Rattle.px_records.specs.declared.records.Records.{Ghosts}
 use Rattle.node_requests.specs.declared.desk.Desk.{Desk}
 use Rattle.node_requests.specs.declared.request.Request as asked
 use Rattle.node_requests.specs.Routing.{RoutedValue, Asked, Refused, Unread}
+use Rattle.node_control.specs.inner.Asking.{asked_for}
 use Rattle.node_control.specs.inner.Handling.{IsHandled, HandledAs, HandledIf, PassedOnIf, is_asked, is_served}
 use Rattle.node_control.specs.inner.Runs.{Asks, AreAsked}
 use Rattle.node_control.specs.declared.clerk.Clerk.{Clerk}
@@ -54,7 +55,7 @@ handled_if false c d v r turned = asked_none c.desk d.desk turned.still
 
 handled : {R : Type 0} {G : Ghosts R} (c d : Clerk R G) (q : Request (List ℕ)) (r : Response) → IsHandled c d q r →
     AreAsked c.desk d.desk
-handled c d q r (v, asked, h) = handled_if (is_served c q) c d v r h
+handled c d q r h = handled_if (is_served c q) c d (asked_for q) r h
 
 -- a chain of calls of a clerk
 pub chained : {R : Type 0} {G : Ghosts R} (answers : Clerk R G → Request (List ℕ) → Response → Clerk R G → Type 0) →

@@ -1,12 +1,13 @@
 //! Requests as the desk has them, and its answers as HTTP has them.
 
 ghost use Rattle.std.specs.Prelude.{◌≡◌, [], true, false, IfOk, OnErr, OnOk, string_bytes, unwrap_or};
-ghost use Rattle.http_uri.specs.Uri.{uri_query};
+ghost use Rattle.http.specs.Uri.{uri_query};
 ghost use Rattle.http_server.specs.Response.{IsBlank};
 ghost use Rattle.node_requests.specs.Answers.{answer_value};
 ghost use Rattle.node_requests.specs.Routing.{routed_value};
-ghost use Rattle.node_control.specs.inner.Handling.{Says, IsAnswered, IsTurnedAway, IsPassedOn, IsAskedFor, HandledAs};
-ghost use Rattle.node_control.specs.inner.Handling.{IsHandled, is_of_figures, is_served, is_urgent, is_change, is_read};
+ghost use Rattle.node_control.specs.inner.Asking.{accepts_json, asked_for, is_of_figures};
+ghost use Rattle.node_control.specs.inner.Handling.{Says, IsAnswered, IsTurnedAway, IsPassedOn, HandledAs, IsHandled};
+ghost use Rattle.node_control.specs.inner.Handling.{is_served, is_urgent, is_change, is_read};
 ghost use Rattle.node_control.specs.inner.Handling.{waiting, no_text, not_found};
 
 use bytes::{BufMut, Bytes};
@@ -49,8 +50,10 @@ fn content_type(request: &Request) -> &'static str {
     }
 }
 
-/// Whether the field `Accept` names JSON.
-fn accepts_json(request: &http::Request<Bytes>) -> bool {
+/// Whether the field `Accept` names JSON, and nothing else.
+fn accepts_json(request: &http::Request<Bytes>) -> bool
+    ensures { result ≡ accepts_json request.now }
+{
     match request.headers().get("accept") {
         Some(value) => value.as_bytes() == b"application/json".as_slice(),
         None => false,
@@ -130,7 +133,7 @@ fn query_of(uri: &Uri) -> &str
 
 /// What a request asks for.
 fn asked_for(alloc: Global, request: &http::Request<Bytes>) -> Result<Routed<'_>, AllocError>
-    ensures { IfOk result (λ v. IsAskedFor request.now (routed_value v)) }
+    ensures { IfOk result (λ v. routed_value v ≡ asked_for request.now) }
 {
     let uri = request.uri();
     let method = request.method().as_str();

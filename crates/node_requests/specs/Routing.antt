@@ -77,12 +77,14 @@ text_in name given = unwrap_or (value_of name given) []
 abbrev pub lists : List (Text × Text) → (words : List Text) → RoutedValue
 lists given words = reads given (Listing (at_path (text_in (codes "a") given) words))
 
+-- the rules, and the names of the tables there
 abbrev pub rules_asked : List (Text × Text) → RoutedValue
 rules_asked given = lists given (codes "-s" ∷ codes "rules" ∷ [])
 
 abbrev pub tables_asked : List (Text × Text) → RoutedValue
 tables_asked given = lists given (codes "-s" ∷ codes "Tables" ∷ [])
 
+-- a table's entries
 abbrev pub table_asked : List (Text × Text) → RoutedValue
 table_asked given = lists given (codes "-t" ∷ text_in (codes "t") given ∷ codes "-T" ∷ codes "show" ∷ [])
 
@@ -105,6 +107,7 @@ test_of given (Some packets) =
 abbrev pub test_asked : List (Text × Text) → (body : List ℕ) → RoutedValue
 test_asked given body = test_of given (lines_in body)
 
+-- the log, and the entries, from a position on
 abbrev pub log_asked : List (Text × Text) → RoutedValue
 log_asked given = reads given (Log (position_of (codes "from") given))
 
@@ -113,7 +116,7 @@ entries_asked given = reads given (Entries (position_of (codes "from") given) (p
 
 -- ---- paths
 
--- what a path asks for, of its parameters and the body
+-- what a path asks for, of its parameters and the body; of the paths of requests see below
 abbrev pub asked_at : Target → List (Text × Text) → (body : List ℕ) → (json : Bool) → RoutedValue
 asked_at to.Changes given body json = change_in body
 asked_at to.Rules given body json = rules_asked given

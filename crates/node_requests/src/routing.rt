@@ -291,7 +291,7 @@ fn behind(path: &str) -> Option<&str>
 /// names `application/json`.
 ///
 /// The path has no escapes; those of the query are read, and `+` stands for a blank there. A line of the body ends with
-/// a newline, which the last one may lack.
+/// a newline, which the last one may lack; in bodies of addresses or packets a carriage return may stand before it.
 pub fn request_in<'a>(
     alloc: Global,
     method: &str,

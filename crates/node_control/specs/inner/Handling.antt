@@ -1,9 +1,7 @@
 -- What becomes of a request that came as HTTP.
-use Rattle.std.specs.Prelude.{◌≡◌, ◌⊎◌, ◌&&◌, ◌||◌, ℕ, Bool, true, false, not, List, [], ◌∷◌, ◌++◌, codes, bytes_eq}
-use Rattle.std.specs.Prelude.{unwrap_or, if◌then◌else◌}
+use Rattle.std.specs.Prelude.{◌≡◌, ◌⊎◌, ◌&&◌, ◌||◌, ℕ, Bool, true, false, not, List, [], ◌∷◌, ◌++◌, codes}
+use Rattle.std.specs.Prelude.{if◌then◌else◌}
 use Rattle.http.specs.declared.request.Request as http
-use Rattle.http.specs.Request.{head_of, body_of}
-use Rattle.http_uri.specs.Uri.{uri_path, uri_query}
 use Rattle.http_server.specs.Exchange.{Call, Chain}
 use Rattle.http_server.specs.declared.response.Response.{Response}
 use Rattle.px_records.specs.declared.records.Records.{Ghosts}
@@ -15,8 +13,9 @@ use Rattle.node_requests.specs.declared.request.Request.TheVariants as request
 use Rattle.node_requests.specs.declared.tally.Tally.{Tally}
 use Rattle.node_requests.specs.Answers.{AnswerValue, refused}
 use Rattle.node_requests.specs.Requests.{Answers}
-use Rattle.node_requests.specs.Routing.{RoutedValue, Asked, Refused, Unread, routed, request_value}
+use Rattle.node_requests.specs.Routing.{RoutedValue, Asked, Refused, Unread, request_value}
 use Rattle.node_control.specs.declared.clerk.Clerk.{Clerk}
+use Rattle.node_control.specs.inner.Asking.{path_of, asked_for, is_of_figures}
 
 -- a response says an answer, its status and its body; or it is 503 without one, where memory is wanting for that
 abbrev pub Says : Response → AnswerValue → Type 0
@@ -92,23 +91,6 @@ IsPassedOn c d request r = PassedOnIf (is_asked c request) c d request r
 
 -- ---- requests as HTTP has them
 
--- whether the path is one of figures
-abbrev pub is_of_figures : (path : List ℕ) → Bool
-is_of_figures path =
-    bytes_eq path (codes "/metrics") || (bytes_eq path (codes "/healthz") || bytes_eq path (codes "/readyz"))
-
--- the path of a request, without its query
-abbrev pub path_of : http.Request (List ℕ) → List ℕ
-path_of q = uri_path (head_of q).uri
-
--- what a request asks for; json says that the answer may be JSON
-abbrev pub asked_for : (json : Bool) → http.Request (List ℕ) → RoutedValue
-asked_for json q =
-    routed (head_of q).method (path_of q) (unwrap_or (uri_query (head_of q).uri) []) (body_of q) json
-
-abbrev pub IsAskedFor : http.Request (List ℕ) → RoutedValue → Type 0
-IsAskedFor q v = (json : Bool) × (v ≡ asked_for json q)
-
 -- the request that is asked for is handled, and no other; what isn't served, or isn't understood, is answered by its
 -- status or the line of its refusal, and nothing changes
 abbrev pub HandledAs : {R : Type 0} {G : Ghosts R} → (c d : Clerk R G) → RoutedValue → Response → Type 0
@@ -127,7 +109,7 @@ is_served c q = not c.is_scraped || is_of_figures (path_of q)
 
 -- what a request asks for is handled, and nothing else
 abbrev pub IsHandled : {R : Type 0} {G : Ghosts R} → (c d : Clerk R G) → http.Request (List ℕ) → Response → Type 0
-IsHandled c d q r = (v : RoutedValue) × IsAskedFor q v × HandledIf (is_served c q) c d v r
+IsHandled c d q r = HandledIf (is_served c q) c d (asked_for q) r
 
 -- a service handled requests, one after another
 abbrev pub Handles : {S : Type 0} → (S → http.Request (List ℕ) → Response → S → Type 0) → (old new : S) → Type 0
