@@ -9,15 +9,15 @@ ghost use Rattle.node_requests.specs.Bounded.{most_met};
 ghost use Rattle.node_requests.specs.Routing.{routed, Asked, Changes, Stops};
 ghost use Rattle.node_requests.specs.Posting.{PostsChange, PostsStop, refused_with, is_of_clients};
 
-/// The hits of a packet, by which its verdict is reported, are no more than the rules that a verdict may meet, of which the
-/// verdicts that one request asks for meet at most [`crate::MET_MAX`].
+/// The hits of a packet, by which its verdict is reported, are no more than the rules that a verdict may meet, of which
+/// the verdicts that one request asks for meet at most [`crate::MET_MAX`].
 #[tactic(auto, using(crate::proofs::HitsCounted::hits_met))]
 pub fn hits_are_met()
     ensures { (c : Configuration) (k : PacketValue) → length (hits 9 c k []) ≤ most_met 9 c [] }
 {}
 
-/// A change is asked for by `POST /v1/changes` without parameters, and by nothing else: its words are those of the body's
-/// first line, and its text is what follows that line.
+/// A change is asked for by `POST /v1/changes` without parameters, and by nothing else: its words are those of the
+/// body's first line, and its text is what follows that line.
 pub fn changes_are_posted()
     ensures { (method path query body : List ℕ) (json : Bool) (words : List Text) (text : List ℕ) →
         routed method path query body json ≡ Asked (Changes words text)

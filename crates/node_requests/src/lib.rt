@@ -10,8 +10,8 @@
 //!   [`push_positions`]: those of some positions. [`push_outcome`]: what came of a command, a line as a script prints
 //!   it.
 //! - [`laws`]: which requests change something, and with what others are refused; what a verdict meets is bounded.
-//! - `specs/Routing` says what HTTP's requests ask for, `specs/Answers` what is answered, `specs/Changing` what a change
-//!   does, `specs/Positions` the lines of a log.
+//! - `specs/Routing` says what HTTP's requests ask for, `specs/Answers` what is answered, `specs/Changing` what a
+//!   change does, `specs/Positions` the lines of a log.
 //!
 //! # Why
 //!
