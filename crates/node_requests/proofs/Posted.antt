@@ -1,5 +1,5 @@
 -- Which requests change something: what a method, a path, a query and a body ask for, by cases.
-use Rattle.std.proofs.Common.{◌≡◌, ◌≢◌, ◌∙◌, ℕ, ◌+◌, ◌==◌, Bool, true, false, cond, List, [], ◌∷◌, refl, sym, ap, subst, Option, Some, None}
+use Rattle.std.proofs.Common.{◌≡◌, ◌≢◌, ◌∙◌, ℕ, ◌==◌, Bool, true, false, List, [], ◌∷◌, refl, sym, ap, subst, Option, Some, None}
 use Rattle.std.proofs.Common.{◌⊎◌, ◌&&◌, ◌||◌, inl, inr, option_map}
 use Rattle.std.specs.Prelude.{codes, length, nat_lt, nat_le, if◌then◌else◌, ◌↔◌}
 use Rattle.std.specs.Str.{bytes_eq}
@@ -14,7 +14,7 @@ use Rattle.node_requests.specs.declared.target.Target.TheVariants as to
 use Rattle.node_requests.specs.Queries.{parameters, are_parameters}
 use Rattle.node_requests.specs.Targets.{plain_target, method_of}
 use Rattle.node_requests.specs.declared.routing.TheConstants.{PACKETS_MAX}
-use Rattle.node_requests.specs.Routing.{RoutedValue, Asked, Refused, Unread, RequestValue, Changes, Reads, Stops, is_newline}
+use Rattle.node_requests.specs.Routing.{RoutedValue, Asked, Refused, Unread, Changes, Reads, Stops, is_newline}
 use Rattle.node_requests.specs.Routing.{change_of, change_in, table_test_of, test_of, target_asked, asked_by, request_number}
 use Rattle.node_requests.specs.Routing.{reads, Verdicts, Standing, asked_at, standing_of, behind, routed_behind, routed, lines_in}
 use Rattle.node_requests.specs.Answers.{status_of}

@@ -1,12 +1,11 @@
 -- The query behind a path: its parameters, and the numbers in them.
 use Rattle.std.specs.Prelude.{ℕ, ◌^◌, ◌&&◌, ◌||◌, Bool, true, false, not, List, [], ◌∷◌, map, length}
-use Rattle.std.specs.Prelude.{Option, Some, None, is_some, nat_lt, nat_le, codes, bytes_eq, string_bytes, if◌then◌else◌}
+use Rattle.std.specs.Prelude.{Option, Some, None, is_some, nat_lt, nat_le, codes, bytes_eq, if◌then◌else◌}
 use Rattle.std.specs.Str.{all_ascii_digits}
 use Rattle.std.specs.Str.Parse.{digits_value}
 use Rattle.std.specs.Str.Lossy.{utf8_lossy}
 use Rattle.form_urlencoded.specs.Form.{raw_pairs, decode}
 use Rattle.px_model.specs.Step.{positions}
-use Rattle.node_requests.specs.declared.query.Parameter.{Parameter}
 use Rattle.node_requests.specs.declared.target.Target.{Target}
 use Rattle.node_requests.specs.Targets.{takes}
 
@@ -76,11 +75,3 @@ abbrev pub are_parameters : Target → List (List ℕ × List ℕ) → Bool
 are_parameters target [] = true
 are_parameters target (p ∷ ps) =
     takes target p.0 && (is_value p.0 p.1 && (not (has_name p.0 ps) && are_parameters target ps))
-
--- ---- the code's values
-
-abbrev pub pair_of : Parameter → List ℕ × List ℕ
-pair_of p = (string_bytes p.name, string_bytes p.value)
-
-abbrev pub pairs_of : List Parameter → List (List ℕ × List ℕ)
-pairs_of ps = map pair_of ps

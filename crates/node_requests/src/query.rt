@@ -4,8 +4,8 @@ ghost use Rattle.std.specs.Prelude.{◌≡◌, IfOk, option_copied};
 ghost use Rattle.std.specs.Char.{is_ascii_digit};
 ghost use Rattle.std.specs.List.{list_all};
 ghost use Rattle.node_requests.specs.Queries.{is_number, number_in, position_in, parameters, value_of, position_of};
-ghost use Rattle.node_requests.specs.Queries.{is_value};
-ghost use Rattle.node_requests.specs.Queries.{has_name, are_parameters, pairs_of};
+ghost use Rattle.node_requests.specs.Queries.{is_value, has_name, are_parameters};
+ghost use Rattle.node_requests.specs.inner.Parameters.{pairs_of};
 
 use crate::target::Target;
 use form_urlencoded::parse;

@@ -1,18 +1,15 @@
 //! From HTTP to requests.
 
-ghost use Rattle.std.specs.Prelude.{◌≡◌, IfOk, map, option_map, option_copied, string_bytes, if◌then◌else◌, Some};
-ghost use Rattle.std.specs.Prelude.{None};
+ghost use Rattle.std.specs.Prelude.{◌≡◌, IfOk, map, option_map, option_copied, string_bytes, if◌then◌else◌};
+ghost use Rattle.std.specs.Prelude.{Some, None};
+ghost use Rattle.std.specs.List.{before_first, after_first};
 ghost use Rattle.std.specs.Str.{is_utf8};
 ghost use Rattle.std.specs.Str.Lines.{lines};
-ghost use Rattle.std.specs.List.{before_first, after_first};
-ghost use Rattle.node_requests.specs.Queries.{pairs_of};
-ghost use Rattle.node_requests.specs.Routing.{is_newline, change_in, lines_in, text_in, reads, rules_asked};
-ghost use Rattle.node_requests.specs.Routing.{tables_asked};
-ghost use Rattle.node_requests.specs.Routing.{table_asked, table_test_asked, test_asked, log_asked, entries_asked};
-ghost use Rattle.node_requests.specs.Routing.{asked_at};
-ghost use Rattle.node_requests.specs.Routing.{target_asked, plain_asked, request_number, standing_asked, behind};
-ghost use Rattle.node_requests.specs.Routing.{routed};
-ghost use Rattle.node_requests.specs.Routing.{read_value, routed_value};
+ghost use Rattle.node_requests.specs.inner.Parameters.{pairs_of};
+ghost use Rattle.node_requests.specs.Routing.{is_newline, change_in, lines_in, text_in, reads, routed_value};
+ghost use Rattle.node_requests.specs.Routing.{rules_asked, tables_asked, table_asked, table_test_asked, test_asked};
+ghost use Rattle.node_requests.specs.Routing.{log_asked, entries_asked, asked_at, target_asked, plain_asked};
+ghost use Rattle.node_requests.specs.Routing.{request_number, standing_asked, behind, routed, read_value};
 
 use crate::query::{Parameter, are_parameters, number_in, parameters, position_of, value_of};
 use crate::request::{Listing, Read, Request, Routed};

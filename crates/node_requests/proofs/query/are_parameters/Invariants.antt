@@ -1,5 +1,6 @@
 use Rattle.std.proofs.Common.{◌≡◌, length}
-use Rattle.node_requests.specs.Queries.{are_parameters, pairs_of}
+use Rattle.node_requests.specs.Queries.{are_parameters}
+use Rattle.node_requests.specs.inner.Parameters.{pairs_of}
 use Rattle.node_requests.proofs.query.are_parameters.Given as goal
 
 abbrev pub invariant-loop-left : goal.invariant-loop-left

@@ -1,5 +1,6 @@
 use Rattle.std.proofs.Common.{◌≡◌, length}
-use Rattle.node_requests.specs.Queries.{has_name, pairs_of}
+use Rattle.node_requests.specs.Queries.{has_name}
+use Rattle.node_requests.specs.inner.Parameters.{pairs_of}
 use Rattle.node_requests.proofs.query.has_name.Given as goal
 
 abbrev pub invariant-loop-left : goal.invariant-loop-left

@@ -1,6 +1,7 @@
 use Rattle.std.proofs.Common.{◌≡◌, ◌++◌, map}
 use Rattle.form_urlencoded.specs.Parse.{owned_pairs_left}
-use Rattle.node_requests.specs.Queries.{parameters, pairs_of, texts_of}
+use Rattle.node_requests.specs.Queries.{parameters, texts_of}
+use Rattle.node_requests.specs.inner.Parameters.{pairs_of}
 use Rattle.node_requests.proofs.query.parameters.Given as goal
 
 -- the parameters so far, and those that are left

@@ -1,5 +1,6 @@
 use Rattle.std.proofs.Common.{◌≡◌, length}
-use Rattle.node_requests.specs.Queries.{value_of, pairs_of}
+use Rattle.node_requests.specs.Queries.{value_of}
+use Rattle.node_requests.specs.inner.Parameters.{pairs_of}
 use Rattle.node_requests.proofs.query.value_of.Given as goal
 
 abbrev pub invariant-loop-left : goal.invariant-loop-left
