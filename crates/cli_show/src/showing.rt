@@ -66,8 +66,9 @@ pub fn show_node<R: Records>(
 /// What is shown of the record that is there, as of a node that opens it: of the configuration after the first
 /// learned entries, up to the first gap. The record is given back as it was.
 ///
-/// `Store` and `BadStore` are as for [`Node::open`], `Memory` where memory runs out.
-#[tactic(auto, using(crate::proofs::Opened::shows_record))]
+/// `Store` and `BadStore` are as for [`Node::open`], `Memory` where memory runs out; but for `Store` the record is then
+/// as it was.
+#[tactic(auto, using(crate::proofs::Opened::shows_record, crate::proofs::Opened::not_shown))]
 pub fn show_record<R: Records>(
     alloc: Global,
     m: Membership,
