@@ -12,10 +12,10 @@ use Rattle.node_control.specs.inner.Handling.{IsHandled, IsTurnedAway, HandledAs
 use Rattle.node_control.specs.inner.Handling.{is_served, IsPassedOn, not_found}
 
 -- a request that was understood is handled as what it asks for
-pub passed_over : {R T E : Type 0} {G : Ghosts R} (o : Result T E) (c d : Clerk R G) (request : Request) (r : Response) →
-    OnOk o (IsPassedOn c d request r) → OnOk o (HandledAs c d (Asked (request_value request)) r)
-passed_over (Err e) c d request r h = h
-passed_over (Ok t) c d request r h = (request, refl, h)
+pub passed_over : {R T E : Type 0} {G : Ghosts R} (o : Result T E) (c d : Clerk R G) (request : Request) (r : Response)
+    (v : RoutedValue) → v ≡ Asked (request_value request) → OnOk o (IsPassedOn c d request r) → OnOk o (HandledAs c d v r)
+passed_over (Err e) c d request r v is h = h
+passed_over (Ok t) c d request r v is h = subst (λ x. HandledAs c d x r) (sym is) (request, refl, h)
 
 -- what isn't served isn't found
 pub unserved : {R : Type 0} {G : Ghosts R} (c d : Clerk R G) (q : http.Request (List ℕ)) (r : Response) →
