@@ -1,14 +1,15 @@
 -- What a node shows that was opened is shown of its record.
-use Rattle.std.proofs.Common.{◌≡◌, ℕ, Some, sym, ap, subst, ◌∙◌}
+use Rattle.std.proofs.Common.{◌≡◌, ℕ, Some, inl, refl, sym, ap, subst, ◌∙◌}
 use Rattle.px_model.specs.Node.{Log}
 use Rattle.px_model.specs.Step.{front}
 use Rattle.px_model.specs.World.{NodeState, started}
 use Rattle.px_model.specs.Spelling.{Bytes}
 use Rattle.px_records.specs.declared.records.Records.{Ghosts}
+use Rattle.px_replica.specs.declared.fault.NodeFault.TheVariants as fault
 use Rattle.pf_node.specs.Applied.{after}
 use Rattle.pf_node.specs.Nodes.{records_of, learned_by, state_in, applied_of, kept_of, config_of}
 use Rattle.pf_node.specs.declared.state.Node.{Node}
-use Rattle.cli_show.specs.Showing.{Shows, ShowsRecord}
+use Rattle.cli_show.specs.Showing.{Shows, ShowsRecord, IsRefused}
 use Rattle.cli_show.specs.declared.shown.Shown.{Shown}
 use Rattle.cli_show.specs.declared.shown.Wanted.{Wanted}
 
@@ -40,3 +41,16 @@ shows_record {R} {G} given back n w s was stands learned applied configured is s
         shows = subst (λ (k : ℕ). Shows (G.stored given).learned k (kept_of n) (config_of n) w s) end whole;
       };
     }
+
+-- where memory runs out it is given back as it was too
+pub not_shown : {R : Type 0} {G : Ghosts R} (members : ℕ) (given back : R) (n : Node R G) →
+    (G.is_honest (records_of n) → G.is_honest given) →
+    (G.is_honest (records_of n) → state_in n ≡ started (G.stored given)) →
+    back ≡ records_of n →
+    IsRefused G members given fault.Memory back
+not_shown {R} {G} members given back n was stands is =
+    inl (record {
+      memory = refl;
+      was = λ honest. was (subst G.is_honest is honest);
+      same = λ honest. ap G.stored is ∙ ap (λ (x : NodeState Bytes). x.stored) (stands (subst G.is_honest is honest));
+    })

@@ -1,9 +1,12 @@
 -- What is shown of a record.
-use Rattle.std.specs.Prelude.{◌≡◌, ℕ, false, [], map, Some, option_map}
+use Rattle.std.specs.Prelude.{◌≡◌, ◌⊎◌, ℕ, false, [], map, Some, option_map}
 use Rattle.px_model.specs.Node.{Log}
 use Rattle.px_model.specs.Step.{front}
 use Rattle.px_model.specs.Spelling.{Bytes}
 use Rattle.px_records.specs.declared.records.Records.{Ghosts}
+use Rattle.px_replica.specs.Calls.{OpenRefused}
+use Rattle.px_replica.specs.declared.fault.NodeFault.{NodeFault}
+use Rattle.px_replica.specs.declared.fault.NodeFault.TheVariants as fault
 use Rattle.pf_config.specs.Map.{Configuration}
 use Rattle.pf_node.specs.Applied.{after}
 use Rattle.cli_nft.specs.Outputs.{config_output}
@@ -37,3 +40,14 @@ pub record ShowsRecord {R : Type 0} (G : Ghosts R) (given back : R) (w : Wanted)
   pub was : G.is_honest given
   pub same : G.stored back ≡ G.stored given
   pub shows : ShowsLog (G.stored given).learned w s
+
+-- memory ran out, over a record that is given back as it was
+pub record MemoryRanOut {R : Type 0} (G : Ghosts R) (given : R) (e : NodeFault) (back : R) : Type 0 where
+  pub memory : e ≡ fault.Memory
+  pub was : G.is_honest back → G.is_honest given
+  pub same : G.is_honest back → G.stored back ≡ G.stored given
+
+-- Nothing is shown: memory ran out, or the record doesn't open, as that of a node.
+-- Example: 72 comes of a bad row and of nothing else.
+abbrev pub IsRefused : {R : Type 0} → (G : Ghosts R) → (members : ℕ) → (given : R) → NodeFault → (back : R) → Type 0
+IsRefused G members given e back = MemoryRanOut G given e back ⊎ OpenRefused G members given e back

@@ -1,11 +1,11 @@
 //! What is shown of a record.
 
-ghost use Rattle.std.specs.Prelude.{◌≡◌, ◌<◌, [], false, IfOk, option_map};
+ghost use Rattle.std.specs.Prelude.{◌≡◌, ◌<◌, [], false, IfOk, IfErr, option_map};
 ghost use Rattle.px_model.specs.Step.{front};
 ghost use Rattle.pf_node.specs.Nodes.{learned_by, applied_of, kept_of, config_of};
 ghost use Rattle.cli_nft.specs.Outputs.{config_output};
 ghost use Rattle.cli_show.specs.Writing.{of_kernel, shown_value};
-ghost use Rattle.cli_show.specs.Showing.{Shows, ShowsRecord};
+ghost use Rattle.cli_show.specs.Showing.{Shows, ShowsRecord, IsRefused};
 
 use crate::figures::show_figures;
 use crate::logged::show_log;
@@ -66,8 +66,9 @@ pub fn show_node<R: Records>(
 /// What is shown of the record that is there, as of a node that opens it: of the configuration after the first
 /// learned entries, up to the first gap. The record is given back as it was.
 ///
-/// `Store` and `BadStore` are as for [`Node::open`], `Memory` where memory runs out.
-#[tactic(auto, using(crate::proofs::Opened::shows_record))]
+/// `Store` and `BadStore` are as for [`Node::open`], `Memory` where memory runs out; but for `Store` the record is then
+/// as it was.
+#[tactic(auto, using(crate::proofs::Opened::shows_record, crate::proofs::Opened::not_shown))]
 pub fn show_record<R: Records>(
     alloc: Global,
     m: Membership,
@@ -76,16 +77,17 @@ pub fn show_record<R: Records>(
 ) -> (Result<Shown, NodeFault>, R)
     requires members { R.members records ≡ m.members }
     requires here { m.me < m.members }
-    ensures { R.is_honest result.1 → IfOk result.0 (λ s. ShowsRecord R.Records records result.1 wanted.entry s) }
+    ensures shows { R.is_honest result.1 → IfOk result.0
+        (λ s. ShowsRecord R.Records records result.1 wanted.entry s) }
+    ensures refused { IfErr result.0 (λ e. IsRefused R.Records m.members records e result.1) }
 {
     let node = match Node::open(alloc, m, records) {
         Ok(node) => node,
         Err((fault, records)) => return (Err(fault), records),
     };
     let _applied = node.applied();
-    let shown = match show_node(alloc, &node, wanted) {
-        Ok(shown) => Ok(shown),
-        Err(AllocError) => Err(NodeFault::Memory),
-    };
-    (shown, node.close())
+    match show_node(alloc, &node, wanted) {
+        Ok(shown) => (Ok(shown), node.close()),
+        Err(AllocError) => (Err(NodeFault::Memory), node.close()),
+    }
 }

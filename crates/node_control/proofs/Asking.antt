@@ -1,12 +1,14 @@
 -- Requests at a desk, one after another.
-use Rattle.std.proofs.Common.{◌≡◌, ℕ, zero, suc, Bool, true, false, List, [], ◌∷◌, refl, sym, ap, subst, inl, inr}
+use Rattle.std.proofs.Common.{◌≡◌, ℕ, zero, suc, Bool, true, false, List, [], ◌∷◌, refl, sym, ap, subst}
 use Rattle.http.specs.declared.request.Request.{Request}
 use Rattle.http_server.specs.Exchange.{Call, Chain}
 use Rattle.http_server.specs.declared.response.Response.{Response}
 use Rattle.px_records.specs.declared.records.Records.{Ghosts}
 use Rattle.node_requests.specs.declared.desk.Desk.{Desk}
 use Rattle.node_requests.specs.declared.request.Request as asked
-use Rattle.node_control.specs.inner.Handling.{IsHandled, PassedOnIf, is_asked}
+use Rattle.node_requests.specs.Routing.{RoutedValue, Asked, Refused, Unread}
+use Rattle.node_control.specs.inner.Asking.{asked_for}
+use Rattle.node_control.specs.inner.Handling.{IsHandled, HandledAs, HandledIf, PassedOnIf, is_asked, is_served}
 use Rattle.node_control.specs.inner.Runs.{Asks, AreAsked}
 use Rattle.node_control.specs.declared.clerk.Clerk.{Clerk}
 
@@ -39,16 +41,27 @@ passed_on true c d request r answered = (
 )
 passed_on false c d request r turned = asked_none c.desk d.desk turned.still
 
--- and of one
-handled : {R : Type 0} {G : Ghosts R} (c d : Clerk R G) (r : Response) → IsHandled c d r → AreAsked c.desk d.desk
-handled c d r (inl (request, passed)) = passed_on (is_asked c request) c d request r passed
-handled c d r (inr misread) = asked_none c.desk d.desk misread.still
+-- what is handled as this, and what is handled if it is served
+handled_as : {R : Type 0} {G : Ghosts R} (c d : Clerk R G) (v : RoutedValue) (r : Response) → HandledAs c d v r →
+    AreAsked c.desk d.desk
+handled_as c d (Asked v) r (request, same, passed) = passed_on (is_asked c request) c d request r passed
+handled_as c d (Refused status) r turned = asked_none c.desk d.desk turned.still
+handled_as c d (Unread code) r turned = asked_none c.desk d.desk turned.still
+
+handled_if : {R : Type 0} {G : Ghosts R} (served : Bool) (c d : Clerk R G) (v : RoutedValue) (r : Response) →
+    HandledIf served c d v r → AreAsked c.desk d.desk
+handled_if true c d v r h = handled_as c d v r h
+handled_if false c d v r turned = asked_none c.desk d.desk turned.still
+
+handled : {R : Type 0} {G : Ghosts R} (c d : Clerk R G) (q : Request (List ℕ)) (r : Response) → IsHandled c d q r →
+    AreAsked c.desk d.desk
+handled c d q r h = handled_if (is_served c q) c d (asked_for q) r h
 
 -- a chain of calls of a clerk
 pub chained : {R : Type 0} {G : Ghosts R} (answers : Clerk R G → Request (List ℕ) → Response → Clerk R G → Type 0) →
-    ((c d : Clerk R G) (q : Request (List ℕ)) (r : Response) → answers c q r d → IsHandled c d r) →
+    ((c d : Clerk R G) (q : Request (List ℕ)) (r : Response) → answers c q r d → IsHandled c d q r) →
     (c d : Clerk R G) (calls : List Call) → Chain answers c calls d → AreAsked c.desk d.desk
 chained {R} {G} answers are c d [] e = asked_none c.desk d.desk (ap (λ (k : Clerk R G). k.desk) e)
 chained answers are c d (k ∷ calls) (next, one, rest) =
-    asked_then c.desk next.desk d.desk (handled c next k.1 (are c next k.0 k.1 one))
+    asked_then c.desk next.desk d.desk (handled c next k.0 k.1 (are c next k.0 k.1 one))
     (chained answers are next d calls rest)

@@ -1,3 +1,4 @@
 pub mod Asking
 mod Asked
 mod Rounds
+mod Routing

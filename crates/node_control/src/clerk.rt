@@ -1,15 +1,19 @@
 //! Requests as the desk has them, and its answers as HTTP has them.
 
-ghost use Rattle.std.specs.Prelude.{◌≡◌, [], true, false, IfOk, OnErr, OnOk, string_bytes};
+ghost use Rattle.std.specs.Prelude.{◌≡◌, [], true, false, IfOk, OnErr, OnOk, string_bytes, unwrap_or};
+ghost use Rattle.http.specs.Uri.{uri_query};
 ghost use Rattle.http_server.specs.Response.{IsBlank};
 ghost use Rattle.node_requests.specs.Answers.{answer_value};
-ghost use Rattle.node_control.specs.inner.Handling.{Says, IsAnswered, IsTurnedAway, IsMisread, IsPassedOn, IsHandled};
-ghost use Rattle.node_control.specs.inner.Handling.{is_urgent, is_change, is_read, waiting, not_found};
+ghost use Rattle.node_requests.specs.Routing.{routed_value};
+ghost use Rattle.node_control.specs.inner.Asking.{accepts_json, asked_for, is_of_figures};
+ghost use Rattle.node_control.specs.inner.Handling.{Says, IsAnswered, IsTurnedAway, IsPassedOn, HandledAs, IsHandled};
+ghost use Rattle.node_control.specs.inner.Handling.{is_served, is_urgent, is_change, is_read};
+ghost use Rattle.node_control.specs.inner.Handling.{waiting, no_text, not_found};
 
 use bytes::{BufMut, Bytes};
-use http::{HeaderName, HeaderValue, StatusCode};
+use http::{HeaderName, HeaderValue, StatusCode, Uri};
 use http_server::{Response, Service};
-use node_requests::{Answer, Desk, Read, Request, Routed, Tally, request_in, status_of};
+use node_requests::{Answer, Desk, Read, Request, Routed, Tally, request_in};
 use pf_node::Node;
 use px_records::Records;
 use std::alloc::{AllocError, Global};
@@ -46,8 +50,10 @@ fn content_type(request: &Request) -> &'static str {
     }
 }
 
-/// Whether the field `Accept` names JSON.
-fn accepts_json(request: &http::Request<Bytes>) -> bool {
+/// Whether the field `Accept` names JSON, and nothing else.
+fn accepts_json(request: &http::Request<Bytes>) -> bool
+    ensures { result ≡ accepts_json request.now }
+{
     match request.headers().get("accept") {
         Some(value) => value.as_bytes() == b"application/json".as_slice(),
         None => false,
@@ -55,7 +61,9 @@ fn accepts_json(request: &http::Request<Bytes>) -> bool {
 }
 
 /// Whether the path is one of figures.
-fn is_of_figures(path: &str) -> bool {
+fn is_of_figures(path: &str) -> bool
+    ensures { result ≡ is_of_figures path.now }
+{
     matches!(path, "/metrics" | "/healthz" | "/readyz")
 }
 
@@ -113,9 +121,25 @@ fn add_number(
     add_text(alloc, response, name, text.as_str())
 }
 
-/// The line of a refusal.
-fn refused(alloc: Global, code: u8) -> Result<String, AllocError> {
-    format!(in alloc; "refused {code}\n")
+/// What is behind the `?` of a target, empty where there is none.
+fn query_of(uri: &Uri) -> &str
+    ensures { result.now ≡ unwrap_or (uri_query uri.now) [] }
+{
+    match uri.query() {
+        Some(query) => query,
+        None => "",
+    }
+}
+
+/// What a request asks for.
+fn asked_for(alloc: Global, request: &http::Request<Bytes>) -> Result<Routed<'_>, AllocError>
+    ensures { IfOk result (λ v. routed_value v ≡ asked_for request.now) }
+{
+    let uri = request.uri();
+    let method = request.method().as_str();
+    let body: &[u8] = request.body();
+    let json = accepts_json(request);
+    request_in(alloc, method, uri.path(), query_of(uri), body, json)
 }
 
 impl<R: Records> Clerk<R> {
@@ -243,15 +267,15 @@ impl<R: Records> Clerk<R> {
         self.count(response.status.as_u16());
     }
 
-    /// Asks nothing, since what came isn't understood: that is answered with HTTP's status, 400 to 499.
-    fn misread(&mut self, code: u16, body: String, response: &mut Response)
+    /// Asks nothing: this status is all that is answered.
+    fn refuse(&mut self, status: u16, response: &mut Response)
         requires { IsBlank response.old }
-        ensures misread { IsMisread self.old.desk self.new.desk response.new }
+        ensures away { IsTurnedAway self.old.desk self.new.desk (no_text status) response.new }
         ensures scraped { self.new.is_scraped ≡ self.old.is_scraped }
     {
         let answer = Answer {
-            code: code.max(400).min(499),
-            body,
+            code: status,
+            body: String::new(self.alloc),
         };
         self.turn_away(&answer, response);
     }
@@ -262,11 +286,7 @@ impl<R: Records> Clerk<R> {
         ensures away { IsTurnedAway self.old.desk self.new.desk not_found response.new }
         ensures scraped { self.new.is_scraped ≡ self.old.is_scraped }
     {
-        let answer = Answer {
-            code: 404,
-            body: String::new(self.alloc),
-        };
-        self.turn_away(&answer, response);
+        self.refuse(404, response);
     }
 
     /// Asks nothing now: the client is to ask again.
@@ -326,6 +346,35 @@ impl<R: Records> Clerk<R> {
         self.ask(request, response)
     }
 
+    /// Handles what a request asks for.
+    fn handle_as(&mut self, routed: &Routed, response: &mut Response) -> Result<(), AllocError>
+        requires { IsBlank response.old }
+        ensures handled { OnOk result (HandledAs self.old self.new (routed_value routed.now) response.new) }
+        ensures still { self.old.is_scraped ≡ true → self.new.desk ≡ self.old.desk }
+        ensures memory { OnErr result (self.new ≡ self.old) }
+        ensures scraped { self.new.is_scraped ≡ self.old.is_scraped }
+    {
+        match routed {
+            Routed::Asked(request) => self.pass_on(request, response),
+            Routed::Refused(status) => {
+                self.refuse(*status, response);
+                Ok(())
+            }
+            Routed::Unread(code) => {
+                let answer = Answer::refused(self.alloc, *code, 0)?;
+                self.turn_away(&answer, response);
+                Ok(())
+            }
+        }
+    }
+
+    /// Whether what the request is for is served here.
+    fn is_served(&self, request: &http::Request<Bytes>) -> bool
+        ensures { result ≡ is_served self.now request.now }
+    {
+        !self.is_scraped || is_of_figures(request.uri().path())
+    }
+
     /// Handles a request.
     fn handle(
         &mut self,
@@ -333,39 +382,22 @@ impl<R: Records> Clerk<R> {
         response: &mut Response,
     ) -> Result<(), AllocError>
         requires { IsBlank response.old }
-        ensures handled { OnOk result (IsHandled self.old self.new response.new) }
+        ensures handled { OnOk result (IsHandled self.old self.new request.now response.new) }
         ensures still { self.old.is_scraped ≡ true → self.new.desk ≡ self.old.desk }
         ensures memory { OnErr result (self.new ≡ self.old) }
         ensures scraped { self.new.is_scraped ≡ self.old.is_scraped }
     {
-        let uri = request.uri();
-        if self.is_scraped && !is_of_figures(uri.path()) {
-            let body = String::new(self.alloc);
-            self.misread(404, body, response);
+        if !self.is_served(request) {
+            self.not_found(response);
             return Ok(());
         }
-        let body: &[u8] = request.body();
-        let query = uri.query().unwrap_or("");
-        let is_json = accepts_json(request);
-        let method = request.method().as_str();
-        match request_in(self.alloc, method, uri.path(), query, body, is_json)? {
-            Routed::Asked(asked) => self.pass_on(&asked, response),
-            Routed::Refused(code) => {
-                let body = String::new(self.alloc);
-                self.misread(code, body, response);
-                Ok(())
-            }
-            Routed::Unread(code) => {
-                let body = refused(self.alloc, code)?;
-                self.misread(status_of(code), body, response);
-                Ok(())
-            }
-        }
+        let routed = asked_for(self.alloc, request)?;
+        self.handle_as(&routed, response)
     }
 }
 
 impl<R: Records> Service for Clerk<R> {
-    ghost answers = { λ old request response new. IsHandled old new response
+    ghost answers = { λ old request response new. IsHandled old new request response
         × (old.is_scraped ≡ true → new.desk ≡ old.desk) × (new.is_scraped ≡ old.is_scraped) };
 
     fn call(

@@ -4,3 +4,6 @@ pub mod Budget
 pub mod Logged
 pub mod HitsCounted
 pub mod Places
+mod Digits
+mod Behind
+mod Posted

@@ -8,7 +8,11 @@ pub mod EntryLines
 pub mod Health
 pub mod Listings
 pub mod LogLines
+pub mod Posting
+pub mod Queries
 pub mod Requests
+pub mod Routing
 pub mod Standing
 pub mod Status
 pub mod StatusJson
+pub mod Targets

@@ -4,4 +4,4 @@
 pub mod Outcomes
 pub mod Left
 pub mod Metrics
-pub mod Targets
+pub mod Parameters

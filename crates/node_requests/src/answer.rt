@@ -42,7 +42,7 @@ impl Answer {
     }
 
     /// A refusal: its number, and the line of a refused text, 0 where there is none.
-    pub(crate) fn refused(alloc: Global, code: u8, at: u64) -> Result<Answer, AllocError>
+    pub fn refused(alloc: Global, code: u8, at: u64) -> Result<Answer, AllocError>
         ensures { IfOk result (λ a. answer_value a ≡ refused code at) }
     {
         let mut body = String::new(alloc);

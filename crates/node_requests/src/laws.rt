@@ -1,14 +1,37 @@
-//! What holds of what the desk answers.
+//! What holds of requests, and of what the desk answers.
 
-ghost use Rattle.std.specs.Prelude.{◌≤◌, [], length};
+ghost use Rattle.std.specs.Prelude.{◌≡◌, ◌≤◌, ◌↔◌, ℕ, Bool, true, List, [], length, Some};
+ghost use Rattle.clap.specs.Words.{Text};
 ghost use Rattle.pf_config.specs.Map.{Configuration};
 ghost use Rattle.pf_eval.specs.Packets.{PacketValue};
 ghost use Rattle.pf_eval.specs.Verdicts.{hits};
 ghost use Rattle.node_requests.specs.Bounded.{most_met};
+ghost use Rattle.node_requests.specs.Routing.{routed, Asked, Changes, Stops};
+ghost use Rattle.node_requests.specs.Posting.{PostsChange, PostsStop, refused_with, is_of_clients};
 
-/// The hits of a packet, by which its verdict is reported, are no more than the rules that a verdict may meet, of which the
-/// verdicts that one request asks for meet at most [`crate::MET_MAX`].
+/// The hits of a packet, by which its verdict is reported, are no more than the rules that a verdict may meet, of which
+/// the verdicts that one request asks for meet at most [`crate::MET_MAX`].
 #[tactic(auto, using(crate::proofs::HitsCounted::hits_met))]
 pub fn hits_are_met()
     ensures { (c : Configuration) (k : PacketValue) → length (hits 9 c k []) ≤ most_met 9 c [] }
+{}
+
+/// A change is asked for by `POST /v1/changes` without parameters, and by nothing else: its words are those of the
+/// body's first line, and its text is what follows that line.
+pub fn changes_are_posted()
+    ensures { (method path query body : List ℕ) (json : Bool) (words : List Text) (text : List ℕ) →
+        routed method path query body json ≡ Asked (Changes words text)
+        ↔ PostsChange method path query body words text }
+{}
+
+/// The end of a node is asked for by `POST /v1/stop` without parameters, and by nothing else.
+pub fn stops_are_posted()
+    ensures { (method path query body : List ℕ) (json : Bool) →
+        routed method path query body json ≡ Asked Stops ↔ PostsStop method path query }
+{}
+
+/// What is no request is refused as an error of the client: with 400, 404 or 405.
+pub fn refusals_are_of_clients()
+    ensures { (method path query body : List ℕ) (json : Bool) (status : ℕ) →
+        refused_with (routed method path query body json) ≡ Some status → is_of_clients status ≡ true }
 {}

@@ -9,8 +9,9 @@
 //! - [`push_position`]: the line of a position in the log, `POSITION ORIGIN.NUMBER ARGUMENTS OUTCOME`;
 //!   [`push_positions`]: those of some positions. [`push_outcome`]: what came of a command, a line as a script prints
 //!   it.
-//! - [`laws`]: what a verdict meets is bounded.
-//! - `specs/Answers` says what is answered, `specs/Changing` what a change does, `specs/Positions` the lines of a log.
+//! - [`laws`]: which requests change something, and with what others are refused; what a verdict meets is bounded.
+//! - `specs/Routing` says what HTTP's requests ask for, `specs/Answers` what is answered, `specs/Changing` what a
+//!   change does, `specs/Positions` the lines of a log.
 //!
 //! # Why
 //!

@@ -24,7 +24,7 @@ fn at_path<'a>(alloc: Global, path: &'a str, words: &[&'a str]) -> Result<Vec<&'
     Ok(all)
 }
 
-/// The words of a table's test.
+/// The words of a table's test. Behind `--` no address is read as an option.
 fn test_words<'a>(
     alloc: Global,
     path: &'a str,
@@ -32,9 +32,9 @@ fn test_words<'a>(
     addresses: &[&'a str],
 ) -> Result<Vec<&'a str>, AllocError>
     ensures { IfOk result (λ v. map (λ w. w.now) v.items ≡ at_path path.entry.now (codes "-t" ∷ table.entry.now
-        ∷ codes "-T" ∷ codes "test" ∷ map (λ w. w.now) addresses.entry.now)) }
+        ∷ codes "-T" ∷ codes "test" ∷ codes "--" ∷ map (λ w. w.now) addresses.entry.now)) }
 {
-    let mut all = at_path(alloc, path, &["-t", table, "-T", "test"])?;
+    let mut all = at_path(alloc, path, &["-t", table, "-T", "test", "--"])?;
     all.extend_from_slice(addresses)?;
     Ok(all)
 }

@@ -1,28 +1,40 @@
-//! What is behind a path.
+//! The query behind a path: its parameters, and the numbers in them.
+
+ghost use Rattle.std.specs.Prelude.{◌≡◌, IfOk, option_copied};
+ghost use Rattle.std.specs.Char.{is_ascii_digit};
+ghost use Rattle.std.specs.List.{list_all};
+ghost use Rattle.node_requests.specs.Queries.{is_number, number_in, position_in, parameters, value_of, position_of};
+ghost use Rattle.node_requests.specs.Queries.{is_value, has_name, are_parameters};
+ghost use Rattle.node_requests.specs.inner.Parameters.{pairs_of};
 
 use crate::target::Target;
 use form_urlencoded::parse;
 use std::alloc::{AllocError, Global};
 
-/// What a query says.
-#[derive(Drop)]
-pub(crate) struct Query {
-    /// The anchor's path, empty for the main ruleset.
-    pub(crate) path: Option<String>,
-    /// The table's name.
-    pub(crate) table: Option<String>,
-    /// How many positions are to be applied at least.
-    pub(crate) at: Option<u32>,
-    /// The first position.
-    pub(crate) from: Option<u32>,
-    /// How many positions at most.
-    pub(crate) count: Option<u32>,
+/// The most positions.
+const POSITIONS: u64 = 1_000_000;
+
+/// Whether each byte is a digit.
+fn are_digits(text: &[u8]) -> bool
+    ensures { result ≡ list_all is_ascii_digit text.now }
+{
+    text.iter().all(|b| b.is_ascii_digit())
+}
+
+/// Whether the text is decimal digits.
+#[tactic(auto, using(crate::proofs::Digits::digits_all))]
+fn is_number(text: &str) -> bool
+    ensures { result ≡ is_number text.now }
+{
+    !text.is_empty() && are_digits(text.as_bytes())
 }
 
 /// A number of decimal digits alone.
-pub(crate) fn number_in(text: &str) -> Option<u64> {
-    let bytes = text.as_bytes();
-    if bytes.is_empty() || !bytes.iter().all(|b| b.is_ascii_digit()) {
+#[tactic(auto, unfolding(crate::specs::Queries::number_in))]
+pub(crate) fn number_in(text: &str) -> Option<u64>
+    ensures { result ≡ number_in text.now }
+{
+    if !is_number(text) {
         return None;
     }
     match text.parse::<u64>() {
@@ -32,10 +44,12 @@ pub(crate) fn number_in(text: &str) -> Option<u64> {
 }
 
 /// A number of positions: 1,000,000 at most.
-fn position_in(text: &str) -> Option<u32> {
+fn position_in(text: &str) -> Option<u32>
+    ensures { result ≡ position_in text.now }
+{
     match number_in(text) {
         Some(number) => {
-            if number > 1_000_000 {
+            if number > POSITIONS {
                 return None;
             }
             Some(number as u32)
@@ -44,56 +58,86 @@ fn position_in(text: &str) -> Option<u32> {
     }
 }
 
-impl Query {
-    /// A query that says nothing.
-    fn new() -> Query {
-        Query {
-            path: None,
-            table: None,
-            at: None,
-            from: None,
-            count: None,
-        }
-    }
+/// A parameter of a query, decoded.
+#[derive(Drop)]
+pub(crate) struct Parameter {
+    pub(crate) name: String,
+    pub(crate) value: String,
+}
 
-    /// Takes a parameter over: whether it is understood, and stands for the first time.
-    fn put(&mut self, alloc: Global, name: &str, value: &str) -> Result<bool, AllocError> {
-        if name == "a" && self.path.is_none() {
-            self.path = Some(String::from_str(alloc, value)?);
-            return Ok(true);
-        }
-        if name == "t" && self.table.is_none() {
-            self.table = Some(String::from_str(alloc, value)?);
-            return Ok(true);
-        }
-        if name == "at" && self.at.is_none() {
-            self.at = position_in(value);
-            return Ok(self.at.is_some());
-        }
-        if name == "from" && self.from.is_none() {
-            self.from = position_in(value);
-            return Ok(self.from.is_some());
-        }
-        if name == "count" && self.count.is_none() {
-            self.count = position_in(value);
-            return Ok(self.count.is_some());
-        }
-        Ok(false)
+/// The parameters of a query, in order.
+pub(crate) fn parameters(alloc: Global, query: &str) -> Result<Vec<Parameter>, AllocError>
+    ensures { IfOk result (λ v. pairs_of v.items ≡ parameters query.now) }
+{
+    let mut found = Vec::new(alloc);
+    for pair in parse(alloc, query.as_bytes()).into_owned() {
+        let (name, value) = pair?;
+        found.push(Parameter { name, value })?;
     }
+    Ok(found)
+}
 
-    /// The parameters of a query, each at most once, and each one that the target takes; else none.
-    pub(crate) fn of(
-        alloc: Global,
-        target: Target,
-        text: &str,
-    ) -> Result<Option<Query>, AllocError> {
-        let mut query = Query::new();
-        for pair in parse(alloc, text.as_bytes()) {
-            let (name, value) = pair?;
-            if !target.takes(&name) || !query.put(alloc, &name, &value)? {
-                return Ok(None);
-            }
+/// Whether a value has the form that its name asks for.
+fn is_value(name: &str, value: &str) -> bool
+    ensures { result ≡ is_value name.now value.now }
+{
+    if name == "at" || name == "from" || name == "count" {
+        return position_in(value).is_some();
+    }
+    true
+}
+
+/// Whether there is a parameter of this name.
+fn has_name(name: &str, given: &[Parameter]) -> bool
+    ensures { result ≡ has_name name.now (pairs_of given.now) }
+{
+    let mut left = given;
+    while let [first, rest @ ..] = left {
+        if first.name.as_str() == name {
+            return true;
         }
-        Ok(Some(query))
+        left = rest;
+    }
+    false
+}
+
+/// Whether each is one that the target takes, has a value of its form, and no name is given twice.
+pub(crate) fn are_parameters(target: Target, given: &[Parameter]) -> bool
+    ensures { result ≡ are_parameters target (pairs_of given.now) }
+{
+    let mut left = given;
+    while let [first, rest @ ..] = left {
+        if !target.takes(&first.name)
+            || !is_value(&first.name, &first.value)
+            || has_name(&first.name, rest)
+        {
+            return false;
+        }
+        left = rest;
+    }
+    true
+}
+
+/// The value of the first parameter of this name.
+pub(crate) fn value_of<'a>(name: &str, given: &'a [Parameter]) -> Option<&'a str>
+    ensures { option_copied result ≡ value_of name.now (pairs_of given.now) }
+{
+    let mut left = given;
+    while let [first, rest @ ..] = left {
+        if first.name.as_str() == name {
+            return Some(first.value.as_str());
+        }
+        left = rest;
+    }
+    None
+}
+
+/// The positions that the parameter of this name says.
+pub(crate) fn position_of(name: &str, given: &[Parameter]) -> Option<u32>
+    ensures { result ≡ position_of name.now (pairs_of given.now) }
+{
+    match value_of(name, given) {
+        Some(value) => position_in(value),
+        None => None,
     }
 }

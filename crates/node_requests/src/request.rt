@@ -22,7 +22,7 @@ pub enum Listing<'a> {
         /// The table's name.
         table: String,
     },
-    /// `-a PATH -t TABLE -T test ADDR..`
+    /// `-a PATH -t TABLE -T test -- ADDR..`
     TableTest {
         /// The anchor's path.
         path: String,

@@ -1,28 +1,68 @@
 //! From HTTP to requests.
 
-use crate::query::{Query, number_in};
+ghost use Rattle.std.specs.Prelude.{◌≡◌, IfOk, map, option_map, option_copied, string_bytes, if◌then◌else◌};
+ghost use Rattle.std.specs.Prelude.{Some, None};
+ghost use Rattle.std.specs.List.{before_first, after_first};
+ghost use Rattle.std.specs.Str.{is_utf8};
+ghost use Rattle.std.specs.Str.Lines.{lines};
+ghost use Rattle.node_requests.specs.inner.Parameters.{pairs_of};
+ghost use Rattle.node_requests.specs.Routing.{is_newline, change_in, lines_in, text_in, reads, routed_value};
+ghost use Rattle.node_requests.specs.Routing.{rules_asked, tables_asked, table_asked, table_test_asked, test_asked};
+ghost use Rattle.node_requests.specs.Routing.{log_asked, entries_asked, asked_at, target_asked, plain_asked};
+ghost use Rattle.node_requests.specs.Routing.{request_number, standing_asked, behind, routed, read_value};
+
+use crate::query::{Parameter, are_parameters, number_in, parameters, position_of, value_of};
 use crate::request::{Listing, Read, Request, Routed};
 use crate::target::Target;
-use pf_scripts::{cut_line, words_in};
+use pf_scripts::words_in;
 use std::alloc::{AllocError, Global};
 
 /// How many packets one request may have.
 const PACKETS_MAX: usize = 64;
 
-/// The lines of a body, none where it isn't UTF-8.
-fn lines_in(alloc: Global, body: &[u8]) -> Result<Option<Vec<&str>>, AllocError> {
-    let Ok(text) = str::from_utf8(body) else {
-        return Ok(None);
-    };
-    let mut lines = Vec::new(alloc);
-    for line in text.lines() {
-        lines.push(line)?;
+/// The bytes before the first newline, and those behind it.
+fn cut_at_newline(body: &[u8]) -> (&[u8], &[u8])
+    ensures line { result.0.now ≡ before_first is_newline body.now }
+    ensures rest { result.1.now ≡ after_first is_newline body.now }
+{
+    match body.iter().position(|&b| b == b'\n') {
+        Some(at) => (&body[..at], &body[at + 1..]),
+        None => (body, &[]),
     }
-    Ok(Some(lines))
+}
+
+/// Bytes as text, none where they aren't UTF-8.
+#[tactic(auto, using(pf_scripts::proofs::LinesCut::utf8_text, pf_scripts::proofs::LinesCut::no_text))]
+fn text_of(bytes: &[u8]) -> Option<&str>
+    ensures { option_map (λ s. s.now) result ≡ (if is_utf8 bytes.now then Some bytes.now else None) }
+{
+    match str::from_utf8(bytes) {
+        Ok(text) => Some(text),
+        Err(_) => None,
+    }
+}
+
+/// The lines of a text.
+fn lines(alloc: Global, text: &str) -> Result<Vec<&str>, AllocError>
+    ensures { IfOk result (λ v. map (λ w. w.now) v.items ≡ lines text.now) }
+{
+    text.lines().collect(alloc)
+}
+
+/// The lines of a body, none where it isn't UTF-8.
+fn lines_in(alloc: Global, body: &[u8]) -> Result<Option<Vec<&str>>, AllocError>
+    ensures { IfOk result (λ found. option_map (λ v. map (λ w. w.now) v.items) found ≡ lines_in body.now) }
+{
+    match text_of(body) {
+        Some(text) => Ok(Some(lines(alloc, text)?)),
+        None => Ok(None),
+    }
 }
 
 /// `N.NUMBER`
-fn request_number(text: &str) -> Option<(u8, u64)> {
+fn request_number(text: &str) -> Option<(u8, u64)>
+    ensures { result ≡ request_number text.now }
+{
     let Some((origin, number)) = text.split_once('.') else {
         return None;
     };
@@ -38,11 +78,10 @@ fn request_number(text: &str) -> Option<(u8, u64)> {
 }
 
 /// A change: its words are the first line, the text is what is behind it.
-fn change_in(alloc: Global, body: &[u8]) -> Result<Routed<'_>, AllocError> {
-    let (line, text) = match cut_line(body) {
-        Some((line, text)) => (line.content, text),
-        None => (body, body),
-    };
+fn change_in(alloc: Global, body: &[u8]) -> Result<Routed<'_>, AllocError>
+    ensures { IfOk result (λ r. routed_value r ≡ change_in body.now) }
+{
+    let (line, text) = cut_at_newline(body);
     let Some(rest) = words_in(alloc, line)? else {
         return Ok(Routed::Unread(40));
     };
@@ -52,126 +91,204 @@ fn change_in(alloc: Global, body: &[u8]) -> Result<Routed<'_>, AllocError> {
     Ok(Routed::Asked(Request::Change { words, text }))
 }
 
-/// The verdicts for a line's packet each.
-fn test_in(alloc: Global, body: &[u8]) -> Result<Option<Read<'_>>, AllocError> {
-    let Some(packets) = lines_in(alloc, body)? else {
-        return Ok(None);
-    };
-    if packets.is_empty() || packets.len() > PACKETS_MAX {
-        return Ok(None);
+/// A read, once the positions are applied that the parameters name.
+fn reads<'a>(given: &[Parameter], read: Read<'a>) -> Routed<'a>
+    ensures { routed_value result ≡ reads (pairs_of given.now) (read_value read.entry) }
+{
+    Routed::Asked(Request::Read {
+        at: position_of("at", given).unwrap_or(0),
+        read,
+    })
+}
+
+/// The value of a parameter, the empty text where it isn't given.
+fn text_in(alloc: Global, name: &str, given: &[Parameter]) -> Result<String, AllocError>
+    ensures { IfOk result (λ s. string_bytes s ≡ text_in name.now (pairs_of given.now)) }
+{
+    match value_of(name, given) {
+        Some(value) => String::from_str(alloc, value),
+        None => Ok(String::new(alloc)),
     }
-    Ok(Some(Read::Test { packets }))
+}
+
+/// The rules of an anchor.
+fn rules_in<'a>(alloc: Global, given: &[Parameter]) -> Result<Routed<'a>, AllocError>
+    ensures { IfOk result (λ r. routed_value r ≡ rules_asked (pairs_of given.now)) }
+{
+    let path = text_in(alloc, "a", given)?;
+    Ok(reads(given, Read::List(Listing::Rules { path })))
+}
+
+/// The names of an anchor's tables.
+fn tables_in<'a>(alloc: Global, given: &[Parameter]) -> Result<Routed<'a>, AllocError>
+    ensures { IfOk result (λ r. routed_value r ≡ tables_asked (pairs_of given.now)) }
+{
+    let path = text_in(alloc, "a", given)?;
+    Ok(reads(given, Read::List(Listing::Tables { path })))
+}
+
+/// A table's entries.
+fn table_in<'a>(alloc: Global, given: &[Parameter]) -> Result<Routed<'a>, AllocError>
+    ensures { IfOk result (λ r. routed_value r ≡ table_asked (pairs_of given.now)) }
+{
+    let path = text_in(alloc, "a", given)?;
+    let table = text_in(alloc, "t", given)?;
+    Ok(reads(given, Read::List(Listing::Table { path, table })))
 }
 
 /// The addresses of a line each, looked up in a table.
-fn table_test_in(
+fn table_test_in<'a>(
     alloc: Global,
-    path: String,
-    table: String,
-    body: &[u8],
-) -> Result<Option<Read<'_>>, AllocError> {
+    given: &[Parameter],
+    body: &'a [u8],
+) -> Result<Routed<'a>, AllocError>
+    ensures { IfOk result (λ r. routed_value r ≡ table_test_asked (pairs_of given.now) body.now) }
+{
     let Some(addresses) = lines_in(alloc, body)? else {
-        return Ok(None);
+        return Ok(Routed::Unread(40));
     };
-    Ok(Some(Read::List(Listing::TableTest {
-        path,
-        table,
-        addresses,
-    })))
+    let path = text_in(alloc, "a", given)?;
+    let table = text_in(alloc, "t", given)?;
+    Ok(reads(
+        given,
+        Read::List(Listing::TableTest {
+            path,
+            table,
+            addresses,
+        }),
+    ))
 }
 
-/// A text that was given, or the empty one.
-fn or_empty(alloc: Global, given: Option<String>) -> String {
-    match given {
-        Some(text) => text,
-        None => String::new(alloc),
+/// The verdicts for a line's packet each.
+fn test_in<'a>(alloc: Global, given: &[Parameter], body: &'a [u8]) -> Result<Routed<'a>, AllocError>
+    ensures { IfOk result (λ r. routed_value r ≡ test_asked (pairs_of given.now) body.now) }
+{
+    let Some(packets) = lines_in(alloc, body)? else {
+        return Ok(Routed::Unread(40));
+    };
+    if packets.is_empty() || packets.len() > PACKETS_MAX {
+        return Ok(Routed::Unread(40));
     }
+    Ok(reads(given, Read::Test { packets }))
 }
 
-/// What a read's target, its query and its body ask for, none where the body isn't understood.
-fn read_in<'a>(
+/// The log from a position on.
+fn log_in<'a>(given: &[Parameter]) -> Routed<'a>
+    ensures { routed_value result ≡ log_asked (pairs_of given.now) }
+{
+    let from = position_of("from", given);
+    reads(given, Read::Log { from })
+}
+
+/// The entries from a position on.
+fn entries_in<'a>(given: &[Parameter]) -> Routed<'a>
+    ensures { routed_value result ≡ entries_asked (pairs_of given.now) }
+{
+    let from = position_of("from", given);
+    let count = position_of("count", given);
+    reads(given, Read::Entries { from, count })
+}
+
+/// What a path asks for, of its parameters and the body.
+fn asked_at<'a>(
     alloc: Global,
     target: Target,
-    query: Query,
+    given: &[Parameter],
     body: &'a [u8],
     json: bool,
-) -> Result<Option<Read<'a>>, AllocError> {
-    let Query {
-        path,
-        table,
-        from,
-        count,
-        ..
-    } = query;
-    let path = or_empty(alloc, path);
-    let table = or_empty(alloc, table);
+) -> Result<Routed<'a>, AllocError>
+    ensures { IfOk result (λ r. routed_value r ≡ asked_at target (pairs_of given.now) body.now json) }
+{
     match target {
-        Target::Rules => Ok(Some(Read::List(Listing::Rules { path }))),
-        Target::Tables => Ok(Some(Read::List(Listing::Tables { path }))),
-        Target::Anchors => Ok(Some(Read::List(Listing::Anchors))),
-        Target::Table => Ok(Some(Read::List(Listing::Table { path, table }))),
-        Target::TableTest => table_test_in(alloc, path, table, body),
-        Target::Test => test_in(alloc, body),
-        Target::Log => Ok(Some(Read::Log { from })),
-        Target::Entries => Ok(Some(Read::Entries { from, count })),
-        Target::Status => Ok(Some(Read::Status { json })),
-        Target::Health => Ok(Some(Read::Health)),
-        Target::Ready => Ok(Some(Read::Ready)),
-        Target::Metrics => Ok(Some(Read::Metrics)),
-        Target::Changes | Target::Requests | Target::Stop => Ok(None),
+        Target::Changes => change_in(alloc, body),
+        Target::Rules => rules_in(alloc, given),
+        Target::Tables => tables_in(alloc, given),
+        Target::Anchors => Ok(reads(given, Read::List(Listing::Anchors))),
+        Target::Table => table_in(alloc, given),
+        Target::TableTest => table_test_in(alloc, given, body),
+        Target::Test => test_in(alloc, given, body),
+        Target::Log => Ok(log_in(given)),
+        Target::Entries => Ok(entries_in(given)),
+        Target::Status => Ok(reads(given, Read::Status { json })),
+        Target::Health => Ok(reads(given, Read::Health)),
+        Target::Ready => Ok(reads(given, Read::Ready)),
+        Target::Metrics => Ok(reads(given, Read::Metrics)),
+        Target::Stop => Ok(Routed::Asked(Request::Stop)),
+        Target::Requests => Ok(Routed::Unread(40)),
     }
 }
 
-/// What a target asks for, its method being right.
+/// What a path asks for, its method being right.
 fn target_asked<'a>(
     alloc: Global,
     target: Target,
     query: &str,
     body: &'a [u8],
     json: bool,
-) -> Result<Routed<'a>, AllocError> {
-    let Some(query) = Query::of(alloc, target, query)? else {
+) -> Result<Routed<'a>, AllocError>
+    ensures { IfOk result (λ r. routed_value r ≡ target_asked target query.now body.now json) }
+{
+    let given = parameters(alloc, query)?;
+    if !are_parameters(target, &given) {
         return Ok(Routed::Refused(400));
-    };
-    if target == Target::Changes {
-        return change_in(alloc, body);
     }
-    if target == Target::Stop {
-        return Ok(Routed::Asked(Request::Stop));
-    }
-    let at = query.at.unwrap_or(0);
-    match read_in(alloc, target, query, body, json)? {
-        Some(read) => Ok(Routed::Asked(Request::Read { at, read })),
-        None => Ok(Routed::Unread(40)),
-    }
+    asked_at(alloc, target, &given, body, json)
 }
 
-/// A request's path: what became of it is asked for.
+/// What the path behind `/v1/requests/` asks for: what became of that request.
 fn standing_asked<'a>(
     alloc: Global,
     method: &str,
     name: &str,
     query: &str,
-) -> Result<Routed<'a>, AllocError> {
+) -> Result<Routed<'a>, AllocError>
+    ensures { IfOk result (λ r. routed_value r ≡ standing_asked method.now name.now query.now) }
+{
     let Some((origin, number)) = request_number(name) else {
         return Ok(Routed::Refused(404));
     };
     if method != "GET" {
         return Ok(Routed::Refused(405));
     }
-    let Some(query) = Query::of(alloc, Target::Requests, query)? else {
+    let given = parameters(alloc, query)?;
+    if !are_parameters(Target::Requests, &given) {
         return Ok(Routed::Refused(400));
+    }
+    Ok(reads(&given, Read::Standing { origin, number }))
+}
+
+/// What any other path asks for.
+fn plain_asked<'a>(
+    alloc: Global,
+    method: &str,
+    path: &str,
+    query: &str,
+    body: &'a [u8],
+    json: bool,
+) -> Result<Routed<'a>, AllocError>
+    ensures { IfOk result (λ r. routed_value r ≡ plain_asked method.now path.now query.now body.now json) }
+{
+    let Some(target) = Target::of(path) else {
+        return Ok(Routed::Refused(404));
     };
-    Ok(Routed::Asked(Request::Read {
-        at: query.at.unwrap_or(0),
-        read: Read::Standing { origin, number },
-    }))
+    if method != target.method() {
+        return Ok(Routed::Refused(405));
+    }
+    target_asked(alloc, target, query, body, json)
+}
+
+/// What is behind the path of requests.
+fn behind(path: &str) -> Option<&str>
+    ensures { option_copied result ≡ behind path.now }
+{
+    path.strip_prefix("/v1/requests/")
 }
 
 /// What HTTP's method, path, query (what is behind the `?`, without it) and body ask for; `json` says that `Accept`
 /// names `application/json`.
 ///
-/// The path has no escapes; those of the query are read, and `+` stands for a blank there.
+/// The path has no escapes; those of the query are read, and `+` stands for a blank there. A line of the body ends with
+/// a newline, which the last one may lack; in bodies of addresses or packets a carriage return may stand before it.
 pub fn request_in<'a>(
     alloc: Global,
     method: &str,
@@ -179,17 +296,11 @@ pub fn request_in<'a>(
     query: &str,
     body: &'a [u8],
     json: bool,
-) -> Result<Routed<'a>, AllocError> {
-    if let Some(name) = path.strip_prefix("/v1/requests/") {
-        return standing_asked(alloc, method, name, query);
-    }
-    match Target::of(path) {
-        None => Ok(Routed::Refused(404)),
-        Some(target) => {
-            if method != target.method() {
-                return Ok(Routed::Refused(405));
-            }
-            target_asked(alloc, target, query, body, json)
-        }
+) -> Result<Routed<'a>, AllocError>
+    ensures { IfOk result (λ r. routed_value r ≡ routed method.now path.now query.now body.now json) }
+{
+    match behind(path) {
+        Some(name) => standing_asked(alloc, method, name, query),
+        None => plain_asked(alloc, method, path, query, body, json),
     }
 }

@@ -1,7 +1,7 @@
 //! Paths and their methods.
 
 ghost use Rattle.std.specs.Prelude.{◌≡◌};
-ghost use Rattle.node_requests.specs.inner.Targets.{method_of, plain_target};
+ghost use Rattle.node_requests.specs.Targets.{method_of, plain_target, takes};
 
 /// What a path names.
 #[derive(Clone, Copy, PartialEq, Eq)]
@@ -68,7 +68,9 @@ impl Target {
     }
 
     /// Whether a parameter of this name may be behind the path.
-    pub(crate) fn takes(self, name: &str) -> bool {
+    pub(crate) fn takes(self, name: &str) -> bool
+        ensures { result ≡ takes self name.now }
+    {
         match self {
             Target::Rules | Target::Tables => name == "a" || name == "at",
             Target::Table | Target::TableTest => name == "a" || name == "t" || name == "at",

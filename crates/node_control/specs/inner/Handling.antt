@@ -1,5 +1,5 @@
 -- What becomes of a request that came as HTTP.
-use Rattle.std.specs.Prelude.{◌≡◌, ◌⊎◌, ◌≤◌, ◌&&◌, ◌||◌, ℕ, Bool, true, false, not, List, [], ◌∷◌, ◌++◌, codes}
+use Rattle.std.specs.Prelude.{◌≡◌, ◌⊎◌, ◌&&◌, ◌||◌, ℕ, Bool, true, false, not, List, [], ◌∷◌, ◌++◌, codes}
 use Rattle.std.specs.Prelude.{if◌then◌else◌}
 use Rattle.http.specs.declared.request.Request as http
 use Rattle.http_server.specs.Exchange.{Call, Chain}
@@ -11,9 +11,11 @@ use Rattle.node_requests.specs.declared.request.Read.TheVariants as read
 use Rattle.node_requests.specs.declared.request.Request.{Request}
 use Rattle.node_requests.specs.declared.request.Request.TheVariants as request
 use Rattle.node_requests.specs.declared.tally.Tally.{Tally}
-use Rattle.node_requests.specs.Answers.{AnswerValue}
+use Rattle.node_requests.specs.Answers.{AnswerValue, refused}
 use Rattle.node_requests.specs.Requests.{Answers}
+use Rattle.node_requests.specs.Routing.{RoutedValue, Asked, Refused, Unread, request_value}
 use Rattle.node_control.specs.declared.clerk.Clerk.{Clerk}
+use Rattle.node_control.specs.inner.Asking.{path_of, asked_for, is_of_figures}
 
 -- a response says an answer, its status and its body; or it is 503 without one, where memory is wanting for that
 abbrev pub Says : Response → AnswerValue → Type 0
@@ -30,12 +32,6 @@ pub record IsAnswered {R : Type 0} {G : Ghosts R} (s t : Desk R G) (counted : Ta
 pub record IsTurnedAway {R : Type 0} {G : Ghosts R} (s t : Desk R G) (a : AnswerValue) (r : Response) : Type 0 where
   pub still : t ≡ s
   pub says : Says r a
-
--- nothing was asked and nothing changes; the response is one for what isn't understood: 400 to 499, or 503 without a
--- body when out of memory
-pub record IsMisread {R : Type 0} {G : Ghosts R} (s t : Desk R G) (r : Response) : Type 0 where
-  pub still : t ≡ s
-  pub refuses : ((400 ≤ r.status) × (r.status ≤ 499)) ⊎ ((r.status ≡ 503) × (r.body.items ≡ []))
 
 -- ---- who is answered
 
@@ -75,8 +71,11 @@ is_asked c request =
 abbrev pub waiting : AnswerValue
 waiting = record { code = 503; body = codes "waiting" ++ 10 ∷ [] }
 
+abbrev pub no_text : (status : ℕ) → AnswerValue
+no_text status = record { code = status; body = [] }
+
 abbrev pub not_found : AnswerValue
-not_found = record { code = 404; body = [] }
+not_found = no_text 404
 
 -- what it is answered else
 abbrev pub away : {R : Type 0} {G : Ghosts R} → Clerk R G → Request → AnswerValue
@@ -90,9 +89,27 @@ PassedOnIf false c d request r = IsTurnedAway c.desk d.desk (away c request) r
 abbrev pub IsPassedOn : {R : Type 0} {G : Ghosts R} → (c d : Clerk R G) → Request → Response → Type 0
 IsPassedOn c d request r = PassedOnIf (is_asked c request) c d request r
 
--- one request was understood, or none
-abbrev pub IsHandled : {R : Type 0} {G : Ghosts R} → (c d : Clerk R G) → Response → Type 0
-IsHandled c d r = ((request : Request) × IsPassedOn c d request r) ⊎ IsMisread c.desk d.desk r
+-- ---- requests as HTTP has them
+
+-- the request that is asked for is handled, and no other; what isn't served, or isn't understood, is answered by its
+-- status or the line of its refusal, and nothing changes
+abbrev pub HandledAs : {R : Type 0} {G : Ghosts R} → (c d : Clerk R G) → RoutedValue → Response → Type 0
+HandledAs c d (Asked v) r = (request : Request) × (request_value request ≡ v) × IsPassedOn c d request r
+HandledAs c d (Refused status) r = IsTurnedAway c.desk d.desk (no_text status) r
+HandledAs c d (Unread code) r = IsTurnedAway c.desk d.desk (refused code 0) r
+
+-- where figures alone are served, another path isn't found
+abbrev pub HandledIf : {R : Type 0} {G : Ghosts R} → (served : Bool) → (c d : Clerk R G) → RoutedValue → Response →
+    Type 0
+HandledIf true c d asked r = HandledAs c d asked r
+HandledIf false c d asked r = IsTurnedAway c.desk d.desk not_found r
+
+abbrev pub is_served : {R : Type 0} {G : Ghosts R} → Clerk R G → http.Request (List ℕ) → Bool
+is_served c q = not c.is_scraped || is_of_figures (path_of q)
+
+-- what a request asks for is handled, and nothing else
+abbrev pub IsHandled : {R : Type 0} {G : Ghosts R} → (c d : Clerk R G) → http.Request (List ℕ) → Response → Type 0
+IsHandled c d q r = HandledIf (is_served c q) c d (asked_for q) r
 
 -- a service handled requests, one after another
 abbrev pub Handles : {S : Type 0} → (S → http.Request (List ℕ) → Response → S → Type 0) → (old new : S) → Type 0

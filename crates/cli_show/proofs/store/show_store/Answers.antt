@@ -7,4 +7,4 @@ pub returns-in-Ok-shown : goal.returns-in-Ok-shown
 returns-in-Ok-shown g c =
     shows_store (state g.S.Store c.args.conn) (state g.S.Store c.owner_of.new.conn) c.in-Ok-taken.records
     c.show_record-shown.result.1 c.args.wanted c.in-Ok-shown.shown c.show_record-shown.result.0 c.in-Ok.ensures.stays
-    c.in-Ok-taken.ensures.clean c.in-Ok-taken.ensures.rows c.show_record-shown.ensures c.in-Ok-shown.is
+    c.in-Ok-taken.ensures.clean c.in-Ok-taken.ensures.rows c.show_record-shown.ensures.shows c.in-Ok-shown.is

@@ -1,5 +1,6 @@
--- Paths and their methods.
-use Rattle.std.specs.Prelude.{ℕ, List, Option, Some, None, codes, bytes_eq, if◌then◌else◌}
+-- Paths, their methods and their parameters.
+use Rattle.std.specs.Prelude.{ℕ, Bool, List, [], ◌∷◌, Option, Some, None, codes, bytes_eq, if◌then◌else◌}
+use Rattle.std.specs.List.{list_any}
 use Rattle.node_requests.specs.declared.target.Target.{Target}
 use Rattle.node_requests.specs.declared.target.Target.TheVariants.{Changes, Requests, Rules, Tables, Anchors, Table}
 use Rattle.node_requests.specs.declared.target.Target.TheVariants.{TableTest, Test, Log, Entries, Status, Health, Ready}
@@ -41,3 +42,25 @@ method_of Status = codes "GET"
 method_of Health = codes "GET"
 method_of Ready = codes "GET"
 method_of Metrics = codes "GET"
+
+-- the parameters that may be behind a path
+abbrev pub names_of : Target → List (List ℕ)
+names_of Changes = []
+names_of TableTest = codes "a" ∷ codes "t" ∷ codes "at" ∷ []
+names_of Test = codes "at" ∷ []
+names_of Stop = []
+names_of Requests = codes "at" ∷ []
+names_of Rules = codes "a" ∷ codes "at" ∷ []
+names_of Tables = codes "a" ∷ codes "at" ∷ []
+names_of Anchors = codes "at" ∷ []
+names_of Table = codes "a" ∷ codes "t" ∷ codes "at" ∷ []
+names_of Log = codes "from" ∷ codes "at" ∷ []
+names_of Entries = codes "from" ∷ codes "count" ∷ codes "at" ∷ []
+names_of Status = codes "at" ∷ []
+names_of Health = []
+names_of Ready = []
+names_of Metrics = []
+
+-- whether a parameter of this name may be behind the path
+abbrev pub takes : Target → (name : List ℕ) → Bool
+takes target name = list_any (bytes_eq name) (names_of target)

@@ -1,0 +1,308 @@
+-- Which requests change something: what a method, a path, a query and a body ask for, by cases.
+use Rattle.std.proofs.Common.{◌≡◌, ◌≢◌, ◌∙◌, ℕ, ◌==◌, Bool, true, false, List, [], ◌∷◌, refl, sym, ap, subst, Option, Some, None}
+use Rattle.std.proofs.Common.{◌⊎◌, ◌&&◌, ◌||◌, inl, inr, option_map}
+use Rattle.std.specs.Prelude.{codes, length, nat_lt, nat_le, if◌then◌else◌, ◌↔◌}
+use Rattle.std.specs.Str.{bytes_eq}
+use Rattle.std.specs.List.{before_first, after_first, list_any}
+use Rattle.std.proofs.Common.{true≢false}
+use Rattle.std.proofs.lemmas.Bool.{eqb-true}
+use Rattle.std.proofs.lemmas.Slice.Eq.{bytes_eq-Decides}
+use Rattle.clap.specs.Words.{Text}
+use Rattle.pf_scripts.specs.Lines.{words_in}
+use Rattle.node_requests.specs.declared.target.Target.{Target}
+use Rattle.node_requests.specs.declared.target.Target.TheVariants as to
+use Rattle.node_requests.specs.Queries.{parameters, are_parameters}
+use Rattle.node_requests.specs.Targets.{plain_target, method_of}
+use Rattle.node_requests.specs.declared.routing.TheConstants.{PACKETS_MAX}
+use Rattle.node_requests.specs.Routing.{RoutedValue, Asked, Refused, Unread, Changes, Reads, Stops, is_newline}
+use Rattle.node_requests.specs.Routing.{change_of, change_in, table_test_of, test_of, target_asked, asked_by, request_number}
+use Rattle.node_requests.specs.Routing.{reads, Verdicts, Standing, asked_at, standing_of, behind, routed_behind, routed, lines_in}
+use Rattle.node_requests.specs.Answers.{status_of}
+use Rattle.node_requests.specs.Posting.{PostsChange, PostsStop, refused_with, is_of_clients}
+
+-- ---- what changes nothing
+
+-- a read, or a refusal with 400, 404 or 405
+abbrev still : RoutedValue → Bool
+still (Asked (Changes words text)) = false
+still (Asked (Reads at r)) = true
+still (Asked Stops) = false
+still (Refused status) = is_of_clients status
+still (Unread code) = code == 40
+
+still_if : (b : Bool) (x y : RoutedValue) → still x ≡ true → still y ≡ true → still (if b then x else y) ≡ true
+still_if true x y h k = h
+still_if false x y h k = k
+
+-- 405, 400 or this
+guarded : (b c : Bool) (v : RoutedValue) → still v ≡ true → still (if b then (if c then v else Refused 400) else Refused 405) ≡ true
+guarded b c v h = still_if b (if c then v else Refused 400) (Refused 405) (still_if c v (Refused 400) h refl) refl
+
+-- what is asked at a path, its method and its parameters being right
+plain : (m q b : List ℕ) (j : Bool) (t : Target) → still (asked_at t (parameters q) b j) ≡ true → still (asked_by m (Some t) q b j) ≡ true
+plain m q b j t h = guarded (bytes_eq m (method_of t)) (are_parameters t (parameters q)) (asked_at t (parameters q) b j) h
+
+table_tests : (given : List (Text × Text)) (o : Option (List Text)) → still (table_test_of given o) ≡ true
+table_tests given None = refl
+table_tests given (Some addresses) = refl
+
+tests : (given : List (Text × Text)) (o : Option (List Text)) → still (test_of given o) ≡ true
+tests given None = refl
+tests given (Some packets) =
+    still_if (nat_lt 0 (length packets) && nat_le (length packets) PACKETS_MAX) (reads given (Verdicts packets)) (Unread 40) refl refl
+
+standings : (o : Option (ℕ × ℕ)) (method query : List ℕ) → still (standing_of o method query) ≡ true
+standings None method query = refl
+standings (Some r) method query =
+    guarded (bytes_eq method (codes "GET")) (are_parameters to.Requests (parameters query)) (reads (parameters query) (Standing r.0 r.1)) refl
+
+-- ---- paths
+
+abbrev is_changes : Option Target → Bool
+is_changes None = false
+is_changes (Some to.Changes) = true
+is_changes (Some to.Requests) = false
+is_changes (Some to.Rules) = false
+is_changes (Some to.Tables) = false
+is_changes (Some to.Anchors) = false
+is_changes (Some to.Table) = false
+is_changes (Some to.TableTest) = false
+is_changes (Some to.Test) = false
+is_changes (Some to.Log) = false
+is_changes (Some to.Entries) = false
+is_changes (Some to.Status) = false
+is_changes (Some to.Health) = false
+is_changes (Some to.Ready) = false
+is_changes (Some to.Metrics) = false
+is_changes (Some to.Stop) = false
+
+abbrev is_stop : Option Target → Bool
+is_stop None = false
+is_stop (Some to.Changes) = false
+is_stop (Some to.Requests) = false
+is_stop (Some to.Rules) = false
+is_stop (Some to.Tables) = false
+is_stop (Some to.Anchors) = false
+is_stop (Some to.Table) = false
+is_stop (Some to.TableTest) = false
+is_stop (Some to.Test) = false
+is_stop (Some to.Log) = false
+is_stop (Some to.Entries) = false
+is_stop (Some to.Status) = false
+is_stop (Some to.Health) = false
+is_stop (Some to.Ready) = false
+is_stop (Some to.Metrics) = false
+is_stop (Some to.Stop) = true
+
+-- the first that passes its test
+abbrev picked : List (Bool × Target) → Option Target
+picked [] = None
+picked (x ∷ xs) = if x.0 then Some x.1 else picked xs
+
+-- the paths, each with whether it is this one
+abbrev tests_of : (path : List ℕ) → List (Bool × Target)
+tests_of path =
+    (bytes_eq path (codes "/v1/changes"), to.Changes)
+    ∷ (bytes_eq path (codes "/v1/rules"), to.Rules)
+    ∷ (bytes_eq path (codes "/v1/tables"), to.Tables)
+    ∷ (bytes_eq path (codes "/v1/anchors"), to.Anchors)
+    ∷ (bytes_eq path (codes "/v1/table"), to.Table)
+    ∷ (bytes_eq path (codes "/v1/table-test"), to.TableTest)
+    ∷ (bytes_eq path (codes "/v1/test"), to.Test)
+    ∷ (bytes_eq path (codes "/v1/log"), to.Log)
+    ∷ (bytes_eq path (codes "/v1/entries"), to.Entries)
+    ∷ (bytes_eq path (codes "/v1/status"), to.Status)
+    ∷ (bytes_eq path (codes "/healthz"), to.Health)
+    ∷ (bytes_eq path (codes "/readyz"), to.Ready)
+    ∷ (bytes_eq path (codes "/metrics"), to.Metrics)
+    ∷ (bytes_eq path (codes "/v1/stop"), to.Stop)
+    ∷ []
+
+or_right : (a b : Bool) → b ≡ true → a || b ≡ true
+or_right true b h = refl
+or_right false b h = h
+
+or_none : (b : Bool) → b || false ≡ true → b ≡ true
+or_none true h = refl
+or_none false h = h
+
+-- what is picked is there, and passes
+found : (p : Option Target → Bool) (xs : List (Bool × Target)) → p None ≡ false → p (picked xs) ≡ true →
+    list_any (λ (x : Bool × Target). p (Some x.1) && x.0) xs ≡ true
+found p [] n h = absurd (true≢false (sym h ∙ n))
+found p ((true, t) ∷ xs) n h = ap (λ (q : Bool). (q && true) || list_any (λ (x : Bool × Target). p (Some x.1) && x.0) xs) h
+found p ((false, t) ∷ xs) n h = or_right (p (Some t) && false) _ (found p xs n h)
+
+at_changes : (path : List ℕ) → is_changes (plain_target path) ≡ true → path ≡ codes "/v1/changes"
+at_changes path h = (bytes_eq-Decides path (codes "/v1/changes")).0 (or_none _ (found is_changes (tests_of path) refl h))
+
+at_stop : (path : List ℕ) → is_stop (plain_target path) ≡ true → path ≡ codes "/v1/stop"
+at_stop path h = (bytes_eq-Decides path (codes "/v1/stop")).0 (or_none _ (found is_stop (tests_of path) refl h))
+
+-- ---- all requests
+
+abbrev Post : (at : List ℕ) → (m p q : List ℕ) → Type 0
+Post at m p q = (m ≡ codes "POST") × (p ≡ at) × (parameters q ≡ [])
+
+-- nothing is changed, or it is a change, or an end
+abbrev Outcome : (m p q b : List ℕ) → RoutedValue → Type 0
+Outcome m p q b v = (still v ≡ true) ⊎ ((Post (codes "/v1/changes") m p q × (v ≡ change_in b)) ⊎ (Post (codes "/v1/stop") m p q × (v ≡ Asked Stops)))
+
+none_for_changes : (ps : List (Text × Text)) → are_parameters to.Changes ps ≡ true → ps ≡ []
+none_for_changes [] e = refl
+none_for_changes (p ∷ ps) e = cc
+
+none_for_stop : (ps : List (Text × Text)) → are_parameters to.Stop ps ≡ true → ps ≡ []
+none_for_stop [] e = refl
+none_for_stop (p ∷ ps) e = cc
+
+changes : (m p q b : List ℕ) (j : Bool) → p ≡ codes "/v1/changes" → Outcome m p q b (asked_by m (Some to.Changes) q b j)
+changes m p q b j at =
+    (elim (bytes_eq m (codes "POST")) as (λ x. bytes_eq m (codes "POST") ≡ x → Outcome m p q b (if x then target_asked to.Changes q b j else Refused 405)) [
+      | true ↦ λ is. (elim (are_parameters to.Changes (parameters q)) as (λ y. are_parameters to.Changes (parameters q) ≡ y → Outcome m p q b (if y then change_in b else Refused 400)) [
+        | true ↦ λ bare. inr (inl (((bytes_eq-Decides m (codes "POST")).0 is, at, none_for_changes (parameters q) bare), refl))
+        | false ↦ λ bare. inl refl
+      ]) refl
+      | false ↦ λ is. inl refl
+    ]) refl
+
+stops : (m p q b : List ℕ) (j : Bool) → p ≡ codes "/v1/stop" → Outcome m p q b (asked_by m (Some to.Stop) q b j)
+stops m p q b j at =
+    (elim (bytes_eq m (codes "POST")) as (λ x. bytes_eq m (codes "POST") ≡ x → Outcome m p q b (if x then target_asked to.Stop q b j else Refused 405)) [
+      | true ↦ λ is. (elim (are_parameters to.Stop (parameters q)) as (λ y. are_parameters to.Stop (parameters q) ≡ y → Outcome m p q b (if y then Asked Stops else Refused 400)) [
+        | true ↦ λ bare. inr (inr (((bytes_eq-Decides m (codes "POST")).0 is, at, none_for_stop (parameters q) bare), refl))
+        | false ↦ λ bare. inl refl
+      ]) refl
+      | false ↦ λ is. inl refl
+    ]) refl
+
+at_target : (m p q b : List ℕ) (j : Bool) (t : Option Target) → plain_target p ≡ t → Outcome m p q b (asked_by m t q b j)
+at_target m p q b j None e = inl refl
+at_target m p q b j (Some to.Changes) e = changes m p q b j (at_changes p (ap is_changes e))
+at_target m p q b j (Some to.Requests) e = inl (plain m q b j to.Requests refl)
+at_target m p q b j (Some to.Rules) e = inl (plain m q b j to.Rules refl)
+at_target m p q b j (Some to.Tables) e = inl (plain m q b j to.Tables refl)
+at_target m p q b j (Some to.Anchors) e = inl (plain m q b j to.Anchors refl)
+at_target m p q b j (Some to.Table) e = inl (plain m q b j to.Table refl)
+at_target m p q b j (Some to.TableTest) e = inl (plain m q b j to.TableTest (table_tests (parameters q) (lines_in b)))
+at_target m p q b j (Some to.Test) e = inl (plain m q b j to.Test (tests (parameters q) (lines_in b)))
+at_target m p q b j (Some to.Log) e = inl (plain m q b j to.Log refl)
+at_target m p q b j (Some to.Entries) e = inl (plain m q b j to.Entries refl)
+at_target m p q b j (Some to.Status) e = inl (plain m q b j to.Status refl)
+at_target m p q b j (Some to.Health) e = inl (plain m q b j to.Health refl)
+at_target m p q b j (Some to.Ready) e = inl (plain m q b j to.Ready refl)
+at_target m p q b j (Some to.Metrics) e = inl (plain m q b j to.Metrics refl)
+at_target m p q b j (Some to.Stop) e = stops m p q b j (at_stop p (ap is_stop e))
+
+by_front : (m p q b : List ℕ) (j : Bool) (o : Option Text) → Outcome m p q b (routed_behind o m p q b j)
+by_front m p q b j None = at_target m p q b j (plain_target p) refl
+by_front m p q b j (Some name) = inl (standings (request_number name) m q)
+
+outcome : (m p q b : List ℕ) (j : Bool) → Outcome m p q b (routed m p q b j)
+outcome m p q b j = by_front m p q b j (behind p)
+
+-- ---- changes
+
+abbrev words_at : RoutedValue → List Text
+words_at (Asked (Changes words text)) = words
+words_at (Asked (Reads at r)) = []
+words_at (Asked Stops) = []
+words_at (Refused status) = []
+words_at (Unread code) = []
+
+abbrev text_at : RoutedValue → List ℕ
+text_at (Asked (Changes words text)) = text
+text_at (Asked (Reads at r)) = []
+text_at (Asked Stops) = []
+text_at (Refused status) = []
+text_at (Unread code) = []
+
+abbrev is_end : RoutedValue → Bool
+is_end (Asked (Changes words text)) = false
+is_end (Asked (Reads at r)) = false
+is_end (Asked Stops) = true
+is_end (Refused status) = false
+is_end (Unread code) = false
+
+abbrev is_asked : RoutedValue → Bool
+is_asked (Asked r) = true
+is_asked (Refused status) = false
+is_asked (Unread code) = false
+
+abbrev Read : (o : Option (List Text)) (rest : List ℕ) (words : List Text) (text : List ℕ) → Type 0
+Read o rest words text = (option_map (λ (ws : List Text). codes "pfctl" ∷ ws) o ≡ Some words) × (text ≡ rest)
+
+change_from : (o : Option (List Text)) (rest : List ℕ) (words : List Text) (text : List ℕ) →
+    change_of o rest ≡ Asked (Changes words text) → Read o rest words text
+change_from None rest words text e = absurd (true≢false (sym (ap is_asked e)))
+change_from (Some ws) rest words text e = (ap Some (ap words_at e), sym (ap text_at e))
+
+change_to : (o : Option (List Text)) (rest : List ℕ) (words : List Text) (text : List ℕ) → Read o rest words text →
+    change_of o rest ≡ Asked (Changes words text)
+change_to None rest words text h = let none : None ≡ Some words = h.0 in cc
+change_to (Some ws) rest words text h =
+    let same : Some (codes "pfctl" ∷ ws) ≡ Some words = h.0 in
+    let both : codes "pfctl" ∷ ws ≡ words = ap (λ (o : Option (List Text)). elim o [ None ↦ [] | Some v ↦ v ]) same in
+    ap (λ (v : List Text). Asked (Changes v rest)) both ∙ ap (λ (t : List ℕ). Asked (Changes words t)) (sym h.1)
+
+no_stop : (o : Option (List Text)) (rest : List ℕ) → change_of o rest ≡ Asked Stops → ⊥
+no_stop None rest e = true≢false (sym (ap is_asked e))
+no_stop (Some ws) rest e = let same : codes "pfctl" ∷ ws ≡ [] = ap words_at e in cc
+
+status_there : (o : Option (List Text)) (rest : List ℕ) (s : ℕ) → refused_with (change_of o rest) ≡ Some s → is_of_clients s ≡ true
+status_there None rest s e = let same : 400 ≡ s = ap (λ (n : Option ℕ). elim n [ None ↦ 400 | Some k ↦ k ]) e in subst (λ k. is_of_clients k ≡ true) same refl
+status_there (Some ws) rest s e = cc
+
+-- ---- laws
+
+change_of_case : (m p q b : List ℕ) (v : RoutedValue) (words : List Text) (text : List ℕ) → Outcome m p q b v → v ≡ Asked (Changes words text) →
+    PostsChange m p q b words text
+change_of_case m p q b v words text (inl h) e = absurd (true≢false (sym h ∙ ap still e))
+change_of_case m p q b v words text (inr (inl (post, is))) e =
+    let read = change_from (words_in (before_first is_newline b)) (after_first is_newline b) words text (sym is ∙ e) in
+    record { posted = post.0; there = post.1; bare = post.2; line = read.0; rest = read.1 }
+change_of_case m p q b v words text (inr (inr (post, is))) e = absurd (true≢false (ap is_end (sym is ∙ e)))
+
+posted_change : (m p q b : List ℕ) (j : Bool) (words : List Text) (text : List ℕ) → PostsChange m p q b words text →
+    routed m p q b j ≡ Asked (Changes words text)
+posted_change m p q b j words text h =
+    ap (λ (x : List ℕ). routed x p q b j) h.posted ∙ ap (λ (x : List ℕ). routed (codes "POST") x q b j) h.there
+    ∙ ap (λ (ps : List (Text × Text)). if are_parameters to.Changes ps then change_in b else Refused 400) h.bare
+    ∙ change_to (words_in (before_first is_newline b)) (after_first is_newline b) words text (h.line, h.rest)
+
+pub changes_posted : (m p q b : List ℕ) (j : Bool) (words : List Text) (text : List ℕ) →
+    routed m p q b j ≡ Asked (Changes words text) ↔ PostsChange m p q b words text
+changes_posted m p q b j words text =
+    (change_of_case m p q b (routed m p q b j) words text (outcome m p q b j), posted_change m p q b j words text)
+
+stop_of_case : (m p q b : List ℕ) (v : RoutedValue) → Outcome m p q b v → v ≡ Asked Stops → PostsStop m p q
+stop_of_case m p q b v (inl h) e = absurd (true≢false (sym h ∙ ap still e))
+stop_of_case m p q b v (inr (inl (post, is))) e =
+    absurd (no_stop (words_in (before_first is_newline b)) (after_first is_newline b) (sym is ∙ e))
+stop_of_case m p q b v (inr (inr (post, is))) e = record { posted = post.0; there = post.1; bare = post.2 }
+
+posted_stop : (m p q b : List ℕ) (j : Bool) → PostsStop m p q → routed m p q b j ≡ Asked Stops
+posted_stop m p q b j h =
+    ap (λ (x : List ℕ). routed x p q b j) h.posted ∙ ap (λ (x : List ℕ). routed (codes "POST") x q b j) h.there
+    ∙ ap (λ (ps : List (Text × Text)). if are_parameters to.Stop ps then Asked Stops else Refused 400) h.bare
+
+pub stops_posted : (m p q b : List ℕ) (j : Bool) → routed m p q b j ≡ Asked Stops ↔ PostsStop m p q
+stops_posted m p q b j = (stop_of_case m p q b (routed m p q b j) (outcome m p q b j), posted_stop m p q b j)
+
+still_status : (v : RoutedValue) (s : ℕ) → still v ≡ true → refused_with v ≡ Some s → is_of_clients s ≡ true
+still_status (Asked r) s h e = cc
+still_status (Refused status) s h e =
+    let same : status ≡ s = ap (λ (n : Option ℕ). elim n [ None ↦ status | Some k ↦ k ]) e in subst (λ k. is_of_clients k ≡ true) same h
+still_status (Unread code) s h e =
+    let forty : code ≡ 40 = eqb-true code 40 h in
+    let same : status_of code ≡ s = ap (λ (n : Option ℕ). elim n [ None ↦ status_of code | Some k ↦ k ]) e in
+    subst (λ k. is_of_clients k ≡ true) (sym (ap status_of forty) ∙ same) refl
+
+status_of_case : (m p q b : List ℕ) (v : RoutedValue) (s : ℕ) → Outcome m p q b v → refused_with v ≡ Some s → is_of_clients s ≡ true
+status_of_case m p q b v s (inl h) e = still_status v s h e
+status_of_case m p q b v s (inr (inl (post, is))) e =
+    status_there (words_in (before_first is_newline b)) (after_first is_newline b) s (ap refused_with (sym is) ∙ e)
+status_of_case m p q b v s (inr (inr (post, is))) e = let none : None ≡ Some s = ap refused_with (sym is) ∙ e in cc
+
+pub refusals_clients : (m p q b : List ℕ) (j : Bool) (s : ℕ) → refused_with (routed m p q b j) ≡ Some s → is_of_clients s ≡ true
+refusals_clients m p q b j s = status_of_case m p q b (routed m p q b j) s (outcome m p q b j)

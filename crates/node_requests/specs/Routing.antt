@@ -1,0 +1,215 @@
+-- Which request a method, a path, a query and a body ask for.
+use Rattle.std.specs.Prelude.{ℕ, ◌==◌, ◌&&◌, Bool, List, [], ◌∷◌, map, length, take, drop, nat_lt, nat_le}
+use Rattle.std.specs.Prelude.{Option, Some, None, unwrap_or, codes, bytes_eq, if◌then◌else◌}
+use Rattle.std.specs.List.{before_first, after_first, position_or_len}
+use Rattle.std.specs.Str.{is_utf8}
+use Rattle.std.specs.Str.Lines.{lines}
+use Rattle.clap.specs.Words.{Text}
+use Rattle.pf_scripts.specs.Lines.{words_in}
+use Rattle.node_requests.specs.declared.request.Read.{Read}
+use Rattle.node_requests.specs.declared.request.Read.TheVariants as read
+use Rattle.node_requests.specs.declared.request.Request.{Request}
+use Rattle.node_requests.specs.declared.request.Request.TheVariants as request
+use Rattle.node_requests.specs.declared.request.Routed.{Routed}
+use Rattle.node_requests.specs.declared.request.Routed.TheVariants as rust
+use Rattle.node_requests.specs.declared.routing.TheConstants.{PACKETS_MAX}
+use Rattle.node_requests.specs.declared.target.Target.{Target}
+use Rattle.node_requests.specs.declared.target.Target.TheVariants as to
+use Rattle.node_requests.specs.Listings.{at_path, words_of}
+use Rattle.node_requests.specs.Queries.{number_in, parameters, value_of, position_of, are_parameters}
+use Rattle.node_requests.specs.Targets.{plain_target, method_of}
+
+-- ---- what is asked for
+
+-- a read; a listing by its line of pfctl's words
+pub data ReadValue : Type 0 where
+  Listing : (words : List Text) → ReadValue
+  Verdicts : (packets : List Text) → ReadValue
+  Standing : (origin number : ℕ) → ReadValue
+  Log : (from : Option ℕ) → ReadValue
+  Entries : (from count : Option ℕ) → ReadValue
+  Status : (json : Bool) → ReadValue
+  Health : ReadValue
+  Ready : ReadValue
+  Metrics : ReadValue
+
+-- a change by pfctl's words and the text of their file, a read once the given number of positions is applied, or an end
+pub data RequestValue : Type 0 where
+  Changes : (words : List Text) → (text : List ℕ) → RequestValue
+  Reads : (at : ℕ) → ReadValue → RequestValue
+  Stops : RequestValue
+
+-- a request; HTTP's status of one that isn't served; or the number of the refusal of a body that isn't understood
+pub data RoutedValue : Type 0 where
+  Asked : RequestValue → RoutedValue
+  Refused : (status : ℕ) → RoutedValue
+  Unread : (code : ℕ) → RoutedValue
+
+-- ---- bodies
+
+abbrev pub is_newline : ℕ → Bool
+is_newline b = b == 10
+
+-- a change: the words of the first line, and the text behind it
+-- Example: -a x -f -, a newline and block ask for pfctl -a x -f - over block.
+abbrev pub change_of : Option (List Text) → (text : List ℕ) → RoutedValue
+change_of None text = Unread 40
+change_of (Some words) text = Asked (Changes (codes "pfctl" ∷ words) text)
+
+abbrev pub change_in : List ℕ → RoutedValue
+change_in body = change_of (words_in (before_first is_newline body)) (after_first is_newline body)
+
+-- the lines of a body, if it is UTF-8; a line ends with a newline, or with a carriage return and a newline
+abbrev pub lines_in : List ℕ → Option (List Text)
+lines_in body = if is_utf8 body then Some (lines body) else None
+
+-- ---- reads
+
+-- a read, once the positions are applied that the parameters name
+abbrev pub reads : List (Text × Text) → ReadValue → RoutedValue
+reads given read = Asked (Reads (unwrap_or (position_of (codes "at") given) 0) read)
+
+-- the value of a parameter, the empty text where it isn't given
+abbrev pub text_in : (name : Text) → List (Text × Text) → Text
+text_in name given = unwrap_or (value_of name given) []
+
+-- a listing at the anchor that the parameters name
+abbrev pub lists : List (Text × Text) → (words : List Text) → RoutedValue
+lists given words = reads given (Listing (at_path (text_in (codes "a") given) words))
+
+-- the rules, and the names of the tables there
+abbrev pub rules_asked : List (Text × Text) → RoutedValue
+rules_asked given = lists given (codes "-s" ∷ codes "rules" ∷ [])
+
+abbrev pub tables_asked : List (Text × Text) → RoutedValue
+tables_asked given = lists given (codes "-s" ∷ codes "Tables" ∷ [])
+
+-- a table's entries
+abbrev pub table_asked : List (Text × Text) → RoutedValue
+table_asked given = lists given (codes "-t" ∷ text_in (codes "t") given ∷ codes "-T" ∷ codes "show" ∷ [])
+
+-- the addresses of a line each, looked up in a table
+abbrev pub table_test_of : List (Text × Text) → Option (List Text) → RoutedValue
+table_test_of given None = Unread 40
+table_test_of given (Some addresses) =
+    lists given (codes "-t" ∷ text_in (codes "t") given ∷ codes "-T" ∷ codes "test" ∷ codes "--" ∷ addresses)
+
+abbrev pub table_test_asked : List (Text × Text) → (body : List ℕ) → RoutedValue
+table_test_asked given body = table_test_of given (lines_in body)
+
+-- the packets of a line each, 1 to 64 of them
+abbrev pub test_of : List (Text × Text) → Option (List Text) → RoutedValue
+test_of given None = Unread 40
+test_of given (Some packets) =
+    if nat_lt 0 (length packets) && nat_le (length packets) PACKETS_MAX then reads given (Verdicts packets)
+    else Unread 40
+
+abbrev pub test_asked : List (Text × Text) → (body : List ℕ) → RoutedValue
+test_asked given body = test_of given (lines_in body)
+
+-- the log, and the entries, from a position on
+abbrev pub log_asked : List (Text × Text) → RoutedValue
+log_asked given = reads given (Log (position_of (codes "from") given))
+
+abbrev pub entries_asked : List (Text × Text) → RoutedValue
+entries_asked given = reads given (Entries (position_of (codes "from") given) (position_of (codes "count") given))
+
+-- ---- paths
+
+-- what a path asks for, of its parameters and the body; of the paths of requests see below
+abbrev pub asked_at : Target → List (Text × Text) → (body : List ℕ) → (json : Bool) → RoutedValue
+asked_at to.Changes given body json = change_in body
+asked_at to.Rules given body json = rules_asked given
+asked_at to.Tables given body json = tables_asked given
+asked_at to.Anchors given body json = reads given (Listing (at_path [] (codes "-s" ∷ codes "Anchors" ∷ [])))
+asked_at to.Table given body json = table_asked given
+asked_at to.TableTest given body json = table_test_asked given body
+asked_at to.Test given body json = test_asked given body
+asked_at to.Log given body json = log_asked given
+asked_at to.Entries given body json = entries_asked given
+asked_at to.Status given body json = reads given (Status json)
+asked_at to.Health given body json = reads given Health
+asked_at to.Ready given body json = reads given Ready
+asked_at to.Metrics given body json = reads given Metrics
+asked_at to.Stop given body json = Asked Stops
+asked_at to.Requests given body json = Unread 40
+
+-- 400 where the query isn't one of the path's
+abbrev pub target_asked : Target → (query body : List ℕ) → (json : Bool) → RoutedValue
+target_asked target query body json =
+    if are_parameters target (parameters query) then asked_at target (parameters query) body json else Refused 400
+
+-- 404 another path, 405 another method
+abbrev pub asked_by : (method : Text) → Option Target → (query body : List ℕ) → (json : Bool) → RoutedValue
+asked_by method None query body json = Refused 404
+asked_by method (Some target) query body json =
+    if bytes_eq method (method_of target) then target_asked target query body json else Refused 405
+
+abbrev pub plain_asked : (method path query body : List ℕ) → (json : Bool) → RoutedValue
+plain_asked method path query body json = asked_by method (plain_target path) query body json
+
+-- ---- what became of a request
+
+-- a member, 255 at most, and a number there
+abbrev pub request_of : (origin number : Option ℕ) → Option (ℕ × ℕ)
+request_of None number = None
+request_of (Some origin) None = None
+request_of (Some origin) (Some number) = if nat_le origin 255 then Some (origin, number) else None
+
+abbrev pub is_dot : ℕ → Bool
+is_dot b = b == 46
+
+-- N.NUMBER
+-- Example: 2.17 is request 17 of member 2.
+abbrev pub request_number : Text → Option (ℕ × ℕ)
+request_number text =
+    if nat_lt (position_or_len is_dot text) (length text)
+    then request_of (number_in (before_first is_dot text)) (number_in (after_first is_dot text))
+    else None
+
+abbrev pub standing_of : Option (ℕ × ℕ) → (method query : List ℕ) → RoutedValue
+standing_of None method query = Refused 404
+standing_of (Some r) method query =
+    if bytes_eq method (codes "GET") then
+    (if are_parameters to.Requests (parameters query) then reads (parameters query) (Standing r.0 r.1) else Refused 400)
+    else Refused 405
+
+abbrev pub standing_asked : (method name query : List ℕ) → RoutedValue
+standing_asked method name query = standing_of (request_number name) method query
+
+-- what is behind the path of requests
+abbrev pub behind : (path : Text) → Option Text
+behind path = if bytes_eq (take 13 path) (codes "/v1/requests/") then Some (drop 13 path) else None
+
+-- ---- requests
+
+abbrev pub routed_behind : Option Text → (method path query body : List ℕ) → (json : Bool) → RoutedValue
+routed_behind None method path query body json = plain_asked method path query body json
+routed_behind (Some name) method path query body json = standing_asked method name query
+
+-- what a method, a path, a query and a body ask for; json says that the answer may be JSON
+abbrev pub routed : (method path query body : List ℕ) → (json : Bool) → RoutedValue
+routed method path query body json = routed_behind (behind path) method path query body json
+
+-- ---- the code's values
+
+abbrev pub read_value : Read → ReadValue
+read_value (read.List listing) = Listing (words_of listing)
+read_value (read.Test packets) = Verdicts (map (λ p. p.now) packets.items)
+read_value (read.Standing origin number) = Standing origin number
+read_value (read.Log from) = Log from
+read_value (read.Entries from count) = Entries from count
+read_value (read.Status json) = Status json
+read_value read.Health = Health
+read_value read.Ready = Ready
+read_value read.Metrics = Metrics
+
+abbrev pub request_value : Request → RequestValue
+request_value (request.Change words text) = Changes (map (λ w. w.now) words.items) text.now
+request_value (request.Read at r) = Reads at (read_value r)
+request_value request.Stop = Stops
+
+abbrev pub routed_value : Routed → RoutedValue
+routed_value (rust.Asked r) = Asked (request_value r)
+routed_value (rust.Refused status) = Refused status
+routed_value (rust.Unread code) = Unread code
