@@ -17,7 +17,7 @@ _pfx() {
     -T) COMPREPLY=($(compgen -W "add delete replace flush show test" -- "$current")); return ;;
     -s) COMPREPLY=($(compgen -W "rules Tables Anchors" -- "$current")); return ;;
     --pf) [[ $word != follow ]] || { COMPREPLY=($(compgen -d -- "$current")); return; } ;;
-    -f | --file | --packets | --config | --store | --key | --other-key | --door | --interfaces)
+    -f | --file | --packets | --config | --store | --key | --other-key | --control | --interfaces)
         COMPREPLY=($(compgen -f -- "$current")); return ;;
     -a | -t | --me | --cluster | --turns | --to | --members | --node | --wait | --at | --position | --metrics) return ;;
     --from | --count) return ;;
@@ -30,16 +30,16 @@ _pfx() {
     test) options="-f --file --packets -q --quiet -v --verbose" ;;
     ctl) options="-v --verbose" ;;
     node)
-        options="--config --me --cluster --store --turns --door --metrics --key --other-key --new-starts --unsealed --new --check --quiet" ;;
+        options="--config --me --cluster --store --turns --control --metrics --key --other-key --new-starts --unsealed --new --check --quiet" ;;
     ask)
         options="--wait -a -f -n -F -t -T -s"
-        [[ $seen == *" --to "* ]] || options+=" --door --at --unchecked --script --from"
-        [[ $seen == *" --door "* ]] || options+=" --to --cluster --members --node"
-        [[ $seen == *" --door "* ]] && words="test request log status health metrics sync stop" ;;
+        [[ $seen == *" --to "* ]] || options+=" --control --at --unchecked --script --from"
+        [[ $seen == *" --control "* ]] || options+=" --to --cluster --members --node"
+        [[ $seen == *" --control "* ]] && words="test request log status health metrics sync stop" ;;
     show)
         options="--store --nft --interfaces --pf --script --from --count -a -f -n -F -t -T -s"
         words="test log" ;;
-    follow) options="--door --nft --interfaces --no-member-guard --pf --turns" ;;
+    follow) options="--control --nft --interfaces --no-member-guard --pf --turns" ;;
     batch) [[ $current == -* ]] || { COMPREPLY=($(compgen -f -- "$current")); return; } ;;
     help) words="check test ctl lab explain node ask key show follow batch help" ;;
     key) [[ $current == -* ]] || { COMPREPLY=($(compgen -f -- "$current")); return; } ;;

@@ -1,5 +1,5 @@
 """A client of a node's control socket, which asks for a change and waits until it is applied. scripts/loop-speed and
-scripts/wan use it; it is `pfx ask --door PATH --wait` without a process for each command."""
+scripts/wan use it; it is `pfx ask --control PATH --wait` without a process for each command."""
 
 import http.client
 import socket

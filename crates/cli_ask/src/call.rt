@@ -1,4 +1,4 @@
-//! What is sent at a door for an operator's words.
+//! What is sent at a control socket for an operator's words.
 
 ghost use Rattle.std.specs.Prelude.{◌≡◌, IfOk, Ok, None, false, true, map, option_map};
 ghost use Rattle.std.specs.List.{list_any};

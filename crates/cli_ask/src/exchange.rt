@@ -20,18 +20,18 @@ const FIELDS: usize = 64;
 
 /// Why there is no answer.
 #[derive(Clone, Copy, PartialEq, Eq)]
-pub enum VisitFault {
+pub enum AskFault {
     /// A growth was refused.
     Memory,
-    /// 85: nobody answers at the door.
-    NoDoor,
+    /// 85: nobody answers at the control socket.
+    NoAnswer,
     /// 86: an answer that is cut short, or is none of HTTP's.
     BadAnswer,
 }
 
-impl From<AllocError> for VisitFault {
-    fn from(_error: AllocError) -> VisitFault {
-        VisitFault::Memory
+impl From<AllocError> for AskFault {
+    fn from(_error: AllocError) -> AskFault {
+        AskFault::Memory
     }
 }
 
@@ -67,13 +67,13 @@ pub(crate) struct Deadline {
 
 impl Deadline {
     /// The given number of seconds from now on.
-    pub(crate) fn new<RT: Clock>(rt: &RT, seconds: u32) -> Result<Deadline, VisitFault> {
+    pub(crate) fn new<RT: Clock>(rt: &RT, seconds: u32) -> Result<Deadline, AskFault> {
         match Instant::now(rt) {
             Ok(start) => Ok(Deadline {
                 start,
                 limit: Duration::from_secs(u64::from(seconds)),
             }),
-            Err(_) => Err(VisitFault::BadAnswer),
+            Err(_) => Err(AskFault::BadAnswer),
         }
     }
 
@@ -107,8 +107,8 @@ impl<RT: Clock> Read for Timed<'_, RT> {
 }
 
 /// The stream to whoever answers at the control socket.
-fn connect<RT: Net + Clock>(rt: &RT, door: &str, deadline: Deadline) -> io::Result<UnixStream> {
-    let stream = UnixStream::connect(rt, door)?;
+fn connect<RT: Net + Clock>(rt: &RT, control: &str, deadline: Deadline) -> io::Result<UnixStream> {
+    let stream = UnixStream::connect(rt, control)?;
     stream.set_write_timeout(Some(deadline.left(rt)?))?;
     Ok(stream)
 }
@@ -141,19 +141,19 @@ fn number_in(bytes: &[u8], fields: &[HeaderSpan], name: &[u8]) -> Option<u32> {
 }
 
 /// The answer that the bytes are.
-fn reply_in(alloc: Global, bytes: &[u8]) -> Result<Reply, VisitFault> {
+fn reply_in(alloc: Global, bytes: &[u8]) -> Result<Reply, AskFault> {
     let mut fields = [EMPTY_HEADER_SPAN; FIELDS];
     let Ok(Status::Complete(head)) = parse_response(bytes, &mut fields) else {
-        return Err(VisitFault::BadAnswer);
+        return Err(AskFault::BadAnswer);
     };
     let Some(body) = bytes.get(head.len..) else {
-        return Err(VisitFault::BadAnswer);
+        return Err(AskFault::BadAnswer);
     };
     let Some(fields) = fields.get(..head.headers) else {
-        return Err(VisitFault::BadAnswer);
+        return Err(AskFault::BadAnswer);
     };
     if !has_length(bytes, fields, body.len()) {
-        return Err(VisitFault::BadAnswer);
+        return Err(AskFault::BadAnswer);
     }
     Ok(Reply {
         code: head.code,
@@ -167,13 +167,13 @@ fn reply_in(alloc: Global, bytes: &[u8]) -> Result<Reply, VisitFault> {
 pub(crate) fn exchange<RT: Net + Clock>(
     rt: &RT,
     alloc: Global,
-    door: &str,
+    control: &str,
     call: &Call,
     deadline: Deadline,
-) -> Result<Reply, VisitFault> {
+) -> Result<Reply, AskFault> {
     let bytes = request_bytes(alloc, call)?;
-    let Ok(mut stream) = connect(rt, door, deadline) else {
-        return Err(VisitFault::NoDoor);
+    let Ok(mut stream) = connect(rt, control, deadline) else {
+        return Err(AskFault::NoAnswer);
     };
     // an answer may come before all is sent
     let _sent = stream.write_all(bytes.as_slice());
@@ -184,8 +184,8 @@ pub(crate) fn exchange<RT: Net + Clock>(
     };
     match read_all(alloc, &mut answers) {
         Ok(answer) => reply_in(alloc, answer.as_slice()),
-        Err(InputFault::Memory) => Err(VisitFault::Memory),
-        Err(InputFault::Failed | InputFault::TooLong) => Err(VisitFault::BadAnswer),
+        Err(InputFault::Memory) => Err(AskFault::Memory),
+        Err(InputFault::Failed | InputFault::TooLong) => Err(AskFault::BadAnswer),
     }
 }
 
@@ -193,15 +193,15 @@ pub(crate) fn exchange<RT: Net + Clock>(
 pub fn read_at<RT: Net + Clock>(
     rt: &RT,
     alloc: Global,
-    door: &str,
+    control: &str,
     target: String,
-) -> Result<Reply, VisitFault> {
+) -> Result<Reply, AskFault> {
     let deadline = Deadline::new(rt, PATIENCE)?;
     let call = Call::get(alloc, target, Kind::Read);
-    let reply = exchange(rt, alloc, door, &call, deadline)?;
+    let reply = exchange(rt, alloc, control, &call, deadline)?;
     if reply.code == 200 {
         Ok(reply)
     } else {
-        Err(VisitFault::BadAnswer)
+        Err(AskFault::BadAnswer)
     }
 }

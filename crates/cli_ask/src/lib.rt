@@ -2,18 +2,19 @@
 //!
 //! # Organization
 //!
-//! - [`run_visit`]: the word `ask` with `--door`, over any reader and writer.
-//! - [`read_at`], [`pause`]: one read at a door with its [`Reply`], and the time between two.
+//! - [`run_control_ask`]: the word `ask` with `--control`, over any reader and writer.
+//! - [`read_at`], [`pause`]: one read at a control socket with its [`Reply`], and the time between two.
 //! - [`change_line`]: the line of a change that is sent, and [`laws`]: it is read as the arguments that it was made of.
 //!
 //! Within: `words` has the arguments as `clap` reads them, `call` what is sent for them, `checking` what they are
-//! refused for before that, `exchange` one request and its answer over the socket, `visiting` how often it is asked,
+//! refused for before that, `exchange` one request and its answer over the socket, `asking` how often it is asked,
 //! `answers` whether an answer says that what was asked for was done, `outcome` what a run writes and how it ends,
 //! `showing` an answer for a terminal, `script` reads the changes of a script, `scripting` asks them, and `telling` has
 //! what is printed for people on standard error.
 #![tactic(auto)]
 
 mod answers;
+mod asking;
 mod call;
 mod checking;
 mod exchange;
@@ -25,11 +26,10 @@ mod scripting;
 mod sending;
 mod showing;
 mod telling;
-mod visiting;
 mod words;
 
+pub use asking::pause;
 pub use cli_io::Status;
-pub use exchange::{Reply, VisitFault, read_at};
-pub use running::run_visit;
+pub use exchange::{AskFault, Reply, read_at};
+pub use running::run_control_ask;
 pub use sending::change_line;
-pub use visiting::pause;

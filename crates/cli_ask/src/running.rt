@@ -1,13 +1,13 @@
-//! A run of `ask` with `--door`.
+//! A run of `ask` with `--control`.
 
+use crate::asking::ask_at;
 use crate::call::{Call, Kind, call_in};
 use crate::checking::{Refused, refused_args};
-use crate::exchange::VisitFault;
+use crate::exchange::AskFault;
 use crate::outcome::{Outcome, refused, write_outcome};
 use crate::script::refused_script;
-use crate::scripting::{Errand, ask_script};
+use crate::scripting::{ScriptRequest, ask_script};
 use crate::telling::tell_left;
-use crate::visiting::visit;
 use crate::words::command;
 use clap::ArgMatches;
 use cli_io::{InputFault, Status, misused, out_of_memory, read_all};
@@ -63,7 +63,7 @@ fn outcome_of<R: Read>(
     matches: &ArgMatches<'_>,
     reader: &mut R,
 ) -> Outcome {
-    let Some(door) = matches.get_str("door") else {
+    let Some(control) = matches.get_str("control") else {
         return refused(40);
     };
     if matches.get_one::<u32>("from").is_some() {
@@ -85,16 +85,16 @@ fn outcome_of<R: Read>(
         Ok(Some(refused)) => return Outcome::Refused(refused),
         Err(_) => return Outcome::Memory,
     }
-    match visit(rt, alloc, door, &call, seconds) {
+    match ask_at(rt, alloc, control, &call, seconds) {
         Ok(reply) => {
             if call.kind == Kind::Change || call.kind == Kind::Sync {
                 tell_left(rt, reply.front);
             }
             Outcome::Answered(call.kind, reply)
         }
-        Err(VisitFault::Memory) => Outcome::Memory,
-        Err(VisitFault::NoDoor) => refused(85),
-        Err(VisitFault::BadAnswer) => refused(86),
+        Err(AskFault::Memory) => Outcome::Memory,
+        Err(AskFault::NoAnswer) => refused(85),
+        Err(AskFault::BadAnswer) => refused(86),
     }
 }
 
@@ -115,12 +115,12 @@ fn has_others(matches: &ArgMatches<'_>) -> bool {
 fn checked_script(
     alloc: Global,
     matches: &ArgMatches<'_>,
-    errand: &Errand<'_>,
+    request: &ScriptRequest<'_>,
 ) -> Result<Option<Refused>, AllocError> {
     if matches.get_flag("unchecked") {
         return Ok(None);
     }
-    refused_script(alloc, errand.script, errand.from)
+    refused_script(alloc, request.script, request.from)
 }
 
 /// Asks the changes of a script.
@@ -132,7 +132,7 @@ fn run_script<R: Read, W: Write>(
     reader: &mut R,
     writer: &mut W,
 ) -> Status {
-    let Some(door) = matches.get_str("door") else {
+    let Some(control) = matches.get_str("control") else {
         return write_outcome(alloc, refused(40), writer);
     };
     if has_others(matches) {
@@ -142,20 +142,20 @@ fn run_script<R: Read, W: Write>(
         Ok(script) => script,
         Err(outcome) => return write_outcome(alloc, outcome, writer),
     };
-    let errand = Errand {
-        door,
+    let request = ScriptRequest {
+        control,
         script: script.as_slice(),
         from: u64::from(matches.get_one::<u32>("from").unwrap_or(1)),
         seconds: matches.get_one::<u32>("wait").unwrap_or(WAIT).max(1),
     };
-    match checked_script(alloc, matches, &errand) {
-        Ok(None) => ask_script(rt, alloc, &errand, writer),
+    match checked_script(alloc, matches, &request) {
+        Ok(None) => ask_script(rt, alloc, &request, writer),
         Ok(Some(refused)) => write_outcome(alloc, Outcome::Refused(refused), writer),
         Err(_) => out_of_memory(writer),
     }
 }
 
-/// What the subcommand `ask` with `--door` asks for, the program's name first: a request at a node's control socket,
+/// What the subcommand `ask` with `--control` asks for, the program's name first: a request at a node's control socket,
 /// whose answer is written; with `--script` each change of a script, one after the other. Arguments of a change that
 /// are refused wherever they are asked (40, 24, 1 to 3, 41), and a text that the grammar refuses, are refused before
 /// the node is asked, unless `--unchecked` is among them. An argument with a control character is refused (40) in any
@@ -163,7 +163,7 @@ fn run_script<R: Read, W: Write>(
 ///
 /// The status is 1 where a change was refused or its outcome isn't known in time, where not all addresses of `-T test`
 /// match, and of every refusal.
-pub fn run_visit<S: AsStr, R: Read, W: Write>(
+pub fn run_control_ask<S: AsStr, R: Read, W: Write>(
     rt: &HostRuntime,
     alloc: Global,
     words: &[S],

@@ -1,10 +1,10 @@
-//! A script's changes are asked at a door, one after the other.
+//! A script's changes are asked at a control socket, one after the other.
 
 use crate::answers::outcome_behind;
-use crate::exchange::VisitFault;
+use crate::asking::ask_at;
+use crate::exchange::AskFault;
 use crate::script::{Change, Left, ScriptFault, next_change};
 use crate::telling::{tell_left, tell_line};
-use crate::visiting::visit;
 use cli_io::{Status, out_of_memory};
 use std::alloc::{AllocError, Global};
 use std::io::Write;
@@ -12,10 +12,10 @@ use std::io::Write;
 /// What comes of a change that was made.
 const MADE: &[u8] = b"ok";
 
-/// What is asked at which door.
+/// What is asked at which control socket.
 #[derive(Clone, Copy)]
-pub(crate) struct Errand<'a> {
-    pub(crate) door: &'a str,
+pub(crate) struct ScriptRequest<'a> {
+    pub(crate) control: &'a str,
     pub(crate) script: &'a [u8],
     /// The first line that is asked.
     pub(crate) from: u64,
@@ -35,13 +35,13 @@ enum Went {
 fn make(
     rt: &HostRuntime,
     alloc: Global,
-    errand: &Errand<'_>,
+    request: &ScriptRequest<'_>,
     change: &Change<'_>,
-) -> Result<Went, VisitFault> {
+) -> Result<Went, AskFault> {
     let Some(call) = change.call(alloc)? else {
         return Ok(Went::Stopped(Vec::from_slice(alloc, b"refused 40\n")?));
     };
-    let reply = visit(rt, alloc, errand.door, &call, errand.seconds)?;
+    let reply = ask_at(rt, alloc, request.control, &call, request.seconds)?;
     tell_left(rt, reply.front);
     let outcome = outcome_behind(reply.body.as_slice());
     if outcome.starts_with(MADE) {
@@ -65,19 +65,19 @@ fn write_end<W: Write>(alloc: Global, said: &[u8], line: u64, writer: &mut W) ->
 fn ask_one<W: Write>(
     rt: &HostRuntime,
     alloc: Global,
-    errand: &Errand<'_>,
+    request: &ScriptRequest<'_>,
     change: &Change<'_>,
     writer: &mut W,
 ) -> Option<Status> {
-    match make(rt, alloc, errand, change) {
+    match make(rt, alloc, request, change) {
         Ok(Went::Made(said)) => match writer.write_all(said.as_slice()) {
             Ok(()) => None,
             Err(_) => Some(Status::Failed),
         },
         Ok(Went::Stopped(said)) => Some(write_end(alloc, said.as_slice(), change.line, writer)),
-        Err(VisitFault::Memory) => Some(out_of_memory(writer)),
-        Err(VisitFault::NoDoor) => Some(write_end(alloc, b"refused 85\n", change.line, writer)),
-        Err(VisitFault::BadAnswer) => Some(write_end(alloc, b"refused 86\n", change.line, writer)),
+        Err(AskFault::Memory) => Some(out_of_memory(writer)),
+        Err(AskFault::NoAnswer) => Some(write_end(alloc, b"refused 85\n", change.line, writer)),
+        Err(AskFault::BadAnswer) => Some(write_end(alloc, b"refused 86\n", change.line, writer)),
     }
 }
 
@@ -86,23 +86,23 @@ fn ask_one<W: Write>(
 pub(crate) fn ask_script<W: Write>(
     rt: &HostRuntime,
     alloc: Global,
-    errand: &Errand<'_>,
+    request: &ScriptRequest<'_>,
     writer: &mut W,
 ) -> Status {
     let mut left = Left {
-        bytes: errand.script,
+        bytes: request.script,
         line: 1,
     };
-    for _ in 0..=errand.script.len() {
+    for _ in 0..=request.script.len() {
         let change = match next_change(alloc, &mut left) {
             Ok(Some(change)) => change,
             Ok(None) => return Status::Done,
             Err(ScriptFault::Line(line)) => return write_end(alloc, b"refused 40\n", line, writer),
             Err(ScriptFault::Memory) => return out_of_memory(writer),
         };
-        if change.line >= errand.from {
+        if change.line >= request.from {
             tell_line(rt, change.line);
-            if let Some(status) = ask_one(rt, alloc, errand, &change, writer) {
+            if let Some(status) = ask_one(rt, alloc, request, &change, writer) {
                 return status;
             }
         }

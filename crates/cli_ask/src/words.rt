@@ -1,4 +1,4 @@
-//! The word `ask` with `--door`, as `clap` reads it.
+//! The word `ask` with `--control`, as `clap` reads it.
 
 ghost use Rattle.std.specs.Prelude.{◌≡◌, IfOk, false};
 ghost use Rattle.clap.specs.declared.builder.command.Command.TheViews.{out-Command};
@@ -18,7 +18,7 @@ pub(crate) const POSITIONS: u64 = 1_000_000;
 const LINES: u64 = 4_294_967_295;
 
 /// What help says of each option, and below them.
-const DOOR: &str = "The Unix socket at which the node answers operators";
+const CONTROL: &str = "The Unix socket at which the node answers operators";
 
 const WAIT: &str = "Seconds to wait for what comes of it, 0 to 3600";
 
@@ -37,7 +37,7 @@ const BELOW: &str = "Words of a change, or of a listing; or, without pfctl's opt
   log [FROM]       what was learned                status            how the node is
   health           ok, behind, alone or failed     metrics           numbers for Prometheus
   sync             asks what changes nothing       stop              ends the node
-A refusal is refused CODE; 85 nobody answers at the door, 86 the answer is none.";
+A refusal is refused CODE; 85 nobody answers at the control socket, 86 the answer is none.";
 
 /// An option with a value.
 fn valued<'a>(alloc: Global, name: &'a str, help: &'a str) -> Arg<'a>
@@ -104,14 +104,14 @@ fn with_script<'a>(alloc: Global, command: Command<'a>) -> Result<Command<'a>, A
     )
 }
 
-/// `ask --door PATH [--wait S] [--at A] [--unchecked] WORDS`, or with `--script FILE [--from LINE]` in their place
+/// `ask --control PATH [--wait S] [--at A] [--unchecked] WORDS`, or with `--script FILE [--from LINE]` in their place
 fn ask_command<'a>(alloc: Global) -> Result<Command<'a>, AllocError>
     ensures local { IfOk result (λ c. (out-Command c).has_globals ≡ false) }
 {
     let ask = Command::new(alloc, "ask")
-        .about("Asks a node at its door")
+        .about("Asks a node at its control socket")
         .after_help(BELOW);
-    let command = with(ask, valued(alloc, "door", DOOR).required(true))?;
+    let command = with(ask, valued(alloc, "control", CONTROL).required(true))?;
     let command = with_wait(alloc, command)?;
     let command = with_at(alloc, command)?;
     let command = with_unchecked(alloc, command)?;
@@ -119,7 +119,7 @@ fn ask_command<'a>(alloc: Global) -> Result<Command<'a>, AllocError>
     pfctl_args(alloc, command)
 }
 
-/// The program's words with a door.
+/// The program's words with a control socket.
 pub(crate) fn command<'a>(alloc: Global) -> Result<Command<'a>, AllocError> {
     let ask = ask_command(alloc)?;
     let command = Command::new(alloc, "pfx").subcommand(ask)?;

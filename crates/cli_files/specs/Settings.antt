@@ -19,7 +19,7 @@ kind_of key =
     else if bytes_eq key (codes "store") then Some Text
     else if bytes_eq key (codes "key") then Some Text
     else if bytes_eq key (codes "other-key") then Some Text
-    else if bytes_eq key (codes "door") then Some Text
+    else if bytes_eq key (codes "control") then Some Text
     else if bytes_eq key (codes "metrics") then Some Text
     else if bytes_eq key (codes "unsealed") then Some Flag
     else if bytes_eq key (codes "quiet") then Some Flag
@@ -121,7 +121,7 @@ HasWrong such text = (ms : Members) × (key : List ℕ) × (parse_document text 
     × (first_wrong ms ≡ Some key) × (such (kind_of key) ≡ true)
 
 -- the key names no setting
--- Example: doors = "/run/x" names none.
+-- Example: controls = "/run/x" names none.
 abbrev pub is_unknown : Option Kind → Bool
 is_unknown None = true
 is_unknown (Some kind) = false

@@ -31,7 +31,7 @@ pub(crate) fn kind_of(key: &str) -> Option<Kind>
         "store" => Some(Kind::Text),
         "key" => Some(Kind::Text),
         "other-key" => Some(Kind::Text),
-        "door" => Some(Kind::Text),
+        "control" => Some(Kind::Text),
         "metrics" => Some(Kind::Text),
         "unsealed" => Some(Kind::Flag),
         "quiet" => Some(Kind::Flag),

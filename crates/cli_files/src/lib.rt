@@ -36,8 +36,8 @@
 //!   of a wrong key is the first that begins with it; a key that is written with escapes has none. No clause says
 //!   which line it is.
 //! - **An option goes before the file**, flags only towards true: `unsealed = true` has no option against it.
-//! - **What clap asks for** (`--me`, `--cluster`, `--store`, a door for `--metrics`, a key for `--other-key`) it
-//!   asks for where no file is named. With a file these are asked of what both say: 92, without a line.
+//! - **What clap asks for** (`--me`, `--cluster`, `--store`, a control socket for `--metrics`, a key for `--other-key`)
+//!   it asks for where no file is named. With a file these are asked of what both say: 92, without a line.
 //! - **90 before 92**, and both before the refusals of a node's words.
 //! The others drop what is of a start below the one that they know. A number that is at least the time in seconds goes
 //! on above the old ones where a file was lost and made anew; one that only counts would begin at 1 again, and nobody

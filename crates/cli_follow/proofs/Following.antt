@@ -1,4 +1,4 @@
--- What a door answers of a log leads from one configuration of the log to a later one.
+-- What a control socket answers of a log leads from one configuration of the log to a later one.
 use Rattle.std.proofs.Common.{◌≡◌, ◌==◌, ℕ, zero, suc, ◌+◌, ◌-◌, ◌<◌, ◌≤◌, min, Bool, true, false, List, [], ◌∷◌, ◌++◌}
 use Rattle.std.proofs.Common.{Option, Some, None, Result, Ok, length, fold, inl, inr, refl, sym, ap, subst, ◌∙◌, arith}
 use Rattle.std.specs.Prelude.{if◌then◌else◌, nat_lt, option_map}
@@ -94,7 +94,7 @@ lines_to log first end c h known a = elim (cases_lt end first) [
       })
 ]
 
--- what was taken of a text that a door answered
+-- what was taken of a text that a control socket answered
 pub followed : (old new : Configuration) (from to : ℕ) (text : List ℕ) → to ≡ from + length (lines text) →
     new ≡ after_lines old text → Follows old new from to text
 followed old new from to text place is log applied count h known a same =

@@ -1,4 +1,4 @@
--- What a door's lines of entries do to a configuration.
+-- What a control socket's lines of entries do to a configuration.
 use Rattle.std.specs.Prelude.{◌≡◌, ℕ, ◌+◌, ◌≤◌, ◌⊎◌, List, [], ◌∷◌, Option, Some, Result, Ok, Err, OnOk}
 use Rattle.std.specs.List.{fold}
 use Rattle.hex.specs.Hex.{IsBytes, decode_of}
@@ -37,8 +37,8 @@ StopsIn old new from to (l ∷ ls) =
 abbrev pub AreBytes : Log Bytes → Type 0
 AreBytes log = (p : ℕ) (e : Entry Bytes) → log p ≡ Some e → IsBytes (spelled e)
 
--- Where a configuration is that of a log's first entries, and a text is what a door answers of this log from there on,
--- it is afterwards that of the log's first entries up to where it stands then.
+-- Where a configuration is that of a log's first entries, and a text is what a control socket answers of this log from
+-- there on, it is afterwards that of the log's first entries up to where it stands then.
 -- Example: at 3, with two lines: after five entries.
 abbrev pub Follows : (old new : Configuration) → (from to : ℕ) → (text : List ℕ) → Type 0
 Follows old new from to text = (log : Log Bytes) (applied count : ℕ) → AreBytes log → applied ≤ front log →

@@ -3,7 +3,8 @@
 //! # Organization
 //!
 //! - [`run_follow`]: the subcommand, over any writers.
-//! - [`Mirror`]: the configuration after the first entries of a log, as a control socket's lines give them.
+//! - [`FollowedConfiguration`]: the configuration after the first entries of a log, as a control socket's lines give
+//!   them.
 //! - [`Kernel`]: what nft(8) is to load, one position after the other; it knows neither sockets nor files.
 //! - [`members_are_read`]: the members that a node names are read as such.
 //!
@@ -13,7 +14,8 @@
 //! # Why
 //!
 //! - `follow` reads entries, and makes the configuration from them by `apply`, as a node does: a listing has no
-//!   place for unnamed blocks, and the door needs nothing but bytes. It costs reading the log once at the start.
+//!   place for unnamed blocks, and the control socket needs nothing but bytes. It costs reading the log once at the
+//!   start.
 //! - Nothing is written of an empty log: a node whose store is lost begins there, and would open its kernel's
 //!   filter until it has caught up.
 //! - Whether rules changed is asked of what would be rendered under the names that were handed out last, so a
@@ -22,10 +24,10 @@
 //! - Lines go to standard output as nft takes them; all refusals go to standard error, 40 and 89 too, and so does
 //!   `memory`, since what reads the output is nft. What `clap` says of words stands on standard output, as of every
 //!   word.
-//! - The loop ends with its output, at `--turns`, or for lack of memory, and at nothing else: a door where nobody
-//!   answers is asked again, since nodes are restarted.
+//! - The loop ends with its output, at `--turns`, or for lack of memory, and at nothing else: a control socket where
+//!   nobody answers is asked again, since nodes are restarted.
 //! - It pauses by a read of a stream of its own that times out, as `cli_ask` does: there is no handle for waiting.
-//! - A line has no position: the answer begins where it was asked from. The mirror says where it stands.
+//! - A line has no position: the answer begins where it was asked from. The followed configuration has its position.
 //! - Where the members listen is read from the node's status, once a second too: a node may be started again with
 //!   other addresses while `follow` runs, and the old guard would cut it off. What is written then has the names of
 //!   a position already written, so the last line of what was written before, which ends these names, isn't
@@ -36,15 +38,15 @@
 #![tactic(auto)]
 
 mod files;
+mod followed_configuration;
 mod kernel;
 mod laws;
 mod members;
-mod mirror;
 mod outlets;
 mod running;
 mod words;
 
+pub use followed_configuration::{FollowedConfiguration, TakeFault};
 pub use kernel::{Kernel, Step};
 pub use laws::members_are_read;
-pub use mirror::{Mirror, TakeFault};
 pub use running::run_follow;

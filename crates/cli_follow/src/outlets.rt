@@ -1,8 +1,8 @@
 //! Where what changed is written.
 
 use crate::files::TextFiles;
+use crate::followed_configuration::FollowedConfiguration;
 use crate::kernel::{Kernel, Step};
-use crate::mirror::Mirror;
 use cli_nft::Member;
 use std::alloc::{AllocError, Global};
 use std::io::Write;
@@ -29,7 +29,7 @@ pub(crate) enum WriteFault {
     Memory,
     /// The output is closed.
     Closed,
-    /// The log at the door is another than the one that was followed.
+    /// The log at the control socket is another than the one that was followed.
     Another,
 }
 
@@ -63,13 +63,22 @@ fn write_lines<W: Write>(writer: &mut W, lines: &[u8]) -> Result<(), WriteFault>
 fn write_kernel<W: Write, E: Write>(
     alloc: Global,
     kernel: &mut Kernel,
-    mirror: &Mirror,
+    followed_configuration: &FollowedConfiguration,
     writer: &mut W,
     errors: &mut E,
 ) -> Result<(), WriteFault> {
-    match kernel.step(alloc, &mirror.config, mirror.position)? {
+    match kernel.step(
+        alloc,
+        &followed_configuration.config,
+        followed_configuration.position,
+    )? {
         Step::Same => Ok(()),
-        Step::Refused(line) => Ok(say(errors, alloc, mirror.position, line.as_str())?),
+        Step::Refused(line) => Ok(say(
+            errors,
+            alloc,
+            followed_configuration.position,
+            line.as_str(),
+        )?),
         Step::Lines(lines) => write_lines(writer, lines.as_slice()),
     }
 }
@@ -104,25 +113,25 @@ impl Outlets {
         &mut self,
         rt: &HostRuntime,
         alloc: Global,
-        mirror: &Mirror,
+        followed_configuration: &FollowedConfiguration,
         writer: &mut W,
         errors: &mut E,
     ) -> Result<(), WriteFault> {
         self.has_begun = true;
         if let Some(files) = &mut self.files {
-            let is_behind = !files.write(rt, alloc, &mirror.config)?;
+            let is_behind = !files.write(rt, alloc, &followed_configuration.config)?;
             if is_behind && !self.is_behind {
                 say(
                     errors,
                     alloc,
-                    mirror.position,
+                    followed_configuration.position,
                     "a file couldn't be written\n",
                 )?;
             }
             self.is_behind = is_behind;
         }
         match &mut self.kernel {
-            Some(kernel) => write_kernel(alloc, kernel, mirror, writer, errors),
+            Some(kernel) => write_kernel(alloc, kernel, followed_configuration, writer, errors),
             None => Ok(()),
         }
     }

@@ -1,13 +1,13 @@
 //! A run of `follow`.
 
 use crate::files::TextFiles;
+use crate::followed_configuration::{FollowedConfiguration, TakeFault};
 use crate::kernel::Kernel;
 use crate::members::members_told;
-use crate::mirror::{Mirror, TakeFault};
 use crate::outlets::{Outlets, WriteFault};
 use crate::words::command;
 use clap::ArgMatches;
-use cli_ask::{VisitFault, pause, read_at};
+use cli_ask::{AskFault, pause, read_at};
 use cli_io::{Shown, Status, knock, misused};
 use cli_nft::{machine_in, read_file};
 use node_requests::{ENTRIES_BYTES, ENTRIES_MAX};
@@ -33,35 +33,37 @@ enum Asked {
     More,
     /// All that is applied.
     All,
-    /// The log at the door is shorter than what was followed of it.
+    /// The log at the control socket is shorter than what was followed of it.
     Another,
     /// Nobody answers, or what comes is no answer of a node's.
-    Nothing(VisitFault),
+    Nothing(AskFault),
 }
 
-/// Takes what is new at the door.
+/// Takes what is new at the control socket.
 fn ask_on(
     rt: &HostRuntime,
     alloc: Global,
-    door: &str,
-    mirror: &mut Mirror,
+    control: &str,
+    followed_configuration: &mut FollowedConfiguration,
 ) -> Result<Asked, AllocError> {
-    let first = mirror.position;
+    let first = followed_configuration.position;
     let target = format!(in alloc; "/v1/entries?from={first}")?;
-    let reply = match read_at(rt, alloc, door, target) {
+    let reply = match read_at(rt, alloc, control, target) {
         Ok(reply) => reply,
-        Err(VisitFault::Memory) => return Err(AllocError),
+        Err(AskFault::Memory) => return Err(AllocError),
         Err(fault) => return Ok(Asked::Nothing(fault)),
     };
     if reply.front.is_some_and(|front| front < first) {
         return Ok(Asked::Another);
     }
-    match mirror.take(alloc, reply.body.as_slice()) {
+    match followed_configuration.take(alloc, reply.body.as_slice()) {
         Ok(()) => {}
         Err(TakeFault::Memory) => return Err(AllocError),
-        Err(TakeFault::BadLine) => return Ok(Asked::Nothing(VisitFault::BadAnswer)),
+        Err(TakeFault::BadLine) => return Ok(Asked::Nothing(AskFault::BadAnswer)),
     }
-    if mirror.position.saturating_sub(first) >= ENTRIES_MAX || reply.body.len() >= ENTRIES_BYTES {
+    if followed_configuration.position.saturating_sub(first) >= ENTRIES_MAX
+        || reply.body.len() >= ENTRIES_BYTES
+    {
         return Ok(Asked::More);
     }
     Ok(Asked::All)
@@ -71,17 +73,17 @@ fn ask_on(
 fn ask_members(
     rt: &HostRuntime,
     alloc: Global,
-    door: &str,
+    control: &str,
     outlets: &mut Outlets,
-) -> Result<Result<bool, VisitFault>, AllocError> {
-    let reply = match read_at(rt, alloc, door, String::from_str(alloc, "/v1/status")?) {
+) -> Result<Result<bool, AskFault>, AllocError> {
+    let reply = match read_at(rt, alloc, control, String::from_str(alloc, "/v1/status")?) {
         Ok(reply) => reply,
-        Err(VisitFault::Memory) => return Err(AllocError),
+        Err(AskFault::Memory) => return Err(AllocError),
         Err(fault) => return Ok(Err(fault)),
     };
     match members_told(alloc, reply.body.as_slice())? {
         Some(members) => Ok(Ok(outlets.set_members(members))),
-        None => Ok(Err(VisitFault::BadAnswer)),
+        None => Ok(Err(AskFault::BadAnswer)),
     }
 }
 
@@ -90,23 +92,23 @@ fn ask_members(
 fn write_on<W: Write, E: Write>(
     rt: &HostRuntime,
     alloc: Global,
-    door: &str,
+    control: &str,
     is_again: bool,
-    mirror: &mut Mirror,
+    followed_configuration: &mut FollowedConfiguration,
     outlets: &mut Outlets,
     writer: &mut W,
     errors: &mut E,
-) -> Result<Option<VisitFault>, WriteFault> {
-    let mut is_wanted = mirror.is_moved || (outlets.is_behind && is_again);
-    if outlets.is_guarded && (mirror.is_moved || is_again) {
-        match ask_members(rt, alloc, door, outlets)? {
+) -> Result<Option<AskFault>, WriteFault> {
+    let mut is_wanted = followed_configuration.is_moved || (outlets.is_behind && is_again);
+    if outlets.is_guarded && (followed_configuration.is_moved || is_again) {
+        match ask_members(rt, alloc, control, outlets)? {
             Ok(is_new) => is_wanted = is_wanted || is_new,
             Err(fault) => return Ok(Some(fault)),
         }
     }
     if is_wanted {
-        mirror.is_moved = false;
-        outlets.write(rt, alloc, mirror, writer, errors)?;
+        followed_configuration.is_moved = false;
+        outlets.write(rt, alloc, followed_configuration, writer, errors)?;
     }
     Ok(None)
 }
@@ -115,53 +117,62 @@ fn write_on<W: Write, E: Write>(
 /// said last.
 fn say_nothing<E: Write>(
     rt: &HostRuntime,
-    door: &str,
+    control: &str,
     errors: &mut E,
-    fault: VisitFault,
-    said: &mut Option<VisitFault>,
+    fault: AskFault,
+    said: &mut Option<AskFault>,
 ) {
     if *said == Some(fault) {
         return;
     }
     *said = Some(fault);
     let line = match fault {
-        VisitFault::BadAnswer => "pfx: refused 86, asked again\n",
+        AskFault::BadAnswer => "pfx: refused 86, asked again\n",
         _ => "pfx: refused 85, asked again\n",
     };
     let _said = errors.write_all(line.as_bytes());
-    if fault == VisitFault::NoDoor {
-        if let Err(error) = knock(rt, door) {
-            let _said = writeln!(errors, "pfx: {}: {error}", Shown(door));
+    if fault == AskFault::NoAnswer {
+        if let Err(error) = knock(rt, control) {
+            let _said = writeln!(errors, "pfx: {}: {error}", Shown(control));
         }
     }
 }
 
-/// Follows until the output is closed, or the door was asked so often, or another log is there.
+/// Follows until the output is closed, or the control socket was asked so often, or another log is there.
 fn follow<W: Write, E: Write>(
     rt: &HostRuntime,
     alloc: Global,
-    door: &str,
+    control: &str,
     turns: u64,
     outlets: &mut Outlets,
     writer: &mut W,
     errors: &mut E,
 ) -> Result<(), WriteFault> {
-    let mut mirror = Mirror::new(alloc)?;
+    let mut followed_configuration = FollowedConfiguration::new(alloc)?;
     let mut said = None;
     for turn in 0..turns {
-        match ask_on(rt, alloc, door, &mut mirror)? {
+        match ask_on(rt, alloc, control, &mut followed_configuration)? {
             Asked::More => said = None,
             Asked::All => {
                 let again = turn % AGAIN == 0;
-                match write_on(rt, alloc, door, again, &mut mirror, outlets, writer, errors)? {
+                match write_on(
+                    rt,
+                    alloc,
+                    control,
+                    again,
+                    &mut followed_configuration,
+                    outlets,
+                    writer,
+                    errors,
+                )? {
                     None => said = None,
-                    Some(fault) => say_nothing(rt, door, errors, fault, &mut said),
+                    Some(fault) => say_nothing(rt, control, errors, fault, &mut said),
                 }
                 pause(rt, PAUSE);
             }
             Asked::Another => return Err(WriteFault::Another),
             Asked::Nothing(fault) => {
-                say_nothing(rt, door, errors, fault, &mut said);
+                say_nothing(rt, control, errors, fault, &mut said);
                 pause(rt, PAUSE);
             }
         }
@@ -180,9 +191,11 @@ fn refused<E: Write>(alloc: Global, code: u8, errors: &mut E) -> Status {
     }
 }
 
-/// That the log at the door is another than the one that was followed, said on standard error.
+/// That the log at the control socket is another than the one that was followed, said on standard error.
 fn another<E: Write>(errors: &mut E) -> Status {
-    match errors.write_all(b"pfx: the log at the door is another than the one followed\n") {
+    match errors.write_all(
+        b"pfx: the log at the control socket is another than the one followed\n",
+    ) {
         Ok(()) => Status::Refused,
         Err(_) => Status::Failed,
     }
@@ -242,7 +255,7 @@ fn followed<W: Write, E: Write>(
     writer: &mut W,
     errors: &mut E,
 ) -> Status {
-    let Some(door) = matches.get_str("door") else {
+    let Some(control) = matches.get_str("control") else {
         return Status::Usage;
     };
     let turns = matches.get_one::<u64>("turns").unwrap_or(u64::MAX);
@@ -254,7 +267,7 @@ fn followed<W: Write, E: Write>(
     if outlets.kernel.is_some() && !outlets.is_guarded {
         let _said = errors.write_all(NO_GUARD);
     }
-    match follow(rt, alloc, door, turns, &mut outlets, writer, errors) {
+    match follow(rt, alloc, control, turns, &mut outlets, writer, errors) {
         Ok(()) => Status::Done,
         Err(WriteFault::Closed) => Status::Failed,
         Err(WriteFault::Another) => another(errors),

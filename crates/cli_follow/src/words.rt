@@ -6,7 +6,7 @@ ghost use Rattle.clap.specs.declared.builder.command.Command.TheViews.{out-Comma
 use clap::{Arg, ArgAction, Command, value_parser};
 use std::alloc::{AllocError, Global};
 
-const DOOR: &str = "The Unix socket at which the node answers operators";
+const CONTROL: &str = "The Unix socket at which the node answers operators";
 
 const NFT: &str = "Lines for nft(8) on standard output, a transaction each";
 
@@ -19,14 +19,14 @@ const NO_GUARD: &str =
 const PF: &str =
     "A folder for texts for pfctl(8): main.conf, and anchor+NAME+NAME.conf for each path";
 
-const TURNS: &str = "How often the door is asked; without an end if it isn't said";
+const TURNS: &str = "How often the control socket is asked; without an end if it isn't said";
 
 const BELOW: &str =
     "Once the node has applied a command, and each time that what it applies changes the rules, they are
 written whole. With --nft: the sets of the position, all rules in place of those before, and the end of the sets and
 chains of the position written before. In front stands the members' guard: what members send each other from and to
 their addresses and ports passes whatever the rules say, with later fragments, and for IPv6 neighbour discovery and
-packet too big. A door where nobody answers is asked again. Refusals are said on standard error: 87 and 88 as for
+packet too big. A control socket where nobody answers is asked again. Refusals are said on standard error: 87 and 88 as for
 check --nft, what was written before stands; 89 the file of interfaces, 40 words that don't go together, and it ends.";
 
 /// An option with a value.
@@ -48,7 +48,7 @@ fn with<'a>(command: Command<'a>, arg: Arg<'a>) -> Result<Command<'a>, AllocErro
     command.arg(arg)
 }
 
-/// `follow --door PATH [--nft --interfaces FILE [--no-member-guard]] [--pf DIR] [--turns T]`
+/// `follow --control PATH [--nft --interfaces FILE [--no-member-guard]] [--pf DIR] [--turns T]`
 fn follow_command<'a>(alloc: Global) -> Result<Command<'a>, AllocError>
     ensures local { IfOk result (λ c. (out-Command c).has_globals ≡ false) }
 {
@@ -63,7 +63,7 @@ fn follow_command<'a>(alloc: Global) -> Result<Command<'a>, AllocError>
         .long("no-member-guard")
         .action(ArgAction::SetTrue)
         .help(NO_GUARD);
-    let command = with(follow, valued(alloc, "door", DOOR).required(true))?;
+    let command = with(follow, valued(alloc, "control", CONTROL).required(true))?;
     let command = with(command, nft)?;
     let command = with(command, valued(alloc, "interfaces", INTERFACES))?;
     let command = with(command, no_guard)?;

@@ -183,7 +183,7 @@ pub const REFUSALS: [Explanation; 44] = [
         name: "64 commands wait",
         meaning: "a command, since 64 wait",
         after: ASK_STAYS,
-        remedy: "See by pfx ask --door PATH status that a majority is heard, and ask\n         \
+        remedy: "See by pfx ask --control PATH status that a majority is heard, and ask\n         \
             again.",
     },
     Explanation {
@@ -197,8 +197,8 @@ pub const REFUSALS: [Explanation; 44] = [
     Explanation {
         code: POSITIONS_SPENT,
         name: "no position left",
-        meaning: "a command, since every position or number is used, or at a door those\n         \
-            left are of commands that wait",
+        meaning: "a command, since every position or number is used, or at a control\n         \
+            socket those left are of commands that wait",
         after: "Nothing is taken in; what was learned stays, and verdicts are\n         \
             answered.",
         remedy: "Make a successor: pfx show --store FILE --script, whose commands\n         \
@@ -269,26 +269,27 @@ pub const REFUSALS: [Explanation; 44] = [
     },
     Explanation {
         code: 84,
-        name: "bad door",
-        meaning: "a door: another node answers there, something else stands there, or\n         \
-            the system refuses the socket",
+        name: "bad control socket",
+        meaning: "a control socket: another node answers there, something else is\n         \
+            there, or the system refuses the socket",
         after: STORE_STAYS,
-        remedy: "Give each node a door of its own, in a folder that the node may write.",
+        remedy: "Give each node a control socket of its own, in a folder that the\n         \
+            node may write.",
     },
     Explanation {
         code: 85,
         name: "nobody answers",
-        meaning: "an ask, since nobody answers at the door",
+        meaning: "an ask, since nobody answers at the control socket",
         after: "Nothing was asked.",
-        remedy: "See that the node runs with --door and this very path, and that you\n         \
+        remedy: "See that the node runs with --control and this very path, and that you\n         \
             may open the socket.",
     },
     Explanation {
         code: 86,
         name: "broken answer",
-        meaning: "an answer at a door that is cut short or none of HTTP's",
+        meaning: "an answer at a control socket that is cut short or none of HTTP's",
         after: "What was asked may have been taken in all the same.",
-        remedy: "See what came of it by pfx ask --door PATH log, and ask again.",
+        remedy: "See what came of it by pfx ask --control PATH log, and ask again.",
     },
     Explanation {
         code: 87,
@@ -336,7 +337,8 @@ pub const REFUSALS: [Explanation; 44] = [
         name: "bad file of settings",
         meaning: "a node's file of settings: it isn't TOML, has an unknown setting or a\n         \
             value of another kind; me, cluster or store that neither it nor an\n         \
-            option gives; other-key without a key, metrics without a door",
+            option gives; other-key without a key, metrics without a control\n         \
+            socket",
         after: "No node is started.",
         remedy: "Look at the named line, which standard error says more of, and at the\n         \
             example in pfx-node(8).",

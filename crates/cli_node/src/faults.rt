@@ -149,10 +149,10 @@ pub(crate) fn say_why(rt: &HostRuntime, words: NodeWords<'_, '_, '_>, code: u8) 
             say_unbound(rt, words);
         },
         84 => {
-            if let Some(door) = words.door {
+            if let Some(control) = words.control {
                 let _said = eprintln!(rt;
                     "pfx: error: {}: another node answers there, something else stands there, or the system refuses it",
-                    Shown(door)
+                    Shown(control)
                 );
             }
         }

@@ -23,7 +23,7 @@ use crate::sealing::{Sealing, sealing_for};
 use crate::store::{Found, found_at, is_made, record_at};
 use clap::ArgMatches;
 use cli_files::NodeFile;
-use node_control::{DoorPlace, Observer, run_member};
+use node_control::{ControlPlace, Observer, run_member};
 use node_loop::{Membership, open_member};
 use node_udp::{Address, BindFault, UdpWire};
 use px_packet::PacketKeys;
@@ -57,8 +57,8 @@ pub(crate) struct NodeWords<'m, 'w, 'a> {
     pub(crate) makes_starts: bool,
     /// Whether something below seals datagrams.
     pub(crate) is_unsealed: bool,
-    /// Where operators ask, if there is a door.
-    pub(crate) door: Option<&'a str>,
+    /// Where operators ask, if there is a control socket.
+    pub(crate) control: Option<&'a str>,
     /// Where figures are told over TCP, if they are.
     pub(crate) metrics: Option<&'a str>,
     /// Whether only warnings and errors are said.
@@ -137,7 +137,7 @@ impl<'m, 'w, 'a> NodeWords<'m, 'w, 'a> {
             other_key: text_or(matches.get_str("other-key"), file, "other-key"),
             makes_starts: matches.get_flag("new-starts"),
             is_unsealed: matches.get_flag("unsealed") || file.flag("unsealed"),
-            door: text_or(matches.get_str("door"), file, "door"),
+            control: text_or(matches.get_str("control"), file, "control"),
             metrics: text_or(matches.get_str("metrics"), file, "metrics"),
             is_quiet: matches.get_flag("quiet") || file.flag("quiet"),
             members,
@@ -146,13 +146,13 @@ impl<'m, 'w, 'a> NodeWords<'m, 'w, 'a> {
 
     /// Whether commands are heard by datagrams: where these carry no tag of a key, and there is no control socket.
     fn hears_asks(self) -> bool {
-        self.key.is_none() && self.door.is_none()
+        self.key.is_none() && self.control.is_none()
     }
 
-    /// Whether each setting has the one that it wants: a second key and new starts a key, figures a door.
+    /// Whether each setting has the one that it wants: a second key and new starts a key, figures a control socket.
     pub(crate) fn is_whole(self) -> bool {
         (self.other_key.is_none() && !self.makes_starts || self.key.is_some())
-            && (self.metrics.is_none() || self.door.is_some())
+            && (self.metrics.is_none() || self.control.is_some())
     }
 }
 
@@ -283,7 +283,7 @@ fn run_over<R: Records, W: Wire + Drop>(
     m: Membership,
     records: R,
     wire: Result<W, Outcome>,
-    place: Option<DoorPlace<'_>>,
+    place: Option<ControlPlace<'_>>,
 ) -> (Outcome, R)
     requires members { R.members records ≡ m.members }
     requires here { m.me < m.members }
@@ -374,7 +374,7 @@ fn addresses_text(alloc: Global, addresses: &[Address]) -> Result<String, AllocE
 }
 
 /// The run of a member with a control socket at the path. What is asked by datagrams isn't heard.
-fn run_at_door<R: Records>(
+fn run_with_control<R: Records>(
     rt: &HostRuntime,
     alloc: Global,
     words: NodeWords<'_, '_, '_>,
@@ -398,7 +398,7 @@ fn run_at_door<R: Records>(
     let Ok(members) = addresses_text(alloc, wire.peers()) else {
         return (Outcome::Memory, records);
     };
-    let place = Some(DoorPlace {
+    let place = Some(ControlPlace {
         path,
         figures,
         members: members.as_str(),
@@ -425,10 +425,10 @@ fn run_member_in<R: Records>(
     requires members { R.members records ≡ m.members }
     requires here { m.me < m.members }
     ensures hosted { ComesOpenOr R.Records m records result.0 result.1 }
-    ensures turns { words.entry.door ≡ None → ComesTo R.Records m records result.0 result.1 }
+    ensures turns { words.entry.control ≡ None → ComesTo R.Records m records result.0 result.1 }
 {
-    match words.door {
-        Some(path) => run_at_door(rt, alloc, words, path, m, records, sealing),
+    match words.control {
+        Some(path) => run_with_control(rt, alloc, words, path, m, records, sealing),
         None => run_node(rt, alloc, words, m, records, sealing),
     }
 }

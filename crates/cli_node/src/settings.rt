@@ -87,7 +87,10 @@ fn lacking(rt: &HostRuntime, matches: &ArgMatches<'_>, file: &NodeFile) -> Outco
 
 /// What is refused where a setting has not the one that it wants.
 fn halved(rt: &HostRuntime) -> Outcome {
-    say_lack(rt, "other-key or new-starts has no key, or metrics no door");
+    say_lack(
+        rt,
+        "other-key or new-starts has no key, or metrics no control socket",
+    );
     Outcome::Refused(BAD_SETTINGS)
 }
 

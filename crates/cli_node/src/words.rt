@@ -43,7 +43,7 @@ const QUIET: &str = "Of what happens, only warnings and errors are said on stand
 const UNSEALED: &str =
     "Something below seals datagrams, as IPsec or WireGuard do: nothing is said of a missing key";
 
-const DOOR: &str = "A Unix socket at which operators ask, which is made";
+const CONTROL: &str = "A Unix socket at which operators ask, which is made";
 
 const METRICS: &str =
     "A TCP address of this machine alone, as 127.0.0.1:9470, at which GET /metrics, /healthz and /readyz are answered";
@@ -66,9 +66,9 @@ const NODE_BELOW: &str =
     "In the end it writes front F applied A: how many positions are learned without a gap, and applied. A refusal is
 refused CODE: 40 words, 83 no key in its file, or others may read it, 70 the store failed, 71 it is of another cluster
 or member, 72 a bad row, 73 another format, 82 its address is taken, or that of --metrics is none of this machine
-alone, 84 its door is taken, 90 its file of settings can't be read, 92 (with the line) that file is wrong, 93 its
+alone, 84 its control socket is taken, 90 its file of settings can't be read, 92 (with the line) that file is wrong, 93 its
 store isn't there, 94 with --new it is, 95 its file of starts is missing or damaged. Standard error says which file or address, and what the system said. --check
-writes ok, or the first refusal. With a key or a door asks by UDP aren't heard.";
+writes ok, or the first refusal. With a key or a control socket asks by UDP aren't heard.";
 
 const KEY_BELOW: &str =
     "It writes 64 hexadecimal digits, as pfx node --key takes them, into FILE, which is made and its owner alone may
@@ -259,13 +259,13 @@ fn with_keys<'a>(alloc: Global, command: Command<'a>) -> Result<Command<'a>, All
 }
 
 /// The options of `node` about operators that may be missing.
-fn with_door<'a>(alloc: Global, command: Command<'a>) -> Result<Command<'a>, AllocError>
+fn with_control<'a>(alloc: Global, command: Command<'a>) -> Result<Command<'a>, AllocError>
     requires command { (out-Command command).has_globals ≡ false }
     ensures local { IfOk result (λ c. (out-Command c).has_globals ≡ false) }
 {
-    let command = with(command, optional(alloc, "door", DOOR))?;
-    let command = with_either(alloc, command, "a door", "door")?;
-    with_below(alloc, command, "metrics", METRICS, "a door")
+    let command = with(command, optional(alloc, "control", CONTROL))?;
+    let command = with_either(alloc, command, "a control socket", "control")?;
+    with_below(alloc, command, "metrics", METRICS, "a control socket")
 }
 
 /// The options of `node` that may be missing.
@@ -274,7 +274,7 @@ fn node_options<'a>(alloc: Global, node: Command<'a>) -> Result<Command<'a>, All
     ensures local { IfOk result (λ c. (out-Command c).has_globals ≡ false) }
 {
     let command = with_turns(alloc, node)?;
-    let command = with_door(alloc, command)?;
+    let command = with_control(alloc, command)?;
     let command = with_keys(alloc, command)?;
     let command = with_flag(alloc, command, "new", NEW)?;
     let command = with_flag(alloc, command, "check", CHECK)?;
@@ -293,7 +293,7 @@ fn with_members<'a>(alloc: Global, command: Command<'a>) -> Result<Command<'a>, 
     with(command, addresses)
 }
 
-/// `node [--config FILE] --me N --cluster C --store FILE [--turns T] [--door PATH [--metrics ADDR]]
+/// `node [--config FILE] --me N --cluster C --store FILE [--turns T] [--control PATH [--metrics ADDR]]
 /// [--key FILE [--other-key FILE] [--new-starts]] [--unsealed] [--new] [--check] [--quiet] ADDR..`
 fn node_command<'a>(alloc: Global) -> Result<Command<'a>, AllocError>
     ensures local { IfOk result (λ c. (out-Command c).has_globals ≡ false) }

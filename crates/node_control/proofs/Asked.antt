@@ -10,10 +10,10 @@ use Rattle.node_requests.specs.Answers.{AnswerValue}
 use Rattle.node_requests.specs.Changing.{bytes_of, Changes, ChangesIf, has_position}
 use Rattle.node_requests.specs.Requests.{Answers, IsChange}
 use Rattle.node_requests.specs.declared.changing.Changed.{Changed}
-use Rattle.node_requests.specs.declared.desk.Desk.{Desk}
+use Rattle.node_requests.specs.declared.handler.RequestHandler.{RequestHandler}
 use Rattle.node_requests.specs.declared.request.Request.{Request}
 use Rattle.node_requests.specs.declared.request.Request.TheVariants as request
-use Rattle.node_requests.specs.declared.tally.Tally.{Tally}
+use Rattle.node_requests.specs.declared.counters.Counters.{Counters}
 use Rattle.node_control.specs.inner.Runs.{Asks, AreAsked}
 
 -- Nothing was asked of the node, or a command was, once; what is applied stays.
@@ -38,21 +38,21 @@ changed_so : {R : Type 0} {G : Ghosts R} (s t : Node R G) (asked : Result entrie
 changed_so s t (Err code) changed still = same s t still.0
 changed_so s t (Ok command) changed c = changed_if s t command changed (has_position s) c
 
-changed_any : {R : Type 0} {G : Ghosts R} (s t : Desk R G) (asked : Result entries.Command ℕ) (a : AnswerValue) → IsChange s t asked a →
+changed_any : {R : Type 0} {G : Ghosts R} (s t : RequestHandler R G) (asked : Result entries.Command ℕ) (a : AnswerValue) → IsChange s t asked a →
     Asked s.node t.node
 changed_any s t asked a c = changed_so s.node t.node asked c.changed c.changes
 
-answered_so : {R : Type 0} {G : Ghosts R} (s t : Desk R G) (counted : Tally) (q : Request) (a : AnswerValue) →
+answered_so : {R : Type 0} {G : Ghosts R} (s t : RequestHandler R G) (counted : Counters) (q : Request) (a : AnswerValue) →
     Answers s t counted q a → Asked s.node t.node
 answered_so s t counted (request.Change words text) a c = changed_any s t _ a c
-answered_so {R} {G} s t counted (request.Read at r) a c = same s.node t.node (ap (λ (d : Desk R G). d.node) c.0)
-answered_so {R} {G} s t counted request.Stop a c = same s.node t.node (ap (λ (d : Desk R G). d.node) c.0)
+answered_so {R} {G} s t counted (request.Read at r) a c = same s.node t.node (ap (λ (d : RequestHandler R G). d.node) c.0)
+answered_so {R} {G} s t counted request.Stop a c = same s.node t.node (ap (λ (d : RequestHandler R G). d.node) c.0)
 
 -- n commands, or fewer, of n requests
-times : {R : Type 0} {G : Ghosts R} (n : ℕ) (s t : Desk R G) → Asks n s t → AsksSome s.node t.node × (applied_of t.node ≡ applied_of s.node)
+times : {R : Type 0} {G : Ghosts R} (n : ℕ) (s t : RequestHandler R G) → Asks n s t → AsksSome s.node t.node × (applied_of t.node ≡ applied_of s.node)
 times {R} {G} zero s t e = (
-  (zero, ap (λ (d : Desk R G). replica_of d.node) e),
-  ap (λ (d : Desk R G). applied_of d.node) e,
+  (zero, ap (λ (d : RequestHandler R G). replica_of d.node) e),
+  ap (λ (d : RequestHandler R G). applied_of d.node) e,
 )
 times {R} {G} (suc n) s u (t, made, one) =
     let before = times n s t made in
@@ -63,8 +63,8 @@ times {R} {G} (suc n) s u (t, made, one) =
     more (k, asked) (inl is) = (k, subst (λ (r : Replica R G). AskedTimes k (replica_of s.node) r) (sym is) asked)
     more (k, asked) (inr once) = (suc k, (replica_of t.node, asked, once))
 
-pub asks_some : {R : Type 0} {G : Ghosts R} (s t : Desk R G) → AreAsked s t → AsksSome s.node t.node
+pub asks_some : {R : Type 0} {G : Ghosts R} (s t : RequestHandler R G) → AreAsked s t → AsksSome s.node t.node
 asks_some s t (n, made) = (times n s t made).0
 
-pub applied_stays : {R : Type 0} {G : Ghosts R} (s t : Desk R G) → AreAsked s t → applied_of s.node ≤ applied_of t.node
+pub applied_stays : {R : Type 0} {G : Ghosts R} (s t : RequestHandler R G) → AreAsked s t → applied_of s.node ≤ applied_of t.node
 applied_stays s t (n, made) = let e = (times n s t made).1 in omega (arith, e)

@@ -15,14 +15,14 @@ use Rattle.node_loop.proofs.Hosting.{hosted_then, hosted_served}
 use Rattle.node_loop.specs.Lives.{Buffers, new_buffers, stands, Tells, Serves, Hosts}
 use Rattle.node_loop.specs.declared.ended.Ended.{Ended}
 use Rattle.node_loop.proofs.Hosted.{tells}
-use Rattle.node_requests.specs.declared.desk.Desk.{Desk}
+use Rattle.node_requests.specs.declared.handler.RequestHandler.{RequestHandler}
 
 -- nothing was asked, and nothing went over the wire
-pub still : {R : Type 0} {G : Ghosts R} (s t : Desk R G) (es : List WireEvent) (room : Room) → t ≡ s →
+pub still : {R : Type 0} {G : Ghosts R} (s t : RequestHandler R G) (es : List WireEvent) (room : Room) → t ≡ s →
     Served (standing s.node es room) (standing t.node es room) None
 still {R} {G} s t es room e =
     served_none _ _ (record {
-      replica = ap (λ (d : Desk R G). replica_of d.node) e;
+      replica = ap (λ (d : RequestHandler R G). replica_of d.node) e;
       traffic = refl;
       kept = refl;
       requests = refl;
@@ -104,10 +104,10 @@ serves {R} {G} x y s t w v first last hears a ended e f k q h served told = reco
 }
 
 -- there is no control socket
-pub no_door : {A E : Type 0} (r : Result (Option A) E) (door : Option A) → r ≡ Ok door → r ≡ Ok None → door ≡ None
-no_door (Ok d) door is none = cc
-no_door (Err e) door is none = absurd (cc)
+pub no_control : {A E : Type 0} (r : Result (Option A) E) (control : Option A) → r ≡ Ok control → r ≡ Ok None → control ≡ None
+no_control (Ok d) control is none = cc
+no_control (Err e) control is none = absurd (cc)
 
-pub some_door : {A E : Type 0} (r : Result (Option A) E) (e : E) → r ≡ Err e → r ≡ Ok None → ⊥
-some_door (Ok d) e is none = cc
-some_door (Err f) e is none = cc
+pub some_control : {A E : Type 0} (r : Result (Option A) E) (e : E) → r ≡ Err e → r ≡ Ok None → ⊥
+some_control (Ok d) e is none = cc
+some_control (Err f) e is none = cc

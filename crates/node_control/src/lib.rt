@@ -3,22 +3,23 @@
 //! # Organization
 //!
 //! - [`run_member`]: a member's run over its record, with a control socket or without one. There is no other loop.
-//! - [`DoorPlace`]: where the control socket is. Behind it bytes are moved and nothing else; `http_server` reads
+//! - [`ControlPlace`]: where the control socket is. Behind it bytes are moved and nothing else; `http_server` reads
 //!   requests and writes answers, and node_requests says what is answered.
-//! - [`Observer`]: what is seen of the node as it runs, for the desk's figures and for warnings on standard error.
+//! - [`Observer`]: what is seen of the node as it runs, for the request handler's figures and for warnings on standard
+//!   error.
 //!
 //! Whoever may open the socket's file may ask: its mode, 0660, and the folder that it lies in say who.
 #![tactic(auto)]
 
-mod clerk;
-mod door;
+mod client;
+mod control;
 mod hearing;
 mod member;
 mod noting;
 mod observer;
 mod running;
-mod seat;
+mod service;
 mod stream;
 
-pub use member::{DoorPlace, run_member};
+pub use member::{ControlPlace, run_member};
 pub use observer::Observer;

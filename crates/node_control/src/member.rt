@@ -7,10 +7,10 @@ ghost use Rattle.pf_node.specs.Nodes.{learned_by, applied_of};
 ghost use Rattle.px_transport.specs.Wires.{Moves};
 ghost use Rattle.node_loop.specs.Lives.{HostTells, HostedRuns, Hosts, Runs, Serves, Tells};
 
-use crate::clerk::Clerk;
-use crate::door::{Door, DoorFault};
+use crate::control::{ControlFault, ControlSocket};
 use crate::observer::Observer;
 use crate::running::pass_on;
+use crate::service::HttpService;
 use node_loop::{Ended, Membership, NodeFault, Room, Wire};
 use pf_node::Node;
 use px_records::Records;
@@ -25,7 +25,7 @@ use std::time::Clock;
 
 /// Where a running node is asked.
 #[derive(Clone, Copy)]
-pub struct DoorPlace<'a> {
+pub struct ControlPlace<'a> {
     /// The path of its control socket.
     pub path: &'a str,
     /// The port at which figures are served over TCP, if they are.
@@ -37,7 +37,11 @@ pub struct DoorPlace<'a> {
 }
 
 /// The control socket at the place, if there is to be one. A wait at it ends, too, when a datagram comes.
-fn open_at<RT>(rt: &RT, alloc: Global, place: Option<DoorPlace<'_>>) -> Result<Option<Door>, Ended>
+fn open_at<RT>(
+    rt: &RT,
+    alloc: Global,
+    place: Option<ControlPlace<'_>>,
+) -> Result<Option<ControlSocket>, Ended>
 where
     RT: Files + Net<Listener = TcpListener, Stream = TcpStream> + RandomSource,
     ensures none { place.entry ≡ None → result ≡ Ok None }
@@ -49,32 +53,32 @@ where
     let Ok(keys) = RandomState::new(rt) else {
         return Err(Ended::NoControlSocket);
     };
-    match Door::open(rt, alloc, keys, place.path, place.figures) {
-        Ok(mut door) => {
-            if door.watch(place.fd) {
-                Ok(Some(door))
+    match ControlSocket::open(rt, alloc, keys, place.path, place.figures) {
+        Ok(mut control) => {
+            if control.watch(place.fd) {
+                Ok(Some(control))
             } else {
                 Err(Ended::NoControlSocket)
             }
         }
-        Err(DoorFault::Memory) => Err(Ended::Fault(NodeFault::Memory)),
-        Err(DoorFault::NoDoor) => Err(Ended::NoControlSocket),
-        Err(DoorFault::NoPort) => Err(Ended::NoPort),
+        Err(ControlFault::Memory) => Err(Ended::Fault(NodeFault::Memory)),
+        Err(ControlFault::NoSocket) => Err(Ended::NoControlSocket),
+        Err(ControlFault::NoPort) => Err(Ended::NoPort),
     }
 }
 
 /// The control socket is closed, if there is one.
-fn close_at<RT: Files>(rt: &RT, door: Option<Door>, place: Option<DoorPlace<'_>>) {
-    let Some(door) = door else {
+fn close_at<RT: Files>(rt: &RT, control: Option<ControlSocket>, place: Option<ControlPlace<'_>>) {
+    let Some(control) = control else {
         return;
     };
     if let Some(place) = place {
-        door.close(rt, place.path);
+        control.close(rt, place.path);
     }
 }
 
 /// Where the members listen, as clients are told.
-fn members_at<'a>(place: Option<DoorPlace<'a>>) -> &'a str {
+fn members_at<'a>(place: Option<ControlPlace<'a>>) -> &'a str {
     match place {
         Some(place) => place.members,
         None => "",
@@ -103,22 +107,22 @@ fn run_node<R: Records, W: Wire, RT: Clock + Eprint>(
     observer: &mut Observer,
     members: &str,
     hears_asks: bool,
-    door: &mut Option<Door>,
+    control: &mut Option<ControlSocket>,
     turns: u64,
 ) -> (Ended, Node<R>)
     ensures hosted { Moves (W.traffic wire.old) (W.traffic wire.new) (λ es es'. Hosts node result.1 es es' result.0) }
-    ensures turns { door.old ≡ None →
+    ensures turns { control.old ≡ None →
         Moves (W.traffic wire.old) (W.traffic wire.new) (λ es es'. Serves node result.1 es es' result.0) }
 {
-    let Ok(tally) = observer.first_tally(alloc, members) else {
+    let Ok(counters) = observer.first_counters(alloc, members) else {
         return (Ended::Fault(NodeFault::Memory), node);
     };
     let Ok(mut room) = Room::new(alloc, &node.membership(), hears_asks) else {
         return (Ended::Fault(NodeFault::Memory), node);
     };
-    let mut clerk = Clerk::new(alloc, node, tally);
-    let ended = pass_on(rt, &mut clerk, wire, observer, &mut room, door, turns);
-    let node = clerk.close();
+    let mut service = HttpService::new(alloc, node, counters);
+    let ended = pass_on(rt, &mut service, wire, observer, &mut room, control, turns);
+    let node = service.close();
     (ended_of(ended, &node), node)
 }
 
@@ -130,7 +134,7 @@ fn run_at<R: Records, W: Wire, RT>(
     wire: &mut W,
     observer: &mut Observer,
     hears_asks: bool,
-    place: Option<DoorPlace<'_>>,
+    place: Option<ControlPlace<'_>>,
     turns: u64,
 ) -> (Ended, Node<R>)
 where
@@ -139,8 +143,8 @@ where
     ensures turns { place.entry ≡ None →
         Moves (W.traffic wire.old) (W.traffic wire.new) (λ es es'. Serves node result.1 es es' result.0) }
 {
-    let mut door = match open_at(rt, alloc, place) {
-        Ok(door) => door,
+    let mut control = match open_at(rt, alloc, place) {
+        Ok(control) => control,
         Err(ended) => return (ended, node),
     };
     let (ended, node) = run_node(
@@ -151,20 +155,20 @@ where
         observer,
         members_at(place),
         hears_asks,
-        &mut door,
+        &mut control,
         turns,
     );
-    close_at(rt, door, place);
+    close_at(rt, control, place);
     (ended, node)
 }
 
 /// A member's run over its record: the record is opened, turns are made over the wire, and the record is given back.
 ///
-/// The node takes what comes as it comes, and its clock ticks when its pace says so ([`node_loop::round`]). Where there
-/// is a place, requests come in at a control socket there, and between two rounds one at most is answered; each change
-/// of the node's health is a line on standard error. Asks by datagrams are heard or not. The run ends after the given
-/// number of turns, where each datagram counts for one, and so do each tick and each wait, of a tenth of a second at
-/// most; with the first fault of the node's calls; or once an operator asked for that and has the answer. Before it
+/// The node takes what comes as it comes, and its clock ticks when its timer says so ([`node_loop::round`]). Where
+/// there is a place, requests come in at a control socket there, and between two rounds one at most is answered; each
+/// change of the node's health is a line on standard error. Asks by datagrams are heard or not. The run ends after the
+/// given number of turns, where each datagram counts for one, and so do each tick and each wait, of a tenth of a second
+/// at most; with the first fault of the node's calls; or once an operator asked for that and has the answer. Before it
 /// ends, what waits to be proposed is worked off ([`node_loop::finish`]).
 pub fn run_member<R: Records, W: Wire, RT>(
     rt: &RT,
@@ -174,7 +178,7 @@ pub fn run_member<R: Records, W: Wire, RT>(
     wire: &mut W,
     observer: &mut Observer,
     hears_asks: bool,
-    place: Option<DoorPlace<'_>>,
+    place: Option<ControlPlace<'_>>,
     turns: u64,
 ) -> (Ended, R)
 where

@@ -1,6 +1,6 @@
 //! Changes of a node's health, on standard error.
 
-use crate::clerk::Clerk;
+use crate::service::HttpService;
 use httpdate::HttpDate;
 use node_requests::{Health, counted};
 use px_records::Records;
@@ -16,9 +16,9 @@ fn date_now<RT: Clock>(rt: &RT) -> Option<HttpDate> {
 }
 
 /// A position below which some member has learned all, as the others have shown.
-fn shown<R: Records>(clerk: &Clerk<R>) -> u32 {
+fn shown<R: Records>(service: &HttpService<R>) -> u32 {
     let mut most = 0u32;
-    for peer in &clerk.tally.peers {
+    for peer in &service.counters.peers {
         most = most.max(peer.shown);
     }
     most
@@ -27,19 +27,19 @@ fn shown<R: Records>(clerk: &Clerk<R>) -> u32 {
 /// Says on standard error that the node's health was one and is another, and what is known of why.
 pub(crate) fn say<R: Records, RT: Clock + Eprint>(
     rt: &RT,
-    clerk: &Clerk<R>,
+    service: &HttpService<R>,
     was: Health,
     is: Health,
 ) {
-    let node = &clerk.desk.node;
-    let tally = &clerk.tally;
+    let node = &service.handler.node;
+    let counters = &service.counters;
     let applied = node.applied();
     let level = if is == Health::Works {
         "info"
     } else {
         "warning"
     };
-    let advice = if is == Health::Stuck && tally.large > 0 {
+    let advice = if is == Health::Stuck && counters.large > 0 {
         ": if large datagrams don't arrive, use a key"
     } else {
         ""
@@ -56,13 +56,13 @@ pub(crate) fn say<R: Records, RT: Clock + Eprint>(
         was.word(),
         is.word(),
         node.front(),
-        tally.stood,
+        counters.stood,
         node.waiting(),
-        counted(&tally.peers),
-        tally.peers.len(),
-        shown(clerk).max(node.front()).saturating_sub(applied),
-        tally.outrun,
-        tally.large,
+        counted(&counters.peers),
+        counters.peers.len(),
+        shown(service).max(node.front()).saturating_sub(applied),
+        counters.outrun,
+        counters.large,
         advice
     );
 }

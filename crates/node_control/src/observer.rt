@@ -6,7 +6,7 @@ ghost use Rattle.node_control.specs.inner.Watching.{is_proposed, stood_since, se
 
 use crate::hearing::Hearing;
 use node_loop::{Progress, RoundCounts};
-use node_requests::{PeerTally, Tally};
+use node_requests::{Counters, PeerCounters};
 use px_wire::{Head, Kind, Membership};
 use std::alloc::{AllocError, Global};
 use std::io::Eprint;
@@ -173,9 +173,9 @@ fn first_rows(alloc: Global, m: Membership) -> Result<Vec<Row>, AllocError> {
 
 impl Row {
     /// What is told of the member, at this time.
-    fn told(&self, now: u64) -> PeerTally {
+    fn told(&self, now: u64) -> PeerCounters {
         let [_, _, shown] = self.earlier;
-        PeerTally {
+        PeerCounters {
             node: self.node,
             heard: match self.heard {
                 Some(_) => Some(seconds_since(self.heard, now)),
@@ -230,14 +230,14 @@ impl Observer {
     }
 
     /// What is counted as a node starts: a row for each other member, and nothing that came. The members listen there.
-    pub fn first_tally(&self, alloc: Global, members: &str) -> Result<Tally, AllocError>
+    pub fn first_counters(&self, alloc: Global, members: &str) -> Result<Counters, AllocError>
         ensures { IfOk result (λ t. (t.stood ≡ 0) × (string_bytes t.members ≡ members.now)) }
     {
         let mut peers = Vec::new(alloc);
         for row in &self.rows {
             peers.push(row.told(0))?;
         }
-        Ok(Tally {
+        Ok(Counters {
             up: 0,
             peers,
             stood: 0,
@@ -249,7 +249,7 @@ impl Observer {
             ignored: 0,
             turns: 0,
             ticks: 0,
-            seats: 0,
+            clients: 0,
             served: 0,
             refused: 0,
             unavailable: 0,
@@ -284,7 +284,7 @@ impl Observer {
     }
 
     /// Tells what was counted of the other members.
-    fn tell_peers(&self, peers: &mut Vec<PeerTally>) {
+    fn tell_peers(&self, peers: &mut Vec<PeerCounters>) {
         for i in 0..self.rows.len() {
             if let (Some(peer), Some(row)) = (peers.get_mut(i), self.rows.get(i)) {
                 *peer = row.told(self.now);
@@ -294,23 +294,23 @@ impl Observer {
 
     /// Tells what was counted, after a round that came to this. A turn that neither took a datagram nor is to be
     /// followed by a wait was a tick.
-    pub(crate) fn tell(&self, tally: &mut Tally, made: Progress)
-        ensures stood { tally.new.stood ≡ seconds_since self.entry.now.since self.entry.now.now }
-        ensures outrun { tally.new.outrun ≡ self.entry.now.outrun }
-        ensures large { tally.new.large ≡ self.entry.now.large }
+    pub(crate) fn tell(&self, counters: &mut Counters, made: Progress)
+        ensures stood { counters.new.stood ≡ seconds_since self.entry.now.since self.entry.now.now }
+        ensures outrun { counters.new.outrun ≡ self.entry.now.outrun }
+        ensures large { counters.new.large ≡ self.entry.now.large }
     {
-        tally.up = self.now / 1_000_000;
-        tally.stood = seconds_since(self.since, self.now);
-        tally.outrun = self.outrun;
-        tally.large = self.large as u64;
-        tally.unsent = self.unsent;
-        tally.dropped = self.dropped;
-        tally.ignored = self.ignored;
-        tally.turns = tally.turns.saturating_add(u64::from(made.turns));
+        counters.up = self.now / 1_000_000;
+        counters.stood = seconds_since(self.since, self.now);
+        counters.outrun = self.outrun;
+        counters.large = self.large as u64;
+        counters.unsent = self.unsent;
+        counters.dropped = self.dropped;
+        counters.ignored = self.ignored;
+        counters.turns = counters.turns.saturating_add(u64::from(made.turns));
         if made.wait == 0 && made.turns > self.came {
-            tally.ticks = tally.ticks.saturating_add(1);
+            counters.ticks = counters.ticks.saturating_add(1);
         }
-        self.tell_peers(&mut tally.peers);
+        self.tell_peers(&mut counters.peers);
     }
 
     /// The place of a member's row.

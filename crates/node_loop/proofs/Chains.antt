@@ -28,7 +28,7 @@ use Rattle.node_loop.specs.Timing.{Told, SawThenLooked, looks, sends_if, view_of
 use Rattle.px_model.specs.Step.{front}
 use Rattle.px_replica.specs.Replicas.{learned_by}
 use Rattle.node_loop.specs.inner.Turns.{SawIf}
-use Rattle.node_loop.specs.declared.sight.Sight.{Sight}
+use Rattle.node_loop.specs.declared.peer_progress.PeerProgress.{PeerProgress}
 use Rattle.node_loop.specs.declared.timer.View.{View}
 
 -- ---- nothing is done
@@ -194,23 +194,23 @@ nobodys_still s t bytes out (_, inr (inr taken), e) u = absurd (u taken.sender (
 
 -- ---- what is seen as datagrams are taken
 
-took_all : {R : Type 0} {G : Ghosts R} (n : ℕ) (x y : Stand G) (s t : Sight) → SawAll n x y s t → TookAll n x y
+took_all : {R : Type 0} {G : Ghosts R} (n : ℕ) (x y : Stand G) (s t : PeerProgress) → SawAll n x y s t → TookAll n x y
 took_all zero x y s t (a, e) = a
 took_all (suc n) x z s u (y, t, a, inl w) = (y, took_all n x y s t a, inl w.took)
 took_all (suc n) x z s u (y, t, a, inr p) = (y, took_all n x y s t a, inr p.0)
 
 -- where none had come the same were taken
-saw_same : {R : Type 0} {G : Ghosts R} (n : ℕ) (x y z : Stand G) (s t u : Sight) → SawAll n x y s t → Same y z → u ≡ t → SawAll n x z s u
+saw_same : {R : Type 0} {G : Ghosts R} (n : ℕ) (x y z : Stand G) (s t u : PeerProgress) → SawAll n x y s t → Same y z → u ≡ t → SawAll n x z s u
 saw_same {R} {G} n x y z s t u a b f =
-    subst (λ (w : Stand G). SawAll n x w s u) (sym (same_is y z b)) (subst (λ (v : Sight). SawAll n x y s v) (sym f) a)
+    subst (λ (w : Stand G). SawAll n x w s u) (sym (same_is y z b)) (subst (λ (v : PeerProgress). SawAll n x y s v) (sym f) a)
 
 -- one datagram more, or none
-pub saw_more : {R : Type 0} {G : Ghosts R} (n m : ℕ) (x y z : Stand G) (s t u : Sight) (had : Bool) → had ≡ true → m ≡ suc n →
+pub saw_more : {R : Type 0} {G : Ghosts R} (n m : ℕ) (x y z : Stand G) (s t u : PeerProgress) (had : Bool) → had ≡ true → m ≡ suc n →
     SawAll n x y s t → SawIf had y z t u → SawAll m x z s u
 saw_more n m x y z s t u true e is a d = subst (λ (k : ℕ). SawAll k x z s u) (sym is) (y, t, a, d)
 saw_more n m x y z s t u false e is a d = absurd (cc)
 
-pub saw_no_more : {R : Type 0} {G : Ghosts R} (n : ℕ) (x y z : Stand G) (s t u : Sight) (had : Bool) → had ≡ false →
+pub saw_no_more : {R : Type 0} {G : Ghosts R} (n : ℕ) (x y z : Stand G) (s t u : PeerProgress) (had : Bool) → had ≡ false →
     SawAll n x y s t → SawIf had y z t u → SawAll n x z s u
 saw_no_more n x y z s t u false e a (b, f) = saw_same n x y z s t u a b f
 saw_no_more n x y z s t u true e a d = absurd (cc)
@@ -218,32 +218,32 @@ saw_no_more n x y z s t u true e a d = absurd (cc)
 -- ---- a round
 
 -- datagrams are taken, something is sent again, and then the clock ticks if that is due
-then_ticked : {R : Type 0} {G : Ghosts R} (n : ℕ) (is_due : Bool) (w x y z v : Stand G) (s t : Sight) →
+then_ticked : {R : Type 0} {G : Ghosts R} (n : ℕ) (is_due : Bool) (w x y z v : Stand G) (s t : PeerProgress) →
     Same w x → SawAll n x y s t → Resent y z → TickedIf is_due z v → TookThenTicked n is_due w v
 then_ticked {R} {G} n is_due w x y z v s t a b c d =
     (y, z, subst (λ (p : Stand G). TookAll n p y) (same_is w x a) (took_all n x y s t b), c, d)
 
 -- what a round that ended well did
-pub round_took : {R : Type 0} {G : Ghosts R} (n : ℕ) (d : Bool) (w x y z v : Stand G) (s t : Sight) →
+pub round_took : {R : Type 0} {G : Ghosts R} (n : ℕ) (d : Bool) (w x y z v : Stand G) (s t : PeerProgress) →
     Same w x → SawAll n x y s t → Resent y z → TickedIf d z v → (k : ℕ) × (d : Bool) × TookThenTicked k d w v
 round_took n d w x y z v s t a b c e = (n, d, then_ticked n d w x y z v s t a b c e)
 
 -- what a timer is told at a look
-pub looked_so : (a b c : List Told → Type 0) (now : ℕ) (v : View) (t : Sight) (q : Bool) → t.is_accepting ≡ q →
+pub looked_so : (a b c : List Told → Type 0) (now : ℕ) (v : View) (t : PeerProgress) (q : Bool) → t.is_accepting ≡ q →
     Adds a b (Told.Looks now v ∷ []) → Adds b c (sends_if q now) → Adds a c (looks now v t)
 looked_so a b c now v t q e g h =
     adds_then a b c (Told.Looks now v ∷ []) (sends_if t.is_accepting now) g
     (subst (λ (p : Bool). Adds b c (sends_if p now)) (sym e) h)
 
 -- what is seen in it, and what the timer is told
-pub round_saw : {R : Type 0} {G : Ghosts R} (n now was : ℕ) (w x y : Stand G) (o s t u : Sight) (v : View)
+pub round_saw : {R : Type 0} {G : Ghosts R} (n now was : ℕ) (w x y : Stand G) (o s t u : PeerProgress) (v : View)
     (a b c : List Told → Type 0) → Same w x → s ≡ o → SawAll n x y s t → u ≡ looked t → was ≡ front (learned_by w.replica) →
     v ≡ view_of y.replica was t → Adds a b (looks now v t) → Adds b c (Told.Repeats now ∷ []) →
     SawThenLooked n now w o u a c
 round_saw {R} {G} n now was w x y o s t u v a b c same seen saw e f g d h = record {
   then = y;
   seen = t;
-  saw = subst (λ (q : Sight). SawAll n w y q t) seen (subst (λ (p : Stand G). SawAll n p y s t) (same_is w x same) saw);
+  saw = subst (λ (q : PeerProgress). SawAll n w y q t) seen (subst (λ (p : Stand G). SawAll n p y s t) (same_is w x same) saw);
   looked = e;
   told =
       adds_then a b c _ _

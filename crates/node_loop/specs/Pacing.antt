@@ -1,62 +1,62 @@
--- When a member's clock ticks, as its pace says. Times are in microseconds.
+-- When a member's clock ticks, as its timer says. Times are in microseconds.
 use Rattle.std.specs.Prelude.{◌≡◌, ◌≤◌, ◌+◌, ◌-◌, ◌*◌, ◌^◌, ℕ, max, min}
-use Rattle.node_loop.specs.declared.pace.Pace.{Pace}
-use Rattle.node_loop.specs.declared.timer.Beat.{Beat}
-use Rattle.node_loop.specs.declared.timer.Beat.TheVariants as beats
+use Rattle.node_loop.specs.declared.tick_timer.TickTimer.{TickTimer}
+use Rattle.node_loop.specs.declared.timer.Action.{Action}
+use Rattle.node_loop.specs.declared.timer.Action.TheVariants as actions
 
 -- the time that is so much later, in 64 bits
 abbrev pub later : (now time : ℕ) → ℕ
 later now time = min (now + time) (2 ^ 64 - 1)
 
 -- where the clock ticks now
-abbrev pub IfTicks : Beat → Type 0 → Type 0
-IfTicks beats.Tick holds = holds
-IfTicks (beats.Wait milliseconds) holds = Unit {0}
+abbrev pub IfTicks : Action → Type 0 → Type 0
+IfTicks actions.Tick holds = holds
+IfTicks (actions.Wait milliseconds) holds = Unit {0}
 
 -- where it doesn't
-abbrev pub IfWaits : Beat → Type 0 → Type 0
-IfWaits beats.Tick holds = Unit {0}
-IfWaits (beats.Wait milliseconds) holds = holds
+abbrev pub IfWaits : Action → Type 0 → Type 0
+IfWaits actions.Tick holds = Unit {0}
+IfWaits (actions.Wait milliseconds) holds = holds
 
 -- a wait is 1 to 100 milliseconds long
-abbrev pub IsShort : Beat → Type 0
-IsShort beats.Tick = Unit {0}
-IsShort (beats.Wait milliseconds) = (1 ≤ milliseconds) × (milliseconds ≤ 100)
+abbrev pub IsShort : Action → Type 0
+IsShort actions.Tick = Unit {0}
+IsShort (actions.Wait milliseconds) = (1 ≤ milliseconds) × (milliseconds ≤ 100)
 
 -- the front when it was looked at last
-abbrev pub front_of : Pace → ℕ
+abbrev pub front_of : TickTimer → ℕ
 front_of p = p.front
 
 -- when the clock ticked last
-abbrev pub ticked_of : Pace → ℕ
+abbrev pub ticked_of : TickTimer → ℕ
 ticked_of p = p.ticked
 
 -- when the front moved last, or it was first seen that entries are lacking
-abbrev pub moved_of : Pace → ℕ
+abbrev pub moved_of : TickTimer → ℕ
 moved_of p = p.moved
 
 -- before then no waiting command is proposed
-abbrev pub hold_of : Pace → ℕ
+abbrev pub hold_of : TickTimer → ℕ
 hold_of p = p.hold
 
 -- before then the clock doesn't tick again, unless the front moves
-abbrev pub rest_of : Pace → ℕ
+abbrev pub rest_of : TickTimer → ℕ
 rest_of p = p.rest
 
 -- how long an answer takes, as was measured
-abbrev pub answer_of : Pace → ℕ
+abbrev pub answer_of : TickTimer → ℕ
 answer_of p = p.answer
 
 -- the longest time that an attempt, or what is lacked, is waited for: 4 s, or four times what was measured and some
 -- more
-abbrev pub patience_of : Pace → ℕ
+abbrev pub patience_of : TickTimer → ℕ
 patience_of p = max 4000000 (max p.trip p.answer * 4 + (20000 + 5000 * p.me))
 
 -- by when the clock ticks at the latest
-abbrev pub latest_of : Pace → ℕ
+abbrev pub latest_of : TickTimer → ℕ
 latest_of p = max p.hold (max p.moved p.ticked + patience_of p)
 
 -- nothing of when the clock ticks next has changed
-abbrev pub AreTimes : (before after : Pace) → Type 0
+abbrev pub AreTimes : (before after : TickTimer) → Type 0
 AreTimes p q =
     (q.hold ≡ p.hold) × (q.rest ≡ p.rest) × (q.ticked ≡ p.ticked) × (q.moved ≡ p.moved) × (q.front ≡ p.front)

@@ -1,5 +1,5 @@
--- What is seen of the other members' progress. The pace is given the time, how the node stands, and this; so a datagram
--- that is nobody's changes nothing of it.
+-- What is seen of the other members' progress. The timer is given the time, how the node stands, and this; so a
+-- datagram that is nobody's changes nothing of it.
 use Rattle.std.specs.Prelude.{◌≡◌, ◌≢◌, ◌⊎◌, ℕ, zero, suc, ◌+◌, ◌==◌, ◌||◌, Bool, true, false}
 use Rattle.std.specs.Prelude.{List, Option, Some, None, not, min, max, replicate, slice_set}
 use Rattle.px_model.specs.Spelling.{Bytes}
@@ -13,7 +13,7 @@ use Rattle.px_replica.specs.Replicas.{membership_of, IsUnspelled}
 use Rattle.px_replica.specs.declared.state.Replica.{Replica}
 use Rattle.node_loop.specs.Turns.{Stand, Took, Passed, Same}
 use Rattle.node_loop.specs.declared.room.Room.{Room}
-use Rattle.node_loop.specs.declared.sight.Sight.{Sight}
+use Rattle.node_loop.specs.declared.peer_progress.PeerProgress.{PeerProgress}
 
 -- a datagram spells no message for this member: it is of another cluster or list of members, for another member, or no
 -- message at all
@@ -25,8 +25,8 @@ abbrev pub IsFrom : {R : Type 0} {G : Ghosts R} → Replica R G → ℕ → Mess
 IsFrom s from message bytes = DatagramBytes (group (membership_of s)) from (membership_of s).me message bytes
 
 -- what was seen so far
-abbrev pub seen_in : Room → Sight
-seen_in room = room.sight
+abbrev pub seen_in : Room → PeerProgress
+seen_in room = room.peer_progress
 
 -- the heads of the messages that were taken last
 abbrev pub heads_in : Room → List Head
@@ -35,7 +35,7 @@ heads_in room = room.heads.items
 -- ---- what a message shows of its sender
 
 -- it has learned all below this position
-abbrev pub reaching : (position : ℕ) → Sight → Sight
+abbrev pub reaching : (position : ℕ) → PeerProgress → PeerProgress
 reaching p s = record {
   reached = max s.reached p;
   is_told = s.is_told;
@@ -44,7 +44,7 @@ reaching p s = record {
 }
 
 -- it lacks the positions from one less than this on
-abbrev pub lacking : (from next : ℕ) → Sight → Sight
+abbrev pub lacking : (from next : ℕ) → PeerProgress → PeerProgress
 lacking from next s = record {
   reached = s.reached;
   is_told = s.is_told;
@@ -53,11 +53,11 @@ lacking from next s = record {
 }
 
 -- an entry came that this member had asked for
-abbrev pub told : Sight → Sight
+abbrev pub told : PeerProgress → PeerProgress
 told s = record { reached = s.reached; is_told = true; is_accepting = s.is_accepting; lacking = s.lacking }
 
 -- an accept request came, which counts where another member sent it
-abbrev pub accepting : (is_others : Bool) → Sight → Sight
+abbrev pub accepting : (is_others : Bool) → PeerProgress → PeerProgress
 accepting o s = record {
   reached = s.reached;
   is_told = s.is_told;
@@ -67,7 +67,7 @@ accepting o s = record {
 
 -- what a message about this position shows beside how far its sender is, in 32 bits: whoever asks for promises lacks
 -- the position, and whoever needs its entry is answered with that and lacks the next one
-abbrev pub noted_by : Kind → (from to position : ℕ) → Sight → Sight
+abbrev pub noted_by : Kind → (from to position : ℕ) → PeerProgress → PeerProgress
 noted_by kinds.Prepare from to p s = lacking from (min (p + 1) 4294967295) s
 noted_by kinds.PrepareAll from to p s = lacking from (min (p + 1) 4294967295) s
 noted_by kinds.Need from to p s = lacking from (min (p + 2) 4294967295) s
@@ -82,27 +82,27 @@ noted_by kinds.Asked from to p s = s
 noted_by kinds.AskRefused from to p s = s
 
 -- the same of a message with this head
-abbrev pub noted : Head → (position : ℕ) → Sight → Sight
+abbrev pub noted : Head → (position : ℕ) → PeerProgress → PeerProgress
 noted h p s = noted_by h.kind h.from h.to p s
 
 -- the same, if it is about a position
-abbrev pub noted_if : Head → (position : Option ℕ) → Sight → Sight
+abbrev pub noted_if : Head → (position : Option ℕ) → PeerProgress → PeerProgress
 noted_if h None s = s
 noted_if h (Some p) s = noted h p s
 
 -- what is seen once a message with this head has come: how far its sender is, and what it shows besides
-abbrev pub shown_by : Head → Sight → Sight
+abbrev pub shown_by : Head → PeerProgress → PeerProgress
 shown_by h s = noted_if h h.position (reaching (learned_below h) s)
 
 -- what was seen, once it was looked at: how far others are stays
-abbrev pub looked : Sight → Sight
+abbrev pub looked : PeerProgress → PeerProgress
 looked s = record { reached = s.reached; is_told = false; is_accepting = false; lacking = replicate 15 0 }
 
 -- ---- what is seen as datagrams are taken
 
 -- A datagram was taken. Where it is nobody's, the member is as it was, and nothing more is seen; else what its message
 -- shows.
-pub record Saw {R : Type 0} {G : Ghosts R} (x y : Stand G) (s t : Sight) : Type 0 where
+pub record Saw {R : Type 0} {G : Ghosts R} (x y : Stand G) (s t : PeerProgress) : Type 0 where
   pub took : Took x y None
   pub still : IsNobodys x.replica took.bytes → y.replica ≡ x.replica
   pub unseen : IsNobodys x.replica took.bytes → t ≡ s
@@ -112,10 +112,10 @@ pub record Saw {R : Type 0} {G : Ghosts R} (x y : Stand G) (s t : Sight) : Type 
       IsFrom x.replica from message took.bytes → from ≢ 255
 
 -- a datagram was taken, or passed over, of which nothing is seen
-abbrev pub SawOne : {R : Type 0} {G : Ghosts R} → (x y : Stand G) → (s t : Sight) → Type 0
+abbrev pub SawOne : {R : Type 0} {G : Ghosts R} → (x y : Stand G) → (s t : PeerProgress) → Type 0
 SawOne x y s t = Saw x y s t ⊎ (Passed x y × (t ≡ s))
 
 -- n datagrams were taken or passed over, one after the other
-abbrev pub SawAll : {R : Type 0} {G : Ghosts R} → (datagrams : ℕ) → (x y : Stand G) → (s t : Sight) → Type 0
+abbrev pub SawAll : {R : Type 0} {G : Ghosts R} → (datagrams : ℕ) → (x y : Stand G) → (s t : PeerProgress) → Type 0
 SawAll zero x y s t = Same x y × (t ≡ s)
-SawAll {G = G} (suc n) x z s u = (y : Stand G) × (t : Sight) × SawAll n x y s t × SawOne y z t u
+SawAll {G = G} (suc n) x z s u = (y : Stand G) × (t : PeerProgress) × SawAll n x y s t × SawOne y z t u

@@ -8,7 +8,7 @@ use Rattle.px_replica.specs.Replicas.{learned_by, state_in}
 use Rattle.px_replica.specs.declared.state.Replica.{Replica}
 use Rattle.node_loop.specs.Progress.{SawAll, looked}
 use Rattle.node_loop.specs.Turns.{Stand}
-use Rattle.node_loop.specs.declared.sight.Sight.{Sight}
+use Rattle.node_loop.specs.declared.peer_progress.PeerProgress.{PeerProgress}
 use Rattle.node_loop.specs.declared.timer.View.{View}
 
 -- what a timer is told
@@ -23,7 +23,7 @@ pub data Told : Type 0 where
   Ends : Told
 
 -- what is seen of a node, whose front was there before the datagrams were taken
-abbrev pub view_of : {R : Type 0} {G : Ghosts R} → Replica R G → (was : ℕ) → Sight → View
+abbrev pub view_of : {R : Type 0} {G : Ghosts R} → Replica R G → (was : ℕ) → PeerProgress → View
 view_of s was t = record {
   waiting = length (state_in s).volatile.waiting;
   is_attempting = is_some (state_in s).volatile.attempt;
@@ -39,15 +39,15 @@ sends_if true now = Told.Sends now ∷ []
 sends_if false now = []
 
 -- what it is told at a look
-abbrev pub looks : (now : ℕ) → View → Sight → List Told
+abbrev pub looks : (now : ℕ) → View → PeerProgress → List Told
 looks now v t = Told.Looks now v ∷ sends_if t.is_accepting now
 
 -- n datagrams were taken, one after the other; then the timer was told what they left to see, and nothing else; and
 -- what was seen was looked at.
-pub record SawThenLooked {R : Type 0} {G : Ghosts R} (n now : ℕ) (x : Stand G) (s u : Sight)
+pub record SawThenLooked {R : Type 0} {G : Ghosts R} (n now : ℕ) (x : Stand G) (s u : PeerProgress)
     (before after : List Told → Type 0) : Type 0 where
   pub then : Stand G
-  pub seen : Sight
+  pub seen : PeerProgress
   pub saw : SawAll n x then s seen
   pub looked : u ≡ looked seen
   pub told : Adds before after (looks now (view_of then.replica (front (learned_by x.replica)) seen) seen ++

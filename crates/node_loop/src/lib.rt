@@ -3,7 +3,7 @@
 //! # Organization
 //!
 //! - [`turn`]: one datagram is received, or the clock ticks, and what is to be sent is sent.
-//! - [`round`]: what has come is received, and the clock ticks when the [`Timer`] says so, which is [`Pace`].
+//! - [`round`]: what has come is received, and the clock ticks when the [`Timer`] says so, which is [`TickTimer`].
 //!   [`finish`]: what waits to be proposed is worked off. node_control has the loop of such rounds.
 //! - [`tick_now`]: the clock ticks.
 //! - [`Room`]: the buffers that one turn after another uses, and what is sent again. [`RoundCounts`]: what went over
@@ -27,16 +27,16 @@ mod ended;
 mod latest;
 pub mod laws;
 mod member;
-mod pace;
 mod pacing;
 mod packet;
+mod peer_progress;
 mod resender;
 mod room;
 pub mod run_laws;
 mod running;
 mod serving;
-mod sight;
 mod state;
+mod tick_timer;
 mod timer;
 mod turning;
 mod votes;
@@ -44,7 +44,6 @@ mod votes;
 pub use counts::RoundCounts;
 pub use ended::Ended;
 pub use member::open_member;
-pub use pace::Pace;
 pub use pacing::microseconds;
 pub use pf_node::{Membership, Node};
 pub use px_replica::{Datagram, NodeFault};
@@ -53,5 +52,6 @@ pub use resender::Resender;
 pub use room::Room;
 pub use running::{Progress, finish, round};
 pub use serving::tick_now;
-pub use timer::{Beat, Timer, View};
+pub use tick_timer::TickTimer;
+pub use timer::{Action, Timer, View};
 pub use turning::turn;

@@ -4,8 +4,8 @@ ghost use Rattle.std.specs.Prelude.{◌≡◌, ◌≤◌, ◌<◌, ◌+◌, ◌/
 ghost use Rattle.node_loop.specs.Pacing.{AreTimes, IfTicks, IfWaits, IsShort, answer_of, front_of, hold_of, later};
 ghost use Rattle.node_loop.specs.Pacing.{latest_of, moved_of, patience_of, rest_of, ticked_of};
 
-use crate::pace::Pace;
-use crate::timer::{Beat, Timer, View};
+use crate::tick_timer::TickTimer;
+use crate::timer::{Action, Timer, View};
 use std::time::{Clock, Instant};
 
 /// How long a round trip is taken to be before one was measured, in microseconds.
@@ -53,10 +53,10 @@ const SLOWER: u32 = 16;
 /// The longest wait, in milliseconds.
 const LONGEST_WAIT: u64 = 100;
 
-impl Pace {
-    /// The pace of a member that starts.
-    pub fn new(me: u8) -> Pace {
-        Pace {
+impl TickTimer {
+    /// The timer of a member that starts.
+    pub fn new(me: u8) -> TickTimer {
+        TickTimer {
             me,
             ticked: 0,
             asks: 0,
@@ -445,11 +445,11 @@ impl Pace {
     }
 }
 
-impl Timer for Pace {
+impl Timer for TickTimer {
     // what it was told isn't kept, and is all that it decides by
     ghost told = { λ p told. Unit {0} };
 
-    fn beat(&mut self, now: u64, view: View) -> Beat
+    fn action(&mut self, now: u64, view: View) -> Action
         // The clock ticks in time, whatever is seen.
         ensures latest { IfWaits result (now < latest_of self.new) }
         ensures wait { IsShort result }
@@ -470,11 +470,11 @@ impl Timer for Pace {
         let due = self.due(now, view);
         if now >= due {
             self.tick(now, view);
-            return Beat::Tick;
+            return Action::Tick;
         }
         let left = due.min(self.next_repeat()).saturating_sub(now);
         let milliseconds = left / 1_000 + 1;
-        Beat::Wait(milliseconds.min(LONGEST_WAIT) as u32)
+        Action::Wait(milliseconds.min(LONGEST_WAIT) as u32)
     }
 
     fn sent(&mut self, now: u64)

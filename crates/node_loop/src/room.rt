@@ -4,8 +4,8 @@ ghost use Rattle.std.specs.Prelude.{◌≡◌, [], IfOk, length};
 ghost use Rattle.node_loop.specs.Resends.{kept_of, requests_of};
 
 use crate::counts::RoundCounts;
+use crate::peer_progress::PeerProgress;
 use crate::resender::Resender;
-use crate::sight::Sight;
 use px_replica::Datagram;
 use px_wire::{Head, Membership};
 use std::alloc::{AllocError, Global};
@@ -25,7 +25,7 @@ pub struct Room {
     pub(crate) bytes: Vec<u8>,
     pub(crate) out: Vec<Datagram>,
     /// What was seen of other members.
-    pub(crate) sight: Sight,
+    pub(crate) peer_progress: PeerProgress,
     /// The heads of the messages that were taken in the last round.
     pub(crate) heads: Vec<Head>,
     pub(crate) resender: Resender,
@@ -47,7 +47,7 @@ impl Room {
         Ok(Room {
             bytes,
             out: Vec::new(alloc),
-            sight: Sight::new(),
+            peer_progress: PeerProgress::new(),
             heads,
             resender: Resender::new(alloc, m.members(), m.me()),
             hears_asks,

@@ -11,11 +11,11 @@ ghost use Rattle.node_loop.specs.Timing.{SawThenLooked, looks, view_of};
 ghost use Rattle.node_loop.specs.Turns.{Served, TickedIf, TookThenTicked, standing};
 
 use crate::pacing::microseconds;
+use crate::peer_progress::PeerProgress;
 use crate::resender::Resender;
 use crate::room::Room;
 use crate::serving::{drain, tick_now};
-use crate::sight::Sight;
-use crate::timer::{Beat, Timer, View};
+use crate::timer::{Action, Timer, View};
 use pf_node::Node;
 use px_records::Records;
 use px_replica::NodeFault;
@@ -40,8 +40,8 @@ fn view_of<R: Records>(node: &Node<R>, room: &Room, was: u32) -> View
         is_attempting: node.is_attempting(),
         is_leading: node.is_leading(),
         front: node.front(),
-        is_told: room.sight.is_told && node.front() != was,
-        reached: room.sight.reached,
+        is_told: room.peer_progress.is_told && node.front() != was,
+        reached: room.peer_progress.reached,
     }
 }
 
@@ -59,7 +59,7 @@ fn tick_if<R: Records, W: Wire>(
     node: &mut Node<R>,
     wire: &mut W,
     room: &mut Room,
-    beat: Beat,
+    action: Action,
     taken: u32,
     has_own: bool,
 ) -> Result<Progress, NodeFault>
@@ -70,15 +70,15 @@ fn tick_if<R: Records, W: Wire>(
     ensures unseen { seen_in room.new ≡ seen_in room.old }
     ensures grows { applied_of node.old ≤ applied_of node.new }
 {
-    match beat {
-        Beat::Tick => match tick_now(node, wire, room) {
+    match action {
+        Action::Tick => match tick_now(node, wire, room) {
             Ok(()) => Ok(Progress {
                 turns: taken.saturating_add(1),
                 wait: 0,
             }),
             Err(fault) => Err(fault),
         },
-        Beat::Wait(milliseconds) => Ok(Progress {
+        Action::Wait(milliseconds) => Ok(Progress {
             turns: taken.max(1),
             wait: if taken == 0 && !has_own {
                 milliseconds
@@ -90,50 +90,61 @@ fn tick_if<R: Records, W: Wire>(
 }
 
 /// What the clock does, by what has come.
-fn beat<T: Timer>(timer: &mut T, sight: &mut Sight, now: u64, view: View) -> Beat
-    ensures looked { sight.new ≡ looked sight.old }
-    ensures told { Adds (T.told timer.old) (T.told timer.new) (looks now view sight.old) }
+fn action<T: Timer>(timer: &mut T, peer_progress: &mut PeerProgress, now: u64, view: View) -> Action
+    ensures looked { peer_progress.new ≡ looked peer_progress.old }
+    ensures told { Adds (T.told timer.old) (T.told timer.new) (looks now view peer_progress.old) }
 {
-    let beat = timer.beat(now, view);
-    if sight.is_accepting {
+    let action = timer.action(now, view);
+    if peer_progress.is_accepting {
         timer.sent(now);
     }
-    *sight = sight.looked();
-    beat
+    *peer_progress = peer_progress.looked();
+    action
 }
 
 /// Members that told that they lack entries below the front are sent again what was sent to them of those.
-fn remind<W: Wire>(wire: &mut W, resender: &mut Resender, sight: &Sight, front: u32)
+fn remind<W: Wire>(wire: &mut W, resender: &mut Resender, peer_progress: &PeerProgress, front: u32)
     ensures again { HandsAgain (kept_of resender.old) (W.traffic wire.old) (W.traffic wire.new) }
     ensures kept { kept_of resender.new ≡ kept_of resender.old }
     ensures requests { requests_of resender.new ≡ requests_of resender.old }
 {
     for member in 0..MEMBERS {
-        if let Some(position) = sight.lacks(member, front) {
+        if let Some(position) = peer_progress.lacks(member, front) {
             resender.repeat_to(wire, member, position);
         }
     }
 }
 
 /// The same; and what was sent of the positions from the front on is sent again, if that is due.
-fn repeat<W: Wire>(wire: &mut W, resender: &mut Resender, sight: &Sight, is_due: bool, front: u32)
+fn repeat<W: Wire>(
+    wire: &mut W,
+    resender: &mut Resender,
+    peer_progress: &PeerProgress,
+    is_due: bool,
+    front: u32,
+)
     ensures again { HandsAgain (kept_of resender.old) (W.traffic wire.old) (W.traffic wire.new) }
     ensures kept { kept_of resender.new ≡ kept_of resender.old }
     ensures requests { requests_of resender.new ≡ requests_of resender.old }
 {
-    remind(wire, resender, sight, front);
+    remind(wire, resender, peer_progress, front);
     if is_due {
         resender.repeat(wire, front);
     }
 }
 
 /// A member that others have passed is handed its own votes again that its window has reached: whether there were any.
-fn recall<W: Wire>(wire: &mut W, resender: &mut Resender, sight: &Sight, front: u32) -> bool
+fn recall<W: Wire>(
+    wire: &mut W,
+    resender: &mut Resender,
+    peer_progress: &PeerProgress,
+    front: u32,
+) -> bool
     ensures again { HandsAgain (kept_of resender.old) (W.traffic wire.old) (W.traffic wire.new) }
     ensures kept { kept_of resender.new ≡ kept_of resender.old }
     ensures requests { requests_of resender.new ≡ requests_of resender.old }
 {
-    if sight.reached > front {
+    if peer_progress.reached > front {
         return resender.repeat_own(wire, front);
     }
     false
@@ -143,7 +154,7 @@ fn recall<W: Wire>(wire: &mut W, resender: &mut Resender, sight: &Sight, front: 
 fn resend<W: Wire>(
     wire: &mut W,
     resender: &mut Resender,
-    sight: &Sight,
+    peer_progress: &PeerProgress,
     is_due: bool,
     front: u32,
 ) -> bool
@@ -151,8 +162,8 @@ fn resend<W: Wire>(
     ensures kept { kept_of resender.new ≡ kept_of resender.old }
     ensures requests { requests_of resender.new ≡ requests_of resender.old }
 {
-    repeat(wire, resender, sight, is_due, front);
-    recall(wire, resender, sight, front)
+    repeat(wire, resender, peer_progress, is_due, front);
+    recall(wire, resender, peer_progress, front)
 }
 
 /// Begins a round at this time: nothing went over the wire in it.
@@ -196,12 +207,12 @@ pub fn round<R: Records, W: Wire, T: Timer>(
         Ok(taken) => taken,
         Err(fault) => return Err(fault),
     };
-    let seen = room.sight;
+    let seen = room.peer_progress;
     let view = view_of(node, room, was);
-    let beat = beat(timer, &mut room.sight, now, view);
+    let action = action(timer, &mut room.peer_progress, now, view);
     let is_due = timer.repeats(now);
     let has_own = resend(wire, &mut room.resender, &seen, is_due, node.front());
-    tick_if(node, wire, room, beat, taken, has_own)
+    tick_if(node, wire, room, action, taken, has_own)
 }
 
 /// Works off what waits to be proposed, before the node ends: rounds until nothing waits, 3,000 at most, of which one

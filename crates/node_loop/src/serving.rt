@@ -16,9 +16,9 @@ ghost use Rattle.node_loop.specs.Resending.{IsKnown};
 ghost use Rattle.node_loop.specs.inner.Turns.{SawIf};
 
 use crate::counts::RoundCounts;
+use crate::peer_progress::PeerProgress;
 use crate::resender::Resender;
 use crate::room::Room;
-use crate::sight::Sight;
 use crate::turning::{act, came, send_all};
 use pf_entry::ASKER;
 use pf_node::Node;
@@ -77,11 +77,16 @@ pub fn tick_now<R: Records, W: Wire>(
 
 /// What was taken is noted by its head: what that shows of its sender, the head itself, where there is memory, and a
 /// request that may come again.
-fn note(sight: &mut Sight, heads: &mut Vec<Head>, resender: &mut Resender, bytes: &[u8])
+fn note(
+    peer_progress: &mut PeerProgress,
+    heads: &mut Vec<Head>,
+    resender: &mut Resender,
+    bytes: &[u8],
+)
     ensures kept { kept_of resender.new ≡ kept_of resender.old }
     ensures requests { AreAmong (requests_of resender.new) (requests_of resender.old ++ bytes.now ∷ []) }
     ensures shown { (g : Group) (from to : ℕ) (message : Message) → DatagramBytes g from to message bytes.now →
-        sight.new ≡ shown_by (head_of from to message) sight.old }
+        peer_progress.new ≡ shown_by (head_of from to message) peer_progress.old }
     ensures heard { vec_len heads.old < vec_capacity heads.old →
         (g : Group) (from to : ℕ) (message : Message) → DatagramBytes g from to message bytes.now →
         heads.new.items ≡ heads.old.items ++ head_of from to message ∷ [] }
@@ -89,7 +94,7 @@ fn note(sight: &mut Sight, heads: &mut Vec<Head>, resender: &mut Resender, bytes
     let Some(head) = Head::read(bytes) else {
         return;
     };
-    *sight = sight.after(&head);
+    *peer_progress = peer_progress.after(&head);
     resender.took(&head, bytes);
     let _kept = heads.push(head);
 }
@@ -98,7 +103,7 @@ fn note(sight: &mut Sight, heads: &mut Vec<Head>, resender: &mut Resender, bytes
 /// member changes nothing of that.
 fn receive<R: Records>(
     node: &mut Node<R>,
-    sight: &mut Sight,
+    peer_progress: &mut PeerProgress,
     heads: &mut Vec<Head>,
     resender: &mut Resender,
     bytes: &[u8],
@@ -109,18 +114,18 @@ fn receive<R: Records>(
     ensures requests { AreAmong (requests_of resender.new) (requests_of resender.old ++ bytes.now ∷ []) }
     ensures acts { Acts (replica_of node.old) (replica_of node.new) (Some bytes.now) out.new.items (fault_of result) }
     ensures grows { applied_of node.old ≤ applied_of node.new }
-    ensures nobodys { IsNobodys (replica_of node.old) bytes.now → sight.new ≡ sight.old }
+    ensures nobodys { IsNobodys (replica_of node.old) bytes.now → peer_progress.new ≡ peer_progress.old }
     ensures unheard { IsNobodys (replica_of node.old) bytes.now → heads.new.items ≡ heads.old.items }
     ensures shown { fault_of result ≡ None → (from : ℕ) (message : Message) →
         IsFrom (replica_of node.old) from message bytes.now →
-        sight.new ≡ shown_by (head_of from (membership_of node.old).me message) sight.old }
+        peer_progress.new ≡ shown_by (head_of from (membership_of node.old).me message) peer_progress.old }
     ensures heard { fault_of result ≡ None → vec_len heads.old < vec_capacity heads.old →
         (from : ℕ) (message : Message) → IsFrom (replica_of node.old) from message bytes.now →
         heads.new.items ≡ heads.old.items ++ head_of from (membership_of node.old).me message ∷ [] }
 {
     match node.receive(bytes, out) {
         Ok(Received::Done) => {
-            note(sight, heads, resender, bytes);
+            note(peer_progress, heads, resender, bytes);
             Ok(())
         }
         Ok(Received::Ignored(_)) => Ok(()),
@@ -199,7 +204,7 @@ fn take_one<R: Records, W: Wire>(
     }
     let result = receive(
         node,
-        &mut room.sight,
+        &mut room.peer_progress,
         &mut room.heads,
         &mut room.resender,
         bytes,

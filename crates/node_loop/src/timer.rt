@@ -24,7 +24,7 @@ pub struct View {
 
 /// What a node does next.
 #[derive(Clone, Copy, PartialEq, Eq)]
-pub enum Beat {
+pub enum Action {
     /// Its clock ticks.
     Tick,
     /// It waits for a datagram, so many milliseconds at most, 1 to 100.
@@ -38,7 +38,7 @@ pub trait Timer {
     ghost told: { Self → List Told → Type 0 };
 
     /// What the node does next, at this time, where this is seen of it.
-    fn beat(&mut self, now: u64, view: View) -> Beat
+    fn action(&mut self, now: u64, view: View) -> Action
         ensures told { Adds (told self.old) (told self.new) (Looks now view ∷ []) };
 
     /// Votes for what another proposes were sent, which may be lost.
@@ -46,7 +46,7 @@ pub trait Timer {
         ensures told { Adds (told self.old) (told self.new) (Sends now ∷ []) };
 
     /// Whether the accept requests and votes that were sent of the front's position are sent again now, since they may
-    /// be lost. It is asked after [`Timer::beat`], at the same time.
+    /// be lost. It is asked after [`Timer::action`], at the same time.
     fn repeats(&mut self, now: u64) -> bool
         ensures told { Adds (told self.old) (told self.new) (Repeats now ∷ []) };
 

@@ -6,8 +6,8 @@ use Rattle.px_records.specs.declared.records.Records.{Ghosts}
 use Rattle.px_model.specs.Step.{front}
 use Rattle.pf_node.specs.Nodes.{learned_by, applied_of, membership_of, has_failed}
 use Rattle.pf_node.specs.declared.state.Node.{Node}
-use Rattle.node_requests.specs.declared.tally.PeerTally.{PeerTally}
-use Rattle.node_requests.specs.declared.tally.Tally.{Tally}
+use Rattle.node_requests.specs.declared.counters.PeerCounters.{PeerCounters}
+use Rattle.node_requests.specs.declared.counters.Counters.{Counters}
 use Rattle.node_requests.specs.declared.health.TheConstants.{STUCK}
 use Rattle.node_requests.specs.declared.health.Health.{Health}
 use Rattle.node_requests.specs.declared.health.Health.TheVariants.{Works, Behind, Alone, Stuck, Failed}
@@ -21,12 +21,12 @@ is_recent (Some seconds) = nat_lt seconds 3
 
 -- of how many of the other members one came
 -- Example: 2 is recent, 3 isn't.
-abbrev pub counted : List PeerTally → ℕ
+abbrev pub counted : List PeerCounters → ℕ
 counted peers = count_by (λ p. is_recent p.heard) peers
 
 -- a member showed that a position is learned which isn't applied here
 -- Example: with 412 applied, 413 is, 412 isn't.
-abbrev pub is_shown : ℕ → List PeerTally → Bool
+abbrev pub is_shown : ℕ → List PeerCounters → Bool
 is_shown applied peers = list_any (λ p. nat_lt applied p.shown) peers
 
 -- a fault of the store; commands wait and the front stands; fewer than a majority heard, this one counted; positions
@@ -37,7 +37,7 @@ health_by failed stuck few behind =
     if failed then Failed else if stuck then Stuck else if few then Alone else if behind then Behind else Works
 
 -- A node's health, by what was counted. Few are fewer of the others than half of the members, rounded down.
-abbrev pub health : {R : Type 0} {G : Ghosts R} → Node R G → Tally → Health
+abbrev pub health : {R : Type 0} {G : Ghosts R} → Node R G → Counters → Health
 health n t = health_by (has_failed n) (nat_le STUCK t.stood)
     (nat_lt (counted t.peers.items) ((membership_of n).members / 2))
     (nat_lt (applied_of n) (front (learned_by n)) || is_shown (applied_of n) t.peers.items)

@@ -7,13 +7,13 @@ use Rattle.pf_scripts.specs.WordsRead.{change_in}
 use Rattle.pf_node.specs.Nodes.{learned_by, applied_of, config_of, membership_of, has_failed, state_in}
 use Rattle.pf_node.specs.declared.state.Node.{Node}
 use Rattle.node_requests.specs.declared.changing.Changed.{Changed}
-use Rattle.node_requests.specs.declared.desk.Desk.{Desk}
+use Rattle.node_requests.specs.declared.handler.RequestHandler.{RequestHandler}
 use Rattle.node_requests.specs.declared.figures.Figures.{Figures}
 use Rattle.node_requests.specs.declared.request.Read.{Read}
 use Rattle.node_requests.specs.declared.request.Read.TheVariants as read
 use Rattle.node_requests.specs.declared.request.Request.{Request}
 use Rattle.node_requests.specs.declared.request.Request.TheVariants as request
-use Rattle.node_requests.specs.declared.tally.Tally.{Tally}
+use Rattle.node_requests.specs.declared.counters.Counters.{Counters}
 use Rattle.node_requests.specs.Answers.{AnswerValue, shown, listed}
 use Rattle.node_requests.specs.Bounded.{verdicts_within}
 use Rattle.node_requests.specs.Changing.{Changes, with_number, change_answer}
@@ -39,14 +39,14 @@ pub record AreFigures {R : Type 0} {G : Ghosts R} (n : Node R G) (f : Figures) :
 
 -- the status of figures that are the node's, as JSON or in lines
 -- Example: at front 412, 999,588 positions are left.
-pub record IsStatus {R : Type 0} {G : Ghosts R} (n : Node R G) (t : Tally) (json : Bool) (a : AnswerValue) :
+pub record IsStatus {R : Type 0} {G : Ghosts R} (n : Node R G) (t : Counters) (json : Bool) (a : AnswerValue) :
     Type 0 where
   pub figures : Figures
   pub are : AreFigures n figures
   pub answered : a ≡ shown (status_as json figures (health n t) t)
 
 -- what a read answers; of the numbers for Prometheus only that they are there
-abbrev pub IsRead : {R : Type 0} {G : Ghosts R} → Node R G → Option (ℕ × ℕ) → Tally → Read → AnswerValue → Type 0
+abbrev pub IsRead : {R : Type 0} {G : Ghosts R} → Node R G → Option (ℕ × ℕ) → Counters → Read → AnswerValue → Type 0
 IsRead n taken t (read.List listing) a = a ≡ listed (config_of n) (words_of listing)
 IsRead n taken t (read.Test packets) a = a ≡ verdicts_within (config_of n) (map (λ p. p.now) packets.items)
 IsRead n taken t (read.Standing origin number) a = a ≡ standing n taken origin number
@@ -63,7 +63,7 @@ abbrev pub not_yet : AnswerValue
 not_yet = record { code = 503; body = codes "waiting\n" }
 
 -- the answer of a read, and `not_yet` where it is to wait
-abbrev pub IsReadIf : {R : Type 0} {G : Ghosts R} → Bool → Node R G → Option (ℕ × ℕ) → Tally → Read →
+abbrev pub IsReadIf : {R : Type 0} {G : Ghosts R} → Bool → Node R G → Option (ℕ × ℕ) → Counters → Read →
     AnswerValue → Type 0
 IsReadIf true n taken t r a = a ≡ not_yet
 IsReadIf false n taken t r a = IsRead n taken t r a
@@ -75,7 +75,7 @@ abbrev pub no_memory : AnswerValue
 no_memory = record { code = 503; body = [] }
 
 -- one ask or none, and the line of it; the number that was given is kept
-pub record IsChange {R : Type 0} {G : Ghosts R} (s t : Desk R G) (asked : Result entries.Command ℕ) (a : AnswerValue) :
+pub record IsChange {R : Type 0} {G : Ghosts R} (s t : RequestHandler R G) (asked : Result entries.Command ℕ) (a : AnswerValue) :
     Type 0 where
   pub changed : Changed
   pub changes : Changes s.node t.node asked changed
@@ -85,7 +85,7 @@ pub record IsChange {R : Type 0} {G : Ghosts R} (s t : Desk R G) (asked : Result
 
 -- A read leaves all as it was. A change is one ask of the node, or a refusal with nothing changed.
 -- Example: Stop is answered 200 and stopping.
-abbrev pub Answers : {R : Type 0} {G : Ghosts R} → (s t : Desk R G) → Tally → Request → AnswerValue → Type 0
+abbrev pub Answers : {R : Type 0} {G : Ghosts R} → (s t : RequestHandler R G) → Counters → Request → AnswerValue → Type 0
 Answers s t counted (request.Change words text) a =
     IsChange s t (change_in (map (λ w. w.now) words.items) text.now) a
 Answers s t counted (request.Read at r) a =

@@ -6,8 +6,8 @@ use Rattle.clap.specs.Words.{Text}
 use Rattle.pf_scripts.specs.Lines.{line}
 use Rattle.node_requests.specs.declared.figures.Figures.{Figures}
 use Rattle.node_requests.specs.declared.health.Health.{Health}
-use Rattle.node_requests.specs.declared.tally.PeerTally.{PeerTally}
-use Rattle.node_requests.specs.declared.tally.Tally.{Tally}
+use Rattle.node_requests.specs.declared.counters.PeerCounters.{PeerCounters}
+use Rattle.node_requests.specs.declared.counters.Counters.{Counters}
 use Rattle.node_requests.specs.Health.{health_word}
 
 -- a text and the number behind it
@@ -25,7 +25,7 @@ heard None = codes " heard never"
 heard (Some seconds) = field (codes " heard ", seconds)
 
 -- peer N heard SECONDS in DATAGRAMS out DATAGRAMS
-abbrev pub peer_line : PeerTally → List ℕ
+abbrev pub peer_line : PeerCounters → List ℕ
 peer_line p = ((field (codes "peer ", p.node) ++ heard p.heard)
     ++ fields ((codes " in ", p.datagrams_in) ∷ (codes " out ", p.datagrams_out) ∷ [])) ++ codes "\n"
 
@@ -47,7 +47,7 @@ front_line f =
     ∷ (codes " waiting ", f.waiting) ∷ (codes " left ", f.left) ∷ []))
 
 -- health WORD stood SECONDS outrun TIMES large BYTES
-abbrev pub standing_line : Health → Tally → List ℕ
+abbrev pub standing_line : Health → Counters → List ℕ
 standing_line h t =
     line ((codes "health " ++ health_word h)
     ++ fields ((codes " stood ", t.stood) ∷ (codes " outrun ", t.outrun) ∷ (codes " large ", t.large) ∷ []))
@@ -59,23 +59,23 @@ config_line f =
     ∷ (codes " addresses ", f.addresses) ∷ []))
 
 -- wire unsent DATAGRAMS dropped DATAGRAMS ignored DATAGRAMS
-abbrev pub wire_line : Tally → List ℕ
+abbrev pub wire_line : Counters → List ℕ
 wire_line t =
     line (fields ((codes "wire unsent ", t.unsent) ∷ (codes " dropped ", t.dropped)
     ∷ (codes " ignored ", t.ignored) ∷ []))
 
--- door seats N served REQUESTS refused REQUESTS
-abbrev pub door_line : Tally → List ℕ
-door_line t =
-    line (fields ((codes "door seats ", t.seats) ∷ (codes " served ", t.served) ∷ (codes " refused ", t.refused) ∷ []))
+-- control clients N served REQUESTS refused REQUESTS
+abbrev pub control_line : Counters → List ℕ
+control_line t =
+    line (fields ((codes "control clients ", t.clients) ∷ (codes " served ", t.served) ∷ (codes " refused ", t.refused) ∷ []))
 
 -- members ADDRESS:PORT ..
-abbrev pub members_line : Tally → List ℕ
+abbrev pub members_line : Counters → List ℕ
 members_line t = (codes "members " ++ string_bytes t.members) ++ codes "\n"
 
 -- all of them, a line for each other member in their midst
 -- Example: node 0 of 3 cluster 7 up 86412.
-abbrev pub status_lines : Figures → Health → Tally → List ℕ
+abbrev pub status_lines : Figures → Health → Counters → List ℕ
 status_lines f h t =
     (((((((node_line f t.up ++ front_line f) ++ standing_line h t) ++ config_line f)
-    ++ flat_map peer_line t.peers.items) ++ wire_line t) ++ store_line f.has_failed) ++ door_line t) ++ members_line t
+    ++ flat_map peer_line t.peers.items) ++ wire_line t) ++ store_line f.has_failed) ++ control_line t) ++ members_line t

@@ -2,8 +2,8 @@
 use Rattle.std.specs.Prelude.{ℕ, Bool, true, false, List, [], ◌∷◌, ◌++◌, Option, Some, None, codes}
 use Rattle.node_requests.specs.declared.figures.Figures.{Figures}
 use Rattle.node_requests.specs.declared.health.Health.{Health}
-use Rattle.node_requests.specs.declared.tally.PeerTally.{PeerTally}
-use Rattle.node_requests.specs.declared.tally.Tally.{Tally}
+use Rattle.node_requests.specs.declared.counters.PeerCounters.{PeerCounters}
+use Rattle.node_requests.specs.declared.counters.Counters.{Counters}
 use Rattle.node_requests.specs.Health.{health_word}
 use Rattle.node_requests.specs.Status.{field, fields, status_lines}
 
@@ -13,12 +13,12 @@ heard_json None = codes ",\"heard\":null"
 heard_json (Some seconds) = field (codes ",\"heard\":", seconds)
 
 -- an object for a peer: node, heard, in, out
-abbrev pub peer_json : PeerTally → List ℕ
+abbrev pub peer_json : PeerCounters → List ℕ
 peer_json p = ((field (codes "{\"node\":", p.node) ++ heard_json p.heard)
     ++ fields ((codes ",\"in\":", p.datagrams_in) ∷ (codes ",\"out\":", p.datagrams_out) ∷ [])) ++ codes "}"
 
 -- peers with commas between them
-abbrev pub peers_json : List PeerTally → List ℕ
+abbrev pub peers_json : List PeerCounters → List ℕ
 peers_json [] = []
 peers_json (p ∷ []) = peer_json p
 peers_json (p ∷ q ∷ ps) = (peer_json p ++ codes ",") ++ peers_json (q ∷ ps)
@@ -36,14 +36,14 @@ config_json f =
     ∷ (codes ",\"anchors\":", f.anchors) ∷ (codes ",\"rules\":", f.rules) ∷ (codes ",\"tables\":", f.tables)
     ∷ (codes ",\"addresses\":", f.addresses) ∷ [])
 
--- the end of the peers, and what was counted at the wire and the door
-abbrev pub wire_json : Tally → List ℕ
+-- the end of the peers, and what was counted at the wire and the control socket
+abbrev pub wire_json : Counters → List ℕ
 wire_json t =
     fields ((codes "],\"unsent\":", t.unsent) ∷ (codes ",\"dropped\":", t.dropped) ∷ (codes ",\"ignored\":", t.ignored)
-    ∷ (codes ",\"seats\":", t.seats) ∷ (codes ",\"served\":", t.served) ∷ (codes ",\"refused\":", t.refused) ∷ [])
+    ∷ (codes ",\"clients\":", t.clients) ∷ (codes ",\"served\":", t.served) ∷ (codes ",\"refused\":", t.refused) ∷ [])
 
 -- how the node stands among the others
-abbrev pub standing_json : Health → Tally → List ℕ
+abbrev pub standing_json : Health → Counters → List ℕ
 standing_json h t =
     (codes ",\"health\":\"" ++ health_word h)
     ++ fields ((codes "\",\"stood\":", t.stood) ∷ (codes ",\"outrun\":", t.outrun)
@@ -55,12 +55,12 @@ store_json true = codes ",\"store\":\"failed\"}\n"
 store_json false = codes ",\"store\":\"ok\"}\n"
 
 -- the whole object, a line
-abbrev pub status_json : Figures → Health → Tally → List ℕ
+abbrev pub status_json : Figures → Health → Counters → List ℕ
 status_json f h t =
     (((((figures_json f t.up ++ config_json f) ++ codes ",\"peers\":[") ++ peers_json t.peers.items) ++ wire_json t)
     ++ standing_json h t) ++ store_json f.has_failed
 
 -- the status as JSON, or in lines
-abbrev pub status_as : Bool → Figures → Health → Tally → List ℕ
+abbrev pub status_as : Bool → Figures → Health → Counters → List ℕ
 status_as true f h t = status_json f h t
 status_as false f h t = status_lines f h t

@@ -1,4 +1,4 @@
-//! What is asked at a desk.
+//! What is asked at a request handler.
 
 ghost use Rattle.std.specs.Prelude.{◌≡◌, IfOk, OnErr, OnOk, map, codes, nat_lt, true, false, None};
 ghost use Rattle.pf_node.specs.Nodes.{config_of, applied_of};
@@ -14,9 +14,10 @@ ghost use Rattle.node_requests.specs.StatusJson.{status_as};
 
 use crate::answer::Answer;
 use crate::changing::{Changed, change_node};
-use crate::desk::Desk;
+use crate::counters::Counters;
 use crate::entries::entries;
 use crate::figures::Figures;
+use crate::handler::RequestHandler;
 use crate::health::Health;
 use crate::json::status_json;
 use crate::listing::list;
@@ -26,7 +27,6 @@ use crate::packets::test;
 use crate::request::{Listing, Read, Request};
 use crate::standing::standing;
 use crate::status::status;
-use crate::tally::Tally;
 use pf_node::Node;
 use px_records::Records;
 use std::alloc::{AllocError, Global};
@@ -51,25 +51,25 @@ fn status_as(
     json: bool,
     figures: &Figures,
     health: Health,
-    tally: &Tally,
+    counters: &Counters,
 ) -> Result<Answer, AllocError>
-    ensures { IfOk result (λ a. answer_value a ≡ shown (status_as json figures.now health tally.now)) }
+    ensures { IfOk result (λ a. answer_value a ≡ shown (status_as json figures.now health counters.now)) }
 {
     if json {
-        status_json(alloc, figures, health, tally)
+        status_json(alloc, figures, health, counters)
     } else {
-        status(alloc, figures, health, tally)
+        status(alloc, figures, health, counters)
     }
 }
 
-impl<R: Records> Desk<R> {
-    /// A desk at a node.
-    pub fn new(alloc: Global, node: Node<R>) -> Desk<R>
+impl<R: Records> RequestHandler<R> {
+    /// A request handler at a node.
+    pub fn new(alloc: Global, node: Node<R>) -> RequestHandler<R>
         ensures node { result.node ≡ node }
         ensures works { result.is_stopping ≡ false }
         ensures taken { result.taken ≡ None }
     {
-        Desk {
+        RequestHandler {
             node,
             is_stopping: false,
             taken: None,
@@ -77,11 +77,11 @@ impl<R: Records> Desk<R> {
         }
     }
 
-    /// The node, with which the desk ends.
+    /// The node, with which the request handler ends.
     pub fn close(self) -> Node<R>
         ensures { result ≡ self.node }
     {
-        let Desk {
+        let RequestHandler {
             node,
             is_stopping: _,
             taken: _,
@@ -116,31 +116,31 @@ impl<R: Records> Desk<R> {
     }
 
     /// How the node stands among the others.
-    pub fn health(&self, tally: &Tally) -> Health
-        ensures { result ≡ health self.now.node tally.now }
+    pub fn health(&self, counters: &Counters) -> Health
+        ensures { result ≡ health self.now.node counters.now }
     {
-        Health::of(&self.node, tally)
+        Health::of(&self.node, counters)
     }
 
     /// The node's status, as JSON or in lines.
-    fn status(&self, json: bool, tally: &Tally) -> Result<Answer, AllocError>
-        ensures { IfOk result (λ a. IsStatus self.now.node tally.now json (answer_value a)) }
+    fn status(&self, json: bool, counters: &Counters) -> Result<Answer, AllocError>
+        ensures { IfOk result (λ a. IsStatus self.now.node counters.now json (answer_value a)) }
     {
         let figures = Figures::of(&self.node)?;
-        status_as(self.alloc, json, &figures, self.health(tally), tally)
+        status_as(self.alloc, json, &figures, self.health(counters), counters)
     }
 
     /// The node's numbers for Prometheus.
-    fn metrics(&self, tally: &Tally) -> Result<Answer, AllocError>
+    fn metrics(&self, counters: &Counters) -> Result<Answer, AllocError>
         ensures { IfOk result (λ a. a.code ≡ 200) }
     {
         let figures = Figures::of(&self.node)?;
-        metrics(self.alloc, &figures, self.health(tally), tally)
+        metrics(self.alloc, &figures, self.health(counters), counters)
     }
 
     /// What a read answers. Nothing changes.
-    pub fn read(&self, read: &Read, tally: &Tally) -> Result<Answer, AllocError>
-        ensures { IfOk result (λ a. IsRead self.now.node self.now.taken tally.now read.now (answer_value a)) }
+    pub fn read(&self, read: &Read, counters: &Counters) -> Result<Answer, AllocError>
+        ensures { IfOk result (λ a. IsRead self.now.node self.now.taken counters.now read.now (answer_value a)) }
     {
         match read {
             Read::List(listing) => self.list(listing),
@@ -148,23 +148,23 @@ impl<R: Records> Desk<R> {
             Read::Standing { origin, number } => self.standing(*origin, *number),
             Read::Log { from } => log(self.alloc, &self.node, *from),
             Read::Entries { from, count } => entries(self.alloc, &self.node, *from, *count),
-            Read::Status { json } => self.status(*json, tally),
-            Read::Health => self.health(tally).health_answer(self.alloc),
-            Read::Ready => self.health(tally).ready_answer(self.alloc),
-            Read::Metrics => self.metrics(tally),
+            Read::Status { json } => self.status(*json, counters),
+            Read::Health => self.health(counters).health_answer(self.alloc),
+            Read::Ready => self.health(counters).ready_answer(self.alloc),
+            Read::Metrics => self.metrics(counters),
         }
     }
 
     /// The same, once that many positions are applied; before that it is 503 and `waiting`.
-    fn read_at(&self, at: u32, read: &Read, tally: &Tally) -> Result<Answer, AllocError>
+    fn read_at(&self, at: u32, read: &Read, counters: &Counters) -> Result<Answer, AllocError>
         ensures { IfOk result (λ a. IsReadIf (nat_lt (applied_of self.now.node) at) self.now.node self.now.taken
-            tally.now read.now (answer_value a)) }
+            counters.now read.now (answer_value a)) }
     {
         if self.node.applied() < at {
             let body = String::from_str(self.alloc, "waiting\n")?;
             return Ok(Answer { code: 503, body });
         }
-        self.read(read, tally)
+        self.read(read, counters)
     }
 
     /// Takes the change in that a line of pfctl's words asks for, `pfctl` itself first, with the text of its file: one
@@ -212,13 +212,13 @@ impl<R: Records> Desk<R> {
 
     /// What a request answers: a read leaves all as it was, a change is one ask of the node or a refusal with nothing
     /// changed. Where memory runs out nothing has changed.
-    pub fn answer(&mut self, request: &Request, tally: &Tally) -> Result<Answer, AllocError>
-        ensures answers { IfOk result (λ a. Answers self.old self.new tally.now request.now (answer_value a)) }
+    pub fn answer(&mut self, request: &Request, counters: &Counters) -> Result<Answer, AllocError>
+        ensures answers { IfOk result (λ a. Answers self.old self.new counters.now request.now (answer_value a)) }
         ensures memory { OnErr result (self.new ≡ self.old) }
     {
         match request {
             Request::Change { words, text } => self.change_answer(words, text),
-            Request::Read { at, read } => self.read_at(*at, read, tally),
+            Request::Read { at, read } => self.read_at(*at, read, counters),
             Request::Stop => self.stop(),
         }
     }

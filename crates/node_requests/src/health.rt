@@ -6,7 +6,7 @@ ghost use Rattle.node_requests.specs.Health.{is_recent, is_shown, health_by, hea
 ghost use Rattle.node_requests.specs.Health.{ready_code, counted, health, health_answer, ready_answer};
 
 use crate::answer::Answer;
-use crate::tally::{PeerTally, Tally};
+use crate::counters::{Counters, PeerCounters};
 use pf_node::Node;
 use pf_scripts::push_line;
 use px_records::Records;
@@ -41,14 +41,14 @@ fn is_recent(heard: Option<u64>) -> bool
 }
 
 /// How many of the rows are of members that were heard in the last three seconds.
-pub fn counted(peers: &[PeerTally]) -> usize
+pub fn counted(peers: &[PeerCounters]) -> usize
     ensures { result ≡ counted peers.now }
 {
     peers.iter().filter(|p| is_recent(p.heard)).count()
 }
 
 /// Whether a member showed, two seconds ago or earlier, that a position is learned which isn't applied here.
-fn is_shown(applied: u32, peers: &[PeerTally]) -> bool
+fn is_shown(applied: u32, peers: &[PeerCounters]) -> bool
     ensures { result ≡ is_shown applied peers.now }
 {
     peers.iter().any(|p| applied < p.shown)
@@ -59,22 +59,22 @@ impl Health {
     /// seconds while the front stood, else alone where fewer than a majority were heard in the last three seconds, this
     /// one counted, else behind where not everything is applied that is learned here, or was learned two seconds ago as
     /// a member shows, else it works. A row for each member but this one has what was heard of it.
-    pub fn of<R: Records>(node: &Node<R>, tally: &Tally) -> Health
-        ensures { result ≡ health node.now tally.now }
+    pub fn of<R: Records>(node: &Node<R>, counters: &Counters) -> Health
+        ensures { result ≡ health node.now counters.now }
     {
         let applied = node.applied();
-        let heard = counted(&tally.peers);
+        let heard = counted(&counters.peers);
         let members = node.membership().members();
         if node.has_failed() {
             return Health::Failed;
         }
-        if STUCK <= tally.stood {
+        if STUCK <= counters.stood {
             return Health::Stuck;
         }
         if heard < (members / 2) as usize {
             return Health::Alone;
         }
-        if applied < node.front() || is_shown(applied, &tally.peers) {
+        if applied < node.front() || is_shown(applied, &counters.peers) {
             return Health::Behind;
         }
         Health::Works

@@ -7,10 +7,10 @@ ghost use Rattle.node_requests.specs.StatusJson.{wire_json};
 ghost use Rattle.node_requests.specs.StatusJson.{standing_json, store_json, status_json};
 
 use crate::answer::Answer;
+use crate::counters::{Counters, PeerCounters};
 use crate::figures::Figures;
 use crate::health::Health;
 use crate::status::push_fields;
-use crate::tally::{PeerTally, Tally};
 use std::alloc::{AllocError, Global};
 
 /// When a peer was heard.
@@ -24,7 +24,7 @@ fn push_heard(alloc: Global, out: &mut String, heard: Option<u64>) -> Result<(),
 }
 
 /// A peer.
-fn push_peer(alloc: Global, out: &mut String, peer: &PeerTally) -> Result<(), AllocError>
+fn push_peer(alloc: Global, out: &mut String, peer: &PeerCounters) -> Result<(), AllocError>
     ensures { OnOk result (string_bytes out.new ≡ string_bytes out.old ++ peer_json peer.now) }
 {
     push_fields(alloc, out, &[("{\"node\":", u64::from(peer.node))])?;
@@ -41,7 +41,7 @@ fn push_peer(alloc: Global, out: &mut String, peer: &PeerTally) -> Result<(), Al
 }
 
 /// Peers with commas between them.
-fn push_peers(alloc: Global, out: &mut String, peers: &[PeerTally]) -> Result<(), AllocError>
+fn push_peers(alloc: Global, out: &mut String, peers: &[PeerCounters]) -> Result<(), AllocError>
     ensures { OnOk result (string_bytes out.new ≡ string_bytes out.old ++ peers_json peers.now) }
 {
     let mut left = peers;
@@ -93,7 +93,7 @@ fn push_config(alloc: Global, out: &mut String, f: &Figures) -> Result<(), Alloc
 }
 
 /// What the loop counted.
-fn push_wire(alloc: Global, out: &mut String, t: &Tally) -> Result<(), AllocError>
+fn push_wire(alloc: Global, out: &mut String, t: &Counters) -> Result<(), AllocError>
     ensures { OnOk result (string_bytes out.new ≡ string_bytes out.old ++ wire_json t.now) }
 {
     push_fields(
@@ -103,7 +103,7 @@ fn push_wire(alloc: Global, out: &mut String, t: &Tally) -> Result<(), AllocErro
             ("],\"unsent\":", t.unsent),
             (",\"dropped\":", t.dropped),
             (",\"ignored\":", t.ignored),
-            (",\"seats\":", t.seats),
+            (",\"clients\":", t.clients),
             (",\"served\":", t.served),
             (",\"refused\":", t.refused),
         ],
@@ -111,7 +111,7 @@ fn push_wire(alloc: Global, out: &mut String, t: &Tally) -> Result<(), AllocErro
 }
 
 /// How the node stands among the others.
-fn push_standing(alloc: Global, out: &mut String, h: Health, t: &Tally) -> Result<(), AllocError>
+fn push_standing(alloc: Global, out: &mut String, h: Health, t: &Counters) -> Result<(), AllocError>
     ensures { OnOk result (string_bytes out.new ≡ string_bytes out.old ++ standing_json h t.now) }
 {
     out.push_str(",\"health\":\"")?;
@@ -143,7 +143,7 @@ pub(crate) fn status_json(
     alloc: Global,
     f: &Figures,
     h: Health,
-    t: &Tally,
+    t: &Counters,
 ) -> Result<Answer, AllocError>
     ensures { IfOk result (λ a. answer_value a ≡ shown (status_json f.now h t.now)) }
 {

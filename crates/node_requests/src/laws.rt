@@ -1,4 +1,4 @@
-//! What holds of requests, and of what the desk answers.
+//! What holds of requests, and of what the request handler answers.
 
 ghost use Rattle.std.specs.Prelude.{◌≡◌, ◌≤◌, ◌↔◌, ℕ, Bool, true, List, [], length, Some};
 ghost use Rattle.clap.specs.Words.{Text};

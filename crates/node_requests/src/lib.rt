@@ -2,8 +2,9 @@
 //!
 //! # Organization
 //!
-//! - [`Desk`]: a node, and what is asked of it. Reads leave it as it is, and are answered from the configuration after
-//!   its first `applied` positions; a change is one ask of the node, or a refusal with nothing changed.
+//! - [`RequestHandler`]: a node, and what is asked of it. Reads leave it as it is, and are answered from the
+//!   configuration after its first `applied` positions; a change is one ask of the node, or a refusal with nothing
+//!   changed.
 //! - [`request_in`]: what HTTP's method, target and body ask for, a [`Request`]. [`Answer`]: HTTP's status and the
 //!   body.
 //! - [`push_position`]: the line of a position in the log, `POSITION ORIGIN.NUMBER ARGUMENTS OUTCOME`;
@@ -15,16 +16,17 @@
 //!
 //! # Why
 //!
-//! - Nothing here knows of sockets: node_control moves the bytes, and hands in what it counted ([`Tally`]).
+//! - Nothing here knows of sockets: node_control moves the bytes, and hands in what it counted ([`Counters`]).
 #![tactic(auto)]
 
 mod answer;
 mod answering;
 mod bounded;
 mod changing;
-mod desk;
+mod counters;
 mod entries;
 mod figures;
+mod handler;
 mod health;
 mod json;
 pub mod laws;
@@ -39,19 +41,18 @@ mod request;
 mod routing;
 mod standing;
 mod status;
-mod tally;
 mod target;
 
 pub use answer::{Answer, status_of};
 pub use bounded::MET_MAX;
 pub use changing::Changed;
-pub use desk::Desk;
+pub use counters::{Counters, PeerCounters};
 pub use entries::{ENTRIES_BYTES, ENTRIES_MAX};
 pub use figures::Figures;
+pub use handler::RequestHandler;
 pub use health::{Health, STUCK, counted};
 pub use outcome::push_outcome;
 pub use pf_node::Node;
 pub use positions::{push_position, push_positions};
 pub use request::{Listing, Read, Request, Routed};
 pub use routing::request_in;
-pub use tally::{PeerTally, Tally};

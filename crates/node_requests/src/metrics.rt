@@ -4,9 +4,9 @@ ghost use Rattle.std.specs.Prelude.{◌≡◌, ◌++◌, IfOk, OnOk, string_byte
 ghost use Rattle.node_requests.specs.inner.Metrics.{heading, metric, labelled, sample};
 
 use crate::answer::Answer;
+use crate::counters::{Counters, PeerCounters};
 use crate::figures::Figures;
 use crate::health::Health;
-use crate::tally::{PeerTally, Tally};
 use pf_scripts::{push_line, push_number};
 use std::alloc::{AllocError, Global};
 
@@ -145,7 +145,7 @@ fn push_config(alloc: Global, out: &mut String, f: &Figures) -> Result<(), Alloc
 }
 
 /// What the loop counted.
-fn push_loop(alloc: Global, out: &mut String, t: &Tally) -> Result<(), AllocError> {
+fn push_loop(alloc: Global, out: &mut String, t: &Counters) -> Result<(), AllocError> {
     let rows = [
         (
             "pfx_unsent_total",
@@ -172,7 +172,7 @@ fn push_loop(alloc: Global, out: &mut String, t: &Tally) -> Result<(), AllocErro
 }
 
 /// When peers were heard, but for those that never were.
-fn push_heard(alloc: Global, out: &mut String, peers: &[PeerTally]) -> Result<(), AllocError> {
+fn push_heard(alloc: Global, out: &mut String, peers: &[PeerCounters]) -> Result<(), AllocError> {
     let name = "pfx_peer_heard_seconds";
     push_heading(out, "gauge", name, "Whole seconds since a datagram came.")?;
     for peer in peers {
@@ -185,7 +185,7 @@ fn push_heard(alloc: Global, out: &mut String, peers: &[PeerTally]) -> Result<()
 }
 
 /// How many datagrams came from peers.
-fn push_in(alloc: Global, out: &mut String, peers: &[PeerTally]) -> Result<(), AllocError> {
+fn push_in(alloc: Global, out: &mut String, peers: &[PeerCounters]) -> Result<(), AllocError> {
     let name = "pfx_datagrams_in_total";
     push_heading(out, "counter", name, "Datagrams from the peer.")?;
     for peer in peers {
@@ -196,7 +196,7 @@ fn push_in(alloc: Global, out: &mut String, peers: &[PeerTally]) -> Result<(), A
 }
 
 /// How many datagrams went to peers.
-fn push_out(alloc: Global, out: &mut String, peers: &[PeerTally]) -> Result<(), AllocError> {
+fn push_out(alloc: Global, out: &mut String, peers: &[PeerCounters]) -> Result<(), AllocError> {
     let name = "pfx_datagrams_out_total";
     push_heading(out, "counter", name, "Datagrams to the peer.")?;
     for peer in peers {
@@ -207,8 +207,8 @@ fn push_out(alloc: Global, out: &mut String, peers: &[PeerTally]) -> Result<(), 
 }
 
 /// How many requests were answered.
-fn push_door(alloc: Global, out: &mut String, t: &Tally) -> Result<(), AllocError> {
-    let name = "pfx_door_requests_total";
+fn push_control(alloc: Global, out: &mut String, t: &Counters) -> Result<(), AllocError> {
+    let name = "pfx_control_requests_total";
     push_heading(
         out,
         "counter",
@@ -230,7 +230,7 @@ pub(crate) fn metrics(
     alloc: Global,
     f: &Figures,
     health: Health,
-    t: &Tally,
+    t: &Counters,
 ) -> Result<Answer, AllocError>
     ensures { IfOk result (λ a. a.code ≡ 200) }
 {
@@ -242,6 +242,6 @@ pub(crate) fn metrics(
     push_in(alloc, &mut body, &t.peers)?;
     push_out(alloc, &mut body, &t.peers)?;
     push_loop(alloc, &mut body, t)?;
-    push_door(alloc, &mut body, t)?;
+    push_control(alloc, &mut body, t)?;
     Ok(Answer { code: 200, body })
 }

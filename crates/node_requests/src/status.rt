@@ -5,12 +5,12 @@ ghost use Rattle.std.specs.List.{flat_map};
 ghost use Rattle.pf_scripts.specs.Lines.{line};
 ghost use Rattle.node_requests.specs.Answers.{answer_value, shown};
 ghost use Rattle.node_requests.specs.Status.{fields, heard, peer_line, store_line, node_line, front_line, config_line};
-ghost use Rattle.node_requests.specs.Status.{standing_line, wire_line, door_line, members_line, status_lines};
+ghost use Rattle.node_requests.specs.Status.{standing_line, wire_line, control_line, members_line, status_lines};
 
 use crate::answer::Answer;
+use crate::counters::{Counters, PeerCounters};
 use crate::figures::Figures;
 use crate::health::Health;
-use crate::tally::{PeerTally, Tally};
 use pf_scripts::push_number;
 use std::alloc::{AllocError, Global};
 
@@ -50,7 +50,7 @@ fn push_heard(alloc: Global, out: &mut String, seconds: Option<u64>) -> Result<(
 }
 
 /// The line of a peer.
-fn push_peer(alloc: Global, out: &mut String, peer: &PeerTally) -> Result<(), AllocError>
+fn push_peer(alloc: Global, out: &mut String, peer: &PeerCounters) -> Result<(), AllocError>
     ensures { OnOk result (string_bytes out.new ≡ string_bytes out.old ++ peer_line peer.now) }
 {
     push_fields(alloc, out, &[("peer ", u64::from(peer.node))])?;
@@ -64,7 +64,7 @@ fn push_peer(alloc: Global, out: &mut String, peer: &PeerTally) -> Result<(), Al
 }
 
 /// The lines of all peers.
-fn push_peers(alloc: Global, out: &mut String, peers: &[PeerTally]) -> Result<(), AllocError>
+fn push_peers(alloc: Global, out: &mut String, peers: &[PeerCounters]) -> Result<(), AllocError>
     ensures { OnOk result (string_bytes out.new ≡ string_bytes out.old ++ flat_map peer_line peers.now) }
 {
     for peer in peers {
@@ -107,7 +107,7 @@ fn push_front(alloc: Global, out: &mut String, f: &Figures) -> Result<(), AllocE
 }
 
 /// How it stands among the others.
-fn push_standing(alloc: Global, out: &mut String, h: Health, t: &Tally) -> Result<(), AllocError>
+fn push_standing(alloc: Global, out: &mut String, h: Health, t: &Counters) -> Result<(), AllocError>
     ensures { OnOk result (string_bytes out.new ≡ string_bytes out.old ++ standing_line h t.now) }
 {
     out.push_str("health ")?;
@@ -140,7 +140,7 @@ fn push_config(alloc: Global, out: &mut String, f: &Figures) -> Result<(), Alloc
 }
 
 /// What the wire counted.
-fn push_wire(alloc: Global, out: &mut String, t: &Tally) -> Result<(), AllocError>
+fn push_wire(alloc: Global, out: &mut String, t: &Counters) -> Result<(), AllocError>
     ensures { OnOk result (string_bytes out.new ≡ string_bytes out.old ++ wire_line t.now) }
 {
     push_line(
@@ -165,15 +165,15 @@ fn push_store(out: &mut String, has_failed: bool) -> Result<(), AllocError>
     })
 }
 
-/// What the door counted.
-fn push_door(alloc: Global, out: &mut String, t: &Tally) -> Result<(), AllocError>
-    ensures { OnOk result (string_bytes out.new ≡ string_bytes out.old ++ door_line t.now) }
+/// What the control socket counted.
+fn push_control(alloc: Global, out: &mut String, t: &Counters) -> Result<(), AllocError>
+    ensures { OnOk result (string_bytes out.new ≡ string_bytes out.old ++ control_line t.now) }
 {
     push_line(
         alloc,
         out,
         &[
-            ("door seats ", t.seats),
+            ("control clients ", t.clients),
             (" served ", t.served),
             (" refused ", t.refused),
         ],
@@ -181,7 +181,7 @@ fn push_door(alloc: Global, out: &mut String, t: &Tally) -> Result<(), AllocErro
 }
 
 /// Where the members listen.
-fn push_members(out: &mut String, t: &Tally) -> Result<(), AllocError>
+fn push_members(out: &mut String, t: &Counters) -> Result<(), AllocError>
     ensures { OnOk result (string_bytes out.new ≡ string_bytes out.old ++ members_line t.now) }
 {
     out.push_str("members ")?;
@@ -190,7 +190,12 @@ fn push_members(out: &mut String, t: &Tally) -> Result<(), AllocError>
 }
 
 /// The lines of a node's status.
-pub(crate) fn status(alloc: Global, f: &Figures, h: Health, t: &Tally) -> Result<Answer, AllocError>
+pub(crate) fn status(
+    alloc: Global,
+    f: &Figures,
+    h: Health,
+    t: &Counters,
+) -> Result<Answer, AllocError>
     ensures { IfOk result (λ a. answer_value a ≡ shown (status_lines f.now h t.now)) }
 {
     let mut body = String::new(alloc);
@@ -201,7 +206,7 @@ pub(crate) fn status(alloc: Global, f: &Figures, h: Health, t: &Tally) -> Result
     push_peers(alloc, &mut body, &t.peers)?;
     push_wire(alloc, &mut body, t)?;
     push_store(&mut body, f.has_failed)?;
-    push_door(alloc, &mut body, t)?;
+    push_control(alloc, &mut body, t)?;
     push_members(&mut body, t)?;
     Ok(Answer { code: 200, body })
 }

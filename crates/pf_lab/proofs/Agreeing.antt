@@ -16,7 +16,7 @@ use Rattle.pf_node.specs.Applied.{entry_applied, after}
 use Rattle.pf_node.specs.Nodes.{applied_of, config_of}
 use Rattle.pf_lab.specs.Labs.{state_of}
 use Rattle.pf_lab.specs.Same.{LabsAgree, EquallyApplied}
-use Rattle.pf_lab.specs.declared.seat.Seat.{Seat}
+use Rattle.pf_lab.specs.declared.host.Host.{Host}
 
 same_exact : IsEquality same
 same_exact = bytes_equality
@@ -26,7 +26,7 @@ labs_agree n some few events lab world =
     (always_agree same same_exact n few events, always_once same same_exact n few events, always_kept same same_exact n few events)
 
 -- a member's configuration is that of what it learned in the world
-configured : (w : World Bytes) (m : ℕ) (x : Seat) → w.nodes m ≡ state_of x →
+configured : (w : World Bytes) (m : ℕ) (x : Host) → w.nodes m ≡ state_of x →
     after (learned_of w m) (applied_of x.node) ≡ Some (config_of x.node)
 configured w m x here =
     ap (λ (z : NodeState Bytes). after z.stored.learned (applied_of x.node)) here
@@ -42,8 +42,8 @@ one_configuration n few events m j k x y ix iy =
 pub equally_applied : EquallyApplied
 equally_applied n some few events lab world i j x y at there equal =
     let w = world_after same n events in
-    let mine = configured w i x (world.seats i x at).here in
-    let theirs = configured w j y (world.seats j y there).here in
+    let mine = configured w i x (world.hosts i x at).here in
+    let theirs = configured w j y (world.hosts j y there).here in
     let one = one_configuration n few events i j (applied_of x.node) (config_of x.node) (config_of y.node) mine
     (subst (λ (k : ℕ). after (learned_of w j) k ≡ Some (config_of y.node)) (sym equal) theirs) in
     (one, λ p. ap (λ (c : Configuration). judgement c p) one)

@@ -18,7 +18,7 @@ use Rattle.px_replica.specs.Made.{same, answer}
 use Rattle.px_replica.specs.Spelled.{AreSpelled}
 use Rattle.px_replica.specs.declared.datagram.Datagram.{Datagram}
 use Rattle.px_replica.specs.Spelled.{for_members}
-use Rattle.pf_lab.specs.Labs.{IsSeat, AreWorld}
+use Rattle.pf_lab.specs.Labs.{IsHost, AreWorld}
 use Rattle.pf_lab.specs.inner.Labs.{IsAnswered}
 use Rattle.px_replica.proofs.Telling.{are_append, are_members}
 
@@ -97,25 +97,25 @@ get_other (z ∷ xs) (suc m) zero y ne = refl
 get_other (z ∷ xs) (suc m) (suc k) y ne = get_other xs m k y (λ e. ne (ap suc e))
 
 module _ {M : Type 0} (members : List M) (state_of : M → NodeState Bytes) (group_of : M → Membership) (g : Group) where
-  seat_here : (m : ℕ) (w w' : World Bytes) (x y z : M) (sent more : List Datagram) →
+  host_here : (m : ℕ) (w w' : World Bytes) (x y z : M) (sent more : List Datagram) →
       AreWorld members state_of group_of g sent w → slice_get members m ≡ Some x → group_of y ≡ group_of x →
-      Ran g m w' w (state_of y) more → slice_get (set members m y) m ≡ Some z → IsSeat w' g m (state_of z) (group_of z)
-  seat_here m w w' x y z sent more world at same_group ran h =
+      Ran g m w' w (state_of y) more → slice_get (set members m y) m ≡ Some z → IsHost w' g m (state_of z) (group_of z)
+  host_here m w w' x y z sent more world at same_group ran h =
       let e : Some y ≡ Some z = sym (get_here members m x y at) ∙ h in
       let is : y ≡ z = cc in
-      let old = world.seats m x at in
-      let P : M → Type 0 = λ q. IsSeat w' g m (state_of q) (group_of q) in
+      let old = world.hosts m x at in
+      let P : M → Type 0 = λ q. IsHost w' g m (state_of q) (group_of q) in
       subst P is (record {
         here = ap (λ (f : ℕ → NodeState Bytes). f m) ran.nodes ∙ put_same w.nodes m (state_of y);
         group = ap group same_group ∙ old.group;
         me = ap (λ (p : Membership). p.me) same_group ∙ old.me;
       })
 
-  seat_other : (m k : ℕ) (w w' : World Bytes) (y z : M) (sent more : List Datagram) →
+  host_other : (m k : ℕ) (w w' : World Bytes) (y z : M) (sent more : List Datagram) →
       AreWorld members state_of group_of g sent w → Ran g m w' w (state_of y) more → (k ≡ m → ⊥) →
-      slice_get (set members m y) k ≡ Some z → IsSeat w' g k (state_of z) (group_of z)
-  seat_other m k w w' y z sent more world ran ne h =
-      let old = world.seats k z (sym (get_other members m k y ne) ∙ h) in
+      slice_get (set members m y) k ≡ Some z → IsHost w' g k (state_of z) (group_of z)
+  host_other m k w w' y z sent more world ran ne h =
+      let old = world.hosts k z (sym (get_other members m k y ne) ∙ h) in
       record {
         here = ap (λ (f : ℕ → NodeState Bytes). f k) ran.nodes ∙ put_other w.nodes m (state_of y) k ne ∙ old.here;
         group = old.group;
@@ -128,13 +128,13 @@ module _ {M : Type 0} (members : List M) (state_of : M → NodeState Bytes) (gro
       Ran g m w' w (state_of y) more → AreWorld (set members m y) state_of group_of g more w'
   lab_ran m w w' x y sent more world at same_group ran = record {
     count = length-set members m y ∙ world.count;
-    seats = λ k z h.
+    hosts = λ k z h.
         elim (cases_order k m) [
-          | inl is ↦ subst (λ (j : ℕ). IsSeat w' g j (state_of z) (group_of z)) (sym is)
-              (seat_here m w w' x y z sent more world at same_group ran (sym (ap (slice_get (set members m y)) is) ∙ h))
+          | inl is ↦ subst (λ (j : ℕ). IsHost w' g j (state_of z) (group_of z)) (sym is)
+              (host_here m w w' x y z sent more world at same_group ran (sym (ap (slice_get (set members m y)) is) ∙ h))
           | inr apart ↦ (elim apart [
-            | inl less ↦ seat_other m k w w' y z sent more world ran (λ e. omega (arith, e)) h
-            | inr above ↦ seat_other m k w w' y z sent more world ran (λ e. omega (arith, e)) h
+            | inl less ↦ host_other m k w w' y z sent more world ran (λ e. omega (arith, e)) h
+            | inr above ↦ host_other m k w w' y z sent more world ran (λ e. omega (arith, e)) h
           ])
         ];
     told = ran.told;
@@ -150,8 +150,8 @@ module _ {M : Type 0} (members : List M) (state_of : M → NodeState Bytes) (gro
       comes_to w a ≡ Some (m, x) → out ≡ [] →
       AreWorld members state_of group_of g (sent ++ for_members out) (happens same g.members w (Runs a))
   lab_stopped m w a x y sent out world at down come none =
-      let seat = world.seats m y at in
-      let e = stopped g.members m w a x come (ap (λ (z : NodeState Bytes). z.is_up) seat.here ∙ down) in
+      let host = world.hosts m y at in
+      let e = stopped g.members m w a x come (ap (λ (z : NodeState Bytes). z.is_up) host.here ∙ down) in
       let P : World Bytes → Type 0 = λ z. AreWorld members state_of group_of g (sent ++ for_members out) z in
       let Q : List Datagram → Type 0 = λ z. AreWorld members state_of group_of g z w in
       subst P (sym e) (subst Q (sym (ap (λ (z : List Datagram). sent ++ for_members z) none ∙ append-nil sent)) world)
@@ -171,19 +171,19 @@ module _ {M : Type 0} (members : List M) (state_of : M → NodeState Bytes) (gro
       IsAnswered (group (group_of y)) (answer (group_of y).members (group_of y).me (state_of y) x) (state_of y) (state_of z) out →
       AreWorld (set members m z) state_of group_of g (sent ++ for_members out) (happens same g.members w (Runs a))
   lab_runs m w a x y z sent out world at up same_group come is =
-      let seat = world.seats m y at in
+      let host = world.hosts m y at in
       lab_ran m w (happens same g.members w (Runs a)) y z sent (sent ++ for_members out) world at same_group
-      (ran g m w a x (state_of y) (state_of z) sent out come (inside m w y sent world at) seat.here up
-      (answered_at m (group_of y) x (state_of y) (state_of z) out seat.group seat.me is) world.told)
+      (ran g m w a x (state_of y) (state_of z) sent out come (inside m w y sent world at) host.here up
+      (answered_at m (group_of y) x (state_of y) (state_of z) out host.group host.me is) world.told)
 
   -- a member that is as it was leaves the world as it was
   pub lab_same : (m : ℕ) (w : World Bytes) (y z : M) (sent : List Datagram) →
       AreWorld members state_of group_of g sent w → slice_get members m ≡ Some y → state_of z ≡ state_of y →
       group_of z ≡ group_of y → AreWorld (set members m z) state_of group_of g sent w
   lab_same m w y z sent world at is same_group =
-      let seat = world.seats m y at in
+      let host = world.hosts m y at in
       lab_ran m w w y z sent sent world at same_group
-      (record { nodes = put_nothing w.nodes m (state_of z) (seat.here ∙ sym is); told = world.told })
+      (record { nodes = put_nothing w.nodes m (state_of z) (host.here ∙ sym is); told = world.told })
 
   -- ---- stops and restarts
 
@@ -200,10 +200,10 @@ module _ {M : Type 0} (members : List M) (state_of : M → NodeState Bytes) (gro
       state_of z ≡ record { is_up = up; stored = (state_of y).stored; volatile = nothing_volatile } →
       group_of z ≡ group_of y → AreWorld (set members m z) state_of group_of g sent (emptied w m up)
   lab_emptied m w y z up sent world at after same_group =
-      let seat = world.seats m y at in
+      let host = world.hosts m y at in
       lab_ran m w (emptied w m up) y z sent sent world at same_group
       (emptied_ran m w up (state_of z) sent
-      (ap (λ (q : NodeState Bytes). emptied_state up q) seat.here ∙ sym after) world.told)
+      (ap (λ (q : NodeState Bytes). emptied_state up q) host.here ∙ sym after) world.told)
 
   stops : (m : ℕ) (w : World Bytes) (x : Input Bytes) (s t : NodeState Bytes) (sent out : List Datagram) (a : Answer Bytes) →
       w.nodes m ≡ s → IsAnswered g a s t out → AreSpelled g w.sent sent →
@@ -235,9 +235,9 @@ module _ {M : Type 0} (members : List M) (state_of : M → NodeState Bytes) (gro
       IsAnswered (group (group_of y)) (answer (group_of y).members (group_of y).me (state_of y) x) (state_of y) (state_of z) out →
       AreWorld (set members m q) state_of group_of g sent (happens same g.members w (StopAfter a))
   lab_stops_after m w a x y z q sent out world at up after same_group come is =
-      let seat = world.seats m y at in
-      let told = stopped_ran m w a x (state_of y) (state_of z) sent out come (inside m w y sent world at) seat.here up
-      (answered_at m (group_of y) x (state_of y) (state_of z) out seat.group seat.me is) world.told in
+      let host = world.hosts m y at in
+      let told = stopped_ran m w a x (state_of y) (state_of z) sent out come (inside m w y sent world at) host.here up
+      (answered_at m (group_of y) x (state_of y) (state_of z) out host.group host.me is) world.told in
       lab_ran m w (happens same g.members w (StopAfter a)) y q sent sent world at same_group
       (subst (λ (st : NodeState Bytes). Ran g m (happens same g.members w (StopAfter a)) w st sent) (sym after) told)
 

@@ -15,7 +15,7 @@ use Rattle.px_replica.specs.Made.{same as same_bytes}
 use Rattle.pf_node.specs.Nodes.{learned_by as log_by}
 use Rattle.pf_lab.specs.Ever.{log_of, ever_of, IsEver, IsAgreed}
 use Rattle.pf_lab.specs.Labs.{IsWorld, cluster_of}
-use Rattle.pf_lab.specs.declared.seat.Seat.{Seat}
+use Rattle.pf_lab.specs.declared.host.Host.{Host}
 use Rattle.pf_lab.specs.declared.state.Lab.{Lab}
 
 module _ {C : Type 0} (same : C → C → Bool) (n : ℕ) where
@@ -85,28 +85,28 @@ module _ (n : ℕ) (few : n ≤ 15) (events : List (Event Bytes)) (lab : Lab)
   kept = always_kept same_bytes bytes_equality n few events
 
   -- what a member has as learned is in its record
-  recorded : (m : ℕ) (s : Seat) → slice_get lab.seats.items m ≡ Some s → learned_of w m ≡ log_by s.node
-  recorded m s at = ap (λ (z : NodeState Bytes). z.stored.learned) (is.seats m s at).here ∙ s.node.replica.agrees s.works tt
+  recorded : (m : ℕ) (s : Host) → slice_get lab.hosts.items m ≡ Some s → learned_of w m ≡ log_by s.node
+  recorded m s at = ap (λ (z : NodeState Bytes). z.stored.learned) (is.hosts m s at).here ∙ s.node.replica.agrees s.works tt
 
-  shown : (m p : ℕ) (e : Entry Bytes) (o : Option Seat) → slice_get lab.seats.items m ≡ o → log_of o p ≡ Some e → HasLearned w m p e
+  shown : (m p : ℕ) (e : Entry Bytes) (o : Option Host) → slice_get lab.hosts.items m ≡ o → log_of o p ≡ Some e → HasLearned w m p e
   shown m p e None at has = absurd cc
   shown m p e (Some s) at has = kept.was_learned m p e (ap (λ (l : Log Bytes). l p) (recorded m s at) ∙ has)
 
-  unshown : (m : ℕ) → slice_get lab.seats.items m ≡ None → m < n → ⊥
-  unshown m none below = past lab.seats.items m none (subst (λ (k : ℕ). m < k) (sym is.count) below)
+  unshown : (m : ℕ) → slice_get lab.hosts.items m ≡ None → m < n → ⊥
+  unshown m none below = past lab.hosts.items m none (subst (λ (k : ℕ). m < k) (sym is.count) below)
 
-  found : (m p : ℕ) (e : Entry Bytes) → m < n → learned_of w m p ≡ Some e → (o : Option Seat) → slice_get lab.seats.items m ≡ o → log_of o p ≡ Some e
+  found : (m p : ℕ) (e : Entry Bytes) → m < n → learned_of w m p ≡ Some e → (o : Option Host) → slice_get lab.hosts.items m ≡ o → log_of o p ≡ Some e
   found m p e below has None at = absurd (unshown m at below)
   found m p e below has (Some s) at = sym (ap (λ (l : Log Bytes). l p) (recorded m s at)) ∙ has
 
-  pub is_ever : IsEver (ever_of lab.seats.items) w
+  pub is_ever : IsEver (ever_of lab.hosts.items) w
   is_ever m p e = (
-    shown m p e (slice_get lab.seats.items m) refl,
+    shown m p e (slice_get lab.hosts.items m) refl,
     λ learned. found m p e (learned_below same_bytes n events (record { member = m; position = p; entry = e }) learned)
-        (kept.is_recorded m p e learned) (slice_get lab.seats.items m) refl,
+        (kept.is_recorded m p e learned) (slice_get lab.hosts.items m) refl,
   )
 
-  pub is_agreed : IsAgreed n w (ever_of lab.seats.items)
+  pub is_agreed : IsAgreed n w (ever_of lab.hosts.items)
   is_agreed =
       let agree = always_agree same_bytes bytes_equality n few events in
       let once = always_once same_bytes bytes_equality n few events in

@@ -12,12 +12,12 @@ use Rattle.px_replica.specs.declared.datagram.Datagram.{Datagram}
 use Rattle.pf_node.specs.Nodes.{state_in}
 use Rattle.pf_lab.specs.Coming.{event_of, is_long, is_too_long}
 use Rattle.pf_lab.specs.inner.Coming.{Came, IsInput, IsOf}
-use Rattle.pf_lab.specs.Labs.{SeatsAre, state_of, group_of}
+use Rattle.pf_lab.specs.Labs.{HostsAre, state_of, group_of}
 use Rattle.pf_lab.specs.declared.coming.What.{What}
 use Rattle.pf_lab.specs.declared.event.LabAction.{LabAction}
 use Rattle.pf_lab.specs.declared.event.LabEvent.{LabEvent}
 use Rattle.pf_lab.specs.declared.event.LabEvent.TheVariants as event
-use Rattle.pf_lab.specs.declared.seat.Seat.{Seat}
+use Rattle.pf_lab.specs.declared.host.Host.{Host}
 use Rattle.pf_lab.proofs.Taking.{input_here}
 use Rattle.pf_lab.specs.declared.event.LabFault.{LabFault}
 use Rattle.pf_lab.specs.declared.event.LabFault.TheVariants as fault
@@ -110,23 +110,23 @@ err_told fault.Memory bad o h = tt
 err_told fault.BadEvent bad o h = absurd cc
 
 -- what comes to one of the members that runs
-pub takes_at : (r : Result Outcome LabFault) (seats : List Seat) (g : Group) (m : ℕ) (w : World Bytes) (a : Action Bytes) (what : What) (y : Seat) (sent : List Datagram) →
-    SeatsAre seats g sent w → slice_get seats m ≡ Some y → y.is_up ≡ true → Came g w a m what → OnErr r (r ≡ Err fault.Memory) →
+pub takes_at : (r : Result Outcome LabFault) (hosts : List Host) (g : Group) (m : ℕ) (w : World Bytes) (a : Action Bytes) (what : What) (y : Host) (sent : List Datagram) →
+    HostsAre hosts g sent w → slice_get hosts m ≡ Some y → y.is_up ≡ true → Came g w a m what → OnErr r (r ≡ Err fault.Memory) →
     ((x : Input Bytes) → IsInput (group (group_of y)) (group_of y).me what x →
     IfOk r (λ o. o ≡ outcome_of (state_in y.node).stored.meta x (answer (group_of y).members (group_of y).me (state_in y.node) x))) →
     Tells r (is_unknown g.members w (Runs a)) (outcome_in g.members w (Runs a))
-takes_at r seats g m w a what y sent world at up came memory told =
-    let seat = world.seats m y at in
+takes_at r hosts g m w a what y sent world at up came memory told =
+    let host = world.hosts m y at in
     let p = group_of y in
     let x = came.input in
     let S = state_in y.node in
-    let within = slice_get_within seats m y at in
+    let within = slice_get_within hosts m y at in
     let inside : m < g.members = omega (arith, within, world.count) in
-    let e : p.members ≡ g.members = ap (λ (h : Group). h.members) seat.group in
-    let here = told x (input_here g m p what x seat.group seat.me came.told) in
-    let mine = subst (λ (j : ℕ). IfOk r (λ (o : Outcome). o ≡ outcome_of S.stored.meta x (answer p.members j S x))) seat.me here in
+    let e : p.members ≡ g.members = ap (λ (h : Group). h.members) host.group in
+    let here = told x (input_here g m p what x host.group host.me came.told) in
+    let mine = subst (λ (j : ℕ). IfOk r (λ (o : Outcome). o ≡ outcome_of S.stored.meta x (answer p.members j S x))) host.me here in
     let all = subst (λ (k : ℕ). IfOk r (λ (o : Outcome). o ≡ outcome_of S.stored.meta x (answer k m S x))) e mine in
-    runs_told r g.members m w (state_of y) a x came.comes inside seat.here up memory all
+    runs_told r g.members m w (state_of y) a x came.comes inside host.here up memory all
 
 -- ---- an event and its action
 

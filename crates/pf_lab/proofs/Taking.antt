@@ -39,9 +39,9 @@ use Rattle.pf_lab.specs.declared.event.Outcome.{Outcome}
 use Rattle.pf_lab.specs.declared.event.LabEvent.{LabEvent}
 use Rattle.pf_lab.specs.declared.coming.What.{What}
 use Rattle.px_replica.specs.Spelled.{for_members}
-use Rattle.pf_lab.specs.Labs.{IsSeat, SeatsAre, state_of, group_of, cluster_of}
+use Rattle.pf_lab.specs.Labs.{IsHost, HostsAre, state_of, group_of, cluster_of}
 use Rattle.pf_lab.specs.inner.Labs.{IsAnswered}
-use Rattle.pf_lab.specs.declared.seat.Seat.{Seat}
+use Rattle.pf_lab.specs.declared.host.Host.{Host}
 use Rattle.px_replica.proofs.Telling.{one_message}
 use Rattle.pf_lab.proofs.Following.{lab_runs, lab_same, lab_stops_after, emptied_state}
 
@@ -120,7 +120,7 @@ received_sound x y bytes old new r works honest sound (inr (inr taken)) =
 
 -- ---- one of the members
 
-state_up : (y : Seat) → y.is_up ≡ true → state_of y ≡ state_in y.node
+state_up : (y : Host) → y.is_up ≡ true → state_of y ≡ state_in y.node
 state_up y up = ap (λ (b : Bool). state_as b (state_in y.node)) up
   where
     state_as : Bool → NodeState Bytes → NodeState Bytes
@@ -131,7 +131,7 @@ pub input_here : (g : Group) (m : ℕ) (p : Membership) (what : What) (x : Input
 input_here g m p what x e f told =
     subst (λ (k : ℕ). IsInput (group p) k what x) (sym f) (subst (λ (h : Group). IsInput h m what x) (sym e) told)
 
-answered_up : (g : Group) (y z : Seat) (a : NodeState Bytes → Answer Bytes) (out : List Datagram) → y.is_up ≡ true → z.is_up ≡ y.is_up →
+answered_up : (g : Group) (y z : Host) (a : NodeState Bytes → Answer Bytes) (out : List Datagram) → y.is_up ≡ true → z.is_up ≡ y.is_up →
     IsAnswered g (a (state_in y.node)) (state_in y.node) (state_in z.node) out →
     IsAnswered g (a (state_of y)) (state_of y) (state_of z) out
 answered_up g y z a out up same is =
@@ -139,47 +139,47 @@ answered_up g y z a out up same is =
     (subst (λ (s : NodeState Bytes). IsAnswered g (a s) s (state_in z.node) out) (sym (state_up y up)) is)
 
 -- what comes to a member that runs happens in the world
-pub runs_at : {X E : Type 0} (r : Result X E) (seats : List Seat) (g : Group) (m : ℕ) (w : World Bytes) (a : Action Bytes) (what : What)
-    (y z : Seat) (sent out : List Datagram) → SeatsAre seats g sent w → slice_get seats m ≡ Some y → y.is_up ≡ true →
+pub runs_at : {X E : Type 0} (r : Result X E) (hosts : List Host) (g : Group) (m : ℕ) (w : World Bytes) (a : Action Bytes) (what : What)
+    (y z : Host) (sent out : List Datagram) → HostsAre hosts g sent w → slice_get hosts m ≡ Some y → y.is_up ≡ true →
     z.is_up ≡ y.is_up → group_of z ≡ group_of y → Came g w a m what →
     ((x : Input Bytes) → IsInput (group (group_of y)) (group_of y).me what x →
     OnOk r (IsAnswered (group (group_of y)) (answer (group_of y).members (group_of y).me (state_in y.node) x)
     (state_in y.node) (state_in z.node) out)) →
-    OnOk r (SeatsAre (set seats m z) g (sent ++ for_members out) (happens same g.members w (Runs a)))
-runs_at (Err e) seats g m w a what y z sent out world at up kept same_group came went = tt
-runs_at (Ok v) seats g m w a what y z sent out world at up kept same_group came went =
-    let seat = world.seats m y at in
+    OnOk r (HostsAre (set hosts m z) g (sent ++ for_members out) (happens same g.members w (Runs a)))
+runs_at (Err e) hosts g m w a what y z sent out world at up kept same_group came went = tt
+runs_at (Ok v) hosts g m w a what y z sent out world at up kept same_group came went =
+    let host = world.hosts m y at in
     let x = came.input in
     let p = group_of y in
-    lab_runs seats state_of group_of g m w a x y z sent out world at up same_group came.comes
+    lab_runs hosts state_of group_of g m w a x y z sent out world at up same_group came.comes
     (answered_up (group p) y z (λ s. answer p.members p.me s x) out up kept
-    (went x (input_here g m p what x seat.group seat.me came.told)))
+    (went x (input_here g m p what x host.group host.me came.told)))
 
 -- a member that is as it was leaves the world as it was
-pub same_at : {X E : Type 0} (r : Result X E) (seats : List Seat) (g : Group) (m : ℕ) (w : World Bytes)
-    (y z : Seat) (sent : List Datagram) → SeatsAre seats g sent w → slice_get seats m ≡ Some y → y.is_up ≡ true →
+pub same_at : {X E : Type 0} (r : Result X E) (hosts : List Host) (g : Group) (m : ℕ) (w : World Bytes)
+    (y z : Host) (sent : List Datagram) → HostsAre hosts g sent w → slice_get hosts m ≡ Some y → y.is_up ≡ true →
     z.is_up ≡ y.is_up → group_of z ≡ group_of y → OnErr r (state_in z.node ≡ state_in y.node) →
-    OnErr r (SeatsAre (set seats m z) g sent w)
-same_at (Ok v) seats g m w y z sent world at up kept same_group is = tt
-same_at (Err e) seats g m w y z sent world at up kept same_group is =
-    lab_same seats state_of group_of g m w y z sent world at (state_up z (kept ∙ up) ∙ is ∙ sym (state_up y up)) same_group
+    OnErr r (HostsAre (set hosts m z) g sent w)
+same_at (Ok v) hosts g m w y z sent world at up kept same_group is = tt
+same_at (Err e) hosts g m w y z sent world at up kept same_group is =
+    lab_same hosts state_of group_of g m w y z sent world at (state_up z (kept ∙ up) ∙ is ∙ sym (state_up y up)) same_group
 
 -- a member stops after what comes to it
-pub stops_at : (seats : List Seat) (g : Group) (m : ℕ) (w : World Bytes) (a : Action Bytes) (what : What)
-    (y z q : Seat) (sent out : List Datagram) → SeatsAre seats g sent w → slice_get seats m ≡ Some y → y.is_up ≡ true →
+pub stops_at : (hosts : List Host) (g : Group) (m : ℕ) (w : World Bytes) (a : Action Bytes) (what : What)
+    (y z q : Host) (sent out : List Datagram) → HostsAre hosts g sent w → slice_get hosts m ≡ Some y → y.is_up ≡ true →
     z.is_up ≡ y.is_up → group_of z ≡ group_of y → group_of q ≡ group_of z → state_of q ≡ emptied_state false (state_of z) →
     Came g w a m what →
     ((x : Input Bytes) → IsInput (group (group_of y)) (group_of y).me what x →
     IsAnswered (group (group_of y)) (answer (group_of y).members (group_of y).me (state_in y.node) x)
     (state_in y.node) (state_in z.node) out) →
-    SeatsAre (set seats m q) g sent (happens same g.members w (StopAfter a))
-stops_at seats g m w a what y z q sent out world at up kept same_group still after came went =
-    let seat = world.seats m y at in
+    HostsAre (set hosts m q) g sent (happens same g.members w (StopAfter a))
+stops_at hosts g m w a what y z q sent out world at up kept same_group still after came went =
+    let host = world.hosts m y at in
     let x = came.input in
     let p = group_of y in
-    lab_stops_after seats state_of group_of g m w a x y z q sent out world at up after (still ∙ same_group) came.comes
+    lab_stops_after hosts state_of group_of g m w a x y z q sent out world at up after (still ∙ same_group) came.comes
     (answered_up (group p) y z (λ s. answer p.members p.me s x) out up kept
-    (went x (input_here g m p what x seat.group seat.me came.told)))
+    (went x (input_here g m p what x host.group host.me came.told)))
 
 -- ---- the beginning
 
@@ -199,8 +199,8 @@ kept_sound p q s t e is sound =
     (subst (λ (z : NodeState Bytes). IsSound p.members z.stored) (sym is) sound)
 
 -- the members so far are those of the beginning
-abbrev pub AreBegun : ℕ → List Seat → Type 0
-AreBegun n seats = (k : ℕ) (x : Seat) → slice_get seats k ≡ Some x → IsSeat start (cluster_of n) k (state_of x) (group_of x)
+abbrev pub AreBegun : ℕ → List Host → Type 0
+AreBegun n hosts = (k : ℕ) (x : Host) → slice_get hosts k ≡ Some x → IsHost start (cluster_of n) k (state_of x) (group_of x)
 
 pub none_begun : (n : ℕ) → AreBegun n []
 none_begun n k x h = absurd cc
@@ -215,12 +215,12 @@ get_pushed (y ∷ ys) s (suc k) x h = elim (get_pushed ys s k x h) [
   | inr last ↦ inr (ap suc last.0, last.1)
 ]
 
-pub pushed_begun : (n m : ℕ) (seats : List Seat) (s : Seat) → AreBegun n seats → length seats ≡ m →
-    IsSeat start (cluster_of n) m (state_of s) (group_of s) → AreBegun n (seats ++ s ∷ [])
-pushed_begun n m seats s begun count seat k x h = elim (get_pushed seats s k x h) [
+pub pushed_begun : (n m : ℕ) (hosts : List Host) (s : Host) → AreBegun n hosts → length hosts ≡ m →
+    IsHost start (cluster_of n) m (state_of s) (group_of s) → AreBegun n (hosts ++ s ∷ [])
+pushed_begun n m hosts s begun count host k x h = elim (get_pushed hosts s k x h) [
   | inl there ↦ begun k x there
-  | inr last ↦ subst (λ (j : ℕ). IsSeat start (cluster_of n) j (state_of x) (group_of x)) (sym (last.0 ∙ count))
-      (subst (λ (z : Seat). IsSeat start (cluster_of n) m (state_of z) (group_of z)) last.1 seat)
+  | inr last ↦ subst (λ (j : ℕ). IsHost start (cluster_of n) j (state_of x) (group_of x)) (sym (last.0 ∙ count))
+      (subst (λ (z : Host). IsHost start (cluster_of n) m (state_of z) (group_of z)) last.1 host)
 ]
 
 -- ---- one event after another

@@ -5,16 +5,16 @@ use Rattle.px_model.specs.World.{World}
 use Rattle.px_model.specs.Law.{Among, Chosen, HasLearned}
 use Rattle.px_model.specs.Spelling.{Bytes}
 use Rattle.pf_node.specs.Nodes.{learned_by}
-use Rattle.pf_lab.specs.declared.seat.Seat.{Seat}
+use Rattle.pf_lab.specs.declared.host.Host.{Host}
 
 -- what a member has as learned, nothing where there is no such member
-abbrev pub log_of : Option Seat → Log Bytes
+abbrev pub log_of : Option Host → Log Bytes
 log_of None = λ p. None
 log_of (Some s) = learned_by s.node
 
 -- what each of these members has as learned, at each position
-abbrev pub ever_of : List Seat → (member : ℕ) → Log Bytes
-ever_of seats m = log_of (slice_get seats m)
+abbrev pub ever_of : List Host → (member : ℕ) → Log Bytes
+ever_of hosts m = log_of (slice_get hosts m)
 
 -- exactly this was ever learned in the world
 abbrev pub IsEver : ((member : ℕ) → Log Bytes) → World Bytes → Type 0

@@ -10,19 +10,19 @@ use Rattle.px_replica.specs.Seen.{IsSound}
 use Rattle.px_records.specs.declared.records.Records.{Ghosts}
 use Rattle.pf_node.specs.declared.state.Node.{Node}
 use Rattle.pf_node.specs.Nodes.{state_in, membership_of, learned_by, has_failed, records_of}
-use Rattle.pf_lab.specs.declared.seat.Seat.{Seat}
+use Rattle.pf_lab.specs.declared.host.Host.{Host}
 use Rattle.pf_lab.specs.declared.state.Lab.{Lab}
 
--- the member of the world that a seat is
-abbrev pub state_of : Seat → NodeState Bytes
+-- the member of the world that a host is
+abbrev pub state_of : Host → NodeState Bytes
 state_of s = record { is_up = s.is_up; stored = (state_in s.node).stored; volatile = (state_in s.node).volatile }
 
--- the membership of the node in a seat
-abbrev pub group_of : Seat → Membership
+-- the membership of the node of a host
+abbrev pub group_of : Host → Membership
 group_of s = membership_of s.node
 
 -- a member of the lab is the m-th of the world
-pub record IsSeat (w : World Bytes) (g : Group) (m : ℕ) (s : NodeState Bytes) (p : Membership) : Type 0 where
+pub record IsHost (w : World Bytes) (g : Group) (m : ℕ) (s : NodeState Bytes) (p : Membership) : Type 0 where
   pub here : w.nodes m ≡ s
   pub group : group p ≡ g
   pub me : p.me ≡ m
@@ -32,16 +32,16 @@ pub record IsSeat (w : World Bytes) (g : Group) (m : ℕ) (s : NodeState Bytes) 
 pub record AreWorld {M : Type 0} (members : List M) (state_of : M → NodeState Bytes) (group_of : M → Membership)
     (g : Group) (sent : List Datagram) (w : World Bytes) : Type 0 where
   pub count : length members ≡ g.members
-  pub seats : (m : ℕ) (x : M) → slice_get members m ≡ Some x → IsSeat w g m (state_of x) (group_of x)
+  pub hosts : (m : ℕ) (x : M) → slice_get members m ≡ Some x → IsHost w g m (state_of x) (group_of x)
   pub told : AreSpelled g w.sent sent
 
--- the nodes in the seats, with the datagrams sent, are the world's
-abbrev pub SeatsAre : List Seat → Group → List Datagram → World Bytes → Type 0
-SeatsAre seats g sent w = AreWorld seats state_of group_of g sent w
+-- the nodes of the hosts, with the datagrams sent, are the world's
+abbrev pub HostsAre : List Host → Group → List Datagram → World Bytes → Type 0
+HostsAre hosts g sent w = AreWorld hosts state_of group_of g sent w
 
 -- the lab is the world
 abbrev pub IsWorld : Lab → Group → World Bytes → Type 0
-IsWorld lab g w = SeatsAre lab.seats.items g lab.sent.items w
+IsWorld lab g w = HostsAre lab.hosts.items g lab.sent.items w
 
 -- A node shows a member that runs: its record, what it learned, and that the record can be told.
 pub record IsShown {R : Type 0} {G : Ghosts R} (s : NodeState Bytes) (n : Node R G) : Type 0 where

@@ -12,13 +12,13 @@ ghost use Rattle.pf_lab.specs.inner.Coming.{IsNamed, IsOf};
 ghost use Rattle.pf_lab.specs.Outcomes.{Tells, is_unknown, outcome_in, is_bad, becomes, are_known};
 ghost use Rattle.pf_lab.specs.Ever.{ever_of, IsEver, IsAgreed};
 ghost use Rattle.pf_lab.specs.Same.{AreEqual};
-ghost use Rattle.pf_lab.specs.Labs.{IsSeat, IsWorld, cluster_of, state_of, group_of};
+ghost use Rattle.pf_lab.specs.Labs.{IsHost, IsWorld, cluster_of, state_of, group_of};
 ghost use Rattle.px_core.specs.declared.limits.TheConstants.{MEMBERS};
 
 use crate::coming::{named, what_comes};
 use crate::event::{LabAction, LabEvent, LabFault, Outcome};
-use crate::seat::Seat;
-use crate::seats::{empty_at, run_at, send_on, stop_after_at, stop_before_at};
+use crate::host::Host;
+use crate::hosts::{empty_at, run_at, send_on, stop_after_at, stop_before_at};
 use crate::state::Lab;
 use pf_node::{Membership, Node};
 use px_records::MemoryRecords;
@@ -44,7 +44,7 @@ impl Lab {
         let mut out = Vec::new(self.alloc);
         let outcome = match what_comes(self.sent.as_slice(), action, bytes) {
             None => return Err(LabFault::BadEvent),
-            Some((m, what)) => match run_at(&mut self.seats, m, what, &mut out) {
+            Some((m, what)) => match run_at(&mut self.hosts, m, what, &mut out) {
                 Ok(outcome) => outcome,
                 Err(fault) => return Err(fault),
             },
@@ -65,7 +65,7 @@ impl Lab {
     {
         match what_comes(self.sent.as_slice(), action, bytes) {
             None => Err(LabFault::BadEvent),
-            Some((m, _)) => stop_before_at(&mut self.seats, m),
+            Some((m, _)) => stop_before_at(&mut self.hosts, m),
         }
     }
 
@@ -81,7 +81,7 @@ impl Lab {
     {
         match what_comes(self.sent.as_slice(), action, bytes) {
             None => Err(LabFault::BadEvent),
-            Some((m, what)) => stop_after_at(self.alloc, &mut self.seats, m, what),
+            Some((m, what)) => stop_after_at(self.alloc, &mut self.hosts, m, what),
         }
     }
 
@@ -94,10 +94,10 @@ impl Lab {
         ensures stays { (g : Group) (w : World Bytes) → IsWorld self.old g w → OnErr result (IsWorld self.new g w) }
     {
         let m = m as usize;
-        if m >= self.seats.len() {
+        if m >= self.hosts.len() {
             return Err(LabFault::BadEvent);
         }
-        empty_at(&mut self.seats, m, true);
+        empty_at(&mut self.hosts, m, true);
         Ok(Outcome::Nothing)
     }
 
@@ -144,10 +144,10 @@ impl Lab {
 }
 
 /// A member that starts with an empty record.
-fn seat(alloc: Global, members: u8, m: u8) -> Result<Seat, LabFault>
+fn host(alloc: Global, members: u8, m: u8) -> Result<Host, LabFault>
     requires few { members ≤ MEMBERS }
     requires member { m < members }
-    ensures seat { IfOk result (λ s. IsSeat start (cluster_of members) m (state_of s) (group_of s)) }
+    ensures host { IfOk result (λ s. IsHost start (cluster_of members) m (state_of s) (group_of s)) }
     ensures memory { OnErr result (result ≡ Err LabFault.Memory) }
 {
     let group = match Membership::new(0, members, m) {
@@ -156,7 +156,7 @@ fn seat(alloc: Global, members: u8, m: u8) -> Result<Seat, LabFault>
     };
     let records = MemoryRecords::new(alloc, members);
     match Node::open(alloc, group, records) {
-        Ok(node) => Ok(Seat { node, is_up: true }),
+        Ok(node) => Ok(Host { node, is_up: true }),
         Err(_) => Err(LabFault::Memory),
     }
 }
@@ -169,15 +169,15 @@ impl Lab {
         ensures world { IfOk result (λ lab. IsWorld lab (cluster_of members) start) }
         ensures memory { OnErr result (result ≡ Err LabFault.Memory) }
     {
-        let mut seats = Vec::new(alloc);
+        let mut hosts = Vec::new(alloc);
         for m in 0..members {
-            let seat = seat(alloc, members, m)?;
-            if seats.push(seat).is_err() {
+            let host = host(alloc, members, m)?;
+            if hosts.push(host).is_err() {
                 return Err(LabFault::Memory);
             }
         }
         Ok(Lab {
-            seats,
+            hosts,
             sent: Vec::new(alloc),
             alloc,
         })
@@ -194,11 +194,11 @@ pub fn lab(alloc: Global, members: u8, events: &[LabEvent]) -> Result<Lab, LabFa
     requires few { members ≤ MEMBERS }
     ensures world { IfOk result (λ lab. IsWorld lab (cluster_of members)
         (run same members (flat_map happenings events.now) start)) }
-    ensures ever { IfOk result (λ lab. IsEver (ever_of lab.seats.items)
+    ensures ever { IfOk result (λ lab. IsEver (ever_of lab.hosts.items)
         (run same members (flat_map happenings events.now) start)) }
     ensures agreed { IfOk result (λ lab. IsAgreed members
-        (run same members (flat_map happenings events.now) start) (ever_of lab.seats.items)) }
-    ensures equal { IfOk result (λ lab. AreEqual lab.seats.items) }
+        (run same members (flat_map happenings events.now) start) (ever_of lab.hosts.items)) }
+    ensures equal { IfOk result (λ lab. AreEqual lab.hosts.items) }
     ensures known { OnOk result (are_known members events.now start ≡ true) }
     ensures unknown { result ≡ Err LabFault.BadEvent → are_known members events.now start ≡ false }
 {

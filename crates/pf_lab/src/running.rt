@@ -22,7 +22,7 @@ ghost use Rattle.px_core.specs.declared.limits.TheConstants.{MEMBERS};
 
 use crate::coming::What;
 use crate::event::{LabFault, Outcome};
-use crate::seat::Seat;
+use crate::host::Host;
 use pf_node::Node;
 use px_model::EntryView;
 use px_records::MemoryRecords;
@@ -126,7 +126,7 @@ fn receive(
     }
 }
 
-impl Seat {
+impl Host {
     /// What the member receives is answered as the model answers it.
     pub(crate) fn take(&mut self, what: What, out: &mut Vec<Datagram>) -> Result<Outcome, LabFault>
         requires empty { out.old.items ≡ [] }

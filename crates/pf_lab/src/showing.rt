@@ -9,7 +9,7 @@ ghost use Rattle.px_wire.specs.Message.{Group};
 ghost use Rattle.px_replica.specs.Made.{same};
 ghost use Rattle.pf_lab.specs.Ever.{ever_of, IsEver, IsAgreed};
 ghost use Rattle.pf_lab.specs.Labs.{IsWorld, IsShown, cluster_of};
-ghost use Rattle.pf_lab.specs.declared.seat.Seat.{Seat};
+ghost use Rattle.pf_lab.specs.declared.host.Host.{Host};
 ghost use Rattle.px_core.specs.declared.limits.TheConstants.{MEMBERS};
 
 use crate::ever::EverLearned;
@@ -21,9 +21,9 @@ use px_replica::Datagram;
 impl Lab {
     /// How many members there are.
     pub fn members(&self) -> usize
-        ensures { result ≡ length self.now.seats.items }
+        ensures { result ≡ length self.now.hosts.items }
     {
-        self.seats.len()
+        self.hosts.len()
     }
 
     /// Every message that a member sent to a member, in order; its place is its number.
@@ -35,33 +35,33 @@ impl Lab {
 
     /// The member `m`, where there is one and it runs.
     pub fn node(&self, m: u8) -> Option<&Node<MemoryRecords>>
-        ensures some { IfSome result (λ n. (s : Seat) × (slice_get self.now.seats.items m ≡ Some s) ×
+        ensures some { IfSome result (λ n. (s : Host) × (slice_get self.now.hosts.items m ≡ Some s) ×
             (s.is_up ≡ true) × (s.node ≡ n.now)) }
-        ensures none { result ≡ None → (s : Seat) → slice_get self.now.seats.items m ≡ Some s → s.is_up ≡
+        ensures none { result ≡ None → (s : Host) → slice_get self.now.hosts.items m ≡ Some s → s.is_up ≡
             false }
         ensures shows { (g : Group) (w : World Bytes) → IsWorld self.now g w →
             IfSome result (λ n. IsShown (w.nodes m) n.now) }
         ensures stopped { (g : Group) (w : World Bytes) → IsWorld self.now g w → m < g.members →
             result ≡ None → (w.nodes m).is_up ≡ false }
     {
-        match self.seats.get(m as usize) {
-            Some(seat) => { if seat.is_up { Some(&seat.node) } else { None } }
+        match self.hosts.get(m as usize) {
+            Some(host) => { if host.is_up { Some(&host.node) } else { None } }
             None => None,
         }
     }
 
     /// What the members ever learned, those that are stopped too. Takes no memory.
     pub fn ever_learned(&self) -> EverLearned<'_>
-        ensures seats { result.seats.now ≡ self.now.seats.items }
+        ensures hosts { result.hosts.now ≡ self.now.hosts.items }
         ensures ever { (n : ℕ) → 1 ≤ n → n ≤ MEMBERS → (events : List (Event Bytes)) →
             IsWorld self.now (cluster_of n) (world_after same n events) →
-            IsEver (ever_of result.seats.now) (world_after same n events) }
+            IsEver (ever_of result.hosts.now) (world_after same n events) }
         ensures agreed { (n : ℕ) → 1 ≤ n → n ≤ MEMBERS → (events : List (Event Bytes)) →
             IsWorld self.now (cluster_of n) (world_after same n events) →
-            IsAgreed n (world_after same n events) (ever_of result.seats.now) }
+            IsAgreed n (world_after same n events) (ever_of result.hosts.now) }
     {
         EverLearned {
-            seats: self.seats.as_slice(),
+            hosts: self.hosts.as_slice(),
         }
     }
 }
@@ -71,10 +71,10 @@ impl<'a> EverLearned<'a> {
     /// an unknown member.
     pub fn entry(&self, member: u8, position: u32) -> Option<&'a [u8]>
         ensures { option_map (λ b. b.now) result ≡
-            option_map spelled (ever_of self.now.seats.now member position) }
+            option_map spelled (ever_of self.now.hosts.now member position) }
     {
-        match self.seats.get(member as usize) {
-            Some(seat) => seat.node.learned(position),
+        match self.hosts.get(member as usize) {
+            Some(host) => host.node.learned(position),
             None => None,
         }
     }

@@ -17,7 +17,7 @@
 //! - **`pfx --help` lists all words, and six programs of `clap` read them.** pf_tool's has the words of others
 //!   (`node`, `ask`, `key`, `show`, `follow`) by their names alone; `main` hands a run whose first word is one of
 //!   these to the crate that has its options. One command of all options would make the crate that holds it stand
-//!   on all of them, SQLite too, and `ask` has two sets of options (`--to`, `--door`), of which `clap` could tell
+//!   on all of them, SQLite too, and `ask` has two sets of options (`--to`, `--control`), of which `clap` could tell
 //!   by rules between arguments alone, for which its contracts don't say what is refused. The exit is one: `main`
 //!   makes the status of each into the exit code.
 //! - **A number is refused by pf_tool and not by `clap`** where no refusal has it (`explain 99`), and so is `test`
@@ -69,10 +69,10 @@
 //!   and writers that don't fail are in its place.
 //! - **The status is an enum with a code**, so that a body that gives up doesn't meet the contract by answering 1.
 //! - **`run` answers `node`, `ask`, `key`, `show` and `follow` with status 2**: it knows them by name. These words
-//!   are `run_net`'s, `run_visit`'s, `run_show`'s and `run_follow`'s, to which `pfx` hands every run whose first
+//!   are `run_net`'s, `run_control_ask`'s, `run_show`'s and `run_follow`'s, to which `pfx` hands every run whose first
 //!   word is one of them: so pf_tool knows neither sockets nor databases.
 //! - **What runs of all words have in common** (`Status`, `read_all`, `misused`, `out_of_memory`) is in cli_io, over
-//!   `clap` alone, so that the words of the network, the door and nftables wait for no lab.
+//!   `clap` alone, so that the words of the network, the control socket and nftables wait for no lab.
 //! - **No test lends an allocator that refuses**: what takes memory takes `alloc: Global`, which is one type and
 //!   not a parameter. What a call leaves where a growth is refused is in its contract. In place of a test two
 //!   things stand outside the gate: `rt try --fail-alloc N`, which refuses the N-th allocation of a run, and

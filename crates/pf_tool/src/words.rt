@@ -279,7 +279,7 @@ pub(crate) fn command<'a>(alloc: Global) -> Result<Command<'a>, AllocError>
         alloc,
         command,
         "ask",
-        "Asks a node to take a command in, or at its door what it holds",
+        "Asks a node to take a command in, or at its control socket what it holds",
     )?;
     let command = with_named(alloc, command, "key", "Makes a cluster's key")?;
     let command = with_named(alloc, command, "show", "Shows what a node's store holds")?;

@@ -2,7 +2,7 @@
 
 use crate::telling::{Heard, tell};
 use crate::version::write_version;
-use cli_ask::run_visit;
+use cli_ask::run_control_ask;
 use cli_follow::run_follow;
 use cli_io::{REFUSALS, Status};
 use cli_nft::{asks_nft, run_nft};
@@ -20,10 +20,10 @@ pub(crate) fn subcommand_of<S: AsStr>(arguments: &[S]) -> &str {
     }
 }
 
-/// Whether an argument is `--door`, with its value or without.
-fn has_door<S: AsStr>(arguments: &[S]) -> bool {
+/// Whether an argument is `--control`, with its value or without.
+fn has_control<S: AsStr>(arguments: &[S]) -> bool {
     for argument in arguments {
-        if argument.as_str().starts_with("--door") {
+        if argument.as_str().starts_with("--control") {
             return true;
         }
     }
@@ -50,7 +50,7 @@ fn help_ask<S: AsStr, R: Read, W: Write>(
     reader: &mut R,
     writer: &mut W,
 ) -> Status {
-    let status = run_visit(rt, rt.alloc(), arguments, reader, writer);
+    let status = run_control_ask(rt, rt.alloc(), arguments, reader, writer);
     if status != Status::Usage {
         return status;
     }
@@ -80,10 +80,10 @@ fn run_plain<S: AsStr, R: Read, W: Write, E: Write>(
     let alloc = rt.alloc();
     match subcommand_of(arguments) {
         "--version" | "-V" => tell_version(writer),
-        "ask" if asks_help(arguments) && !has_door(arguments) => {
+        "ask" if asks_help(arguments) && !has_control(arguments) => {
             help_ask(rt, arguments, reader, writer)
         }
-        "ask" if has_door(arguments) => run_visit(rt, alloc, arguments, reader, writer),
+        "ask" if has_control(arguments) => run_control_ask(rt, alloc, arguments, reader, writer),
         "node" | "ask" | "key" => run_net(rt, alloc, arguments, reader, writer),
         "show" => run_show(rt, alloc, arguments, writer),
         "follow" => run_follow(rt, alloc, arguments, writer, errors),

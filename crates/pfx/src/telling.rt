@@ -79,7 +79,7 @@ pub(crate) fn tell<S: AsStr, E: Write>(
 ) {
     // that people can't be told changes nothing
     if code == NOBODY {
-        if let Some(path) = value_of(arguments, "--door") {
+        if let Some(path) = value_of(arguments, "--control") {
             if let Err(error) = knock(rt, path) {
                 let _told = writeln!(errors, "pfx: {}: {error}", Shown(path));
             }

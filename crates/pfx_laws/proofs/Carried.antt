@@ -8,9 +8,9 @@ use Rattle.px_wire.specs.Message.{Group}
 use Rattle.px_replica.specs.Lives.{Deed, Lived}
 use Rattle.pf_node.specs.declared.state.Node.{Node}
 use Rattle.node_loop.specs.Living.{sent_by}
-use Rattle.pfx_laws.specs.Clusters.{Cluster, Happening, MayAllHappen, after, begun}
+use Rattle.pfx_laws.specs.Clusters.{Cluster, ClusterEvent, MayAllHappen, after, begun}
 use Rattle.pfx_laws.specs.Promised.{IsNode}
-use Rattle.pfx_laws.specs.Wires.{Stretch, AreStretches, AreCarried, deeds_in, stand, happening, history_of}
+use Rattle.pfx_laws.specs.Wires.{Stretch, AreStretches, AreCarried, deeds_in, stand, cluster_event, history_of}
 use Rattle.pfx_laws.specs.Carried.{Goes, WiresNeverDiffer, WiresLearnWhatWasAsked, EquallyAppliedOverWires, StandsSo}
 use Rattle.pfx_laws.proofs.Agreeing.{never_differ, learn_what_was_asked, equally_applied}
 use Rattle.pfx_laws.proofs.Carrying.{wires_are_histories, lived_front}
@@ -49,8 +49,8 @@ goes_first g xs ys goes = record {
 history_then : (xs ys : List Stretch) → history_of (xs ++ ys) ≡ history_of xs ++ history_of ys
 history_then [] ys = refl
 history_then (x ∷ xs) ys =
-    ap (λ (hs : List Happening). map (happening x.member) x.deeds ++ hs) (history_then xs ys)
-    ∙ sym (append_assoc (map (happening x.member) x.deeds) (history_of xs) (history_of ys))
+    ap (λ (hs : List ClusterEvent). map (cluster_event x.member) x.deeds ++ hs) (history_then xs ys)
+    ∙ sym (append_assoc (map (cluster_event x.member) x.deeds) (history_of xs) (history_of ys))
 
 -- ---- two moments
 
@@ -66,9 +66,9 @@ both g before more goes =
     let all = wires_are_histories g (before ++ more) goes in
     let is = history_then before more in
     record {
-      may = subst (λ (hs : List Happening). MayAllHappen g hs begun) is all.0;
+      may = subst (λ (hs : List ClusterEvent). MayAllHappen g hs begun) is all.0;
       early = one.1;
-      late = λ m. ap (λ (hs : List Happening). (after hs begun).nodes m) (sym is) ∙ all.1 m;
+      late = λ m. ap (λ (hs : List ClusterEvent). (after hs begun).nodes m) (sym is) ∙ all.1 m;
     }
 
 pub wires_never_differ : WiresNeverDiffer

@@ -18,8 +18,8 @@ use Rattle.px_replica.specs.Spelled.{for_members}
 use Rattle.px_replica.specs.declared.datagram.Datagram.{Datagram}
 use Rattle.node_loop.specs.Turns.{handed_over}
 use Rattle.node_loop.specs.Living.{Heard, message_in, messages_of, AreBrought, sent_by}
-use Rattle.pfx_laws.specs.Clusters.{Cluster, Happening, IsDelivered, WasSent, MayAllHappen, next, after, begun}
-use Rattle.pfx_laws.specs.Wires.{Stretch, AreStretches, IsCarried, AreCarried, deeds_in, led_to, happening, history_of}
+use Rattle.pfx_laws.specs.Clusters.{Cluster, ClusterEvent, IsDelivered, WasSent, MayAllHappen, next, after, begun}
+use Rattle.pfx_laws.specs.Wires.{Stretch, AreStretches, IsCarried, AreCarried, deeds_in, led_to, cluster_event, history_of}
 use Rattle.pfx_laws.specs.Carried.{WiresAreHistories}
 use Rattle.pfx_laws.specs.Runs.{IsStretch}
 use Rattle.node_loop.proofs.Lives.{lived_then}
@@ -156,51 +156,51 @@ lived_from : (g : Group) (nodes : ℕ → NodeState Bytes) (m : ℕ) (s t : Node
 lived_from g nodes m s t ds l = subst (λ (z : NodeState Bytes). Lived g m z ds t) (sym (put_here nodes m s)) l
 
 deeds_may : (g : Group) (m : ℕ) (ds : List Deed) (c : Cluster) (t : NodeState Bytes) → m < g.members → Lived g m (c.nodes m) ds t →
-    AreDelivered g c.sent m ds → MayAllHappen g (map (happening m) ds) c
+    AreDelivered g c.sent m ds → MayAllHappen g (map (cluster_event m) ds) c
 deeds_may g m [] c t below l delivered = tt
 deeds_may g m (Deed.Calls x u out ∷ ds) c t below l delivered = (
   (record { below = below; is_up = l.0 }, ((l.1, delivered.0), l.2)),
-  deeds_may g m ds (next c (Happening.Calls m x u out)) t below (lived_from g c.nodes m u t ds l.3)
+  deeds_may g m ds (next c (ClusterEvent.Calls m x u out)) t below (lived_from g c.nodes m u t ds l.3)
       (all_more g c.sent (for_members out) m ds delivered.1),
 )
 deeds_may g m (Deed.Stops x left ∷ ds) c t below l delivered = (
   (record { below = below; is_up = l.0 }, ((l.1, delivered.0), l.2)),
-  deeds_may g m ds (next c (Happening.Stops m x left)) t below (lived_from g c.nodes m (stopped left) t ds l.3) delivered.1,
+  deeds_may g m ds (next c (ClusterEvent.Stops m x left)) t below (lived_from g c.nodes m (stopped left) t ds l.3) delivered.1,
 )
 deeds_may g m (Deed.Opens ∷ ds) c t below l delivered = (
   below,
-  deeds_may g m ds (next c (Happening.Opens m)) t below (lived_from g c.nodes m (started (c.nodes m).stored) t ds l) delivered,
+  deeds_may g m ds (next c (ClusterEvent.Opens m)) t below (lived_from g c.nodes m (started (c.nodes m).stored) t ds l) delivered,
 )
 
 -- its member stands as it lived
 stands_here : (g : Group) (m : ℕ) (ds : List Deed) (c : Cluster) (t : NodeState Bytes) → Lived g m (c.nodes m) ds t →
-    (after (map (happening m) ds) c).nodes m ≡ t
+    (after (map (cluster_event m) ds) c).nodes m ≡ t
 stands_here g m [] c t l = sym l
 stands_here g m (Deed.Calls x u out ∷ ds) c t l =
-    stands_here g m ds (next c (Happening.Calls m x u out)) t (lived_from g c.nodes m u t ds l.3)
+    stands_here g m ds (next c (ClusterEvent.Calls m x u out)) t (lived_from g c.nodes m u t ds l.3)
 stands_here g m (Deed.Stops x left ∷ ds) c t l =
-    stands_here g m ds (next c (Happening.Stops m x left)) t (lived_from g c.nodes m (stopped left) t ds l.3)
+    stands_here g m ds (next c (ClusterEvent.Stops m x left)) t (lived_from g c.nodes m (stopped left) t ds l.3)
 stands_here g m (Deed.Opens ∷ ds) c t l =
-    stands_here g m ds (next c (Happening.Opens m)) t (lived_from g c.nodes m (started (c.nodes m).stored) t ds l)
+    stands_here g m ds (next c (ClusterEvent.Opens m)) t (lived_from g c.nodes m (started (c.nodes m).stored) t ds l)
 
 -- the others stand as they stood
-stands_else : (m k : ℕ) (ds : List Deed) (c : Cluster) → nat_eq k m ≡ false → (after (map (happening m) ds) c).nodes k ≡ c.nodes k
+stands_else : (m k : ℕ) (ds : List Deed) (c : Cluster) → nat_eq k m ≡ false → (after (map (cluster_event m) ds) c).nodes k ≡ c.nodes k
 stands_else m k [] c other = refl
 stands_else m k (Deed.Calls x u out ∷ ds) c other =
-    stands_else m k ds (next c (Happening.Calls m x u out)) other ∙ cond-false (nat_eq k m) u (c.nodes k) other
+    stands_else m k ds (next c (ClusterEvent.Calls m x u out)) other ∙ cond-false (nat_eq k m) u (c.nodes k) other
 stands_else m k (Deed.Stops x left ∷ ds) c other =
-    stands_else m k ds (next c (Happening.Stops m x left)) other ∙ cond-false (nat_eq k m) (stopped left) (c.nodes k) other
+    stands_else m k ds (next c (ClusterEvent.Stops m x left)) other ∙ cond-false (nat_eq k m) (stopped left) (c.nodes k) other
 stands_else m k (Deed.Opens ∷ ds) c other =
-    stands_else m k ds (next c (Happening.Opens m)) other ∙ cond-false (nat_eq k m) (started (c.nodes m).stored) (c.nodes k) other
+    stands_else m k ds (next c (ClusterEvent.Opens m)) other ∙ cond-false (nat_eq k m) (started (c.nodes m).stored) (c.nodes k) other
 
 -- how the cluster stands is said of each member
 abbrev Stands : Cluster → (ℕ → NodeState Bytes) → Type 0
 Stands c nodes = (k : ℕ) → c.nodes k ≡ nodes k
 
 stands_then : (g : Group) (m : ℕ) (ds : List Deed) (c : Cluster) (nodes : ℕ → NodeState Bytes) (t : NodeState Bytes) →
-    Stands c nodes → Lived g m (c.nodes m) ds t → Stands (after (map (happening m) ds) c) (put nodes m t)
+    Stands c nodes → Lived g m (c.nodes m) ds t → Stands (after (map (cluster_event m) ds) c) (put nodes m t)
 stands_then g m ds c nodes t stands l k =
-    let d = after (map (happening m) ds) c in
+    let d = after (map (cluster_event m) ds) c in
     elim (eqb_tells k m) [
       | inl is ↦ ap (λ (j : ℕ). d.nodes j) is.1 ∙ stands_here g m ds c t l ∙ sym (cond-true (nat_eq k m) t (nodes k) is.0)
       | inr other ↦ stands_else m k ds c other.0 ∙ stands k ∙ sym (cond-false (nat_eq k m) t (nodes k) other.0)
@@ -211,15 +211,15 @@ holds_all handed x among = elim (among_cases handed [] x among) [ inl here ↦ h
 
 -- what its wire was handed it handed out
 holds_after : (m : ℕ) (ds : List Deed) (c : Cluster) (handed : List (ℕ × Bytes)) → Holds handed c.sent →
-    Holds (handed ++ sent_by ds) (after (map (happening m) ds) c).sent
+    Holds (handed ++ sent_by ds) (after (map (cluster_event m) ds) c).sent
 holds_after m [] c handed holds = λ k b other among. holds k b other (holds_all handed (k, b) among)
 holds_after m (Deed.Calls x u out ∷ ds) c handed holds =
-    subst (λ (hs : List (ℕ × Bytes)). Holds hs (after (map (happening m) ds) (next c (Happening.Calls m x u out))).sent)
+    subst (λ (hs : List (ℕ × Bytes)). Holds hs (after (map (cluster_event m) ds) (next c (ClusterEvent.Calls m x u out))).sent)
     (append_assoc handed (handed_over out) (sent_by ds))
-    (holds_after m ds (next c (Happening.Calls m x u out)) (handed ++ handed_over out)
+    (holds_after m ds (next c (ClusterEvent.Calls m x u out)) (handed ++ handed_over out)
     (holds_then handed (handed_over out) c.sent (for_members out) holds (over out)))
-holds_after m (Deed.Stops x left ∷ ds) c handed holds = holds_after m ds (next c (Happening.Stops m x left)) handed holds
-holds_after m (Deed.Opens ∷ ds) c handed holds = holds_after m ds (next c (Happening.Opens m)) handed holds
+holds_after m (Deed.Stops x left ∷ ds) c handed holds = holds_after m ds (next c (ClusterEvent.Stops m x left)) handed holds
+holds_after m (Deed.Opens ∷ ds) c handed holds = holds_after m ds (next c (ClusterEvent.Opens m)) handed holds
 
 -- ---- lives, and parts of them
 
@@ -321,7 +321,7 @@ live_first g nodes x xs first live k below = elim (eqb_tells k x.member) [
 
 -- ---- all stretches
 
-may_then : (g : Group) (hs more : List Happening) (c : Cluster) → MayAllHappen g hs c → MayAllHappen g more (after hs c) →
+may_then : (g : Group) (hs more : List ClusterEvent) (c : Cluster) → MayAllHappen g hs c → MayAllHappen g more (after hs c) →
     MayAllHappen g (hs ++ more) c
 may_then g [] more c a b = b
 may_then g (h ∷ hs) more c a b = (a.0, may_then g hs more (next c h) a.1 b)
@@ -335,7 +335,7 @@ goes_on : (g : Group) (xs : List Stretch) (c : Cluster) (nodes : ℕ → NodeSta
 goes_on g [] c nodes handed few stands holds are live carried = (tt, stands)
 goes_on g (x ∷ xs) c nodes handed few stands holds are live carried =
     let m = x.member in
-    let hs = map (happening m) x.deeds in
+    let hs = map (cluster_event m) x.deeds in
     let then = led_to (nodes m) x.deeds in
     let mine : Lived g m (nodes m) x.deeds then =
     lived_front g m (nodes m) (led_to (nodes m) (deeds_in m (x ∷ xs))) x.deeds (deeds_in m xs)

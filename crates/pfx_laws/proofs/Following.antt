@@ -25,8 +25,8 @@ use Rattle.px_replica.specs.Lives.{stopped}
 use Rattle.px_replica.specs.Spelled.{for_members}
 use Rattle.px_replica.proofs.Telling.{are_append, are_members, comes_spelled, one_message}
 use Rattle.pfx_laws.specs.Clusters as clusters
-use Rattle.pfx_laws.specs.Clusters.{Cluster, Happening, begun, asked_of, WasSent, MayCome, MayHappen, next, after, MayAllHappen}
-use Rattle.pfx_laws.specs.Clusters.Happening.{Calls, Stops, Opens}
+use Rattle.pfx_laws.specs.Clusters.{Cluster, ClusterEvent, begun, asked_of, WasSent, MayCome, MayHappen, next, after, MayAllHappen}
+use Rattle.pfx_laws.specs.Clusters.ClusterEvent.{Calls, Stops, Opens}
 use Rattle.pfx_laws.specs.Promised.{IsWorld, IsGroup, IsRun}
 
 -- ---- what comes to a member is an action of the world
@@ -223,7 +223,7 @@ opened g c w m is below =
       });
     }
 
-one : (g : Group) (c : Cluster) (w : World Bytes) (h : Happening) → g.members ≤ 15 → IsWorld g c w → MayHappen g c h →
+one : (g : Group) (c : Cluster) (w : World Bytes) (h : ClusterEvent) → g.members ≤ 15 → IsWorld g c w → MayHappen g c h →
     Follows g (next c h) w
 one g c w (Calls m x t out) few is may = called g c w m x t out few is may
 one g c w (Stops m x left) few is may = cut_short g c w m x left few is may
@@ -235,7 +235,7 @@ run_append : (n : ℕ) (xs ys : List (Event Bytes)) (w : World Bytes) → run sa
 run_append n [] ys w = refl
 run_append n (e ∷ xs) ys w = run_append n xs ys (happens same n w e)
 
-pub all : (g : Group) (hs : List Happening) (c : Cluster) (w : World Bytes) → g.members ≤ 15 → IsWorld g c w →
+pub all : (g : Group) (hs : List ClusterEvent) (c : Cluster) (w : World Bytes) → g.members ≤ 15 → IsWorld g c w →
     MayAllHappen g hs c → Follows g (after hs c) w
 all g [] c w few is may = record { events = []; world = is }
 all g (h ∷ hs) c w few is may =
@@ -246,7 +246,7 @@ all g (h ∷ hs) c w few is may =
       world = subst (λ (z : World Bytes). IsWorld g (after hs (next c h)) z) (sym (run_append g.members f.events rest.events w)) rest.world;
     }
 
-pub from_start : (g : Group) → IsGroup g → (hs : List Happening) → MayAllHappen g hs begun → IsRun g (after hs begun)
+pub from_start : (g : Group) → IsGroup g → (hs : List ClusterEvent) → MayAllHappen g hs begun → IsRun g (after hs begun)
 from_start g group hs may =
     let f = all g hs begun start group.few (record { nodes = refl; sent = tt; asked = refl }) may in
     record { events = f.events; world = f.world }
@@ -258,16 +258,16 @@ pub record Later (g : Group) (c d : Cluster) : Type 0 where
   pub early : IsWorld g c (run same g.members before start)
   pub late : IsWorld g d (run same g.members (before ++ more) start)
 
-pub split : (g : Group) (hs more : List Happening) (c : Cluster) → MayAllHappen g (hs ++ more) c →
+pub split : (g : Group) (hs more : List ClusterEvent) (c : Cluster) → MayAllHappen g (hs ++ more) c →
     MayAllHappen g hs c × MayAllHappen g more (after hs c)
 split g [] more c may = (tt, may)
 split g (h ∷ hs) more c may = let s = split g hs more (next c h) may.1 in ((may.0, s.0), s.1)
 
-pub after_both : (hs more : List Happening) (c : Cluster) → after (hs ++ more) c ≡ after more (after hs c)
+pub after_both : (hs more : List ClusterEvent) (c : Cluster) → after (hs ++ more) c ≡ after more (after hs c)
 after_both [] more c = refl
 after_both (h ∷ hs) more c = after_both hs more (next c h)
 
-pub in_turn : (g : Group) → IsGroup g → (hs more : List Happening) → MayAllHappen g (hs ++ more) begun →
+pub in_turn : (g : Group) → IsGroup g → (hs more : List ClusterEvent) → MayAllHappen g (hs ++ more) begun →
     Later g (after hs begun) (after (hs ++ more) begun)
 in_turn g group hs more may =
     let parts = split g hs more begun may in

@@ -8,16 +8,16 @@ use Rattle.px_model.specs.Spelling.{Bytes}
 use Rattle.px_wire.specs.Message.{Group}
 use Rattle.px_replica.specs.Lives.{Deed, Lived, stopped}
 use Rattle.pfx_laws.specs.Clusters as clusters
-use Rattle.pfx_laws.specs.Clusters.{Cluster, Happening, MayAllHappen, next}
-use Rattle.pfx_laws.specs.Clusters.Happening.{Calls, Stops, Opens}
+use Rattle.pfx_laws.specs.Clusters.{Cluster, ClusterEvent, MayAllHappen, next}
+use Rattle.pfx_laws.specs.Clusters.ClusterEvent.{Calls, Stops, Opens}
 use Rattle.pfx_laws.specs.Lives.{member_of, deed, deeds_of, AreOfMembers, AreDelivered, LivesAreHistories}
 
 -- how the members stand, and what befalls each from there on
-abbrev Live : Group → (ℕ → NodeState Bytes) → List Happening → Type 0
+abbrev Live : Group → (ℕ → NodeState Bytes) → List ClusterEvent → Type 0
 Live g nodes hs = (m : ℕ) → m < g.members → (t : NodeState Bytes) × Lived g m (nodes m) (deeds_of m hs) t
 
 -- what befalls a member first is what happens to it first
-own : (g : Group) (nodes : ℕ → NodeState Bytes) (h : Happening) (hs : List Happening) → member_of h < g.members → Live g nodes (h ∷ hs) →
+own : (g : Group) (nodes : ℕ → NodeState Bytes) (h : ClusterEvent) (hs : List ClusterEvent) → member_of h < g.members → Live g nodes (h ∷ hs) →
     (t : NodeState Bytes) × Lived g (member_of h) (nodes (member_of h)) (deed h ∷ deeds_of (member_of h) hs) t
 own g nodes h hs below live =
     let m = member_of h in
@@ -28,7 +28,7 @@ own g nodes h hs below live =
     )
 
 -- the others go on as they stood
-on : (g : Group) (nodes : ℕ → NodeState Bytes) (h : Happening) (hs : List Happening) (s t : NodeState Bytes) →
+on : (g : Group) (nodes : ℕ → NodeState Bytes) (h : ClusterEvent) (hs : List ClusterEvent) (s t : NodeState Bytes) →
     Live g nodes (h ∷ hs) → Lived g (member_of h) s (deeds_of (member_of h) hs) t → Live g (put nodes (member_of h) s) hs
 on g nodes h hs s t live mine m below =
     let k = member_of h in
@@ -48,7 +48,7 @@ on g nodes h hs s t live mine m below =
           ))
     ]
 
-all_may : (g : Group) (hs : List Happening) (c : Cluster) → AreOfMembers g hs → Live g c.nodes hs → AreDelivered g hs c.sent →
+all_may : (g : Group) (hs : List ClusterEvent) (c : Cluster) → AreOfMembers g hs → Live g c.nodes hs → AreDelivered g hs c.sent →
     MayAllHappen g hs c
 all_may g [] c below live delivered = tt
 all_may g (Calls m x t out ∷ hs) c below live delivered =

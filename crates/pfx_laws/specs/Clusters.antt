@@ -34,13 +34,13 @@ asked_of m d e (Some command) =
     (record { origin = m; number = d.meta.number; command = command } ∷ [])
 
 -- What happens to a member.
-pub data Happening : Type 0 where
+pub data ClusterEvent : Type 0 where
   -- a call on it answered Ok: it stands so then, and handed out these datagrams
-  Calls : (member : ℕ) (input : Input Bytes) (after : NodeState Bytes) (out : List Datagram) → Happening
+  Calls : (member : ℕ) (input : Input Bytes) (after : NodeState Bytes) (out : List Datagram) → ClusterEvent
   -- it stopped at some moment of a call, or its store failed, and the record was left so
-  Stops : (member : ℕ) (input : Input Bytes) (left : Record Bytes) → Happening
+  Stops : (member : ℕ) (input : Input Bytes) (left : Record Bytes) → ClusterEvent
   -- it was opened with the record that was left
-  Opens : (member : ℕ) → Happening
+  Opens : (member : ℕ) → ClusterEvent
 
 -- The message comes in a datagram that was handed out to the member: at any time, and as often as it likes.
 pub record WasSent (g : Group) (sent : List Datagram) (m sender : ℕ) (message : node.Message Bytes) : Type 0 where
@@ -69,13 +69,13 @@ pub record Runs (g : Group) (c : Cluster) (m : ℕ) : Type 0 where
 -- When it may happen. A call that answers Ok made a step of the model (the clause `made` of `ask`, `tick` and
 -- `receive`), and whatever cut a call short left the record as it was, or with the change of its step (the clause
 -- `stop`). A call that is refused, and a datagram that is ignored, change nothing.
-abbrev pub MayHappen : Group → Cluster → Happening → Type 0
+abbrev pub MayHappen : Group → Cluster → ClusterEvent → Type 0
 MayHappen g c (Calls m x t out) = Runs g c m × (MayCome g c.sent m x × Makes g m (c.nodes m) t x [] out)
 MayHappen g c (Stops m x left) = Runs g c m × (MayCome g c.sent m x × LeavesOne g.members m (c.nodes m) x left)
 MayHappen g c (Opens m) = m < g.members
 
 -- how the cluster stands then
-abbrev pub next : Cluster → Happening → Cluster
+abbrev pub next : Cluster → ClusterEvent → Cluster
 next c (Calls m x t out) = record {
   nodes = put c.nodes m t;
   sent = c.sent ++ for_members out;
@@ -89,11 +89,11 @@ next c (Stops m x left) = record {
 next c (Opens m) = record c { nodes = put c.nodes m (started (c.nodes m).stored) }
 
 -- one after the other
-abbrev pub after : List Happening → Cluster → Cluster
+abbrev pub after : List ClusterEvent → Cluster → Cluster
 after [] c = c
 after (h ∷ hs) c = after hs (next c h)
 
 -- each may happen in its turn
-abbrev pub MayAllHappen : Group → List Happening → Cluster → Type 0
+abbrev pub MayAllHappen : Group → List ClusterEvent → Cluster → Type 0
 MayAllHappen g [] c = Unit {0}
 MayAllHappen g (h ∷ hs) c = MayHappen g c h × MayAllHappen g hs (next c h)

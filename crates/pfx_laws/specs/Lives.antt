@@ -6,42 +6,42 @@ use Rattle.px_wire.specs.Message.{Group}
 use Rattle.px_replica.specs.Lives.{Deed, Lived}
 use Rattle.px_replica.specs.Spelled.{for_members}
 use Rattle.px_replica.specs.declared.datagram.Datagram.{Datagram}
-use Rattle.pfx_laws.specs.Clusters.{Happening, IsDelivered, MayAllHappen, begun}
+use Rattle.pfx_laws.specs.Clusters.{ClusterEvent, IsDelivered, MayAllHappen, begun}
 
 -- the member that it happens to
-abbrev pub member_of : Happening → ℕ
-member_of (Happening.Calls m x t out) = m
-member_of (Happening.Stops m x left) = m
-member_of (Happening.Opens m) = m
+abbrev pub member_of : ClusterEvent → ℕ
+member_of (ClusterEvent.Calls m x t out) = m
+member_of (ClusterEvent.Stops m x left) = m
+member_of (ClusterEvent.Opens m) = m
 
 -- what befalls whoever it happens to
-abbrev pub deed : Happening → Deed
-deed (Happening.Calls m x t out) = Deed.Calls x t out
-deed (Happening.Stops m x left) = Deed.Stops x left
-deed (Happening.Opens m) = Deed.Opens
+abbrev pub deed : ClusterEvent → Deed
+deed (ClusterEvent.Calls m x t out) = Deed.Calls x t out
+deed (ClusterEvent.Stops m x left) = Deed.Stops x left
+deed (ClusterEvent.Opens m) = Deed.Opens
 
 -- of all that happened, what befell this member
-abbrev pub deeds_of : (m : ℕ) → List Happening → List Deed
+abbrev pub deeds_of : (m : ℕ) → List ClusterEvent → List Deed
 deeds_of m [] = []
 deeds_of m (h ∷ hs) = if nat_eq m (member_of h) then deed h ∷ deeds_of m hs else deeds_of m hs
 
 -- it happens to members alone
-abbrev pub AreOfMembers : Group → List Happening → Type 0
+abbrev pub AreOfMembers : Group → List ClusterEvent → Type 0
 AreOfMembers g [] = Unit {0}
 AreOfMembers g (h ∷ hs) = (member_of h < g.members) × AreOfMembers g hs
 
 -- Each datagram that a member took was handed out to it before, or asks from outside; these were handed out already.
-abbrev pub AreDelivered : Group → List Happening → (sent : List Datagram) → Type 0
+abbrev pub AreDelivered : Group → List ClusterEvent → (sent : List Datagram) → Type 0
 AreDelivered g [] sent = Unit {0}
-AreDelivered g (Happening.Calls m x t out ∷ hs) sent =
+AreDelivered g (ClusterEvent.Calls m x t out ∷ hs) sent =
     IsDelivered g sent m x × AreDelivered g hs (sent ++ for_members out)
-AreDelivered g (Happening.Stops m x left ∷ hs) sent = IsDelivered g sent m x × AreDelivered g hs sent
-AreDelivered g (Happening.Opens m ∷ hs) sent = AreDelivered g hs sent
+AreDelivered g (ClusterEvent.Stops m x left ∷ hs) sent = IsDelivered g sent m x × AreDelivered g hs sent
+AreDelivered g (ClusterEvent.Opens m ∷ hs) sent = AreDelivered g hs sent
 
 -- Whatever members lived, each from an empty record, makes a history, in whatever order of theirs each datagram that
 -- one took had been handed out to it.
 abbrev pub LivesAreHistories : Type 0
 LivesAreHistories =
-    (g : Group) (history : List Happening) → AreOfMembers g history →
+    (g : Group) (history : List ClusterEvent) → AreOfMembers g history →
     ((m : ℕ) → m < g.members → (t : NodeState Bytes) × Lived g m (started nothing_stored) (deeds_of m history) t) →
     AreDelivered g history [] → MayAllHappen g history begun

@@ -12,7 +12,7 @@ use Rattle.pf_eval.specs.Verdicts.{judgement}
 use Rattle.pf_eval.specs.declared.packet.Packet.{Packet}
 use Rattle.pf_node.specs.declared.state.Node.{Node}
 use Rattle.pf_node.specs.Nodes.{applied_of, config_of, has_failed, records_of, state_in}
-use Rattle.pfx_laws.specs.Clusters.{Cluster, Happening, begun, after, MayAllHappen}
+use Rattle.pfx_laws.specs.Clusters.{Cluster, ClusterEvent, begun, after, MayAllHappen}
 
 -- The cluster is this world: its members are the world's, its datagrams spell the world's messages, in order, and what
 -- was asked is what was asked in the world.
@@ -34,13 +34,13 @@ pub record IsRun (g : Group) (c : Cluster) : Type 0 where
 -- whatever happens is a run of the world
 abbrev pub HistoriesAreRuns : Type 0
 HistoriesAreRuns =
-    (g : Group) → IsGroup g → (history : List Happening) → MayAllHappen g history begun →
+    (g : Group) → IsGroup g → (history : List ClusterEvent) → MayAllHappen g history begun →
     IsRun g (after history begun)
 
 -- whatever happens, the members agree, each entry acts once, and nothing learned is lost
 abbrev pub NodesAgree : Type 0
 NodesAgree =
-    (g : Group) → IsGroup g → (history : List Happening) → MayAllHappen g history begun →
+    (g : Group) → IsGroup g → (history : List ClusterEvent) → MayAllHappen g history begun →
     (r : IsRun g (after history begun)) × Agree g.members (world_after same g.members r.events) ×
     Once (world_after same g.members r.events) × Kept (world_after same g.members r.events)
 
@@ -52,7 +52,7 @@ HasLearned c m p e = (c.nodes m).stored.learned p ≡ Some e
 -- that were, with one origin and one number, are one.
 abbrev pub LearnWhatWasAsked : Type 0
 LearnWhatWasAsked =
-    (g : Group) → IsGroup g → (history : List Happening) → MayAllHappen g history begun →
+    (g : Group) → IsGroup g → (history : List ClusterEvent) → MayAllHappen g history begun →
     ((m p : ℕ) (e : Entry Bytes) → HasLearned (after history begun) m p e → Among (after history begun).asked e) ×
     NoneTwice (after history begun).asked ×
     ((e f : Entry Bytes) → Among (after history begun).asked e → Among (after history begun).asked f →
@@ -62,7 +62,7 @@ LearnWhatWasAsked =
 -- entry, and one entry is at one position.
 abbrev pub NeverDiffer : Type 0
 NeverDiffer =
-    (g : Group) → IsGroup g → (before more : List Happening) → MayAllHappen g (before ++ more) begun →
+    (g : Group) → IsGroup g → (before more : List ClusterEvent) → MayAllHappen g (before ++ more) begun →
     (i j p q : ℕ) (e f : Entry Bytes) →
     HasLearned (after before begun) i p e → HasLearned (after (before ++ more) begun) j q f →
     (p ≡ q → e ≡ f) × (e ≡ f → p ≡ q)
@@ -77,7 +77,7 @@ pub record IsNode {R : Type 0} {G : Ghosts R} (x : Node R G) (c : Cluster) (m : 
 -- packet one verdict.
 abbrev pub EquallyApplied : {R Q : Type 0} → Ghosts R → Ghosts Q → Type 0
 EquallyApplied {R} {Q} G H =
-    (g : Group) → IsGroup g → (before more : List Happening) → MayAllHappen g (before ++ more) begun →
+    (g : Group) → IsGroup g → (before more : List ClusterEvent) → MayAllHappen g (before ++ more) begun →
     (i j : ℕ) (x : Node R G) (y : Node Q H) →
     IsNode x (after before begun) i → IsNode y (after (before ++ more) begun) j → applied_of x ≡ applied_of y →
     (config_of x ≡ config_of y) × ((p : Packet) → judgement (config_of x) p ≡ judgement (config_of y) p)

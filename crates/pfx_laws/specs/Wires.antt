@@ -7,7 +7,7 @@ use Rattle.px_wire.specs.Message.{Group}
 use Rattle.px_replica.specs.Lives.{Deed, stopped}
 use Rattle.node_loop.specs.Living.{messages_of, AreBrought, sent_by}
 use Rattle.node_loop.specs.Resending.{IsOutside}
-use Rattle.pfx_laws.specs.Clusters.{Happening}
+use Rattle.pfx_laws.specs.Clusters.{ClusterEvent}
 
 -- A stretch of a member's life: what befell it, one thing or several, and the datagrams that its wire gave meanwhile.
 -- What the wire was handed meanwhile is what the member sent (`sent_by`), and some of that again.
@@ -57,12 +57,12 @@ AreCarried g (x ∷ xs) handed =
 -- ---- what happens in the cluster
 
 -- what befalls this member
-abbrev pub happening : (member : ℕ) → Deed → Happening
-happening m (Deed.Calls x t out) = Happening.Calls m x t out
-happening m (Deed.Stops x left) = Happening.Stops m x left
-happening m Deed.Opens = Happening.Opens m
+abbrev pub cluster_event : (member : ℕ) → Deed → ClusterEvent
+cluster_event m (Deed.Calls x t out) = ClusterEvent.Calls m x t out
+cluster_event m (Deed.Stops x left) = ClusterEvent.Stops m x left
+cluster_event m Deed.Opens = ClusterEvent.Opens m
 
 -- what befalls the members in these stretches, in order
-abbrev pub history_of : List Stretch → List Happening
+abbrev pub history_of : List Stretch → List ClusterEvent
 history_of [] = []
-history_of (x ∷ xs) = map (happening x.member) x.deeds ++ history_of xs
+history_of (x ∷ xs) = map (cluster_event x.member) x.deeds ++ history_of xs

@@ -45,7 +45,7 @@ use crate::kept::{Kept, record};
 use crate::repeated::repeated;
 use crate::row::Row;
 use crate::run::Run;
-use crate::shown::{write_member, write_sent, write_tally};
+use crate::shown::{write_counters, write_member, write_sent};
 use crate::step::Step;
 use crate::stops::write_stops;
 use crate::written::write_again;
@@ -88,7 +88,7 @@ fn write_members(rt: &HostRuntime, run: Run<Kept>) -> io::Result<()> {
 
 /// Writes what was refused, and how many steps there were.
 fn write_done(rt: &HostRuntime, run: &Run<Kept>, steps: u32) -> io::Result<()> {
-    write_tally(rt, run.tally)?;
+    write_counters(rt, run.counters)?;
     println!(rt; "{steps} steps")
 }
 

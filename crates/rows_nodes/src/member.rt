@@ -81,7 +81,7 @@ pub fn look<R: Records>(node: &Node<R>) -> Seen {
 
 /// What was refused so far.
 #[derive(Clone, Copy)]
-pub struct Tally {
+pub struct Counters {
     /// Datagrams that were refused for lack of memory.
     pub datagrams: u32,
     /// Ticks that were.
@@ -140,10 +140,10 @@ fn is_applied(after: Seen, event: Event) -> bool {
     }
 }
 
-impl Tally {
+impl Counters {
     /// Nothing was refused.
-    pub fn new() -> Tally {
-        Tally {
+    pub fn new() -> Counters {
+        Counters {
             datagrams: 0,
             ticks: 0,
             commands: 0,
@@ -198,19 +198,19 @@ pub fn take<R: Records>(
     node: &mut Node<R>,
     event: Event,
     out: &mut Vec<Datagram>,
-    tally: &mut Tally,
+    counters: &mut Counters,
     is_once: bool,
 ) -> bool {
     for _ in 0..TRIES {
         let before = look(node);
         match call(node, event, out) {
             Ok(()) => {
-                tally.done(look(node), event);
+                counters.done(look(node), event);
                 return true;
             }
             Err(fault) => {
                 let is_as_before = is_kept(before, look(node), event);
-                if !tally.refuse(event, fault, out.is_empty(), is_as_before) || is_once {
+                if !counters.refuse(event, fault, out.is_empty(), is_as_before) || is_once {
                     return false;
                 }
             }

@@ -2,7 +2,7 @@
 
 ghost use Rattle.std.specs.Prelude.{◌≡◌};
 
-use crate::member::{Event, Tally, call, opened, take};
+use crate::member::{Counters, Event, call, opened, take};
 use crate::step::Step;
 use pf_entry::decode;
 use pf_node::{Command, Datagram, Node, NodeFault};
@@ -21,7 +21,7 @@ pub struct Run<R: Records> {
     /// All that was handed out, in order.
     pub sent: Vec<Datagram>,
     /// What was refused.
-    pub tally: Tally,
+    pub counters: Counters,
     is_once: bool,
 }
 
@@ -90,7 +90,7 @@ impl<R: Records + Drop> Run<R> {
             alloc,
             members,
             sent,
-            tally: Tally::new(),
+            counters: Counters::new(),
             is_once,
         })
     }
@@ -107,7 +107,7 @@ impl<R: Records + Drop> Run<R> {
             node,
             Event::Asks(command),
             out,
-            &mut self.tally,
+            &mut self.counters,
             self.is_once,
         ))
     }
@@ -123,7 +123,7 @@ impl<R: Records + Drop> Run<R> {
     /// The member's clock ticks.
     fn tick(&mut self, member: usize, out: &mut Vec<Datagram>) -> Option<bool> {
         let node = self.members.get_mut(member)?;
-        Some(take(node, Event::Ticks, out, &mut self.tally, self.is_once))
+        Some(take(node, Event::Ticks, out, &mut self.counters, self.is_once))
     }
 
     /// The message comes to its addressee.
@@ -131,7 +131,7 @@ impl<R: Records + Drop> Run<R> {
         let datagram = self.sent.get(number)?;
         let node = self.members.get_mut(datagram.to as usize)?;
         let event = Event::Comes(datagram.bytes.as_slice());
-        Some(take(node, event, out, &mut self.tally, self.is_once))
+        Some(take(node, event, out, &mut self.counters, self.is_once))
     }
 
     /// What was handed out is on its way.

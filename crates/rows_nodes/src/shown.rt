@@ -1,6 +1,6 @@
 //! What a run gives, as lines.
 
-use crate::member::{Seen, Tally, look};
+use crate::member::{Counters, Seen, look};
 use pf_node::{Datagram, Node};
 use px_model::{Entry, Meta, Slot};
 use px_records::Records;
@@ -18,14 +18,14 @@ pub fn write_sent(rt: &HostRuntime, sent: &[Datagram]) -> io::Result<()> {
 }
 
 /// Writes what was refused, if anything was, and whether that was wrong.
-pub fn write_tally(rt: &HostRuntime, tally: Tally) -> io::Result<()> {
-    if tally.datagrams > 0 || tally.ticks > 0 || tally.commands > 0 || tally.late > 0 {
+pub fn write_counters(rt: &HostRuntime, counters: Counters) -> io::Result<()> {
+    if counters.datagrams > 0 || counters.ticks > 0 || counters.commands > 0 || counters.late > 0 {
         println!(rt;
             "memory: receive {} tick {} ask {} encode 0 late {}",
-            tally.datagrams, tally.ticks, tally.commands, tally.late
+            counters.datagrams, counters.ticks, counters.commands, counters.late
         )?;
     }
-    if tally.is_wrong {
+    if counters.is_wrong {
         println!(rt; "wrong")?;
     }
     Ok(())

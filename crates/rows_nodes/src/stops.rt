@@ -36,8 +36,8 @@ fn write_end(rt: &HostRuntime, run: Run<Kept>, is_whole: bool) -> io::Result<()>
 /// Writes how far the line's run came, and whether that was wrong: a member that failed must refuse all calls. Whether
 /// a commit failed.
 fn write_steps(rt: &HostRuntime, run: &mut Run<Kept>, steps: Option<u32>) -> io::Result<bool> {
-    let is_stopped = run.tally.is_stopped;
-    if run.tally.is_wrong || (is_stopped && !run.is_closed()) {
+    let is_stopped = run.counters.is_stopped;
+    if run.counters.is_wrong || (is_stopped && !run.is_closed()) {
         println!(rt; "wrong")?;
     }
     match steps {
@@ -56,7 +56,7 @@ fn write_one(rt: &HostRuntime, line: &str, k: u64, when: When, most: usize) -> i
     };
     let steps = follow(&mut run, line, most);
     let written = write_steps(rt, &mut run, steps);
-    let is_whole = k > 0 && !run.tally.is_stopped;
+    let is_whole = k > 0 && !run.counters.is_stopped;
     write_end(rt, run, is_whole)?;
     written
 }

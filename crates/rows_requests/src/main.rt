@@ -7,7 +7,9 @@
 //! ticks, and what it sends to itself comes.
 #![tactic(auto)]
 
-use node_requests::{Answer, Desk, PeerTally, Routed, Tally, request_in, status_of};
+use node_requests::{
+    Answer, Counters, PeerCounters, RequestHandler, Routed, request_in, status_of,
+};
 use pf_node::{Datagram, Membership, Node};
 use px_records::{MemoryRecords, Records};
 use std::alloc::Global;
@@ -55,23 +57,23 @@ fn settle<R: Records>(alloc: Global, node: &mut Node<R>) -> bool {
 }
 
 /// What a loop would have counted.
-fn tally(alloc: Global) -> io::Result<Tally> {
+fn counters(alloc: Global) -> io::Result<Counters> {
     let mut peers = Vec::new(alloc);
-    peers.push(PeerTally {
+    peers.push(PeerCounters {
         node: 1,
         heard: Some(2),
         datagrams_in: 88_123,
         datagrams_out: 88_140,
         shown: 0,
     })?;
-    peers.push(PeerTally {
+    peers.push(PeerCounters {
         node: 2,
         heard: None,
         datagrams_in: 0,
         datagrams_out: 88_140,
         shown: 0,
     })?;
-    Ok(Tally {
+    Ok(Counters {
         up: 86_412,
         peers,
         stood: 0,
@@ -83,7 +85,7 @@ fn tally(alloc: Global) -> io::Result<Tally> {
         ignored: 2,
         turns: 70,
         ticks: 30,
-        seats: 1,
+        clients: 1,
         served: 31,
         refused: 5,
         unavailable: 3,
@@ -93,14 +95,14 @@ fn tally(alloc: Global) -> io::Result<Tally> {
 /// What is answered to a row.
 fn answered<R: Records>(
     alloc: Global,
-    desk: &mut Desk<R>,
+    handler: &mut RequestHandler<R>,
     line: &str,
     body: &str,
 ) -> io::Result<Answer> {
     let (method, rest) = line.split_once(' ').unwrap_or((line, ""));
     let (target, accept) = rest.split_once(' ').unwrap_or((rest, ""));
     let (path, query) = target.split_once('?').unwrap_or((target, ""));
-    let counted = tally(alloc)?;
+    let counted = counters(alloc)?;
     match request_in(
         alloc,
         method,
@@ -109,7 +111,7 @@ fn answered<R: Records>(
         body.as_bytes(),
         accept == "json",
     )? {
-        Routed::Asked(request) => Ok(desk.answer(&request, &counted)?),
+        Routed::Asked(request) => Ok(handler.answer(&request, &counted)?),
         Routed::Refused(code) => Ok(Answer {
             code,
             body: String::new(alloc),
@@ -127,15 +129,15 @@ fn main(rt: HostRuntime) -> io::Result<()> {
     let Some(node) = opened(alloc) else {
         return println!(rt; "memory");
     };
-    let mut desk = Desk::new(alloc, node);
+    let mut handler = RequestHandler::new(alloc, node);
     for row in input.split("\n== ").skip(1) {
         let (line, body) = match row.split_once('\n') {
             Some((line, body)) => (line, body),
             None => (row, ""),
         };
-        let answer = answered(alloc, &mut desk, line, body)?;
+        let answer = answered(alloc, &mut handler, line, body)?;
         print!(rt; "== {line}\n-- {}\n{}", answer.code, answer.body)?;
-        if !settle(alloc, &mut desk.node) {
+        if !settle(alloc, &mut handler.node) {
             return println!(rt; "failed");
         }
     }

@@ -78,7 +78,7 @@ fn party_of(parties: &mut [Party], me: usize) -> Result<&mut Party, Fail> {
 }
 
 /// One turn of a member.
-fn pace(parties: &mut [Party], me: usize, room: &mut Room) -> Result<(), Fail> {
+fn tick_timer(parties: &mut [Party], me: usize, room: &mut Room) -> Result<(), Fail> {
     let party = party_of(parties, me)?;
     turn(&mut party.node, &mut party.wire, room)?;
     Ok(())
@@ -107,7 +107,7 @@ fn all_block(alloc: Global, parties: &[Party]) -> Result<bool, Fail> {
 /// Whether the first member answers an Ask as taken in.
 fn is_asked<W: Wire>(parties: &mut [Party], asker: &mut W, room: &mut Room) -> Result<bool, Fail> {
     let is_sent = asker.send(0, &ASK);
-    pace(parties, 0, room)?;
+    tick_timer(parties, 0, room)?;
     let mut answer = [0u8; 29];
     let came = asker.recv(&mut answer);
     Ok(is_sent && came == Some(29) && answer == ASKED)
@@ -127,7 +127,7 @@ fn have_applied(parties: &[Party]) -> bool {
 fn spread(parties: &mut [Party], room: &mut Room) -> Result<(), Fail> {
     for _ in 0..200 {
         for me in 0..3usize {
-            pace(parties, me, room)?;
+            tick_timer(parties, me, room)?;
         }
         if have_applied(parties) {
             break;
@@ -229,7 +229,7 @@ fn paced(alloc: Global, parties: &mut [Party]) -> Result<u32, Fail> {
     ask_all(alloc, parties)?;
     let mut room = room(alloc)?;
     for number in 0..600usize {
-        pace(parties, number % 3, &mut room)?;
+        tick_timer(parties, number % 3, &mut room)?;
         if !all_agree(alloc, parties)? {
             return Err(Fail::new("two nodes differ"));
         }

@@ -121,7 +121,7 @@ fn an_accept_isnt_answered_once_the_next_position_is_voted_for(
 }
 
 #[test]
-fn a_large_datagram_is_sent_again_at_a_pace(rt: HostRuntime) -> Result<(), Fail> {
+fn a_large_datagram_is_sent_again_at_a_bounded_rate(rt: HostRuntime) -> Result<(), Fail> {
     let alloc = rt.alloc();
     let mut resender = Resender::new(alloc, 3, 0);
     let mut large = [0u8; 13_100];

@@ -20,8 +20,6 @@ mod member;
 #[cfg(test)]
 mod members;
 #[cfg(test)]
-mod pace;
-#[cfg(test)]
 mod packets;
 #[cfg(test)]
 mod reminding;
@@ -33,5 +31,7 @@ mod shown;
 mod starting;
 #[cfg(test)]
 mod step;
+#[cfg(test)]
+mod tick_timer;
 #[cfg(test)]
 mod votes;

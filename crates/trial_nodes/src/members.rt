@@ -1,6 +1,6 @@
 //! Members with empty records in memory, and what is asked of them.
 
-use node_loop::{Pace, Room, finish, round};
+use node_loop::{Room, TickTimer, finish, round};
 use pf_entry::Profile;
 use pf_node::{Command, Membership, Node};
 use pf_rules::Path;
@@ -54,8 +54,15 @@ pub(crate) fn run(
     wire: &mut LoopbackWire<MemoryWire>,
 ) -> Result<(), Fail> {
     let mut room = Room::new(rt.alloc(), &node.membership(), true)?;
-    let mut pace = Pace::new(0);
-    round(node, wire, &mut room, &mut pace, 0)?;
-    finish(node, wire, &mut room, &mut pace, rt, Instant::now(rt).ok())?;
+    let mut tick_timer = TickTimer::new(0);
+    round(node, wire, &mut room, &mut tick_timer, 0)?;
+    finish(
+        node,
+        wire,
+        &mut room,
+        &mut tick_timer,
+        rt,
+        Instant::now(rt).ok(),
+    )?;
     Ok(())
 }

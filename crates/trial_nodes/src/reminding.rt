@@ -1,7 +1,7 @@
 //! Members that tell how far they are, and what they are sent again.
 
 use crate::members::member;
-use node_loop::{Pace, Room, round};
+use node_loop::{Room, TickTimer, round};
 use pf_node::Node;
 use px_records::MemoryRecords;
 use px_transport::MemoryWire;
@@ -16,8 +16,8 @@ fn round_with(
     coming: Vec<Vec<u8>>,
 ) -> Result<Vec<(u8, u8)>, Fail> {
     let mut wire = MemoryWire::new(rt.alloc(), coming);
-    let mut pace = Pace::new(0);
-    round(node, &mut wire, room, &mut pace, 0)?;
+    let mut tick_timer = TickTimer::new(0);
+    round(node, &mut wire, room, &mut tick_timer, 0)?;
     let Some(sent) = wire.sent() else {
         return Err(Fail::new("no memory"));
     };

@@ -1,7 +1,7 @@
 //! What is asked of a node by datagrams.
 
 use crate::members::member;
-use node_loop::{Pace, Room, round};
+use node_loop::{Room, TickTimer, round};
 use pf_node::Node;
 use px_records::MemoryRecords;
 use px_transport::MemoryWire;
@@ -23,8 +23,8 @@ fn waiting(
     coming.push(Vec::from_slice(rt.alloc(), &ASK)?)?;
     let mut wire = MemoryWire::new(rt.alloc(), coming);
     let mut room = Room::new(rt.alloc(), &node.membership(), hears_asks)?;
-    let mut pace = Pace::new(0);
-    round(node, &mut wire, &mut room, &mut pace, 0)?;
+    let mut tick_timer = TickTimer::new(0);
+    round(node, &mut wire, &mut room, &mut tick_timer, 0)?;
     Ok((node.waiting(), room.counts().dropped))
 }
 

@@ -32,7 +32,7 @@ fn a_file_says_what_it_has(rt: HostRuntime) -> Result<(), Fail> {
     assert_eq!(rt; file.number("cluster"), Some(7));
     assert_eq!(rt; file.number("me"), Some(0));
     assert_eq!(rt; file.text("store"), Some("/var/db/pfx.db"));
-    assert!(rt; file.text("door").is_none());
+    assert!(rt; file.text("control").is_none());
     assert!(rt; file.flag("unsealed"));
     assert!(rt; !file.flag("quiet"));
     let members = file.texts(alloc, "members")?;

@@ -5,31 +5,31 @@ use Rattle.http.specs.declared.request.Request as http
 use Rattle.http_server.specs.Exchange.{Call, Chain}
 use Rattle.http_server.specs.declared.response.Response.{Response}
 use Rattle.px_records.specs.declared.records.Records.{Ghosts}
-use Rattle.node_requests.specs.declared.desk.Desk.{Desk}
+use Rattle.node_requests.specs.declared.handler.RequestHandler.{RequestHandler}
 use Rattle.node_requests.specs.declared.request.Read.{Read}
 use Rattle.node_requests.specs.declared.request.Read.TheVariants as read
 use Rattle.node_requests.specs.declared.request.Request.{Request}
 use Rattle.node_requests.specs.declared.request.Request.TheVariants as request
-use Rattle.node_requests.specs.declared.tally.Tally.{Tally}
+use Rattle.node_requests.specs.declared.counters.Counters.{Counters}
 use Rattle.node_requests.specs.Answers.{AnswerValue, refused}
 use Rattle.node_requests.specs.Requests.{Answers}
 use Rattle.node_requests.specs.Routing.{RoutedValue, Asked, Refused, Unread, request_value}
-use Rattle.node_control.specs.declared.clerk.Clerk.{Clerk}
+use Rattle.node_control.specs.declared.service.HttpService.{HttpService}
 use Rattle.node_control.specs.inner.Asking.{path_of, asked_for, is_of_figures}
 
 -- a response says an answer, its status and its body; or it is 503 without one, where memory is wanting for that
 abbrev pub Says : Response → AnswerValue → Type 0
 Says r a = ((r.status ≡ a.code) × (r.body.items ≡ a.body)) ⊎ ((r.status ≡ 503) × (r.body.items ≡ []))
 
--- the desk answered the request, over what was counted, and the response says that answer
-pub record IsAnswered {R : Type 0} {G : Ghosts R} (s t : Desk R G) (counted : Tally) (request : Request)
+-- the request handler answered the request, over what was counted, and the response says that answer
+pub record IsAnswered {R : Type 0} {G : Ghosts R} (s t : RequestHandler R G) (counted : Counters) (request : Request)
     (r : Response) : Type 0 where
   pub answer : AnswerValue
   pub answers : Answers s t counted request answer
   pub says : Says r answer
 
 -- nothing was asked and nothing changes; the response says this answer
-pub record IsTurnedAway {R : Type 0} {G : Ghosts R} (s t : Desk R G) (a : AnswerValue) (r : Response) : Type 0 where
+pub record IsTurnedAway {R : Type 0} {G : Ghosts R} (s t : RequestHandler R G) (a : AnswerValue) (r : Response) : Type 0 where
   pub still : t ≡ s
   pub says : Says r a
 
@@ -40,7 +40,7 @@ is_of_health read.Health = true
 is_of_health read.Ready = true
 is_of_health other = false
 
--- what is answered also where all seats are taken
+-- what is answered also where there are as many clients as may be
 abbrev pub is_urgent : Request → Bool
 is_urgent (request.Change words text) = false
 is_urgent (request.Read at r) = is_of_health r
@@ -57,12 +57,12 @@ is_read (request.Read at r) = true
 is_read request.Stop = false
 
 -- whether there is a connection for the request: where all are taken, there is one for what is urgent
-abbrev pub is_seated : {R : Type 0} {G : Ghosts R} → Clerk R G → Request → Bool
+abbrev pub is_seated : {R : Type 0} {G : Ghosts R} → HttpService R G → Request → Bool
 is_seated c request = not c.is_spare || is_urgent request
 
 -- Whether a request that was understood is answered: where there is a connection for it; a change unless the node is
 -- catching up; and where figures alone are served, what only reads.
-abbrev pub is_asked : {R : Type 0} {G : Ghosts R} → Clerk R G → Request → Bool
+abbrev pub is_asked : {R : Type 0} {G : Ghosts R} → HttpService R G → Request → Bool
 is_asked c request =
     is_seated c request &&
     (if c.is_scraped then is_read request else not (c.is_listening && is_change request))
@@ -78,37 +78,37 @@ abbrev pub not_found : AnswerValue
 not_found = no_text 404
 
 -- what it is answered else
-abbrev pub away : {R : Type 0} {G : Ghosts R} → Clerk R G → Request → AnswerValue
+abbrev pub away : {R : Type 0} {G : Ghosts R} → HttpService R G → Request → AnswerValue
 away c request = if c.is_scraped && is_seated c request then not_found else waiting
 
 -- a request that was understood is answered, or is answered so and nothing changes
-abbrev pub PassedOnIf : {R : Type 0} {G : Ghosts R} → Bool → (c d : Clerk R G) → Request → Response → Type 0
-PassedOnIf true c d request r = IsAnswered c.desk d.desk c.tally request r
-PassedOnIf false c d request r = IsTurnedAway c.desk d.desk (away c request) r
+abbrev pub PassedOnIf : {R : Type 0} {G : Ghosts R} → Bool → (c d : HttpService R G) → Request → Response → Type 0
+PassedOnIf true c d request r = IsAnswered c.handler d.handler c.counters request r
+PassedOnIf false c d request r = IsTurnedAway c.handler d.handler (away c request) r
 
-abbrev pub IsPassedOn : {R : Type 0} {G : Ghosts R} → (c d : Clerk R G) → Request → Response → Type 0
+abbrev pub IsPassedOn : {R : Type 0} {G : Ghosts R} → (c d : HttpService R G) → Request → Response → Type 0
 IsPassedOn c d request r = PassedOnIf (is_asked c request) c d request r
 
 -- ---- requests as HTTP has them
 
 -- the request that is asked for is handled, and no other; what isn't served, or isn't understood, is answered by its
 -- status or the line of its refusal, and nothing changes
-abbrev pub HandledAs : {R : Type 0} {G : Ghosts R} → (c d : Clerk R G) → RoutedValue → Response → Type 0
+abbrev pub HandledAs : {R : Type 0} {G : Ghosts R} → (c d : HttpService R G) → RoutedValue → Response → Type 0
 HandledAs c d (Asked v) r = (request : Request) × (request_value request ≡ v) × IsPassedOn c d request r
-HandledAs c d (Refused status) r = IsTurnedAway c.desk d.desk (no_text status) r
-HandledAs c d (Unread code) r = IsTurnedAway c.desk d.desk (refused code 0) r
+HandledAs c d (Refused status) r = IsTurnedAway c.handler d.handler (no_text status) r
+HandledAs c d (Unread code) r = IsTurnedAway c.handler d.handler (refused code 0) r
 
 -- where figures alone are served, another path isn't found
-abbrev pub HandledIf : {R : Type 0} {G : Ghosts R} → (served : Bool) → (c d : Clerk R G) → RoutedValue → Response →
+abbrev pub HandledIf : {R : Type 0} {G : Ghosts R} → (served : Bool) → (c d : HttpService R G) → RoutedValue → Response →
     Type 0
 HandledIf true c d asked r = HandledAs c d asked r
-HandledIf false c d asked r = IsTurnedAway c.desk d.desk not_found r
+HandledIf false c d asked r = IsTurnedAway c.handler d.handler not_found r
 
-abbrev pub is_served : {R : Type 0} {G : Ghosts R} → Clerk R G → http.Request (List ℕ) → Bool
+abbrev pub is_served : {R : Type 0} {G : Ghosts R} → HttpService R G → http.Request (List ℕ) → Bool
 is_served c q = not c.is_scraped || is_of_figures (path_of q)
 
 -- what a request asks for is handled, and nothing else
-abbrev pub IsHandled : {R : Type 0} {G : Ghosts R} → (c d : Clerk R G) → http.Request (List ℕ) → Response → Type 0
+abbrev pub IsHandled : {R : Type 0} {G : Ghosts R} → (c d : HttpService R G) → http.Request (List ℕ) → Response → Type 0
 IsHandled c d q r = HandledIf (is_served c q) c d (asked_for q) r
 
 -- a service handled requests, one after another

@@ -2,7 +2,7 @@
 use Rattle.std.proofs.Common.{None, false, refl}
 use Rattle.node_loop.specs.Lives.{new_buffers}
 use Rattle.node_loop.proofs.Hosting.{hosted_none}
-use Rattle.node_control.proofs.Rounds.{no_door, some_door}
+use Rattle.node_control.proofs.Rounds.{no_control, some_control}
 use Rattle.node_control.proofs.member.run_at.Goals as goal
 
 pub returns-in-Err-clause-hosted : goal.returns-in-Err-clause-hosted
@@ -19,8 +19,8 @@ returns-in-Err-clause-hosted g c es t = (
 )
 
 pub returns-in-Err-clause-turns : goal.returns-in-Err-clause-turns
-returns-in-Err-clause-turns g c none = absurd (some_door _ _ c.in-Err.is (c.open_at.ensures.none none))
+returns-in-Err-clause-turns g c none = absurd (some_control _ _ c.in-Err.is (c.open_at.ensures.none none))
 
 pub returns-clause-turns : goal.returns-clause-turns
 returns-clause-turns g c none =
-    c.run_node-ended.ensures.turns (no_door _ _ c.in-Ok.is (c.open_at.ensures.none none))
+    c.run_node-ended.ensures.turns (no_control _ _ c.in-Ok.is (c.open_at.ensures.none none))

@@ -26,7 +26,7 @@ returns-clause-hosted g c es t =
       r.0,
       r.1,
       hosts _ _ _ _ es r.0 c.in-Ok-new.room c.pass_on-ended.new.room c.args.hears_asks (fault_of c.pass_on-ended.result) _
-          c.new-clerk.ensures c.close-node.ensures c.in-Ok-new.ensures.kept c.in-Ok-new.ensures.requests c.in-Ok-new.ensures.hears
+          c.new-service.ensures c.close-node.ensures c.in-Ok-new.ensures.kept c.in-Ok-new.ensures.requests c.in-Ok-new.ensures.hears
           r.2 c.ended_of.ensures,
     )
 
@@ -36,6 +36,6 @@ returns-clause-turns g c none es t =
       r.0,
       r.1,
       serves _ _ _ _ es r.0 c.in-Ok-new.room c.pass_on-ended.new.room c.args.hears_asks (fault_of c.pass_on-ended.result) _
-          c.new-clerk.ensures c.close-node.ensures c.in-Ok-new.ensures.kept c.in-Ok-new.ensures.requests c.in-Ok-new.ensures.hears
+          c.new-service.ensures c.close-node.ensures c.in-Ok-new.ensures.kept c.in-Ok-new.ensures.requests c.in-Ok-new.ensures.hears
           r.2 c.ended_of.ensures,
     )

@@ -8,7 +8,7 @@ use Rattle.node_control.proofs.running.pass.Goals as goal
 
 pub returns-in-Err-clause-hosted : goal.returns-in-Err-clause-hosted
 returns-in-Err-clause-hosted g c = served_over (g.W.Wire.traffic c.args.wire.now) (g.W.Wire.traffic c.round.new.wire)
-    (λ es. standing c.args.clerk.now.desk.node es c.args.room.now) (λ es. standing c.round.new.node es c.round.new.room) _
+    (λ es. standing c.args.service.now.handler.node es c.args.room.now) (λ es. standing c.round.new.node es c.round.new.room) _
     c.in-Err.ensures.served
 
 pub returns-else-not-serve-clause-hosted : goal.returns-else-not-serve-clause-hosted

@@ -6,16 +6,16 @@ use Rattle.node_control.proofs.running.pass_on.Goals as goal
 pub returns-in-Ok-clause-hosted : goal.returns-in-Ok-clause-hosted
 returns-in-Ok-clause-hosted g c =
     hosted_over (g.W.Wire.traffic c.args.wire.now) (g.W.Wire.traffic c.passes.new.wire) (g.W.Wire.traffic c.finish.new.wire)
-    (λ es. standing c.args.clerk.now.desk.node es c.args.room.now) (λ es. standing c.passes.new.clerk.desk.node es c.passes.new.room)
+    (λ es. standing c.args.service.now.handler.node es c.args.room.now) (λ es. standing c.passes.new.service.handler.node es c.passes.new.room)
     (λ es. standing c.finish.new.node es c.finish.new.room) _ c.in-Ok.ensures.hosted
     (served_over (g.W.Wire.traffic c.passes.new.wire) (g.W.Wire.traffic c.finish.new.wire)
-    (λ es. standing c.passes.new.clerk.desk.node es c.passes.new.room) (λ es. standing c.finish.new.node es c.finish.new.room) _
+    (λ es. standing c.passes.new.service.handler.node es c.passes.new.room) (λ es. standing c.finish.new.node es c.finish.new.room) _
     c.finish.ensures.served)
 
 pub returns-in-Ok-clause-turns : goal.returns-in-Ok-clause-turns
 returns-in-Ok-clause-turns g c none =
     over_then (g.W.Wire.traffic c.args.wire.now) (g.W.Wire.traffic c.passes.new.wire) (g.W.Wire.traffic c.finish.new.wire)
-    (λ es. standing c.args.clerk.now.desk.node es c.args.room.now) (λ es. standing c.passes.new.clerk.desk.node es c.passes.new.room)
+    (λ es. standing c.args.service.now.handler.node es c.args.room.now) (λ es. standing c.passes.new.service.handler.node es c.passes.new.room)
     (λ es. standing c.finish.new.node es c.finish.new.room) _ (c.in-Ok.ensures.turns none).0 c.finish.ensures.served
 
 pub returns-in-Err-clause-turns : goal.returns-in-Err-clause-turns

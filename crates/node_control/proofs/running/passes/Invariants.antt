@@ -8,8 +8,8 @@ use Rattle.node_control.proofs.running.passes.Given as goal
 abbrev pub invariant-loop-round : goal.invariant-loop-round
 invariant-loop-round g l = record {
   hosted : Moves (g.W.Wire.traffic l.fn.wire) (g.W.Wire.traffic l.wire)
-      (λ es es'. Hosted (standing l.fn.clerk.desk.node es l.fn.room) (standing l.clerk.desk.node es' l.room) None);
-  turns : l.fn.door ≡ None → Moves (g.W.Wire.traffic l.fn.wire) (g.W.Wire.traffic l.wire)
-      (λ es es'. Served (standing l.fn.clerk.desk.node es l.fn.room) (standing l.clerk.desk.node es' l.room) None)
-      × (l.door ≡ None);
+      (λ es es'. Hosted (standing l.fn.service.handler.node es l.fn.room) (standing l.service.handler.node es' l.room) None);
+  turns : l.fn.control ≡ None → Moves (g.W.Wire.traffic l.fn.wire) (g.W.Wire.traffic l.wire)
+      (λ es es'. Served (standing l.fn.service.handler.node es l.fn.room) (standing l.service.handler.node es' l.room) None)
+      × (l.control ≡ None);
 }

@@ -1,4 +1,4 @@
--- the requests at the door
+-- the requests at the control socket
 use Rattle.node_control.proofs.Asked.{asks_some}
 use Rattle.node_control.proofs.running.serve.Goals as goal
 

@@ -86,13 +86,13 @@ returns-clause-saw g c =
     on_ok c.tick_if.result (λ ticked es t.
     let r = c.in-Ok.ensures.saw es t in (
       c.in-Ok.taken,
-      round_saw c.in-Ok.taken _ _ _ _ _ _ _ _ _ _ (g.T.Timer.told c.args.timer.now) (g.T.Timer.told c.beat-beat.new.timer)
+      round_saw c.in-Ok.taken _ _ _ _ _ _ _ _ _ _ (g.T.Timer.told c.args.timer.now) (g.T.Timer.told c.action-action.new.timer)
           (g.T.Timer.told c.repeats-is_due.new.self) (record {
             replica = refl;
             traffic = refl;
             kept = c.begin.ensures.kept;
             requests = c.begin.ensures.requests;
             hears = c.begin.ensures.hears;
-          }) c.begin.ensures.unseen r.2 (c.tick_if.ensures.unseen ∙ c.beat-beat.ensures.looked) c.front-was.ensures.front c.view_of-view.ensures
-          c.beat-beat.ensures.told c.repeats-is_due.ensures.told,
+          }) c.begin.ensures.unseen r.2 (c.tick_if.ensures.unseen ∙ c.action-action.ensures.looked) c.front-was.ensures.front c.view_of-view.ensures
+          c.action-action.ensures.told c.repeats-is_due.ensures.told,
     )) c.tick_if.ensures.ticked

@@ -91,7 +91,7 @@ returns-in-Ok-clause-saw g c =
     moves_by old new (Gave c.in-Some.bytes.now ∷ hands (handed_over c.receive-result.new.out.items))
     (λ es es'. SawIf true (standing c.args.node.now es c.args.room.now)
     (record (standing c.receive-result.new.node es' c.args.room.now) { kept = kept_of c.send_all.new.resender; requests = requests_of c.send_all.new.resender })
-    (seen_in c.args.room.now) c.receive-result.new.sight)
+    (seen_in c.args.room.now) c.receive-result.new.peer_progress)
     (adds_then old mid new (Gave c.in-Some.bytes.now ∷ []) (hands (handed_over c.receive-result.new.out.items))
     (gave_some old mid c.poll-len.new.bytes.items c.deref.result.now c.poll-len.result (option_map (λ b. b.now) c.came.result)
     (Some c.in-Some.bytes.now) c.poll-len.ensures.gave c.came.ensures c.deref.ensures.value (ap (option_map (λ b. b.now)) c.in-Some.is))

@@ -5,6 +5,6 @@ use Rattle.pf_lab.proofs.state.Lab.new.Given as goal
 
 abbrev pub invariant-loop-m : goal.invariant-loop-m
 invariant-loop-m l = record {
-  begun : AreBegun l.members l.seats.items;
-  count : length l.seats.items ≡ l.m;
+  begun : AreBegun l.members l.hosts.items;
+  count : length l.hosts.items ≡ l.m;
 }

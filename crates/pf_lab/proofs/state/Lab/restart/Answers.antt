@@ -2,20 +2,20 @@
 use Rattle.std.proofs.Common.{rules, ◌<◌, sym, subst, length, arith}
 use Rattle.px_model.specs.World.{World}
 use Rattle.px_model.specs.Spelling.{Bytes}
-use Rattle.pf_lab.specs.Labs.{SeatsAre}
+use Rattle.pf_lab.specs.Labs.{HostsAre}
 use Rattle.pf_lab.proofs.Outcomes.{restart_told}
 use Rattle.pf_lab.proofs.Following.{restarts}
 use Rattle.pf_lab.proofs.state.Lab.restart.Goals as goal
 
 pub returns-clause-happens : goal.returns-clause-happens
 returns-clause-happens c g w world =
-    let seats = c.args.self.now.seats.items in
-    let below : c.args.m < length seats = search rules in
+    let hosts = c.args.self.now.hosts.items in
+    let below : c.args.m < length hosts = search rules in
     let inside : c.args.m < g.members = omega (arith, below, world.count) in
     let sent = c.args.self.now.sent.items in
-    subst (λ (z : World Bytes). SeatsAre c.empty_at.new.seats.items g sent z) (sym (restarts g.members c.args.m w inside)) (c.empty_at.ensures.empties g w sent world)
+    subst (λ (z : World Bytes). HostsAre c.empty_at.new.hosts.items g sent z) (sym (restarts g.members c.args.m w inside)) (c.empty_at.ensures.empties g w sent world)
 
 pub returns-clause-told : goal.returns-clause-told
 returns-clause-told c g w world =
-    let below : c.args.m < length c.args.self.now.seats.items = search rules in
+    let below : c.args.m < length c.args.self.now.hosts.items = search rules in
     restart_told g.members c.args.m w (omega (arith, below, world.count))

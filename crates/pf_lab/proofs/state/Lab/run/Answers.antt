@@ -7,7 +7,7 @@ use Rattle.px_model.specs.World.{happens}
 use Rattle.px_model.specs.World.Event.{Runs}
 use Rattle.pf_lab.specs.Coming.{action_of}
 use Rattle.px_replica.specs.Spelled.{for_members}
-use Rattle.pf_lab.specs.Labs.{SeatsAre}
+use Rattle.pf_lab.specs.Labs.{HostsAre}
 use Rattle.pf_lab.proofs.state.Lab.run.Goals as goal
 
 pub returns-clause-happens : goal.returns-clause-happens
@@ -17,7 +17,7 @@ returns-clause-happens c g w world =
     let kept : c.as_slice.result.now ≡ sent = search (rules, c.as_slice.ensures.value, c.reserve.ensures.items) in
     let room : c.send_on.new.sent.items ≡ sent ++ for_members c.run_at.new.out.items = search (rules, c.send_on.ensures, c.reserve.ensures.items) in
     let came = c.in-Some.ensures.came g w (subst (λ (ds : List Datagram). AreSpelled g w.sent ds) (sym kept) world.told) in
-    subst (λ (ds : List Datagram). SeatsAre c.run_at.new.seats.items g ds (happens same g.members w (Runs a))) (sym room)
+    subst (λ (ds : List Datagram). HostsAre c.run_at.new.hosts.items g ds (happens same g.members w (Runs a))) (sym room)
     (c.in-Ok.ensures.happens g w a sent world came)
 
 pub returns-clause-told : goal.returns-clause-told

@@ -1,0 +1,183 @@
+//! A client: a connection over which requests come.
+
+ghost use Rattle.node_control.specs.inner.Handling.{Handles};
+
+use crate::stream::Stream;
+use http_server::{Config, Connection, Reason, Refusal, Service, State};
+use std::alloc::Global;
+use std::hash::RandomState;
+use std::io::{self, ErrorKind};
+use std::os::fd::RawFd;
+
+/// How long a client may move no byte, in microseconds.
+const QUIET: u64 = 30_000_000;
+
+/// How long a request may take to come, from its first byte on, or from the connection's beginning; in microseconds.
+const COMING: u64 = 10_000_000;
+
+/// How many times a client is served at most.
+const MOST: u32 = 1_000;
+
+/// The most bytes that a body has.
+const BODY: usize = 65_536;
+
+/// A connection over which requests come.
+#[derive(Drop)]
+pub(crate) struct Client {
+    stream: Stream,
+    connection: Connection,
+    /// When it moved a byte last, in microseconds.
+    moved: u64,
+    /// Since when a request has been coming, if one is.
+    began: Option<u64>,
+    /// How many times it was given an answer.
+    served: u32,
+}
+
+/// What became of a client when it was looked at.
+#[derive(Clone, Copy, PartialEq, Eq)]
+pub(crate) enum Look {
+    /// Nothing could be done.
+    Quiet,
+    /// Bytes were moved.
+    Busy,
+    /// It is left.
+    Left,
+}
+
+/// Whether the fault says that nothing can be done now.
+fn is_waiting(error: &io::Error) -> bool {
+    error.kind() == ErrorKind::WouldBlock || error.kind() == ErrorKind::Interrupted
+}
+
+impl Client {
+    /// A client that asks over the stream, which doesn't wait.
+    pub(crate) fn new(alloc: Global, keys: RandomState, stream: Stream, now: u64) -> Client {
+        let config = Config {
+            max_body_len: BODY,
+            max_pending: 0,
+            ..Config::default()
+        };
+        Client {
+            stream,
+            connection: Connection::new(alloc, keys, config),
+            moved: now,
+            began: Some(now),
+            served: 0,
+        }
+    }
+
+    /// Since when it has done nothing for whoever asks, in microseconds: since a request has been coming, or else since
+    /// it moved a byte last.
+    pub(crate) fn idle_since(&self) -> u64 {
+        self.began.unwrap_or(self.moved)
+    }
+
+    /// The descriptor of its stream.
+    pub(crate) fn raw_fd(&self) -> RawFd {
+        self.stream.raw_fd()
+    }
+
+    /// Whether anything is to be sent.
+    pub(crate) fn has_more(&self) -> bool {
+        self.connection.wants_write()
+    }
+
+    /// HTTP's status, where what came last was refused before it was a request.
+    pub(crate) fn refusal(&self) -> Option<u16> {
+        match self.connection.state() {
+            State::Closing(Reason::Refused(why)) => Some(match why {
+                Refusal::InvalidResponse(_) => 500,
+                Refusal::UnknownCoding => 501,
+                _ => 400,
+            }),
+            _ => None,
+        }
+    }
+
+    /// Reads once, if anything has come: whether bytes were moved, and none where the client is let go.
+    fn read(&mut self) -> Option<bool> {
+        if !self.connection.wants_read() {
+            return Some(false);
+        }
+        match self.stream.read_into(&mut self.connection) {
+            Ok(_) => Some(true),
+            Err(error) => {
+                if is_waiting(&error) {
+                    Some(false)
+                } else {
+                    None
+                }
+            }
+        }
+    }
+
+    /// Writes once, if anything is to be sent, as `read`.
+    fn write(&mut self) -> Option<bool> {
+        if !self.connection.wants_write() {
+            return Some(false);
+        }
+        match self.stream.write_from(&mut self.connection) {
+            Ok(_) => Some(true),
+            Err(error) => {
+                if is_waiting(&error) {
+                    Some(false)
+                } else {
+                    None
+                }
+            }
+        }
+    }
+
+    /// Whether a request has been coming for too long.
+    fn is_late(&self, now: u64) -> bool {
+        match self.began {
+            Some(began) => now > began.saturating_add(COMING),
+            None => false,
+        }
+    }
+
+    /// Whether there is nothing more to be done here.
+    fn is_over(&self, now: u64) -> bool {
+        self.connection.is_done()
+            || self.is_late(now)
+            || now > self.moved.saturating_add(QUIET)
+            || (self.served >= MOST && !self.connection.wants_write())
+    }
+
+    /// What became of the client, where bytes were moved or not.
+    pub(crate) fn looked(&mut self, has_moved: bool, now: u64) -> Look {
+        if has_moved {
+            self.moved = now;
+        }
+        if self.is_over(now) {
+            return Look::Left;
+        }
+        if has_moved { Look::Busy } else { Look::Quiet }
+    }
+
+    /// Has the service answer what came, one request at most, and writes once: whether bytes were moved, and none where
+    /// the client is let go.
+    pub(crate) fn answer<S: Service>(&mut self, service: &mut S, now: u64) -> Option<bool>
+        ensures { Handles S.answers service.old service.new }
+    {
+        let has_read = self.read()?;
+        if has_read && self.began.is_none() {
+            self.began = Some(now);
+        }
+        self.connection.advance(service);
+        let has_written = self.write()?;
+        Some(has_read || has_written)
+    }
+
+    /// A request was answered.
+    pub(crate) fn note_answer(&mut self) {
+        self.served = self.served.saturating_add(1);
+        self.began = None;
+    }
+
+    /// Whether it has an answer, and all of it was sent.
+    pub(crate) fn is_served(&self) -> bool {
+        self.served > 0 && !self.connection.wants_write()
+    }
+}

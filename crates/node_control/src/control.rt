@@ -1,0 +1,511 @@
+//! The control socket: a Unix socket, where figures alone are told a TCP port too, and the clients of both.
+
+ghost use Rattle.std.specs.Prelude.{◌≡◌};
+ghost use Rattle.node_control.specs.inner.Runs.{AreAsked};
+
+use crate::client::{Client, Look};
+use crate::noting::say;
+use crate::service::HttpService;
+use crate::stream::{Listener, Stream};
+use mio::unix::SourceFd;
+use mio::{Events, Interest, Poll, Token};
+use node_requests::Health;
+use px_records::Records;
+use std::alloc::{AllocError, Global};
+use std::fs::{self, DirBuilder, Files, Permissions};
+use std::hash::RandomState;
+use std::io::{self, Eprint, ErrorKind};
+use std::net::{Net, SocketAddr, TcpListener, TcpStream};
+use std::os::fd::RawFd;
+use std::os::unix::fs::{DirBuilderExt, FileTypeExt, PermissionsExt};
+use std::os::unix::net::{UnixListener, UnixStream};
+use std::time::{Clock, Duration};
+use thiserror::Error;
+
+/// How many operators are served at a time, and how many who are told figures. One more is let in, for `health` and
+/// `stop` alone: what a connection is for stands in its first request.
+const CLIENTS: usize = 8;
+
+const FIGURE_CLIENTS: usize = 4;
+
+/// For how long a client is left alone, though others wait, whose request isn't whole meanwhile, or that moved no
+/// byte, in microseconds.
+const SILENT: u64 = 1_000_000;
+
+/// For how many seconds after its start a node's health isn't said: it is alone until it hears others.
+const START: u64 = 3;
+
+/// How many events are looked at after a wait; more stay for the next.
+const EVENTS: usize = 16;
+
+/// The mode of the folder in which the socket is made, and that of the socket.
+const ROOM_MODE: u32 = 0o700;
+
+const SOCKET_MODE: u32 = 0o660;
+
+/// Why there is no control socket.
+#[derive(Clone, Copy, Debug, PartialEq, Eq, Error)]
+pub enum ControlFault {
+    /// A growth was refused.
+    #[error("out of memory")]
+    Memory,
+    /// 84: the control socket is another node's, is no socket, or the system refuses it.
+    #[error("no control socket")]
+    NoSocket,
+    /// 82: the system refuses the port of figures.
+    #[error("no port")]
+    NoPort,
+}
+
+/// Where connections come in, and the clients whose connections did.
+#[derive(Drop)]
+struct Entrance {
+    listener: Listener,
+    clients: Vec<Client>,
+    /// How many clients there are at most, beside the one for `health` and `stop`.
+    most: usize,
+    /// Which client is looked at next.
+    next: usize,
+    /// Whether figures alone are told.
+    is_scraped: bool,
+    alloc: Global,
+    keys: RandomState,
+}
+
+/// The control socket of a node.
+#[derive(Drop)]
+pub struct ControlSocket {
+    operators: Entrance,
+    figures: Option<Entrance>,
+    poll: Poll,
+    events: Events,
+    /// Whether those who are told figures come first now.
+    is_figures_first: bool,
+    /// The node's health as it was said last.
+    health: Health,
+}
+
+/// Takes away a socket that a node left which is gone: whether the path is free now.
+fn free<RT: Files + Net>(rt: &RT, path: &str) -> bool {
+    if UnixStream::connect(rt, path).is_ok() {
+        return false;
+    }
+    match fs::symlink_metadata(rt, path) {
+        Ok(found) => found.file_type().is_socket() && fs::remove_file(rt, path).is_ok(),
+        Err(_) => true,
+    }
+}
+
+/// A socket at `inner`, in the folder `room`, to which its owner and its group may connect, is put at the path, where
+/// nothing may be.
+fn bind_at<RT: Files + Net>(
+    rt: &RT,
+    room: &str,
+    inner: &str,
+    path: &str,
+) -> io::Result<UnixListener> {
+    fs::set_permissions(rt, room, Permissions::from_mode(ROOM_MODE))?;
+    let listener = UnixListener::bind(rt, inner)?;
+    listener.set_nonblocking(true)?;
+    fs::set_permissions(rt, inner, Permissions::from_mode(SOCKET_MODE))?;
+    fs::hard_link(rt, inner, path)?;
+    Ok(listener)
+}
+
+/// Whether a folder is there, and no link to one.
+fn is_folder<RT: Files>(rt: &RT, path: &str) -> bool {
+    match fs::symlink_metadata(rt, path) {
+        Ok(found) => found.is_dir(),
+        Err(_) => false,
+    }
+}
+
+/// Takes the folder away in which a socket was made, and the socket's name there.
+fn leave_room<RT: Files>(rt: &RT, room: &str, inner: &str) {
+    let _gone = fs::remove_file(rt, inner);
+    let _gone = fs::remove_dir(rt, room);
+}
+
+/// The listening socket at the path, which doesn't wait. Whatever the umask is, its owner and its group may connect,
+/// and nobody before that is so: it is made in a folder of its own, `PATH.d`, where only its owner comes.
+fn listen<RT: Files + Net>(rt: &RT, alloc: Global, path: &str) -> io::Result<Listener> {
+    let room = format!(in alloc; "{path}.d")?;
+    let inner = format!(in alloc; "{path}.d/s")?;
+    let (room, inner) = (room.as_str(), inner.as_str());
+    // a node that was killed meanwhile left one
+    if is_folder(rt, room) {
+        leave_room(rt, room, inner);
+    }
+    DirBuilder::new().mode(ROOM_MODE).create(rt, room)?;
+    let listener = bind_at(rt, room, inner, path);
+    leave_room(rt, room, inner);
+    Ok(Listener::Local(listener?))
+}
+
+/// The listening socket at the address, which doesn't wait.
+fn listen_at<RT>(rt: &RT, address: SocketAddr) -> io::Result<Listener>
+where
+    RT: Net<Listener = TcpListener, Stream = TcpStream>,
+{
+    let listener = TcpListener::bind(rt, address)?;
+    listener.set_nonblocking(true)?;
+    Ok(Listener::Tcp(listener))
+}
+
+/// Has a wait end when something comes at the descriptor.
+fn watch(poll: &Poll, fd: RawFd) -> io::Result<()> {
+    poll.registry().register(
+        &mut SourceFd(&fd),
+        Token(0),
+        Interest::READABLE | Interest::WRITABLE,
+    )
+}
+
+impl Entrance {
+    /// An entrance for the given number of clients.
+    fn new(
+        alloc: Global,
+        keys: RandomState,
+        listener: Listener,
+        most: usize,
+        is_scraped: bool,
+    ) -> Result<Entrance, AllocError> {
+        let clients = Vec::with_capacity(alloc, most.saturating_add(1))?;
+        Ok(Entrance {
+            listener,
+            clients,
+            most,
+            next: 0,
+            is_scraped,
+            alloc,
+            keys,
+        })
+    }
+
+    /// Whether anything is to be sent to a client.
+    fn has_more(&self) -> bool {
+        self.clients.iter().any(|client| client.has_more())
+    }
+
+    /// The client whose request has been coming for the longest time, or that has moved no byte for so long.
+    fn most_silent(&self) -> usize {
+        let mut place = 0;
+        let mut since = u64::MAX;
+        for i in 0..self.clients.len() {
+            if let Some(client) = self.clients.get(i) {
+                if client.idle_since() < since {
+                    since = client.idle_since();
+                    place = i;
+                }
+            }
+        }
+        place
+    }
+
+    /// Closes the connection that is silent longest.
+    fn dismiss_silent(&mut self) {
+        let place = self.most_silent();
+        if place < self.clients.len() {
+            let _silent = self.clients.remove(place);
+        }
+    }
+
+    /// Whether there is room for a client, or one is silent and is to go for whoever comes.
+    fn has_room(&self, now: u64) -> bool {
+        self.clients.len() <= self.most
+            || match self.clients.get(self.most_silent()) {
+                Some(client) => now > client.idle_since().saturating_add(SILENT),
+                None => false,
+            }
+    }
+
+    /// Accepts a waiting connection, if there is room, or in place of the one that is silent longest. Whether one came.
+    fn take_in(&mut self, poll: &Poll, now: u64) -> bool {
+        if !self.has_room(now) {
+            return false;
+        }
+        match self.listener.next() {
+            Ok(Some(stream)) => {
+                self.client(poll, stream, now);
+                true
+            }
+            Ok(None) => true,
+            Err(_) => false,
+        }
+    }
+
+    /// Accepts a connection; where there is no memory for it, it is closed.
+    fn client(&mut self, poll: &Poll, stream: Stream, now: u64) {
+        let Ok(keys) = self.keys.clone() else {
+            return;
+        };
+        if self.clients.len() > self.most {
+            self.dismiss_silent();
+        }
+        let client = Client::new(self.alloc, keys, stream, now);
+        if watch(poll, client.raw_fd()).is_ok() {
+            let _seated = self.clients.push(client);
+        }
+    }
+
+    /// Lets a client go, and counts what was refused there before it was a request.
+    fn leave<R: Records>(&mut self, place: usize, service: &mut HttpService<R>)
+        ensures { service.new.handler ≡ service.old.handler }
+    {
+        if place >= self.clients.len() {
+            return;
+        }
+        let client = self.clients.remove(place);
+        if let Some(status) = client.refusal() {
+            service.count(status);
+        }
+    }
+
+    /// Does what can be done at once for a client: one read, one answer, one write. The client beyond the others is let
+    /// go behind its first answer, so that it is there for whoever asks next.
+    fn look_at<R: Records>(&mut self, place: usize, service: &mut HttpService<R>, now: u64) -> Look
+        ensures { AreAsked service.old.handler service.new.handler }
+    {
+        let Some(client) = self.clients.get_mut(place) else {
+            return Look::Quiet;
+        };
+        service.is_spare = place >= self.most;
+        let answered = service.answered;
+        let Some(has_moved) = client.answer(service, now) else {
+            return Look::Left;
+        };
+        if service.answered != answered {
+            client.note_answer();
+        }
+        if place >= self.most && client.is_served() {
+            return Look::Left;
+        }
+        client.looked(has_moved, now)
+    }
+
+    /// Looks at the next client.
+    fn look<R: Records>(&mut self, service: &mut HttpService<R>, now: u64) -> Look
+        ensures { AreAsked service.old.handler service.new.handler }
+    {
+        if self.next >= self.clients.len() {
+            self.next = 0;
+        }
+        let place = self.next;
+        let look = self.look_at(place, service, now);
+        if look == Look::Left {
+            self.leave(place, service);
+        } else {
+            self.next = place.saturating_add(1);
+        }
+        look
+    }
+
+    /// Serves one client after the other, each once, beginning behind the last; of what is asked one request is worked
+    /// at. Whether anything was done.
+    fn serve<R: Records>(&mut self, poll: &Poll, service: &mut HttpService<R>, now: u64) -> bool
+        ensures { AreAsked service.old.handler service.new.handler }
+    {
+        service.is_scraped = self.is_scraped;
+        let mut is_busy = self.take_in(poll, now);
+        for _client in 0..self.clients.len() {
+            match self.look(service, now) {
+                Look::Quiet => {}
+                Look::Busy => return true,
+                Look::Left => is_busy = true,
+            }
+        }
+        is_busy
+    }
+}
+
+impl ControlSocket {
+    /// Opens the control socket at a path, where a socket that a node left which is gone is taken away first; and a
+    /// port at which figures alone are told, where one is asked for.
+    ///
+    /// `NoPort` (82) where the system refuses the port. `NoSocket` (84) where another node answers at the path, where
+    /// something else stands there, or where the system refuses the socket: then nothing stands there that didn't
+    /// before.
+    pub fn open<RT>(
+        rt: &RT,
+        alloc: Global,
+        keys: RandomState,
+        path: &str,
+        figures: Option<SocketAddr>,
+    ) -> Result<ControlSocket, ControlFault>
+    where
+        RT: Files + Net<Listener = TcpListener, Stream = TcpStream>,
+    {
+        let Ok(poll) = Poll::new(rt) else {
+            return Err(ControlFault::NoSocket);
+        };
+        let Ok(events) = Events::with_capacity(alloc, EVENTS) else {
+            return Err(ControlFault::Memory);
+        };
+        let figures = match open_figures(rt, alloc, &keys, &poll, figures) {
+            Ok(figures) => figures,
+            Err(fault) => return Err(fault),
+        };
+        let operators = match open_path(rt, alloc, keys, &poll, path) {
+            Ok(operators) => operators,
+            Err(fault) => return Err(fault),
+        };
+        Ok(ControlSocket {
+            operators,
+            figures,
+            poll,
+            events,
+            is_figures_first: false,
+            health: Health::Works,
+        })
+    }
+
+    /// Has a wait end when a datagram comes at this socket, too. Whether the system does that.
+    pub fn watch(&mut self, fd: RawFd) -> bool {
+        watch(&self.poll, fd).is_ok()
+    }
+
+    /// How many operators are served now.
+    pub fn clients(&self) -> usize {
+        self.operators.clients.len()
+    }
+
+    /// Whether anything is to be sent to an operator.
+    pub fn has_more(&self) -> bool {
+        self.operators.has_more()
+    }
+
+    /// Waits until something comes, so many milliseconds at most.
+    pub fn wait(&mut self, milliseconds: u32) {
+        if milliseconds == 0 {
+            return;
+        }
+        let timeout = Duration::from_millis(u64::from(milliseconds));
+        let _woken = self.poll.poll(&mut self.events, Some(timeout));
+    }
+
+    /// Says on standard error that the node's health has changed, if it has.
+    pub(crate) fn note<R: Records, RT: Clock + Eprint>(
+        &mut self,
+        rt: &RT,
+        service: &HttpService<R>,
+    ) {
+        let health = service.handler.health(&service.counters);
+        if health != self.health && service.counters.up >= START {
+            say(rt, service, self.health, health);
+            self.health = health;
+        }
+    }
+
+    /// Closes the control socket, and takes the socket away that stands at the path.
+    pub fn close<RT: Files>(self, rt: &RT, path: &str) {
+        let _gone = fs::remove_file(rt, path);
+    }
+
+    /// Serves those who are told figures, if there is a port for them.
+    fn serve_figures<R: Records>(&mut self, service: &mut HttpService<R>, now: u64) -> bool
+        ensures { AreAsked service.old.handler service.new.handler }
+    {
+        match &mut self.figures {
+            Some(figures) => figures.serve(&self.poll, service, now),
+            None => false,
+        }
+    }
+
+    /// Serves those who are told figures, and operators where nothing was done there.
+    fn figures_first<R: Records>(&mut self, service: &mut HttpService<R>, now: u64) -> bool
+        ensures { AreAsked service.old.handler service.new.handler }
+    {
+        if self.serve_figures(service, now) {
+            return true;
+        }
+        self.operators.serve(&self.poll, service, now)
+    }
+
+    /// Serves operators, and those who are told figures where nothing was done there.
+    fn operators_first<R: Records>(&mut self, service: &mut HttpService<R>, now: u64) -> bool
+        ensures { AreAsked service.old.handler service.new.handler }
+    {
+        if self.operators.serve(&self.poll, service, now) {
+            return true;
+        }
+        self.serve_figures(service, now)
+    }
+
+    /// Serves whoever asks, operators and those who are told figures first in turn; one request is worked at. Whether
+    /// anything was done.
+    pub(crate) fn serve<R: Records>(&mut self, service: &mut HttpService<R>, now: u64) -> bool
+        ensures { AreAsked service.old.handler service.new.handler }
+    {
+        self.is_figures_first = !self.is_figures_first;
+        if self.is_figures_first {
+            return self.figures_first(service, now);
+        }
+        self.operators_first(service, now)
+    }
+}
+
+/// What a refusal of the system comes to.
+fn fault_of(error: &io::Error) -> ControlFault {
+    if error.kind() == ErrorKind::OutOfMemory {
+        ControlFault::Memory
+    } else {
+        ControlFault::NoSocket
+    }
+}
+
+/// The entrance at a path.
+fn open_path<RT: Files + Net>(
+    rt: &RT,
+    alloc: Global,
+    keys: RandomState,
+    poll: &Poll,
+    path: &str,
+) -> Result<Entrance, ControlFault> {
+    if !free(rt, path) {
+        return Err(ControlFault::NoSocket);
+    }
+    let listener = match listen(rt, alloc, path) {
+        Ok(listener) => listener,
+        Err(error) => return Err(fault_of(&error)),
+    };
+    if watch(poll, listener.raw_fd()).is_err() {
+        let _gone = fs::remove_file(rt, path);
+        return Err(ControlFault::NoSocket);
+    }
+    match Entrance::new(alloc, keys, listener, CLIENTS, false) {
+        Ok(entrance) => Ok(entrance),
+        Err(AllocError) => {
+            let _gone = fs::remove_file(rt, path);
+            Err(ControlFault::Memory)
+        }
+    }
+}
+
+/// The entrance at the port of figures, if there is to be one.
+fn open_figures<RT>(
+    rt: &RT,
+    alloc: Global,
+    keys: &RandomState,
+    poll: &Poll,
+    address: Option<SocketAddr>,
+) -> Result<Option<Entrance>, ControlFault>
+where
+    RT: Net<Listener = TcpListener, Stream = TcpStream>,
+{
+    let Some(address) = address else {
+        return Ok(None);
+    };
+    let Ok(keys) = keys.clone() else {
+        return Err(ControlFault::Memory);
+    };
+    let Ok(listener) = listen_at(rt, address) else {
+        return Err(ControlFault::NoPort);
+    };
+    if watch(poll, listener.raw_fd()).is_err() {
+        return Err(ControlFault::NoPort);
+    }
+    match Entrance::new(alloc, keys, listener, FIGURE_CLIENTS, true) {
+        Ok(entrance) => Ok(Some(entrance)),
+        Err(AllocError) => Err(ControlFault::Memory),
+    }
+}

@@ -1,0 +1,410 @@
+//! Requests as the request handler has them, and its answers as HTTP has them.
+
+ghost use Rattle.std.specs.Prelude.{◌≡◌, [], true, false, IfOk, OnErr, OnOk, string_bytes, unwrap_or};
+ghost use Rattle.http.specs.Uri.{uri_query};
+ghost use Rattle.http_server.specs.Response.{IsBlank};
+ghost use Rattle.node_requests.specs.Answers.{answer_value};
+ghost use Rattle.node_requests.specs.Routing.{routed_value};
+ghost use Rattle.node_control.specs.inner.Asking.{accepts_json, asked_for, is_of_figures};
+ghost use Rattle.node_control.specs.inner.Handling.{Says, IsAnswered, IsTurnedAway, IsPassedOn, HandledAs, IsHandled};
+ghost use Rattle.node_control.specs.inner.Handling.{is_served, is_urgent, is_change, is_read};
+ghost use Rattle.node_control.specs.inner.Handling.{waiting, no_text, not_found};
+
+use bytes::{BufMut, Bytes};
+use http::{HeaderName, HeaderValue, StatusCode, Uri};
+use http_server::{Response, Service};
+use node_requests::{Answer, Counters, Read, Request, RequestHandler, Routed, request_in};
+use pf_node::Node;
+use px_records::Records;
+use std::alloc::{AllocError, Global};
+
+/// A request handler as a service: what comes as HTTP is asked of the request handler.
+#[derive(Drop)]
+pub(crate) struct HttpService<R: Records> {
+    pub(crate) handler: RequestHandler<R>,
+    /// What was counted.
+    pub(crate) counters: Counters,
+    /// Whether the node takes no change in now, since it lacks entries that others have.
+    pub(crate) is_listening: bool,
+    /// Whether what comes now came where figures alone are told, and nothing is changed.
+    pub(crate) is_scraped: bool,
+    /// Whether what comes now came over the connection that is kept for `health` and `stop`.
+    pub(crate) is_spare: bool,
+    /// How many requests were answered, those for figures too.
+    pub(crate) answered: u64,
+    pub(crate) alloc: Global,
+}
+
+/// The kind of a plain text.
+const TEXT: &str = "text/plain; charset=utf-8";
+
+/// The kind of text that a request is answered with.
+fn content_type(request: &Request) -> &'static str {
+    match request {
+        Request::Read { at: _, read } => match read {
+            Read::Metrics => "text/plain; version=0.0.4",
+            Read::Status { json: true } => "application/json",
+            _ => TEXT,
+        },
+        _ => TEXT,
+    }
+}
+
+/// Whether the field `Accept` names JSON, and nothing else.
+fn accepts_json(request: &http::Request<Bytes>) -> bool
+    ensures { result ≡ accepts_json request.now }
+{
+    match request.headers().get("accept") {
+        Some(value) => value.as_bytes() == b"application/json".as_slice(),
+        None => false,
+    }
+}
+
+/// Whether the path is one of figures.
+fn is_of_figures(path: &str) -> bool
+    ensures { result ≡ is_of_figures path.now }
+{
+    matches!(path, "/metrics" | "/healthz" | "/readyz")
+}
+
+/// Whether the request is answered when there are as many clients as may be.
+fn is_urgent(request: &Request) -> bool
+    ensures { result ≡ is_urgent request.now }
+{
+    match request {
+        Request::Stop => true,
+        Request::Read { at: _, read } => matches!(read, Read::Health | Read::Ready),
+        Request::Change { .. } => false,
+    }
+}
+
+/// Whether a change is asked for.
+fn is_change(request: &Request) -> bool
+    ensures { result ≡ is_change request.now }
+{
+    match request {
+        Request::Change { .. } => true,
+        Request::Read { .. } | Request::Stop => false,
+    }
+}
+
+/// Adds a field.
+fn add_text(
+    alloc: Global,
+    response: &mut Response,
+    name: &[u8],
+    text: &str,
+) -> Result<(), AllocError>
+    ensures status { OnOk result (response.new.status ≡ response.old.status) }
+    ensures body { OnOk result (response.new.body.items ≡ response.old.body.items) }
+{
+    let Ok(name) = HeaderName::from_bytes(alloc, name) else {
+        return Err(AllocError);
+    };
+    let Ok(value) = HeaderValue::from_str(alloc, text) else {
+        return Err(AllocError);
+    };
+    response.add_header(name, value)
+}
+
+/// Adds a field with a number.
+fn add_number(
+    alloc: Global,
+    response: &mut Response,
+    name: &[u8],
+    number: u64,
+) -> Result<(), AllocError>
+    ensures status { OnOk result (response.new.status ≡ response.old.status) }
+    ensures body { OnOk result (response.new.body.items ≡ response.old.body.items) }
+{
+    let text = number.to_string(alloc)?;
+    add_text(alloc, response, name, text.as_str())
+}
+
+/// What is behind the `?` of a target, empty where there is none.
+fn query_of(uri: &Uri) -> &str
+    ensures { result.now ≡ unwrap_or (uri_query uri.now) [] }
+{
+    match uri.query() {
+        Some(query) => query,
+        None => "",
+    }
+}
+
+/// What a request asks for.
+fn asked_for(alloc: Global, request: &http::Request<Bytes>) -> Result<Routed<'_>, AllocError>
+    ensures { IfOk result (λ v. routed_value v ≡ asked_for request.now) }
+{
+    let uri = request.uri();
+    let method = request.method().as_str();
+    let body: &[u8] = request.body();
+    let json = accepts_json(request);
+    request_in(alloc, method, uri.path(), query_of(uri), body, json)
+}
+
+impl<R: Records> HttpService<R> {
+    /// The handler of a node's requests.
+    pub(crate) fn new(alloc: Global, node: Node<R>, counters: Counters) -> HttpService<R>
+        ensures { result.handler.node ≡ node }
+    {
+        HttpService {
+            handler: RequestHandler::new(alloc, node),
+            counters,
+            is_listening: true,
+            is_scraped: false,
+            is_spare: false,
+            answered: 0,
+            alloc,
+        }
+    }
+
+    /// The node, with which the handler ends.
+    pub(crate) fn close(self) -> Node<R>
+        ensures { result ≡ self.handler.node }
+    {
+        let HttpService {
+            handler,
+            counters: _,
+            is_listening: _,
+            is_scraped: _,
+            is_spare: _,
+            answered: _,
+            alloc: _,
+        } = self;
+        handler.close()
+    }
+
+    /// Says which node answers, and after how many positions.
+    fn add_standing(&self, response: &mut Response) -> Result<(), AllocError>
+        ensures status { OnOk result (response.new.status ≡ response.old.status) }
+        ensures body { OnOk result (response.new.body.items ≡ response.old.body.items) }
+    {
+        let node = &self.handler.node;
+        let me = node.membership().me();
+        let applied = u64::from(node.applied());
+        add_number(self.alloc, response, b"pfx-node", u64::from(me))?;
+        add_number(self.alloc, response, b"pfx-applied", applied)?;
+        add_number(self.alloc, response, b"pfx-front", u64::from(node.front()))
+    }
+
+    /// Adds the fields of an answer.
+    fn add_fields(&self, code: u16, kind: &str, response: &mut Response) -> Result<(), AllocError>
+        ensures status { OnOk result (response.new.status ≡ response.old.status) }
+        ensures body { OnOk result (response.new.body.items ≡ response.old.body.items) }
+    {
+        self.add_standing(response)?;
+        add_text(self.alloc, response, b"content-type", kind)?;
+        if code == 503 {
+            add_text(self.alloc, response, b"retry-after", "1")?;
+        }
+        Ok(())
+    }
+
+    /// Fills a response with an answer.
+    fn fill(&self, answer: &Answer, kind: &str, response: &mut Response) -> Result<(), AllocError>
+        requires { IsBlank response.old }
+        ensures status { OnOk result (response.new.status ≡ answer.now.code) }
+        ensures body { OnOk result (response.new.body.items ≡ string_bytes answer.now.body) }
+    {
+        let Ok(status) = StatusCode::from_u16(answer.code) else {
+            return Err(AllocError);
+        };
+        response.status = status;
+        self.add_fields(answer.code, kind, response)?;
+        response.body.put_slice(answer.body.as_bytes())
+    }
+
+    /// Writes an answer; where memory is wanting for that it is 503 alone, since what was asked may be done.
+    fn write(&self, answer: &Answer, kind: &str, response: &mut Response)
+        requires { IsBlank response.old }
+        ensures { Says response.new (answer_value answer.now) }
+    {
+        if self.fill(answer, kind, response).is_err() {
+            response.clear();
+            response.status = StatusCode::SERVICE_UNAVAILABLE;
+        }
+    }
+
+    /// Counts an answer.
+    pub(crate) fn count(&mut self, status: u16)
+        ensures handler { self.new.handler ≡ self.old.handler }
+        ensures scraped { self.new.is_scraped ≡ self.old.is_scraped }
+    {
+        self.answered = self.answered.wrapping_add(1);
+        if self.is_scraped {
+            return;
+        }
+        if status < 400 {
+            self.counters.served = self.counters.served.saturating_add(1);
+        } else if status < 500 {
+            self.counters.refused = self.counters.refused.saturating_add(1);
+        } else {
+            self.counters.unavailable = self.counters.unavailable.saturating_add(1);
+        }
+    }
+
+    /// Asks the request handler.
+    fn ask(&mut self, request: &Request, response: &mut Response) -> Result<(), AllocError>
+        requires { IsBlank response.old }
+        ensures answered { OnOk result
+            (IsAnswered self.old.handler self.new.handler self.old.counters request.now response.new) }
+        ensures memory { OnErr result (self.new ≡ self.old) }
+        ensures scraped { self.new.is_scraped ≡ self.old.is_scraped }
+    {
+        let answer = self.handler.answer(request, &self.counters)?;
+        self.write(&answer, content_type(request), response);
+        self.count(response.status.as_u16());
+        Ok(())
+    }
+
+    /// Asks nothing: this is answered.
+    fn turn_away(&mut self, answer: &Answer, response: &mut Response)
+        requires { IsBlank response.old }
+        ensures away { IsTurnedAway self.old.handler self.new.handler (answer_value answer.now) response.new }
+        ensures scraped { self.new.is_scraped ≡ self.old.is_scraped }
+    {
+        self.write(answer, TEXT, response);
+        self.count(response.status.as_u16());
+    }
+
+    /// Asks nothing: this status is all that is answered.
+    fn refuse(&mut self, status: u16, response: &mut Response)
+        requires { IsBlank response.old }
+        ensures away { IsTurnedAway self.old.handler self.new.handler (no_text status) response.new }
+        ensures scraped { self.new.is_scraped ≡ self.old.is_scraped }
+    {
+        let answer = Answer {
+            code: status,
+            body: String::new(self.alloc),
+        };
+        self.turn_away(&answer, response);
+    }
+
+    /// Asks nothing: what is asked isn't served here.
+    fn not_found(&mut self, response: &mut Response)
+        requires { IsBlank response.old }
+        ensures away { IsTurnedAway self.old.handler self.new.handler not_found response.new }
+        ensures scraped { self.new.is_scraped ≡ self.old.is_scraped }
+    {
+        self.refuse(404, response);
+    }
+
+    /// Asks nothing now: the client is to ask again.
+    fn put_off(&mut self, response: &mut Response) -> Result<(), AllocError>
+        requires { IsBlank response.old }
+        ensures away { OnOk result (IsTurnedAway self.old.handler self.new.handler waiting response.new) }
+        ensures still { self.new.handler ≡ self.old.handler }
+        ensures memory { OnErr result (self.new ≡ self.old) }
+        ensures scraped { self.new.is_scraped ≡ self.old.is_scraped }
+    {
+        let answer = Answer {
+            code: 503,
+            body: String::from_str(self.alloc, "waiting\n")?,
+        };
+        self.turn_away(&answer, response);
+        Ok(())
+    }
+
+    /// Reads, where figures alone are served.
+    fn look(&mut self, request: &Request, response: &mut Response) -> Result<(), AllocError>
+        requires { IsBlank response.old }
+        ensures read { is_read request.now ≡ true → OnOk result
+            (IsAnswered self.old.handler self.new.handler self.old.counters request.now response.new) }
+        ensures other { is_read request.now ≡ false → OnOk result
+            (IsTurnedAway self.old.handler self.new.handler not_found response.new) }
+        ensures still { self.new.handler ≡ self.old.handler }
+        ensures memory { OnErr result (self.new ≡ self.old) }
+        ensures scraped { self.new.is_scraped ≡ self.old.is_scraped }
+    {
+        match request {
+            Request::Read { at: _, read: _ } => self.ask(request, response),
+            Request::Change { .. } | Request::Stop => {
+                self.not_found(response);
+                Ok(())
+            }
+        }
+    }
+
+    /// Handles a request that was understood: a change isn't asked while the node is catching up, and at the last
+    /// connection nothing is but `health` and `stop`.
+    fn pass_on(&mut self, request: &Request, response: &mut Response) -> Result<(), AllocError>
+        requires { IsBlank response.old }
+        ensures passed { OnOk result (IsPassedOn self.old self.new request.now response.new) }
+        ensures still { self.old.is_scraped ≡ true → self.new.handler ≡ self.old.handler }
+        ensures memory { OnErr result (self.new ≡ self.old) }
+        ensures scraped { self.new.is_scraped ≡ self.old.is_scraped }
+    {
+        if self.is_spare && !is_urgent(request) {
+            return self.put_off(response);
+        }
+        if self.is_scraped {
+            return self.look(request, response);
+        }
+        if self.is_listening && is_change(request) {
+            return self.put_off(response);
+        }
+        self.ask(request, response)
+    }
+
+    /// Handles what a request asks for.
+    fn handle_as(&mut self, routed: &Routed, response: &mut Response) -> Result<(), AllocError>
+        requires { IsBlank response.old }
+        ensures handled { OnOk result (HandledAs self.old self.new (routed_value routed.now) response.new) }
+        ensures still { self.old.is_scraped ≡ true → self.new.handler ≡ self.old.handler }
+        ensures memory { OnErr result (self.new ≡ self.old) }
+        ensures scraped { self.new.is_scraped ≡ self.old.is_scraped }
+    {
+        match routed {
+            Routed::Asked(request) => self.pass_on(request, response),
+            Routed::Refused(status) => {
+                self.refuse(*status, response);
+                Ok(())
+            }
+            Routed::Unread(code) => {
+                let answer = Answer::refused(self.alloc, *code, 0)?;
+                self.turn_away(&answer, response);
+                Ok(())
+            }
+        }
+    }
+
+    /// Whether what the request is for is served here.
+    fn is_served(&self, request: &http::Request<Bytes>) -> bool
+        ensures { result ≡ is_served self.now request.now }
+    {
+        !self.is_scraped || is_of_figures(request.uri().path())
+    }
+
+    /// Handles a request.
+    fn handle(
+        &mut self,
+        request: &http::Request<Bytes>,
+        response: &mut Response,
+    ) -> Result<(), AllocError>
+        requires { IsBlank response.old }
+        ensures handled { OnOk result (IsHandled self.old self.new request.now response.new) }
+        ensures still { self.old.is_scraped ≡ true → self.new.handler ≡ self.old.handler }
+        ensures memory { OnErr result (self.new ≡ self.old) }
+        ensures scraped { self.new.is_scraped ≡ self.old.is_scraped }
+    {
+        if !self.is_served(request) {
+            self.not_found(response);
+            return Ok(());
+        }
+        let routed = asked_for(self.alloc, request)?;
+        self.handle_as(&routed, response)
+    }
+}
+
+impl<R: Records> Service for HttpService<R> {
+    ghost answers = { λ old request response new. IsHandled old new request response
+        × (old.is_scraped ≡ true → new.handler ≡ old.handler) × (new.is_scraped ≡ old.is_scraped) };
+
+    fn call(
+        &mut self,
+        request: &http::Request<Bytes>,
+        response: &mut Response,
+    ) -> Result<(), AllocError> {
+        self.handle(request, response)
+    }
+}

@@ -1,0 +1,17 @@
+-- one look, and the votes that were sent
+use Rattle.std.proofs.Common.{true, false, sym, subst}
+use Rattle.px_transport.specs.Wires.{Adds}
+use Rattle.px_transport.proofs.Traffic.{adds_none}
+use Rattle.node_loop.specs.Timing.{sends_if}
+use Rattle.node_loop.proofs.Chains.{looked_so}
+use Rattle.node_loop.proofs.running.action.Goals as goal
+use Rattle.node_loop.proofs.running.action.Goals.{then-peer_progress, else-peer_progress}
+
+pub returns-clause-told : goal.returns-clause-told
+returns-clause-told g c =
+    elim c.if-peer_progress.branch [
+      | then-peer_progress w ↦ looked_so (g.T.Timer.told c.args.timer.now) (g.T.Timer.told c.action-action.new.self) (g.T.Timer.told c.if-peer_progress.timer) c.args.now c.args.view c.args.peer_progress.now true w.if-peer_progress.true c.action-action.ensures.told
+          (subst (λ (z : _). Adds (g.T.Timer.told c.action-action.new.self) (g.T.Timer.told z) (sends_if true c.args.now)) (sym w.timer-is) w.sent.ensures.told)
+      | else-peer_progress w ↦ looked_so (g.T.Timer.told c.args.timer.now) (g.T.Timer.told c.action-action.new.self) (g.T.Timer.told c.if-peer_progress.timer) c.args.now c.args.view c.args.peer_progress.now false w.if-peer_progress.false c.action-action.ensures.told
+          (subst (λ (z : _). Adds (g.T.Timer.told c.action-action.new.self) (g.T.Timer.told z) (sends_if false c.args.now)) (sym w.timer-is) (adds_none (g.T.Timer.told c.action-action.new.self) (g.T.Timer.told c.action-action.new.self) (λ es h. h)))
+    ]

@@ -1,0 +1,135 @@
+//! What messages tell of how far other members have come.
+
+ghost use Rattle.std.specs.Prelude.{◌≡◌, ◌==◌, not};
+ghost use Rattle.node_loop.specs.Progress.{shown_by, noted, looked, reaching, lacking, told, accepting};
+
+use px_wire::{Head, Kind};
+
+/// What was seen of other members since the start, by the messages that came to this one. It decides when the clock
+/// ticks and what is sent again, and nothing else.
+#[derive(Clone, Copy, PartialEq, Eq)]
+pub(crate) struct PeerProgress {
+    /// A position below which some member has learned all, as far as is seen.
+    pub(crate) reached: u32,
+    /// Whether an entry that was asked for has come since the last look.
+    pub(crate) is_told: bool,
+    /// Whether another's accept request has come since the last look.
+    pub(crate) is_accepting: bool,
+    /// For each member that has told since the last look how far it is: one more than the position from which on it is
+    /// to be told what it lacks; 0 for the others.
+    lacking: [u32; 15],
+}
+
+impl PeerProgress {
+    /// Nothing was seen.
+    pub(crate) fn new() -> PeerProgress {
+        PeerProgress {
+            reached: 0,
+            is_told: false,
+            is_accepting: false,
+            lacking: [0; 15],
+        }
+    }
+
+    /// What has come is looked at.
+    pub(crate) fn looked(self) -> PeerProgress
+        ensures { result ≡ looked self }
+    {
+        PeerProgress {
+            reached: self.reached,
+            is_told: false,
+            is_accepting: false,
+            lacking: [0; 15],
+        }
+    }
+
+    /// The position from which on this member is to be told what it lacks, if it lacks any of those below the front.
+    pub(crate) fn lacks(&self, member: u8, front: u32) -> Option<u32> {
+        match self.lacking.get(usize::from(member)) {
+            Some(&next) => {
+                if next > 0 && next <= front {
+                    Some(next - 1)
+                } else {
+                    None
+                }
+            }
+            None => None,
+        }
+    }
+
+    /// This member lacks the positions from one less than this on.
+    fn lacking(self, member: u8, next: u32) -> PeerProgress
+        ensures { result ≡ lacking member next self }
+    {
+        let place = usize::from(member);
+        if place >= 15 {
+            return self;
+        }
+        let mut lacking = self.lacking;
+        lacking[place] = next;
+        PeerProgress { lacking, ..self }
+    }
+
+    /// A member has learned all below this position.
+    fn reaching(self, position: u32) -> PeerProgress
+        ensures { result ≡ reaching position self }
+    {
+        PeerProgress {
+            reached: self.reached.max(position),
+            ..self
+        }
+    }
+
+    /// An entry came that this member had asked for.
+    fn told(self) -> PeerProgress
+        ensures { result ≡ told self }
+    {
+        PeerProgress {
+            is_told: true,
+            ..self
+        }
+    }
+
+    /// An accept request came, which counts where another member sent it.
+    fn accepting(self, is_others: bool) -> PeerProgress
+        ensures { result ≡ accepting is_others self }
+    {
+        PeerProgress {
+            is_accepting: self.is_accepting || is_others,
+            ..self
+        }
+    }
+
+    /// With what a message about this position shows beside how far its sender is. A need is answered with its own
+    /// entry.
+    fn noting(self, head: &Head, position: u32) -> PeerProgress
+        ensures { result ≡ noted head.now position self }
+    {
+        match head.kind {
+            Kind::Prepare | Kind::PrepareAll => {
+                self.lacking(head.from, position.saturating_add(1))
+            }
+            Kind::Need => self.lacking(head.from, position.saturating_add(2)),
+            Kind::Accept => self.accepting(head.from != head.to),
+            Kind::Learned => self.told(),
+            Kind::Vote
+            | Kind::Promise
+            | Kind::PromiseAll
+            | Kind::Nack
+            | Kind::Ask
+            | Kind::Asked
+            | Kind::AskRefused => self,
+        }
+    }
+
+    /// With what a message with this head shows of its sender.
+    pub(crate) fn after(self, head: &Head) -> PeerProgress
+        ensures { result ≡ shown_by head.now self }
+    {
+        let seen = self.reaching(head.learned_below());
+        match head.position {
+            Some(position) => seen.noting(head, position),
+            None => seen,
+        }
+    }
+}
