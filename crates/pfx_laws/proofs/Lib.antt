@@ -33,3 +33,4 @@ pub mod Networking
 pub mod Lifting
 pub mod Looping
 pub mod Socketing
+pub mod Sealing

@@ -30,12 +30,12 @@ use Rattle.pfx_laws.proofs.Lifting.{AreBelow}
 use Rattle.pfx_laws.proofs.Looping.{carried_more, no_message, below_or, networks_go, never_differ}
 
 -- over the socket
-abbrev lower : Passage → Option SocketEvent
+abbrev pub lower : Passage → Option SocketEvent
 lower (Hears from came given) = Some (Came from came)
 lower (Sends to bytes there) = Some (Went there bytes)
 lower (Loses to bytes) = None
 
-lowers_are : (xs : List Passage) → lifting.lowers lower xs ≡ below_in xs
+pub lowers_are : (xs : List Passage) → lifting.lowers lower xs ≡ below_in xs
 lowers_are [] = refl
 lowers_are (Hears from came given ∷ xs) = ap (λ (es : List SocketEvent). Came from came ∷ es) (lowers_are xs)
 lowers_are (Sends to bytes there ∷ xs) = ap (λ (es : List SocketEvent). Went there bytes ∷ es) (lowers_are xs)
@@ -47,7 +47,7 @@ one_above (Hears from came given) = Gave given
 one_above (Sends to bytes there) = Handed to bytes
 one_above (Loses to bytes) = Handed to bytes
 
-abbrev upper : List (ℕ × Passage) → List (ℕ × WireEvent)
+abbrev pub upper : List (ℕ × Passage) → List (ℕ × WireEvent)
 upper [] = []
 upper ((m, x) ∷ xs) = (m, one_above x) ∷ upper xs
 
@@ -56,7 +56,7 @@ above_first (Hears from came given) xs = refl
 above_first (Sends to bytes there) xs = refl
 above_first (Loses to bytes) xs = refl
 
-upper_at : (k : ℕ) (xs : List (ℕ × Passage)) → events_at k (upper xs) ≡ above_in (events_at k xs)
+pub upper_at : (k : ℕ) (xs : List (ℕ × Passage)) → events_at k (upper xs) ≡ above_in (events_at k xs)
 upper_at k [] = refl
 upper_at k ((m, x) ∷ xs) =
     elim (eqb_tells k m) [
@@ -75,25 +75,25 @@ IsFaithful (Hears from came given) = (given ≡ came) ⊎ (given ≡ [])
 IsFaithful (Sends to bytes there) = Unit {0}
 IsFaithful (Loses to bytes) = Unit {0}
 
-abbrev AreFaithful : List Passage → Type 0
+abbrev pub AreFaithful : List Passage → Type 0
 AreFaithful [] = Unit {0}
 AreFaithful (x ∷ xs) = IsFaithful x × AreFaithful xs
 
-faithful : (addresses : List Address) (me : ℕ) (xs : List Passage) → AllByRecursion (IsSound addresses me) xs → AreFaithful xs
+pub faithful : (addresses : List Address) (me : ℕ) (xs : List Passage) → AllByRecursion (IsSound addresses me) xs → AreFaithful xs
 faithful addresses me [] s = tt
 faithful addresses me (Hears from came given ∷ xs) s = (s.0, faithful addresses me xs s.1)
 faithful addresses me (Sends to bytes there ∷ xs) s = (tt, faithful addresses me xs s.1)
 faithful addresses me (Loses to bytes ∷ xs) s = (tt, faithful addresses me xs s.1)
 
 -- each member's
-abbrev AllFaithful : (n : ℕ) → List (ℕ × Passage) → Type 0
+abbrev pub AllFaithful : (n : ℕ) → List (ℕ × Passage) → Type 0
 AllFaithful n xs = (m : ℕ) → m < n → AreFaithful (events_at m xs)
 
-faithful_first : (n m : ℕ) (x : Passage) (xs : List (ℕ × Passage)) → m < n → AllFaithful n ((m, x) ∷ xs) → IsFaithful x × AreFaithful (events_at m xs)
+pub faithful_first : (n m : ℕ) (x : Passage) (xs : List (ℕ × Passage)) → m < n → AllFaithful n ((m, x) ∷ xs) → IsFaithful x × AreFaithful (events_at m xs)
 faithful_first n m x xs below f =
     subst AreFaithful (cond-true (nat_eq m m) (x ∷ events_at m xs) (events_at m xs) (eq-eqb m m refl)) (f m below)
 
-faithful_rest : (n m : ℕ) (x : Passage) (xs : List (ℕ × Passage)) → m < n → AllFaithful n ((m, x) ∷ xs) → AllFaithful n xs
+pub faithful_rest : (n m : ℕ) (x : Passage) (xs : List (ℕ × Passage)) → m < n → AllFaithful n ((m, x) ∷ xs) → AllFaithful n xs
 faithful_rest n m x xs below f k l =
     elim (eqb_tells k m) [
       | inl is ↦ subst (λ (j : ℕ). AreFaithful (events_at j xs)) (sym is.1) (faithful_first n m x xs below f).1

@@ -13,3 +13,4 @@ pub mod Carried
 pub mod Runs
 pub mod Networks
 pub mod Sockets
+pub mod Sealed

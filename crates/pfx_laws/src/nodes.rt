@@ -9,6 +9,8 @@ ghost use Rattle.pfx_laws.specs.Runs.{LivesAreStretches, LivesGo, OpeningsAreStr
 ghost use Rattle.pfx_laws.specs.Networks.{LivesAreRuns, NetworksGo, NetworksNeverDiffer};
 ghost use Rattle.pfx_laws.specs.Sockets.{EquallyAppliedAtSockets, RunsAreAtSockets, SocketsGo, SocketsLearnWhatWasAsked};
 ghost use Rattle.pfx_laws.specs.Sockets.{SocketsNeverDiffer};
+ghost use Rattle.pfx_laws.specs.Sealed.{EquallyAppliedAtSealedSockets, SealedRunsAreAtSockets, SealedSocketsGo};
+ghost use Rattle.pfx_laws.specs.Sealed.{SealedSocketsLearnWhatWasAsked, SealedSocketsNeverDiffer};
 
 use node_udp::Socket;
 use px_records::Records;
@@ -139,3 +141,41 @@ pub fn sockets_learn_what_was_asked()
 pub fn equally_applied_at_sockets<R: Records, Q: Records>()
     ensures { EquallyAppliedAtSockets R.Records Q.Records }
 {}
+
+/// A member's run over a wire that keeps its own datagrams, over a wire of packets, over one with a socket: what went
+/// over the socket are the packets of its run, in order.
+pub fn sealed_runs_are_at_sockets<S: Socket, C: Clock, D: Clock>()
+    ensures { SealedRunsAreAtSockets S.Socket C D }
+{
+    px_transport::laws::calls_are_steps();
+}
+
+/// Members with a key, to whose sockets no packet came that they open but those that some member's socket was handed
+/// before: what befell them went in stretches, and these laws hold of them as they stand in the end.
+pub fn sealed_sockets_go()
+    ensures { SealedSocketsGo }
+{
+    px_transport::laws::sealed_is_carried();
+}
+
+/// So with a key two members never have different entries as learned at a position, nor one entry at two positions.
+pub fn sealed_sockets_never_differ()
+    ensures { SealedSocketsNeverDiffer }
+{
+    px_transport::laws::sealed_is_carried();
+}
+
+/// With a key a member learns nothing but what was asked of a member and taken in, and nothing is taken in twice.
+pub fn sealed_sockets_learn_what_was_asked()
+    ensures { SealedSocketsLearnWhatWasAsked }
+{
+    px_transport::laws::sealed_is_carried();
+}
+
+/// With a key two nodes, over whatever records, that have applied equally many positions have one configuration, and so
+/// give one verdict for every packet.
+pub fn equally_applied_at_sealed_sockets<R: Records, Q: Records>()
+    ensures { EquallyAppliedAtSealedSockets R.Records Q.Records }
+{
+    px_transport::laws::sealed_is_carried();
+}
