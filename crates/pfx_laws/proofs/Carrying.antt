@@ -11,7 +11,7 @@ use Rattle.px_model.specs.Node.Input.{Asks, Ticks, Comes}
 use Rattle.px_model.specs.Step.{put}
 use Rattle.px_model.specs.World.{NodeState, started}
 use Rattle.px_model.specs.Spelling.{Bytes}
-use Rattle.px_wire.specs.Message.{Group, Message, DatagramBytes, spelling}
+use Rattle.px_wire.specs.Message.{Group, DatagramBytes}
 use Rattle.px_wire.specs.Members.{as_sent}
 use Rattle.px_replica.specs.Lives.{Deed, Lived, stopped}
 use Rattle.px_replica.specs.Spelled.{for_members}

@@ -1,5 +1,5 @@
 -- From what goes over the members' wires to stretches of what befell them.
-use Rattle.std.proofs.Common.{◌≡◌, ◌≢◌, ◌∙◌, ◌⊎◌, sym, ap, subst, refl, ℕ, zero, suc, ◌<◌, ◌≤◌, Bool, true, false, cond, nat_eq, List, [], ◌∷◌, ◌++◌, map, drop, Option, Some, None, inl, inr, arith, append_assoc}
+use Rattle.std.proofs.Common.{◌≡◌, ◌∙◌, ◌⊎◌, sym, ap, subst, refl, ℕ, zero, suc, ◌<◌, ◌≤◌, Bool, nat_eq, List, [], ◌∷◌, ◌++◌, map, drop, Option, Some, None, inl, inr, arith, append_assoc}
 use Rattle.std.proofs.lemmas.Bool.{cond-true, cond-false, eq-eqb}
 use Rattle.std.proofs.lemmas.Bool.Decides.{eqb_tells}
 use Rattle.std.proofs.lemmas.List.{append-nil}
@@ -13,21 +13,19 @@ use Rattle.px_model.specs.World.{NodeState, nothing_stored, started}
 use Rattle.px_records.specs.declared.records.Records.{Ghosts}
 use Rattle.node_loop.specs.Again.{AreAmong}
 use Rattle.node_loop.proofs.Among.{among_all, among_front, among_back, among_none, among_sides, among_then}
-use Rattle.px_transport.specs.Wires.{WireEvent, Gave, Handed, given_in, handed_in, gives, hands}
+use Rattle.px_transport.specs.Wires.{WireEvent, Gave, Handed, given_in, handed_in, hands}
 use Rattle.px_wire.specs.Message.{Group, group, Message, DatagramBytes}
 use Rattle.px_wire.specs.Members.{as_sent}
 use Rattle.px_replica.specs.Spelled.{AreSpelled}
-use Rattle.px_wire.specs.declared.membership.Membership.{Membership}
 use Rattle.px_replica.specs.Lives.{Deed, Lived}
 use Rattle.px_replica.specs.Lives.Deed.{Calls}
 use Rattle.px_replica.specs.declared.datagram.Datagram.{Datagram}
 use Rattle.node_loop.specs.Turns.{handed_over}
 use Rattle.node_loop.specs.Living.{message_in, messages_of, AreBrought, sent_by}
 use Rattle.node_loop.specs.Living.{Move, Does, Passes, Repeats, deeds_of, events_of, IsBrought, AreMoves}
-use Rattle.node_loop.proofs.Traffic.{messages_then, sent_then, one_brought, none_brought, brought_then}
-use Rattle.node_loop.specs.Lives.{LivedOver}
+use Rattle.node_loop.proofs.Traffic.{one_brought, none_brought}
 use Rattle.pfx_laws.specs.Promised.{IsGroup}
-use Rattle.pfx_laws.specs.Wires.{Stretch, AreStretches, IsCarried, AreCarried, deeds_in, led_to, stand}
+use Rattle.pfx_laws.specs.Wires.{Stretch, AreStretches, IsCarried, AreCarried, deeds_in, led_to}
 use Rattle.pfx_laws.specs.Networks.{events_at, WasHanded, Carries, Ran, LivesAreRuns, InStretches}
 use Rattle.pfx_laws.proofs.Carrying.{lived_to}
 

@@ -1,11 +1,10 @@
 -- What goes over sockets of members that have a key is what goes over their wires.
 use Rattle.std.proofs.Common.{◌≡◌, ◌∙◌, ◌⊎◌, sym, ap, subst, refl, ℕ, suc, ◌+◌, ◌<◌, ◌≤◌, ◌^◌, Bool, true, false, nat_eq, List, [], ◌∷◌, ◌++◌, length, Option, Some, None, inl, inr, arith, zero}
 use Rattle.std.specs.Prelude.{◌==◌, ◌&&◌, if◌then◌else◌}
-use Rattle.std.specs.List.{AllByRecursion, Contains}
+use Rattle.std.specs.List.{Contains}
 use Rattle.std.proofs.lemmas.Bool.{cond-true, cond-false, eq-eqb}
 use Rattle.std.proofs.lemmas.Bool.Decides.{eqb_tells}
 use Rattle.std.proofs.lemmas.List.{append-nil, length-append}
-use Rattle.px_packet.specs.declared.fault.PacketFault.{PacketFault}
 use Rattle.px_packet.specs.declared.fault.PacketFault.TheVariants as faults
 use Rattle.px_packet.specs.Headers.{header_fault}
 use Rattle.px_packet.specs.Packets.{front_of, is_authentic}
@@ -24,7 +23,7 @@ use Rattle.px_transport.specs.Steps as steps
 use Rattle.px_transport.specs.Steps.{Step, AreSteps, cuts_for, CallsAreSteps}
 use Rattle.px_transport.specs.Networks as networks
 use Rattle.px_transport.specs.Networks.{Cluster, AreMembers, Before, with_step, IsNamed, PacketsCarried, DatagramsCarried, SealedIsCarried}
-use Rattle.px_wire.specs.Message.{Group, Message, DatagramBytes}
+use Rattle.px_wire.specs.Message.{Group, DatagramBytes}
 use Rattle.node_udp.specs.Sockets.{SocketEvent, Came, Went, Passage, Hears, Sends, Loses, above_in, below_in}
 use Rattle.node_udp.specs.Members.{peers_of, me_of}
 use Rattle.node_udp.specs.declared.socket.Socket as sockets
@@ -34,7 +33,7 @@ use Rattle.pfx_laws.specs.Promised.{IsGroup}
 use Rattle.pfx_laws.specs.Wires.{Stretch, stand}
 use Rattle.pfx_laws.specs.Carried.{Goes, StandsSo}
 use Rattle.pfx_laws.specs.Networks.{events_at, Carries, Ran, RanAbove, InStretches}
-use Rattle.pfx_laws.specs.Sealed.{PacketsCarry, RanSealed, RanOver, SealedRunsAreAtSockets, SealedSocketsGo, SealedSocketsNeverDiffer}
+use Rattle.pfx_laws.specs.Sealed.{PacketsCarry, RanSealed, SealedRunsAreAtSockets, SealedSocketsGo, SealedSocketsNeverDiffer}
 use Rattle.pfx_laws.specs.Sealed.{SealedSocketsLearnWhatWasAsked, EquallyAppliedAtSealedSockets}
 use Rattle.pfx_laws.proofs.Carried.{wires_learn_what_was_asked, equally_applied_over_wires}
 use Rattle.pfx_laws.proofs.Lifting as lifting
@@ -79,7 +78,7 @@ packets_above c n ((m, Hears from came given) ∷ xs) went handed f a b p = (
   b.0,
   elim (faithful_first n m (Hears from came given) xs b.0 f).0 [
     | inl same ↦ subst (λ (x : Bytes). Among handed x ⊎ (opened (c.keys m) (c.sealer m) x ≡ None)) (sym same)
-        (elim p.1 [ | inl there ↦ inl (a came there) | inr none ↦ inr none ])
+        (elim p.1 [ inl there ↦ inl (a came there) | inr none ↦ inr none ])
     | inr empty ↦ inr (ap (opened (c.keys m) (c.sealer m)) empty ∙ nothing_opened (c.keys m) (c.sealer m))
   ],
   packets_above c n xs went handed (faithful_rest n m (Hears from came given) xs b.0 f) a b.1 p.2,
@@ -191,7 +190,7 @@ are_named (steps.Hears came given memory now ∷ xs) before le = (tt, are_named 
 are_named (steps.Puts to bytes ∷ xs) before le = (tt, are_named xs (steps.Puts to bytes ∷ before) le)
 are_named (steps.Takes to m is_cut ∷ xs) before le =
     let more = length (handed_in (steps.above_in xs)) in
-    let all : taken before + (1 + more) ≤ 2 ^ 32 = le in (
+    let all : taken before + suc more ≤ 2 ^ 32 = le in (
       omega (arith, all, few_cuts to before),
       are_named xs (steps.Takes to m is_cut ∷ before) (omega (arith, all)),
     )
@@ -236,7 +235,7 @@ steps_carried : (c : Cluster) (n : ℕ) (xs : List (ℕ × Step)) (handed : List
     PacketsGo c n (lifting.all_lower lower xs) handed → PacketsCarried c n xs handed
 steps_carried c n [] handed b p = tt
 steps_carried c n ((m, steps.Hears came given memory now) ∷ xs) handed b p =
-    (b.0, elim p.1 [ | inl there ↦ inl (among_is handed came there) | inr none ↦ inr none ], steps_carried c n xs handed b.1 p.2)
+    (b.0, elim p.1 [ inl there ↦ inl (among_is handed came there) | inr none ↦ inr none ], steps_carried c n xs handed b.1 p.2)
 steps_carried c n ((m, steps.Puts to bytes) ∷ xs) handed b p = (b.0, steps_carried c n xs (handed ++ bytes ∷ []) b.1 p.1)
 steps_carried c n ((m, steps.Takes to d is_cut) ∷ xs) handed b p = (b.0, steps_carried c n xs handed b.1 p)
 steps_carried c n ((m, steps.Reports member now) ∷ xs) handed b p = (b.0, steps_carried c n xs handed b.1 p)

@@ -4,13 +4,12 @@ use Rattle.std.specs.List.{AllByRecursion}
 use Rattle.std.proofs.lemmas.Bool.{cond-true, cond-false, eq-eqb}
 use Rattle.std.proofs.lemmas.Bool.Decides.{eqb_tells}
 use Rattle.std.proofs.lemmas.List.{append-nil}
-use Rattle.px_model.specs.Law.{Among}
 use Rattle.px_model.specs.Spelling.{Bytes}
 use Rattle.px_model.specs.World.{NodeState}
 use Rattle.node_loop.specs.Again.{AreAmong}
 use Rattle.node_loop.proofs.Among.{among_all, among_front, among_none, among_sides}
 use Rattle.px_transport.specs.Wires.{WireEvent, Gave, Handed}
-use Rattle.px_wire.specs.Message.{Group, Message, DatagramBytes}
+use Rattle.px_wire.specs.Message.{Group, DatagramBytes}
 use Rattle.node_udp.specs.Sockets.{SocketEvent, Came, Went, Passage, Hears, Sends, Loses, IsSound, above_in, below_in}
 use Rattle.node_udp.specs.declared.address.Address.{Address}
 use Rattle.px_records.specs.declared.records.Records.{Ghosts}

@@ -1,8 +1,6 @@
 -- Runs of members over their wires, as stretches of their lives.
-use Rattle.std.specs.Prelude.{◌≡◌, ◌<◌, ℕ, List, [], ◌∷◌, ◌++◌, Option, None, Some}
-use Rattle.px_model.specs.Law.{Among}
-use Rattle.px_model.specs.Node.{Record, Input, Entry}
-use Rattle.px_model.specs.Step.{put}
+use Rattle.std.specs.Prelude.{◌≡◌, ◌<◌, ℕ, List, [], ◌∷◌, ◌++◌, Option}
+use Rattle.px_model.specs.Node.{Record, Input}
 use Rattle.px_model.specs.Spelling.{Bytes}
 use Rattle.px_model.specs.World.{NodeState, nothing_stored, started}
 use Rattle.px_records.specs.declared.records.Records.{Ghosts}
@@ -15,8 +13,8 @@ use Rattle.node_loop.specs.Turns.{Stand}
 use Rattle.px_transport.specs.Wires.{given_in}
 use Rattle.node_loop.specs.Living.{messages_of, deeds_of, came_by, AreBrought, Living}
 use Rattle.pfx_laws.specs.Promised.{IsGroup}
-use Rattle.pfx_laws.specs.Wires.{Stretch, AreStretches, IsCarried, AreCarried, deeds_in, led_to, stand}
-use Rattle.pfx_laws.specs.Carried.{Goes, HasLearned}
+use Rattle.pfx_laws.specs.Wires.{Stretch, AreStretches, AreCarried, deeds_in, led_to, stand}
+use Rattle.pfx_laws.specs.Carried.{Goes}
 
 -- ---- from a life to a stretch
 

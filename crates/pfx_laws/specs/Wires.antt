@@ -1,5 +1,5 @@
 -- What members live with their wires, in the order in which it happened, and what is asked of the network.
-use Rattle.std.specs.Prelude.{◌≡◌, ◌⊎◌, ◌<◌, ℕ, List, [], ◌∷◌, ◌++◌, map, nat_eq, if◌then◌else◌}
+use Rattle.std.specs.Prelude.{◌⊎◌, ◌<◌, ℕ, List, [], ◌∷◌, ◌++◌, map, nat_eq, if◌then◌else◌}
 use Rattle.px_model.specs.Law.{Among}
 use Rattle.px_model.specs.World.{NodeState, nothing_stored, started}
 use Rattle.px_model.specs.Spelling.{Bytes}
