@@ -1,15 +1,17 @@
 -- What goes over members' sockets is what goes over their wires.
-use Rattle.std.proofs.Common.{◌≡◌, ◌∙◌, ◌⊎◌, sym, ap, subst, refl, ℕ, ◌<◌, ◌≤◌, nat_eq, List, [], ◌∷◌, ◌++◌, Option, Some, None, inl, inr, arith}
+use Rattle.std.proofs.Common.{false, ◌≡◌, ◌∙◌, ◌⊎◌, sym, ap, subst, refl, ℕ, ◌<◌, ◌≤◌, nat_eq, List, [], ◌∷◌, ◌++◌, Option, Some, None, inl, inr, arith}
 use Rattle.std.specs.List.{AllByRecursion}
 use Rattle.std.proofs.lemmas.Bool.{cond-true, cond-false, eq-eqb}
 use Rattle.std.proofs.lemmas.Bool.Decides.{eqb_tells}
 use Rattle.std.proofs.lemmas.List.{append-nil}
 use Rattle.px_model.specs.Spelling.{Bytes}
-use Rattle.px_model.specs.World.{NodeState}
+use Rattle.px_model.specs.World.{NodeState, nothing_stored, started}
 use Rattle.node_loop.specs.Again.{AreAmong}
 use Rattle.node_loop.proofs.Among.{among_all, among_front, among_none, among_sides}
 use Rattle.px_transport.specs.Wires.{WireEvent, Gave, Handed}
-use Rattle.px_wire.specs.Message.{Group, DatagramBytes}
+use Rattle.px_wire.specs.Message.{Group, group, DatagramBytes}
+use Rattle.node_loop.specs.Lives.{HostedRunsAreLived}
+use Rattle.node_loop.specs.Living.{deeds_of}
 use Rattle.node_udp.specs.Sockets.{SocketEvent, Came, Went, Passage, Hears, Sends, Loses, IsSound, above_in, below_in}
 use Rattle.node_udp.specs.declared.address.Address.{Address}
 use Rattle.px_records.specs.declared.records.Records.{Ghosts}
@@ -22,10 +24,11 @@ use Rattle.pfx_laws.specs.Wires.{Stretch, stand}
 use Rattle.pfx_laws.specs.Carried.{Goes, StandsSo}
 use Rattle.pfx_laws.specs.Networks.{events_at, WasHanded, Carries, Ran, RanAbove, InStretches}
 use Rattle.pfx_laws.specs.Sockets.{SocketsCarry, RanAt, RunsAreAtSockets, SocketsGo, SocketsNeverDiffer}
-use Rattle.pfx_laws.specs.Sockets.{SocketsLearnWhatWasAsked, EquallyAppliedAtSockets}
+use Rattle.pfx_laws.specs.Sockets.{SocketsLearnWhatWasAsked, EquallyAppliedAtSockets, HostedRunsAreAtSockets}
 use Rattle.pfx_laws.proofs.Carried.{wires_learn_what_was_asked, equally_applied_over_wires}
 use Rattle.pfx_laws.proofs.Lifting as lifting
 use Rattle.pfx_laws.proofs.Lifting.{AreBelow}
+use Rattle.pfx_laws.proofs.Networking.{lives_are_runs}
 use Rattle.pfx_laws.proofs.Looping.{carried_more, no_message, below_or, networks_go, never_differ}
 
 -- over the socket
@@ -208,4 +211,26 @@ runs_are_at_sockets G C g w es deeds end looped ran =
           ran = subst (λ (fs : List WireEvent). Ran g (loopback.me_of w) fs deeds end) looped.above_is ran;
         };
       },
+    )
+
+-- a run of a member
+pub hosted_runs_are_at_sockets : {R S : Type 0} (G : Ghosts R) (H : sockets.Ghosts S) (C : Type 0) → HostedRunsAreLived G →
+    HostedRunsAreAtSockets G H C
+hosted_runs_are_at_sockets G H C law m given back w es ended honest empty fresh me looped (inr life) =
+    let l = law m given back [] es ended honest life in
+    let ds = deeds_of l.moves in
+    let r = runs_are_at_sockets H C (group m) w es ds l.then looped
+    (subst (λ (k : ℕ). Ran (group m) k es ds l.then) (sym me) (lives_are_runs G m given back es l empty)) in
+    (r.0, ds, l.then, r.1, subst (λ (k : ℕ). RanAt (group m) k r.0 ds l.then) me r.2, l.stays)
+hosted_runs_are_at_sockets G H C law m given back w es ended honest empty fresh me looped (inl (e, is, refused, same)) =
+    let s = started nothing_stored in
+    let idle : Ran (group m) (loopback.me_of w) es [] s =
+    record { moves = []; does = refl; lived = refl; hears = false; are = tt; last = []; went = same; again = λ d n. n } in
+    let r = runs_are_at_sockets H C (group m) w es [] s looped idle in (
+      r.0,
+      [],
+      s,
+      r.1,
+      subst (λ (k : ℕ). RanAt (group m) k r.0 [] s) me r.2,
+      λ none. refused.stays honest (λ store. let above = (refused.counts fresh).0 store in omega (arith, none, above)) ∙ empty,
     )

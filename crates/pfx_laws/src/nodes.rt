@@ -8,10 +8,15 @@ ghost use Rattle.pfx_laws.specs.Carried.{EquallyAppliedOverWires};
 ghost use Rattle.pfx_laws.specs.Runs.{LivesAreStretches, LivesGo, OpeningsAreStretches};
 ghost use Rattle.pfx_laws.specs.Networks.{LivesAreRuns, NetworksGo, NetworksNeverDiffer};
 ghost use Rattle.pfx_laws.specs.Sockets.{EquallyAppliedAtSockets, RunsAreAtSockets, SocketsGo, SocketsLearnWhatWasAsked};
+<<<<<<< HEAD
 ghost use Rattle.pfx_laws.specs.Sockets.{SocketsNeverDiffer};
 ghost use Rattle.pfx_laws.specs.Sealed.{EquallyAppliedAtSealedSockets, SealedRunsAreAtSockets, SealedSocketsGo};
 ghost use Rattle.pfx_laws.specs.Sealed.{SealedSocketsLearnWhatWasAsked, SealedSocketsNeverDiffer};
+=======
+ghost use Rattle.pfx_laws.specs.Sockets.{HostedRunsAreAtSockets, SocketsNeverDiffer};
+>>>>>>> 363ff1e2 (A member's run, as run_member makes it, is one over what went over its socket)
 
+use node_loop::run_laws::hosted_runs_are_lived;
 use node_udp::Socket;
 use px_records::Records;
 use std::time::Clock;
@@ -118,6 +123,14 @@ pub fn networks_never_differ()
 pub fn runs_are_at_sockets<S: Socket, C: Clock>()
     ensures { RunsAreAtSockets S.Socket C }
 {}
+
+/// A member's run, with a control socket or without, from a new record on and over such a wire: what befell it, it ran
+/// over what went over its socket, and stands as its record holds in the end.
+pub fn hosted_runs_are_at_sockets<R: Records, S: Socket, C: Clock>()
+    ensures { HostedRunsAreAtSockets R.Records S.Socket C }
+{
+    hosted_runs_are_lived::<R>();
+}
 
 /// Members that ran over sockets to which no datagram came but those that some member's socket was handed before, and
 /// asks from outside: what befell them went in stretches, and these laws hold of them as they stand in the end.
