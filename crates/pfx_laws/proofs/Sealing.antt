@@ -10,7 +10,7 @@ use Rattle.px_packet.specs.Headers.{header_fault}
 use Rattle.px_packet.specs.Packets.{front_of, is_authentic}
 use Rattle.px_model.specs.Law.{Among}
 use Rattle.px_model.specs.Spelling.{Bytes}
-use Rattle.px_model.specs.World.{NodeState}
+use Rattle.px_model.specs.World.{NodeState, nothing_stored, started}
 use Rattle.node_loop.specs.Again.{AreAmong}
 use Rattle.node_loop.proofs.Among.{among_all, among_front, among_none, among_sides}
 use Rattle.px_transport.specs.Wires.{WireEvent, Gave, Handed, handed_in}
@@ -23,21 +23,24 @@ use Rattle.px_transport.specs.Steps as steps
 use Rattle.px_transport.specs.Steps.{Step, AreSteps, cuts_for, CallsAreSteps}
 use Rattle.px_transport.specs.Networks as networks
 use Rattle.px_transport.specs.Networks.{Cluster, AreMembers, Before, with_step, IsNamed, PacketsCarried, DatagramsCarried, SealedIsCarried}
-use Rattle.px_wire.specs.Message.{Group, DatagramBytes}
+use Rattle.px_wire.specs.Message.{Group, group, DatagramBytes}
 use Rattle.node_udp.specs.Sockets.{SocketEvent, Came, Went, Passage, Hears, Sends, Loses, above_in, below_in}
 use Rattle.node_udp.specs.Members.{peers_of, me_of}
 use Rattle.node_udp.specs.declared.socket.Socket as sockets
 use Rattle.px_records.specs.declared.records.Records.{Ghosts}
 use Rattle.px_replica.specs.Lives.{Deed}
+use Rattle.node_loop.specs.Lives.{HostedRunsAreLived}
+use Rattle.node_loop.specs.Living.{deeds_of}
 use Rattle.pfx_laws.specs.Promised.{IsGroup}
 use Rattle.pfx_laws.specs.Wires.{Stretch, stand}
 use Rattle.pfx_laws.specs.Carried.{Goes, StandsSo}
 use Rattle.pfx_laws.specs.Networks.{events_at, Carries, Ran, RanAbove, InStretches}
 use Rattle.pfx_laws.specs.Sealed.{PacketsCarry, RanSealed, SealedRunsAreAtSockets, SealedSocketsGo, SealedSocketsNeverDiffer}
-use Rattle.pfx_laws.specs.Sealed.{SealedSocketsLearnWhatWasAsked, EquallyAppliedAtSealedSockets}
+use Rattle.pfx_laws.specs.Sealed.{SealedSocketsLearnWhatWasAsked, EquallyAppliedAtSealedSockets, SealedHostedRunsAreAtSockets}
 use Rattle.pfx_laws.proofs.Carried.{wires_learn_what_was_asked, equally_applied_over_wires}
 use Rattle.pfx_laws.proofs.Lifting as lifting
 use Rattle.pfx_laws.proofs.Lifting.{AreBelow}
+use Rattle.pfx_laws.proofs.Networking.{lives_are_runs}
 use Rattle.pfx_laws.proofs.Looping.{no_message, below_or, networks_go, never_differ}
 use Rattle.pfx_laws.proofs.Socketing as socketing
 use Rattle.pfx_laws.proofs.Socketing.{AreFaithful, AllFaithful, faithful, faithful_first, faithful_rest}
@@ -392,4 +395,34 @@ runs_are_at_sockets G C D are_steps g w es deeds end looped few ran =
           ran = subst (λ (fs : List WireEvent). Ran g (loopback.me_of w) fs deeds end) looped.above_is ran;
         };
       },
+    )
+
+-- a run of a member
+pub hosted_runs_are_at_sockets : {R S : Type 0} (G : Ghosts R) (H : sockets.Ghosts S) (C D : Type 0) → CallsAreSteps →
+    HostedRunsAreLived G → SealedHostedRunsAreAtSockets G H C D
+hosted_runs_are_at_sockets G H C D are_steps law m given back w es ended honest empty fresh me looped few (inr life) =
+    let l = law m given back [] es ended honest life in
+    let ds = deeds_of l.moves in
+    let wire = loopback.below_of w in
+    let r = runs_are_at_sockets H C D are_steps (group m) w es ds l.then looped few
+    (subst (λ (k : ℕ). Ran (group m) k es ds l.then) (sym me) (lives_are_runs G m given back es l empty)) in (
+      r.0,
+      ds,
+      l.then,
+      r.1,
+      subst (λ (k : ℕ). RanSealed (group m) (wiring.keys_of wire) (wiring.sealer_of wire) k r.0 ds l.then) me r.2,
+      l.stays,
+    )
+hosted_runs_are_at_sockets G H C D are_steps law m given back w es ended honest empty fresh me looped few (inl (e, is, refused, same)) =
+    let s = started nothing_stored in
+    let wire = loopback.below_of w in
+    let idle : Ran (group m) (loopback.me_of w) es [] s =
+    record { moves = []; does = refl; lived = refl; hears = false; are = tt; last = []; went = same; again = λ d n. n } in
+    let r = runs_are_at_sockets H C D are_steps (group m) w es [] s looped few idle in (
+      r.0,
+      [],
+      s,
+      r.1,
+      subst (λ (k : ℕ). RanSealed (group m) (wiring.keys_of wire) (wiring.sealer_of wire) k r.0 [] s) me r.2,
+      λ none. refused.stays honest (λ store. let above = (refused.counts fresh).0 store in omega (arith, none, above)) ∙ empty,
     )

@@ -4,7 +4,7 @@ use Rattle.std.specs.List.{AllByRecursion}
 use Rattle.px_model.specs.Law.{Among, NoneTwice}
 use Rattle.px_model.specs.Node.{Entry}
 use Rattle.px_model.specs.Spelling.{Bytes}
-use Rattle.px_model.specs.World.{NodeState}
+use Rattle.px_model.specs.World.{NodeState, nothing_stored}
 use Rattle.px_records.specs.declared.records.Records.{Ghosts}
 use Rattle.px_replica.specs.Lives.{Deed}
 use Rattle.px_transport.specs.Loopback.{Looped, below_of, me_of}
@@ -17,7 +17,10 @@ use Rattle.px_transport.specs.Steps.{Step, AreSteps}
 use Rattle.px_transport.specs.Networks.{Cluster, AreMembers}
 use Rattle.px_transport.specs.declared.loopback.LoopbackWire.{LoopbackWire}
 use Rattle.px_transport.specs.declared.packet_wire.PacketWire.{PacketWire}
-use Rattle.px_wire.specs.Message.{Group}
+use Rattle.px_wire.specs.Message.{Group, group}
+use Rattle.px_wire.specs.declared.membership.Membership.{Membership}
+use Rattle.node_loop.specs.Lives.{HostedRuns}
+use Rattle.node_loop.specs.declared.ended.Ended.{Ended}
 use Rattle.node_udp.specs.Members.{socket_of}
 use Rattle.node_udp.specs.Sockets.{SocketEvent, Came, Went, Passage, IsSound, WentOver, above_in, below_in}
 use Rattle.node_udp.specs.declared.address.Address.{Address}
@@ -65,6 +68,20 @@ SealedRunsAreAtSockets {S} G C D =
     Ran g (me_of w) es deeds end →
     (events : List SocketEvent) × G.traffic (socket_of udp) events ×
     RanSealed g (wiring.keys_of wire) (wiring.sealer_of wire) (me_of w) events deeds end
+
+-- A member's run as `run_member` of node_control makes it, with a control socket or without, over a new record and a wire
+-- over which nothing went before. Where its record is honest, it ran over the packets that went over its socket, and
+-- stands as its record holds in the end, unless a call on that failed.
+abbrev pub SealedHostedRunsAreAtSockets : {R S : Type 0} → Ghosts R → sockets.Ghosts S → (C D : Type 0) → Type 0
+SealedHostedRunsAreAtSockets {R} {S} G H C D =
+    (m : Membership) (given back : R) (w : LoopbackWire (PacketWire (UdpWire S C) D)) (es : List WireEvent)
+    (ended : Ended) → let wire = below_of w in let udp = inner_of wire in
+    G.is_honest back → G.stored given ≡ nothing_stored → G.failed given ≡ 0 → me_of w ≡ m.me →
+    Looped (WentSealed (WentOver (H.traffic (socket_of udp)) udp) wire) w es → length (handed_in es) ≤ 2 ^ 32 →
+    HostedRuns G m given [] es ended back →
+    (events : List SocketEvent) × (deeds : List Deed) × (end : NodeState Bytes) × H.traffic (socket_of udp) events ×
+    RanSealed (group m) (wiring.keys_of wire) (wiring.sealer_of wire) m.me events deeds end ×
+    (G.failed back ≡ 0 → G.stored back ≡ end.stored)
 
 -- Members that ran over such sockets, each over what went over its own: what befell each, and how it stands then.
 pub record RanOver (g : Group) (c : Cluster) (network : List (ℕ × SocketEvent)) (deeds : ℕ → List Deed)

@@ -8,13 +8,9 @@ ghost use Rattle.pfx_laws.specs.Carried.{EquallyAppliedOverWires};
 ghost use Rattle.pfx_laws.specs.Runs.{LivesAreStretches, LivesGo, OpeningsAreStretches};
 ghost use Rattle.pfx_laws.specs.Networks.{LivesAreRuns, NetworksGo, NetworksNeverDiffer};
 ghost use Rattle.pfx_laws.specs.Sockets.{EquallyAppliedAtSockets, RunsAreAtSockets, SocketsGo, SocketsLearnWhatWasAsked};
-<<<<<<< HEAD
-ghost use Rattle.pfx_laws.specs.Sockets.{SocketsNeverDiffer};
-ghost use Rattle.pfx_laws.specs.Sealed.{EquallyAppliedAtSealedSockets, SealedRunsAreAtSockets, SealedSocketsGo};
-ghost use Rattle.pfx_laws.specs.Sealed.{SealedSocketsLearnWhatWasAsked, SealedSocketsNeverDiffer};
-=======
 ghost use Rattle.pfx_laws.specs.Sockets.{HostedRunsAreAtSockets, SocketsNeverDiffer};
->>>>>>> 363ff1e2 (A member's run, as run_member makes it, is one over what went over its socket)
+ghost use Rattle.pfx_laws.specs.Sealed.{EquallyAppliedAtSealedSockets, SealedHostedRunsAreAtSockets, SealedRunsAreAtSockets};
+ghost use Rattle.pfx_laws.specs.Sealed.{SealedSocketsGo, SealedSocketsLearnWhatWasAsked, SealedSocketsNeverDiffer};
 
 use node_loop::run_laws::hosted_runs_are_lived;
 use node_udp::Socket;
@@ -161,6 +157,15 @@ pub fn sealed_runs_are_at_sockets<S: Socket, C: Clock, D: Clock>()
     ensures { SealedRunsAreAtSockets S.Socket C D }
 {
     px_transport::laws::calls_are_steps();
+}
+
+/// A member's run with a key, with a control socket or without, from a new record on: what befell it, it ran over the
+/// packets that went over its socket, and stands as its record holds in the end.
+pub fn sealed_hosted_runs_are_at_sockets<R: Records, S: Socket, C: Clock, D: Clock>()
+    ensures { SealedHostedRunsAreAtSockets R.Records S.Socket C D }
+{
+    px_transport::laws::calls_are_steps();
+    hosted_runs_are_lived::<R>();
 }
 
 /// Members with a key, to whose sockets no packet came that they open but those that some member's socket was handed
