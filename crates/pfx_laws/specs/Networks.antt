@@ -29,9 +29,9 @@ abbrev pub events_at : {X : Type 0} → (member : ℕ) → List (ℕ × X) → L
 events_at m [] = []
 events_at m (x ∷ xs) = if nat_eq m x.0 then x.1 ∷ events_at m xs else events_at m xs
 
--- The datagram was handed to some member's wire before, at any time and however often it is given. Or it is no
--- member's message to this member: what it spells, if anything, is a request from outside. So are garbage, a datagram of
--- another cluster, and the empty one that a wire gives in place of one that it drops.
+-- The datagram was handed to some member's wire before, at any time and however often it is given. Or it is no member's
+-- message to this member: what it spells, if anything, is a request from outside. So are garbage, a datagram of another
+-- cluster, and the empty one that a wire gives in place of one that it drops.
 abbrev pub WasHanded : Group → (handed : List Bytes) → (member : ℕ) → Bytes → Type 0
 WasHanded g handed m bytes = Among handed bytes ⊎ IsOutside g m bytes
 
@@ -43,8 +43,8 @@ Carries g ((m, Handed to bytes) ∷ xs) handed = (m < g.members) × Carries g xs
 
 -- ---- the members
 
--- A member of the group ran from an empty record on; this befell it, and it stands so then. This went over its wire: its
--- moves, and then, where a call failed, what came for it and after it, and what was handed over again.
+-- A member of the group ran from an empty record on; this befell it, and it stands so then. This went over its wire:
+-- its moves, and then, where a call failed, what came for it and after it, and what was handed over again.
 pub record Ran (g : Group) (m : ℕ) (events : List WireEvent) (deeds : List Deed) (end : NodeState Bytes) : Type 0 where
   pub moves : List Move
   pub does : deeds ≡ deeds_of moves
@@ -71,8 +71,8 @@ LivesAreRuns {R} G =
     (m : Membership) (given back : R) (events : List WireEvent) (l : LivedOver G m given back [] events) →
     G.stored given ≡ nothing_stored → Ran (group m) m.me events (deeds_of l.moves) l.then
 
--- Members that ran over such a network, each over what went over the wire below its own datagrams to itself: what befell
--- each, and how it stands then.
+-- Members that ran over such a network, each over what went over the wire below its own datagrams to itself: what
+-- befell each, and how it stands then.
 pub record RanOver (g : Group) (network : List (ℕ × WireEvent)) (deeds : ℕ → List Deed)
     (stands : ℕ → NodeState Bytes) : Type 0 where
   pub group : IsGroup g

@@ -53,9 +53,9 @@ RunsAreAtSockets {S} G C =
     Looped (WentOver (G.traffic (socket_of (below_of w))) (below_of w)) w es → Ran g (me_of w) es deeds end →
     (events : List SocketEvent) × G.traffic (socket_of (below_of w)) events × RanAt g (me_of w) events deeds end
 
--- A member's run as `run_member` of node_control makes it, with a control socket or without, over a new record and a wire
--- over which nothing went before. Where its record is honest, it ran over what went over its socket, and stands as its
--- record holds in the end, unless a call on that failed.
+-- A member's run as `run_member` of node_control makes it, with a control socket or without, over a new record and a
+-- wire over which nothing went before. Where its record is honest, it ran over what went over its socket, and stands as
+-- its record holds in the end, unless a call on that failed.
 abbrev pub HostedRunsAreAtSockets : {R S : Type 0} → Ghosts R → sockets.Ghosts S → (C : Type 0) → Type 0
 HostedRunsAreAtSockets {R} {S} G H C =
     (m : Membership) (given back : R) (w : LoopbackWire (UdpWire S C)) (es : List WireEvent) (ended : Ended) →
@@ -84,8 +84,8 @@ SocketsNeverDiffer =
     (g : Group) (network : List (ℕ × SocketEvent)) (deeds : ℕ → List Deed) (stands : ℕ → NodeState Bytes) →
     RanOver g network deeds stands → NeverDiffer g stands
 
--- What befell them went in stretches; what a member has as learned was asked of a member and taken in there, and nothing
--- was taken in twice.
+-- What befell them went in stretches; what a member has as learned was asked of a member and taken in there, and
+-- nothing was taken in twice.
 abbrev pub SocketsLearnWhatWasAsked : Type 0
 SocketsLearnWhatWasAsked =
     (g : Group) (network : List (ℕ × SocketEvent)) (deeds : ℕ → List Deed) (stands : ℕ → NodeState Bytes) →
