@@ -36,7 +36,8 @@ use Rattle.pfx_laws.specs.Carried.{HasLearned, StandsSo, asked_in}
 use Rattle.pfx_laws.specs.Networks.{events_at, Ran, RanAbove, InStretches, NeverDiffer}
 
 -- What goes over the sockets of members that have a key, in the order in which it happens. Each packet that comes to a
--- member's socket went over some member's socket before; or the member doesn't open it with its keys. These went already.
+-- member's socket went over some member's socket before; or the member doesn't open it with its keys. These went
+-- already.
 abbrev pub PacketsCarry : Cluster → (members : ℕ) → List (ℕ × SocketEvent) → (went : List Bytes) → Type 0
 PacketsCarry c n [] went = Unit {0}
 PacketsCarry c n ((m, Came from bytes) ∷ xs) went =
@@ -58,8 +59,8 @@ pub record RanSealed (g : Group) (keys : List (List ℕ)) (s : Sealer) (m : ℕ)
   pub few : length (handed_in (steps.above_in made)) ≤ 2 ^ 32
   pub ran : RanAbove g m (steps.above_in made) deeds end
 
--- A member that ran over a wire that keeps its own datagrams, over a wire of packets, over a wire with a socket, ran over
--- what went over that socket, if it was handed at most 2^32 datagrams.
+-- A member that ran over a wire that keeps its own datagrams, over a wire of packets, over a wire with a socket, ran
+-- over what went over that socket, if it was handed at most 2^32 datagrams.
 abbrev pub SealedRunsAreAtSockets : {S : Type 0} → sockets.Ghosts S → (C D : Type 0) → Type 0
 SealedRunsAreAtSockets {S} G C D =
     (g : Group) (w : LoopbackWire (PacketWire (UdpWire S C) D)) (es : List WireEvent) (deeds : List Deed)
@@ -69,9 +70,9 @@ SealedRunsAreAtSockets {S} G C D =
     (events : List SocketEvent) × G.traffic (socket_of udp) events ×
     RanSealed g (wiring.keys_of wire) (wiring.sealer_of wire) (me_of w) events deeds end
 
--- A member's run as `run_member` of node_control makes it, with a control socket or without, over a new record and a wire
--- over which nothing went before. Where its record is honest, it ran over the packets that went over its socket, and
--- stands as its record holds in the end, unless a call on that failed.
+-- A member's run as `run_member` of node_control makes it, with a control socket or without, over a new record and a
+-- wire over which nothing went before. Where its record is honest, it ran over the packets that went over its socket,
+-- and stands as its record holds in the end, unless a call on that failed.
 abbrev pub SealedHostedRunsAreAtSockets : {R S : Type 0} → Ghosts R → sockets.Ghosts S → (C D : Type 0) → Type 0
 SealedHostedRunsAreAtSockets {R} {S} G H C D =
     (m : Membership) (given back : R) (w : LoopbackWire (PacketWire (UdpWire S C) D)) (es : List WireEvent)
@@ -94,20 +95,23 @@ pub record RanOver (g : Group) (c : Cluster) (network : List (ℕ × SocketEvent
 -- members that ran over such sockets went in stretches
 abbrev pub SealedSocketsGo : Type 0
 SealedSocketsGo =
-    (g : Group) (c : Cluster) (network : List (ℕ × SocketEvent)) (deeds : ℕ → List Deed) (stands : ℕ → NodeState Bytes) →
+    (g : Group) (c : Cluster) (network : List (ℕ × SocketEvent)) (deeds : ℕ → List Deed)
+    (stands : ℕ → NodeState Bytes) →
     RanOver g c network deeds stands → (stretches : List Stretch) × InStretches g deeds stands stretches
 
 -- they never differ
 abbrev pub SealedSocketsNeverDiffer : Type 0
 SealedSocketsNeverDiffer =
-    (g : Group) (c : Cluster) (network : List (ℕ × SocketEvent)) (deeds : ℕ → List Deed) (stands : ℕ → NodeState Bytes) →
+    (g : Group) (c : Cluster) (network : List (ℕ × SocketEvent)) (deeds : ℕ → List Deed)
+    (stands : ℕ → NodeState Bytes) →
     RanOver g c network deeds stands → NeverDiffer g stands
 
--- What befell them went in stretches; what a member has as learned was asked of a member and taken in there, and nothing
--- was taken in twice.
+-- What befell them went in stretches; what a member has as learned was asked of a member and taken in there, and
+-- nothing was taken in twice.
 abbrev pub SealedSocketsLearnWhatWasAsked : Type 0
 SealedSocketsLearnWhatWasAsked =
-    (g : Group) (c : Cluster) (network : List (ℕ × SocketEvent)) (deeds : ℕ → List Deed) (stands : ℕ → NodeState Bytes) →
+    (g : Group) (c : Cluster) (network : List (ℕ × SocketEvent)) (deeds : ℕ → List Deed)
+    (stands : ℕ → NodeState Bytes) →
     RanOver g c network deeds stands → (stretches : List Stretch) × InStretches g deeds stands stretches ×
     ((m p : ℕ) (e : Entry Bytes) → m < g.members → HasLearned (stands m) p e → Among (asked_in stretches) e) ×
     NoneTwice (asked_in stretches)
@@ -116,7 +120,8 @@ SealedSocketsLearnWhatWasAsked =
 -- verdict
 abbrev pub EquallyAppliedAtSealedSockets : {R Q : Type 0} → Ghosts R → Ghosts Q → Type 0
 EquallyAppliedAtSealedSockets {R} {Q} G H =
-    (g : Group) (c : Cluster) (network : List (ℕ × SocketEvent)) (deeds : ℕ → List Deed) (stands : ℕ → NodeState Bytes) →
+    (g : Group) (c : Cluster) (network : List (ℕ × SocketEvent)) (deeds : ℕ → List Deed)
+    (stands : ℕ → NodeState Bytes) →
     RanOver g c network deeds stands → (i j : ℕ) (x : Node R G) (y : Node Q H) → i < g.members → j < g.members →
     StandsSo x (stands i) → StandsSo y (stands j) → applied_of x ≡ applied_of y →
     (config_of x ≡ config_of y) × ((p : Packet) → judgement (config_of x) p ≡ judgement (config_of y) p)

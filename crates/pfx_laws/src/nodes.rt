@@ -7,9 +7,11 @@ ghost use Rattle.pfx_laws.specs.Carried.{WiresAreHistories, WiresNeverDiffer, Wi
 ghost use Rattle.pfx_laws.specs.Carried.{EquallyAppliedOverWires};
 ghost use Rattle.pfx_laws.specs.Runs.{LivesAreStretches, LivesGo, OpeningsAreStretches};
 ghost use Rattle.pfx_laws.specs.Networks.{LivesAreRuns, NetworksGo, NetworksNeverDiffer};
-ghost use Rattle.pfx_laws.specs.Sockets.{EquallyAppliedAtSockets, RunsAreAtSockets, SocketsGo, SocketsLearnWhatWasAsked};
+ghost use Rattle.pfx_laws.specs.Sockets.{EquallyAppliedAtSockets, RunsAreAtSockets, SocketsGo};
+ghost use Rattle.pfx_laws.specs.Sockets.{SocketsLearnWhatWasAsked};
 ghost use Rattle.pfx_laws.specs.Sockets.{HostedRunsAreAtSockets, SocketsNeverDiffer};
-ghost use Rattle.pfx_laws.specs.Sealed.{EquallyAppliedAtSealedSockets, SealedHostedRunsAreAtSockets, SealedRunsAreAtSockets};
+ghost use Rattle.pfx_laws.specs.Sealed.{EquallyAppliedAtSealedSockets, SealedHostedRunsAreAtSockets};
+ghost use Rattle.pfx_laws.specs.Sealed.{SealedRunsAreAtSockets};
 ghost use Rattle.pfx_laws.specs.Sealed.{SealedSocketsGo, SealedSocketsLearnWhatWasAsked, SealedSocketsNeverDiffer};
 
 use node_loop::run_laws::hosted_runs_are_lived;
@@ -140,7 +142,8 @@ pub fn sockets_never_differ()
     ensures { SocketsNeverDiffer }
 {}
 
-/// Over such sockets a member learns nothing but what was asked of a member and taken in, and nothing is taken in twice.
+/// Over such sockets a member learns nothing but what was asked of a member and taken in, and nothing is taken in
+/// twice.
 pub fn sockets_learn_what_was_asked()
     ensures { SocketsLearnWhatWasAsked }
 {}
