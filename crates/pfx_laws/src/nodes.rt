@@ -103,8 +103,8 @@ pub fn lives_are_runs<R: Records>()
     ensures { LivesAreRuns R.Records }
 {}
 
-/// Members that ran side by side, over wires that gave no datagram but those that some wire was handed for that member
-/// before, repeated, late and in whatever order, and asks from outside: what befell them went in stretches, and these
+/// Members that ran side by side, over wires that gave no datagram but those that some wire was handed before,
+/// repeated, late and in whatever order, and asks from outside: what befell them went in stretches, and these
 /// laws hold of them as they stand in the end.
 pub fn networks_go()
     ensures { NetworksGo }
