@@ -1,2 +1,0 @@
-pub mod KeyLines
-mod StartsLines

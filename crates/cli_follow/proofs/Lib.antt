@@ -1,5 +1,0 @@
-mod Ends
-mod Texts
-pub mod Following
-pub mod Same
-pub mod Told

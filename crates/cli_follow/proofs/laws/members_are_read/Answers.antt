@@ -1,6 +1,0 @@
-use Rattle.cli_ask.proofs.Lines.{args_read, text_read}
-use Rattle.cli_follow.proofs.Told.{are_read}
-use Rattle.cli_follow.proofs.laws.members_are_read.Goals as goal
-
-pub returns : goal.returns
-returns c = λ addresses. are_read c.shown_is_read.ensures.read c.shown_is_read.ensures.word args_read text_read addresses

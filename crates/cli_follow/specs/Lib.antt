@@ -1,3 +1,0 @@
-pub mod Following
-pub mod Stepping
-pub mod Members

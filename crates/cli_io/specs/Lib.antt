@@ -1,4 +1,0 @@
-pub mod Status
-pub mod Written
-pub mod Shown
-pub mod Explained

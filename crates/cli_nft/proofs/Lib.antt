@@ -1,4 +1,0 @@
-pub mod LinesCut
-pub mod Writing
-pub mod Joining
-mod Positions

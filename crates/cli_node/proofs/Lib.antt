@@ -1,4 +1,0 @@
-pub mod Writing
-mod Refusing
-pub mod Stores
-pub mod Endings

@@ -1,3 +1,0 @@
-pub mod Opened
-mod Reading
-mod Writing

@@ -1,9 +1,0 @@
--- what opened the store says so
-use Rattle.px_store.specs.declared.formats.Format.TheVariants.{Three}
-use Rattle.cli_show.proofs.store.taken.Goals as goal
-
-pub returns-in-Ok-clause-clean : goal.returns-in-Ok-clause-clean
-returns-in-Ok-clause-clean g c = λ honest. c.in-Ok.ensures.clean honest
-
-pub returns-in-Ok-clause-rows : goal.returns-in-Ok-clause-rows
-returns-in-Ok-clause-rows g c = λ honest began. (c.in-Ok.ensures.rows honest Three began).1

@@ -1,4 +1,0 @@
-pub mod Writing
-pub mod Showing
-pub mod Stores
-pub mod Outcomes

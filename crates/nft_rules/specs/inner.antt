@@ -1,5 +1,0 @@
--- What only code and proofs use: no contract of a public function needs it.
-pub mod Asked
-pub mod Left
-pub mod Spans
-pub mod Rendering

@@ -1,3 +1,0 @@
-pub mod Parting
-pub mod Keeping
-pub mod Guarded

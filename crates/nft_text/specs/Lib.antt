@@ -1,3 +1,0 @@
-pub mod Texts
-pub mod States
-pub mod Loading

@@ -1,4 +1,0 @@
-pub mod Asking
-mod Asked
-mod Rounds
-mod Routing

@@ -1,9 +1,0 @@
--- one client more
-use Rattle.node_control.proofs.Asking.{asked_then}
-use Rattle.node_control.proofs.control.Entrance.serve.Goals as goal
-
-pub loop-client-preserved : goal.loop-client-preserved
-loop-client-preserved g c = asked_then _ _ _ c.loop-client.invariant c.look.ensures
-
-pub returns-in-Busy : goal.returns-in-Busy
-returns-in-Busy g c = asked_then _ _ _ c.loop-client.invariant c.look.ensures

@@ -1,9 +1,0 @@
-pub mod Lines
-pub mod PositionsLogged
-pub mod Budget
-pub mod Logged
-pub mod HitsCounted
-pub mod Places
-mod Digits
-mod Behind
-mod Posted

@@ -1,5 +1,0 @@
-pub mod Addresses
-pub mod Members
-pub mod Asking
-pub mod Sockets
-pub mod MemorySockets

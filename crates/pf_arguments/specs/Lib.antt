@@ -1,4 +1,0 @@
-pub mod Options
-pub mod Asked
-pub mod Answers
-pub mod inner

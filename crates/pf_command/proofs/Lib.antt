@@ -1,4 +1,0 @@
-pub mod Counting
-pub mod Contents
-pub mod Applying
-pub mod Log

@@ -1,4 +1,0 @@
-pub mod Effect
-pub mod Answers
-pub mod inner
-pub mod Arguments

@@ -1,3 +1,0 @@
-pub mod Contents
-pub mod Scripts
-pub mod inner

@@ -1,4 +1,0 @@
-pub mod Causes
-pub mod Reading
-pub mod Again
-pub mod inner

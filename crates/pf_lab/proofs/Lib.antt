@@ -1,6 +1,0 @@
-pub mod Following
-pub mod Taking
-pub mod Agreeing
-pub mod Learnings
-pub mod Outcomes
-pub mod Digits

@@ -1,3 +1,0 @@
-mod Spacing
-mod TableSpacing
-mod Anchors

@@ -1,9 +1,0 @@
-use Rattle.std.proofs.Common.{◌≡◌, length}
-use Rattle.pf_tokens.specs.Left.{tokens_left}
-use Rattle.pf_tokens.proofs.lexer.Lexer.next_token.Given as goal
-
-abbrev pub invariant-loop-self : goal.invariant-loop-self
-invariant-loop-self l = tokens_left l.self ≡ tokens_left l.fn.self
-
-abbrev pub decreases-loop-self : goal.decreases-loop-self
-decreases-loop-self l = length l.self.rest.now

@@ -1,3 +1,0 @@
-pub mod Words
-pub mod Tool
-pub mod inner

@@ -1,5 +1,0 @@
-use Rattle.pfx_laws.proofs.Socketing.{sockets_go}
-use Rattle.pfx_laws.proofs.nodes.sockets_go.Goals as goal
-
-pub returns : goal.returns
-returns c = sockets_go

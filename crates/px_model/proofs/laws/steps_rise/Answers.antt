@@ -1,5 +1,0 @@
-use Rattle.px_model.proofs.Rising.{steps_rise}
-use Rattle.px_model.proofs.laws.steps_rise.Goals as goal
-
-pub returns : goal.returns
-returns g c = steps_rise

@@ -1,5 +1,0 @@
-use Rattle.px_packet.proofs.Reassembled as lemmas
-use Rattle.px_packet.proofs.piece_laws.cut_is_piece.Goals as goal
-
-pub returns : goal.returns
-returns c = lemmas.cut_is_piece

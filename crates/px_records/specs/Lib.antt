@@ -1,4 +1,0 @@
-pub mod Records
-pub mod Memory
-pub mod Faulty
-pub mod inner

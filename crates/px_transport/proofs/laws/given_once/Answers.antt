@@ -1,5 +1,0 @@
-use Rattle.px_transport.proofs.Once as lemmas
-use Rattle.px_transport.proofs.laws.given_once.Goals as goal
-
-pub returns : goal.returns
-returns c = lemmas.given_once c.heard_once.ensures
