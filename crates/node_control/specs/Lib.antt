@@ -1,1 +1,2 @@
+pub mod Sockets
 pub mod inner

@@ -1,0 +1,99 @@
+-- A member's run at its socket: what befell it, and what went over the socket meanwhile.
+use Rattle.std.specs.Prelude.{◌≡◌, ◌≤◌, ◌^◌, ℕ, Bool, true, List, [], ◌++◌, length}
+use Rattle.std.specs.List.{AllByRecursion}
+use Rattle.px_model.specs.Node.{Record}
+use Rattle.px_model.specs.Spelling.{Bytes}
+use Rattle.px_model.specs.World.{NodeState, started}
+use Rattle.px_records.specs.declared.records.Records.{Ghosts}
+use Rattle.px_wire.specs.Message.{Group, group}
+use Rattle.px_wire.specs.declared.membership.Membership.{Membership}
+use Rattle.px_replica.specs.Lives.{Deed, Lived}
+use Rattle.px_transport.specs.Wires.{WireEvent, given_in, handed_in}
+use Rattle.px_transport.specs.Loopback as loopback
+use Rattle.px_transport.specs.Loopback.{Loop, IsQueue}
+use Rattle.px_transport.specs.Sending.{Sealer}
+use Rattle.px_transport.specs.Steps as steps
+use Rattle.px_transport.specs.Steps.{Step, AreSteps}
+use Rattle.node_loop.specs.Again.{AreAmong}
+use Rattle.node_loop.specs.Living.{Move, LeavesThere, deeds_of, events_of, sent_by, AreMoves}
+use Rattle.node_udp.specs.Sockets as sockets
+use Rattle.node_udp.specs.Sockets.{SocketEvent, Passage, IsSound}
+use Rattle.node_udp.specs.declared.address.Address.{Address}
+
+-- A member of the group ran from this record on; this befell it, and it stands so then. This went over its wire: its
+-- moves, and then, where a call failed, what came for that call and after it, and what was handed over again.
+pub record Ran (g : Group) (m : ℕ) (first : Record Bytes) (events : List WireEvent) (deeds : List Deed)
+    (end : NodeState Bytes) (unanswered : List Bytes) : Type 0 where
+  pub moves : List Move
+  pub does : deeds ≡ deeds_of moves
+  pub lived : Lived g m (started first) (deeds_of moves) end
+  pub up : end.is_up ≡ true
+  pub hears : Bool
+  pub are : AreMoves g m hears moves [] []
+  pub last : List WireEvent
+  pub came : unanswered ≡ given_in last
+  pub went : events ≡ events_of moves ++ last
+  pub again : AreAmong (handed_in last) (sent_by (deeds_of moves))
+
+-- The same over a wire that keeps what the member sends to itself: this went over the wire below.
+pub record RanAbove (g : Group) (m : ℕ) (first : Record Bytes) (events : List WireEvent) (deeds : List Deed)
+    (end : NodeState Bytes) (unanswered : List Bytes) : Type 0 where
+  pub loops : List Loop
+  pub kept : List Bytes
+  pub queue : IsQueue loops [] kept
+  pub below_is : events ≡ loopback.below_in loops
+  pub ran : Ran g m first (loopback.above_in m loops) deeds end unanswered
+
+-- The same over a wire with a socket, without a key: this went over the socket.
+pub record RanAt (g : Group) (m : ℕ) (first : Record Bytes) (events : List SocketEvent) (deeds : List Deed)
+    (end : NodeState Bytes) (unanswered : List Bytes) : Type 0 where
+  pub addresses : List Address
+  pub me : ℕ
+  pub passages : List Passage
+  pub sound : AllByRecursion (IsSound addresses me) passages
+  pub below_is : events ≡ sockets.below_in passages
+  pub ran : RanAbove g m first (sockets.above_in passages) deeds end unanswered
+
+-- The same with a key, over a wire of packets that are opened with these keys and sealed so: these went over the socket.
+pub record RanSealed (g : Group) (keys : List (List ℕ)) (s : Sealer) (m : ℕ) (first : Record Bytes)
+    (events : List SocketEvent) (deeds : List Deed) (end : NodeState Bytes) (unanswered : List Bytes) : Type 0 where
+  pub addresses : List Address
+  pub me : ℕ
+  pub passages : List Passage
+  pub sound : AllByRecursion (IsSound addresses me) passages
+  pub below_is : events ≡ sockets.below_in passages
+  pub made : List Step
+  pub packets_are : steps.below_in made ≡ sockets.above_in passages
+  pub are : AreSteps keys s made []
+  pub ran : RanAbove g m first (steps.above_in made) deeds end unanswered
+
+-- the datagrams that a run was handed have names of four bytes
+abbrev pub IsNamed : {g : Group} {keys : List (List ℕ)} {s : Sealer} {m : ℕ} {first : Record Bytes}
+    {events : List SocketEvent} {deeds : List Deed} {end : NodeState Bytes} {unanswered : List Bytes} →
+    RanSealed g keys s m first events deeds end unanswered → Type 0
+IsNamed r = length (handed_in (steps.above_in r.made)) ≤ 2 ^ 32
+
+-- How the member's record stands after what befell it: so, unless a call on it failed; and whatever a stop leaves of it
+-- is that, or that with the change of one step more.
+pub record Leaves {R : Type 0} (G : Ghosts R) (m : Membership) (back : R) (end : NodeState Bytes)
+    (unanswered : List Bytes) : Type 0 where
+  pub stays : G.failed back ≡ 0 → G.stored back ≡ end.stored
+  pub stop : (left : Record Bytes) → G.may_leave back left → LeavesThere (group m) m.me unanswered end left
+
+-- a run over a record, without a key: what went over its socket
+pub record RunsAt {R : Type 0} (G : Ghosts R) (m : Membership) (given back : R) (events : List SocketEvent) :
+    Type 0 where
+  pub deeds : List Deed
+  pub end : NodeState Bytes
+  pub unanswered : List Bytes
+  pub ran : RanAt (group m) m.me (G.stored given) events deeds end unanswered
+  pub leaves : Leaves G m back end unanswered
+
+-- the same with a key
+pub record RunsSealed {R : Type 0} (G : Ghosts R) (m : Membership) (keys : List (List ℕ)) (s : Sealer)
+    (given back : R) (events : List SocketEvent) : Type 0 where
+  pub deeds : List Deed
+  pub end : NodeState Bytes
+  pub unanswered : List Bytes
+  pub ran : RanSealed (group m) keys s m.me (G.stored given) events deeds end unanswered
+  pub leaves : Leaves G m back end unanswered
