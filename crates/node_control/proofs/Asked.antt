@@ -1,11 +1,12 @@
 -- What requests ask of the node.
-use Rattle.std.proofs.Common.{◌≡◌, ◌∙◌, ◌⊎◌, ◌≤◌, ℕ, zero, suc, true, false, Bool, Result, Ok, Err, sym, ap, subst, inl, inr, arith}
+use Rattle.std.proofs.Common.{◌≡◌, ◌⊎◌, ◌≤◌, ◌+◌, ℕ, zero, suc, true, false, Bool, Result, Ok, Err, refl, sym, ap, subst, inl, inr, arith}
+use Rattle.std.specs.Prelude.{if◌then◌else◌}
 use Rattle.px_records.specs.declared.records.Records.{Ghosts}
 use Rattle.px_replica.specs.declared.state.Replica.{Replica}
 use Rattle.pf_entry.specs.Entry as entries
 use Rattle.pf_node.specs.Nodes.{replica_of, applied_of}
 use Rattle.pf_node.specs.declared.state.Node.{Node}
-use Rattle.node_loop.specs.Hosting.{AskedOnce, AskedTimes, AsksSome}
+use Rattle.node_loop.specs.Hosting.{AskedOnce, AskedTimes, AsksUpTo}
 use Rattle.node_requests.specs.Answers.{AnswerValue}
 use Rattle.node_requests.specs.Changing.{bytes_of, Changes, ChangesIf, has_position}
 use Rattle.node_requests.specs.Requests.{Answers, IsChange}
@@ -14,7 +15,9 @@ use Rattle.node_requests.specs.declared.handler.RequestHandler.{RequestHandler}
 use Rattle.node_requests.specs.declared.request.Request.{Request}
 use Rattle.node_requests.specs.declared.request.Request.TheVariants as request
 use Rattle.node_requests.specs.declared.counters.Counters.{Counters}
-use Rattle.node_control.specs.inner.Runs.{Asks, AreAsked}
+use Rattle.node_control.specs.inner.Handling.{is_change}
+use Rattle.node_control.specs.inner.Runs.{AsksWithin}
+use Rattle.node_control.specs.declared.service.HttpService.{HttpService}
 
 -- Nothing was asked of the node, or a command was, once; what is applied stays.
 record Asked {R : Type 0} {G : Ghosts R} (s t : Node R G) : Type 0 where
@@ -48,23 +51,44 @@ answered_so s t counted (request.Change words text) a c = changed_any s t _ a c
 answered_so {R} {G} s t counted (request.Read at r) a c = same s.node t.node (ap (λ (d : RequestHandler R G). d.node) c.0)
 answered_so {R} {G} s t counted request.Stop a c = same s.node t.node (ap (λ (d : RequestHandler R G). d.node) c.0)
 
--- n commands, or fewer, of n requests
-times : {R : Type 0} {G : Ghosts R} (n : ℕ) (s t : RequestHandler R G) → Asks n s t → AsksSome s.node t.node × (applied_of t.node ≡ applied_of s.node)
-times {R} {G} zero s t e = (
-  (zero, ap (λ (d : RequestHandler R G). replica_of d.node) e),
-  ap (λ (d : RequestHandler R G). applied_of d.node) e,
-)
-times {R} {G} (suc n) s u (t, made, one) =
-    let before = times n s t made in
-    let a = answered_so t u one.counted one.request one.answer one.answers in
-    (more before.0 a.so, a.applied ∙ before.1)
-  where
-    more : AsksSome s.node t.node → (replica_of u.node ≡ replica_of t.node) ⊎ AskedOnce (replica_of t.node) (replica_of u.node) → AsksSome s.node u.node
-    more (k, asked) (inl is) = (k, subst (λ (r : Replica R G). AskedTimes k (replica_of s.node) r) (sym is) asked)
-    more (k, asked) (inr once) = (suc k, (replica_of t.node, asked, once))
+-- a change that was answered
+asked_so : {R : Type 0} {G : Ghosts R} (c d : HttpService R G) → c.changes_left ≡ suc d.changes_left →
+    Asked c.handler.node d.handler.node → AsksWithin c d
+asked_so c d less a = elim a.so [
+  | inl same ↦ record { asked = zero; fits = omega (arith, less); times = same }
+  | inr once ↦ record { asked = suc zero; fits = omega (arith, less); times = (replica_of c.handler.node, refl, once) }
+]
 
-pub asks_some : {R : Type 0} {G : Ghosts R} (s t : RequestHandler R G) → AreAsked s t → AsksSome s.node t.node
-asks_some s t (n, made) = (times n s t made).0
+none_asked : {R : Type 0} {G : Ghosts R} (c d : HttpService R G) → d.handler.node ≡ c.handler.node → c.changes_left ≡ d.changes_left →
+    AsksWithin c d
+none_asked {R} {G} c d same left =
+    record { asked = zero; fits = omega (arith, left); times = ap (λ (n : Node R G). replica_of n) same }
 
-pub applied_stays : {R : Type 0} {G : Ghosts R} (s t : RequestHandler R G) → AreAsked s t → applied_of s.node ≤ applied_of t.node
-applied_stays s t (n, made) = let e = (times n s t made).1 in omega (arith, e)
+pub turned : {R : Type 0} {G : Ghosts R} (c d : HttpService R G) → d.handler ≡ c.handler → d.changes_left ≡ c.changes_left → AsksWithin c d
+turned {R} {G} c d same left = none_asked c d (ap (λ (h : RequestHandler R G). h.node) same) (sym left)
+
+-- a request that was answered
+pub answered : {R : Type 0} {G : Ghosts R} (c d : HttpService R G) (counted : Counters) (q : Request) (a : AnswerValue) →
+    c.changes_left ≡ (if is_change q then suc d.changes_left else d.changes_left) → Answers c.handler d.handler counted q a → AsksWithin c d
+answered c d counted (request.Change words text) a left k =
+    asked_so c d left (answered_so c.handler d.handler counted (request.Change words text) a k)
+answered {R} {G} c d counted (request.Read at r) a left k =
+    none_asked c d (ap (λ (h : RequestHandler R G). h.node) k.0) left
+answered {R} {G} c d counted request.Stop a left k =
+    none_asked c d (ap (λ (h : RequestHandler R G). h.node) k.0) left
+
+-- requests one after another
+times_then : {R : Type 0} {G : Ghosts R} (m n : ℕ) (s t u : Replica R G) → AskedTimes m s t → AskedTimes n t u → AskedTimes (n + m) s u
+times_then {R} {G} m zero s t u a e = subst (λ (r : Replica R G). AskedTimes m s r) (sym e) a
+times_then m (suc n) s t u a (w, b, once) = (w, times_then m n s t w a b, once)
+
+pub within_then : {R : Type 0} {G : Ghosts R} (c d e : HttpService R G) → AsksWithin c d → AsksWithin d e → AsksWithin c e
+within_then c d e a b = record {
+  asked = b.asked + a.asked;
+  fits = omega (arith, a.fits, b.fits);
+  times = times_then a.asked b.asked (replica_of c.handler.node) (replica_of d.handler.node) (replica_of e.handler.node) a.times b.times;
+}
+
+-- from a round on
+pub up_to : {R : Type 0} {G : Ghosts R} (c d : HttpService R G) → AsksWithin c d → AsksUpTo c.changes_left c.handler.node d.handler.node
+up_to c d a = (a.asked, omega (arith, a.fits), a.times)

@@ -39,7 +39,7 @@ pub(crate) struct Client {
 pub(crate) enum Look {
     /// Nothing could be done.
     Quiet,
-    /// Bytes were moved.
+    /// Bytes were moved, or a request was answered.
     Busy,
     /// It is left.
     Left,
@@ -145,7 +145,7 @@ impl Client {
             || (self.served >= MOST && !self.connection.wants_write())
     }
 
-    /// What became of the client, where bytes were moved or not.
+    /// What became of the client, where bytes were moved or a request was answered, or neither.
     pub(crate) fn looked(&mut self, has_moved: bool, now: u64) -> Look {
         if has_moved {
             self.moved = now;

@@ -1,7 +1,9 @@
 //! The control socket: a Unix socket, where figures alone are told a TCP port too, and the clients of both.
 
 ghost use Rattle.std.specs.Prelude.{◌≡◌};
-ghost use Rattle.node_control.specs.inner.Runs.{AreAsked};
+ghost use Rattle.node_loop.specs.Hosting.{AsksUpTo};
+ghost use Rattle.node_control.specs.declared.control.TheConstants.{CHANGES};
+ghost use Rattle.node_control.specs.inner.Runs.{AsksWithin};
 
 use crate::client::{Client, Look};
 use crate::noting::say;
@@ -27,6 +29,9 @@ use thiserror::Error;
 const CLIENTS: usize = 8;
 
 const FIGURE_CLIENTS: usize = 4;
+
+/// How many changes are asked between two rounds of the node at most.
+const CHANGES: u8 = 8;
 
 /// For how long a client is left alone, though others wait, whose request isn't whole meanwhile, or that moved no
 /// byte, in microseconds.
@@ -250,7 +255,8 @@ impl Entrance {
 
     /// Lets a client go, and counts what was refused there before it was a request.
     fn leave<R: Records>(&mut self, place: usize, service: &mut HttpService<R>)
-        ensures { service.new.handler ≡ service.old.handler }
+        ensures handler { service.new.handler ≡ service.old.handler }
+        ensures left { service.new.changes_left ≡ service.old.changes_left }
     {
         if place >= self.clients.len() {
             return;
@@ -264,7 +270,7 @@ impl Entrance {
     /// Does what can be done at once for a client: one read, one answer, one write. The client beyond the others is let
     /// go behind its first answer, so that it is there for whoever asks next.
     fn look_at<R: Records>(&mut self, place: usize, service: &mut HttpService<R>, now: u64) -> Look
-        ensures { AreAsked service.old.handler service.new.handler }
+        ensures { AsksWithin service.old service.new }
     {
         let Some(client) = self.clients.get_mut(place) else {
             return Look::Quiet;
@@ -274,18 +280,19 @@ impl Entrance {
         let Some(has_moved) = client.answer(service, now) else {
             return Look::Left;
         };
-        if service.answered != answered {
+        let is_answered = service.answered != answered;
+        if is_answered {
             client.note_answer();
         }
         if place >= self.most && client.is_served() {
             return Look::Left;
         }
-        client.looked(has_moved, now)
+        client.looked(has_moved || is_answered, now)
     }
 
     /// Looks at the next client.
     fn look<R: Records>(&mut self, service: &mut HttpService<R>, now: u64) -> Look
-        ensures { AreAsked service.old.handler service.new.handler }
+        ensures { AsksWithin service.old service.new }
     {
         if self.next >= self.clients.len() {
             self.next = 0;
@@ -300,17 +307,23 @@ impl Entrance {
         look
     }
 
-    /// Serves one client after the other, each once, beginning behind the last; of what is asked one request is worked
-    /// at. Whether anything was done.
+    /// Serves one client after the other, each once, beginning behind the last, until one asked something other than a
+    /// change. Whether anything was done.
     fn serve<R: Records>(&mut self, poll: &Poll, service: &mut HttpService<R>, now: u64) -> bool
-        ensures { AreAsked service.old.handler service.new.handler }
+        ensures { AsksWithin service.old service.new }
     {
         service.is_scraped = self.is_scraped;
         let mut is_busy = self.take_in(poll, now);
         for _client in 0..self.clients.len() {
+            let left = service.changes_left;
             match self.look(service, now) {
                 Look::Quiet => {}
-                Look::Busy => return true,
+                Look::Busy => {
+                    if service.changes_left == left {
+                        return true;
+                    }
+                    is_busy = true;
+                }
                 Look::Left => is_busy = true,
             }
         }
@@ -403,7 +416,7 @@ impl ControlSocket {
 
     /// Serves those who are told figures, if there is a port for them.
     fn serve_figures<R: Records>(&mut self, service: &mut HttpService<R>, now: u64) -> bool
-        ensures { AreAsked service.old.handler service.new.handler }
+        ensures { AsksWithin service.old service.new }
     {
         match &mut self.figures {
             Some(figures) => figures.serve(&self.poll, service, now),
@@ -413,7 +426,7 @@ impl ControlSocket {
 
     /// Serves those who are told figures, and operators where nothing was done there.
     fn figures_first<R: Records>(&mut self, service: &mut HttpService<R>, now: u64) -> bool
-        ensures { AreAsked service.old.handler service.new.handler }
+        ensures { AsksWithin service.old service.new }
     {
         if self.serve_figures(service, now) {
             return true;
@@ -423,7 +436,7 @@ impl ControlSocket {
 
     /// Serves operators, and those who are told figures where nothing was done there.
     fn operators_first<R: Records>(&mut self, service: &mut HttpService<R>, now: u64) -> bool
-        ensures { AreAsked service.old.handler service.new.handler }
+        ensures { AsksWithin service.old service.new }
     {
         if self.operators.serve(&self.poll, service, now) {
             return true;
@@ -431,11 +444,12 @@ impl ControlSocket {
         self.serve_figures(service, now)
     }
 
-    /// Serves whoever asks, operators and those who are told figures first in turn; one request is worked at. Whether
-    /// anything was done.
+    /// Serves clients between two rounds of the node, operators and those who are told figures first in turn: some
+    /// changes are asked, or one other request is worked at. Whether anything was done.
     pub(crate) fn serve<R: Records>(&mut self, service: &mut HttpService<R>, now: u64) -> bool
-        ensures { AreAsked service.old.handler service.new.handler }
+        ensures { AsksUpTo CHANGES service.old.handler.node service.new.handler.node }
     {
+        service.changes_left = CHANGES;
         self.is_figures_first = !self.is_figures_first;
         if self.is_figures_first {
             return self.figures_first(service, now);

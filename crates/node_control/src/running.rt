@@ -3,7 +3,7 @@
 ghost use Rattle.std.specs.Prelude.{◌≡◌, None};
 ghost use Rattle.px_replica.specs.Faults.{fault_of};
 ghost use Rattle.px_transport.specs.Wires.{IsQuiet, Moves};
-ghost use Rattle.node_loop.specs.Hosting.{AsksSome, Hosted};
+ghost use Rattle.node_loop.specs.Hosting.{AsksUpTo, Hosted};
 ghost use Rattle.node_loop.specs.Turns.{Served, standing};
 
 use crate::control::ControlSocket;
@@ -21,7 +21,7 @@ fn serve<R: Records, RT: Clock + Eprint>(
     control: &mut Option<ControlSocket>,
     now: u64,
 ) -> bool
-    ensures asks { AsksSome service.old.handler.node service.new.handler.node }
+    ensures asks { AsksUpTo 8 service.old.handler.node service.new.handler.node }
     ensures none { control.old ≡ None → (service.new.handler ≡ service.old.handler) × (control.new ≡ None) }
 {
     match control {

@@ -1,6 +1,6 @@
 //! Requests as the request handler has them, and its answers as HTTP has them.
 
-ghost use Rattle.std.specs.Prelude.{◌≡◌, [], true, false, IfOk, OnErr, OnOk, string_bytes, unwrap_or};
+ghost use Rattle.std.specs.Prelude.{◌≡◌, ◌==◌, ◌||◌, [], suc, true, false, IfOk, OnErr, OnOk, string_bytes, unwrap_or};
 ghost use Rattle.http.specs.Uri.{uri_query};
 ghost use Rattle.http_server.specs.Response.{IsBlank};
 ghost use Rattle.node_requests.specs.Answers.{answer_value};
@@ -26,6 +26,8 @@ pub(crate) struct HttpService<R: Records> {
     pub(crate) counters: Counters,
     /// Whether the node takes no change in now, since it lacks entries that others have.
     pub(crate) is_listening: bool,
+    /// How many changes may be asked before the node's next round.
+    pub(crate) changes_left: u8,
     /// Whether what comes now came where figures alone are told, and nothing is changed.
     pub(crate) is_scraped: bool,
     /// Whether what comes now came over the connection that is kept for `health` and `stop`.
@@ -151,6 +153,7 @@ impl<R: Records> HttpService<R> {
             handler: RequestHandler::new(alloc, node),
             counters,
             is_listening: true,
+            changes_left: 0,
             is_scraped: false,
             is_spare: false,
             answered: 0,
@@ -166,6 +169,7 @@ impl<R: Records> HttpService<R> {
             handler,
             counters: _,
             is_listening: _,
+            changes_left: _,
             is_scraped: _,
             is_spare: _,
             answered: _,
@@ -229,6 +233,7 @@ impl<R: Records> HttpService<R> {
     pub(crate) fn count(&mut self, status: u16)
         ensures handler { self.new.handler ≡ self.old.handler }
         ensures scraped { self.new.is_scraped ≡ self.old.is_scraped }
+        ensures left { self.new.changes_left ≡ self.old.changes_left }
     {
         self.answered = self.answered.wrapping_add(1);
         if self.is_scraped {
@@ -250,6 +255,7 @@ impl<R: Records> HttpService<R> {
             (IsAnswered self.old.handler self.new.handler self.old.counters request.now response.new) }
         ensures memory { OnErr result (self.new ≡ self.old) }
         ensures scraped { self.new.is_scraped ≡ self.old.is_scraped }
+        ensures left { self.new.changes_left ≡ self.old.changes_left }
     {
         let answer = self.handler.answer(request, &self.counters)?;
         self.write(&answer, content_type(request), response);
@@ -260,7 +266,7 @@ impl<R: Records> HttpService<R> {
     /// Asks nothing: this is answered.
     fn turn_away(&mut self, answer: &Answer, response: &mut Response)
         requires { IsBlank response.old }
-        ensures away { IsTurnedAway self.old.handler self.new.handler (answer_value answer.now) response.new }
+        ensures away { IsTurnedAway self.old self.new (answer_value answer.now) response.new }
         ensures scraped { self.new.is_scraped ≡ self.old.is_scraped }
     {
         self.write(answer, TEXT, response);
@@ -270,7 +276,7 @@ impl<R: Records> HttpService<R> {
     /// Asks nothing: this status is all that is answered.
     fn refuse(&mut self, status: u16, response: &mut Response)
         requires { IsBlank response.old }
-        ensures away { IsTurnedAway self.old.handler self.new.handler (no_text status) response.new }
+        ensures away { IsTurnedAway self.old self.new (no_text status) response.new }
         ensures scraped { self.new.is_scraped ≡ self.old.is_scraped }
     {
         let answer = Answer {
@@ -283,7 +289,7 @@ impl<R: Records> HttpService<R> {
     /// Asks nothing: what is asked isn't served here.
     fn not_found(&mut self, response: &mut Response)
         requires { IsBlank response.old }
-        ensures away { IsTurnedAway self.old.handler self.new.handler not_found response.new }
+        ensures away { IsTurnedAway self.old self.new not_found response.new }
         ensures scraped { self.new.is_scraped ≡ self.old.is_scraped }
     {
         self.refuse(404, response);
@@ -292,7 +298,7 @@ impl<R: Records> HttpService<R> {
     /// Asks nothing now: the client is to ask again.
     fn put_off(&mut self, response: &mut Response) -> Result<(), AllocError>
         requires { IsBlank response.old }
-        ensures away { OnOk result (IsTurnedAway self.old.handler self.new.handler waiting response.new) }
+        ensures away { OnOk result (IsTurnedAway self.old self.new waiting response.new) }
         ensures still { self.new.handler ≡ self.old.handler }
         ensures memory { OnErr result (self.new ≡ self.old) }
         ensures scraped { self.new.is_scraped ≡ self.old.is_scraped }
@@ -311,8 +317,9 @@ impl<R: Records> HttpService<R> {
         ensures read { is_read request.now ≡ true → OnOk result
             (IsAnswered self.old.handler self.new.handler self.old.counters request.now response.new) }
         ensures other { is_read request.now ≡ false → OnOk result
-            (IsTurnedAway self.old.handler self.new.handler not_found response.new) }
+            (IsTurnedAway self.old self.new not_found response.new) }
         ensures still { self.new.handler ≡ self.old.handler }
+        ensures left { self.new.changes_left ≡ self.old.changes_left }
         ensures memory { OnErr result (self.new ≡ self.old) }
         ensures scraped { self.new.is_scraped ≡ self.old.is_scraped }
     {
@@ -325,8 +332,28 @@ impl<R: Records> HttpService<R> {
         }
     }
 
-    /// Handles a request that was understood: a change isn't asked while the node is catching up, and at the last
-    /// connection nothing is but `health` and `stop`.
+    /// Asks a change, unless the node is catching up, or as many were asked since its last round as may be.
+    fn change(&mut self, request: &Request, response: &mut Response) -> Result<(), AllocError>
+        requires blank { IsBlank response.old }
+        requires change { is_change request.now ≡ true }
+        ensures asked { (self.old.is_listening || (self.old.changes_left == 0)) ≡ false → OnOk result
+            (IsAnswered self.old.handler self.new.handler self.old.counters request.now response.new ×
+            (self.old.changes_left ≡ suc self.new.changes_left)) }
+        ensures away { (self.old.is_listening || (self.old.changes_left == 0)) ≡ true → OnOk result
+            (IsTurnedAway self.old self.new waiting response.new) }
+        ensures memory { OnErr result (self.new ≡ self.old) }
+        ensures scraped { self.new.is_scraped ≡ self.old.is_scraped }
+    {
+        if self.is_listening || self.changes_left == 0 {
+            return self.put_off(response);
+        }
+        self.ask(request, response)?;
+        self.changes_left -= 1;
+        Ok(())
+    }
+
+    /// Handles a request that was understood: a change isn't asked while the node is catching up, nor more of them
+    /// between two rounds than may be, and at the last connection nothing is but `health` and `stop`.
     fn pass_on(&mut self, request: &Request, response: &mut Response) -> Result<(), AllocError>
         requires { IsBlank response.old }
         ensures passed { OnOk result (IsPassedOn self.old self.new request.now response.new) }
@@ -340,8 +367,8 @@ impl<R: Records> HttpService<R> {
         if self.is_scraped {
             return self.look(request, response);
         }
-        if self.is_listening && is_change(request) {
-            return self.put_off(response);
+        if is_change(request) {
+            return self.change(request, response);
         }
         self.ask(request, response)
     }

@@ -1,5 +1,5 @@
 -- What a running node does, one thing after another: turns, and asks between them.
-use Rattle.std.specs.Prelude.{◌≡◌, ◌⊎◌, ℕ, zero, suc, [], Option, Some, None}
+use Rattle.std.specs.Prelude.{◌≡◌, ◌⊎◌, ◌≤◌, ℕ, zero, suc, [], Option, Some, None}
 use Rattle.px_model.specs.Node.Input.{Asks}
 use Rattle.px_model.specs.Spelling.{Bytes}
 use Rattle.px_records.specs.declared.records.Records.{Ghosts}
@@ -19,9 +19,9 @@ abbrev pub AskedTimes : {R : Type 0} {G : Ghosts R} → (n : ℕ) → (s t : Rep
 AskedTimes zero s t = t ≡ s
 AskedTimes {R} {G} (suc n) s u = (t : Replica R G) × AskedTimes n s t × AskedOnce t u
 
--- some commands are asked of it, or none
-abbrev pub AsksSome : {R : Type 0} {G : Ghosts R} → (s t : Node R G) → Type 0
-AsksSome s t = (n : ℕ) × AskedTimes n (replica_of s) (replica_of t)
+-- commands are asked of it, as many at most, or none
+abbrev pub AsksUpTo : {R : Type 0} {G : Ghosts R} → (most : ℕ) → (s t : Node R G) → Type 0
+AsksUpTo most s t = (n : ℕ) × (n ≤ most) × AskedTimes n (replica_of s) (replica_of t)
 
 -- a command is asked of the member, and its wire and its buffers are left alone
 pub record AskedAt {R : Type 0} {G : Ghosts R} (x y : Stand G) : Type 0 where

@@ -1,5 +1,5 @@
 -- What becomes of a request that came as HTTP.
-use Rattle.std.specs.Prelude.{◌≡◌, ◌⊎◌, ◌&&◌, ◌||◌, ℕ, Bool, true, false, not, List, [], ◌∷◌, ◌++◌, codes}
+use Rattle.std.specs.Prelude.{◌≡◌, ◌⊎◌, ◌&&◌, ◌||◌, ◌==◌, ℕ, suc, Bool, true, false, not, List, [], ◌∷◌, ◌++◌, codes}
 use Rattle.std.specs.Prelude.{if◌then◌else◌}
 use Rattle.http.specs.declared.request.Request as http
 use Rattle.http_server.specs.Exchange.{Call, Chain}
@@ -29,8 +29,10 @@ pub record IsAnswered {R : Type 0} {G : Ghosts R} (s t : RequestHandler R G) (co
   pub says : Says r answer
 
 -- nothing was asked and nothing changes; the response says this answer
-pub record IsTurnedAway {R : Type 0} {G : Ghosts R} (s t : RequestHandler R G) (a : AnswerValue) (r : Response) : Type 0 where
-  pub still : t ≡ s
+pub record IsTurnedAway {R : Type 0} {G : Ghosts R} (c d : HttpService R G) (a : AnswerValue) (r : Response) :
+    Type 0 where
+  pub still : d.handler ≡ c.handler
+  pub left : d.changes_left ≡ c.changes_left
   pub says : Says r a
 
 -- ---- who is answered
@@ -61,11 +63,12 @@ abbrev pub is_seated : {R : Type 0} {G : Ghosts R} → HttpService R G → Reque
 is_seated c request = not c.is_spare || is_urgent request
 
 -- Whether a request that was understood is answered: where there is a connection for it; a change unless the node is
--- catching up; and where figures alone are served, what only reads.
+-- catching up, or as many were asked since its last round as may be; and where figures alone are served, what only
+-- reads.
 abbrev pub is_asked : {R : Type 0} {G : Ghosts R} → HttpService R G → Request → Bool
 is_asked c request =
     is_seated c request &&
-    (if c.is_scraped then is_read request else not (c.is_listening && is_change request))
+    (if c.is_scraped then is_read request else not ((c.is_listening || (c.changes_left == 0)) && is_change request))
 
 -- what a request is answered that is to come again, and one that isn't served there
 abbrev pub waiting : AnswerValue
@@ -83,8 +86,10 @@ away c request = if c.is_scraped && is_seated c request then not_found else wait
 
 -- a request that was understood is answered, or is answered so and nothing changes
 abbrev pub PassedOnIf : {R : Type 0} {G : Ghosts R} → Bool → (c d : HttpService R G) → Request → Response → Type 0
-PassedOnIf true c d request r = IsAnswered c.handler d.handler c.counters request r
-PassedOnIf false c d request r = IsTurnedAway c.handler d.handler (away c request) r
+PassedOnIf true c d request r =
+    IsAnswered c.handler d.handler c.counters request r ×
+    (c.changes_left ≡ (if is_change request then suc d.changes_left else d.changes_left))
+PassedOnIf false c d request r = IsTurnedAway c d (away c request) r
 
 abbrev pub IsPassedOn : {R : Type 0} {G : Ghosts R} → (c d : HttpService R G) → Request → Response → Type 0
 IsPassedOn c d request r = PassedOnIf (is_asked c request) c d request r
@@ -95,14 +100,14 @@ IsPassedOn c d request r = PassedOnIf (is_asked c request) c d request r
 -- status or the line of its refusal, and nothing changes
 abbrev pub HandledAs : {R : Type 0} {G : Ghosts R} → (c d : HttpService R G) → RoutedValue → Response → Type 0
 HandledAs c d (Asked v) r = (request : Request) × (request_value request ≡ v) × IsPassedOn c d request r
-HandledAs c d (Refused status) r = IsTurnedAway c.handler d.handler (no_text status) r
-HandledAs c d (Unread code) r = IsTurnedAway c.handler d.handler (refused code 0) r
+HandledAs c d (Refused status) r = IsTurnedAway c d (no_text status) r
+HandledAs c d (Unread code) r = IsTurnedAway c d (refused code 0) r
 
 -- where figures alone are served, another path isn't found
 abbrev pub HandledIf : {R : Type 0} {G : Ghosts R} → (served : Bool) → (c d : HttpService R G) → RoutedValue → Response →
     Type 0
 HandledIf true c d asked r = HandledAs c d asked r
-HandledIf false c d asked r = IsTurnedAway c.handler d.handler not_found r
+HandledIf false c d asked r = IsTurnedAway c d not_found r
 
 abbrev pub is_served : {R : Type 0} {G : Ghosts R} → HttpService R G → http.Request (List ℕ) → Bool
 is_served c q = not c.is_scraped || is_of_figures (path_of q)

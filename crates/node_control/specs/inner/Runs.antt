@@ -1,23 +1,12 @@
--- What requests do to a request handler, one after another.
-use Rattle.std.specs.Prelude.{◌≡◌, ℕ, zero, suc}
+-- What requests do to a node between two of its rounds.
+use Rattle.std.specs.Prelude.{◌≤◌, ◌+◌, ℕ}
 use Rattle.px_records.specs.declared.records.Records.{Ghosts}
-use Rattle.node_requests.specs.Answers.{AnswerValue}
-use Rattle.node_requests.specs.Requests.{Answers}
-use Rattle.node_requests.specs.declared.handler.RequestHandler.{RequestHandler}
-use Rattle.node_requests.specs.declared.request.Request.{Request}
-use Rattle.node_requests.specs.declared.counters.Counters.{Counters}
+use Rattle.pf_node.specs.Nodes.{replica_of}
+use Rattle.node_loop.specs.Hosting.{AskedTimes}
+use Rattle.node_control.specs.declared.service.HttpService.{HttpService}
 
--- a request was asked at the request handler and answered
-pub record IsAsked {R : Type 0} {G : Ghosts R} (s t : RequestHandler R G) : Type 0 where
-  pub counted : Counters
-  pub request : Request
-  pub answer : AnswerValue
-  pub answers : Answers s t counted request answer
-
--- so many requests, one after another
-abbrev pub Asks : {R : Type 0} {G : Ghosts R} → (requests : ℕ) → (s t : RequestHandler R G) → Type 0
-Asks zero s t = t ≡ s
-Asks {R} {G} (suc n) s u = (t : RequestHandler R G) × Asks n s t × IsAsked t u
-
-abbrev pub AreAsked : {R : Type 0} {G : Ghosts R} → (s t : RequestHandler R G) → Type 0
-AreAsked s t = (requests : ℕ) × Asks requests s t
+-- commands were asked of the node, and for each of them one fewer may be asked before its next round
+pub record AsksWithin {R : Type 0} {G : Ghosts R} (c d : HttpService R G) : Type 0 where
+  pub asked : ℕ
+  pub fits : asked + d.changes_left ≤ c.changes_left
+  pub times : AskedTimes asked (replica_of c.handler.node) (replica_of d.handler.node)

@@ -16,7 +16,7 @@ returns-else-not-serve-clause-hosted g c es t =
     let r = c.in-Ok.ensures.served es t in (
       r.0,
       r.1,
-      hosted_on _ _ _ c.serve.ensures.asks.0 (hosted_served _ _ None r.2) c.serve.ensures.asks.1 refl refl refl refl,
+      hosted_on _ _ _ c.serve.ensures.asks.0 (hosted_served _ _ None r.2) c.serve.ensures.asks.2 refl refl refl refl,
     )
 
 pub returns-then-not-serve-clause-hosted : goal.returns-then-not-serve-clause-hosted
@@ -24,7 +24,7 @@ returns-then-not-serve-clause-hosted g c es t =
     let r = c.in-Ok.ensures.served es t in (
       r.0,
       c.wait.ensures.quiet r.0 r.1,
-      hosted_on _ _ _ c.serve.ensures.asks.0 (hosted_served _ _ None r.2) c.serve.ensures.asks.1 refl refl refl refl,
+      hosted_on _ _ _ c.serve.ensures.asks.0 (hosted_served _ _ None r.2) c.serve.ensures.asks.2 refl refl refl refl,
     )
 
 pub returns-in-Err-clause-turns : goal.returns-in-Err-clause-turns

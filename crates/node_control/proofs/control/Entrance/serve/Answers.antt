@@ -1,9 +1,9 @@
 -- one client more
-use Rattle.node_control.proofs.Asking.{asked_then}
+use Rattle.node_control.proofs.Asked.{within_then}
 use Rattle.node_control.proofs.control.Entrance.serve.Goals as goal
 
 pub loop-client-preserved : goal.loop-client-preserved
-loop-client-preserved g c = asked_then _ _ _ c.loop-client.invariant c.look.ensures
+loop-client-preserved g c = within_then _ _ _ c.loop-client.invariant c.look.ensures
 
 pub returns-in-Busy : goal.returns-in-Busy
-returns-in-Busy g c = asked_then _ _ _ c.loop-client.invariant c.look.ensures
+returns-in-Busy g c = within_then _ _ _ c.loop-client.invariant c.look.ensures
