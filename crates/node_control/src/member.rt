@@ -218,6 +218,8 @@ where
         Ok(node) => node,
         Err((fault, records)) => return (Ended::Fault(fault), records),
     };
-    let (ended, node) = run_at(rt, alloc, node, wire, timer, observer, hears_asks, place, turns);
+    let (ended, node) = run_at(
+        rt, alloc, node, wire, timer, observer, hears_asks, place, turns,
+    );
     (ended, node.close())
 }

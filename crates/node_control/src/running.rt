@@ -162,24 +162,9 @@ pub(crate) fn pass_on<R: Records, W: Wire, T: Timer, RT: Clock + Eprint>(
 {
     let start = Instant::now(rt).ok();
     match passes(
-        rt,
-        service,
-        wire,
-        observer,
-        room,
-        control,
-        timer,
-        start,
-        turns,
+        rt, service, wire, observer, room, control, timer, start, turns,
     ) {
-        Ok(()) => finish(
-            &mut service.handler.node,
-            wire,
-            room,
-            timer,
-            rt,
-            start,
-        ),
+        Ok(()) => finish(&mut service.handler.node, wire, room, timer, rt, start),
         Err(fault) => Err(fault),
     }
 }
