@@ -8,7 +8,7 @@ use Rattle.px_records.specs.declared.records.Records.{Ghosts}
 use Rattle.px_wire.specs.Message.{Group, group}
 use Rattle.px_wire.specs.declared.membership.Membership.{Membership}
 use Rattle.px_replica.specs.Lives.{Deed}
-use Rattle.px_transport.specs.Identities.{Identity, with_me, with_sealing}
+use Rattle.px_transport.specs.Identities.{Identity, with_me}
 use Rattle.px_transport.specs.Loopback as loopback
 use Rattle.px_transport.specs.Loopback.{Looped}
 use Rattle.px_transport.specs.Sending.{Sealer}
@@ -192,8 +192,7 @@ me_is m k i j e = some_is m k (ap (λ (x : Identity). x.me) e)
 pub below_is : (m k : ℕ) (i j : Identity) → with_me m i ≡ with_me k j → i.sealing ≡ j.sealing
 below_is m k i j e = ap (λ (x : Identity). x.sealing) e
 
-pub sealing_is : (keys keys' : List (List ℕ)) (s s' : Sealer) (i j : Identity) → with_sealing keys s i ≡ with_sealing keys' s' j →
-    (keys ≡ keys') × (s ≡ s')
-sealing_is keys keys' s s' i j e =
-    let p = some_is (keys, s) (keys', s') (ap (λ (x : Identity). x.sealing) e) in
+pub sealing_is : (keys keys' : List (List ℕ)) (s s' : Sealer) → Some (keys, s) ≡ Some (keys', s') → (keys ≡ keys') × (s ≡ s')
+sealing_is keys keys' s s' e =
+    let p = some_is (keys, s) (keys', s') e in
     (ap (λ (q : List (List ℕ) × Sealer). q.0) p, ap (λ (q : List (List ℕ) × Sealer). q.1) p)

@@ -101,4 +101,4 @@ returns-clause-saw g c =
 pub returns-clause-looks : goal.returns-clause-looks
 returns-clause-looks g c =
     on_ok c.tick_if.result (λ _. looks_once (g.T.Timer.told c.args.timer.now) (g.T.Timer.told c.action-action.new.timer)
-    (g.T.Timer.told c.repeats-is_due.new.self) _ _ _ c.action-action.ensures.told c.repeats-is_due.ensures.told) c.tick_if.ensures.ticked
+    (g.T.Timer.told c.repeats-is_due.new.self) c.args.now c.view_of-view.result c.drain.new.room.peer_progress c.action-action.ensures.told c.repeats-is_due.ensures.told) c.tick_if.ensures.ticked
