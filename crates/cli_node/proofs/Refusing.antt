@@ -1,6 +1,6 @@
 -- A wire that isn't there.
-use Rattle.std.proofs.Common.{◌≡◌, ◌⊎◌, Result, Ok, Err, inl, inr}
-use Rattle.std.specs.Prelude.{OnErr}
+use Rattle.std.proofs.Common.{◌≡◌, ◌⊎◌, Result, Ok, Err, inl, inr, subst}
+use Rattle.std.specs.Prelude.{OnErr, IfOk}
 use Rattle.cli_node.specs.declared.outcome.Outcome.{Outcome}
 use Rattle.cli_node.specs.declared.outcome.Outcome.TheVariants.{Memory, Refused}
 
@@ -10,3 +10,11 @@ pub refused_so : {W : Type 0} (wire : Result W Outcome) (outcome : Outcome) → 
 refused_so (Ok w) outcome is h = absurd (cc)
 refused_so (Err o) outcome is (inl e) = inl (cc)
 refused_so (Err o) outcome is (inr e) = inr (cc)
+
+-- what holds of the wire that is there
+pub wire_is : {W : Type 0} (holds : W → Type 0) (wire : Result W Outcome) (w : W) → wire ≡ Ok w → IfOk wire holds → holds w
+wire_is holds (Ok v) w is h = subst holds (some_ok v w is) h
+  where
+    some_ok : (v w : W) → Ok {E = Outcome} v ≡ Ok w → v ≡ w
+    some_ok v w e = cc
+wire_is holds (Err o) w is h = absurd (cc)

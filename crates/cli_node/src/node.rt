@@ -2,7 +2,6 @@
 
 ghost use Rattle.std.specs.Prelude.{◌≡◌, ◌≢◌, ◌<◌, ◌≤◌, ◌⊎◌, ◌↔◌, Err, false, length, IfSome, OnErr, IsSome, IsTrue};
 ghost use Rattle.std.specs.Prelude.{ℕ, Bool, [], Some, None, IfOk, option_map, option_and_then};
-ghost use Rattle.px_transport.specs.Loopback.{Looped, below_of};
 ghost use Rattle.toml.specs.Data.{as_str, get_member};
 ghost use Rattle.px_packet.specs.Hmac.{key_block};
 ghost use Rattle.px_packet.specs.Packets.{packet_key};
@@ -11,7 +10,7 @@ ghost use Rattle.px_transport.specs.Wiring.{keys_of, sealer_of};
 ghost use Rattle.cli_files.specs.Files.{settings_of};
 ghost use Rattle.cli_files.specs.Settings.{number_of};
 ghost use Rattle.cli_node.specs.declared.outcome.Outcome.TheVariants.{Memory, Refused};
-ghost use Rattle.cli_node.specs.inner.Outcomes.{ComesTo, ComesOpen, ComesOpenOr};
+ghost use Rattle.cli_node.specs.inner.Outcomes.{ComesTo, ComesOpen, ComesOpenOr, IsWireless};
 ghost use Rattle.cli_node.specs.inner.Stores.{IsStoreless};
 ghost use Rattle.cli_node.specs.inner.Places.{is_count, has_place, turns_or_all, chosen};
 
@@ -23,13 +22,13 @@ use crate::sealing::{Sealing, sealing_for};
 use crate::store::{Found, found_at, is_made, record_at};
 use clap::ArgMatches;
 use cli_files::NodeFile;
-use node_control::{ControlPlace, Observer, run_member};
-use node_loop::{Membership, open_member};
+use node_control::{ControlPlace, Observer, run_at_socket, run_sealed_at_socket};
+use node_loop::{Membership, TickTimer, open_member};
 use node_udp::{Address, BindFault, UdpWire};
 use px_packet::PacketKeys;
 use px_records::Records;
 use px_store::SqlRecords;
-use px_transport::{LoopbackWire, PacketWire, Wire};
+use px_transport::{PacketWire, Wire};
 use sqlite::{File, FileStore};
 use std::alloc::{AllocError, Global};
 use std::net::{SocketAddr, UdpSocket};
@@ -252,68 +251,103 @@ fn sealed(
     }
 }
 
-/// The wire that keeps what the member sends to itself, and the observer of its run.
-fn observed<W: Wire + Drop>(
+/// The record of a member that has no wire, for this reason, is opened alone.
+fn open_alone<R: Records>(
     alloc: Global,
-    words: NodeWords<'_, '_, '_>,
     m: Membership,
-    wire: Result<W, Outcome>,
-) -> Result<(LoopbackWire<W>, Observer), Outcome>
-    requires refused { OnErr wire ((wire ≡ Err Memory) ⊎ (wire ≡ Err (Refused 82))) }
-    requires new { IfOk wire (λ w. W.traffic w []) }
-    ensures refused { OnErr result ((result ≡ Err Memory) ⊎ (result ≡ Err (Refused 82))) }
-    ensures new { IfOk result (λ it. Looped (W.traffic (below_of it.0)) it.0 []) }
+    records: R,
+    outcome: Outcome,
+) -> (Outcome, R)
+    requires members { R.members records ≡ m.members }
+    requires here { m.me < m.members }
+    requires wireless { IsWireless outcome }
+    ensures hosted { ComesOpen R.Records m records result.0 result.1 }
+    ensures turns { ComesTo R.Records m records result.0 result.1 }
 {
-    let wire = match wire {
-        Ok(wire) => LoopbackWire::new(alloc, wire, m.me()),
-        Err(outcome) => return Err(outcome),
-    };
-    match Observer::new(alloc, m, words.key.is_some(), words.is_quiet) {
-        Ok(observer) => Ok((wire, observer)),
-        Err(_) => Err(Outcome::Memory),
-    }
+    let (ended, records) = open_member(alloc, m, records);
+    (ended_outcome(ended, outcome), records)
 }
 
-/// The run of a member over a wire, with a control socket at the place if there is one; without a wire its record is
-/// opened alone. What the member sends to itself doesn't go over the wire.
-fn run_over<R: Records, W: Wire + Drop>(
+/// The run of a member at its socket, without a key, with a control socket at the place if there is one; without a wire
+/// its record is opened alone.
+fn run_plain<R: Records>(
     rt: &HostRuntime,
     alloc: Global,
     words: NodeWords<'_, '_, '_>,
     m: Membership,
     records: R,
-    wire: Result<W, Outcome>,
+    wire: Result<UdpWire<UdpSocket, HostRuntime>, Outcome>,
     place: Option<ControlPlace<'_>>,
 ) -> (Outcome, R)
     requires members { R.members records ≡ m.members }
     requires here { m.me < m.members }
     requires refused { OnErr wire ((wire ≡ Err Memory) ⊎ (wire ≡ Err (Refused 82))) }
-    requires new { IfOk wire (λ w. W.traffic w []) }
+    requires new { IfOk wire (λ w. ⟦<UdpWire<UdpSocket, HostRuntime> as Wire>⟧.traffic w []) }
     ensures hosted { ComesOpen R.Records m records result.0 result.1 }
     ensures turns { place.entry ≡ None → ComesTo R.Records m records result.0 result.1 }
 {
-    match observed(alloc, words, m, wire) {
-        Ok((wire, observer)) => {
-            let mut wire = wire;
-            let mut observer = observer;
-            let (ended, records) = run_member(
-                rt,
-                alloc,
-                m,
-                records,
-                &mut wire,
-                &mut observer,
-                words.hears_asks(),
-                place,
-                words.turns,
-            );
-            (ended_outcome(ended, Outcome::Memory), records)
-        }
-        Err(outcome) => {
-            let (ended, records) = open_member(alloc, m, records);
-            (ended_outcome(ended, outcome), records)
-        }
-    }
+    let wire = match wire {
+        Ok(wire) => wire,
+        Err(outcome) => return open_alone(alloc, m, records, outcome),
+    };
+    let Ok(mut observer) = Observer::new(alloc, m, words.key.is_some(), words.is_quiet) else {
+        return open_alone(alloc, m, records, Outcome::Memory);
+    };
+    let mut timer = TickTimer::new(m.me());
+    let (ended, records, _wire) = run_at_socket(
+        rt,
+        alloc,
+        m,
+        records,
+        wire,
+        &mut timer,
+        &mut observer,
+        words.hears_asks(),
+        place,
+        words.turns,
+    );
+    (ended_outcome(ended, Outcome::Memory), records)
+}
+
+/// The same with a key.
+fn run_with_key<R: Records>(
+    rt: &HostRuntime,
+    alloc: Global,
+    words: NodeWords<'_, '_, '_>,
+    m: Membership,
+    records: R,
+    wire: Result<PacketWire<UdpWire<UdpSocket, HostRuntime>, HostRuntime>, Outcome>,
+    place: Option<ControlPlace<'_>>,
+) -> (Outcome, R)
+    requires members { R.members records ≡ m.members }
+    requires here { m.me < m.members }
+    requires refused { OnErr wire ((wire ≡ Err Memory) ⊎ (wire ≡ Err (Refused 82))) }
+    requires new { IfOk wire (λ w.
+        ⟦<PacketWire<UdpWire<UdpSocket, HostRuntime>, HostRuntime> as Wire>⟧.traffic w []) }
+    ensures hosted { ComesOpen R.Records m records result.0 result.1 }
+    ensures turns { place.entry ≡ None → ComesTo R.Records m records result.0 result.1 }
+{
+    let wire = match wire {
+        Ok(wire) => wire,
+        Err(outcome) => return open_alone(alloc, m, records, outcome),
+    };
+    let Ok(mut observer) = Observer::new(alloc, m, words.key.is_some(), words.is_quiet) else {
+        return open_alone(alloc, m, records, Outcome::Memory);
+    };
+    let mut timer = TickTimer::new(m.me());
+    let (ended, records, _wire) = run_sealed_at_socket(
+        rt,
+        alloc,
+        m,
+        records,
+        wire,
+        &mut timer,
+        &mut observer,
+        words.hears_asks(),
+        place,
+        words.turns,
+    );
+    (ended_outcome(ended, Outcome::Memory), records)
 }
 
 /// The run of a member over a socket, without a control socket.
@@ -334,9 +368,9 @@ fn run_node<R: Records>(
     match sealing {
         Some(sealing) => {
             let wire = sealed(rt, alloc, m, wire, sealing);
-            run_over(rt, alloc, words, m, records, wire, None)
+            run_with_key(rt, alloc, words, m, records, wire, None)
         }
-        None => run_over(rt, alloc, words, m, records, wire, None),
+        None => run_plain(rt, alloc, words, m, records, wire, None),
     }
 }
 
@@ -407,9 +441,9 @@ fn run_with_control<R: Records>(
     match sealing {
         Some(sealing) => {
             let wire = sealed(rt, alloc, m, Ok(wire), sealing);
-            run_over(rt, alloc, words, m, records, wire, place)
+            run_with_key(rt, alloc, words, m, records, wire, place)
         }
-        None => run_over(rt, alloc, words, m, records, Ok(wire), place),
+        None => run_plain(rt, alloc, words, m, records, Ok(wire), place),
     }
 }
 

@@ -1,4 +1,5 @@
 pub mod Asking
 mod Asked
+mod AtSockets
 mod Rounds
 mod Routing

@@ -1,7 +1,9 @@
 -- A run that is made of rounds.
-use Rattle.std.proofs.Common.{◌≡◌, Bool, List, [], Option, None, Result, Ok, Err, refl, sym, subst, ap}
+use Rattle.std.proofs.Common.{◌≡◌, ℕ, Bool, List, [], Option, None, Result, Ok, Err, refl, sym, subst, ap}
+use Rattle.std.specs.Prelude.{OnOk}
 use Rattle.px_model.specs.Step.{front}
 use Rattle.px_records.specs.declared.records.Records.{Ghosts}
+use Rattle.px_replica.specs.Faults.{fault_of}
 use Rattle.px_replica.specs.declared.fault.NodeFault.{NodeFault}
 use Rattle.px_transport.specs.Wires.{WireEvent, Moves}
 use Rattle.pf_node.specs.Nodes.{replica_of, learned_by, applied_of}
@@ -12,8 +14,9 @@ use Rattle.node_loop.specs.Turns.{Stand, Served, standing}
 use Rattle.node_loop.specs.declared.room.Room.{Room}
 use Rattle.node_loop.proofs.Chains.{same_is, served_none, served_then}
 use Rattle.node_loop.proofs.Hosting.{hosted_then, hosted_served}
-use Rattle.node_loop.specs.Lives.{Buffers, new_buffers, stands, Tells, Serves, Hosts}
+use Rattle.node_loop.specs.Lives.{Buffers, new_buffers, stands, Tells, Serves, Hosts, OnFront}
 use Rattle.node_loop.specs.declared.ended.Ended.{Ended}
+use Rattle.node_loop.specs.declared.ended.Ended.TheVariants.{Front, Fault, NoWire, NoControlSocket, NoPort}
 use Rattle.node_loop.proofs.Hosted.{tells}
 use Rattle.node_requests.specs.declared.handler.RequestHandler.{RequestHandler}
 
@@ -111,3 +114,17 @@ no_control (Err e) control is none = absurd (cc)
 pub some_control : {A E : Type 0} (r : Result (Option A) E) (e : E) → r ≡ Err e → r ≡ Ok None → ⊥
 some_control (Ok d) e is none = cc
 some_control (Err f) e is none = cc
+
+-- what holds where a call answered Ok
+pub on_ok : {P E A B : Type 0} (r : Result P E) → (A → B) → OnOk r A → OnOk r B
+on_ok (Ok p) f a = f a
+on_ok (Err e) f a = tt
+
+-- all turns were made where none ended with a fault
+pub on_front : {P A : Type 0} (n applied : ℕ) (r : Result P NodeFault) (ended : Ended) → Tells n applied (fault_of r) ended → OnOk r A → OnFront ended A
+on_front n applied (Ok p) (Front m k) told a = a
+on_front n applied (Ok p) (Fault e) told a = tt
+on_front n applied (Ok p) NoWire told a = tt
+on_front n applied (Ok p) NoControlSocket told a = tt
+on_front n applied (Ok p) NoPort told a = tt
+on_front {P} {A} n applied (Err e) ended told a = subst (λ (x : Ended). OnFront x A) (sym told) tt

@@ -1,5 +1,6 @@
 -- What only code and proofs use: no contract of a public function needs it.
 pub mod Asking
 pub mod Handling
+pub mod Looping
 pub mod Runs
 pub mod Watching

@@ -5,13 +5,14 @@ ghost use Rattle.px_model.specs.Step.{front};
 ghost use Rattle.px_replica.specs.Faults.{fault_of};
 ghost use Rattle.pf_node.specs.Nodes.{learned_by, applied_of};
 ghost use Rattle.px_transport.specs.Wires.{Moves};
-ghost use Rattle.node_loop.specs.Lives.{HostTells, HostedRuns, Hosts, Runs, Serves, Tells};
+ghost use Rattle.node_loop.specs.Lives.{HostTells, HostedRuns, Hosts, OnFront, Runs, Serves, Tells};
+ghost use Rattle.node_loop.specs.Timing.{MakesTurns};
 
 use crate::control::{ControlFault, ControlSocket};
 use crate::observer::Observer;
 use crate::running::pass_on;
 use crate::service::HttpService;
-use node_loop::{Ended, Membership, NodeFault, Room, Wire};
+use node_loop::{Ended, Membership, NodeFault, Room, Timer, Wire};
 use pf_node::Node;
 use px_records::Records;
 use std::alloc::Global;
@@ -99,11 +100,12 @@ fn ended_of<R: Records>(ended: Result<(), NodeFault>, node: &Node<R>) -> Ended
 }
 
 /// A node runs, and is given back.
-fn run_node<R: Records, W: Wire, RT: Clock + Eprint>(
+fn run_node<R: Records, W: Wire, T: Timer, RT: Clock + Eprint>(
     rt: &RT,
     alloc: Global,
     node: Node<R>,
     wire: &mut W,
+    timer: &mut T,
     observer: &mut Observer,
     members: &str,
     hears_asks: bool,
@@ -113,6 +115,9 @@ fn run_node<R: Records, W: Wire, RT: Clock + Eprint>(
     ensures hosted { Moves (W.traffic wire.old) (W.traffic wire.new) (λ es es'. Hosts node result.1 es es' result.0) }
     ensures turns { control.old ≡ None →
         Moves (W.traffic wire.old) (W.traffic wire.new) (λ es es'. Serves node result.1 es es' result.0) }
+    ensures made { control.old ≡ None →
+        OnFront result.0 (MakesTurns turns (T.told timer.old) (T.told timer.new)) }
+    ensures same { W.identity wire.new ≡ W.identity wire.old }
 {
     let Ok(counters) = observer.first_counters(alloc, members) else {
         return (Ended::Fault(NodeFault::Memory), node);
@@ -121,17 +126,27 @@ fn run_node<R: Records, W: Wire, RT: Clock + Eprint>(
         return (Ended::Fault(NodeFault::Memory), node);
     };
     let mut service = HttpService::new(alloc, node, counters);
-    let ended = pass_on(rt, &mut service, wire, observer, &mut room, control, turns);
+    let ended = pass_on(
+        rt,
+        &mut service,
+        wire,
+        observer,
+        &mut room,
+        control,
+        timer,
+        turns,
+    );
     let node = service.close();
     (ended_of(ended, &node), node)
 }
 
 /// The same with the control socket at the place, which is closed in the end.
-fn run_at<R: Records, W: Wire, RT>(
+fn run_at<R: Records, W: Wire, T: Timer, RT>(
     rt: &RT,
     alloc: Global,
     node: Node<R>,
     wire: &mut W,
+    timer: &mut T,
     observer: &mut Observer,
     hears_asks: bool,
     place: Option<ControlPlace<'_>>,
@@ -142,6 +157,9 @@ where
     ensures hosted { Moves (W.traffic wire.old) (W.traffic wire.new) (λ es es'. Hosts node result.1 es es' result.0) }
     ensures turns { place.entry ≡ None →
         Moves (W.traffic wire.old) (W.traffic wire.new) (λ es es'. Serves node result.1 es es' result.0) }
+    ensures made { place.entry ≡ None →
+        OnFront result.0 (MakesTurns turns (T.told timer.old) (T.told timer.new)) }
+    ensures same { W.identity wire.new ≡ W.identity wire.old }
 {
     let mut control = match open_at(rt, alloc, place) {
         Ok(control) => control,
@@ -152,6 +170,7 @@ where
         alloc,
         node,
         wire,
+        timer,
         observer,
         members_at(place),
         hears_asks,
@@ -169,13 +188,15 @@ where
 /// change of the node's health is a line on standard error. Asks by datagrams are heard or not. The run ends after the
 /// given number of turns, where each datagram counts for one, and so do each tick and each wait, of a tenth of a second
 /// at most; with the first fault of the node's calls; or once an operator asked for that and has the answer. Before it
-/// ends, what waits to be proposed is worked off ([`node_loop::finish`]).
-pub fn run_member<R: Records, W: Wire, RT>(
+/// ends, what waits to be proposed is worked off ([`node_loop::finish`]). When the clock ticks the timer says, which is
+/// asked in each round.
+pub fn run_member<R: Records, W: Wire, T: Timer, RT>(
     rt: &RT,
     alloc: Global,
     m: Membership,
     records: R,
     wire: &mut W,
+    timer: &mut T,
     observer: &mut Observer,
     hears_asks: bool,
     place: Option<ControlPlace<'_>>,
@@ -189,11 +210,16 @@ where
         (λ es es'. HostedRuns R.Records m records es es' result.0 result.1) }
     ensures turns { place.entry ≡ None → Moves (W.traffic wire.old) (W.traffic wire.new)
         (λ es es'. Runs R.Records m records es es' result.0 result.1) }
+    ensures made { place.entry ≡ None →
+        OnFront result.0 (MakesTurns turns (T.told timer.old) (T.told timer.new)) }
+    ensures same { W.identity wire.new ≡ W.identity wire.old }
 {
     let node = match Node::open(alloc, m, records) {
         Ok(node) => node,
         Err((fault, records)) => return (Ended::Fault(fault), records),
     };
-    let (ended, node) = run_at(rt, alloc, node, wire, observer, hears_asks, place, turns);
+    let (ended, node) = run_at(
+        rt, alloc, node, wire, timer, observer, hears_asks, place, turns,
+    );
     (ended, node.close())
 }

@@ -1,15 +1,16 @@
 //! The loop of a node, with a control socket or without one.
 
-ghost use Rattle.std.specs.Prelude.{◌≡◌, None};
+ghost use Rattle.std.specs.Prelude.{◌≡◌, ◌≤◌, None, false, IfOk, OnOk};
 ghost use Rattle.px_replica.specs.Faults.{fault_of};
 ghost use Rattle.px_transport.specs.Wires.{IsQuiet, Moves};
 ghost use Rattle.node_loop.specs.Hosting.{AsksUpTo, Hosted};
+ghost use Rattle.node_loop.specs.Timing.{LooksTimes, MakesTurns};
 ghost use Rattle.node_loop.specs.Turns.{Served, standing};
 
 use crate::control::ControlSocket;
 use crate::observer::Observer;
 use crate::service::HttpService;
-use node_loop::{NodeFault, Room, TickTimer, Timer, Wire, finish, microseconds, round};
+use node_loop::{NodeFault, Room, Timer, Wire, finish, microseconds, round};
 use px_records::Records;
 use std::io::Eprint;
 use std::time::{Clock, Instant};
@@ -38,6 +39,7 @@ fn serve<R: Records, RT: Clock + Eprint>(
 fn wait<W: Wire>(wire: &mut W, control: &mut Option<ControlSocket>, milliseconds: u32)
     ensures quiet { IsQuiet (W.traffic wire.old) (W.traffic wire.new) }
     ensures none { control.old ≡ None → control.new ≡ None }
+    ensures same { W.identity wire.new ≡ W.identity wire.old }
 {
     match control {
         Some(control) => control.wait(wire.due(milliseconds)),
@@ -62,6 +64,9 @@ fn pass<R: Records, W: Wire, T: Timer, RT: Clock + Eprint>(
     ensures turns { control.old ≡ None → Moves (W.traffic wire.old) (W.traffic wire.new)
         (λ es es'. Served (standing service.old.handler.node es room.old)
         (standing service.new.handler.node es' room.new) (fault_of result)) × (control.new ≡ None) }
+    ensures few { IfOk result (λ turns. turns ≤ 65) }
+    ensures looks { OnOk result (LooksTimes 1 (T.told timer.old) (T.told timer.new)) }
+    ensures same { W.identity wire.new ≡ W.identity wire.old }
 {
     observer.begin(
         now,
@@ -83,7 +88,9 @@ fn pass<R: Records, W: Wire, T: Timer, RT: Clock + Eprint>(
 }
 
 /// Whether an operator asked for the end and has the answer.
-fn is_ending<R: Records>(service: &HttpService<R>, control: &Option<ControlSocket>) -> bool {
+fn is_ending<R: Records>(service: &HttpService<R>, control: &Option<ControlSocket>) -> bool
+    ensures none { control.now ≡ None → result ≡ false }
+{
     match control {
         Some(control) => service.handler.is_stopping && !control.has_more(),
         None => false,
@@ -108,6 +115,8 @@ fn passes<R: Records, W: Wire, T: Timer, RT: Clock + Eprint>(
     ensures turns { control.old ≡ None → Moves (W.traffic wire.old) (W.traffic wire.new)
         (λ es es'. Served (standing service.old.handler.node es room.old)
         (standing service.new.handler.node es' room.new) (fault_of result)) × (control.new ≡ None) }
+    ensures made { control.old ≡ None → OnOk result (MakesTurns turns (T.told timer.old) (T.told timer.new)) }
+    ensures same { W.identity wire.new ≡ W.identity wire.old }
 {
     let mut left = turns;
     for _round in 0..turns {
@@ -132,13 +141,14 @@ fn passes<R: Records, W: Wire, T: Timer, RT: Clock + Eprint>(
 }
 
 /// All rounds, and then what waits to be proposed ([`finish`]).
-pub(crate) fn pass_on<R: Records, W: Wire, RT: Clock + Eprint>(
+pub(crate) fn pass_on<R: Records, W: Wire, T: Timer, RT: Clock + Eprint>(
     rt: &RT,
     service: &mut HttpService<R>,
     wire: &mut W,
     observer: &mut Observer,
     room: &mut Room,
     control: &mut Option<ControlSocket>,
+    timer: &mut T,
     turns: u64,
 ) -> Result<(), NodeFault>
     ensures hosted { Moves (W.traffic wire.old) (W.traffic wire.new)
@@ -147,28 +157,14 @@ pub(crate) fn pass_on<R: Records, W: Wire, RT: Clock + Eprint>(
     ensures turns { control.old ≡ None → Moves (W.traffic wire.old) (W.traffic wire.new)
         (λ es es'. Served (standing service.old.handler.node es room.old)
         (standing service.new.handler.node es' room.new) (fault_of result)) }
+    ensures made { control.old ≡ None → OnOk result (MakesTurns turns (T.told timer.old) (T.told timer.new)) }
+    ensures same { W.identity wire.new ≡ W.identity wire.old }
 {
-    let mut tick_timer = TickTimer::new(service.handler.node.membership().me());
     let start = Instant::now(rt).ok();
     match passes(
-        rt,
-        service,
-        wire,
-        observer,
-        room,
-        control,
-        &mut tick_timer,
-        start,
-        turns,
+        rt, service, wire, observer, room, control, timer, start, turns,
     ) {
-        Ok(()) => finish(
-            &mut service.handler.node,
-            wire,
-            room,
-            &mut tick_timer,
-            rt,
-            start,
-        ),
+        Ok(()) => finish(&mut service.handler.node, wire, room, timer, rt, start),
         Err(fault) => Err(fault),
     }
 }

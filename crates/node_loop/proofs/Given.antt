@@ -77,9 +77,10 @@ pub record Again {W : Type 0} (H : wires.Ghosts W) (w v : W) (r s : Resender) : 
   pub again : HandsAgain (kept_of r) (H.traffic w) (H.traffic v)
   pub kept : kept_of s ≡ kept_of r
   pub requests : requests_of s ≡ requests_of r
+  pub same : H.identity v ≡ H.identity w
 
 pub again_none : {W : Type 0} (H : wires.Ghosts W) (w : W) (r : Resender) → Again H w w r r
-again_none H w r = record { again = hands_none (kept_of r) (H.traffic w) (H.traffic w) (λ es h. h); kept = refl; requests = refl }
+again_none H w r = record { again = hands_none (kept_of r) (H.traffic w) (H.traffic w) (λ es h. h); kept = refl; requests = refl; same = refl }
 
 pub again_then : {W : Type 0} (H : wires.Ghosts W) (w v u : W) (r s t : Resender) → Again H w v r s → Again H v u s t → Again H w u r t
 again_then H w v u r s t a b = record {
@@ -87,6 +88,7 @@ again_then H w v u r s t a b = record {
       (subst (λ (k : List Addressed). HandsAgain k (H.traffic v) (H.traffic u)) a.kept b.again);
   kept = b.kept ∙ a.kept;
   requests = b.requests ∙ a.requests;
+  same = b.same ∙ a.same;
 }
 
 -- the wire and the resender are these

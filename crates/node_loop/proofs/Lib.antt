@@ -2,6 +2,7 @@ pub mod Among
 mod Kept
 mod Given
 pub mod Chains
+pub mod Looking
 pub mod Traffic
 pub mod Lives
 pub mod Hosting

@@ -51,6 +51,14 @@ abbrev pub Tells : (front applied : ℕ) → (answered : Option NodeFault) → E
 Tells n applied None ended = (ended ≡ Front n applied) ⊎ ((ended ≡ NoWire) ⊎ (ended ≡ Fault fault.Memory))
 Tells n applied (Some e) ended = ended ≡ Fault e
 
+-- this holds where all turns were made
+abbrev pub OnFront : Ended → (holds : Type 0) → Type 0
+OnFront (Front n applied) holds = holds
+OnFront (Fault e) holds = Unit {0}
+OnFront NoWire holds = Unit {0}
+OnFront NoControlSocket holds = Unit {0}
+OnFront NoPort holds = Unit {0}
+
 -- turns of the node and nothing else led from one to the other; the first list went over its wire before, the second
 -- by the end
 pub record Serves {R : Type 0} {G : Ghosts R} (s t : Node R G) (w v : List WireEvent) (ended : Ended) : Type 0 where

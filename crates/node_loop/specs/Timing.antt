@@ -1,6 +1,6 @@
 -- What a node's timer is told in a round: the time, how the node is, and what was seen of others, all as the datagrams
 -- that were taken left them. So one that is nobody's changes nothing of it.
-use Rattle.std.specs.Prelude.{◌≡◌, ℕ, ◌==◌, ◌&&◌, Bool, true, false, not, List, [], ◌∷◌, ◌++◌, is_some, length}
+use Rattle.std.specs.Prelude.{◌≡◌, ◌≤◌, ℕ, suc, ◌*◌, ◌==◌, ◌&&◌, Bool, true, false, not, List, [], ◌∷◌, ◌++◌, is_some, length}
 use Rattle.px_model.specs.Step.{front}
 use Rattle.px_records.specs.declared.records.Records.{Ghosts}
 use Rattle.px_transport.specs.Wires.{Adds}
@@ -52,3 +52,21 @@ pub record SawThenLooked {R : Type 0} {G : Ghosts R} (n now : ℕ) (x : Stand G)
   pub looked : u ≡ looked seen
   pub told : Adds before after (looks now (view_of then.replica (front (learned_by x.replica)) seen) seen ++
       (Told.Repeats now ∷ []))
+
+-- ---- how many rounds there were
+
+-- how often it was told what is seen
+abbrev pub looks_in : List Told → ℕ
+looks_in [] = 0
+looks_in (Told.Looks now view ∷ ts) = suc (looks_in ts)
+looks_in (Told.Sends now ∷ ts) = looks_in ts
+looks_in (Told.Repeats now ∷ ts) = looks_in ts
+looks_in (Told.Ends ∷ ts) = looks_in ts
+
+-- it was told what is seen n times from one to the other
+abbrev pub LooksTimes : (n : ℕ) → (before after : List Told → Type 0) → Type 0
+LooksTimes n before after = (more : List Told) × (looks_in more ≡ n) × Adds before after more
+
+-- In each round it is told once what is seen, and a round is at most 65 turns: so the given number of turns was made.
+abbrev pub MakesTurns : (turns : ℕ) → (before after : List Told → Type 0) → Type 0
+MakesTurns turns before after = (n : ℕ) × (turns ≤ 65 * n) × LooksTimes n before after

@@ -196,6 +196,7 @@ impl Latest {
     /// its addressee and its length, if it was handed over.
     fn hand<W: Wire>(&self, wire: &mut W, i: usize, now: u64) -> Option<(u8, usize)>
         ensures again { HandsAt i (sent_in self.entry.now) (W.traffic wire.old) (W.traffic wire.new) }
+        ensures same { W.identity wire.new ≡ W.identity wire.old }
     {
         let Some(kept) = self.kept.get(i) else {
             return None;
@@ -213,6 +214,7 @@ impl Latest {
         ensures again { HandsAt i (sent_in self.old) (W.traffic wire.old) (W.traffic wire.new) }
         ensures kept { sent_in self.new ≡ sent_in self.old }
         ensures request { requests_in self.new ≡ requests_in self.old }
+        ensures same { W.identity wire.new ≡ W.identity wire.old }
     {
         if let Some((to, length)) = self.hand(wire, i, now) {
             self.pass(to, length, now);

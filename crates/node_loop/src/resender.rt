@@ -111,6 +111,7 @@ impl Resender {
         ensures others { result ≡ false → IsQuiet (W.traffic wire.old) (W.traffic wire.new) }
         ensures kept { kept_of self.new ≡ kept_of self.old }
         ensures request { requests_of self.new ≡ requests_of self.old }
+        ensures same { W.identity wire.new ≡ W.identity wire.old }
     {
         let Some(i) = self.latest.vote_for(bytes) else {
             return false;
@@ -128,6 +129,7 @@ impl Resender {
         ensures none { position_of self.old < front → IsQuiet (W.traffic wire.old) (W.traffic wire.new) }
         ensures kept { kept_of self.new ≡ kept_of self.old }
         ensures request { requests_of self.new ≡ requests_of self.old }
+        ensures same { W.identity wire.new ≡ W.identity wire.old }
     {
         for i in 0..self.latest.count(front) {
             self.latest.send(wire, i, self.now);
@@ -141,6 +143,7 @@ impl Resender {
         ensures own { HandsFor to (kept_of self.old) (W.traffic wire.old) (W.traffic wire.new) }
         ensures kept { kept_of self.new ≡ kept_of self.old }
         ensures request { requests_of self.new ≡ requests_of self.old }
+        ensures same { W.identity wire.new ≡ W.identity wire.old }
     {
         let votes = self.votes.walk(to, from, self.now);
         self.votes.send(wire, to, votes);
@@ -153,6 +156,7 @@ impl Resender {
         ensures own { HandsFor (me_of self.old) (kept_of self.old) (W.traffic wire.old) (W.traffic wire.new) }
         ensures kept { kept_of self.new ≡ kept_of self.old }
         ensures request { requests_of self.new ≡ requests_of self.old }
+        ensures same { W.identity wire.new ≡ W.identity wire.old }
     {
         let votes = self.votes.walk(self.me, front, self.now);
         self.votes.send(wire, self.me, votes);

@@ -1,13 +1,13 @@
 //! A node that runs.
 
-ghost use Rattle.std.specs.Prelude.{◌≡◌, ◌≤◌, ℕ, Bool, List, OnOk};
+ghost use Rattle.std.specs.Prelude.{◌≡◌, ◌≤◌, ◌+◌, ℕ, Bool, List, IfOk, OnOk};
 ghost use Rattle.px_replica.specs.Faults.{fault_of};
 ghost use Rattle.px_transport.specs.Wires.{Adds, Moves, WireEvent};
 ghost use Rattle.node_loop.specs.Again.{HandsAgain};
 ghost use Rattle.node_loop.specs.Resends.{kept_of, requests_of};
 ghost use Rattle.pf_node.specs.Nodes.{applied_of, replica_of};
 ghost use Rattle.node_loop.specs.Progress.{looked, seen_in};
-ghost use Rattle.node_loop.specs.Timing.{SawThenLooked, looks, view_of};
+ghost use Rattle.node_loop.specs.Timing.{LooksTimes, SawThenLooked, looks, view_of};
 ghost use Rattle.node_loop.specs.Turns.{Served, TickedIf, TookThenTicked, standing};
 
 use crate::pacing::microseconds;
@@ -67,8 +67,10 @@ fn tick_if<R: Records, W: Wire>(
         (λ es es'. Served (standing node.old es room.old) (standing node.new es' room.new) (fault_of result)) }
     ensures ticked { OnOk result (Moves (W.traffic wire.old) (W.traffic wire.new) (λ es es'. (is_due : Bool) ×
         TickedIf is_due (standing node.old es room.old) (standing node.new es' room.new))) }
+    ensures few { IfOk result (λ made. made.turns ≤ taken + 1) }
     ensures unseen { seen_in room.new ≡ seen_in room.old }
     ensures grows { applied_of node.old ≤ applied_of node.new }
+    ensures same { W.identity wire.new ≡ W.identity wire.old }
 {
     match action {
         Action::Tick => match tick_now(node, wire, room) {
@@ -107,6 +109,7 @@ fn remind<W: Wire>(wire: &mut W, resender: &mut Resender, peer_progress: &PeerPr
     ensures again { HandsAgain (kept_of resender.old) (W.traffic wire.old) (W.traffic wire.new) }
     ensures kept { kept_of resender.new ≡ kept_of resender.old }
     ensures requests { requests_of resender.new ≡ requests_of resender.old }
+    ensures same { W.identity wire.new ≡ W.identity wire.old }
 {
     for member in 0..MEMBERS {
         if let Some(position) = peer_progress.lacks(member, front) {
@@ -126,6 +129,7 @@ fn repeat<W: Wire>(
     ensures again { HandsAgain (kept_of resender.old) (W.traffic wire.old) (W.traffic wire.new) }
     ensures kept { kept_of resender.new ≡ kept_of resender.old }
     ensures requests { requests_of resender.new ≡ requests_of resender.old }
+    ensures same { W.identity wire.new ≡ W.identity wire.old }
 {
     remind(wire, resender, peer_progress, front);
     if is_due {
@@ -143,6 +147,7 @@ fn recall<W: Wire>(
     ensures again { HandsAgain (kept_of resender.old) (W.traffic wire.old) (W.traffic wire.new) }
     ensures kept { kept_of resender.new ≡ kept_of resender.old }
     ensures requests { requests_of resender.new ≡ requests_of resender.old }
+    ensures same { W.identity wire.new ≡ W.identity wire.old }
 {
     if peer_progress.reached > front {
         return resender.repeat_own(wire, front);
@@ -161,6 +166,7 @@ fn resend<W: Wire>(
     ensures again { HandsAgain (kept_of resender.old) (W.traffic wire.old) (W.traffic wire.new) }
     ensures kept { kept_of resender.new ≡ kept_of resender.old }
     ensures requests { requests_of resender.new ≡ requests_of resender.old }
+    ensures same { W.identity wire.new ≡ W.identity wire.old }
 {
     repeat(wire, resender, peer_progress, is_due, front);
     recall(wire, resender, peer_progress, front)
@@ -199,7 +205,10 @@ pub fn round<R: Records, W: Wire, T: Timer>(
         TookThenTicked n is_due (standing node.old es room.old) (standing node.new es' room.new))) }
     ensures saw { OnOk result ((es : List WireEvent) → W.traffic wire.old es → (n : ℕ) × SawThenLooked n now
         (standing node.old es room.old) (seen_in room.old) (seen_in room.new) (T.told timer.old) (T.told timer.new)) }
+    ensures few { IfOk result (λ made. made.turns ≤ 65) }
+    ensures looks { OnOk result (LooksTimes 1 (T.told timer.old) (T.told timer.new)) }
     ensures grows { applied_of node.old ≤ applied_of node.new }
+    ensures same { W.identity wire.new ≡ W.identity wire.old }
 {
     let was = node.front();
     begin(room, now);
@@ -230,6 +239,8 @@ pub fn finish<R: Records, W: Wire, T: Timer, C: Clock>(
     ensures served { Moves (W.traffic wire.old) (W.traffic wire.new)
         (λ es es'. Served (standing node.old es room.old) (standing node.new es' room.new) (fault_of result)) }
     ensures grows { applied_of node.old ≤ applied_of node.new }
+    ensures looks { OnOk result ((n : ℕ) × LooksTimes n (T.told timer.old) (T.told timer.new)) }
+    ensures same { W.identity wire.new ≡ W.identity wire.old }
 {
     timer.end();
     let mut left = LAST_ROUNDS;

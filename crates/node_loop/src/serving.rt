@@ -49,6 +49,7 @@ fn poll<W: Wire>(wire: &mut W, bytes: &mut Vec<u8>) -> Option<usize>
     ensures gave { Adds (W.traffic wire.old) (W.traffic wire.new)
         (gives (option_map (λ n. take n bytes.new.items) result)) }
     ensures whole { length bytes.new.items ≡ length bytes.old.items }
+    ensures same { W.identity wire.new ≡ W.identity wire.old }
 {
     wire.poll(bytes.as_mut_slice())
 }
@@ -63,6 +64,7 @@ pub fn tick_now<R: Records, W: Wire>(
         (λ es es'. Ticked (standing node.old es room.old) (standing node.new es' room.new) (fault_of result)) }
     ensures unseen { seen_in room.new ≡ seen_in room.old }
     ensures grows { applied_of node.old ≤ applied_of node.new }
+    ensures same { W.identity wire.new ≡ W.identity wire.old }
 {
     room.out.clear();
     let result = act(node, None, &mut room.out);
@@ -163,6 +165,7 @@ fn passes_over<W: Wire>(
     ensures others { result ≡ false → IsQuiet (W.traffic wire.old) (W.traffic wire.new) }
     ensures kept { kept_of resender.new ≡ kept_of resender.old }
     ensures requests { requests_of resender.new ≡ requests_of resender.old }
+    ensures same { W.identity wire.new ≡ W.identity wire.old }
 {
     if !hears_asks && is_outside(bytes) {
         counts.dropped = counts.dropped.saturating_add(1);
@@ -186,6 +189,7 @@ fn take_one<R: Records, W: Wire>(
     ensures saw { IfOk result (λ had. Moves (W.traffic wire.old) (W.traffic wire.new) (λ es es'. SawIf had
         (standing node.old es room.old) (standing node.new es' room.new) (seen_in room.old) (seen_in room.new))) }
     ensures grows { applied_of node.old ≤ applied_of node.new }
+    ensures same { W.identity wire.new ≡ W.identity wire.old }
 {
     room.out.clear();
     let len = poll(wire, &mut room.bytes);
@@ -234,7 +238,9 @@ pub(crate) fn drain<R: Records, W: Wire>(
         (λ es es'. Served (standing node.old es room.old) (standing node.new es' room.new) (fault_of result)) }
     ensures saw { IfOk result (λ n. Moves (W.traffic wire.old) (W.traffic wire.new) (λ es es'. SawAll n
         (standing node.old es room.old) (standing node.new es' room.new) (seen_in room.old) (seen_in room.new))) }
+    ensures few { IfOk result (λ n. n ≤ most) }
     ensures grows { applied_of node.old ≤ applied_of node.new }
+    ensures same { W.identity wire.new ≡ W.identity wire.old }
 {
     room.heads.clear();
     for taken in 0..most {

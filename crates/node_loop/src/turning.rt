@@ -26,6 +26,7 @@ pub(crate) fn send_all<W: Wire>(
     ensures handed { Adds (W.traffic wire.old) (W.traffic wire.new) (hands (handed_over out.now)) }
     ensures kept { AreAmong (kept_of resender.new) (kept_of resender.old ++ handed_over out.now) }
     ensures requests { requests_of resender.new ≡ requests_of resender.old }
+    ensures same { W.identity wire.new ≡ W.identity wire.old }
 {
     for datagram in out {
         let bytes = datagram.bytes.as_slice();
@@ -41,6 +42,7 @@ fn hear<W: Wire>(wire: &mut W, bytes: &mut Vec<u8>) -> Option<usize>
     ensures gave { Adds (W.traffic wire.old) (W.traffic wire.new)
         (gives (option_map (λ n. take n bytes.new.items) result)) }
     ensures whole { length bytes.new.items ≡ length bytes.old.items }
+    ensures same { W.identity wire.new ≡ W.identity wire.old }
 {
     wire.recv(bytes.as_mut_slice())
 }
@@ -88,6 +90,7 @@ pub fn turn<R: Records, W: Wire>(
     ensures turned { Moves (W.traffic wire.old) (W.traffic wire.new)
         (λ es es'. Turned (standing node.old es room.old) (standing node.new es' room.new) (fault_of result)) }
     ensures grows { applied_of node.old ≤ applied_of node.new }
+    ensures same { W.identity wire.new ≡ W.identity wire.old }
 {
     room.out.clear();
     let len = hear(wire, &mut room.bytes);

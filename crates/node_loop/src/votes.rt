@@ -223,6 +223,7 @@ impl Votes {
     /// Hands the vote with this number to the wire, if it is this member's.
     fn hand<W: Wire>(&self, wire: &mut W, to: u8, i: usize)
         ensures again { HandsFor to (votes_in self.entry.now) (W.traffic wire.old) (W.traffic wire.new) }
+        ensures same { W.identity wire.new ≡ W.identity wire.old }
     {
         let Some(vote) = self.votes.get(i) else {
             return;
@@ -235,6 +236,7 @@ impl Votes {
     /// Hands those of these votes to the wire that are this member's.
     pub(crate) fn send<W: Wire>(&self, wire: &mut W, to: u8, votes: Stretch)
         ensures again { HandsFor to (votes_in self.entry.now) (W.traffic wire.old) (W.traffic wire.new) }
+        ensures same { W.identity wire.new ≡ W.identity wire.old }
     {
         for i in votes.begin..votes.end {
             self.hand(wire, to, i);

@@ -122,7 +122,8 @@ fn answer_in(m: &Membership, node: u8, bytes: &[u8]) -> Option<AskAnswer>
 /// Waits once: the node's answer, if it comes.
 fn listen<W: Wire>(m: &Membership, node: u8, wire: &mut W) -> Option<AskAnswer>
     requires { m.now.me ≡ ASKER }
-    ensures { Moves (W.traffic wire.old) (W.traffic wire.new) (λ es es'. Hears (group m.now) node es result es') }
+    ensures heard { Moves (W.traffic wire.old) (W.traffic wire.new) (λ es es'. Hears (group m.now) node es result es') }
+    ensures same { W.identity wire.new ≡ W.identity wire.old }
 {
     let mut room = [0u8; ANSWER_ROOM];
     match wire.recv(&mut room) {
@@ -134,8 +135,9 @@ fn listen<W: Wire>(m: &Membership, node: u8, wire: &mut W) -> Option<AskAnswer>
 /// Waits so many times at most: the node's first answer.
 fn listen_on<W: Wire>(m: &Membership, node: u8, waits: u32, wire: &mut W) -> AskAnswer
     requires { m.now.me ≡ ASKER }
-    ensures { Moves (W.traffic wire.old) (W.traffic wire.new)
+    ensures heard { Moves (W.traffic wire.old) (W.traffic wire.new)
         (λ es es'. Listens (group m.now) node waits es result es') }
+    ensures same { W.identity wire.new ≡ W.identity wire.old }
 {
     for _wait in 0..waits {
         if let Some(answer) = listen(m, node, wire) {
@@ -167,6 +169,7 @@ pub fn ask_once<W: Wire>(
     ensures long { result ≡ Err NodeFault.TooLong → IsTrue (is_over (asked_entry command.now)) }
     ensures short { OnOk result (is_over (asked_entry command.now) ≡ false) }
     ensures why { OnErr result ((result ≡ Err NodeFault.TooLong) ⊎ (result ≡ Err NodeFault.Memory)) }
+    ensures same { W.identity wire.new ≡ W.identity wire.old }
 {
     let bytes = match ask_bytes(alloc, m, node, command) {
         Ok(bytes) => bytes,

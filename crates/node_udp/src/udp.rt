@@ -2,6 +2,7 @@
 
 ghost use Rattle.std.specs.Prelude.{◌≡◌, ◌⊎◌, ◌<◌, ◌≤◌, ◌==◌, Some, None, Err, IfOk, IfSome, OnErr, IsTrue};
 ghost use Rattle.std.specs.Prelude.{[], ◌∷◌, map, length, option_map, take};
+ghost use Rattle.px_transport.specs.Identities.{plain};
 ghost use Rattle.px_transport.specs.Wires.{Adds, IsQuiet, gives};
 ghost use Rattle.node_udp.specs.declared.udp.BindFault.TheVariants.{Memory};
 ghost use Rattle.node_udp.specs.Addresses.{AreFound};
@@ -388,6 +389,8 @@ impl<S: Socket, C: Clock> Wire for UdpWire<S, C> {
     ghost traffic = { λ w es. WentOver (S.traffic w.socket) w es };
 
     ghost failed = { λ w. w.failures };
+
+    ghost identity = { λ w. plain };
 
     fn recv(&mut self, into: &mut [u8]) -> Option<usize>
         ensures dropped { Drops (strangers_of self.old) result (strangers_of self.new) }

@@ -5,6 +5,7 @@ pub mod Loopback
 pub mod Bodies
 pub mod Receiving
 pub mod Sending
+pub mod Identities
 pub mod Senders
 pub mod Wiring
 pub mod Laws

@@ -80,6 +80,8 @@ impl<W: Wire> Wire for FaultyWire<W> {
 
     ghost failed = { λ w. failures_of (W.failed w.inner) w };
 
+    ghost identity = { λ w. W.identity w.inner };
+
     fn recv(&mut self, into: &mut [u8]) -> Option<usize>
         ensures missed { recvs_left self.old ≤ 1 → (result ≡ None) × (inner_of self.new ≡ inner_of self.old) ×
             (recvs_left self.new ≡ period_of self.old) × (missed_of self.new ≡ one_more (missed_of self.old)) }
@@ -91,6 +93,7 @@ impl<W: Wire> Wire for FaultyWire<W> {
             (WentFaulty (W.traffic (inner_of self.new))) (gives (option_map (λ n. take n into.new) result)) }
         ensures counts { failures_of (W.failed (inner_of self.old)) self.old ≤
             failures_of (W.failed (inner_of self.new)) self.new }
+        ensures same { W.identity (inner_of self.new) ≡ W.identity (inner_of self.old) }
     {
         if self.misses_recv() {
             return None;
@@ -109,6 +112,7 @@ impl<W: Wire> Wire for FaultyWire<W> {
             (WentFaulty (W.traffic (inner_of self.new))) (gives (option_map (λ n. take n into.new) result)) }
         ensures counts { failures_of (W.failed (inner_of self.old)) self.old ≤
             failures_of (W.failed (inner_of self.new)) self.new }
+        ensures same { W.identity (inner_of self.new) ≡ W.identity (inner_of self.old) }
     {
         if self.misses_recv() {
             return None;
@@ -123,6 +127,7 @@ impl<W: Wire> Wire for FaultyWire<W> {
             (WentFaulty (W.traffic (inner_of self.new))) }
         ensures counts { failures_of (W.failed (inner_of self.old)) self.old ≤
             failures_of (W.failed (inner_of self.new)) self.new }
+        ensures same { W.identity (inner_of self.new) ≡ W.identity (inner_of self.old) }
     {
         self.inner.wait(milliseconds);
     }
@@ -143,6 +148,7 @@ impl<W: Wire> Wire for FaultyWire<W> {
             (WentFaulty (W.traffic (inner_of self.new))) (Handed to bytes.now ∷ []) }
         ensures counts { Counts result (failures_of (W.failed (inner_of self.old)) self.old)
             (failures_of (W.failed (inner_of self.new)) self.new) }
+        ensures same { W.identity (inner_of self.new) ≡ W.identity (inner_of self.old) }
     {
         if self.sends_left <= 1 {
             self.sends_left = self.period;

@@ -2,6 +2,7 @@
 
 ghost use Rattle.std.specs.Prelude.{◌≡◌, ◌≢◌, ◌⊎◌, ◌≤◌, ◌<◌, ◌++◌, [], ◌∷◌, None, OnOk, OnErr, IfSome, length};
 ghost use Rattle.std.specs.Prelude.{option_map, take};
+ghost use Rattle.px_transport.specs.Identities.{with_me};
 ghost use Rattle.px_transport.specs.Wires.{Adds, Counts, IsQuiet, Handed, gives};
 ghost use Rattle.px_transport.specs.Loopback.{below_of, me_of, kept_of, IsReturned, Looped, IsKept};
 
@@ -91,6 +92,8 @@ impl<W: Wire> Wire for LoopbackWire<W> {
 
     ghost failed = { λ w. W.failed w.below };
 
+    ghost identity = { λ w. with_me w.me (W.identity w.below) };
+
     fn recv(&mut self, into: &mut [u8]) -> Option<usize>
         ensures own { kept_of self.old ≢ [] → (below_of self.new ≡ below_of self.old) × IsReturned (kept_of self.old)
             (length into.old) (option_map (λ n. take n into.new) result) (kept_of self.new) }
@@ -101,6 +104,8 @@ impl<W: Wire> Wire for LoopbackWire<W> {
         ensures gave { Adds (Looped (W.traffic (below_of self.old)) self.old)
             (Looped (W.traffic (below_of self.new)) self.new) (gives (option_map (λ n. take n into.new) result)) }
         ensures counts { W.failed (below_of self.old) ≤ W.failed (below_of self.new) }
+        ensures same { with_me (me_of self.new) (W.identity (below_of self.new)) ≡
+            with_me (me_of self.old) (W.identity (below_of self.old)) }
     {
         if let Some(n) = self.take_kept(into) {
             return Some(n);
@@ -118,6 +123,8 @@ impl<W: Wire> Wire for LoopbackWire<W> {
         ensures gave { Adds (Looped (W.traffic (below_of self.old)) self.old)
             (Looped (W.traffic (below_of self.new)) self.new) (gives (option_map (λ n. take n into.new) result)) }
         ensures counts { W.failed (below_of self.old) ≤ W.failed (below_of self.new) }
+        ensures same { with_me (me_of self.new) (W.identity (below_of self.new)) ≡
+            with_me (me_of self.old) (W.identity (below_of self.old)) }
     {
         if let Some(n) = self.take_kept(into) {
             return Some(n);
@@ -131,6 +138,8 @@ impl<W: Wire> Wire for LoopbackWire<W> {
         ensures quiet { IsQuiet (Looped (W.traffic (below_of self.old)) self.old)
             (Looped (W.traffic (below_of self.new)) self.new) }
         ensures counts { W.failed (below_of self.old) ≤ W.failed (below_of self.new) }
+        ensures same { with_me (me_of self.new) (W.identity (below_of self.new)) ≡
+            with_me (me_of self.old) (W.identity (below_of self.old)) }
     {
         if self.kept.is_empty() {
             self.below.wait(milliseconds);
@@ -156,6 +165,8 @@ impl<W: Wire> Wire for LoopbackWire<W> {
         ensures handed { Adds (Looped (W.traffic (below_of self.old)) self.old)
             (Looped (W.traffic (below_of self.new)) self.new) (Handed to bytes.now ∷ []) }
         ensures counts { Counts result (W.failed (below_of self.old)) (W.failed (below_of self.new)) }
+        ensures same { with_me (me_of self.new) (W.identity (below_of self.new)) ≡
+            with_me (me_of self.old) (W.identity (below_of self.old)) }
     {
         if to == self.me && self.kept.len() < MOST_KEPT && self.keep(bytes).is_ok() {
             return true;

@@ -2,6 +2,7 @@
 
 ghost use Rattle.std.specs.Prelude.{◌≡◌, ◌≤◌, ◌++◌, [], ◌∷◌, Some, None, true, IfSome, OnOk, OnErr, length, map};
 ghost use Rattle.std.specs.Prelude.{option_map, take};
+ghost use Rattle.px_transport.specs.Identities.{plain};
 ghost use Rattle.px_transport.specs.Wires.{Adds, IsQuiet, gives};
 ghost use Rattle.px_transport.specs.Memory.{given_of, handed_of, sent_of, coming_of, IsNext, WentOver};
 
@@ -68,6 +69,8 @@ impl Wire for MemoryWire {
     ghost traffic = { WentOver };
 
     ghost failed = { λ w. w.failures };
+
+    ghost identity = { λ w. plain };
 
     fn recv(&mut self, into: &mut [u8]) -> Option<usize>
         ensures next { IsNext (coming_of self.old) (length into.old) (option_map (λ n. take n into.new) result)

@@ -187,6 +187,7 @@ impl<W: Wire, C: Clock> PacketWire<W, C> {
         ensures member { IsSameMember self.old self.new }
         ensures count { IsSameCount self.old self.new }
         ensures rises { self.old.failures ≤ self.new.failures }
+        ensures same { W.identity (inner_of self.new) ≡ W.identity (inner_of self.old) }
     {
         let echo = self.receiver.start_of(member);
         let sent = self.sender.send_state(&mut self.inner, member, echo, now);
@@ -203,6 +204,7 @@ impl<W: Wire, C: Clock> PacketWire<W, C> {
         ensures member { IsSameMember self.old self.new }
         ensures count { IsSameCount self.old self.new }
         ensures rises { self.old.failures ≤ self.new.failures }
+        ensures same { W.identity (inner_of self.new) ≡ W.identity (inner_of self.old) }
     {
         let echo = self.receiver.start_of(member);
         let Some(held) = self.receiver.report(member, now) else {
@@ -221,6 +223,7 @@ impl<W: Wire, C: Clock> PacketWire<W, C> {
         ensures member { IsSameMember self.old self.new }
         ensures count { IsSameCount self.old self.new }
         ensures rises { self.old.failures ≤ self.new.failures }
+        ensures same { W.identity (inner_of self.new) ≡ W.identity (inner_of self.old) }
     {
         self.sender.refill(member, now);
         let echo = self.receiver.start_of(member);
@@ -242,6 +245,7 @@ impl<W: Wire, C: Clock> PacketWire<W, C> {
         ensures member { IsSameMember self.old self.new }
         ensures count { IsSameCount self.old self.new }
         ensures rises { self.old.failures ≤ self.new.failures }
+        ensures same { W.identity (inner_of self.new) ≡ W.identity (inner_of self.old) }
     {
         if !self.sender.is_other(member) {
             return;
@@ -261,6 +265,7 @@ impl<W: Wire, C: Clock> PacketWire<W, C> {
         ensures member { IsSameMember self.old self.new }
         ensures count { IsSameCount self.old self.new }
         ensures rises { self.old.failures ≤ self.new.failures }
+        ensures same { W.identity (inner_of self.new) ≡ W.identity (inner_of self.old) }
     {
         for member in 0..self.sender.members {
             self.keep_up_with(member, now);
@@ -303,6 +308,7 @@ impl<W: Wire, C: Clock> PacketWire<W, C> {
         ensures fits { result ≤ length into.new }
         ensures member { IsSameMember self.old self.new }
         ensures rises { self.old.failures ≤ self.new.failures }
+        ensures same { W.identity (inner_of self.new) ≡ W.identity (inner_of self.old) }
     {
         let packet = &self.incoming[..n];
         match take_packet(&self.sender, &mut self.receiver, packet, now, into) {
@@ -326,6 +332,7 @@ impl<W: Wire, C: Clock> PacketWire<W, C> {
         ensures receiver { self.new.receiver ≡ self.old.receiver }
         ensures count { IsSameCount self.old self.new }
         ensures rises { self.old.failures ≤ self.new.failures }
+        ensures same { W.identity (inner_of self.new) ≡ W.identity (inner_of self.old) }
     {
         let before = self.inner.failures();
         let came = self.inner.recv(self.incoming.as_mut_slice());
@@ -342,6 +349,7 @@ impl<W: Wire, C: Clock> PacketWire<W, C> {
         ensures receiver { self.new.receiver ≡ self.old.receiver }
         ensures count { IsSameCount self.old self.new }
         ensures rises { self.old.failures ≤ self.new.failures }
+        ensures same { W.identity (inner_of self.new) ≡ W.identity (inner_of self.old) }
     {
         let before = self.inner.failures();
         let came = self.inner.poll(self.incoming.as_mut_slice());
@@ -362,6 +370,7 @@ impl<W: Wire, C: Clock> PacketWire<W, C> {
         ensures fits { IfSome result (λ n. n ≤ length into.new) }
         ensures member { IsSameMember self.old self.new }
         ensures rises { self.old.failures ≤ self.new.failures }
+        ensures same { W.identity (inner_of self.new) ≡ W.identity (inner_of self.old) }
     {
         match came {
             Some(n) => Some(self.hear(n, now, into)),
@@ -373,6 +382,7 @@ impl<W: Wire, C: Clock> PacketWire<W, C> {
 impl<W: Wire, C: Clock> Wire for PacketWire<W, C> {
     ghost use Rattle.std.specs.Prelude.{ℕ, List, [], ◌∷◌, IsTrue, IfSome, option_map, take};
     ghost use Rattle.px_transport.specs.Wires.{WireEvent, Adds, IsQuiet, Handed, gives};
+    ghost use Rattle.px_transport.specs.Identities.{with_sealing};
     ghost use Rattle.px_transport.specs.Receiving.{Heard, Hears};
     ghost use Rattle.px_transport.specs.Wiring.{inner_of, sealer_of, keys_of, receiver_of, failures_of, dropped_of};
     ghost use Rattle.px_transport.specs.Wiring.{copies_of, WireState, IsWireState, IsSameMember, IsSameCount, state_of};
@@ -381,6 +391,8 @@ impl<W: Wire, C: Clock> Wire for PacketWire<W, C> {
     ghost traffic = { λ w es. WentSealed (W.traffic w.inner) w es };
 
     ghost failed = { λ w. w.failures };
+
+    ghost identity = { λ w. with_sealing (keys_of w) (sealer_of w) (W.identity w.inner) };
 
     fn recv(&mut self, into: &mut [u8]) -> Option<usize>
         ensures receives { (hs : List Heard) → Hears (sealer_of self.old).start hs (receiver_of self.old) →
@@ -394,6 +406,8 @@ impl<W: Wire, C: Clock> Wire for PacketWire<W, C> {
         ensures gave { Adds (WentSealed (W.traffic (inner_of self.old)) self.old)
             (WentSealed (W.traffic (inner_of self.new)) self.new) (gives (option_map (λ n. take n into.new) result)) }
         ensures counts { failures_of self.old ≤ failures_of self.new }
+        ensures same { with_sealing (keys_of self.new) (sealer_of self.new) (W.identity (inner_of self.new)) ≡
+            with_sealing (keys_of self.old) (sealer_of self.old) (W.identity (inner_of self.old)) }
     {
         let now = self.now();
         self.keep_up(now);
@@ -413,6 +427,8 @@ impl<W: Wire, C: Clock> Wire for PacketWire<W, C> {
         ensures gave { Adds (WentSealed (W.traffic (inner_of self.old)) self.old)
             (WentSealed (W.traffic (inner_of self.new)) self.new) (gives (option_map (λ n. take n into.new) result)) }
         ensures counts { failures_of self.old ≤ failures_of self.new }
+        ensures same { with_sealing (keys_of self.new) (sealer_of self.new) (W.identity (inner_of self.new)) ≡
+            with_sealing (keys_of self.old) (sealer_of self.old) (W.identity (inner_of self.old)) }
     {
         let now = self.now();
         self.keep_up(now);
@@ -430,6 +446,8 @@ impl<W: Wire, C: Clock> Wire for PacketWire<W, C> {
         ensures quiet { IsQuiet (WentSealed (W.traffic (inner_of self.old)) self.old)
             (WentSealed (W.traffic (inner_of self.new)) self.new) }
         ensures counts { failures_of self.old ≤ failures_of self.new }
+        ensures same { with_sealing (keys_of self.new) (sealer_of self.new) (W.identity (inner_of self.new)) ≡
+            with_sealing (keys_of self.old) (sealer_of self.old) (W.identity (inner_of self.old)) }
     {
         let now = self.now();
         self.keep_up(now);
@@ -458,6 +476,8 @@ impl<W: Wire, C: Clock> Wire for PacketWire<W, C> {
         ensures handed { Adds (WentSealed (W.traffic (inner_of self.old)) self.old)
             (WentSealed (W.traffic (inner_of self.new)) self.new) (Handed to bytes.now ∷ []) }
         ensures counts { Counts result (failures_of self.old) (failures_of self.new) }
+        ensures same { with_sealing (keys_of self.new) (sealer_of self.new) (W.identity (inner_of self.new)) ≡
+            with_sealing (keys_of self.old) (sealer_of self.old) (W.identity (inner_of self.old)) }
     {
         let now = self.now();
         self.sender.refill(to, now);

@@ -97,6 +97,7 @@ impl Sender {
             (record { to = to; echo = echo; kind = kind; body = body.now } ∷ [])
             (Adds (W.traffic inner.old) (W.traffic inner.new)) (outgoing_of self.old) (outgoing_of self.new) }
         ensures rest { (sealer_of self.new ≡ sealer_of self.old) × (self.new.keys ≡ self.old.keys) }
+        ensures same { W.identity inner.new ≡ W.identity inner.old }
     {
         let place = usize::from(to);
         let last = &self.outgoing[place];
@@ -137,6 +138,7 @@ impl Sender {
         ensures sends { SendsUpTo (sealer_of self.old) result (piece to echo name datagram.now index ∷ [])
             (Adds (W.traffic inner.old) (W.traffic inner.new)) (outgoing_of self.old) (outgoing_of self.new) }
         ensures rest { (sealer_of self.new ≡ sealer_of self.old) × (self.new.keys ≡ self.old.keys) }
+        ensures same { W.identity inner.new ≡ W.identity inner.old }
     {
         let mut body = Vec::new(self.alloc);
         if write_piece(name, datagram, index, &mut body).is_err() {
@@ -173,6 +175,7 @@ impl Sender {
         ensures sends { SendsUpTo (sealer_of self.old) result (take most (pieces to echo held datagram.now))
             (Adds (W.traffic inner.old) (W.traffic inner.new)) (outgoing_of self.old) (outgoing_of self.new) }
         ensures rest { (sealer_of self.new ≡ sealer_of self.old) × (self.new.keys ≡ self.old.keys) }
+        ensures same { W.identity inner.new ≡ W.identity inner.old }
     {
         let count = piece_count(datagram.len()) as u8;
         let mut left = most;
@@ -209,6 +212,7 @@ impl Sender {
             (Adds (W.traffic inner.old) (W.traffic inner.new)) (kept_with (outgoing_of self.old) to datagram.now)
             (outgoing_of self.new) }
         ensures rest { (sealer_of self.new ≡ sealer_of self.old) × (self.new.keys ≡ self.old.keys) }
+        ensures same { W.identity inner.new ≡ W.identity inner.old }
     {
         if datagram.is_empty() || datagram.len() > DATAGRAM_MAX {
             return false;
@@ -237,6 +241,7 @@ impl Sender {
         ensures sends { SendsUpTo (sealer_of self.old) result (again (outgoing_of self.old) to echo held)
             (Adds (W.traffic inner.old) (W.traffic inner.new)) (outgoing_of self.old) (outgoing_of self.new) }
         ensures rest { (sealer_of self.new ≡ sealer_of self.old) × (self.new.keys ≡ self.old.keys) }
+        ensures same { W.identity inner.new ≡ W.identity inner.old }
     {
         let outgoing = &self.outgoing[usize::from(to)];
         let left = outgoing.left();
@@ -265,6 +270,7 @@ impl Sender {
             (Adds (W.traffic inner.old) (W.traffic inner.new)) (stated_for (outgoing_of self.old) to echo now)
             (outgoing_of self.new) }
         ensures rest { (sealer_of self.new ≡ sealer_of self.old) × (self.new.keys ≡ self.old.keys) }
+        ensures same { W.identity inner.new ≡ W.identity inner.old }
     {
         let place = usize::from(to);
         let last = &self.outgoing[place];
@@ -288,6 +294,7 @@ impl Sender {
         ensures sends { SendsUpTo (sealer_of self.old) result (report to echo held ∷ [])
             (Adds (W.traffic inner.old) (W.traffic inner.new)) (outgoing_of self.old) (outgoing_of self.new) }
         ensures rest { (sealer_of self.new ≡ sealer_of self.old) × (self.new.keys ≡ self.old.keys) }
+        ensures same { W.identity inner.new ≡ W.identity inner.old }
     {
         let mut body = Vec::new(self.alloc);
         if held.write(&mut body).is_err() {

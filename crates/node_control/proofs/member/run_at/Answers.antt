@@ -24,3 +24,10 @@ returns-in-Err-clause-turns g c none = absurd (some_control _ _ c.in-Err.is (c.o
 pub returns-clause-turns : goal.returns-clause-turns
 returns-clause-turns g c none =
     c.run_node-ended.ensures.turns (no_control _ _ c.in-Ok.is (c.open_at.ensures.none none))
+
+pub returns-in-Err-clause-made : goal.returns-in-Err-clause-made
+returns-in-Err-clause-made g c none = absurd (some_control _ _ c.in-Err.is (c.open_at.ensures.none none))
+
+pub returns-clause-made : goal.returns-clause-made
+returns-clause-made g c none =
+    c.run_node-ended.ensures.made (no_control _ _ c.in-Ok.is (c.open_at.ensures.none none))

@@ -3,7 +3,7 @@ use Rattle.std.proofs.Common.{refl, inr}
 use Rattle.px_replica.specs.Faults.{fault_of}
 use Rattle.node_loop.proofs.Still.{still}
 use Rattle.node_loop.proofs.Hosted as hosted
-use Rattle.node_control.proofs.Rounds.{hosts, serves}
+use Rattle.node_control.proofs.Rounds.{hosts, on_front, serves}
 use Rattle.node_control.proofs.member.run_node.Goals as goal
 
 pub returns-in_default-clause-hosted : goal.returns-in_default-clause-hosted
@@ -39,3 +39,7 @@ returns-clause-turns g c none es t =
           c.new-service.ensures c.close-node.ensures c.in-Ok-new.ensures.kept c.in-Ok-new.ensures.requests c.in-Ok-new.ensures.hears
           r.2 c.ended_of.ensures,
     )
+
+pub returns-clause-made : goal.returns-clause-made
+returns-clause-made g c none =
+    on_front _ _ c.pass_on-ended.result c.ended_of.result c.ended_of.ensures (c.pass_on-ended.ensures.made none)

@@ -1,8 +1,9 @@
 -- one round more
-use Rattle.std.proofs.Common.{refl}
+use Rattle.std.proofs.Common.{◌∙◌, arith, refl}
 use Rattle.node_loop.specs.Turns.{standing}
 use Rattle.node_loop.proofs.Chains.{served_none, same_all}
 use Rattle.node_loop.proofs.Hosting.{hosted_none}
+use Rattle.node_loop.proofs.Looking.{looks_never, looks_then}
 use Rattle.node_control.proofs.Rounds.{hosted_over, turns_then}
 use Rattle.node_control.proofs.running.passes.Goals as goal
 
@@ -10,6 +11,9 @@ pub loop-round-init : goal.loop-round-init
 loop-round-init g c = record {
   hosted = λ es t. (es, t, hosted_none _ _ refl);
   turns = λ none. (λ es t. (es, t, served_none _ _ (same_all _)), none);
+  left = omega arith;
+  looks = looks_never (g.T.Timer.told c.args.timer.now);
+  same = refl;
 }
 
 pub loop-round-preserved : goal.loop-round-preserved
@@ -20,6 +24,10 @@ loop-round-preserved g c = record {
   turns = λ none. turns_then (g.W.Wire.traffic c.args.wire.now) (g.W.Wire.traffic c.loop-round.wire) (g.W.Wire.traffic c.pass.new.wire)
       (λ es. standing c.args.service.now.handler.node es c.args.room.now) (λ es. standing c.loop-round.service.handler.node es c.loop-round.room)
       (λ es. standing c.pass.new.service.handler.node es c.pass.new.room) _ c.loop-round.control c.pass.new.control (c.loop-round.invariant.turns none) c.in-Ok.ensures.turns;
+  left = omega (arith, c.loop-round.invariant.left, c.in-Ok.ensures.few);
+  looks = looks_then c.loop-round._round 1 (g.T.Timer.told c.args.timer.now) (g.T.Timer.told c.loop-round.timer) (g.T.Timer.told c.pass.new.timer)
+      c.loop-round.invariant.looks c.in-Ok.ensures.looks;
+  same = c.pass.ensures.same ∙ c.loop-round.invariant.same;
 }
 
 pub returns-in-Err-clause-hosted : goal.returns-in-Err-clause-hosted

@@ -1,7 +1,8 @@
 -- what led here from the start
-use Rattle.std.proofs.Common.{◌≡◌, None}
+use Rattle.std.proofs.Common.{◌≡◌, ◌≤◌, ◌+◌, ◌*◌, None}
 use Rattle.px_transport.specs.Wires.{Moves}
 use Rattle.node_loop.specs.Hosting.{Hosted}
+use Rattle.node_loop.specs.Timing.{LooksTimes}
 use Rattle.node_loop.specs.Turns.{Served, standing}
 use Rattle.node_control.proofs.running.passes.Given as goal
 
@@ -12,4 +13,7 @@ invariant-loop-round g l = record {
   turns : l.fn.control ≡ None → Moves (g.W.Wire.traffic l.fn.wire) (g.W.Wire.traffic l.wire)
       (λ es es'. Served (standing l.fn.service.handler.node es l.fn.room) (standing l.service.handler.node es' l.room) None)
       × (l.control ≡ None);
+  left : l.turns ≤ l.left + 65 * l._round;
+  looks : LooksTimes l._round (g.T.Timer.told l.fn.timer) (g.T.Timer.told l.timer);
+  same : g.W.Wire.identity l.wire ≡ g.W.Wire.identity l.fn.wire;
 }

@@ -1,12 +1,18 @@
 -- one round more, and a wait
-use Rattle.std.proofs.Common.{arith, refl}
+use Rattle.std.proofs.Common.{◌∙◌, ◌+◌, arith, refl}
 use Rattle.node_loop.specs.Turns.{standing}
 use Rattle.node_loop.proofs.Chains.{served_none, same_all}
+use Rattle.node_loop.proofs.Looking.{looks_not, looks_then}
 use Rattle.node_loop.proofs.Given.{over_then, over_same}
 use Rattle.node_loop.proofs.running.finish.Goals as goal
 
 pub loop-round-init : goal.loop-round-init
-loop-round-init g c = record { served = λ es t. (es, t, served_none _ _ (same_all _)); grows = omega arith }
+loop-round-init g c = record {
+  served = λ es t. (es, t, served_none _ _ (same_all _));
+  grows = omega arith;
+  looks = (0, looks_not (g.T.Timer.told c.args.timer.now) (g.T.Timer.told c.end.new.self) _ refl c.end.ensures.told);
+  same = refl;
+}
 
 pub returns-in-Err-clause-served : goal.returns-in-Err-clause-served
 returns-in-Err-clause-served g c =
@@ -26,4 +32,10 @@ loop-round-preserved g c = record {
       (λ es. standing c.round.new.node es c.round.new.room) (λ es. standing c.round.new.node es c.round.new.room)
       c.wait.ensures.quiet (λ es. same_all (standing c.round.new.node es c.round.new.room))));
   grows = omega (arith, c.loop-round.invariant.grows, c.round.ensures.grows);
+  looks = let r = c.loop-round.invariant.looks in (
+    r.0 + 1,
+    looks_then r.0 1 (g.T.Timer.told c.args.timer.now) (g.T.Timer.told c.loop-round.timer) (g.T.Timer.told c.round.new.timer) r.1
+        c.in-Ok.ensures.looks,
+  );
+  same = c.wait.ensures.same ∙ (c.round.ensures.same ∙ c.loop-round.invariant.same);
 }

@@ -14,6 +14,7 @@ loop-member-preserved g c =
             again = w.repeat_to.ensures.again;
             kept = w.repeat_to.ensures.kept;
             requests = w.repeat_to.ensures.request;
+            same = w.repeat_to.ensures.same;
           }))
       | in_default w ↦ again_is g.W.Wire _ _ _ _ _ _ w.wire-is w.resender-is c.loop-member.invariant
     ]

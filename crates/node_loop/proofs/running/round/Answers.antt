@@ -3,6 +3,7 @@ use Rattle.std.proofs.Common.{◌∙◌, refl}
 use Rattle.node_loop.specs.Turns.{standing}
 use Rattle.node_loop.specs.Resends.{kept_of, requests_of}
 use Rattle.node_loop.proofs.Chains.{round_took, round_saw}
+use Rattle.node_loop.proofs.Looking.{looks_once}
 use Rattle.node_loop.proofs.Given.{over_then, over_same, over_resent, over_between, on_ok}
 use Rattle.node_loop.proofs.running.round.Goals as goal
 
@@ -96,3 +97,8 @@ returns-clause-saw g c =
           }) c.begin.ensures.unseen r.2 (c.tick_if.ensures.unseen ∙ c.action-action.ensures.looked) c.front-was.ensures.front c.view_of-view.ensures
           c.action-action.ensures.told c.repeats-is_due.ensures.told,
     )) c.tick_if.ensures.ticked
+
+pub returns-clause-looks : goal.returns-clause-looks
+returns-clause-looks g c =
+    on_ok c.tick_if.result (λ _. looks_once (g.T.Timer.told c.args.timer.now) (g.T.Timer.told c.action-action.new.timer)
+    (g.T.Timer.told c.repeats-is_due.new.self) c.args.now c.view_of-view.result c.drain.new.room.peer_progress c.action-action.ensures.told c.repeats-is_due.ensures.told) c.tick_if.ensures.ticked

@@ -1,5 +1,5 @@
 -- one datagram more
-use Rattle.std.proofs.Common.{arith, refl}
+use Rattle.std.proofs.Common.{◌∙◌, arith, refl}
 use Rattle.node_loop.specs.Turns.{standing}
 use Rattle.node_loop.proofs.Chains.{served_none, same_all, saw_more, saw_no_more}
 use Rattle.node_loop.proofs.Given.{over_then}
@@ -10,6 +10,7 @@ loop-taken-init g c = record {
   served = λ es t. (es, t, served_none _ _ (same_all _));
   saw = λ es t. (es, t, (same_all _, refl));
   grows = omega arith;
+  same = refl;
 }
 
 pub loop-taken-preserved : goal.loop-taken-preserved
@@ -22,6 +23,7 @@ loop-taken-preserved g c = record {
       let s = c.in-Ok.ensures.saw r.0 r.1 in
       (s.0, s.1, saw_more c.loop-taken.taken _ _ _ _ _ _ _ c.in-Ok.had c.if-not-had.false (omega arith) r.2 s.2);
   grows = omega (arith, c.loop-taken.invariant.grows, c.take_one.ensures.grows);
+  same = c.take_one.ensures.same ∙ c.loop-taken.invariant.same;
 }
 
 pub returns-then-not-had-clause-served : goal.returns-then-not-had-clause-served

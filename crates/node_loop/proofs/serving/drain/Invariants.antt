@@ -1,5 +1,5 @@
 -- turns led here from the start
-use Rattle.std.proofs.Common.{◌≤◌, None}
+use Rattle.std.proofs.Common.{◌≡◌, ◌≤◌, None}
 use Rattle.px_transport.specs.Wires.{Moves}
 use Rattle.pf_node.specs.Nodes.{applied_of}
 use Rattle.node_loop.specs.Progress.{SawAll, seen_in}
@@ -13,4 +13,5 @@ invariant-loop-taken g l = record {
   saw : Moves (g.W.Wire.traffic l.fn.wire) (g.W.Wire.traffic l.wire) (λ es es'. SawAll l.taken
       (standing l.fn.node es l.fn.room) (standing l.node es' l.room) (seen_in l.fn.room) (seen_in l.room));
   grows : applied_of l.fn.node ≤ applied_of l.node;
+  same : g.W.Wire.identity l.wire ≡ g.W.Wire.identity l.fn.wire;
 }

@@ -11,6 +11,7 @@ loop-datagram-init g c = record {
   handed = adds_none (g.W.Wire.traffic c.args.wire.now) (g.W.Wire.traffic c.args.wire.now) (λ es h. h);
   kept = among_front _ _ _ (among_all _);
   requests = refl;
+  same = refl;
 }
 
 pub loop-datagram-preserved : goal.loop-datagram-preserved
@@ -20,4 +21,5 @@ loop-datagram-preserved g c = record {
   kept = kept_more _ _ _ c.args.out.now c.loop-datagram.datagram-index c.datagram-item.result c.as_slice-bytes.result.now (grind (arith, common_steps))
       c.as_slice-bytes.ensures.value c.loop-datagram.invariant.kept c.keep-kept.ensures.kept;
   requests = c.keep-kept.ensures.request ∙ c.loop-datagram.invariant.requests;
+  same = c.send-is_sent.ensures.same ∙ c.loop-datagram.invariant.same;
 }

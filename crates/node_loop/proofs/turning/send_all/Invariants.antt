@@ -11,4 +11,5 @@ invariant-loop-datagram g l = record {
   handed : Adds (g.W.Wire.traffic l.fn.wire) (g.W.Wire.traffic l.wire) (hands (handed_over (take l.datagram-index l.out)));
   kept : AreAmong (kept_of l.resender) (kept_of l.fn.resender ++ handed_over (take l.datagram-index l.out));
   requests : requests_of l.resender ≡ requests_of l.fn.resender;
+  same : g.W.Wire.identity l.wire ≡ g.W.Wire.identity l.fn.wire;
 }

@@ -9,5 +9,5 @@ pub returns-clause-asked : goal.returns-clause-asked
 returns-clause-asked g c = (
   c.as_slice.result.now,
   subst (IsAsk (group c.args.m.now) c.args.node c.args.command.now) (sym c.as_slice.ensures.value) c.in-Ok.ensures.spelled,
-  λ es t. c.listen_on.ensures (es ++ Handed c.args.node c.as_slice.result.now ∷ []) (c.send-sent.ensures.handed es t),
+  λ es t. c.listen_on.ensures.heard (es ++ Handed c.args.node c.as_slice.result.now ∷ []) (c.send-sent.ensures.handed es t),
 )

@@ -7,7 +7,7 @@ use Rattle.node_loop.proofs.Among.{among_all, among_front, hands_more, first_non
 use Rattle.node_loop.proofs.resender.Resender.repeat.Goals as goal
 
 pub loop-i-init : goal.loop-i-init
-loop-i-init g c = record { first = first_none _ (g.W.Wire.traffic c.args.wire.now); none = λ zero es h. h; latest = refl; kept = refl; requests = refl }
+loop-i-init g c = record { first = first_none _ (g.W.Wire.traffic c.args.wire.now); none = λ zero es h. h; latest = refl; kept = refl; requests = refl; same = refl }
 
 pub loop-i-preserved : goal.loop-i-preserved
 loop-i-preserved g c = record {
@@ -17,6 +17,7 @@ loop-i-preserved g c = record {
   latest = c.send.ensures.kept ∙ c.loop-i.invariant.latest;
   kept = ap (λ x. x ++ votes_in c.loop-i.self.votes) c.send.ensures.kept ∙ c.loop-i.invariant.kept;
   requests = c.send.ensures.request ∙ c.loop-i.invariant.requests;
+  same = c.send.ensures.same ∙ c.loop-i.invariant.same;
 }
 
 pub returns-clause-again : goal.returns-clause-again

@@ -12,4 +12,5 @@ invariant-loop-i g l = record {
   latest : latest_of l.self ≡ latest_of l.fn.self;
   kept : kept_of l.self ≡ kept_of l.fn.self;
   requests : requests_of l.self ≡ requests_of l.fn.self;
+  same : g.W.Wire.identity l.wire ≡ g.W.Wire.identity l.fn.wire;
 }

@@ -30,4 +30,5 @@ loop-member-preserved g c =
       };
       members = ap (λ s. s.members) c.keep_up_with.ensures.member.sealer_is ∙ inv.members;
       rises = omega (arith, c.keep_up_with.ensures.rises, inv.rises);
+      same = c.keep_up_with.ensures.same ∙ inv.same;
     }

@@ -35,6 +35,7 @@ loop-preserved g c =
       };
       members = ap (λ s. s.members) c.report_to.ensures.member.sealer_is ∙ inv.members;
       rises = omega (arith, c.report_to.ensures.rises, inv.rises);
+      same = c.report_to.ensures.same ∙ inv.same;
     }
 
 pub returns-clause-does : goal.returns-clause-does

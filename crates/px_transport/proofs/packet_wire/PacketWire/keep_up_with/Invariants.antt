@@ -16,4 +16,5 @@ invariant-loop g l = record {
   count : IsSameCount l.fn.self l.self;
   members : l.self.sender.members ≡ l.fn.self.sender.members;
   rises : l.fn.self.failures ≤ l.self.failures;
+  same : g.W.Wire.identity (inner_of l.self) ≡ g.W.Wire.identity (inner_of l.fn.self);
 }

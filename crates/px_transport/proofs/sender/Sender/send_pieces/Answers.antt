@@ -52,6 +52,7 @@ loop-index-preserved g c =
           (outgoing_of c.send_piece.new.self) inv.sealer sent inv.sends c.send_piece.ensures.sends;
       sealer = search rules;
       keys = search rules;
+      same = c.send_piece.ensures.same ∙ inv.same;
       count = inv.count;
     }
 
@@ -69,5 +70,6 @@ loop-index-preserved-then-has g c =
       sends = inv.sends;
       sealer = inv.sealer;
       keys = inv.keys;
+      same = inv.same;
       count = inv.count;
     }

@@ -15,5 +15,6 @@ invariant-loop-index g l = record {
       (outgoing_of l.fn.self) (outgoing_of l.self);
   sealer : sealer_of l.self ≡ sealer_of l.fn.self;
   keys : l.self.keys ≡ l.fn.self.keys;
+  same : g.W.Wire.identity l.inner ≡ g.W.Wire.identity l.fn.inner;
   count : l.count ≡ count_of (length l.datagram);
 }

@@ -1,0 +1,198 @@
+-- A member's run over its wire is one at its socket.
+use Rattle.std.proofs.Common.{◌≡◌, ◌∙◌, ◌⊎◌, sym, ap, subst, refl, cc, ℕ, ◌<◌, List, [], ◌++◌, Option, Some, inl, inr, arith}
+use Rattle.px_model.specs.Node.{Record}
+use Rattle.px_model.specs.Node.Input.{Ticks}
+use Rattle.px_model.specs.Spelling.{Bytes}
+use Rattle.px_model.specs.World.{NodeState, started}
+use Rattle.px_records.specs.declared.records.Records.{Ghosts}
+use Rattle.px_wire.specs.Message.{Group, group}
+use Rattle.px_wire.specs.declared.membership.Membership.{Membership}
+use Rattle.px_replica.specs.Lives.{Deed}
+use Rattle.px_transport.specs.Identities.{Identity, with_me}
+use Rattle.px_transport.specs.Loopback as loopback
+use Rattle.px_transport.specs.Loopback.{Looped}
+use Rattle.px_transport.specs.Sending.{Sealer}
+use Rattle.px_transport.specs.Steps.{CallsAreSteps}
+use Rattle.px_transport.specs.Wires.{WireEvent, given_in}
+use Rattle.px_transport.specs.Wiring as wiring
+use Rattle.px_transport.specs.Wiring.{WentSealed}
+use Rattle.px_transport.specs.declared.loopback.LoopbackWire.{LoopbackWire}
+use Rattle.px_transport.specs.declared.packet_wire.PacketWire.{PacketWire}
+use Rattle.node_loop.specs.Lives.{HostedRuns, HostedRunsAreLived, LivedOver}
+use Rattle.node_loop.specs.Living.{deeds_of}
+use Rattle.node_loop.specs.declared.ended.Ended.{Ended}
+use Rattle.node_udp.specs.Members.{peers_of, me_of, socket_of}
+use Rattle.node_udp.specs.Sockets as sockets
+use Rattle.node_udp.specs.Sockets.{SocketEvent, WentOver}
+use Rattle.node_udp.specs.declared.socket.Socket as socket
+use Rattle.node_udp.specs.declared.udp.UdpWire.{UdpWire}
+use Rattle.node_control.specs.Sockets.{Ran, RanAbove, RanAt, RanSealed, Leaves, RunsAt, RunsSealed}
+use Rattle.node_control.specs.inner.Looping.{WentLooped}
+
+-- what a run lived, a member ran
+ran : {R : Type 0} (G : Ghosts R) (m : Membership) (given back : R) (es : List WireEvent) (l : LivedOver G m given back [] es) →
+    Ran (group m) m.me (G.stored given) es (deeds_of l.moves) l.then (given_in l.last)
+ran G m given back es l = record {
+  moves = l.moves;
+  does = refl;
+  lived = l.lived;
+  up = l.up;
+  hears = l.hears;
+  are = l.are;
+  last = l.last;
+  came = refl;
+  went = l.went;
+  again = l.again;
+}
+
+-- nothing befell it
+idle : (g : Group) (m : ℕ) (first : Record Bytes) (es : List WireEvent) → es ≡ [] → Ran g m first es [] (started first) []
+idle g m first es none = record {
+  moves = [];
+  does = refl;
+  lived = refl;
+  up = refl;
+  hears = false;
+  are = tt;
+  last = [];
+  came = refl;
+  went = none;
+  again = λ d n. n;
+}
+
+-- while no call on a record has failed, a stop leaves it as it stands
+abbrev pub Settles : {R : Type 0} → Ghosts R → Type 0
+Settles {R} G =
+    (r : R) → G.is_honest r → G.failed r ≡ 0 → (d : Record Bytes) → G.may_leave r d → d ≡ G.stored r
+
+-- a run over a record, over some wire: what befell the member, and how its record stands
+record RunsOver {R : Type 0} (G : Ghosts R) (m : Membership) (given back : R) (es : List WireEvent) : Type 0 where
+  pub deeds : List Deed
+  pub end : NodeState Bytes
+  pub unanswered : List Bytes
+  pub ran : Ran (group m) m.me (G.stored given) es deeds end unanswered
+  pub leaves : Leaves G m back end unanswered
+
+runs_over : {R : Type 0} (G : Ghosts R) → Settles G → HostedRunsAreLived G → (m : Membership) (given back : R) (es : List WireEvent)
+    (ended : Ended) → G.is_honest back → G.failed given ≡ 0 → HostedRuns G m given [] es ended back → RunsOver G m given back es
+runs_over G settles law m given back es ended honest fresh (inr life) =
+    let l = law m given back [] es ended honest life in record {
+      deeds = deeds_of l.moves;
+      end = l.then;
+      unanswered = given_in l.last;
+      ran = ran G m given back es l;
+      leaves = record { stays = l.stays; stop = l.stop };
+    }
+runs_over G settles law m given back es ended honest fresh (inl (e, is, refused, same)) = record {
+  deeds = [];
+  end = started (G.stored given);
+  unanswered = [];
+  ran = idle (group m) m.me (G.stored given) es same;
+  leaves = record {
+    stays = λ none. refused.stays honest (λ store. let above = (refused.counts fresh).0 store in omega (arith, none, above));
+    stop = λ left may.
+        (Ticks, tt, λ x none. absurd none, inl (settles given (refused.was honest) fresh left (refused.stop honest left may)));
+  };
+}
+
+-- the same over the wire below
+above : {W : Type 0} (g : Group) (m : ℕ) (first : Record Bytes) (below : List WireEvent → Type 0) (w : LoopbackWire W)
+    (es : List WireEvent) (deeds : List Deed) (end : NodeState Bytes) (unanswered : List Bytes) (looped : Looped below w es) →
+    loopback.me_of w ≡ m → Ran g m first es deeds end unanswered →
+    RanAbove g m first (loopback.below_in looped.loops) deeds end unanswered
+above g m first below w es deeds end unanswered looped me r = record {
+  loops = looped.loops;
+  kept = loopback.kept_of w;
+  queue = looped.queue;
+  below_is = refl;
+  ran = subst (λ (fs : List WireEvent). Ran g m first fs deeds end unanswered)
+      (looped.above_is ∙ ap (λ (k : ℕ). loopback.above_in k looped.loops) me) r;
+}
+
+-- at the socket
+pub runs_at : {R S C : Type 0} (G : Ghosts R) (H : socket.Ghosts S) → Settles G → HostedRunsAreLived G → (m : Membership) (given back : R)
+    (ended : Ended) (wire : UdpWire S C) → G.is_honest back → G.failed given ≡ 0 →
+    WentLooped (λ (u : UdpWire S C). WentOver (H.traffic (socket_of u)) u) m.me wire (λ es. HostedRuns G m given [] es ended back) →
+    (events : List SocketEvent) × H.traffic (socket_of wire) events × RunsAt G m given back events
+runs_at {R} {S} {C} G H settles law m given back ended wire honest fresh (w, es, is, me, looped, hosted) =
+    let r = runs_over G settles law m given back es ended honest fresh hosted in
+    let o = looped.below_is in (
+      sockets.below_in o.passages,
+      subst (λ (u : UdpWire S C). H.traffic (socket_of u) (sockets.below_in o.passages)) is o.below_is,
+      record {
+        deeds = r.deeds;
+        end = r.end;
+        unanswered = r.unanswered;
+        ran = record {
+          addresses = peers_of (loopback.below_of w);
+          me = me_of (loopback.below_of w);
+          passages = o.passages;
+          sound = o.sound;
+          below_is = refl;
+          ran = subst (λ (fs : List WireEvent). RanAbove (group m) m.me (G.stored given) fs r.deeds r.end r.unanswered) o.above_is
+              (above (group m) m.me (G.stored given) (WentOver (H.traffic (socket_of (loopback.below_of w))) (loopback.below_of w)) w es
+              r.deeds r.end r.unanswered looped me r.ran);
+        };
+        leaves = r.leaves;
+      },
+    )
+
+-- the same with a key
+pub runs_sealed : {R S C D : Type 0} (G : Ghosts R) (H : socket.Ghosts S) → Settles G → CallsAreSteps → HostedRunsAreLived G →
+    (m : Membership) (given back : R) (ended : Ended) (wire : PacketWire (UdpWire S C) D) → G.is_honest back → G.failed given ≡ 0 →
+    WentLooped (λ (p : PacketWire (UdpWire S C) D). WentSealed (WentOver (H.traffic (socket_of (wiring.inner_of p))) (wiring.inner_of p)) p)
+    m.me wire (λ es. HostedRuns G m given [] es ended back) →
+    (events : List SocketEvent) × H.traffic (socket_of (wiring.inner_of wire)) events ×
+    RunsSealed G m (wiring.keys_of wire) (wiring.sealer_of wire) given back events
+runs_sealed {R} {S} {C} {D} G H settles are_steps law m given back ended wire honest fresh (w, es, is, me, looped, hosted) =
+    let r = runs_over G settles law m given back es ended honest fresh hosted in
+    let p = loopback.below_of w in
+    let sealed = looped.below_is in
+    let o = sealed.state_is.traffic_is in
+    let events = sockets.below_in o.passages in
+    let made = are_steps (wiring.keys_of p) (wiring.sealer_of p) sealed.calls sealed.state (loopback.below_in looped.loops) sealed.made in (
+      events,
+      subst (λ (u : PacketWire (UdpWire S C) D). H.traffic (socket_of (wiring.inner_of u)) events) is o.below_is,
+      record {
+        deeds = r.deeds;
+        end = r.end;
+        unanswered = r.unanswered;
+        ran = subst (λ (u : PacketWire (UdpWire S C) D). RanSealed (group m) (wiring.keys_of u) (wiring.sealer_of u) m.me (G.stored given)
+            events r.deeds r.end r.unanswered) is (record {
+              addresses = peers_of (wiring.inner_of p);
+              me = me_of (wiring.inner_of p);
+              passages = o.passages;
+              sound = o.sound;
+              below_is = refl;
+              made = made.0;
+              packets_are = made.1 ∙ o.above_is;
+              are = made.3;
+              ran = subst (λ (fs : List WireEvent). RanAbove (group m) m.me (G.stored given) fs r.deeds r.end r.unanswered) (sym made.2)
+                  (above (group m) m.me (G.stored given) (WentSealed (WentOver (H.traffic (socket_of (wiring.inner_of p))) (wiring.inner_of p)) p)
+                  w es r.deeds r.end r.unanswered looped me r.ran);
+            });
+        leaves = r.leaves;
+      },
+    )
+
+-- with the keys and the sealer of another wire, which are the same
+pub runs_sealed_by : {R : Type 0} (G : Ghosts R) (m : Membership) (given back : R) (events : List SocketEvent) (keys keys' : List (List ℕ))
+    (s s' : Sealer) → keys ≡ keys' → s ≡ s' → RunsSealed G m keys s given back events → RunsSealed G m keys' s' given back events
+runs_sealed_by G m given back events keys keys' s s' e f r =
+    subst (λ (t : Sealer). RunsSealed G m keys' t given back events) f (subst (λ (ks : List (List ℕ)). RunsSealed G m ks s given back events) e r)
+
+-- ---- whose wire it is
+
+some_is : {X : Type 0} (x y : X) → Some x ≡ Some y → x ≡ y
+some_is x y e = cc
+
+pub me_is : (m k : ℕ) (i j : Identity) → with_me m i ≡ with_me k j → m ≡ k
+me_is m k i j e = some_is m k (ap (λ (x : Identity). x.me) e)
+
+pub below_is : (m k : ℕ) (i j : Identity) → with_me m i ≡ with_me k j → i.sealing ≡ j.sealing
+below_is m k i j e = ap (λ (x : Identity). x.sealing) e
+
+pub sealing_is : (keys keys' : List (List ℕ)) (s s' : Sealer) → Some (keys, s) ≡ Some (keys', s') → (keys ≡ keys') × (s ≡ s')
+sealing_is keys keys' s s' e =
+    let p = some_is (keys, s) (keys', s') e in
+    (ap (λ (q : List (List ℕ) × Sealer). q.0) p, ap (λ (q : List (List ℕ) × Sealer). q.1) p)
