@@ -1,5 +1,5 @@
 -- A member's run over its wire is one at its socket.
-use Rattle.std.proofs.Common.{◌≡◌, ◌∙◌, ◌⊎◌, sym, ap, subst, refl, cc, ℕ, ◌<◌, List, [], ◌++◌, Option, Some, inl, inr, arith}
+use Rattle.std.proofs.Common.{◌≡◌, ◌∙◌, ◌⊎◌, sym, ap, subst, refl, ℕ, false, ◌<◌, List, [], ◌++◌, Option, Some, inl, inr, arith}
 use Rattle.px_model.specs.Node.{Record}
 use Rattle.px_model.specs.Node.Input.{Ticks}
 use Rattle.px_model.specs.Spelling.{Bytes}
@@ -192,7 +192,8 @@ me_is m k i j e = some_is m k (ap (λ (x : Identity). x.me) e)
 pub below_is : (m k : ℕ) (i j : Identity) → with_me m i ≡ with_me k j → i.sealing ≡ j.sealing
 below_is m k i j e = ap (λ (x : Identity). x.sealing) e
 
-pub sealing_is : (keys keys' : List (List ℕ)) (s s' : Sealer) → Some (keys, s) ≡ Some (keys', s') → (keys ≡ keys') × (s ≡ s')
+pub sealing_is : (keys keys' : List (List ℕ)) (s s' : Sealer) →
+    ◌≡◌ {A = Option (List (List ℕ) × Sealer)} (Some (keys, s)) (Some (keys', s')) → (keys ≡ keys') × (s ≡ s')
 sealing_is keys keys' s s' e =
-    let p = some_is (keys, s) (keys', s') e in
+    let p = some_is {X = List (List ℕ) × Sealer} (keys, s) (keys', s') e in
     (ap (λ (q : List (List ℕ) × Sealer). q.0) p, ap (λ (q : List (List ℕ) × Sealer). q.1) p)

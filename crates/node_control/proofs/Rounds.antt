@@ -121,10 +121,10 @@ on_ok (Ok p) f a = f a
 on_ok (Err e) f a = tt
 
 -- all turns were made where none ended with a fault
-pub on_front : {P A : Type 0} (n applied : ℕ) (r : Result P NodeFault) (ended : Ended) → Tells n applied (fault_of r) ended → OnOk r A → OnFront ended A
-on_front n applied (Ok p) (Front m k) told a = a
-on_front n applied (Ok p) (Fault e) told a = tt
-on_front n applied (Ok p) NoWire told a = tt
-on_front n applied (Ok p) NoControlSocket told a = tt
-on_front n applied (Ok p) NoPort told a = tt
-on_front {P} {A} n applied (Err e) ended told a = subst (λ (x : Ended). OnFront x A) (sym told) tt
+pub on_front : {P : Type 0} (A : Type 0) (n applied : ℕ) (r : Result P NodeFault) (ended : Ended) → Tells n applied (fault_of r) ended → OnOk r A → OnFront ended A
+on_front A n applied (Ok p) (Front m k) told a = a
+on_front A n applied (Ok p) (Fault e) told a = tt
+on_front A n applied (Ok p) NoWire told a = tt
+on_front A n applied (Ok p) NoControlSocket told a = tt
+on_front A n applied (Ok p) NoPort told a = tt
+on_front A n applied (Err e) ended told a = subst (λ (x : Ended). OnFront x A) (sym told) tt

@@ -10,7 +10,8 @@ returns-clause-hosted g c new =
       c.run_member-ended.new.wire,
       r.0,
       sym c.into_inner.ensures,
-      me_is _ _ _ _ c.run_member-ended.ensures.same ∙ c.new-wire.ensures.me ∙ c.me.ensures,
+      me_is _ _ (g.W.Wire.identity (below_of c.run_member-ended.new.wire)) (g.W.Wire.identity (below_of c.new-wire.result))
+          c.run_member-ended.ensures.same ∙ c.new-wire.ensures.me ∙ c.me.ensures,
       r.1,
       r.2,
     )
@@ -21,7 +22,8 @@ returns-clause-turns g c none new =
       c.run_member-ended.new.wire,
       r.0,
       sym c.into_inner.ensures,
-      me_is _ _ _ _ c.run_member-ended.ensures.same ∙ c.new-wire.ensures.me ∙ c.me.ensures,
+      me_is _ _ (g.W.Wire.identity (below_of c.run_member-ended.new.wire)) (g.W.Wire.identity (below_of c.new-wire.result))
+          c.run_member-ended.ensures.same ∙ c.new-wire.ensures.me ∙ c.me.ensures,
       r.1,
       r.2,
     )
@@ -29,5 +31,6 @@ returns-clause-turns g c none new =
 pub returns-clause-same : goal.returns-clause-same
 returns-clause-same g c =
     ap (λ (w : _). (g.W.Wire.identity w).sealing) c.into_inner.ensures
-    ∙ below_is _ _ _ _ c.run_member-ended.ensures.same
+    ∙ below_is _ _ (g.W.Wire.identity (below_of c.run_member-ended.new.wire)) (g.W.Wire.identity (below_of c.new-wire.result))
+    c.run_member-ended.ensures.same
     ∙ ap (λ (w : _). (g.W.Wire.identity w).sealing) c.new-wire.ensures.below

@@ -42,4 +42,4 @@ returns-clause-turns g c none es t =
 
 pub returns-clause-made : goal.returns-clause-made
 returns-clause-made g c none =
-    on_front _ _ c.pass_on-ended.result c.ended_of.result c.ended_of.ensures (c.pass_on-ended.ensures.made none)
+    on_front _ _ _ c.pass_on-ended.result c.ended_of.result c.ended_of.ensures (c.pass_on-ended.ensures.made none)
