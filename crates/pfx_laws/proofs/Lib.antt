@@ -29,6 +29,7 @@ pub mod Carrying
 pub mod Carried
 pub mod Stretching
 pub mod Worked
+pub mod Members
 pub mod Networking
 pub mod Lifting
 pub mod Looping
