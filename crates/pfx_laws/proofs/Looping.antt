@@ -1,6 +1,6 @@
 -- What members send to themselves comes to them as it was sent.
-use Rattle.std.proofs.Common.{◌≡◌, ◌∙◌, ◌⊎◌, sym, ap, subst, refl, ℕ, zero, suc, ◌<◌, ◌≤◌, false, nat_eq, List, [], ◌∷◌, ◌++◌, Option, Some, None, inl, inr, arith}
-use Rattle.std.proofs.lemmas.Bool.{cond-true, cond-false, eq-eqb}
+use Rattle.std.proofs.Common.{◌≡◌, ◌∙◌, ◌⊎◌, sym, ap, subst, refl, ℕ, ◌<◌, nat_eq, List, [], ◌∷◌, ◌++◌, Option, Some, None, inl, inr}
+use Rattle.std.proofs.lemmas.Bool.{cond-true, cond-false}
 use Rattle.std.proofs.lemmas.Bool.Decides.{eqb_tells}
 use Rattle.px_model.proofs.Basics.{among_left, among_right, among_cases}
 use Rattle.px_model.specs.Law.{Among}
@@ -12,7 +12,7 @@ use Rattle.px_transport.specs.Wires.{WireEvent, Gave, Handed}
 use Rattle.px_transport.specs.Loopback.{Loop, Passes, Keeps, Returns, IsQueue, above_in, below_in}
 use Rattle.std.specs.Int.{w32, to_be_bytes}
 use Rattle.px_wire.specs.Message.{Group, Message, DatagramBytes, kind, body}
-use Rattle.node_control.specs.Sockets.{Ran, RanAbove}
+use Rattle.node_control.specs.Sockets.{RanAbove}
 use Rattle.pfx_laws.specs.Promised.{IsGroup}
 use Rattle.pfx_laws.specs.Wires.{Stretch}
 use Rattle.pfx_laws.specs.Members.{RunEvent, Starts, During, Run, AreRuns, IsEmpty, events_at, InStretches}

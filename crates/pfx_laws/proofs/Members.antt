@@ -1,7 +1,6 @@
 -- What is promised of stretches is promised of the members that went in them.
-use Rattle.std.proofs.Common.{◌≡◌, ◌∙◌, sym, ap, subst, ℕ, ◌<◌, List, [], ◌++◌}
+use Rattle.std.proofs.Common.{◌∙◌, sym, ap, subst, ℕ, List, [], ◌++◌}
 use Rattle.std.proofs.lemmas.List.{append-nil}
-use Rattle.px_model.specs.Node.{Entry}
 use Rattle.px_model.specs.Spelling.{Bytes}
 use Rattle.px_model.specs.World.{NodeState}
 use Rattle.px_records.specs.declared.records.Records.{Ghosts}

@@ -11,7 +11,7 @@ use Rattle.px_model.specs.Spelling.{Bytes}
 use Rattle.px_model.specs.Step.{put}
 use Rattle.px_model.specs.World.{NodeState, nothing_stored, started}
 use Rattle.node_loop.specs.Again.{AreAmong}
-use Rattle.node_loop.proofs.Among.{among_all, among_front, among_back, among_none, among_sides, among_then, among_both}
+use Rattle.node_loop.proofs.Among.{among_all, among_front, among_back, among_none, among_sides, among_then}
 use Rattle.px_transport.specs.Wires.{WireEvent, Gave, Handed, given_in, handed_in, gives, hands}
 use Rattle.px_wire.specs.Message.{Group, Message, DatagramBytes}
 use Rattle.px_wire.specs.Members.{as_sent}

@@ -1,5 +1,5 @@
 -- What a network may carry, worked on small cases. No law rests on these.
-use Rattle.std.proofs.Common.{◌≡◌, ◌≢◌, ◌∙◌, sym, ap, subst, refl, ℕ, ◌<◌, false, nat_eq, List, [], ◌∷◌, ◌++◌, map, Option, Some, None, inl, inr, arith}
+use Rattle.std.proofs.Common.{◌≡◌, ◌≢◌, ap, subst, refl, ℕ, ◌<◌, false, nat_eq, List, [], ◌∷◌, ◌++◌, map, Option, Some, None, inl, inr, arith}
 use Rattle.std.proofs.lemmas.Bool.{cond-true, eq-eqb}
 use Rattle.std.specs.Prelude.{slice_index}
 use Rattle.px_model.specs.Node.{Record}
