@@ -61,4 +61,5 @@ SocketsLearnWhatWasAsked =
 -- where they have applied equally many positions, they have one configuration
 abbrev pub EquallyAppliedAtSockets : {R Q : Type 0} → Ghosts R → Ghosts Q → Type 0
 EquallyAppliedAtSockets {R} {Q} G H =
-    (g : Group) (network : Network) (runs : Runs (Unit {0})) → RanOver g network runs → EquallyApplied G H g (stands runs)
+    (g : Group) (network : Network) (runs : Runs (Unit {0})) → RanOver g network runs →
+    EquallyApplied G H g (stands runs)

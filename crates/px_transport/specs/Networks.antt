@@ -62,8 +62,8 @@ DatagramsCarried ((r, Takes to d is_cut) ∷ xs) handed = DatagramsCarried xs (h
 DatagramsCarried ((r, Reports member now) ∷ xs) handed = DatagramsCarried xs handed
 
 -- Where packets that are opened come from members, datagrams that are given do, byte for byte: whatever packets are
--- lost, repeated, delayed or come from others, whatever is cut into pieces, for whatever memory is refused, and wherever
--- members stop and start again, so that packets of earlier starts come.
+-- lost, repeated, delayed or come from others, whatever is cut into pieces, and for whatever memory is refused; and
+-- wherever members stop and start again, so that packets of earlier starts come.
 abbrev pub SealedIsCarried : Type 0
 SealedIsCarried =
     (c : Cluster) (n : ℕ) (xs : Network) → StartsDiffer c n → AreSteps c xs (λ r. []) → PacketsCarried c n xs [] →
