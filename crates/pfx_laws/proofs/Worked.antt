@@ -12,14 +12,15 @@ use Rattle.node_loop.specs.Resending.{IsOutside}
 use Rattle.px_replica.specs.declared.datagram.Datagram.{Datagram}
 use Rattle.std.specs.declared.net.socket_addr.SocketAddr.{SocketAddr}
 use Rattle.node_udp.specs.Sockets.{SocketEvent, Came, Went}
+use Rattle.px_transport.specs.Sending.{Sealer}
 use Rattle.px_transport.specs.Wiring.{opened}
 use Rattle.px_records.specs.declared.records.Records.{Ghosts}
 use Rattle.px_wire.specs.declared.membership.Membership.{Membership}
-use Rattle.node_control.specs.Sockets.{RanAt, RunsAt}
+use Rattle.node_control.specs.Sockets.{RanAt, RunsAt, RunsSealed, IsNamed}
 use Rattle.pfx_laws.specs.Wires.{AreCarried}
 use Rattle.pfx_laws.specs.Members.{Starts, During, Run, AreRuns, IsEmpty, Befell}
 use Rattle.pfx_laws.specs.Sockets.{SocketsCarry, IsRun}
-use Rattle.pfx_laws.specs.Sealed.{Keyed, IsUnopened, PacketsCarry}
+use Rattle.pfx_laws.specs.Sealed.{Keyed, IsUnopened, PacketsCarry, IsSealed}
 
 empty_is_nobodys : (g : Group) (m : ℕ) → IsOutside g m []
 empty_is_nobodys g m from x spelled = let e : 0 ≡ 0x50 = ap (λ (b : Bytes). slice_index b 0) spelled.spelled in absurd cc
@@ -184,3 +185,24 @@ forged_packet_never_comes n m k from forged opens carried =
       | inl none ↦ none
       | inr unopened ↦ opens (subst (λ (o : Option Keyed). IsUnopened o forged) (cond-true (nat_eq m m) (Some k) None (eq-eqb m m refl)) unopened)
     ]
+
+-- Of two runs as node_control's contract has them, with keys and starts of their own, the second over what a stop may
+-- have left of the store: one after another.
+abbrev sealed_run_of : {R : Type 0} {G : Ghosts R} {m : Membership} {keys : List (List ℕ)} {s : Sealer} {given back : R}
+    {events : List SocketEvent} → RunsSealed G m keys s given back events → Run Keyed
+sealed_run_of {R} {G} {m} {keys} {s} {given} {back} {events} a =
+    record { key = record { keys = keys; sealer = s }; first = G.stored given; deeds = a.deeds; end = a.end; unanswered = a.unanswered }
+
+pub sealed_store_goes_on : {R : Type 0} (G : Ghosts R) (m : Membership) (k l : Keyed) (given back next end : R) (events later : List SocketEvent)
+    (a : RunsSealed G m k.keys k.sealer given back events) (b : RunsSealed G m l.keys l.sealer next end later) → IsNamed a.ran → IsNamed b.ran →
+    k.sealer.me ≡ m.me → l.sealer.me ≡ m.me → G.stored given ≡ nothing_stored → G.may_leave back (G.stored next) →
+    AreRuns (group m) m.me (IsSealed (group m) m.me) IsEmpty (sealed_run_of a ∷ sealed_run_of b ∷ [])
+    (Starts k ∷ (map (λ x. During x) events ++ (Starts l ∷ (map (λ x. During x) later ++ []))))
+sealed_store_goes_on G m k l given back next end events later a b named also mine too empty left = (
+  empty,
+  events,
+  Starts l ∷ (map (λ x. During x) later ++ []),
+  record { ran = a.ran; named = named; me = mine },
+  refl,
+  (a.leaves.stop (G.stored next) left, later, [], record { ran = b.ran; named = also; me = too }, refl, refl),
+)
