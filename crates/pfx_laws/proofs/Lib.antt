@@ -8,6 +8,10 @@
 -- | `Logs` | the effect of each command by these, and a log by induction |
 -- | `Braces` | the tokens of each production lead back to the depth at which they began (`Level`); so a block's items nest no deeper than its braces |
 -- | `Again` | a shown rule has no fault: its tokens are clean, its braces are low (`item_low`), its length is asked; then as `RoundTrip` of pf_grammar, whose invariant it has with one field more |
+-- | `Lifting` | an order of what goes over a lower layer of all members is one of what goes over the layer above it: socket, packets, own datagrams, wire; starts of runs are on each of them |
+-- | `Networking` | a member's runs are acts, each at most one event at its wire: so the events in order are stretches; at a start what is left of the run before, a stop and an opening |
+-- | `Looping`, `Socketing`, `Sealing` | a layer each: what goes over it is carried, if what goes over the layer below is |
+-- | `Numbering` | with a key, runs get numbers as they start, for the law of px_transport; no two of a member have one start |
 --
 -- - `Level` is a record: as an `abbrev` of a function its argument isn't found from the goal (`_` stays unsolved).
 -- - Newlines within a list change nothing of depths (`blank_low`), so that a list's tokens needn't be compared with those
@@ -29,8 +33,10 @@ pub mod Carrying
 pub mod Carried
 pub mod Stretching
 pub mod Worked
+pub mod Members
 pub mod Networking
 pub mod Lifting
 pub mod Looping
 pub mod Socketing
+pub mod Numbering
 pub mod Sealing

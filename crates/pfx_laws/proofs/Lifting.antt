@@ -1,10 +1,14 @@
 -- An order of what goes over lower layers of all members is one of what goes over the layers above.
-use Rattle.std.proofs.Common.{◌≡◌, ◌∙◌, sym, ap, refl, ℕ, zero, suc, ◌<◌, ◌≤◌, false, nat_eq, List, [], ◌∷◌, ◌++◌, Option, Some, None, inl, inr, arith, append_assoc}
+use Rattle.std.proofs.Common.{◌≡◌, ◌∙◌, ◌⊎◌, sym, ap, subst, refl, ℕ, zero, suc, ◌<◌, ◌≤◌, false, nat_eq, List, [], ◌∷◌, ◌++◌, map, Option, Some, None, inl, inr, arith, append_assoc}
 use Rattle.std.proofs.lemmas.Bool.{cond-true, cond-false, eq-eqb}
 use Rattle.std.proofs.lemmas.Bool.Decides.{eqb_tells}
 use Rattle.std.proofs.lemmas.List.{append-nil}
+use Rattle.px_model.specs.Node.{Record}
+use Rattle.px_model.specs.Spelling.{Bytes}
 use Rattle.px_model.specs.Step.{put}
-use Rattle.pfx_laws.specs.Networks.{events_at}
+use Rattle.px_wire.specs.Message.{Group}
+use Rattle.node_loop.specs.Living.{LeavesThere}
+use Rattle.pfx_laws.specs.Members.{RunEvent, Starts, During, Run, AreRuns, events_at}
 
 -- ---- one member's
 
@@ -43,6 +47,20 @@ below_append n (x ∷ xs) ys a b = (a.0, below_append n xs ys a.1 b)
 below_tagged : {X : Type 0} (n m : ℕ) (xs : List X) → m < n → AreBelow n (tagged m xs)
 below_tagged n m [] l = tt
 below_tagged n m (x ∷ xs) l = (l, below_tagged n m xs l)
+
+-- what holds of what is left of each member: with the first one of a member, and behind it
+pub each_first : {X : Type 0} (P : ℕ → List X → Type 0) (n m : ℕ) (x : X) (xs : List (ℕ × X)) → m < n →
+    ((k : ℕ) → k < n → P k (events_at k ((m, x) ∷ xs))) → P m (x ∷ events_at m xs)
+each_first P n m x xs below each =
+    subst (λ (es : List _). P m es) (cond-true (nat_eq m m) (x ∷ events_at m xs) (events_at m xs) (eq-eqb m m refl)) (each m below)
+
+pub each_rest : {X : Type 0} (P : ℕ → List X → Type 0) (n m : ℕ) (x : X) (xs : List (ℕ × X)) → P m (events_at m xs) →
+    ((k : ℕ) → k < n → P k (events_at k ((m, x) ∷ xs))) → (k : ℕ) → k < n → P k (events_at k xs)
+each_rest P n m x xs mine each k l =
+    elim (eqb_tells k m) [
+      | inl is ↦ subst (λ (j : ℕ). P j (events_at j xs)) (sym is.1) mine
+      | inr other ↦ subst (λ (es : List _). P k es) (cond-false (nat_eq k m) (x ∷ events_at k xs) (events_at k xs) other.0) (each k l)
+    ]
 
 -- ---- a layer: each of its steps is at most one event of the layer below
 
@@ -195,3 +213,165 @@ module _ {L A : Type 0} (lower : L → Option A) where
             ∙ ap (λ (o : Option A). tag m o ++ all_lower r.above) s.low ∙ ap (λ (zs : List (ℕ × A)). (m, a) ∷ zs) r.low;
         within = below_append n front ((m, s.it) ∷ r.above) (below_tagged n m s.before within.0) (within.0, r.within);
       }
+
+-- ---- a layer of runs: starts are on both sides of it, and each of its steps is events of the layer above, too
+
+-- what goes over it in a run
+abbrev pub during : {K X : Type 0} → List X → List (RunEvent K X)
+during xs = map (λ x. During x) xs
+
+pub during_append : {K X : Type 0} (xs ys : List X) (zs : List (RunEvent K X)) → during (xs ++ ys) ++ zs ≡ during xs ++ (during ys ++ zs)
+during_append [] ys zs = refl
+during_append (x ∷ xs) ys zs = ap (λ (es : List (RunEvent _ _)). During x ∷ es) (during_append xs ys zs)
+
+pub below_or : (m n : ℕ) → (m < n) ⊎ (n ≤ m)
+below_or m zero = inr (omega arith)
+below_or zero (suc n) = inl (omega arith)
+below_or (suc m) (suc n) = elim (below_or m n) [ inl l ↦ inl (omega (arith, l)) | inr h ↦ inr (omega (arith, h)) ]
+
+abbrev pub highs : {L Y : Type 0} → (high : ℕ → L → List Y) → ℕ → List L → List Y
+highs high m [] = []
+highs high m (l ∷ ls) = high m l ++ highs high m ls
+
+module _ {K L X Y : Type 0} (low : L → Option X) (high : ℕ → L → List Y) where
+  abbrev some_during : Option X → Option (RunEvent K X)
+  some_during None = None
+  some_during (Some x) = Some (During x)
+
+  abbrev pub low_of : RunEvent K L → Option (RunEvent K X)
+  low_of (Starts k) = Some (Starts k)
+  low_of (During l) = some_during (low l)
+
+  abbrev pub high_of : ℕ → RunEvent K L → List (RunEvent K Y)
+  high_of m (Starts k) = Starts k ∷ []
+  high_of m (During l) = during (high m l)
+
+  abbrev pub run_highs : ℕ → List (RunEvent K L) → List (RunEvent K Y)
+  run_highs m [] = []
+  run_highs m (e ∷ es) = high_of m e ++ run_highs m es
+
+  -- over all members' layers above
+  abbrev pub upper : List (ℕ × RunEvent K L) → List (ℕ × RunEvent K Y)
+  upper [] = []
+  upper (x ∷ xs) = tagged x.0 (high_of x.0 x.1) ++ upper xs
+
+  pub upper_at : (k : ℕ) (xs : List (ℕ × RunEvent K L)) → events_at k (upper xs) ≡ run_highs k (events_at k xs)
+  upper_at k [] = refl
+  upper_at k (x ∷ xs) =
+      let hs = high_of x.0 x.1 in
+      at_append k (tagged x.0 hs) (upper xs)
+      ∙ elim (eqb_tells k x.0) [
+        | inl is ↦ ap (λ (j : ℕ). events_at j (tagged x.0 hs) ++ events_at k (upper xs)) is.1
+            ∙ ap (λ (zs : List (RunEvent K Y)). zs ++ events_at k (upper xs)) (at_own x.0 hs)
+            ∙ ap (λ (zs : List (RunEvent K Y)). hs ++ zs) (upper_at k xs)
+            ∙ ap (λ (j : ℕ). high_of j x.1 ++ run_highs k (events_at k xs)) (sym is.1)
+            ∙ ap (λ (es : List (RunEvent K L)). run_highs k es) (sym (cond-true (nat_eq k x.0) (x.1 ∷ events_at k xs) (events_at k xs) is.0))
+        | inr other ↦ ap (λ (zs : List (RunEvent K Y)). zs ++ events_at k (upper xs)) (at_other k x.0 hs other.0) ∙ upper_at k xs
+            ∙ ap (λ (es : List (RunEvent K L)). run_highs k es) (sym (cond-false (nat_eq k x.0) (x.1 ∷ events_at k xs) (events_at k xs) other.0))
+      ]
+
+  lowers_during : (ls : List L) (later : List (RunEvent K L)) →
+      lowers low_of (during ls ++ later) ≡ during (lowers low ls) ++ lowers low_of later
+  lowers_during [] later = refl
+  lowers_during (l ∷ ls) later = at (low l) (lowers_during ls later)
+    where
+      at : (o : Option X) → lowers low_of (during ls ++ later) ≡ during (lowers low ls) ++ lowers low_of later →
+          one_below low_of (some_during o) ++ lowers low_of (during ls ++ later) ≡ during (one_below low o ++ lowers low ls) ++ lowers low_of later
+      at None rest = rest
+      at (Some x) rest = ap (λ (es : List (RunEvent K X)). During x ∷ es) rest
+
+  highs_during : (m : ℕ) (ls : List L) (later : List (RunEvent K L)) →
+      run_highs m (during ls ++ later) ≡ during (highs high m ls) ++ run_highs m later
+  highs_during m [] later = refl
+  highs_during m (l ∷ ls) later =
+      ap (λ (es : List (RunEvent K Y)). during (high m l) ++ es) (highs_during m ls later)
+      ∙ sym (during_append (high m l) (highs high m ls) (run_highs m later))
+
+  -- A run over the layer below is one over the layer above, with these steps between, of which this holds.
+  abbrev pub Raises : (m : ℕ) → (Is : Run K → List X → Type 0) → (Above : Run K → List Y → Type 0) →
+      (Good : List (RunEvent K L) → Type 0) → Type 0
+  Raises m Is Above Good =
+      (r : Run K) (own : List X) → Is r own →
+      (ls : List L) × (own ≡ lowers low ls) × Above r (highs high m ls) ×
+      ((later : List (RunEvent K L)) → Good later → Good (Starts r.key ∷ (during ls ++ later)))
+
+  -- the same of runs one after another
+  record Raised (g : Group) (m : ℕ) (Above : Run K → List Y → Type 0) (Good : List (RunEvent K L) → Type 0)
+      (IsLeft : Record Bytes → Type 0) (runs : List (Run K)) (events : List (RunEvent K X)) : Type 0 where
+    steps : List (RunEvent K L)
+    low_is : events ≡ lowers low_of steps
+    good : Good steps
+    are : AreRuns g m Above IsLeft runs (run_highs m steps)
+
+  raise : (g : Group) (m : ℕ) (Is : Run K → List X → Type 0) (Above : Run K → List Y → Type 0) (Good : List (RunEvent K L) → Type 0) →
+      Good [] → Raises m Is Above Good → (IsLeft : Record Bytes → Type 0) (runs : List (Run K)) (events : List (RunEvent K X)) →
+      AreRuns g m Is IsLeft runs events → Raised g m Above Good IsLeft runs events
+  raise g m Is Above Good none each IsLeft [] events are = record { steps = []; low_is = are; good = none; are = refl }
+  raise g m Is Above Good none each IsLeft (r ∷ rs) events (left, own, later, is, all, more) =
+      let one = each r own is in
+      let rest = raise g m Is Above Good none each (LeavesThere g m r.unanswered r.end) rs later more in
+      record {
+        steps = Starts r.key ∷ (during one.0 ++ rest.steps);
+        low_is = all ∙ ap (λ (es : List (RunEvent K X)). Starts r.key ∷ es)
+            (ap (λ (xs : List X). during xs ++ later) one.1
+            ∙ ap (λ (es : List (RunEvent K X)). during (lowers low one.0) ++ es) rest.low_is
+            ∙ sym (lowers_during one.0 rest.steps));
+        good = one.3 rest.steps rest.good;
+        are = (
+          left,
+          highs high m one.0,
+          run_highs m rest.steps,
+          one.2,
+          ap (λ (es : List (RunEvent K Y)). Starts r.key ∷ es) (highs_during m one.0 rest.steps),
+          rest.are,
+        );
+      }
+
+  -- ---- of all members
+
+  pub record Up (g : Group) (Above : (m : ℕ) → Run K → List Y → Type 0) (Good : ℕ → List (RunEvent K L) → Type 0)
+      (IsLeft : Record Bytes → Type 0) (network : List (ℕ × RunEvent K X)) (runs : ℕ → List (Run K)) : Type 0 where
+    pub above : List (ℕ × RunEvent K L)
+    pub low_is : all_lower low_of above ≡ network
+    pub within : AreBelow g.members above
+    pub good : (m : ℕ) → m < g.members → Good m (events_at m above)
+    pub are : (m : ℕ) → m < g.members → AreRuns g m (Above m) IsLeft (runs m) (events_at m (upper above))
+
+  module _ (g : Group) (Is : (m : ℕ) → Run K → List X → Type 0) (Above : (m : ℕ) → Run K → List Y → Type 0)
+      (Good : ℕ → List (RunEvent K L) → Type 0) (none : (m : ℕ) → Good m []) (each : (m : ℕ) → Raises m (Is m) (Above m) (Good m))
+      (IsLeft : Record Bytes → Type 0) (network : List (ℕ × RunEvent K X)) (runs : ℕ → List (Run K))
+      (are : (m : ℕ) → m < g.members → AreRuns g m (Is m) IsLeft (runs m) (events_at m network)) where
+    raised : (m : ℕ) → m < g.members → Raised g m (Above m) (Good m) IsLeft (runs m) (events_at m network)
+    raised m below = raise g m (Is m) (Above m) (Good m) (none m) (each m) IsLeft (runs m) (events_at m network) (are m below)
+
+    abbrev steps_of : (m : ℕ) → (m < g.members) ⊎ (g.members ≤ m) → List (RunEvent K L)
+    steps_of m (inl below) = (raised m below).steps
+    steps_of m (inr above) = []
+
+    abbrev steps_at : ℕ → List (RunEvent K L)
+    steps_at m = steps_of m (below_or m g.members)
+
+    low_at : (m : ℕ) (w : (m < g.members) ⊎ (g.members ≤ m)) → m < g.members → events_at m network ≡ lowers low_of (steps_of m w)
+    low_at m (inl b) below = (raised m b).low_is
+    low_at m (inr above) below = absurd (omega (arith, above, below))
+
+    good_at : (m : ℕ) (w : (m < g.members) ⊎ (g.members ≤ m)) → m < g.members → Good m (steps_of m w)
+    good_at m (inl b) below = (raised m b).good
+    good_at m (inr above) below = absurd (omega (arith, above, below))
+
+    are_at : (m : ℕ) (w : (m < g.members) ⊎ (g.members ≤ m)) → m < g.members → AreRuns g m (Above m) IsLeft (runs m) (run_highs m (steps_of m w))
+    are_at m (inl b) below = (raised m b).are
+    are_at m (inr above) below = absurd (omega (arith, above, below))
+
+    pub up : AreBelow g.members network → Up g Above Good IsLeft network runs
+    up within =
+        let l = lift low_of g.members network steps_at (λ m below. low_at m (below_or m g.members) below) within in
+        record {
+          above = l.above;
+          low_is = l.low;
+          within = l.within;
+          good = λ m below. subst (λ (es : List (RunEvent K L)). Good m es) (sym (l.own m below)) (good_at m (below_or m g.members) below);
+          are = λ m below. subst (λ (es : List (RunEvent K Y)). AreRuns g m (Above m) IsLeft (runs m) es)
+              (sym (upper_at m l.above ∙ ap (λ (es : List (RunEvent K L)). run_highs m es) (l.own m below)))
+              (are_at m (below_or m g.members) below);
+        }

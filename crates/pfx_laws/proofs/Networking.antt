@@ -1,5 +1,5 @@
--- From what goes over the members' wires to stretches of what befell them.
-use Rattle.std.proofs.Common.{◌≡◌, ◌∙◌, ◌⊎◌, sym, ap, subst, refl, ℕ, zero, suc, ◌<◌, ◌≤◌, Bool, nat_eq, List, [], ◌∷◌, ◌++◌, map, drop, Option, Some, None, inl, inr, arith, append_assoc}
+-- From what goes over the members' wires, run after run, to stretches of what befell them.
+use Rattle.std.proofs.Common.{◌≡◌, ◌∙◌, ◌⊎◌, sym, ap, subst, refl, true, ℕ, zero, suc, ◌<◌, ◌≤◌, Bool, nat_eq, List, [], ◌∷◌, ◌++◌, map, drop, Option, Some, None, inl, inr, arith, append_assoc}
 use Rattle.std.proofs.lemmas.Bool.{cond-true, cond-false, eq-eqb}
 use Rattle.std.proofs.lemmas.Bool.Decides.{eqb_tells}
 use Rattle.std.proofs.lemmas.List.{append-nil}
@@ -10,70 +10,116 @@ use Rattle.px_model.specs.Node.Input.{Asks, Ticks, Comes}
 use Rattle.px_model.specs.Spelling.{Bytes}
 use Rattle.px_model.specs.Step.{put}
 use Rattle.px_model.specs.World.{NodeState, nothing_stored, started}
-use Rattle.px_records.specs.declared.records.Records.{Ghosts}
 use Rattle.node_loop.specs.Again.{AreAmong}
 use Rattle.node_loop.proofs.Among.{among_all, among_front, among_back, among_none, among_sides, among_then}
-use Rattle.px_transport.specs.Wires.{WireEvent, Gave, Handed, given_in, handed_in, hands}
-use Rattle.px_wire.specs.Message.{Group, group, Message, DatagramBytes}
+use Rattle.px_transport.specs.Wires.{WireEvent, Gave, Handed, given_in, handed_in, gives, hands}
+use Rattle.px_wire.specs.Message.{Group, Message, DatagramBytes}
 use Rattle.px_wire.specs.Members.{as_sent}
 use Rattle.px_replica.specs.Spelled.{AreSpelled}
 use Rattle.px_replica.specs.Lives.{Deed, Lived}
-use Rattle.px_replica.specs.Lives.Deed.{Calls}
+use Rattle.px_replica.specs.Lives.Deed.{Calls, Stops, Opens}
 use Rattle.px_replica.specs.declared.datagram.Datagram.{Datagram}
+use Rattle.node_loop.specs.Resending.{came_in}
 use Rattle.node_loop.specs.Turns.{handed_over}
-use Rattle.node_loop.specs.Living.{message_in, messages_of, AreBrought, sent_by}
-use Rattle.node_loop.specs.Living.{Move, Does, Passes, Repeats, deeds_of, events_of, IsBrought, AreMoves}
-use Rattle.node_loop.proofs.Traffic.{one_brought, none_brought}
+use Rattle.node_loop.specs.Living as living
+use Rattle.node_loop.specs.Living.{Heard, message_in, messages_of, AreBrought, sent_by, LeavesThere}
+use Rattle.node_loop.specs.Living.{Move, deeds_of, events_of, IsBrought, AreMoves}
+use Rattle.node_loop.proofs.Traffic.{one_brought, none_brought, brought_more, brought_then}
+use Rattle.node_loop.proofs.Lives.{lived_then}
+use Rattle.node_control.specs.Sockets.{Ran}
 use Rattle.pfx_laws.specs.Promised.{IsGroup}
 use Rattle.pfx_laws.specs.Wires.{Stretch, AreStretches, IsCarried, AreCarried, deeds_in, led_to}
-use Rattle.pfx_laws.specs.Networks.{events_at, WasHanded, Carries, Ran, LivesAreRuns, InStretches}
+use Rattle.pfx_laws.specs.Members.{RunEvent, Starts, During, Run, AreRuns, IsEmpty, events_at, stands, stands_after, Befell, BefellThen, InStretches}
+use Rattle.pfx_laws.specs.Sockets.{WasHanded}
 use Rattle.pfx_laws.proofs.Carrying.{lived_to}
+use Rattle.pfx_laws.proofs.Lifting.{during, during_append, below_or}
 
--- ---- what a member still does
+-- ---- what a member does, one thing after another, through its runs
 
--- what is still to be handed over of its last call, its moves after that, and what goes over its wire after these
-record Plan : Type 0 where
+data Act (K : Type 0) : Type 0 where
+  -- a call answers
+  Answers : (came : Option Bytes) (input : Input Bytes) (then : NodeState Bytes) (out : List Datagram) → Act K
+  -- a datagram comes, and nothing befalls the member
+  Skips : (bytes : Bytes) → Act K
+  -- a datagram is handed over again
+  Resends : (to : ℕ) (bytes : Bytes) → Act K
+  -- a run starts; before it this befell the member
+  Begins : (key : K) (deeds : List Deed) → Act K
+
+abbrev befall : {K : Type 0} → List (Act K) → List Deed
+befall [] = []
+befall (Answers came i t out ∷ xs) = Calls i t out ∷ befall xs
+befall (Skips b ∷ xs) = befall xs
+befall (Resends to b ∷ xs) = befall xs
+befall (Begins k ds ∷ xs) = ds ++ befall xs
+
+abbrev happen : {K : Type 0} → List (Act K) → List (RunEvent K WireEvent)
+happen [] = []
+happen (Answers came i t out ∷ xs) = during (gives came ++ hands (handed_over out)) ++ happen xs
+happen (Skips b ∷ xs) = During (Gave b) ∷ happen xs
+happen (Resends to b ∷ xs) = During (Handed to b) ∷ happen xs
+happen (Begins k ds ∷ xs) = Starts k ∷ happen xs
+
+abbrev given_by : {K : Type 0} → RunEvent K WireEvent → List Bytes
+given_by (Starts k) = []
+given_by (During e) = given_in (e ∷ [])
+
+abbrev handed_by : {K : Type 0} → RunEvent K WireEvent → List (ℕ × Bytes)
+handed_by (Starts k) = []
+handed_by (During e) = handed_in (e ∷ [])
+
+-- what is still to be handed over of its last call, and what it does after that
+record Plan (K : Type 0) : Type 0 where
   pending : List (ℕ × Bytes)
-  moves : List Move
-  last : List WireEvent
+  acts : List (Act K)
 
--- what still goes over its wire
-abbrev rest : Plan → List WireEvent
-rest p = hands p.pending ++ (events_of p.moves ++ p.last)
+-- what still happens at it
+abbrev rest : {K : Type 0} → Plan K → List (RunEvent K WireEvent)
+rest p = during (hands p.pending) ++ happen p.acts
 
 -- each is a message
 abbrev AreMessages : Group → List (ℕ × Bytes) → Type 0
 AreMessages g sent = (d : ℕ × Bytes) → Among sent d → (from : ℕ) × (message : Message) × DatagramBytes g from d.0 message d.1
 
--- each message comes in its place, what is sent is messages, and what is handed over again was sent; these were already
-abbrev AreSound : Group → (m : ℕ) → List Move → (last : List WireEvent) → (sent : List (ℕ × Bytes)) → Type 0
-AreSound g m [] last sent = AreAmong (handed_in last) sent
-AreSound g m (Does came i t out ∷ ms) last sent =
-    IsBrought g m came i × AreMessages g (handed_over out) × AreSound g m ms last (sent ++ handed_over out)
-AreSound g m (Passes b ∷ ms) last sent = AreSound g m ms last sent
-AreSound g m (Repeats to b ∷ ms) last sent = Among sent (to, b) × AreSound g m ms last sent
+-- Each message comes in its place, and that of a call that a stop cut short came before; what is sent is messages; and
+-- what is handed over again was sent. These came already, and these were sent.
+abbrev AreSound : {K : Type 0} → Group → (m : ℕ) → List (Act K) → (came : List Bytes) → (sent : List (ℕ × Bytes)) → Type 0
+AreSound g m [] came sent = Unit {0}
+AreSound g m (Answers b i t out ∷ xs) came sent =
+    IsBrought g m b i × AreMessages g (handed_over out) × AreSound g m xs (came ++ came_in b) (sent ++ handed_over out)
+AreSound g m (Skips b ∷ xs) came sent = AreSound g m xs (came ++ b ∷ []) sent
+AreSound g m (Resends to b ∷ xs) came sent = Among sent (to, b) × AreSound g m xs came sent
+AreSound g m (Begins k ds ∷ xs) came sent = AreBrought g m came (messages_of ds) × (sent_by ds ≡ []) × AreSound g m xs came sent
 
-record IsSound (g : Group) (m : ℕ) (sent : List (ℕ × Bytes)) (p : Plan) : Type 0 where
-  pending : AreAmong p.pending sent
-  moves : AreSound g m p.moves p.last sent
+record IsSound {K : Type 0} (g : Group) (m : ℕ) (came : List Bytes) (sent : List (ℕ × Bytes)) (p : Plan K) : Type 0 where
+  pub pending : AreAmong p.pending sent
+  pub acts : AreSound g m p.acts came sent
 
--- more was sent
-sound_more : (g : Group) (m : ℕ) (ms : List Move) (last : List WireEvent) (few many : List (ℕ × Bytes)) → AreAmong few many →
-    AreSound g m ms last few → AreSound g m ms last many
-sound_more g m [] last few many a s = among_then (handed_in last) few many s a
-sound_more g m (Does came i t out ∷ ms) last few many a s = (
+brought_among : (g : Group) (m : ℕ) (few many : List Bytes) (xs : List Heard) → AreAmong few many → AreBrought g m few xs → AreBrought g m many xs
+brought_among g m few many xs a b x n = let r = b x n in (r.0, a r.0 r.1, r.2)
+
+-- more came, and more was sent
+sound_more : {K : Type 0} (g : Group) (m : ℕ) (xs : List (Act K)) (less more : List Bytes) (few many : List (ℕ × Bytes)) →
+    AreAmong less more → AreAmong few many → AreSound g m xs less few → AreSound g m xs more many
+sound_more g m [] less more few many c a s = tt
+sound_more g m (Answers b i t out ∷ xs) less more few many c a s = (
   s.0,
   s.1,
-  sound_more g m ms last (few ++ handed_over out) (many ++ handed_over out)
+  sound_more g m xs (less ++ came_in b) (more ++ came_in b) (few ++ handed_over out) (many ++ handed_over out)
+      (among_sides less (came_in b) more (came_in b) c (among_all (came_in b)))
       (among_sides few (handed_over out) many (handed_over out) a (among_all (handed_over out))) s.2,
 )
-sound_more g m (Passes b ∷ ms) last few many a s = sound_more g m ms last few many a s
-sound_more g m (Repeats to b ∷ ms) last few many a s = (a (to, b) s.0, sound_more g m ms last few many a s.1)
+sound_more g m (Skips b ∷ xs) less more few many c a s =
+    sound_more g m xs (less ++ b ∷ []) (more ++ b ∷ []) few many (among_sides less (b ∷ []) more (b ∷ []) c (among_all (b ∷ []))) a s
+sound_more g m (Resends to b ∷ xs) less more few many c a s = (a (to, b) s.0, sound_more g m xs less more few many c a s.1)
+sound_more g m (Begins k ds ∷ xs) less more few many c a s =
+    (brought_among g m less more (messages_of ds) c s.0, s.1, sound_more g m xs less more few many c a s.2)
 
-plan_more : (g : Group) (m : ℕ) (p : Plan) (few many : List (ℕ × Bytes)) → AreAmong few many → IsSound g m few p → IsSound g m many p
-plan_more g m p few many a s = record {
+plan_more : {K : Type 0} (g : Group) (m : ℕ) (p : Plan K) (less more : List Bytes) (few many : List (ℕ × Bytes)) → AreAmong less more →
+    AreAmong few many → IsSound g m less few p → IsSound g m more many p
+plan_more g m p less more few many c a s = record {
   pending = among_then p.pending few many s.pending a;
-  moves = sound_more g m p.moves p.last few many a s.moves;
+  acts = sound_more g m p.acts less more few many c a s.acts;
 }
 
 -- what a step hands out
@@ -86,53 +132,41 @@ are_messages g (x ∷ xs) (e ∷ out) s d (inl is) =
     (x.sender, as_sent x.message, subst (λ (c : ℕ × Bytes). DatagramBytes g x.sender c.0 (as_sent x.message) c.1) is here)
 are_messages g (x ∷ xs) (e ∷ out) s d (inr later) = are_messages g xs out s.1 d later
 
--- moves are sound
-moves_sound : (g : Group) (m : ℕ) (hears : Bool) (ms : List Move) (before : List Bytes) (kept : List (ℕ × Bytes)) (last : List WireEvent)
-    (from then : NodeState Bytes) → Lived g m from (deeds_of ms) then →
-    AreMoves g m hears ms before kept → AreAmong (handed_in last) (kept ++ sent_by (deeds_of ms)) → AreSound g m ms last kept
-moves_sound g m hears [] before kept last from then v a l = subst (λ (ds : List (ℕ × Bytes)). AreAmong (handed_in last) ds) (append-nil kept) l
-moves_sound g m hears (Does came i t out ∷ ms) before kept last from then v a l =
-    let made = v.2 in (
-      a.0,
-      are_messages g made.plan.sends out (subst (λ (ds : List Datagram). AreSpelled g made.plan.sends ds) (sym made.handed) made.spelled),
-      moves_sound g m hears ms _ (kept ++ handed_over out) last t then v.3 a.1
-          (subst (λ (ds : List (ℕ × Bytes)). AreAmong (handed_in last) ds) (sym (append_assoc kept (handed_over out) (sent_by (deeds_of ms)))) l),
-    )
-moves_sound g m hears (Passes b ∷ ms) before kept last from then v a l = moves_sound g m hears ms _ kept last from then v a.1 l
-moves_sound g m hears (Repeats to b ∷ ms) before kept last from then v a l =
-    (a.0, moves_sound g m hears ms before kept last from then v a.1 l)
-
 -- ---- one event
 
--- The next thing that goes over a member's wire: what befalls the member by then, and what it still does.
-record Stepped (g : Group) (m : ℕ) (sent : List (ℕ × Bytes)) (p : Plan) (e : WireEvent) (es : List WireEvent) : Type 0 where
+-- The next thing that happens at a member: what befalls the member by then, and what it still does.
+record Stepped {K : Type 0} (g : Group) (m : ℕ) (came : List Bytes) (sent : List (ℕ × Bytes)) (p : Plan K) (e : RunEvent K WireEvent)
+    (es : List (RunEvent K WireEvent)) : Type 0 where
   deeds : List Deed
-  then : Plan
+  then : Plan K
   rest_is : rest then ≡ es
-  all : deeds_of p.moves ≡ deeds ++ deeds_of then.moves
-  brought : AreBrought g m (given_in (e ∷ [])) (messages_of deeds)
-  sound : IsSound g m (sent ++ sent_by deeds) then
-  handed : AreAmong (handed_in (e ∷ [])) (sent ++ sent_by deeds)
+  all : befall p.acts ≡ deeds ++ befall then.acts
+  brought : AreBrought g m (came ++ given_by e) (messages_of deeds)
+  sound : IsSound g m (came ++ given_by e) (sent ++ sent_by deeds) then
+  handed : AreAmong (handed_by e) (sent ++ sent_by deeds)
   spelled : AreMessages g (sent_by deeds)
 
-stepped_is : (g : Group) (m : ℕ) (sent : List (ℕ × Bytes)) (p : Plan) (e f : WireEvent) (es fs : List WireEvent) → (f ∷ fs) ≡ (e ∷ es) →
-    Stepped g m sent p f fs → Stepped g m sent p e es
-stepped_is g m sent p e f es fs h s =
+stepped_is : {K : Type 0} (g : Group) (m : ℕ) (came : List Bytes) (sent : List (ℕ × Bytes)) (p : Plan K) (e f : RunEvent K WireEvent)
+    (es fs : List (RunEvent K WireEvent)) → (f ∷ fs) ≡ (e ∷ es) → Stepped g m came sent p f fs → Stepped g m came sent p e es
+stepped_is {K} g m came sent p e f es fs h s =
     let one : f ≡ e = cc in
     let more : fs ≡ es = cc in
-    subst (λ (x : WireEvent). Stepped g m sent p x es) one (subst (λ (xs : List WireEvent). Stepped g m sent p f xs) more s)
+    subst (λ (x : RunEvent K WireEvent). Stepped g m came sent p x es) one
+    (subst (λ (xs : List (RunEvent K WireEvent)). Stepped g m came sent p f xs) more s)
 
 -- no deed
-idle : (g : Group) (m : ℕ) (sent : List (ℕ × Bytes)) (p q : Plan) (e : WireEvent) → deeds_of p.moves ≡ deeds_of q.moves →
-    AreAmong q.pending sent → AreSound g m q.moves q.last sent → AreAmong (handed_in (e ∷ [])) sent → Stepped g m sent p e (rest q)
-idle g m sent p q e same pending sound handed = record {
+idle : {K : Type 0} (g : Group) (m : ℕ) (came : List Bytes) (sent : List (ℕ × Bytes)) (p q : Plan K) (e : RunEvent K WireEvent) →
+    befall p.acts ≡ befall q.acts → AreAmong q.pending sent → AreSound g m q.acts (came ++ given_by e) sent → AreAmong (handed_by e) sent →
+    Stepped g m came sent p e (rest q)
+idle g m came sent p q e same pending sound handed = record {
   deeds = [];
   then = q;
   rest_is = refl;
   all = same;
-  brought = none_brought g m (given_in (e ∷ []));
-  sound = plan_more g m q sent (sent ++ []) (among_front sent sent [] (among_all sent)) (record { pending = pending; moves = sound });
-  handed = among_front (handed_in (e ∷ [])) sent [] handed;
+  brought = none_brought g m (came ++ given_by e);
+  sound = plan_more g m q (came ++ given_by e) (came ++ given_by e) sent (sent ++ []) (among_all (came ++ given_by e))
+      (among_front sent sent [] (among_all sent)) (record { pending = pending; acts = sound });
+  handed = among_front (handed_by e) sent [] handed;
   spelled = λ d n. absurd n;
 }
 
@@ -154,92 +188,108 @@ some_given g m b (Comes sender message) is = one_brought g m b sender message is
 one_spelled : (g : Group) (ds : List (ℕ × Bytes)) → AreMessages g ds → AreMessages g (ds ++ [])
 one_spelled g ds s d n = s d (subst (λ (xs : List (ℕ × Bytes)). Among xs d) (append-nil ds) n)
 
-step : (g : Group) (m : ℕ) (sent pending : List (ℕ × Bytes)) (ms : List Move) (last : List WireEvent) (e : WireEvent) (es : List WireEvent) →
-    AreAmong pending sent → AreSound g m ms last sent →
-    rest (record { pending = pending; moves = ms; last = last }) ≡ e ∷ es →
-    Stepped g m sent (record { pending = pending; moves = ms; last = last }) e es
-step g m sent (d ∷ ds) ms last e es a s h =
-    stepped_is g m sent _ e (Handed d.0 d.1) es (rest (record { pending = ds; moves = ms; last = last })) h
-    (idle g m sent _ (record { pending = ds; moves = ms; last = last }) (Handed d.0 d.1) refl (λ x n. a x (inr n)) s
+-- nothing more
+and_none : {X : Type 0} (xs : List X) → AreAmong (xs ++ []) xs
+and_none xs x n = subst (λ (ys : List _). Among ys x) (append-nil xs) n
+
+with_none : {X : Type 0} (xs : List X) → AreAmong xs (xs ++ [])
+with_none xs x n = among_left xs [] x n
+
+step : {K : Type 0} (g : Group) (m : ℕ) (came : List Bytes) (sent pending : List (ℕ × Bytes)) (xs : List (Act K)) (e : RunEvent K WireEvent)
+    (es : List (RunEvent K WireEvent)) → AreAmong pending sent → AreSound g m xs came sent →
+    rest (record { pending = pending; acts = xs }) ≡ e ∷ es → Stepped g m came sent (record { pending = pending; acts = xs }) e es
+step g m came sent (d ∷ ds) xs e es a s h =
+    stepped_is g m came sent _ e (During (Handed d.0 d.1)) es (rest (record { pending = ds; acts = xs })) h
+    (idle g m came sent _ (record { pending = ds; acts = xs }) (During (Handed d.0 d.1)) refl (λ x n. a x (inr n))
+    (sound_more g m xs came (came ++ []) sent sent (with_none came) (among_all sent) s)
     (one_sent sent d.0 d.1 (a d (inl refl))))
-step g m sent [] [] [] e es a s h = absurd (cc)
-step g m sent [] [] (Gave b ∷ last) e es a s h =
-    stepped_is g m sent _ e (Gave b) es last h
-    (idle g m sent _ (record { pending = []; moves = []; last = last }) (Gave b) refl a s (among_none sent))
-step g m sent [] [] (Handed to b ∷ last) e es a s h =
-    stepped_is g m sent _ e (Handed to b) es last h
-    (idle g m sent _ (record { pending = []; moves = []; last = last }) (Handed to b) refl a (λ x n. s x (inr n))
-    (one_sent sent to b (s (to, b) (inl refl))))
-step g m sent [] (Passes b ∷ ms) last e es a s h =
-    stepped_is g m sent _ e (Gave b) es (rest (record { pending = []; moves = ms; last = last })) h
-    (idle g m sent _ (record { pending = []; moves = ms; last = last }) (Gave b) refl a s (among_none sent))
-step g m sent [] (Repeats to b ∷ ms) last e es a s h =
-    stepped_is g m sent _ e (Handed to b) es (rest (record { pending = []; moves = ms; last = last })) h
-    (idle g m sent _ (record { pending = []; moves = ms; last = last }) (Handed to b) refl a s.1 (one_sent sent to b s.0))
-step g m sent [] (Does (Some b) i t out ∷ ms) last e es a s h =
-    stepped_is g m sent _ e (Gave b) es (rest (record { pending = handed_over out; moves = ms; last = last }))
-    (ap (λ (xs : List WireEvent). Gave b ∷ xs) (sym (append_assoc (hands (handed_over out)) (events_of ms) last)) ∙ h)
+step g m came sent [] [] e es a s h = absurd (cc)
+step g m came sent [] (Skips b ∷ xs) e es a s h =
+    stepped_is g m came sent _ e (During (Gave b)) es (rest (record { pending = []; acts = xs })) h
+    (idle g m came sent _ (record { pending = []; acts = xs }) (During (Gave b)) refl a s (among_none sent))
+step g m came sent [] (Resends to b ∷ xs) e es a s h =
+    stepped_is g m came sent _ e (During (Handed to b)) es (rest (record { pending = []; acts = xs })) h
+    (idle g m came sent _ (record { pending = []; acts = xs }) (During (Handed to b)) refl a
+    (sound_more g m xs came (came ++ []) sent sent (with_none came) (among_all sent) s.1) (one_sent sent to b s.0))
+step g m came sent [] (Begins k ds ∷ xs) e es a s h =
+    stepped_is g m came sent _ e (Starts k) es (rest (record { pending = []; acts = xs })) h
     (record {
-      deeds = Calls i t out ∷ [];
-      then = record { pending = handed_over out; moves = ms; last = last };
+      deeds = ds;
+      then = record { pending = []; acts = xs };
       rest_is = refl;
       all = refl;
-      brought = some_given g m b i s.0;
+      brought = brought_more g m came [] (messages_of ds) s.0;
       sound = record {
-        pending = among_back (handed_over out) sent (handed_over out ++ []) (among_front (handed_over out) (handed_over out) [] (among_all (handed_over out)));
-        moves = subst (λ (ds : List (ℕ × Bytes)). AreSound g m ms last (sent ++ ds)) (sym (append-nil (handed_over out))) s.2;
+        pending = among_none (sent ++ sent_by ds);
+        acts = sound_more g m xs came (came ++ []) sent (sent ++ sent_by ds) (with_none came)
+            (among_front sent sent (sent_by ds) (among_all sent)) s.2;
+      };
+      handed = among_none (sent ++ sent_by ds);
+      spelled = λ d n. absurd (subst (λ (bs : List (ℕ × Bytes)). Among bs d) s.1 n);
+    })
+step g m came sent [] (Answers (Some b) i t out ∷ xs) e es a s h =
+    stepped_is g m came sent _ e (During (Gave b)) es (rest (record { pending = handed_over out; acts = xs })) h
+    (record {
+      deeds = Calls i t out ∷ [];
+      then = record { pending = handed_over out; acts = xs };
+      rest_is = refl;
+      all = refl;
+      brought = brought_then g m came (b ∷ []) [] (message_in i ++ []) (none_brought g m came) (some_given g m b i s.0);
+      sound = record {
+        pending = among_back (handed_over out) sent (handed_over out ++ []) (with_none (handed_over out));
+        acts = subst (λ (ds : List (ℕ × Bytes)). AreSound g m xs (came ++ b ∷ []) (sent ++ ds)) (sym (append-nil (handed_over out))) s.2;
       };
       handed = among_none (sent ++ (handed_over out ++ []));
       spelled = one_spelled g (handed_over out) s.1;
     })
-step g m sent [] (Does None i t [] ∷ ms) last e es a s h =
-    let r = step g m sent [] ms last e es a (sound_more g m ms last (sent ++ []) sent (λ x n. subst (λ (ds : List (ℕ × Bytes)). Among ds x) (append-nil sent) n) s.2) h in
+step g m came sent [] (Answers None i t [] ∷ xs) e es a s h =
+    let r = step g m came sent [] xs e es a (sound_more g m xs (came ++ []) came (sent ++ []) sent (and_none came) (and_none sent) s.2) h in
     record {
       deeds = Calls i t [] ∷ r.deeds;
       then = r.then;
       rest_is = r.rest_is;
       all = ap (λ (ds : List Deed). Calls i t [] ∷ ds) r.all;
-      brought = subst (λ (ms : List _). AreBrought g m (given_in (e ∷ [])) (ms ++ messages_of r.deeds)) (sym (none_given None g m i refl s.0)) r.brought;
+      brought = subst (λ (ms : List _). AreBrought g m (came ++ given_by e) (ms ++ messages_of r.deeds)) (sym (none_given None g m i refl s.0)) r.brought;
       sound = r.sound;
       handed = r.handed;
       spelled = r.spelled;
     }
-step g m sent [] (Does None i t (d ∷ out) ∷ ms) last e es a s h =
-    stepped_is g m sent _ e (Handed d.to d.bytes.items) es (rest (record { pending = handed_over out; moves = ms; last = last }))
-    (ap (λ (xs : List WireEvent). Handed d.to d.bytes.items ∷ xs) (sym (append_assoc (hands (handed_over out)) (events_of ms) last)) ∙ h)
+step g m came sent [] (Answers None i t (d ∷ out) ∷ xs) e es a s h =
+    stepped_is g m came sent _ e (During (Handed d.to d.bytes.items)) es (rest (record { pending = handed_over out; acts = xs })) h
     (record {
       deeds = Calls i t (d ∷ out) ∷ [];
-      then = record { pending = handed_over out; moves = ms; last = last };
+      then = record { pending = handed_over out; acts = xs };
       rest_is = refl;
       all = refl;
-      brought = subst (λ (ms : List _). AreBrought g m [] (ms ++ [])) (sym (none_given None g m i refl s.0)) (none_brought g m []);
+      brought = subst (λ (ms : List _). AreBrought g m (came ++ []) (ms ++ [])) (sym (none_given None g m i refl s.0)) (none_brought g m (came ++ []));
       sound = record {
         pending = λ x n. among_right sent (handed_over (d ∷ out) ++ []) x (among_left (handed_over (d ∷ out)) [] x (inr n));
-        moves = subst (λ (ds : List (ℕ × Bytes)). AreSound g m ms last (sent ++ ds)) (sym (append-nil (handed_over (d ∷ out)))) s.2;
+        acts = subst (λ (ds : List (ℕ × Bytes)). AreSound g m xs (came ++ []) (sent ++ ds)) (sym (append-nil (handed_over (d ∷ out)))) s.2;
       };
       handed = one_sent (sent ++ (handed_over (d ∷ out) ++ [])) d.to d.bytes.items
           (among_right sent (handed_over (d ∷ out) ++ []) (d.to, d.bytes.items) (inl refl));
       spelled = one_spelled g (handed_over (d ∷ out)) s.1;
     })
 
--- ---- where nothing more goes over the wire
+-- ---- where nothing more happens
 
-silent : (g : Group) (m : ℕ) (ms : List Move) (last : List WireEvent) (sent : List (ℕ × Bytes)) → AreSound g m ms last sent →
-    events_of ms ++ last ≡ [] → messages_of (deeds_of ms) ≡ []
-silent g m [] last sent s h = refl
-silent g m (Passes b ∷ ms) last sent s h = absurd (cc)
-silent g m (Repeats to b ∷ ms) last sent s h = absurd (cc)
-silent g m (Does (Some b) i t out ∷ ms) last sent s h = absurd (cc)
-silent g m (Does None i t [] ∷ ms) last sent s h =
-    ap (λ (xs : List _). xs ++ messages_of (deeds_of ms)) (none_given None g m i refl s.0) ∙ silent g m ms last (sent ++ []) s.2 h
-silent g m (Does None i t (d ∷ out) ∷ ms) last sent s h = absurd (cc)
+silent : {K : Type 0} (g : Group) (m : ℕ) (xs : List (Act K)) (came : List Bytes) (sent : List (ℕ × Bytes)) → AreSound g m xs came sent →
+    happen xs ≡ [] → messages_of (befall xs) ≡ []
+silent g m [] came sent s h = refl
+silent g m (Skips b ∷ xs) came sent s h = absurd (cc)
+silent g m (Resends to b ∷ xs) came sent s h = absurd (cc)
+silent g m (Begins k ds ∷ xs) came sent s h = absurd (cc)
+silent g m (Answers (Some b) i t out ∷ xs) came sent s h = absurd (cc)
+silent g m (Answers None i t [] ∷ xs) came sent s h =
+    ap (λ (ys : List _). ys ++ messages_of (befall xs)) (none_given None g m i refl s.0) ∙ silent g m xs (came ++ []) (sent ++ []) s.2 h
+silent g m (Answers None i t (d ∷ out) ∷ xs) came sent s h = absurd (cc)
 
 -- what is left of the members before this one
-abbrev finals : (plans : ℕ → Plan) → ℕ → List Stretch
+abbrev finals : {K : Type 0} → (plans : ℕ → Plan K) → ℕ → List Stretch
 finals plans zero = []
-finals plans (suc k) = record { member = k; deeds = deeds_of (plans k).moves; gave = [] } ∷ finals plans k
+finals plans (suc k) = record { member = k; deeds = befall (plans k).acts; gave = [] } ∷ finals plans k
 
-finals_above : (plans : ℕ → Plan) (k m : ℕ) → k ≤ m → deeds_in m (finals plans k) ≡ []
+finals_above : {K : Type 0} (plans : ℕ → Plan K) (k m : ℕ) → k ≤ m → deeds_in m (finals plans k) ≡ []
 finals_above plans zero m le = refl
 finals_above plans (suc k) m le =
     elim (eqb_tells m k) [
@@ -247,50 +297,60 @@ finals_above plans (suc k) m le =
       | inr other ↦ cond-false (nat_eq m k) _ _ other.0 ∙ finals_above plans k m (omega (arith, le))
     ]
 
-finals_below : (plans : ℕ → Plan) (k m : ℕ) → m < k → deeds_in m (finals plans k) ≡ deeds_of (plans m).moves
+finals_below : {K : Type 0} (plans : ℕ → Plan K) (k m : ℕ) → m < k → deeds_in m (finals plans k) ≡ befall (plans m).acts
 finals_below plans zero m l = absurd (omega (arith, l))
 finals_below plans (suc k) m l =
     elim (eqb_tells m k) [
       | inl is ↦ cond-true (nat_eq m k) _ _ is.0
-          ∙ ap (λ (ds : List Deed). deeds_of (plans k).moves ++ ds) (finals_above plans k m (let same = is.1 in omega (arith, same)))
-          ∙ append-nil (deeds_of (plans k).moves)
-          ∙ ap (λ (i : ℕ). deeds_of (plans i).moves) (sym is.1)
+          ∙ ap (λ (ds : List Deed). befall (plans k).acts ++ ds) (finals_above plans k m (let same = is.1 in omega (arith, same)))
+          ∙ append-nil (befall (plans k).acts)
+          ∙ ap (λ (i : ℕ). befall (plans i).acts) (sym is.1)
       | inr other ↦ cond-false (nat_eq m k) _ _ other.0 ∙ finals_below plans k m (let differ = other.1 in omega (arith, l, differ))
     ]
 
-finals_are : (g : Group) (plans : ℕ → Plan) (sent : List (ℕ × Bytes)) (k : ℕ) → k ≤ g.members →
-    ((m : ℕ) → m < g.members → IsSound g m sent (plans m)) → ((m : ℕ) → m < g.members → rest (plans m) ≡ []) →
+finals_are : {K : Type 0} (g : Group) (plans : ℕ → Plan K) (came : ℕ → List Bytes) (sent : List (ℕ × Bytes)) (k : ℕ) → k ≤ g.members →
+    ((m : ℕ) → m < g.members → IsSound g m (came m) sent (plans m)) → ((m : ℕ) → m < g.members → rest (plans m) ≡ []) →
     AreStretches g (finals plans k)
-finals_are g plans sent zero le sound none = tt
-finals_are g plans sent (suc k) le sound none =
+finals_are {K} g plans came sent zero le sound none = tt
+finals_are {K} g plans came sent (suc k) le sound none =
     let below : k < g.members = omega (arith, le) in
     let p = plans k in (
       below,
-      subst (λ (ms : List _). AreBrought g k [] ms) (sym (silent g k p.moves p.last sent (sound k below).moves (no_more p.pending _ (none k below))))
-          (none_brought g k []),
-      finals_are g plans sent k (omega (arith, le)) sound none,
+      subst (λ (ms : List _). AreBrought g k [] ms)
+          (sym (silent g k p.acts (came k) sent (sound k below).acts (no_more p.pending (happen p.acts) (none k below)))) (none_brought g k []),
+      finals_are g plans came sent k (omega (arith, le)) sound none,
     )
   where
-    no_more : (pending : List (ℕ × Bytes)) (es : List WireEvent) → hands pending ++ es ≡ [] → es ≡ []
+    no_more : (pending : List (ℕ × Bytes)) (es : List (RunEvent K WireEvent)) → during (hands pending) ++ es ≡ [] → es ≡ []
     no_more [] es h = h
     no_more (d ∷ ds) es h = absurd (cc)
 
-finals_carried : (g : Group) (plans : ℕ → Plan) (k : ℕ) (sent : List (ℕ × Bytes)) → AreCarried g (finals plans k) sent
+finals_carried : {K : Type 0} (g : Group) (plans : ℕ → Plan K) (k : ℕ) (sent : List (ℕ × Bytes)) → AreCarried g (finals plans k) sent
 finals_carried g plans zero sent = tt
-finals_carried g plans (suc k) sent = (λ bytes n. absurd n, finals_carried g plans k (sent ++ sent_by (deeds_of (plans k).moves)))
+finals_carried g plans (suc k) sent = (λ bytes n. absurd n, finals_carried g plans k (sent ++ sent_by (befall (plans k).acts)))
 
 -- ---- the whole network
 
+-- each datagram that a member's wire gives was handed to one before, or is no member's message to it
+abbrev pub Carries : {K : Type 0} → Group → List (ℕ × RunEvent K WireEvent) → (handed : List Bytes) → Type 0
+Carries g [] handed = Unit {0}
+Carries g ((m, Starts key) ∷ xs) handed = (m < g.members) × Carries g xs handed
+Carries g ((m, During (Gave bytes)) ∷ xs) handed = (m < g.members) × WasHanded g handed m bytes × Carries g xs handed
+Carries g ((m, During (Handed to bytes)) ∷ xs) handed = (m < g.members) × Carries g xs (handed ++ bytes ∷ [])
+
 -- the first event
-carries_first : (g : Group) (m : ℕ) (e : WireEvent) (xs : List (ℕ × WireEvent)) (handed : List Bytes) → Carries g ((m, e) ∷ xs) handed →
-    (m < g.members) × ((bytes : Bytes) → Among (given_in (e ∷ [])) bytes → WasHanded g handed m bytes) ×
-    Carries g xs (handed ++ map (λ (d : ℕ × Bytes). d.1) (handed_in (e ∷ [])))
-carries_first g m (Gave b) xs handed c = (
+carries_first : {K : Type 0} (g : Group) (m : ℕ) (e : RunEvent K WireEvent) (xs : List (ℕ × RunEvent K WireEvent)) (handed : List Bytes) →
+    Carries g ((m, e) ∷ xs) handed →
+    (m < g.members) × ((bytes : Bytes) → Among (given_by e) bytes → WasHanded g handed m bytes) ×
+    Carries g xs (handed ++ map (λ (d : ℕ × Bytes). d.1) (handed_by e))
+carries_first g m (Starts k) xs handed c =
+    (c.0, (λ bytes n. absurd n), subst (λ (hs : List Bytes). Carries g xs hs) (sym (append-nil handed)) c.1)
+carries_first g m (During (Gave b)) xs handed c = (
   c.0,
   λ bytes n. elim n [ inl is ↦ subst (λ (x : Bytes). WasHanded g handed m x) is c.1 | inr none ↦ absurd none ],
   subst (λ (hs : List Bytes). Carries g xs hs) (sym (append-nil handed)) c.2,
 )
-carries_first g m (Handed to b) xs handed c = (c.0, (λ bytes n. absurd n), c.1)
+carries_first g m (During (Handed to b)) xs handed c = (c.0, (λ bytes n. absurd n), c.1)
 
 -- what was handed over was sent, to somebody
 abbrev WereSent : (handed : List Bytes) → (sent : List (ℕ × Bytes)) → Type 0
@@ -323,127 +383,300 @@ carried_by g m bytes handed sent spelled were (inl among) =
           absurd (other.1 (one_addressee g s.0 from r.0 m s.1 message bytes s.2 d)))
     ]
 
+carried_later : (g : Group) (m : ℕ) (bytes : Bytes) (few many : List (ℕ × Bytes)) → AreAmong few many → IsCarried g few m bytes →
+    IsCarried g many m bytes
+carried_later g m bytes few many a (inl sent) = inl (a (m, bytes) sent)
+carried_later g m bytes few many a (inr outside) = inr outside
+
 messages_both : (g : Group) (xs ys : List (ℕ × Bytes)) → AreMessages g xs → AreMessages g ys → AreMessages g (xs ++ ys)
 messages_both g xs ys a b d n = elim (among_cases xs ys d n) [ inl here ↦ a d here | inr there ↦ b d there ]
 
-record Whole (g : Group) (plans : ℕ → Plan) (sent : List (ℕ × Bytes)) : Type 0 where
+record Whole {K : Type 0} (g : Group) (plans : ℕ → Plan K) (sent : List (ℕ × Bytes)) : Type 0 where
   stretches : List Stretch
   are : AreStretches g stretches
   carried : AreCarried g stretches sent
-  deeds : (m : ℕ) → m < g.members → deeds_in m stretches ≡ deeds_of (plans m).moves
+  deeds : (m : ℕ) → m < g.members → deeds_in m stretches ≡ befall (plans m).acts
 
-whole : (g : Group) (network : List (ℕ × WireEvent)) (handed : List Bytes) (sent : List (ℕ × Bytes)) (plans : ℕ → Plan) →
-    ((m : ℕ) → m < g.members → IsSound g m sent (plans m)) → ((m : ℕ) → m < g.members → rest (plans m) ≡ events_at m network) →
-    WereSent handed sent → AreMessages g sent → Carries g network handed → Whole g plans sent
-whole g [] handed sent plans sound rests a spelled c = record {
+-- what came to each member was carried
+abbrev HasCome : Group → (came : ℕ → List Bytes) → (sent : List (ℕ × Bytes)) → Type 0
+HasCome g came sent = (m : ℕ) (bytes : Bytes) → m < g.members → Among (came m) bytes → IsCarried g sent m bytes
+
+whole : {K : Type 0} (g : Group) (network : List (ℕ × RunEvent K WireEvent)) (handed : List Bytes) (sent : List (ℕ × Bytes))
+    (came : ℕ → List Bytes) (plans : ℕ → Plan K) →
+    ((m : ℕ) → m < g.members → IsSound g m (came m) sent (plans m)) → ((m : ℕ) → m < g.members → rest (plans m) ≡ events_at m network) →
+    HasCome g came sent → WereSent handed sent → AreMessages g sent → Carries g network handed → Whole g plans sent
+whole g [] handed sent came plans sound rests has a spelled c = record {
   stretches = finals plans g.members;
-  are = finals_are g plans sent g.members (omega arith) sound rests;
+  are = finals_are g plans came sent g.members (omega arith) sound rests;
   carried = finals_carried g plans g.members sent;
   deeds = λ m below. finals_below plans g.members m below;
 }
-whole g ((m, e) ∷ xs) handed sent plans sound rests a spelled c =
+whole {K} g ((m, e) ∷ xs) handed sent came plans sound rests has a spelled c =
     let f = carries_first g m e xs handed c in
     let p = plans m in
     let own : rest p ≡ e ∷ events_at m xs = rests m f.0 ∙ cond-true (nat_eq m m) _ _ (eq-eqb m m refl) in
-    let s = step g m sent p.pending p.moves p.last e (events_at m xs) (sound m f.0).pending (sound m f.0).moves own in
+    let s = step g m (came m) sent p.pending p.acts e (events_at m xs) (sound m f.0).pending (sound m f.0).acts own in
     let then = put plans m s.then in
+    let here = came m ++ given_by e in
+    let gone = put came m here in
     let later = sent ++ sent_by s.deeds in
-    let more = map (λ (d : ℕ × Bytes). d.1) (handed_in (e ∷ [])) in
-    let r = whole g xs (handed ++ more) later then
+    let on : AreAmong sent later = among_front sent sent (sent_by s.deeds) (among_all sent) in
+    let more = map (λ (d : ℕ × Bytes). d.1) (handed_by e) in
+    let carried : (bytes : Bytes) → Among here bytes → IsCarried g sent m bytes =
+    λ b n. elim (among_cases (came m) (given_by e) b n) [
+      | inl before ↦ has m b f.0 before
+      | inr now ↦ carried_by g m b handed sent spelled a (f.1 b now)
+    ] in
+    let r = whole g xs (handed ++ more) later gone then
     (λ k below. elim (eqb_tells k m) [
-      | inl is ↦ subst (λ (q : Plan). IsSound g k later q) (sym (cond-true (nat_eq k m) s.then (plans k) is.0))
-          (subst (λ (j : ℕ). IsSound g j later s.then) (sym is.1) s.sound)
-      | inr other ↦ subst (λ (q : Plan). IsSound g k later q) (sym (cond-false (nat_eq k m) s.then (plans k) other.0))
-          (plan_more g k (plans k) sent later (among_front sent sent (sent_by s.deeds) (among_all sent)) (sound k below))
+      | inl is ↦ subst (λ (q : Plan K). IsSound g k (gone k) later q) (sym (cond-true (nat_eq k m) s.then (plans k) is.0))
+          (subst (λ (bs : List Bytes). IsSound g k bs later s.then) (sym (cond-true (nat_eq k m) here (came k) is.0))
+          (subst (λ (j : ℕ). IsSound g j here later s.then) (sym is.1) s.sound))
+      | inr other ↦ subst (λ (q : Plan K). IsSound g k (gone k) later q) (sym (cond-false (nat_eq k m) s.then (plans k) other.0))
+          (subst (λ (bs : List Bytes). IsSound g k bs later (plans k)) (sym (cond-false (nat_eq k m) here (came k) other.0))
+          (plan_more g k (plans k) (came k) (came k) sent later (among_all (came k)) on (sound k below)))
     ])
     (λ k below. elim (eqb_tells k m) [
       | inl is ↦ ap rest (cond-true (nat_eq k m) s.then (plans k) is.0) ∙ s.rest_is ∙ ap (λ (j : ℕ). events_at j xs) (sym is.1)
       | inr other ↦ ap rest (cond-false (nat_eq k m) s.then (plans k) other.0) ∙ rests k below ∙ cond-false (nat_eq k m) _ _ other.0
     ])
+    (λ k b below n. carried_later g k b sent later on (elim (eqb_tells k m) [
+      | inl is ↦ subst (λ (j : ℕ). IsCarried g sent j b) (sym is.1)
+          (carried b (subst (λ (bs : List Bytes). Among bs b) (cond-true (nat_eq k m) here (came k) is.0) n))
+      | inr other ↦ has k b below (subst (λ (bs : List Bytes). Among bs b) (cond-false (nat_eq k m) here (came k) other.0) n)
+    ]))
     (λ b n. elim (among_cases handed more b n) [
       | inl before ↦ (let w = a b before in (w.0, among_left sent (sent_by s.deeds) (w.0, b) w.1))
-      | inr here ↦ (let w = bytes_among (handed_in (e ∷ [])) b here in (w.0, s.handed (w.0, b) w.1))
+      | inr now ↦ (let w = bytes_among (handed_by e) b now in (w.0, s.handed (w.0, b) w.1))
     ])
     (messages_both g sent (sent_by s.deeds) spelled s.spelled) f.2 in
     record {
-      stretches = record { member = m; deeds = s.deeds; gave = given_in (e ∷ []) } ∷ r.stretches;
+      stretches = record { member = m; deeds = s.deeds; gave = here } ∷ r.stretches;
       are = (f.0, s.brought, r.are);
-      carried = ((λ bytes n. carried_by g m bytes handed sent spelled a (f.1 bytes n)), r.carried);
+      carried = (carried, r.carried);
       deeds = λ k below. elim (eqb_tells k m) [
         | inl is ↦ cond-true (nat_eq k m) _ _ is.0
-            ∙ ap (λ (ds : List Deed). s.deeds ++ ds) (r.deeds k below ∙ ap (λ (q : Plan). deeds_of q.moves) (cond-true (nat_eq k m) s.then (plans k) is.0))
-            ∙ sym s.all ∙ ap (λ (j : ℕ). deeds_of (plans j).moves) (sym is.1)
+            ∙ ap (λ (ds : List Deed). s.deeds ++ ds) (r.deeds k below ∙ ap (λ (q : Plan K). befall q.acts) (cond-true (nat_eq k m) s.then (plans k) is.0))
+            ∙ sym s.all ∙ ap (λ (j : ℕ). befall (plans j).acts) (sym is.1)
         | inr other ↦ cond-false (nat_eq k m) _ _ other.0 ∙ r.deeds k below
-            ∙ ap (λ (q : Plan). deeds_of q.moves) (cond-false (nat_eq k m) s.then (plans k) other.0)
+            ∙ ap (λ (q : Plan K). befall q.acts) (cond-false (nat_eq k m) s.then (plans k) other.0)
       ];
     }
 
--- ---- the laws
+-- ---- from runs to acts
 
-pub lives_are_runs : {R : Type 0} (G : Ghosts R) → LivesAreRuns G
-lives_are_runs G m given back events l empty = record {
-  moves = l.moves;
-  does = refl;
-  lived = subst (λ (d : Record Bytes). Lived (group m) m.me (started d) (deeds_of l.moves) l.then) empty l.lived;
-  hears = l.hears;
-  are = l.are;
-  last = l.last;
-  went = l.went;
-  again = l.again;
-}
+abbrev moves_then : {K : Type 0} → List Move → List (Act K) → List (Act K)
+moves_then [] later = later
+moves_then (living.Does came i t out ∷ ms) later = Answers came i t out ∷ moves_then ms later
+moves_then (living.Passes b ∷ ms) later = Skips b ∷ moves_then ms later
+moves_then (living.Repeats to b ∷ ms) later = Resends to b ∷ moves_then ms later
 
-below_or : (m n : ℕ) → (m < n) ⊎ (n ≤ m)
-below_or m zero = inr (omega arith)
-below_or zero (suc n) = inl (omega arith)
-below_or (suc m) (suc n) = elim (below_or m n) [ inl l ↦ inl (omega (arith, l)) | inr g ↦ inr (omega (arith, g)) ]
+-- what goes over the wire where a call failed
+abbrev last_then : {K : Type 0} → List WireEvent → List (Act K) → List (Act K)
+last_then [] later = later
+last_then (Gave b ∷ es) later = Skips b ∷ last_then es later
+last_then (Handed to b ∷ es) later = Resends to b ∷ last_then es later
 
--- members that ran
-module _ (g : Group) (network : List (ℕ × WireEvent)) (deeds : ℕ → List Deed) (stands : ℕ → NodeState Bytes)
-    (ran : (m : ℕ) → m < g.members → Ran g m (events_at m network) (deeds m) (stands m)) where
-  -- what a member does from the start on; nothing of no member
-  abbrev plan_of : (m : ℕ) → (m < g.members) ⊎ (g.members ≤ m) → Plan
-  plan_of m (inl below) = record { pending = []; moves = (ran m below).moves; last = (ran m below).last }
-  plan_of m (inr above) = record { pending = []; moves = []; last = [] }
+moves_happen : {K : Type 0} (ms : List Move) (later : List (Act K)) → happen (moves_then ms later) ≡ during (events_of ms) ++ happen later
+moves_happen [] later = refl
+moves_happen (living.Does came i t out ∷ ms) later =
+    let es = gives came ++ hands (handed_over out) in
+    ap (λ (fs : List (RunEvent _ WireEvent)). during es ++ fs) (moves_happen ms later) ∙ sym (during_append es (events_of ms) (happen later))
+moves_happen (living.Passes b ∷ ms) later = ap (λ (fs : List (RunEvent _ WireEvent)). During (Gave b) ∷ fs) (moves_happen ms later)
+moves_happen (living.Repeats to b ∷ ms) later = ap (λ (fs : List (RunEvent _ WireEvent)). During (Handed to b) ∷ fs) (moves_happen ms later)
 
-  sound_at : (m : ℕ) (w : (m < g.members) ⊎ (g.members ≤ m)) → m < g.members → IsSound g m [] (plan_of m w)
-  sound_at m (inl b) below =
-      let r = ran m b in record { pending = among_none []; moves = moves_sound g m r.hears r.moves [] [] r.last (started nothing_stored) (stands m) r.lived r.are r.again }
-  sound_at m (inr above) below = absurd (omega (arith, above, below))
+last_happens : {K : Type 0} (es : List WireEvent) (later : List (Act K)) → happen (last_then es later) ≡ during es ++ happen later
+last_happens [] later = refl
+last_happens (Gave b ∷ es) later = ap (λ (fs : List (RunEvent _ WireEvent)). During (Gave b) ∷ fs) (last_happens es later)
+last_happens (Handed to b ∷ es) later = ap (λ (fs : List (RunEvent _ WireEvent)). During (Handed to b) ∷ fs) (last_happens es later)
 
-  rest_at : (m : ℕ) (w : (m < g.members) ⊎ (g.members ≤ m)) → m < g.members → rest (plan_of m w) ≡ events_at m network
-  rest_at m (inl b) below = sym (ran m b).went
-  rest_at m (inr above) below = absurd (omega (arith, above, below))
+moves_befall : {K : Type 0} (ms : List Move) (later : List (Act K)) → befall (moves_then ms later) ≡ deeds_of ms ++ befall later
+moves_befall [] later = refl
+moves_befall (living.Does came i t out ∷ ms) later = ap (λ (ds : List Deed). Calls i t out ∷ ds) (moves_befall ms later)
+moves_befall (living.Passes b ∷ ms) later = moves_befall ms later
+moves_befall (living.Repeats to b ∷ ms) later = moves_befall ms later
 
-  lived_at : (m : ℕ) (w : (m < g.members) ⊎ (g.members ≤ m)) → m < g.members → (ds : List Deed) → ds ≡ deeds_of (plan_of m w).moves →
-      Lived g m (started nothing_stored) ds (stands m) × (ds ≡ deeds m)
-  lived_at m (inl b) below ds e =
-      (subst (λ (xs : List Deed). Lived g m (started nothing_stored) xs (stands m)) (sym e) (ran m b).lived, e ∙ sym (ran m b).does)
-  lived_at m (inr above) below ds e = absurd (omega (arith, above, below))
+last_befalls : {K : Type 0} (es : List WireEvent) (later : List (Act K)) → befall (last_then es later) ≡ befall later
+last_befalls [] later = refl
+last_befalls (Gave b ∷ es) later = last_befalls es later
+last_befalls (Handed to b ∷ es) later = last_befalls es later
 
-  in_stretches : Carries g network [] → Whole g (λ m. plan_of m (below_or m g.members)) []
-  in_stretches carries =
-      whole g network [] [] (λ m. plan_of m (below_or m g.members))
-      (λ m below. sound_at m (below_or m g.members) below) (λ m below. rest_at m (below_or m g.members) below) (λ b n. absurd n) (λ d n. absurd n) carries
+last_sound : {K : Type 0} (g : Group) (m : ℕ) (es : List WireEvent) (later : List (Act K)) (came : List Bytes) (sent : List (ℕ × Bytes)) →
+    AreAmong (handed_in es) sent → ((more : List Bytes) → AreAmong (came ++ given_in es) more → AreSound g m later more sent) →
+    AreSound g m (last_then es later) came sent
+last_sound g m [] later came sent a s = s came (and_none came)
+last_sound g m (Gave b ∷ es) later came sent a s =
+    last_sound g m es later (came ++ b ∷ []) sent a
+    (λ more c. s more (subst (λ (bs : List Bytes). AreAmong bs more) (append_assoc came (b ∷ []) (given_in es)) c))
+last_sound g m (Handed to b ∷ es) later came sent a s = (a (to, b) (inl refl), last_sound g m es later came sent (λ x n. a x (inr n)) s)
+
+moves_sound : {K : Type 0} (g : Group) (m : ℕ) (hears : Bool) (ms : List Move) (before : List Bytes) (kept : List (ℕ × Bytes))
+    (later : List (Act K)) (came : List Bytes) (sent : List (ℕ × Bytes)) (from then : NodeState Bytes) → Lived g m from (deeds_of ms) then →
+    AreMoves g m hears ms before kept → AreAmong kept sent →
+    ((more : List Bytes) (many : List (ℕ × Bytes)) → AreAmong (kept ++ sent_by (deeds_of ms)) many → AreSound g m later more many) →
+    AreSound g m (moves_then ms later) came sent
+moves_sound g m hears [] before kept later came sent from then v a k s = s came sent (among_then (kept ++ []) kept sent (and_none kept) k)
+moves_sound g m hears (living.Does b i t out ∷ ms) before kept later came sent from then v a k s =
+    let made = v.2 in (
+      a.0,
+      are_messages g made.plan.sends out (subst (λ (ds : List Datagram). AreSpelled g made.plan.sends ds) (sym made.handed) made.spelled),
+      moves_sound g m hears ms (before ++ came_in b) (kept ++ handed_over out) later (came ++ came_in b) (sent ++ handed_over out) t then v.3 a.1
+          (among_sides kept (handed_over out) sent (handed_over out) k (among_all (handed_over out)))
+          (λ more many c. s more many
+          (subst (λ (ds : List (ℕ × Bytes)). AreAmong ds many) (append_assoc kept (handed_over out) (sent_by (deeds_of ms))) c)),
+    )
+moves_sound g m hears (living.Passes b ∷ ms) before kept later came sent from then v a k s =
+    moves_sound g m hears ms (before ++ b ∷ []) kept later (came ++ b ∷ []) sent from then v a.1 k s
+moves_sound g m hears (living.Repeats to b ∷ ms) before kept later came sent from then v a k s =
+    (k (to, b) a.0, moves_sound g m hears ms before kept later came sent from then v a.1 k s)
+
+-- ---- runs of a member
+
+abbrev pub IsRun : {K : Type 0} → Group → (m : ℕ) → Run K → List WireEvent → Type 0
+IsRun g m r events = Ran g m r.first events r.deeds r.end r.unanswered
+
+module _ {K : Type 0} (g : Group) (m : ℕ) where
+  -- what a member does in a run, and later
+  run_then : (r : Run K) (own : List WireEvent) → IsRun g m r own → List (Act K) → List (Act K)
+  run_then r own ran later = moves_then ran.moves (last_then ran.last later)
+
+  run_happens : (r : Run K) (own : List WireEvent) (ran : IsRun g m r own) (later : List (Act K)) →
+      happen (run_then r own ran later) ≡ during own ++ happen later
+  unfolding run_then
+  run_happens r own ran later =
+      moves_happen ran.moves (last_then ran.last later)
+      ∙ ap (λ (es : List (RunEvent K WireEvent)). during (events_of ran.moves) ++ es) (last_happens ran.last later)
+      ∙ sym (during_append (events_of ran.moves) ran.last (happen later))
+      ∙ ap (λ (es : List WireEvent). during es ++ happen later) (sym ran.went)
+
+  run_befalls : (r : Run K) (own : List WireEvent) (ran : IsRun g m r own) (later : List (Act K)) →
+      befall (run_then r own ran later) ≡ r.deeds ++ befall later
+  unfolding run_then
+  run_befalls r own ran later =
+      moves_befall ran.moves (last_then ran.last later)
+      ∙ ap (λ (ds : List Deed). deeds_of ran.moves ++ ds) (last_befalls ran.last later)
+      ∙ ap (λ (ds : List Deed). ds ++ befall later) (sym ran.does)
+
+  run_lives : (r : Run K) (own : List WireEvent) (ran : IsRun g m r own) (later : List (Act K)) (then : NodeState Bytes) →
+      Lived g m r.end (befall later) then → Lived g m (started r.first) (befall (run_then r own ran later)) then
+  run_lives r own ran later then v =
+      let ds : r.deeds ++ befall later ≡ deeds_of ran.moves ++ befall later = ap (λ (ds : List Deed). ds ++ befall later) ran.does in
+      subst (λ (ds : List Deed). Lived g m (started r.first) ds then) (sym ds ∙ sym (run_befalls r own ran later))
+      (lived_then g m (started r.first) r.end then (deeds_of ran.moves) (befall later) ran.lived v)
+
+  -- sound, where this came and more
+  abbrev SoundAfter : List (Act K) → (unanswered : List Bytes) → Type 0
+  SoundAfter xs unanswered = (came : List Bytes) (sent : List (ℕ × Bytes)) → AreAmong unanswered came → AreSound g m xs came sent
+
+  run_sound : (r : Run K) (own : List WireEvent) (ran : IsRun g m r own) (later : List (Act K)) → SoundAfter later r.unanswered →
+      (came : List Bytes) (sent : List (ℕ × Bytes)) → AreSound g m (run_then r own ran later) came sent
+  unfolding run_then
+  run_sound r own ran later s came sent =
+      moves_sound g m ran.hears ran.moves [] [] (last_then ran.last later) came sent (started r.first) r.end ran.lived ran.are (among_none sent)
+      (λ more many c. last_sound g m ran.last later more many (among_then (handed_in ran.last) (sent_by (deeds_of ran.moves)) many ran.again c)
+      (λ all d. s all many (subst (λ (bs : List Bytes). AreAmong bs all) (sym ran.came)
+      (among_then (given_in ran.last) (more ++ given_in ran.last) all (among_back (given_in ran.last) more (given_in ran.last) (among_all (given_in ran.last))) d))))
+
+  -- what a member does that stands so, in its next runs
+  record Later (s : NodeState Bytes) (unanswered : List Bytes) (runs : List (Run K)) (events : List (RunEvent K WireEvent)) : Type 0 where
+    acts : List (Act K)
+    happens : happen acts ≡ events
+    sound : SoundAfter acts unanswered
+    lived : Lived g m s (befall acts) (stands_after s runs)
+    befell : BefellThen runs (befall acts)
+
+  later : (s : NodeState Bytes) (unanswered : List Bytes) (runs : List (Run K)) (events : List (RunEvent K WireEvent)) → s.is_up ≡ true →
+      AreRuns g m (IsRun g m) (LeavesThere g m unanswered s) runs events → Later s unanswered runs events
+  later s unanswered [] events up are =
+      record { acts = []; happens = sym are; sound = λ came sent a. tt; lived = refl; befell = refl }
+  later s unanswered (r ∷ rs) events up (left, own, more, ran, all, are) =
+      let x = left.0 in
+      let l = later r.end r.unanswered rs more ran.up are in
+      let start = Stops x r.first ∷ (Opens ∷ []) in
+      let acts = run_then r own ran l.acts in
+      record {
+        acts = Begins r.key start ∷ acts;
+        happens = ap (λ (es : List (RunEvent K WireEvent)). Starts r.key ∷ es)
+            (run_happens r own ran l.acts ∙ ap (λ (es : List (RunEvent K WireEvent)). during own ++ es) l.happens) ∙ sym all;
+        sound = λ came sent a. (
+          subst (λ (ms : List Heard). AreBrought g m came ms) (sym (append-nil (message_in x)))
+              (brought_among g m unanswered came (message_in x) a left.2),
+          refl,
+          run_sound r own ran l.acts l.sound came sent,
+        );
+        lived = (up, left.1, left.3, run_lives r own ran l.acts (stands_after r.end rs) l.lived);
+        befell = (x, befall l.acts, ap (λ (ds : List Deed). Stops x r.first ∷ (Opens ∷ ds)) (run_befalls r own ran l.acts), l.befell);
+      }
+
+  -- what a member does in all its runs
+  record Acted (runs : List (Run K)) (events : List (RunEvent K WireEvent)) : Type 0 where
+    pub acts : List (Act K)
+    pub happens : happen acts ≡ events
+    pub sound : AreSound g m acts [] []
+    pub lived : Lived g m (started nothing_stored) (befall acts) (stands_after (started nothing_stored) runs)
+    pub befell : Befell runs (befall acts)
+
+  acted : (runs : List (Run K)) (events : List (RunEvent K WireEvent)) → AreRuns g m (IsRun g m) IsEmpty runs events → Acted runs events
+  acted [] events are = record { acts = []; happens = sym are; sound = tt; lived = refl; befell = refl }
+  acted (r ∷ rs) events (empty, own, more, ran, all, are) =
+      let l = later r.end r.unanswered rs more ran.up are in
+      let acts = run_then r own ran l.acts in
+      record {
+        acts = Begins r.key [] ∷ acts;
+        happens = ap (λ (es : List (RunEvent K WireEvent)). Starts r.key ∷ es)
+            (run_happens r own ran l.acts ∙ ap (λ (es : List (RunEvent K WireEvent)). during own ++ es) l.happens) ∙ sym all;
+        sound = (none_brought g m [], refl, run_sound r own ran l.acts l.sound [] []);
+        lived = subst (λ (d : Record Bytes). Lived g m (started d) (befall acts) (stands_after r.end rs)) empty
+            (run_lives r own ran l.acts (stands_after r.end rs) l.lived);
+        befell = (befall l.acts, run_befalls r own ran l.acts, l.befell);
+      }
+
+-- ---- all members
 
 as_led : (g : Group) (me : ℕ) (s t : NodeState Bytes) (ds : List Deed) → Lived g me s ds t → Lived g me s ds (led_to s ds)
 as_led g me s t ds l = subst (λ (u : NodeState Bytes). Lived g me s ds u) (lived_to g me s t ds l) l
 
-pub go_above : (g : Group) → IsGroup g → (network : List (ℕ × WireEvent)) → Carries g network [] → (deeds : ℕ → List Deed)
-    (stands : ℕ → NodeState Bytes) → ((m : ℕ) → m < g.members → Ran g m (events_at m network) (deeds m) (stands m)) →
-    (stretches : List Stretch) × InStretches g deeds stands stretches
-go_above g few network carries deeds stands ran =
-    let w = in_stretches g network deeds stands ran carries in
-    let lived = λ (m : ℕ) (below : m < g.members).
-    lived_at g network deeds stands ran m (below_or m g.members) below (deeds_in m w.stretches) (w.deeds m below) in (
-      w.stretches,
-      record {
-        goes = record {
-          group = few;
-          are = w.are;
-          lived = λ m below. as_led g m (started nothing_stored) (stands m) (deeds_in m w.stretches) (lived m below).0;
-          carried = w.carried;
-        };
-        befell = λ m below. (lived m below).1;
-        leaves = λ m below. sym (lived_to g m (started nothing_stored) (stands m) (deeds_in m w.stretches) (lived m below).0);
-      },
-    )
+module _ {K : Type 0} (g : Group) (network : List (ℕ × RunEvent K WireEvent)) (runs : ℕ → List (Run K))
+    (are : (m : ℕ) → m < g.members → AreRuns g m (IsRun g m) IsEmpty (runs m) (events_at m network)) where
+  acted_at : (m : ℕ) → m < g.members → Acted g m (runs m) (events_at m network)
+  acted_at m below = acted g m (runs m) (events_at m network) (are m below)
+
+  -- what a member does from the start on; nothing of no member
+  abbrev plan_of : (m : ℕ) → (m < g.members) ⊎ (g.members ≤ m) → Plan K
+  plan_of m (inl below) = record { pending = []; acts = (acted_at m below).acts }
+  plan_of m (inr above) = record { pending = []; acts = [] }
+
+  sound_at : (m : ℕ) (w : (m < g.members) ⊎ (g.members ≤ m)) → m < g.members → IsSound g m [] [] (plan_of m w)
+  sound_at m (inl b) below = record { pending = among_none []; acts = (acted_at m b).sound }
+  sound_at m (inr above) below = absurd (omega (arith, above, below))
+
+  rest_at : (m : ℕ) (w : (m < g.members) ⊎ (g.members ≤ m)) → m < g.members → rest (plan_of m w) ≡ events_at m network
+  rest_at m (inl b) below = (acted_at m b).happens
+  rest_at m (inr above) below = absurd (omega (arith, above, below))
+
+  lived_at : (m : ℕ) (w : (m < g.members) ⊎ (g.members ≤ m)) → m < g.members → (ds : List Deed) → ds ≡ befall (plan_of m w).acts →
+      Lived g m (started nothing_stored) ds (stands runs m) × Befell (runs m) ds
+  lived_at m (inl b) below ds e = (
+    subst (λ (xs : List Deed). Lived g m (started nothing_stored) xs (stands runs m)) (sym e) (acted_at m b).lived,
+    subst (λ (xs : List Deed). Befell (runs m) xs) (sym e) (acted_at m b).befell,
+  )
+  lived_at m (inr above) below ds e = absurd (omega (arith, above, below))
+
+  pub wires_go : IsGroup g → Carries g network [] → (stretches : List Stretch) × InStretches g runs stretches
+  wires_go few carries =
+      let w = whole g network [] [] (λ m. []) (λ m. plan_of m (below_or m g.members))
+      (λ m below. sound_at m (below_or m g.members) below) (λ m below. rest_at m (below_or m g.members) below)
+      (λ m b below n. absurd n) (λ b n. absurd n) (λ d n. absurd n) carries in
+      let lived = λ (m : ℕ) (below : m < g.members). lived_at m (below_or m g.members) below (deeds_in m w.stretches) (w.deeds m below) in (
+        w.stretches,
+        record {
+          goes = record {
+            group = few;
+            are = w.are;
+            lived = λ m below. as_led g m (started nothing_stored) (stands runs m) (deeds_in m w.stretches) (lived m below).0;
+            carried = w.carried;
+          };
+          befell = λ m below. (lived m below).1;
+          leaves = λ m below. sym (lived_to g m (started nothing_stored) (stands runs m) (deeds_in m w.stretches) (lived m below).0);
+        },
+      )

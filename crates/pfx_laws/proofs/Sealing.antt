@@ -1,49 +1,39 @@
 -- What goes over sockets of members that have a key is what goes over their wires.
-use Rattle.std.proofs.Common.{◌≡◌, ◌∙◌, ◌⊎◌, sym, ap, subst, refl, ℕ, suc, ◌+◌, ◌<◌, ◌≤◌, ◌^◌, Bool, true, false, nat_eq, List, [], ◌∷◌, ◌++◌, length, Option, Some, None, inl, inr, arith, zero}
+use Rattle.std.proofs.Common.{◌≡◌, ◌∙◌, ◌⊎◌, sym, ap, subst, refl, ℕ, suc, ◌+◌, ◌<◌, ◌≤◌, ◌^◌, Bool, true, false, nat_eq, List, [], ◌∷◌, ◌++◌, map, length, Option, Some, None, inl, inr, arith, zero}
 use Rattle.std.specs.Prelude.{◌==◌, ◌&&◌, if◌then◌else◌}
 use Rattle.std.specs.List.{Contains}
 use Rattle.std.proofs.lemmas.Bool.{cond-true, cond-false, eq-eqb}
 use Rattle.std.proofs.lemmas.Bool.Decides.{eqb_tells}
-use Rattle.std.proofs.lemmas.List.{append-nil, length-append}
+use Rattle.std.proofs.lemmas.List.{length-append}
 use Rattle.px_packet.specs.declared.fault.PacketFault.TheVariants as faults
-use Rattle.px_packet.specs.Headers.{header_fault}
+use Rattle.px_packet.specs.Headers.{header_fault, start_bytes}
 use Rattle.px_packet.specs.Packets.{front_of, is_authentic}
-use Rattle.px_model.specs.Law.{Among}
+use Rattle.px_model.specs.Law.{Among, NoneTwice}
 use Rattle.px_model.specs.Spelling.{Bytes}
-use Rattle.px_model.specs.World.{NodeState, nothing_stored, started}
+use Rattle.px_model.specs.Step.{put}
 use Rattle.node_loop.specs.Again.{AreAmong}
 use Rattle.node_loop.proofs.Among.{among_all, among_front, among_none, among_sides}
 use Rattle.px_transport.specs.Wires.{WireEvent, Gave, Handed, handed_in}
 use Rattle.px_transport.specs.Sending.{Sealer}
-use Rattle.px_transport.specs.Wiring as wiring
 use Rattle.px_transport.specs.Wiring.{opened, opened_as}
-use Rattle.px_transport.specs.Loopback as loopback
-use Rattle.px_transport.specs.Loopback.{Loop}
 use Rattle.px_transport.specs.Steps as steps
-use Rattle.px_transport.specs.Steps.{Step, AreSteps, cuts_for, CallsAreSteps}
+use Rattle.px_transport.specs.Steps.{Step, AreSteps, IsStep, cuts_for}
 use Rattle.px_transport.specs.Networks as networks
-use Rattle.px_transport.specs.Networks.{Cluster, AreMembers, Before, with_step, IsNamed, PacketsCarried, DatagramsCarried, SealedIsCarried}
-use Rattle.px_wire.specs.Message.{Group, group, DatagramBytes}
-use Rattle.node_udp.specs.Sockets.{SocketEvent, Came, Went, Passage, Hears, Sends, Loses, above_in, below_in}
-use Rattle.node_udp.specs.Members.{peers_of, me_of}
-use Rattle.node_udp.specs.declared.socket.Socket as sockets
+use Rattle.px_transport.specs.Networks.{Cluster, StartsDiffer, Before, with_step, IsNamed, PacketsCarried, DatagramsCarried, SealedIsCarried}
+use Rattle.px_wire.specs.Message.{Group, DatagramBytes}
+use Rattle.node_udp.specs.Sockets.{Came, Went, Passage, Hears, Sends, Loses}
+use Rattle.pfx_laws.specs.Members.{RunEvent, Starts, During, Run, IsEmpty, events_at}
 use Rattle.px_records.specs.declared.records.Records.{Ghosts}
-use Rattle.px_replica.specs.Lives.{Deed}
-use Rattle.node_loop.specs.Lives.{HostedRunsAreLived}
-use Rattle.node_loop.specs.Living.{deeds_of}
-use Rattle.pfx_laws.specs.Promised.{IsGroup}
-use Rattle.pfx_laws.specs.Wires.{Stretch, stand}
-use Rattle.pfx_laws.specs.Carried.{Goes, StandsSo}
-use Rattle.pfx_laws.specs.Networks.{events_at, Carries, Ran, RanAbove, InStretches}
-use Rattle.pfx_laws.specs.Sealed.{PacketsCarry, RanSealed, SealedRunsAreAtSockets, SealedSocketsGo, SealedSocketsNeverDiffer}
-use Rattle.pfx_laws.specs.Sealed.{SealedSocketsLearnWhatWasAsked, EquallyAppliedAtSealedSockets, SealedHostedRunsAreAtSockets}
-use Rattle.pfx_laws.proofs.Carried.{wires_learn_what_was_asked, equally_applied_over_wires}
+use Rattle.pfx_laws.specs.Sealed.{Keyed, IsUnopened, Network, PacketsCarry, IsSealed, SealedSocketsGo, SealedSocketsNeverDiffer}
+use Rattle.pfx_laws.specs.Sealed.{SealedSocketsLearnWhatWasAsked, EquallyAppliedAtSealedSockets}
+use Rattle.pfx_laws.proofs.Members.{never_differ, learn_what_was_asked, equally_applied}
 use Rattle.pfx_laws.proofs.Lifting as lifting
-use Rattle.pfx_laws.proofs.Lifting.{AreBelow}
-use Rattle.pfx_laws.proofs.Networking.{lives_are_runs}
-use Rattle.pfx_laws.proofs.Looping.{no_message, below_or, networks_go, never_differ}
+use Rattle.pfx_laws.proofs.Lifting.{AreBelow, during, tagged, each_first, each_rest}
+use Rattle.pfx_laws.proofs.Numbering.{starts_in, begun, begun_at, begun_below, starts_during, starts_of_runs, run_at, cluster_of, StartFrom, next, start_of, AreApart, apart, AreOwn, owners}
+use Rattle.pfx_laws.proofs.Networking.{Carries}
+use Rattle.pfx_laws.proofs.Looping.{IsAbove, no_message, loops_go}
 use Rattle.pfx_laws.proofs.Socketing as socketing
-use Rattle.pfx_laws.proofs.Socketing.{AreFaithful, AllFaithful, faithful, faithful_first, faithful_rest}
+use Rattle.pfx_laws.proofs.Socketing.{AreFaithful, AllFaithful, faithful}
 
 -- ---- elements
 
@@ -68,55 +58,72 @@ nothing_opened keys s = at (is_authentic keys [])
 -- ---- packets over wires with sockets
 
 -- each that a wire gives was handed to one before, or isn't opened
-abbrev PacketsGo : Cluster → (n : ℕ) → List (ℕ × WireEvent) → (handed : List Bytes) → Type 0
-PacketsGo c n [] handed = Unit {0}
-PacketsGo c n ((m, Gave bytes) ∷ xs) handed =
-    (m < n) × (Among handed bytes ⊎ (opened (c.keys m) (c.sealer m) bytes ≡ None)) × PacketsGo c n xs handed
-PacketsGo c n ((m, Handed to bytes) ∷ xs) handed = (m < n) × PacketsGo c n xs (handed ++ bytes ∷ [])
+abbrev PacketsGo : (n : ℕ) → (run : ℕ → Option Keyed) → List (ℕ × RunEvent Keyed WireEvent) → (handed : List Bytes) → Type 0
+PacketsGo n run [] handed = Unit {0}
+PacketsGo n run ((m, Starts key) ∷ xs) handed = (m < n) × PacketsGo n (put run m (Some key)) xs handed
+PacketsGo n run ((m, During (Gave bytes)) ∷ xs) handed =
+    (m < n) × (Among handed bytes ⊎ IsUnopened (run m) bytes) × PacketsGo n run xs handed
+PacketsGo n run ((m, During (Handed to bytes)) ∷ xs) handed = (m < n) × PacketsGo n run xs (handed ++ bytes ∷ [])
 
-packets_above : (c : Cluster) (n : ℕ) (xs : List (ℕ × Passage)) (went handed : List Bytes) → AllFaithful n xs → AreAmong went handed →
-    AreBelow n xs → PacketsCarry c n (lifting.all_lower socketing.lower xs) went → PacketsGo c n (socketing.upper xs) handed
-packets_above c n [] went handed f a b p = tt
-packets_above c n ((m, Hears from came given) ∷ xs) went handed f a b p = (
-  b.0,
-  elim (faithful_first n m (Hears from came given) xs b.0 f).0 [
-    | inl same ↦ subst (λ (x : Bytes). Among handed x ⊎ (opened (c.keys m) (c.sealer m) x ≡ None)) (sym same)
-        (elim p.1 [ inl there ↦ inl (a came there) | inr none ↦ inr none ])
-    | inr empty ↦ inr (ap (opened (c.keys m) (c.sealer m)) empty ∙ nothing_opened (c.keys m) (c.sealer m))
-  ],
-  packets_above c n xs went handed (faithful_rest n m (Hears from came given) xs b.0 f) a b.1 p.2,
-)
-packets_above c n ((m, Sends to bytes there) ∷ xs) went handed f a b p = (
-  b.0,
-  packets_above c n xs (went ++ bytes ∷ []) (handed ++ bytes ∷ []) (faithful_rest n m (Sends to bytes there) xs b.0 f)
-      (among_sides went (bytes ∷ []) handed (bytes ∷ []) a (among_all (bytes ∷ []))) b.1 p.1,
-)
-packets_above c n ((m, Loses to bytes) ∷ xs) went handed f a b p = (
-  b.0,
-  packets_above c n xs went (handed ++ bytes ∷ []) (faithful_rest n m (Loses to bytes) xs b.0 f)
-      (among_front went handed (bytes ∷ []) a) b.1 p,
-)
+empty_unopened : (o : Option Keyed) → IsUnopened o []
+empty_unopened None = tt
+empty_unopened (Some k) = nothing_opened k.keys k.sealer
 
-are_below : (c : Cluster) (n : ℕ) (network : List (ℕ × SocketEvent)) (went : List Bytes) → PacketsCarry c n network went → AreBelow n network
-are_below c n [] went p = tt
-are_below c n ((m, Came from b) ∷ xs) went p = (p.0, are_below c n xs went p.2)
-are_below c n ((m, Went to b) ∷ xs) went p = (p.0, are_below c n xs _ p.1)
+packets_above : (n : ℕ) (run : ℕ → Option Keyed) (xs : List (ℕ × RunEvent Keyed Passage)) (went handed : List Bytes) → AllFaithful n xs →
+    AreAmong went handed → AreBelow n xs → PacketsCarry n run (lifting.all_lower (lifting.low_of socketing.low socketing.high) xs) went →
+    PacketsGo n run (lifting.upper socketing.low socketing.high xs) handed
+packets_above n run [] went handed f a b p = tt
+packets_above n run ((m, Starts key) ∷ xs) went handed f a b p =
+    let own = each_first (λ j es. AreFaithful es) n m (Starts key) xs b.0 f in
+    (b.0, packets_above n (put run m (Some key)) xs went handed (each_rest (λ j es. AreFaithful es) n m (Starts key) xs own f) a b.1 p.1)
+packets_above n run ((m, During (Hears from came given)) ∷ xs) went handed f a b p =
+    let own = each_first (λ j es. AreFaithful es) n m (During (Hears from came given)) xs b.0 f in (
+      b.0,
+      elim own.0 [
+        | inl same ↦ subst (λ (x : Bytes). Among handed x ⊎ IsUnopened (run m) x) (sym same)
+            (elim p.1 [ inl there ↦ inl (a came there) | inr none ↦ inr none ])
+        | inr empty ↦ inr (subst (λ (x : Bytes). IsUnopened (run m) x) (sym empty) (empty_unopened (run m)))
+      ],
+      packets_above n run xs went handed (each_rest (λ j es. AreFaithful es) n m (During (Hears from came given)) xs own.1 f) a b.1 p.2,
+    )
+packets_above n run ((m, During (Sends to bytes there)) ∷ xs) went handed f a b p =
+    let own = each_first (λ j es. AreFaithful es) n m (During (Sends to bytes there)) xs b.0 f in (
+      b.0,
+      packets_above n run xs (went ++ bytes ∷ []) (handed ++ bytes ∷ [])
+          (each_rest (λ j es. AreFaithful es) n m (During (Sends to bytes there)) xs own.1 f)
+          (among_sides went (bytes ∷ []) handed (bytes ∷ []) a (among_all (bytes ∷ []))) b.1 p.1,
+    )
+packets_above n run ((m, During (Loses to bytes)) ∷ xs) went handed f a b p =
+    let own = each_first (λ j es. AreFaithful es) n m (During (Loses to bytes)) xs b.0 f in (
+      b.0,
+      packets_above n run xs went (handed ++ bytes ∷ []) (each_rest (λ j es. AreFaithful es) n m (During (Loses to bytes)) xs own.1 f)
+          (among_front went handed (bytes ∷ []) a) b.1 p,
+    )
 
-go_below : (c : Cluster) (n : ℕ) (network : List (ℕ × WireEvent)) (handed : List Bytes) → PacketsGo c n network handed → AreBelow n network
-go_below c n [] handed p = tt
-go_below c n ((m, Gave b) ∷ xs) handed p = (p.0, go_below c n xs handed p.2)
-go_below c n ((m, Handed to b) ∷ xs) handed p = (p.0, go_below c n xs _ p.1)
+are_below : (n : ℕ) (run : ℕ → Option Keyed) (network : Network) (went : List Bytes) →
+    PacketsCarry n run network went → AreBelow n network
+are_below n run [] went p = tt
+are_below n run ((m, Starts key) ∷ xs) went p = (p.0, are_below n (put run m (Some key)) xs went p.1)
+are_below n run ((m, During (Came from b)) ∷ xs) went p = (p.0, are_below n run xs went p.2)
+are_below n run ((m, During (Went to b)) ∷ xs) went p = (p.0, are_below n run xs _ p.1)
+
+go_below : (n : ℕ) (run : ℕ → Option Keyed) (network : List (ℕ × RunEvent Keyed WireEvent)) (handed : List Bytes) →
+    PacketsGo n run network handed → AreBelow n network
+go_below n run [] handed p = tt
+go_below n run ((m, Starts key) ∷ xs) handed p = (p.0, go_below n (put run m (Some key)) xs handed p.1)
+go_below n run ((m, During (Gave b)) ∷ xs) handed p = (p.0, go_below n run xs handed p.2)
+go_below n run ((m, During (Handed to b)) ∷ xs) handed p = (p.0, go_below n run xs _ p.1)
 
 -- ---- steps of wires of packets
 
 -- over the wire below
-abbrev lower : Step → Option WireEvent
-lower (steps.Hears came given memory now) = Some (Gave came)
-lower (steps.Puts to bytes) = Some (Handed to bytes)
-lower (steps.Takes to m is_cut) = None
-lower (steps.Reports member now) = None
+abbrev low : Step → Option WireEvent
+low (steps.Hears came given memory now) = Some (Gave came)
+low (steps.Puts to bytes) = Some (Handed to bytes)
+low (steps.Takes to m is_cut) = None
+low (steps.Reports member now) = None
 
-lowers_are : (xs : List Step) → lifting.lowers lower xs ≡ steps.below_in xs
+lowers_are : (xs : List Step) → lifting.lowers low xs ≡ steps.below_in xs
 lowers_are [] = refl
 lowers_are (steps.Hears came given memory now ∷ xs) = ap (λ (es : List WireEvent). Gave came ∷ es) (lowers_are xs)
 lowers_are (steps.Puts to bytes ∷ xs) = ap (λ (es : List WireEvent). Handed to bytes ∷ es) (lowers_are xs)
@@ -124,42 +131,12 @@ lowers_are (steps.Takes to m is_cut ∷ xs) = lowers_are xs
 lowers_are (steps.Reports member now ∷ xs) = lowers_are xs
 
 -- over the wire
-abbrev upper : List (ℕ × Step) → List (ℕ × WireEvent)
-upper [] = []
-upper ((m, steps.Hears came given memory now) ∷ xs) = (m, Gave given) ∷ upper xs
-upper ((m, steps.Puts to bytes) ∷ xs) = upper xs
-upper ((m, steps.Takes to d is_cut) ∷ xs) = (m, Handed to d) ∷ upper xs
-upper ((m, steps.Reports member now) ∷ xs) = upper xs
+abbrev high : ℕ → Step → List WireEvent
+high m x = steps.above_of x
 
--- one more of a member, which is this or nothing
-one_at : (k m : ℕ) (x : Step) (e : WireEvent) (es : List (ℕ × WireEvent)) (xs : List (ℕ × Step)) → steps.above_of x ≡ e ∷ [] →
-    events_at k es ≡ steps.above_in (events_at k xs) → events_at k ((m, e) ∷ es) ≡ steps.above_in (events_at k ((m, x) ∷ xs))
-one_at k m x e es xs one rest =
-    elim (eqb_tells k m) [
-      | inl is ↦ cond-true (nat_eq k m) _ _ is.0 ∙ ap (λ (fs : List WireEvent). e ∷ fs) rest
-          ∙ ap (λ (fs : List WireEvent). fs ++ steps.above_in (events_at k xs)) (sym one)
-          ∙ ap steps.above_in (sym (cond-true (nat_eq k m) (x ∷ events_at k xs) (events_at k xs) is.0))
-      | inr other ↦ cond-false (nat_eq k m) _ _ other.0 ∙ rest
-          ∙ ap steps.above_in (sym (cond-false (nat_eq k m) (x ∷ events_at k xs) (events_at k xs) other.0))
-    ]
-
-none_at : (k m : ℕ) (x : Step) (es : List (ℕ × WireEvent)) (xs : List (ℕ × Step)) → steps.above_of x ≡ [] →
-    events_at k es ≡ steps.above_in (events_at k xs) → events_at k es ≡ steps.above_in (events_at k ((m, x) ∷ xs))
-none_at k m x es xs none rest =
-    elim (eqb_tells k m) [
-      | inl is ↦ rest ∙ ap (λ (fs : List WireEvent). fs ++ steps.above_in (events_at k xs)) (sym none)
-          ∙ ap steps.above_in (sym (cond-true (nat_eq k m) (x ∷ events_at k xs) (events_at k xs) is.0))
-      | inr other ↦ rest ∙ ap steps.above_in (sym (cond-false (nat_eq k m) (x ∷ events_at k xs) (events_at k xs) other.0))
-    ]
-
-upper_at : (k : ℕ) (xs : List (ℕ × Step)) → events_at k (upper xs) ≡ steps.above_in (events_at k xs)
-upper_at k [] = refl
-upper_at k ((m, steps.Hears came given memory now) ∷ xs) =
-    one_at k m (steps.Hears came given memory now) (Gave given) (upper xs) xs refl (upper_at k xs)
-upper_at k ((m, steps.Puts to bytes) ∷ xs) = none_at k m (steps.Puts to bytes) (upper xs) xs refl (upper_at k xs)
-upper_at k ((m, steps.Takes to d is_cut) ∷ xs) =
-    one_at k m (steps.Takes to d is_cut) (Handed to d) (upper xs) xs refl (upper_at k xs)
-upper_at k ((m, steps.Reports member now) ∷ xs) = none_at k m (steps.Reports member now) (upper xs) xs refl (upper_at k xs)
+highs_are : (m : ℕ) (xs : List Step) → steps.above_in xs ≡ lifting.highs high m xs
+highs_are m [] = refl
+highs_are m (x ∷ xs) = ap (λ (es : List WireEvent). steps.above_of x ++ es) (highs_are m xs)
 
 -- ---- names
 
@@ -199,230 +176,271 @@ are_named (steps.Takes to m is_cut ∷ xs) before le =
     )
 are_named (steps.Reports member now ∷ xs) before le = (tt, are_named xs (steps.Reports member now ∷ before) le)
 
--- ---- the members together
+-- ---- what a member does over its wire of packets, run after run
 
--- what is left of each member is so behind what it did
-abbrev Each : (P : ℕ → List Step → List Step → Type 0) → (n : ℕ) → List (ℕ × Step) → Before → Type 0
-Each P n xs before = (m : ℕ) → m < n → P m (events_at m xs) (before m)
+-- The member is in this run, if in any, and these steps were made in it, the latest first.
+abbrev StepsGo : (m : ℕ) → List (RunEvent Keyed Step) → (run : Option Keyed) → (before : List Step) → Type 0
+StepsGo m [] run before = Unit {0}
+StepsGo m (Starts k ∷ xs) run before = (k.sealer.me ≡ m) × StepsGo m xs (Some k) []
+StepsGo m (During x ∷ xs) None before = ⊥
+StepsGo m (During x ∷ xs) (Some k) before = IsStep k.keys k.sealer before x × IsNamed before x × StepsGo m xs (Some k) (x ∷ before)
 
-own_first : (P : ℕ → List Step → List Step → Type 0) (n m : ℕ) (x : Step) (xs : List (ℕ × Step)) (before : Before) → m < n →
-    Each P n ((m, x) ∷ xs) before → P m (x ∷ events_at m xs) (before m)
-own_first P n m x xs before l each =
-    subst (λ (ys : List Step). P m ys (before m)) (cond-true (nat_eq m m) (x ∷ events_at m xs) (events_at m xs) (eq-eqb m m refl)) (each m l)
+same_state : (m : ℕ) (xs : List (RunEvent Keyed Step)) (run run' : Option Keyed) (before before' : List Step) → run ≡ run' → before ≡ before' →
+    StepsGo m xs run before → StepsGo m xs run' before'
+same_state m xs run run' before before' a b s =
+    subst (λ (r : Option Keyed). StepsGo m xs r before') a (subst (λ (ys : List Step). StepsGo m xs run ys) b s)
 
-own_rest : (P : ℕ → List Step → List Step → Type 0) (n m : ℕ) (x : Step) (xs : List (ℕ × Step)) (before : Before) →
-    P m (events_at m xs) (x ∷ before m) → Each P n ((m, x) ∷ xs) before → Each P n xs (with_step before m x)
-own_rest P n m x xs before here each k l =
-    elim (eqb_tells k m) [
-      | inl is ↦ subst (λ (b : List Step). P k (events_at k xs) b) (sym (cond-true (nat_eq k m) (x ∷ before k) (before k) is.0))
-          (subst (λ (j : ℕ). P j (events_at j xs) (x ∷ before j)) (sym is.1) here)
-      | inr other ↦ subst (λ (b : List Step). P k (events_at k xs) b) (sym (cond-false (nat_eq k m) (x ∷ before k) (before k) other.0))
-          (subst (λ (ys : List Step). P k ys (before k)) (cond-false (nat_eq k m) (x ∷ events_at k xs) (events_at k xs) other.0) (each k l))
-    ]
+-- before its first run a member makes no steps
+before_none : (m : ℕ) (xs : List (RunEvent Keyed Step)) (run : Option Keyed) (before before' : List Step) → StepsGo m xs None before → StepsGo m xs run before'
+before_none m [] run before before' s = tt
+before_none m (Starts k ∷ xs) run before before' s = s
+before_none m (During x ∷ xs) run before before' s = absurd s
 
-all_steps : (c : Cluster) (n : ℕ) (xs : List (ℕ × Step)) (before : Before) → AreBelow n xs →
-    Each (λ m ys b. AreSteps (c.keys m) (c.sealer m) ys b) n xs before → Each (λ m ys b. AreNamed ys b) n xs before →
-    networks.AreSteps c xs before
-all_steps c n [] before below are named = tt
-all_steps c n ((m, x) ∷ xs) before below are named =
-    let a = own_first (λ m ys b. AreSteps (c.keys m) (c.sealer m) ys b) n m x xs before below.0 are in
-    let d = own_first (λ m ys b. AreNamed ys b) n m x xs before below.0 named in (
-      a.0,
-      d.0,
-      all_steps c n xs (with_step before m x) below.1
-          (own_rest (λ m ys b. AreSteps (c.keys m) (c.sealer m) ys b) n m x xs before a.1 are)
-          (own_rest (λ m ys b. AreNamed ys b) n m x xs before d.1 named),
+steps_then : (m : ℕ) (k : Keyed) (xs : List Step) (later : List (RunEvent Keyed Step)) (before : List Step) → AreSteps k.keys k.sealer xs before →
+    AreNamed xs before → StepsGo m later None [] → StepsGo m (during xs ++ later) (Some k) before
+steps_then m k [] later before are named s = before_none m later (Some k) [] before s
+steps_then m k (x ∷ xs) later before are named s = (are.0, named.0, steps_then m k xs later (x ∷ before) are.1 named.1 s)
+
+-- the packets of a run
+record IsPackets (g : Group) (m : ℕ) (r : Run Keyed) (events : List WireEvent) : Type 0 where
+  made : List Step
+  packets_are : steps.below_in made ≡ events
+  are : AreSteps r.key.keys r.key.sealer made []
+  named : AreNamed made []
+  me : r.key.sealer.me ≡ m
+  ran : IsAbove g m r (steps.above_in made)
+
+raises_packets : (g : Group) (m : ℕ) → lifting.Raises {K = Keyed} socketing.low socketing.high m (IsSealed g m) (IsPackets g m) AreFaithful
+raises_packets g m r own sealed =
+    let ran = sealed.ran in
+    let few = sealed.named in (
+      ran.passages,
+      ran.below_is ∙ sym (socketing.lowers_are ran.passages),
+      record {
+        made = ran.made;
+        packets_are = ran.packets_are ∙ socketing.highs_are m ran.passages;
+        are = ran.are;
+        named = are_named ran.made [] (omega (arith, few));
+        me = sealed.me;
+        ran = ran.ran;
+      },
+      λ later good. faithful ran.addresses ran.me ran.passages later ran.sound good,
     )
 
-steps_carried : (c : Cluster) (n : ℕ) (xs : List (ℕ × Step)) (handed : List Bytes) → AreBelow n xs →
-    PacketsGo c n (lifting.all_lower lower xs) handed → PacketsCarried c n xs handed
-steps_carried c n [] handed b p = tt
-steps_carried c n ((m, steps.Hears came given memory now) ∷ xs) handed b p =
-    (b.0, elim p.1 [ inl there ↦ inl (among_is handed came there) | inr none ↦ inr none ], steps_carried c n xs handed b.1 p.2)
-steps_carried c n ((m, steps.Puts to bytes) ∷ xs) handed b p = (b.0, steps_carried c n xs (handed ++ bytes ∷ []) b.1 p.1)
-steps_carried c n ((m, steps.Takes to d is_cut) ∷ xs) handed b p = (b.0, steps_carried c n xs handed b.1 p)
-steps_carried c n ((m, steps.Reports member now) ∷ xs) handed b p = (b.0, steps_carried c n xs handed b.1 p)
+raises : (g : Group) (m : ℕ) → lifting.Raises {K = Keyed} low high m (IsPackets g m) (IsAbove g m) (λ xs. StepsGo m xs None [])
+raises g m r own packets = (
+  packets.made,
+  sym packets.packets_are ∙ sym (lowers_are packets.made),
+  subst (λ (es : List WireEvent). IsAbove g m r es) (highs_are m packets.made) packets.ran,
+  λ later good. (packets.me, steps_then m r.key packets.made later [] packets.are packets.named good),
+)
 
-carries_above : (g : Group) (xs : List (ℕ × Step)) (handed : List Bytes) → AreBelow g.members xs → DatagramsCarried xs handed →
-    Carries g (upper xs) handed
-carries_above g [] handed b d = tt
-carries_above g ((m, steps.Hears came given memory now) ∷ xs) handed b d = (
+steps_own : (m : ℕ) (xs : List (RunEvent Keyed Step)) (run : Option Keyed) (before : List Step) → StepsGo m xs run before → AreOwn m xs
+steps_own m [] run before s = tt
+steps_own m (Starts k ∷ xs) run before s = (s.0, steps_own m xs (Some k) [] s.1)
+steps_own m (During x ∷ xs) None before s = absurd s
+steps_own m (During x ∷ xs) (Some k) before s = steps_own m xs (Some k) (x ∷ before) s.2
+
+-- ---- steps by runs
+
+-- each step with the number of its run
+abbrev numbered : (now : ℕ → ℕ) → (k : ℕ) → List (ℕ × RunEvent Keyed Step) → List (ℕ × Step)
+numbered now k [] = []
+numbered now k ((m, Starts key) ∷ xs) = numbered (put now m k) (suc k) xs
+numbered now k ((m, During x) ∷ xs) = (now m, x) ∷ numbered now k xs
+
+-- a packet that comes in a run
+abbrev MayCome : Option Keyed → (handed : List Bytes) → Step → Type 0
+MayCome run handed (steps.Hears came given memory now) = Among handed came ⊎ IsUnopened run came
+MayCome run handed (steps.Puts to bytes) = Unit {0}
+MayCome run handed (steps.Takes to m is_cut) = Unit {0}
+MayCome run handed (steps.Reports member now) = Unit {0}
+
+abbrev handed_with : List Bytes → Step → List Bytes
+handed_with handed (steps.Hears came given memory now) = handed
+handed_with handed (steps.Puts to bytes) = handed ++ bytes ∷ []
+handed_with handed (steps.Takes to m is_cut) = handed
+handed_with handed (steps.Reports member now) = handed
+
+go_first : (n : ℕ) (run : ℕ → Option Keyed) (m : ℕ) (x : Step) (xs : List (ℕ × RunEvent Keyed Step)) (handed : List Bytes) →
+    PacketsGo n run (lifting.all_lower (lifting.low_of low high) ((m, During x) ∷ xs)) handed →
+    MayCome (run m) handed x × PacketsGo n run (lifting.all_lower (lifting.low_of low high) xs) (handed_with handed x)
+go_first n run m (steps.Hears came given memory now) xs handed p = (p.1, p.2)
+go_first n run m (steps.Puts to bytes) xs handed p = (tt, p.1)
+go_first n run m (steps.Takes to d is_cut) xs handed p = (tt, p)
+go_first n run m (steps.Reports member now) xs handed p = (tt, p)
+
+carried_first : (bs : List (ℕ × Keyed)) (r m : ℕ) (k : Keyed) (x : Step) (xs : List (ℕ × Step)) (handed : List Bytes) → r < length bs →
+    run_at bs r ≡ (m, k) → MayCome (Some k) handed x → PacketsCarried (cluster_of bs) (length bs) xs (handed_with handed x) →
+    PacketsCarried (cluster_of bs) (length bs) ((r, x) ∷ xs) handed
+carried_first bs r m k (steps.Hears came given memory now) xs handed l is may rest = (
+  l,
+  elim may [
+    | inl there ↦ inl (among_is handed came there)
+    | inr none ↦ inr (ap (λ (b : ℕ × Keyed). opened b.1.keys b.1.sealer came) is ∙ none)
+  ],
+  rest,
+)
+carried_first bs r m k (steps.Puts to bytes) xs handed l is may rest = (l, rest)
+carried_first bs r m k (steps.Takes to d is_cut) xs handed l is may rest = (l, rest)
+carried_first bs r m k (steps.Reports member now) xs handed l is may rest = (l, rest)
+
+-- each member that is in a run is in the one with this number
+abbrev Numbers : List (ℕ × Keyed) → (run : ℕ → Option Keyed) → (now : ℕ → ℕ) → (k : ℕ) → Type 0
+Numbers bs run now k = (m : ℕ) (s : Keyed) → run m ≡ Some s → (now m < k) × (now m < length bs) × (run_at bs (now m) ≡ (m, s))
+
+some_same : (s t : Keyed) → Some s ≡ Some t → s ≡ t
+some_same s t e = cc
+
+by_runs : (bs : List (ℕ × Keyed)) (n : ℕ) (xs : List (ℕ × RunEvent Keyed Step)) (run : ℕ → Option Keyed) (now : ℕ → ℕ) (k : ℕ) (before : Before)
+    (handed : List Bytes) → Numbers bs run now k → StartFrom bs k (begun xs) → AreBelow n xs →
+    ((m : ℕ) → m < n → StepsGo m (events_at m xs) (run m) (before (now m))) → ((r : ℕ) → k ≤ r → before r ≡ []) →
+    PacketsGo n run (lifting.all_lower (lifting.low_of low high) xs) handed →
+    networks.AreSteps (cluster_of bs) (numbered now k xs) before × PacketsCarried (cluster_of bs) (length bs) (numbered now k xs) handed
+by_runs bs n [] run now k before handed nums from below go fresh packets = (tt, tt)
+by_runs bs n ((m, Starts key) ∷ xs) run now k before handed nums from below go fresh packets =
+    let own = each_first (λ j es. StepsGo j es (run j) (before (now j))) n m (Starts key) xs below.0 go in
+    let new = next bs k (m, key) (begun xs) from in
+    by_runs bs n xs (put run m (Some key)) (put now m k) (suc k) before handed
+    (λ j s e. elim (eqb_tells j m) [
+      | inl is ↦
+          (let number : put now m k j ≡ k = cond-true (nat_eq j m) k (now j) is.0 in
+          let one : key ≡ s = some_same key s (sym (cond-true (nat_eq j m) (Some key) (run j) is.0) ∙ e) in (
+            subst (λ (i : ℕ). i < suc k) (sym number) (omega arith),
+            subst (λ (i : ℕ). i < length bs) (sym number) new.less,
+            ap (λ (i : ℕ). run_at bs i) number ∙ new.is ∙ ap (λ (i : ℕ). (i, key)) (sym is.1) ∙ ap (λ (t : Keyed). (j, t)) one,
+          ))
+      | inr other ↦
+          (let number : put now m k j ≡ now j = cond-false (nat_eq j m) k (now j) other.0 in
+          let old = nums j s (sym (cond-false (nat_eq j m) (Some key) (run j) other.0) ∙ e) in (
+            subst (λ (i : ℕ). i < suc k) (sym number) (let l = old.0 in omega (arith, l)),
+            subst (λ (i : ℕ). i < length bs) (sym number) old.1,
+            ap (λ (i : ℕ). run_at bs i) number ∙ old.2,
+          ))
+    ]) new.later below.1
+    (λ j l. elim (eqb_tells j m) [
+      | inl is ↦ same_state j (events_at j xs) (Some key) (put run m (Some key) j) [] (before (put now m k j))
+          (sym (cond-true (nat_eq j m) (Some key) (run j) is.0))
+          (sym (fresh k (omega arith)) ∙ ap before (sym (cond-true (nat_eq j m) k (now j) is.0)))
+          (subst (λ (i : ℕ). StepsGo i (events_at i xs) (Some key) []) (sym is.1) own.1)
+      | inr other ↦ same_state j (events_at j xs) (run j) (put run m (Some key) j) (before (now j)) (before (put now m k j))
+          (sym (cond-false (nat_eq j m) (Some key) (run j) other.0)) (ap before (sym (cond-false (nat_eq j m) k (now j) other.0)))
+          (subst (λ (es : List (RunEvent Keyed Step)). StepsGo j es (run j) (before (now j)))
+          (cond-false (nat_eq j m) (Starts key ∷ events_at j xs) (events_at j xs) other.0) (go j l))
+    ]) (λ r le. fresh r (omega (arith, le))) packets.1
+by_runs bs n ((m, During x) ∷ xs) run now k before handed nums from below go fresh packets =
+    at (run m) refl (each_first (λ j es. StepsGo j es (run j) (before (now j))) n m (During x) xs below.0 go)
+    (λ g f. by_runs bs n xs run now k (with_step before (now m) x) (handed_with handed x) nums from below.1 g f (go_first n run m x xs handed packets).1)
+  where
+    r : ℕ
+    r = now m
+
+    -- another run
+    other_run : (j : ℕ) (s t : Keyed) → run m ≡ Some s → run j ≡ Some t → (j ≡ m → ⊥) → with_step before (now m) x (now j) ≡ before (now j)
+    other_run j s t e f differ = elim (eqb_tells (now j) (now m)) [
+      | inl is ↦ absurd (differ (ap (λ (b : ℕ × Keyed). b.0)
+          (sym (nums j t f).2 ∙ ap (λ (i : ℕ). run_at bs i) is.1 ∙ (nums m s e).2)))
+      | inr other ↦ cond-false (nat_eq (now j) (now m)) (x ∷ before (now j)) (before (now j)) other.0
+    ]
+
+    unchanged : (j : ℕ) (s : Keyed) (o : Option Keyed) → run m ≡ Some s → run j ≡ o → (j ≡ m → ⊥) →
+        StepsGo j (events_at j xs) o (before (now j)) → StepsGo j (events_at j xs) o (with_step before (now m) x (now j))
+    unchanged j s None e f differ go = before_none j (events_at j xs) None (before (now j)) (with_step before (now m) x (now j)) go
+    unchanged j s (Some t) e f differ go =
+        subst (λ (b : List Step). StepsGo j (events_at j xs) (Some t) b) (sym (other_run j s t e f differ)) go
+
+    at : (o : Option Keyed) → run m ≡ o → StepsGo m (During x ∷ events_at m xs) o (before (now m)) →
+        (((j : ℕ) → j < n → StepsGo j (events_at j xs) (run j) (with_step before (now m) x (now j))) →
+        ((r : ℕ) → k ≤ r → with_step before (now m) x r ≡ []) →
+        networks.AreSteps (cluster_of bs) (numbered now k xs) (with_step before (now m) x) ×
+        PacketsCarried (cluster_of bs) (length bs) (numbered now k xs) (handed_with handed x)) →
+        networks.AreSteps (cluster_of bs) ((now m, x) ∷ numbered now k xs) before ×
+        PacketsCarried (cluster_of bs) (length bs) ((now m, x) ∷ numbered now k xs) handed
+    at None e own rest = absurd own
+    at (Some s) e own rest =
+        let num = nums m s e in
+        let is : IsStep (run_at bs (now m)).1.keys (run_at bs (now m)).1.sealer (before (now m)) x =
+        subst (λ (b : ℕ × Keyed). IsStep b.1.keys b.1.sealer (before (now m)) x) (sym num.2) own.0 in
+        let later = rest
+        (λ j l. elim (eqb_tells j m) [
+          | inl is ↦ same_state j (events_at j xs) (Some s) (run j) (x ∷ before (now m)) (with_step before (now m) x (now j))
+              (sym e ∙ ap run (sym is.1))
+              (sym (cond-true (nat_eq (now m) (now m)) (x ∷ before (now m)) (before (now m)) (eq-eqb (now m) (now m) refl))
+              ∙ ap (λ (i : ℕ). with_step before (now m) x (now i)) (sym is.1))
+              (subst (λ (i : ℕ). StepsGo i (events_at i xs) (Some s) (x ∷ before (now m))) (sym is.1) own.2)
+          | inr other ↦ unchanged j s (run j) e refl other.1
+              (subst (λ (es : List (RunEvent Keyed Step)). StepsGo j es (run j) (before (now j)))
+              (cond-false (nat_eq j m) (During x ∷ events_at j xs) (events_at j xs) other.0) (go j l))
+        ])
+        (λ r le. elim (eqb_tells r (now m)) [
+          | inl is ↦ absurd (let same = is.1 in let l = num.0 in omega (arith, same, l, le))
+          | inr other ↦ cond-false (nat_eq r (now m)) (x ∷ before r) (before r) other.0 ∙ fresh r le
+        ]) in (
+          (is, own.1, later.0),
+          carried_first bs (now m) m s x (numbered now k xs) handed num.1 num.2
+              (subst (λ (o : Option Keyed). MayCome o handed x) e (go_first n run m x xs handed packets).0) later.1,
+        )
+
+carries_above : (g : Group) (xs : List (ℕ × RunEvent Keyed Step)) (now : ℕ → ℕ) (k : ℕ) (handed : List Bytes) → AreBelow g.members xs →
+    DatagramsCarried (numbered now k xs) handed → Carries g (lifting.upper low high xs) handed
+carries_above g [] now k handed b d = tt
+carries_above g ((m, Starts key) ∷ xs) now k handed b d = (b.0, carries_above g xs (put now m k) (suc k) handed b.1 d)
+carries_above g ((m, During (steps.Hears came given memory time)) ∷ xs) now k handed b d = (
   b.0,
   elim d.0 [
     | inl there ↦ inl (contains_is handed given there)
-    | inr empty ↦ inr (λ k message spelled. no_message g k m message (subst (λ (x : Bytes). DatagramBytes g k m message x) empty spelled))
+    | inr empty ↦ inr (λ j message spelled. no_message g j m message (subst (λ (x : Bytes). DatagramBytes g j m message x) empty spelled))
   ],
-  carries_above g xs handed b.1 d.1,
+  carries_above g xs now k handed b.1 d.1,
 )
-carries_above g ((m, steps.Puts to bytes) ∷ xs) handed b d = carries_above g xs handed b.1 d
-carries_above g ((m, steps.Takes to e is_cut) ∷ xs) handed b d = (b.0, carries_above g xs (handed ++ e ∷ []) b.1 d)
-carries_above g ((m, steps.Reports member now) ∷ xs) handed b d = carries_above g xs handed b.1 d
+carries_above g ((m, During (steps.Puts to bytes)) ∷ xs) now k handed b d = carries_above g xs now k handed b.1 d
+carries_above g ((m, During (steps.Takes to e is_cut)) ∷ xs) now k handed b d = (b.0, carries_above g xs now k (handed ++ e ∷ []) b.1 d)
+carries_above g ((m, During (steps.Reports member time)) ∷ xs) now k handed b d = carries_above g xs now k handed b.1 d
 
 -- ---- the laws
 
-module _ (carried : SealedIsCarried) (g : Group) (c : Cluster) (network : List (ℕ × SocketEvent)) (deeds : ℕ → List Deed)
-    (stands : ℕ → NodeState Bytes)
-    (ran : (m : ℕ) → m < g.members → RanSealed g (c.keys m) (c.sealer m) m (events_at m network) (deeds m) (stands m)) where
-  abbrev passages_of : (m : ℕ) → (m < g.members) ⊎ (g.members ≤ m) → List Passage
-  passages_of m (inl below) = (ran m below).passages
-  passages_of m (inr above) = []
-
-  abbrev made_of : (m : ℕ) → (m < g.members) ⊎ (g.members ≤ m) → List Step
-  made_of m (inl below) = (ran m below).made
-  made_of m (inr above) = []
-
-  abbrev passages : ℕ → List Passage
-  passages m = passages_of m (below_or m g.members)
-
-  abbrev made : ℕ → List Step
-  made m = made_of m (below_or m g.members)
-
-  low_at : (m : ℕ) (w : (m < g.members) ⊎ (g.members ≤ m)) → m < g.members →
-      events_at m network ≡ lifting.lowers socketing.lower (passages_of m w)
-  low_at m (inl b) below = (ran m b).below_is ∙ sym (socketing.lowers_are (ran m b).passages)
-  low_at m (inr above) below = absurd (omega (arith, above, below))
-
-  faithful_at : (m : ℕ) (w : (m < g.members) ⊎ (g.members ≤ m)) → m < g.members → AreFaithful (passages_of m w)
-  faithful_at m (inl b) below = let r = ran m b in faithful r.addresses r.me r.passages r.sound
-  faithful_at m (inr above) below = absurd (omega (arith, above, below))
-
-  packets_at : (m : ℕ) (w : (m < g.members) ⊎ (g.members ≤ m)) → m < g.members →
-      above_in (passages_of m w) ≡ lifting.lowers lower (made_of m w)
-  packets_at m (inl b) below = sym (ran m b).packets_are ∙ sym (lowers_are (ran m b).made)
-  packets_at m (inr above) below = absurd (omega (arith, above, below))
-
-  steps_at : (m : ℕ) (w : (m < g.members) ⊎ (g.members ≤ m)) → m < g.members → AreSteps (c.keys m) (c.sealer m) (made_of m w) []
-  steps_at m (inl b) below = (ran m b).are
-  steps_at m (inr above) below = absurd (omega (arith, above, below))
-
-  named_at : (m : ℕ) (w : (m < g.members) ⊎ (g.members ≤ m)) → m < g.members → AreNamed (made_of m w) []
-  named_at m (inl b) below = let few = (ran m b).few in are_named (ran m b).made [] (omega (arith, few))
-  named_at m (inr above) below = absurd (omega (arith, above, below))
-
-  ran_at : (m : ℕ) (w : (m < g.members) ⊎ (g.members ≤ m)) → m < g.members →
-      RanAbove g m (steps.above_in (made_of m w)) (deeds m) (stands m)
-  ran_at m (inl b) below = (ran m b).ran
-  ran_at m (inr above) below = absurd (omega (arith, above, below))
-
-  pub steps_go : IsGroup g → AreMembers c g.members → PacketsCarry c g.members network [] →
-      (stretches : List Stretch) × InStretches g deeds stands stretches
-  steps_go few members carry =
-      let n = g.members in
-      let l = lifting.lift socketing.lower n network passages (λ m below. low_at m (below_or m n) below) (are_below c n network [] carry) in
-      let packets : PacketsGo c n (socketing.upper l.above) [] =
-      packets_above c n l.above [] []
-      (λ m below. subst AreFaithful (sym (l.own m below)) (faithful_at m (below_or m n) below))
-      (among_none []) l.within (subst (λ (net : List (ℕ × SocketEvent)). PacketsCarry c n net []) (sym l.low) carry) in
-      let k = lifting.lift lower n (socketing.upper l.above) made
-      (λ m below. socketing.upper_at m l.above ∙ ap above_in (l.own m below) ∙ packets_at m (below_or m n) below)
-      (go_below c n (socketing.upper l.above) [] packets) in
-      let are : networks.AreSteps c k.above (λ m. []) =
-      all_steps c n k.above (λ m. []) k.within
-      (λ m below. subst (λ (xs : List Step). AreSteps (c.keys m) (c.sealer m) xs []) (sym (k.own m below)) (steps_at m (below_or m n) below))
-      (λ m below. subst (λ (xs : List Step). AreNamed xs []) (sym (k.own m below)) (named_at m (below_or m n) below)) in
-      let given : DatagramsCarried k.above [] =
-      carried c n k.above members are
-      (steps_carried c n k.above [] k.within (subst (λ (net : List (ℕ × WireEvent)). PacketsGo c n net []) (sym k.low) packets)) in
-      networks_go g (upper k.above) deeds stands (record {
-        group = few;
-        carries = carries_above g k.above [] k.within given;
-        ran = λ m below. subst (λ (es : List WireEvent). RanAbove g m es (deeds m) (stands m))
-            (sym (upper_at m k.above ∙ ap steps.above_in (k.own m below))) (ran_at m (below_or m n) below);
-      })
-
 pub sockets_go : SealedIsCarried → SealedSocketsGo
-sockets_go carried g c network deeds stands r = steps_go carried g c network deeds stands r.ran r.group r.members r.carry
+sockets_go carried g network runs r =
+    let n = g.members in
+    let none : ℕ → Option Keyed = λ m. None in
+    let u = lifting.up socketing.low socketing.high g (IsSealed g) (IsPackets g) (λ m. AreFaithful) (λ m. tt) (raises_packets g) IsEmpty network runs r.ran
+    (are_below n none network [] r.carry) in
+    let packets : PacketsGo n none (lifting.upper socketing.low socketing.high u.above) [] =
+    packets_above n none u.above [] [] u.good (among_none []) u.within
+    (subst (λ (net : Network). PacketsCarry n none net []) (sym u.low_is) r.carry) in
+    let v = lifting.up low high g (IsPackets g) (IsAbove g) (λ m xs. StepsGo m xs None []) (λ m. tt) (raises g) IsEmpty
+    (lifting.upper socketing.low socketing.high u.above) runs u.are (go_below n none (lifting.upper socketing.low socketing.high u.above) [] packets) in
+    let xs = v.above in
+    let bs = begun xs in
+    let both = by_runs bs n xs none (λ m. 0) 0 (λ r. []) [] (λ m s e. absurd (cc)) refl v.within v.good (λ r le. refl)
+    (subst (λ (net : List (ℕ × RunEvent Keyed WireEvent)). PacketsGo n none net []) (sym v.low_is) packets) in
+    let own = owners n xs v.within (λ m below. steps_own m (events_at m xs) None [] (v.good m below)) in
+    let are_apart : AreApart n bs =
+    λ m below. subst (λ (ks : List Keyed). NoneTwice (map start_of ks))
+    (sym (begun_at m xs ∙ own_starts m (events_at m xs)
+    ∙ ap (λ (es : List (RunEvent Keyed WireEvent)). starts_in es) (sym (lifting.upper_at low high m xs))
+    ∙ starts_of_runs g m (IsAbove g m) IsEmpty (runs m) _ (v.are m below)))
+    (subst (λ (ts : List (List ℕ)). NoneTwice ts) (starts_map (runs m)) (r.starts m below)) in
+    let differ : StartsDiffer (cluster_of bs) (length bs) =
+    λ i j li lj me start. apart n bs (begun_below n xs v.within) are_apart i j li lj (sym (own i li) ∙ me ∙ own j lj) start in
+    loops_go g (lifting.upper low high xs) runs r.group
+    (carries_above g xs (λ m. 0) 0 [] v.within (carried (cluster_of bs) (length bs) (numbered (λ m. 0) 0 xs) differ both.0 both.1)) v.are
+  where
+    starts_map : (rs : List (Run Keyed)) → map (λ r. start_bytes r.key.sealer.start) rs ≡ map start_of (map (λ r. r.key) rs)
+    starts_map [] = refl
+    starts_map (r ∷ rs) = ap (λ (ts : List (List ℕ)). start_bytes r.key.sealer.start ∷ ts) (starts_map rs)
+
+    own_starts : (m : ℕ) (es : List (RunEvent Keyed Step)) → starts_in es ≡ starts_in (lifting.run_highs low high m es)
+    own_starts m [] = refl
+    own_starts m (Starts k ∷ es) = ap (λ (ks : List Keyed). k ∷ ks) (own_starts m es)
+    own_starts m (During x ∷ es) = own_starts m es ∙ sym (starts_during (steps.above_of x) (lifting.run_highs low high m es))
 
 pub sockets_never_differ : SealedIsCarried → SealedSocketsNeverDiffer
-sockets_never_differ carried g c network deeds stands r =
-    let n = sockets_go carried g c network deeds stands r in never_differ g deeds stands n.0 n.1
+sockets_never_differ carried g network runs r = let n = sockets_go carried g network runs r in never_differ g runs n.0 n.1
 
 pub sockets_learn_what_was_asked : SealedIsCarried → SealedSocketsLearnWhatWasAsked
-sockets_learn_what_was_asked carried g c network deeds stands r =
-    let n = sockets_go carried g c network deeds stands r in
-    let w = wires_learn_what_was_asked g n.0 n.1.goes in (
-      n.0,
-      n.1,
-      λ m p e below has. w.0 m p e (ap (λ (s : NodeState Bytes). s.stored.learned p) (n.1.leaves m below) ∙ has),
-      w.1,
-    )
+sockets_learn_what_was_asked carried g network runs r =
+    let n = sockets_go carried g network runs r in (n.0, n.1, learn_what_was_asked g runs n.0 n.1)
 
 pub equally_applied_at_sockets : {R Q : Type 0} (G : Ghosts R) (H : Ghosts Q) → SealedIsCarried → EquallyAppliedAtSealedSockets G H
-equally_applied_at_sockets G H carried g c network deeds stands r i j x y mine theirs a b same =
-    let n = sockets_go carried g c network deeds stands r in
-    let xs = n.0 in
-    equally_applied_over_wires G H g xs [] (subst (λ (ys : List Stretch). Goes g ys) (sym (append-nil xs)) n.1.goes) i j x y
-    (subst (λ (s : NodeState Bytes). StandsSo x s) (sym (n.1.leaves i mine)) a)
-    (subst (λ (ys : List Stretch). StandsSo y (stand ys j)) (sym (append-nil xs))
-    (subst (λ (s : NodeState Bytes). StandsSo y s) (sym (n.1.leaves j theirs)) b)) same
-
--- ---- one member's run
-
--- what is handed to the wire below is handed to this one too
-few_below : (me : ℕ) (xs : List Loop) → length (handed_in (loopback.below_in xs)) ≤ length (handed_in (loopback.above_in me xs))
-few_below me [] = omega arith
-few_below me (loopback.Passes (Gave bytes) ∷ xs) = few_below me xs
-few_below me (loopback.Passes (Handed to bytes) ∷ xs) = let le = few_below me xs in omega (arith, le)
-few_below me (loopback.Keeps bytes ∷ xs) = let le = few_below me xs in omega (arith, le)
-few_below me (loopback.Returns bytes ∷ xs) = few_below me xs
-
-pub runs_are_at_sockets : {S : Type 0} (G : sockets.Ghosts S) (C D : Type 0) → CallsAreSteps → SealedRunsAreAtSockets G C D
-runs_are_at_sockets G C D are_steps g w es deeds end looped few ran =
-    let sealed = looped.below_is in
-    let wire = loopback.below_of w in
-    let o = sealed.state_is.traffic_is in
-    let r = are_steps (wiring.keys_of wire) (wiring.sealer_of wire) sealed.calls sealed.state (loopback.below_in looped.loops) sealed.made in
-    let less = few_below (loopback.me_of w) looped.loops in
-    let fewer : length (handed_in (loopback.above_in (loopback.me_of w) looped.loops)) ≤ 2 ^ 32 =
-    subst (λ (fs : List WireEvent). length (handed_in fs) ≤ 2 ^ 32) looped.above_is few in (
-      below_in o.passages,
-      o.below_is,
-      record {
-        addresses = peers_of (wiring.inner_of wire);
-        me = me_of (wiring.inner_of wire);
-        passages = o.passages;
-        sound = o.sound;
-        below_is = refl;
-        made = r.0;
-        packets_are = r.1 ∙ o.above_is;
-        are = r.3;
-        few = subst (λ (fs : List WireEvent). length (handed_in fs) ≤ 2 ^ 32) (sym r.2) (omega (arith, less, fewer));
-        ran = record {
-          loops = looped.loops;
-          kept = loopback.kept_of w;
-          queue = looped.queue;
-          below_is = r.2;
-          ran = subst (λ (fs : List WireEvent). Ran g (loopback.me_of w) fs deeds end) looped.above_is ran;
-        };
-      },
-    )
-
--- a run of a member
-pub hosted_runs_are_at_sockets : {R S : Type 0} (G : Ghosts R) (H : sockets.Ghosts S) (C D : Type 0) → CallsAreSteps →
-    HostedRunsAreLived G → SealedHostedRunsAreAtSockets G H C D
-hosted_runs_are_at_sockets G H C D are_steps law m given back w es ended honest empty fresh me looped few (inr life) =
-    let l = law m given back [] es ended honest life in
-    let ds = deeds_of l.moves in
-    let wire = loopback.below_of w in
-    let r = runs_are_at_sockets H C D are_steps (group m) w es ds l.then looped few
-    (subst (λ (k : ℕ). Ran (group m) k es ds l.then) (sym me) (lives_are_runs G m given back es l empty)) in (
-      r.0,
-      ds,
-      l.then,
-      r.1,
-      subst (λ (k : ℕ). RanSealed (group m) (wiring.keys_of wire) (wiring.sealer_of wire) k r.0 ds l.then) me r.2,
-      l.stays,
-    )
-hosted_runs_are_at_sockets G H C D are_steps law m given back w es ended honest empty fresh me looped few (inl (e, is, refused, same)) =
-    let s = started nothing_stored in
-    let wire = loopback.below_of w in
-    let idle : Ran (group m) (loopback.me_of w) es [] s =
-    record { moves = []; does = refl; lived = refl; hears = false; are = tt; last = []; went = same; again = λ d n. n } in
-    let r = runs_are_at_sockets H C D are_steps (group m) w es [] s looped few idle in (
-      r.0,
-      [],
-      s,
-      r.1,
-      subst (λ (k : ℕ). RanSealed (group m) (wiring.keys_of wire) (wiring.sealer_of wire) k r.0 [] s) me r.2,
-      λ none. refused.stays honest (λ store. let above = (refused.counts fresh).0 store in omega (arith, none, above)) ∙ empty,
-    )
+equally_applied_at_sockets G H carried g network runs r = let n = sockets_go carried g network runs r in equally_applied G H g runs n.0 n.1

@@ -11,6 +11,6 @@ pub mod Lives
 pub mod Wires
 pub mod Carried
 pub mod Runs
-pub mod Networks
+pub mod Members
 pub mod Sockets
 pub mod Sealed

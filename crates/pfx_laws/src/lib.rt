@@ -5,8 +5,8 @@
 //! - [`nodes`]: whatever happens to nodes is a run of px_model's world, the members never differ, equally many applied
 //!   positions give one configuration. `specs/Clusters` says what may happen to the nodes of a cluster, in the words of
 //!   a node's contracts: a call that answered, one that a stop or a failing store cut short, an opening of what was
-//!   left. `specs/Networks` has the law in terms of what goes over the members' wires, `specs/Sockets` and
-//!   `specs/Sealed` of what goes over their sockets, without a key and with one.
+//!   left. `specs/Members` has runs of members that stop and start again, `specs/Sockets` and `specs/Sealed` the law in
+//!   terms of what goes over their sockets, without a key and with one.
 //! - [`nine_levels_are_all`], [`one_walk`]: the hits of a verdict are those of one equation over all paths.
 //!   [`flat_verdicts_are_verdicts`]: the verdict of rules alone is that of a configuration.
 //! - [`changes_keep_a_map`], [`commands_keep_a_map`], [`logs_leave_maps`], [`logs_have_targets`]: the configuration

@@ -6,18 +6,12 @@ ghost use Rattle.pfx_laws.specs.Promised.{EquallyApplied};
 ghost use Rattle.pfx_laws.specs.Carried.{WiresAreHistories, WiresNeverDiffer, WiresLearnWhatWasAsked};
 ghost use Rattle.pfx_laws.specs.Carried.{EquallyAppliedOverWires};
 ghost use Rattle.pfx_laws.specs.Runs.{LivesAreStretches, LivesGo, OpeningsAreStretches};
-ghost use Rattle.pfx_laws.specs.Networks.{LivesAreRuns, NetworksGo, NetworksNeverDiffer};
-ghost use Rattle.pfx_laws.specs.Sockets.{EquallyAppliedAtSockets, RunsAreAtSockets, SocketsGo};
-ghost use Rattle.pfx_laws.specs.Sockets.{SocketsLearnWhatWasAsked};
-ghost use Rattle.pfx_laws.specs.Sockets.{HostedRunsAreAtSockets, SocketsNeverDiffer};
-ghost use Rattle.pfx_laws.specs.Sealed.{EquallyAppliedAtSealedSockets, SealedHostedRunsAreAtSockets};
-ghost use Rattle.pfx_laws.specs.Sealed.{SealedRunsAreAtSockets};
+ghost use Rattle.pfx_laws.specs.Sockets.{EquallyAppliedAtSockets, SocketsGo, SocketsLearnWhatWasAsked};
+ghost use Rattle.pfx_laws.specs.Sockets.{SocketsNeverDiffer};
+ghost use Rattle.pfx_laws.specs.Sealed.{EquallyAppliedAtSealedSockets};
 ghost use Rattle.pfx_laws.specs.Sealed.{SealedSocketsGo, SealedSocketsLearnWhatWasAsked, SealedSocketsNeverDiffer};
 
-use node_loop::run_laws::hosted_runs_are_lived;
-use node_udp::Socket;
 use px_records::Records;
-use std::time::Clock;
 
 /// What members lived, each from an empty record, is a history, in whatever order of theirs each datagram that one took
 /// had been handed out to it. What turns make is such a life (`node_loop::laws::turns_are_lived`).
@@ -98,46 +92,16 @@ pub fn lives_go<R: Records>()
     ensures { LivesGo R.Records }
 {}
 
-/// What a run lived over an empty record and over a wire over which nothing went before, a member ran.
-pub fn lives_are_runs<R: Records>()
-    ensures { LivesAreRuns R.Records }
-{}
-
-/// Members that ran side by side, over wires that gave no datagram but those that some wire was handed before,
-/// repeated, late and in whatever order, and asks from outside: what befell them went in stretches, and these
-/// laws hold of them as they stand in the end.
-pub fn networks_go()
-    ensures { NetworksGo }
-{}
-
-/// So over such wires two members never have different entries as learned at a position, nor one entry at two
-/// positions.
-pub fn networks_never_differ()
-    ensures { NetworksNeverDiffer }
-{}
-
-/// A member that ran over a wire with a socket, above which its own datagrams are kept, ran over what went over that
-/// socket.
-pub fn runs_are_at_sockets<S: Socket, C: Clock>()
-    ensures { RunsAreAtSockets S.Socket C }
-{}
-
-/// A member's run, with a control socket or without, from a new record on and over such a wire: what befell it, it ran
-/// over what went over its socket, and stands as its record holds in the end.
-pub fn hosted_runs_are_at_sockets<R: Records, S: Socket, C: Clock>()
-    ensures { HostedRunsAreAtSockets R.Records S.Socket C }
-{
-    hosted_runs_are_lived::<R>();
-}
-
-/// Members that ran over sockets to which no datagram came but those that some member's socket was handed before, and
-/// asks from outside: what befell them went in stretches, and these laws hold of them as they stand in the end.
+/// Members that run one after another over sockets, each run over what a stop may have left of the one before, and to
+/// whose sockets no datagram comes but those that some member's socket was handed before, and asks from outside: what
+/// befell them went in stretches, and these laws hold of them as they stand in the end. What a run is at its socket,
+/// `node_control::run_member` has in its contract.
 pub fn sockets_go()
     ensures { SocketsGo }
 {}
 
 /// So over such sockets two members never have different entries as learned at a position, nor one entry at two
-/// positions.
+/// positions, wherever they stop and start again.
 pub fn sockets_never_differ()
     ensures { SocketsNeverDiffer }
 {}
@@ -154,32 +118,17 @@ pub fn equally_applied_at_sockets<R: Records, Q: Records>()
     ensures { EquallyAppliedAtSockets R.Records Q.Records }
 {}
 
-/// A member's run over a wire that keeps its own datagrams, over a wire of packets, over one with a socket: what went
-/// over the socket are the packets of its run, in order.
-pub fn sealed_runs_are_at_sockets<S: Socket, C: Clock, D: Clock>()
-    ensures { SealedRunsAreAtSockets S.Socket C D }
-{
-    px_transport::laws::calls_are_steps();
-}
-
-/// A member's run with a key, with a control socket or without, from a new record on: what befell it, it ran over the
-/// packets that went over its socket, and stands as its record holds in the end.
-pub fn sealed_hosted_runs_are_at_sockets<R: Records, S: Socket, C: Clock, D: Clock>()
-    ensures { SealedHostedRunsAreAtSockets R.Records S.Socket C D }
-{
-    px_transport::laws::calls_are_steps();
-    hosted_runs_are_lived::<R>();
-}
-
-/// Members with a key, to whose sockets no packet came that they open but those that some member's socket was handed
-/// before: what befell them went in stretches, and these laws hold of them as they stand in the end.
+/// Members with a key, which run one after another, each run from a start of its own, and to whose sockets no packet
+/// comes that they open but those that some member's socket was handed before, in any run: what befell them went in
+/// stretches, and these laws hold of them as they stand in the end.
 pub fn sealed_sockets_go()
     ensures { SealedSocketsGo }
 {
     px_transport::laws::sealed_is_carried();
 }
 
-/// So with a key two members never have different entries as learned at a position, nor one entry at two positions.
+/// So with a key two members never have different entries as learned at a position, nor one entry at two positions,
+/// wherever they stop and start again.
 pub fn sealed_sockets_never_differ()
     ensures { SealedSocketsNeverDiffer }
 {

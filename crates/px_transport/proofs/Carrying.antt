@@ -1,9 +1,10 @@
 -- What is given of sealed packets was handed over.
 use Rattle.std.proofs.Common.{◌≡◌, ◌∙◌, ◌⊎◌, ℕ, zero, suc, ◌<◌, ◌≤◌, ◌^◌, Bool, true, false, List, [], ◌∷◌, ◌++◌, length, drop, ap, sym, subst, refl, arith, inl, inr, Option, Some, None}
-use Rattle.std.specs.Prelude.{◌==◌, ◌||◌, not, nat_lt, slice_index, is_some, unwrap_or, if◌then◌else◌}
+use Rattle.std.specs.Prelude.{◌==◌, ◌&&◌, ◌||◌, get_or, not, nat_lt, slice_index, is_some, unwrap_or, if◌then◌else◌}
 use Rattle.std.specs.List.{Contains}
-use Rattle.std.specs.Int.{w32, w64}
-use Rattle.std.proofs.lemmas.Bool.{eqb-true, not-false}
+use Rattle.std.specs.Int.{w32, w64, to_be_bytes, from_be_bytes}
+use Rattle.std.proofs.lemmas.Bool.{eqb-true, eq-eqb, not-false, and_parts, and_from, both_ways, cases_eq}
+use Rattle.std.proofs.lemmas.Nat.{be_bytes_4}
 use Rattle.std.proofs.lemmas.List.{length-append}
 use Rattle.std.proofs.lemmas.List.Elements.{All-nil, Contains-append_left, Contains-append_right, Contains-append_cases}
 use Rattle.px_packet.specs.declared.start.Start.{Start}
@@ -12,7 +13,8 @@ use Rattle.px_packet.specs.declared.kind.Kind.TheVariants as kinds
 use Rattle.px_packet.specs.declared.header.Header.{Header}
 use Rattle.px_packet.specs.declared.fault.PacketFault.{PacketFault}
 use Rattle.px_packet.specs.declared.fault.PacketFault.TheVariants as faults
-use Rattle.px_packet.specs.Headers.{number_of, number, header_bytes, header_fault, header_in, kind_in}
+use Rattle.px_packet.specs.Arrivals.{is_start}
+use Rattle.px_packet.specs.Headers.{number_of, number, start_bytes, header_bytes, header_fault, header_in, kind_in}
 use Rattle.px_packet.specs.Packets.{front_of, packet_fault, is_authentic}
 use Rattle.px_packet.specs.PacketLaws.{FrontWasSealed}
 use Rattle.px_packet.specs.Pieces.{Piece, piece_of}
@@ -23,8 +25,8 @@ use Rattle.px_transport.specs.Sending.{Sealer, header_of}
 use Rattle.px_transport.specs.Wiring.{opened, opened_as, given_of, heard_with, datagram_of}
 use Rattle.px_transport.specs.Laws.{Traffic, IsBodyOf, WasHandedOver}
 use Rattle.px_transport.specs.Steps.{Step, Hears, Puts, Takes, Reports, wholes_for, cuts_for, heard_in, handed_for, IsPut}
-use Rattle.px_transport.specs.Networks.{Cluster, AreMembers, Network, Before, with_step, IsNamed, AreSteps, PacketsCarried, DatagramsCarried, SealedIsCarried}
-use Rattle.px_transport.proofs.Handed.{packet_keeps}
+use Rattle.px_transport.specs.Networks.{Cluster, StartsDiffer, Network, Before, with_step, IsNamed, AreSteps, PacketsCarried, DatagramsCarried, SealedIsCarried}
+use Rattle.px_transport.proofs.Handed.{AreOf, packet_keeps}
 use Rattle.px_transport.proofs.Members.{heard_nobody, set_each}
 
 -- ---- a packet that is opened
@@ -147,7 +149,7 @@ module _ (grows : LogGrows) where
     body_is = body_grows to x b p.what.kind s.me s.start p.what.body p.body_is;
   }
 
--- what holds of each member's steps, and of one's with one more
+-- what holds of each run's steps, and of one's with one more
 each : (Q : ℕ → List Step → Type 0) (before : Before) (m : ℕ) (x : Step) → ((k : ℕ) → Q k (before k)) → Q m (x ∷ before m) →
     (k : ℕ) → Q k (with_step before m x k)
 each Q before m x old new k = at (k == m) refl
@@ -162,29 +164,105 @@ kind_again kinds.Whole = refl
 kind_again kinds.Piece = refl
 kind_again kinds.PiecesHeld = refl
 
+-- ---- starts as headers have them
+
+abbrev start_with : (number salt : ℕ) → Start
+start_with n z = record { number = n; salt = z }
+
+shown : Start → Start
+shown s = start_with (from_be_bytes w32 (to_be_bytes w32 s.number)) (from_be_bytes w32 (to_be_bytes w32 s.salt))
+
+are_bytes : (n : ℕ) (i : ℕ) → get_or (to_be_bytes w32 n) i 0 < 256
+are_bytes n zero = omega arith
+are_bytes n (suc zero) = omega arith
+are_bytes n (suc (suc zero)) = omega arith
+are_bytes n (suc (suc (suc zero))) = omega arith
+are_bytes n (suc (suc (suc (suc i)))) = omega arith
+
+same_number : (m n : ℕ) → from_be_bytes w32 (to_be_bytes w32 m) ≡ from_be_bytes w32 (to_be_bytes w32 n) → to_be_bytes w32 m ≡ to_be_bytes w32 n
+same_number m n e =
+    let k = from_be_bytes w32 (to_be_bytes w32 m) in
+    sym (be_bytes_4 (to_be_bytes w32 m) k refl (are_bytes m) refl) ∙ be_bytes_4 (to_be_bytes w32 n) k refl (are_bytes n) e
+
+-- starts that are shown as one have the same bytes
+same_bytes : (s t : Start) → is_start (shown s) (shown t) ≡ true → start_bytes s ≡ start_bytes t
+unfolding shown
+same_bytes s t e =
+    let p = and_parts ((shown s).number == (shown t).number) ((shown s).salt == (shown t).salt) e in
+    ap (λ (b : List ℕ). b ++ to_be_bytes w32 s.salt) (same_number s.number t.number (eqb-true (shown s).number (shown t).number p.0))
+    ∙ ap (λ (b : List ℕ). to_be_bytes w32 t.number ++ b) (same_number s.salt t.salt (eqb-true (shown s).salt (shown t).salt p.1))
+
+start_shown : (h : Header) (body : List ℕ) → (header_in (header_bytes h ++ body)).start ≡ shown h.start
+unfolding number shown
+start_shown h body = refl
+
 -- ---- the cluster
 
-module _ (c : Cluster) (n : ℕ) (are : AreMembers c n) (front : FrontWasSealed) (cut : JoinedWasCut) (keeps : ReportKeeps)
+module _ (c : Cluster) (n : ℕ) (differ : StartsDiffer c n) (front : FrontWasSealed) (cut : JoinedWasCut) (keeps : ReportKeeps)
     (grows : LogGrows) where
   abbrev heard_at : ℕ → List Step → List Heard
   heard_at j b = heard_in (c.keys j) (c.sealer j) b
 
-  -- what was handed over for a member by each
+  abbrev me_of : ℕ → ℕ
+  me_of r = (c.sealer r).me
+
+  abbrev start_of : ℕ → Start
+  start_of r = shown (c.sealer r).start
+
+  -- the run of a member with a start
+  abbrev is_run : (run member : ℕ) → Start → Bool
+  is_run r member start = (me_of r == member) && is_start (start_of r) start
+
+  abbrev run_of : (runs member : ℕ) → Start → ℕ
+  run_of zero member start = zero
+  run_of (suc k) member start = if is_run k member start then k else run_of k member start
+
+  found : (k i : ℕ) → k ≤ n → i < k → run_of k (me_of i) (start_of i) ≡ i
+  found zero i le l = absurd (omega (arith, l))
+  found (suc k) i le l = at (λ less. found k i (omega (arith, le)) less) (is_run k (me_of i) (start_of i)) refl
+    where
+      same : is_run i (me_of i) (start_of i) ≡ true
+      same =
+          and_from (me_of i == me_of i) (is_start (start_of i) (start_of i)) (eq-eqb (me_of i) (me_of i) refl)
+          (and_from _ _ (eq-eqb (start_of i).number (start_of i).number refl) (eq-eqb (start_of i).salt (start_of i).salt refl))
+
+      at : (i < k → run_of k (me_of i) (start_of i) ≡ i) → (b : Bool) → is_run k (me_of i) (start_of i) ≡ b →
+          (if b then k else run_of k (me_of i) (start_of i)) ≡ i
+      at rest true e =
+          let p = and_parts (me_of k == me_of i) (is_start (start_of k) (start_of i)) e in
+          differ k i (omega (arith, le)) (omega (arith, le, l)) (eqb-true (me_of k) (me_of i) p.0)
+          (same_bytes (c.sealer k).start (c.sealer i).start p.1)
+      at rest false e = elim (cases_eq i k) [
+        | inl is ↦ absurd (both_ways (is_run k (me_of i) (start_of i)) e (subst (λ (j : ℕ). is_run j (me_of i) (start_of i) ≡ true) is same))
+        | inr other ↦ rest (omega (arith, l, other))
+      ]
+
+  -- what was handed over by each member at each start for the member of this run
   abbrev handed_to : Before → ℕ → Traffic
-  handed_to before j = record { wholes = λ i start. wholes_for j (before i); cuts = λ i start. cuts_for j (before i) }
+  handed_to before j = record {
+    wholes = λ member start. wholes_for (me_of j) (before (run_of n member start));
+    cuts = λ member start. cuts_for (me_of j) (before (run_of n member start));
+  }
+
+  abbrev PartsAt : Before → ℕ → List Heard → Type 0
+  PartsAt before j hs = (k : ℕ) → AreOf (handed_to before j) k (of_member hs k)
 
   record Holds (before : Before) (went handed : List (List ℕ)) : Type 0 where
     puts : (bytes : List ℕ) → Contains went bytes → (i : ℕ) × (i < n) × (to : ℕ) × IsPut (c.sealer i) (before i) to bytes
-    parts : (j k : ℕ) → ArePartsOf (cuts_for j (before k)) (of_member (heard_at j (before j)) k).unfinished
-    few : (j k : ℕ) → length (cuts_for j (before k)) ≤ 2 ^ 32
-    known : (j k : ℕ) (m : List ℕ) → Contains (wholes_for j (before k)) m → Contains handed m
+    parts : (j : ℕ) → PartsAt before j (heard_at j (before j))
+    few : (to k : ℕ) → length (cuts_for to (before k)) ≤ 2 ^ 32
+    known : (to k : ℕ) (m : List ℕ) → Contains (wholes_for to (before k)) m → Contains handed m
 
-  body_to : (before : Before) (j i : ℕ) (kind : Kind) (member : ℕ) (start start' : Start) (body : List ℕ) →
-      IsBodyOf (handed_for j (before i)) kind member start body → IsBodyOf (handed_to before j) kind i start' body
-  body_to before j i kinds.State member start start' body h = tt
-  body_to before j i kinds.Whole member start start' body h = h
-  body_to before j i kinds.Piece member start start' body h = h
-  body_to before j i kinds.PiecesHeld member start start' body h = tt
+  -- a body of a packet of a run
+  body_to : (before : Before) (j i : ℕ) → i < n → (kind : Kind) (member : ℕ) (start : Start) (body : List ℕ) →
+      IsBodyOf (handed_for (me_of j) (before i)) kind member start body →
+      IsBodyOf (handed_to before j) kind (me_of i) (start_of i) body
+  body_to before j i less kinds.State member start body h = tt
+  body_to before j i less kinds.Whole member start body h =
+      subst (λ (r : ℕ). Contains (wholes_for (me_of j) (before r)) body) (sym (found n i (omega arith) less)) h
+  body_to before j i less kinds.Piece member start body h =
+      (h.0, h.1, subst (λ (r : ℕ). IsPieceOf (cuts_for (me_of j) (before r)) h.0) (sym (found n i (omega arith) less)) h.2)
+  body_to before j i less kinds.PiecesHeld member start body h = tt
 
   -- what is opened of a packet that went has what was handed over
   body_of : (before : Before) (j : ℕ) → j < n → (came : List ℕ) (h : Header) (b : List ℕ) → opened (c.keys j) (c.sealer j) came ≡ Some (h, b) →
@@ -197,31 +275,29 @@ module _ (c : Cluster) (n : ℕ) (are : AreMembers c n) (front : FrontWasSealed)
       let t = c.sealer j in
       let fault : header_fault t.cluster t.members t.me f ≡ None = ap (header_fault t.cluster t.members t.me) (sym is) ∙ o.fault in
       let mine : p.what.to ≡ t.me = receiver t.cluster t.members t.me f fault in
-      let for_j : to ≡ j = sym p.to_is ∙ mine ∙ are j below in
-      let body : IsBodyOf (handed_for j (before i)) p.what.kind s.me s.start p.what.body =
+      let for_j : to ≡ t.me = sym p.to_is ∙ mine in
+      let body : IsBodyOf (handed_for t.me (before i)) p.what.kind s.me s.start p.what.body =
       subst (λ (k : ℕ). IsBodyOf (handed_for k (before i)) p.what.kind s.me s.start p.what.body) for_j p.body_is in
-      let from_is : s.me ≡ i = are i less in
-      let there : IsBodyOf (handed_to before j) p.what.kind i (header_in f).start p.what.body =
-      body_to before j i p.what.kind s.me s.start (header_in f).start p.what.body body in
-      let named : IsBodyOf (handed_to before j) (header_in f).kind i (header_in f).start p.what.body =
-      subst (λ (k : Kind). IsBodyOf (handed_to before j) k i (header_in f).start p.what.body) (sym (kind_again p.what.kind)) there in
+      let there : IsBodyOf (handed_to before j) p.what.kind s.me (start_of i) p.what.body =
+      body_to before j i less p.what.kind s.me s.start p.what.body body in
+      let named : IsBodyOf (handed_to before j) (header_in f).kind s.me (start_of i) p.what.body =
+      subst (λ (k : Kind). IsBodyOf (handed_to before j) k s.me (start_of i) p.what.body) (sym (kind_again p.what.kind)) there in
       let from : IsBodyOf (handed_to before j) (header_in f).kind (header_in f).from (header_in f).start (drop 37 f) =
-      subst (λ (k : ℕ). IsBodyOf (handed_to before j) (header_in f).kind k (header_in f).start p.what.body) (sym from_is) named in
+      subst (λ (x : Start). IsBodyOf (handed_to before j) (header_in f).kind s.me x p.what.body)
+      (sym (start_shown (header_of s p.what p.counter) p.what.body)) named in
       subst (λ (x : List ℕ). IsBodyOf (handed_to before j) h.kind h.from h.start x) (ap (drop 37) (sym is) ∙ o.body)
       (subst (λ (x : Header). IsBodyOf (handed_to before j) x.kind x.from x.start (drop 37 f)) (ap header_in (sym is) ∙ o.header) from)
 
   -- ---- a packet comes
-
-  abbrev PartsAt : Before → ℕ → List Heard → Type 0
-  PartsAt before j hs = (k : ℕ) → ArePartsOf (cuts_for j (before k)) (of_member hs k).unfinished
 
   abbrev IsKnown : List (List ℕ) → List ℕ → Type 0
   IsKnown handed d = Contains handed d ⊎ (d ≡ [])
 
   given_known : (before : Before) (went handed : List (List ℕ)) → Holds before went handed → (j k : ℕ) (start : Start) (g : Given) →
       WasHandedOver (handed_to before j) k start g → IsKnown handed (datagram_of (Some g))
-  given_known before went handed i j k start (Whole d) h = inl (i.known j k d h)
-  given_known before went handed i j k start (Joined d) h = inl (i.known j k d (cuts_in j (before k) d h))
+  given_known before went handed i j k start (Whole d) h = inl (i.known (me_of j) (run_of n k start) d h)
+  given_known before went handed i j k start (Joined d) h =
+      let r = run_of n k start in inl (i.known (me_of j) r d (cuts_in (me_of j) (before r) d h))
   given_known before went handed i j k start (Held held) h = inr refl
   given_known before went handed i j k start Nothing h = inr refl
   given_known before went handed i j k start (Dropped a) h = inr refl
@@ -239,9 +315,9 @@ module _ (c : Cluster) (n : ℕ) (are : AreMembers c n) (front : FrontWasSealed)
       let t = handed_to before j in
       let body = body_of before j below came h b e p.0 p.1 p.2 p.3 in
       let mine = (c.sealer j).start in
-      let r = packet_keeps t mine memory (of_member hs h.from) h b now cut (λ member start. i.few j member) (i.parts j h.from) body in (
+      let r = packet_keeps t mine memory (of_member hs h.from) h b now cut (λ member start. i.few (me_of j) (run_of n member start)) (i.parts j h.from) body in (
         known (nat_lt h.from (length hs)) r.1,
-        set_each (λ (k : ℕ) (x : Heard). ArePartsOf (cuts_for j (before k)) x.unfinished) hs h.from
+        set_each (λ (k : ℕ) (x : Heard). AreOf t k x) hs h.from
             (heard_by mine memory (of_member hs h.from) h b now).heard (i.parts j) r.0,
       )
     where
@@ -255,14 +331,17 @@ module _ (c : Cluster) (n : ℕ) (are : AreMembers c n) (front : FrontWasSealed)
   -- ---- one step
 
   parts_after : (before : Before) (m : ℕ) (x : Step) → ((j : ℕ) → PartsAt before j (heard_at j (before j))) →
-      PartsAt before m (heard_at m (x ∷ before m)) →
-      (j k : ℕ) → ArePartsOf (cuts_for j (with_step before m x k)) (of_member (heard_at j (with_step before m x j)) k).unfinished
-  parts_after before m x old new j =
-      let at_j : PartsAt before j (heard_at j (with_step before m x j)) =
-      each (λ (j : ℕ) (b : List Step). PartsAt before j (heard_at j b)) before m x old new j in
-      let us : ℕ → List Unfinished = λ k. (of_member (heard_at j (with_step before m x j)) k).unfinished in
-      each (λ (k : ℕ) (b : List Step). ArePartsOf (cuts_for j b) (us k)) before m x at_j
-      (parts_grow grows j x (before m) (us m) (at_j m))
+      PartsAt before m (heard_at m (x ∷ before m)) → (j : ℕ) → PartsAt (with_step before m x) j (heard_at j (with_step before m x j))
+  parts_after before m x old new j k =
+      let hs = heard_at j (with_step before m x j) in
+      let e = of_member hs k in
+      let r = run_of n k e.known.start in
+      grown r (r == m) e.unfinished (each (λ (j : ℕ) (b : List Step). PartsAt before j (heard_at j b)) before m x old new j k)
+    where
+      grown : (r : ℕ) (b : Bool) (us : List Unfinished) → ArePartsOf (cuts_for (me_of j) (before r)) us →
+          ArePartsOf (cuts_for (me_of j) (if b then x ∷ before r else before r)) us
+      grown r true us h = parts_grow grows (me_of j) x (before r) us h
+      grown r false us h = h
 
   put_after : (before : Before) (m : ℕ) (x : Step) (i to : ℕ) (bytes : List ℕ) → IsPut (c.sealer i) (before i) to bytes →
       IsPut (c.sealer i) (with_step before m x i) to bytes
@@ -362,9 +441,9 @@ module _ (c : Cluster) (n : ℕ) (are : AreMembers c n) (front : FrontWasSealed)
       (record {
         puts = puts_after before m x went i.puts;
         parts = parts_after before m x i.parts
-            (set_each (λ (k : ℕ) (y : Heard). ArePartsOf (cuts_for m (before k)) y.unfinished) hs member
+            (set_each (λ (k : ℕ) (y : Heard). AreOf (handed_to before m) k y) hs member
             (record e { unfinished = due_after now e.unfinished }) (i.parts m)
-            (keeps (cuts_for m (before member)) e.unfinished now (i.parts m member)));
+            (keeps (cuts_for (me_of m) (before (run_of n member e.known.start))) e.unfinished now (i.parts m member)));
         few = few_after before m x named i.few;
         known = known_after before m x handed (λ j. i.known j m) i.known;
       }) more rest
@@ -374,10 +453,10 @@ module _ (c : Cluster) (n : ℕ) (are : AreMembers c n) (front : FrontWasSealed)
       carried xs (λ m. []) [] []
       (record {
         puts = λ bytes h. absurd (let l : h.0 < 0 = h.1 in omega (arith, l));
-        parts = λ j k. subst (λ (x : Heard). ArePartsOf [] x.unfinished) (sym (heard_nobody (c.sealer j).members k)) (All-nil _);
+        parts = λ j k. subst (λ (x : Heard). AreOf (handed_to (λ m. []) j) k x) (sym (heard_nobody (c.sealer j).members k)) (All-nil _);
         few = λ j k. omega arith;
         known = λ j k m h. absurd (let l : h.0 < 0 = h.1 in omega (arith, l));
       }) steps carry
 
 pub sealed_is_carried : FrontWasSealed → JoinedWasCut → ReportKeeps → LogGrows → SealedIsCarried
-sealed_is_carried front cut keeps grows c n xs are steps carry = all_carried c n are front cut keeps grows xs steps carry
+sealed_is_carried front cut keeps grows c n xs differ steps carry = all_carried c n differ front cut keeps grows xs steps carry

@@ -52,7 +52,8 @@ pub fn calls_are_steps()
     px_packet::piece_laws::cut_is_piece();
 }
 
-/// Members that open with a key what only members seal with it are given only what members handed over.
+/// Members that open with a key what only members seal with it are given only what members handed over, wherever they
+/// stop and start again.
 pub fn sealed_is_carried()
     ensures { SealedIsCarried }
 {

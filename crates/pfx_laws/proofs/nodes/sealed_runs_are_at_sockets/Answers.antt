@@ -1,5 +1,0 @@
-use Rattle.pfx_laws.proofs.Sealing as lemmas
-use Rattle.pfx_laws.proofs.nodes.sealed_runs_are_at_sockets.Goals as goal
-
-pub returns : goal.returns
-returns g c = lemmas.runs_are_at_sockets g.S.Socket g.row.C.Denot g.row.D.Denot c.calls_are_steps.ensures

@@ -1,0 +1,107 @@
+-- Members that stop and start again: what befalls each, run after run.
+use Rattle.std.specs.Prelude.{◌≡◌, ◌<◌, ℕ, List, [], ◌∷◌, ◌++◌, map, nat_eq, if◌then◌else◌}
+use Rattle.px_model.specs.Law.{Among, NoneTwice}
+use Rattle.px_model.specs.Node.{Record, Input, Entry}
+use Rattle.px_model.specs.Spelling.{Bytes}
+use Rattle.px_model.specs.World.{NodeState, nothing_stored, started}
+use Rattle.px_records.specs.declared.records.Records.{Ghosts}
+use Rattle.px_wire.specs.Message.{Group}
+use Rattle.px_replica.specs.Lives.{Deed}
+use Rattle.px_replica.specs.Lives.Deed.{Stops, Opens}
+use Rattle.node_loop.specs.Living.{LeavesThere}
+use Rattle.pf_eval.specs.Verdicts.{judgement}
+use Rattle.pf_eval.specs.declared.packet.Packet.{Packet}
+use Rattle.pf_node.specs.declared.state.Node.{Node}
+use Rattle.pf_node.specs.Nodes.{applied_of, config_of}
+use Rattle.pfx_laws.specs.Wires.{Stretch, deeds_in, stand}
+use Rattle.pfx_laws.specs.Carried.{Goes, HasLearned, StandsSo, asked_in}
+
+-- ---- runs
+
+-- what happens at a member: a run starts, with a key or none, or something goes over its wire or its socket in that run
+pub data RunEvent (K X : Type 0) : Type 0 where
+  Starts : (key : K) → RunEvent K X
+  During : (event : X) → RunEvent K X
+
+-- of what happens at members, each with its member, what is this member's
+abbrev pub events_at : {X : Type 0} → (member : ℕ) → List (ℕ × X) → List X
+events_at m [] = []
+events_at m (x ∷ xs) = if nat_eq m x.0 then x.1 ∷ events_at m xs else events_at m xs
+
+-- A run of a member: its key, if there is one; the record with which it is opened; what befalls it; how it stands in
+-- the end; and what came for the call that failed there, if one did, and after it.
+pub record Run (K : Type 0) : Type 0 where
+  pub key : K
+  pub first : Record Bytes
+  pub deeds : List Deed
+  pub end : NodeState Bytes
+  pub unanswered : List Bytes
+
+-- the runs of each member, in order
+abbrev pub Runs : (K : Type 0) → Type 0
+Runs K = (member : ℕ) → List (Run K)
+
+-- Runs of a member one after another, and what happens in them. The first is opened with such a record, and each next
+-- one with what a stop may have left of the member as it stood in the end of the one before.
+abbrev pub AreRuns : {K X : Type 0} → Group → (m : ℕ) → (Is : Run K → List X → Type 0) →
+    (IsLeft : Record Bytes → Type 0) → List (Run K) → List (RunEvent K X) → Type 0
+AreRuns g m Is IsLeft [] events = events ≡ []
+AreRuns {K} {X} g m Is IsLeft (r ∷ rs) events =
+    IsLeft r.first × (own : List X) × (later : List (RunEvent K X)) × Is r own ×
+    (events ≡ Starts r.key ∷ (map (λ x. During x) own ++ later)) ×
+    AreRuns g m Is (LeavesThere g m r.unanswered r.end) rs later
+
+-- the record of a new store
+abbrev pub IsEmpty : Record Bytes → Type 0
+IsEmpty d = d ≡ nothing_stored
+
+-- how a member stands after runs; before its first one it has a new store
+abbrev pub stands_after : {K : Type 0} → NodeState Bytes → List (Run K) → NodeState Bytes
+stands_after s [] = s
+stands_after s (r ∷ rs) = stands_after r.end rs
+
+abbrev pub stands : {K : Type 0} → Runs K → (m : ℕ) → NodeState Bytes
+stands runs m = stands_after (started nothing_stored) (runs m)
+
+-- what befell a member in runs behind another: before each one a stop, at some moment of a call, and the opening of
+-- what that left
+abbrev pub BefellThen : {K : Type 0} → List (Run K) → List Deed → Type 0
+BefellThen [] deeds = deeds ≡ []
+BefellThen (r ∷ rs) deeds =
+    (x : Input Bytes) × (later : List Deed) × (deeds ≡ Stops x r.first ∷ (Opens ∷ (r.deeds ++ later))) ×
+    BefellThen rs later
+
+-- and in all its runs
+abbrev pub Befell : {K : Type 0} → List (Run K) → List Deed → Type 0
+Befell [] deeds = deeds ≡ []
+Befell (r ∷ rs) deeds = (later : List Deed) × (deeds ≡ r.deeds ++ later) × BefellThen rs later
+
+-- ---- what is promised of them
+
+-- What befell the members went in these stretches, one after another, which leave each of them as it stands. So what is
+-- promised of stretches is promised of them.
+pub record InStretches {K : Type 0} (g : Group) (runs : Runs K) (stretches : List Stretch) : Type 0 where
+  pub goes : Goes g stretches
+  pub befell : (m : ℕ) → m < g.members → Befell (runs m) (deeds_in m stretches)
+  pub leaves : (m : ℕ) → m < g.members → stand stretches m ≡ stands runs m
+
+-- Of members that stand so, two never have different entries as learned at a position, nor one entry at two positions.
+abbrev pub NeverDiffer : Group → (stands : ℕ → NodeState Bytes) → Type 0
+NeverDiffer g stands =
+    (i j p q : ℕ) (e f : Entry Bytes) → i < g.members → j < g.members →
+    HasLearned (stands i) p e → HasLearned (stands j) q f → (p ≡ q → e ≡ f) × (e ≡ f → p ≡ q)
+
+-- What a member that stands so has as learned was asked of a member in these stretches and taken in, and nothing was
+-- taken in twice.
+abbrev pub LearnWhatWasAsked : Group → (stands : ℕ → NodeState Bytes) → List Stretch → Type 0
+LearnWhatWasAsked g stands stretches =
+    ((m p : ℕ) (e : Entry Bytes) → m < g.members → HasLearned (stands m) p e → Among (asked_in stretches) e) ×
+    NoneTwice (asked_in stretches)
+
+-- Two nodes that are members that stand so, and have applied equally many positions, have one configuration, and give
+-- every packet one verdict.
+abbrev pub EquallyApplied : {R Q : Type 0} → Ghosts R → Ghosts Q → Group → (stands : ℕ → NodeState Bytes) → Type 0
+EquallyApplied {R} {Q} G H g stands =
+    (i j : ℕ) (x : Node R G) (y : Node Q H) → i < g.members → j < g.members →
+    StandsSo x (stands i) → StandsSo y (stands j) → applied_of x ≡ applied_of y →
+    (config_of x ≡ config_of y) × ((p : Packet) → judgement (config_of x) p ≡ judgement (config_of y) p)
