@@ -78,16 +78,19 @@ answered {R} {G} c d counted request.Stop a left k =
     none_asked c d (ap (λ (h : RequestHandler R G). h.node) k.0) left
 
 -- requests one after another
-times_then : {R : Type 0} {G : Ghosts R} (m n : ℕ) (s t u : Replica R G) → AskedTimes m s t → AskedTimes n t u → AskedTimes (n + m) s u
-times_then {R} {G} m zero s t u a e = subst (λ (r : Replica R G). AskedTimes m s r) (sym e) a
-times_then m (suc n) s t u a (w, b, once) = (w, times_then m n s t w a b, once)
+times_then : {R : Type 0} {G : Ghosts R} (m n : ℕ) (s t u : Replica R G) → AskedTimes m s t → AskedTimes n t u →
+    (k : ℕ) × (k ≡ n + m) × AskedTimes k s u
+times_then {R} {G} m zero s t u a e = (m, omega arith, subst (λ (r : Replica R G). AskedTimes m s r) (sym e) a)
+times_then m (suc n) s t u a (w, b, once) =
+    let c = times_then m n s t w a b in
+    let is : c.0 ≡ n + m = c.1 in
+    (suc c.0, omega (arith, is), (w, c.2, once))
 
 pub within_then : {R : Type 0} {G : Ghosts R} (c d e : HttpService R G) → AsksWithin c d → AsksWithin d e → AsksWithin c e
-within_then c d e a b = record {
-  asked = b.asked + a.asked;
-  fits = omega (arith, a.fits, b.fits);
-  times = times_then a.asked b.asked (replica_of c.handler.node) (replica_of d.handler.node) (replica_of e.handler.node) a.times b.times;
-}
+within_then c d e a b =
+    let r = times_then a.asked b.asked (replica_of c.handler.node) (replica_of d.handler.node) (replica_of e.handler.node) a.times b.times in
+    let is : r.0 ≡ b.asked + a.asked = r.1 in
+    record { asked = r.0; fits = omega (arith, is, a.fits, b.fits); times = r.2 }
 
 -- from a round on
 pub up_to : {R : Type 0} {G : Ghosts R} (c d : HttpService R G) → AsksWithin c d → AsksUpTo c.changes_left c.handler.node d.handler.node

@@ -19,7 +19,7 @@ passed_over (Ok t) c d request r v is h = subst (λ x. HandledAs c d x r) (sym i
 
 -- what isn't served isn't found
 pub unserved : {R : Type 0} {G : Ghosts R} (c d : HttpService R G) (q : http.Request (List ℕ)) (r : Response) →
-    is_served c q ≡ false → IsTurnedAway c.handler d.handler not_found r → IsHandled c d q r
+    is_served c q ≡ false → IsTurnedAway c d not_found r → IsHandled c d q r
 unserved c d q r none turned = subst (λ b. HandledIf b c d (asked_for q) r) (sym none) turned
 
 -- what is served is handled as what it asks for

@@ -5,5 +5,5 @@ use Rattle.node_control.proofs.service.HttpService.handle_as.Goals as goal
 
 pub returns-in-Asked-clause-handled : goal.returns-in-Asked-clause-handled
 returns-in-Asked-clause-handled g c =
-    passed_over c.pass_on.result _ _ c.in-Asked.request _ (routed_value c.args.routed.now) (ap routed_value c.in-Asked.is)
+    passed_over c.pass_on.result c.args.self.now c.pass_on.new.self c.in-Asked.request _ (routed_value c.args.routed.now) (ap routed_value c.in-Asked.is)
     c.pass_on.ensures.passed
