@@ -11,6 +11,7 @@
 -- | `Lifting` | an order of what goes over a lower layer of all members is one of what goes over the layer above it: socket, packets, own datagrams, wire; starts of runs are on each of them |
 -- | `Networking` | a member's runs are acts, each at most one event at its wire: so the events in order are stretches; at a start what is left of the run before, a stop and an opening |
 -- | `Looping`, `Socketing`, `Sealing` | a layer each: what goes over it is carried, if what goes over the layer below is |
+-- | `Keeping` | what a member has as learned in the end of a run it has in the end of each later one |
 -- | `Numbering` | with a key, runs get numbers as they start, for the law of px_transport; no two of a member have one start |
 --
 -- - `Level` is a record: as an `abbrev` of a function its argument isn't found from the goal (`_` stays unsolved).
@@ -34,6 +35,7 @@ pub mod Carried
 pub mod Stretching
 pub mod Worked
 pub mod Members
+pub mod Keeping
 pub mod Networking
 pub mod Lifting
 pub mod Looping

@@ -29,7 +29,7 @@ use Rattle.node_loop.proofs.Lives.{lived_then}
 use Rattle.node_control.specs.Sockets.{Ran}
 use Rattle.pfx_laws.specs.Promised.{IsGroup}
 use Rattle.pfx_laws.specs.Wires.{Stretch, AreStretches, IsCarried, AreCarried, deeds_in, led_to}
-use Rattle.pfx_laws.specs.Members.{RunEvent, Starts, During, Run, AreRuns, IsEmpty, events_at, stands, stands_after, Befell, BefellThen, InStretches}
+use Rattle.pfx_laws.specs.Members.{RunEvent, Starts, During, Run, AreRuns, IsEmpty, events_at, stands, stands_after, IsTrace, IsLaterTrace, InStretches}
 use Rattle.pfx_laws.specs.Sockets.{WasHanded}
 use Rattle.pfx_laws.proofs.Carrying.{lived_to}
 use Rattle.pfx_laws.proofs.Lifting.{during, during_append, below_or}
@@ -583,7 +583,7 @@ module _ {K : Type 0} (g : Group) (m : ℕ) where
     happens : happen acts ≡ events
     sound : SoundAfter acts unanswered
     lived : Lived g m s (befall acts) (stands_after s runs)
-    befell : BefellThen runs (befall acts)
+    befell : IsLaterTrace runs (befall acts)
 
   later : (s : NodeState Bytes) (unanswered : List Bytes) (runs : List (Run K)) (events : List (RunEvent K WireEvent)) → s.is_up ≡ true →
       AreRuns g m (IsRun g m) (LeavesThere g m unanswered s) runs events → Later s unanswered runs events
@@ -614,7 +614,7 @@ module _ {K : Type 0} (g : Group) (m : ℕ) where
     pub happens : happen acts ≡ events
     pub sound : AreSound g m acts [] []
     pub lived : Lived g m (started nothing_stored) (befall acts) (stands_after (started nothing_stored) runs)
-    pub befell : Befell runs (befall acts)
+    pub befell : IsTrace runs (befall acts)
 
   acted : (runs : List (Run K)) (events : List (RunEvent K WireEvent)) → AreRuns g m (IsRun g m) IsEmpty runs events → Acted runs events
   acted [] events are = record { acts = []; happens = sym are; sound = tt; lived = refl; befell = refl }
@@ -655,10 +655,10 @@ module _ {K : Type 0} (g : Group) (network : List (ℕ × RunEvent K WireEvent))
   rest_at m (inr above) below = absurd (omega (arith, above, below))
 
   lived_at : (m : ℕ) (w : (m < g.members) ⊎ (g.members ≤ m)) → m < g.members → (ds : List Deed) → ds ≡ befall (plan_of m w).acts →
-      Lived g m (started nothing_stored) ds (stands runs m) × Befell (runs m) ds
+      Lived g m (started nothing_stored) ds (stands runs m) × IsTrace (runs m) ds
   lived_at m (inl b) below ds e = (
     subst (λ (xs : List Deed). Lived g m (started nothing_stored) xs (stands runs m)) (sym e) (acted_at m b).lived,
-    subst (λ (xs : List Deed). Befell (runs m) xs) (sym e) (acted_at m b).befell,
+    subst (λ (xs : List Deed). IsTrace (runs m) xs) (sym e) (acted_at m b).befell,
   )
   lived_at m (inr above) below ds e = absurd (omega (arith, above, below))
 

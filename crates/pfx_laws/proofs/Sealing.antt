@@ -22,16 +22,17 @@ use Rattle.px_transport.specs.Networks as networks
 use Rattle.px_transport.specs.Networks.{Cluster, StartsDiffer, Before, with_step, IsNamed, PacketsCarried, DatagramsCarried, SealedIsCarried}
 use Rattle.px_wire.specs.Message.{Group, DatagramBytes}
 use Rattle.node_udp.specs.Sockets.{Came, Went, Passage, Hears, Sends, Loses}
-use Rattle.pfx_laws.specs.Members.{RunEvent, Starts, During, Run, IsEmpty, events_at}
+use Rattle.pfx_laws.specs.Members.{RunEvent, Starts, During, Run, Runs, IsEmpty, events_at}
 use Rattle.px_records.specs.declared.records.Records.{Ghosts}
-use Rattle.pfx_laws.specs.Sealed.{Keyed, IsUnopened, Network, PacketsCarry, IsSealed, SealedSocketsGo, SealedSocketsNeverDiffer}
+use Rattle.pfx_laws.specs.Sealed.{Keyed, IsUnopened, Network, PacketsCarry, IsSealed, RanOver, SealedSocketsGo, SealedSocketsNeverDiffer}
 use Rattle.pfx_laws.specs.Sealed.{SealedSocketsLearnWhatWasAsked, EquallyAppliedAtSealedSockets}
-use Rattle.pfx_laws.proofs.Members.{never_differ, learn_what_was_asked, equally_applied}
+use Rattle.pfx_laws.proofs.Keeping.{ever_learned}
+use Rattle.pfx_laws.proofs.Members.{AllLearned, never_differ, learn_what_was_asked, equally_applied}
 use Rattle.pfx_laws.proofs.Lifting as lifting
 use Rattle.pfx_laws.proofs.Lifting.{AreBelow, during, tagged, each_first, each_rest}
 use Rattle.pfx_laws.proofs.Numbering.{starts_in, begun, begun_at, begun_below, starts_during, starts_of_runs, run_at, cluster_of, StartFrom, next, start_of, AreApart, apart, AreOwn, owners}
 use Rattle.pfx_laws.proofs.Networking.{Carries}
-use Rattle.pfx_laws.proofs.Looping.{IsAbove, no_message, loops_go}
+use Rattle.pfx_laws.proofs.Looping.{IsAbove, above_keeps, no_message, loops_go}
 use Rattle.pfx_laws.proofs.Socketing as socketing
 use Rattle.pfx_laws.proofs.Socketing.{AreFaithful, AllFaithful, faithful}
 
@@ -435,12 +436,18 @@ sockets_go carried g network runs r =
     own_starts m (Starts k ∷ es) = ap (λ (ks : List Keyed). k ∷ ks) (own_starts m es)
     own_starts m (During x ∷ es) = own_starts m es ∙ sym (starts_during (steps.above_of x) (lifting.run_highs low high m es))
 
+all_learned : (g : Group) (network : Network) (runs : Runs Keyed) → RanOver g network runs → AllLearned g runs
+all_learned g network runs r m p e below ever =
+    ever_learned g m (IsSealed g m) (λ t own q f is h. let ran = is.ran in above_keeps g m t _ q f ran.ran h) p e IsEmpty _ (runs m)
+    (events_at m network) (r.ran m below) ever
+
 pub sockets_never_differ : SealedIsCarried → SealedSocketsNeverDiffer
-sockets_never_differ carried g network runs r = let n = sockets_go carried g network runs r in never_differ g runs n.0 n.1
+sockets_never_differ carried g network runs r =
+    let n = sockets_go carried g network runs r in never_differ g runs n.0 n.1 (all_learned g network runs r)
 
 pub sockets_learn_what_was_asked : SealedIsCarried → SealedSocketsLearnWhatWasAsked
 sockets_learn_what_was_asked carried g network runs r =
-    let n = sockets_go carried g network runs r in (n.0, n.1, learn_what_was_asked g runs n.0 n.1)
+    let n = sockets_go carried g network runs r in (n.0, n.1, learn_what_was_asked g runs n.0 n.1 (all_learned g network runs r))
 
 pub equally_applied_at_sockets : {R Q : Type 0} (G : Ghosts R) (H : Ghosts Q) → SealedIsCarried → EquallyAppliedAtSealedSockets G H
-equally_applied_at_sockets G H carried g network runs r = let n = sockets_go carried g network runs r in equally_applied G H g runs n.0 n.1
+equally_applied_at_sockets G H carried g network runs r = equally_applied G H g runs (sockets_never_differ carried g network runs r)

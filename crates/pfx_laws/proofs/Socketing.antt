@@ -8,15 +8,16 @@ use Rattle.px_transport.specs.Wires.{WireEvent, Gave, Handed}
 use Rattle.px_wire.specs.Message.{Group, DatagramBytes}
 use Rattle.node_udp.specs.Sockets.{SocketEvent, Came, Went, Passage, Hears, Sends, Loses, IsSound, above_in, below_in}
 use Rattle.node_udp.specs.declared.address.Address.{Address}
-use Rattle.pfx_laws.specs.Members.{RunEvent, Starts, During, IsEmpty, events_at}
+use Rattle.pfx_laws.specs.Members.{RunEvent, Starts, During, Runs, IsEmpty, events_at}
 use Rattle.px_records.specs.declared.records.Records.{Ghosts}
-use Rattle.pfx_laws.specs.Sockets.{WasHanded, Network, SocketsCarry, IsRun, SocketsGo, SocketsNeverDiffer}
+use Rattle.pfx_laws.specs.Sockets.{WasHanded, Network, SocketsCarry, IsRun, RanOver, SocketsGo, SocketsNeverDiffer}
 use Rattle.pfx_laws.specs.Sockets.{SocketsLearnWhatWasAsked, EquallyAppliedAtSockets}
-use Rattle.pfx_laws.proofs.Members.{never_differ, learn_what_was_asked, equally_applied}
+use Rattle.pfx_laws.proofs.Keeping.{ever_learned}
+use Rattle.pfx_laws.proofs.Members.{AllLearned, never_differ, learn_what_was_asked, equally_applied}
 use Rattle.pfx_laws.proofs.Lifting as lifting
 use Rattle.pfx_laws.proofs.Lifting.{AreBelow, during, each_first, each_rest}
 use Rattle.pfx_laws.proofs.Networking.{Carries}
-use Rattle.pfx_laws.proofs.Looping.{IsAbove, carried_more, no_message, loops_go}
+use Rattle.pfx_laws.proofs.Looping.{IsAbove, above_keeps, carried_more, no_message, loops_go}
 
 -- over the socket
 abbrev pub low : Passage → Option SocketEvent
@@ -118,11 +119,17 @@ sockets_go g network runs r =
     (carries_above g u.above [] [] u.good (among_none []) u.within
     (subst (λ (net : Network). SocketsCarry g net []) (sym u.low_is) r.carry)) u.are
 
+all_learned : (g : Group) (network : Network) (runs : Runs (Unit {0})) → RanOver g network runs → AllLearned g runs
+all_learned g network runs r m p e below ever =
+    ever_learned g m (IsRun g m) (λ t own q f is h. above_keeps g m t _ q f is.ran h) p e IsEmpty _ (runs m) (events_at m network) (r.ran m below) ever
+
 pub sockets_never_differ : SocketsNeverDiffer
-sockets_never_differ g network runs r = let n = sockets_go g network runs r in never_differ g runs n.0 n.1
+sockets_never_differ g network runs r =
+    let n = sockets_go g network runs r in never_differ g runs n.0 n.1 (all_learned g network runs r)
 
 pub sockets_learn_what_was_asked : SocketsLearnWhatWasAsked
-sockets_learn_what_was_asked g network runs r = let n = sockets_go g network runs r in (n.0, n.1, learn_what_was_asked g runs n.0 n.1)
+sockets_learn_what_was_asked g network runs r =
+    let n = sockets_go g network runs r in (n.0, n.1, learn_what_was_asked g runs n.0 n.1 (all_learned g network runs r))
 
 pub equally_applied_at_sockets : {R Q : Type 0} (G : Ghosts R) (H : Ghosts Q) → EquallyAppliedAtSockets G H
-equally_applied_at_sockets G H g network runs r = let n = sockets_go g network runs r in equally_applied G H g runs n.0 n.1
+equally_applied_at_sockets G H g network runs r = equally_applied G H g runs (sockets_never_differ g network runs r)

@@ -18,7 +18,7 @@ use Rattle.px_records.specs.declared.records.Records.{Ghosts}
 use Rattle.px_wire.specs.declared.membership.Membership.{Membership}
 use Rattle.node_control.specs.Sockets.{RanAt, RunsAt, RunsSealed, IsNamed}
 use Rattle.pfx_laws.specs.Wires.{AreCarried}
-use Rattle.pfx_laws.specs.Members.{Starts, During, Run, AreRuns, IsEmpty, Befell}
+use Rattle.pfx_laws.specs.Members.{Starts, During, Run, AreRuns, IsEmpty, IsTrace}
 use Rattle.pfx_laws.specs.Sockets.{SocketsCarry, IsRun}
 use Rattle.pfx_laws.specs.Sealed.{Keyed, IsUnopened, PacketsCarry, IsSealed}
 
@@ -166,7 +166,7 @@ store_goes_on G m given back next end events later a b empty left = (
 )
 
 -- what befell it
-pub befell_it : Befell (idle nothing_stored ∷ idle nothing_stored ∷ []) (Stops Ticks nothing_stored ∷ Opens ∷ [])
+pub befell_it : IsTrace (idle nothing_stored ∷ idle nothing_stored ∷ []) (Stops Ticks nothing_stored ∷ Opens ∷ [])
 befell_it = (Stops Ticks nothing_stored ∷ Opens ∷ [], refl, (Ticks, [], refl, refl))
 
 -- ---- with a key

@@ -63,18 +63,18 @@ stands_after s (r ∷ rs) = stands_after r.end rs
 abbrev pub stands : {K : Type 0} → Runs K → (m : ℕ) → NodeState Bytes
 stands runs m = stands_after (started nothing_stored) (runs m)
 
--- what befell a member in runs behind another: before each one a stop, at some moment of a call, and the opening of
--- what that left
-abbrev pub BefellThen : {K : Type 0} → List (Run K) → List Deed → Type 0
-BefellThen [] deeds = deeds ≡ []
-BefellThen (r ∷ rs) deeds =
+-- a member's trace in runs behind another one: before each a stop, at some moment of a call, and the opening of what
+-- that left
+abbrev pub IsLaterTrace : {K : Type 0} → List (Run K) → List Deed → Type 0
+IsLaterTrace [] deeds = deeds ≡ []
+IsLaterTrace (r ∷ rs) deeds =
     (x : Input Bytes) × (later : List Deed) × (deeds ≡ Stops x r.first ∷ (Opens ∷ (r.deeds ++ later))) ×
-    BefellThen rs later
+    IsLaterTrace rs later
 
--- and in all its runs
-abbrev pub Befell : {K : Type 0} → List (Run K) → List Deed → Type 0
-Befell [] deeds = deeds ≡ []
-Befell (r ∷ rs) deeds = (later : List Deed) × (deeds ≡ r.deeds ++ later) × BefellThen rs later
+-- a member's trace in all its runs
+abbrev pub IsTrace : {K : Type 0} → List (Run K) → List Deed → Type 0
+IsTrace [] deeds = deeds ≡ []
+IsTrace (r ∷ rs) deeds = (later : List Deed) × (deeds ≡ r.deeds ++ later) × IsLaterTrace rs later
 
 -- ---- what is promised of them
 
@@ -82,26 +82,34 @@ Befell (r ∷ rs) deeds = (later : List Deed) × (deeds ≡ r.deeds ++ later) ×
 -- promised of stretches is promised of them.
 pub record InStretches {K : Type 0} (g : Group) (runs : Runs K) (stretches : List Stretch) : Type 0 where
   pub goes : Goes g stretches
-  pub befell : (m : ℕ) → m < g.members → Befell (runs m) (deeds_in m stretches)
+  pub befell : (m : ℕ) → m < g.members → IsTrace (runs m) (deeds_in m stretches)
   pub leaves : (m : ℕ) → m < g.members → stand stretches m ≡ stands runs m
 
--- Of members that stand so, two never have different entries as learned at a position, nor one entry at two positions.
-abbrev pub NeverDiffer : Group → (stands : ℕ → NodeState Bytes) → Type 0
-NeverDiffer g stands =
-    (i j p q : ℕ) (e f : Entry Bytes) → i < g.members → j < g.members →
-    HasLearned (stands i) p e → HasLearned (stands j) q f → (p ≡ q → e ≡ f) × (e ≡ f → p ≡ q)
+-- in the end of one of its runs a member had the entry as learned
+abbrev pub EverLearned : {K : Type 0} → List (Run K) → (position : ℕ) → Entry Bytes → Type 0
+EverLearned {K} rs p e = (r : Run K) × Among rs r × HasLearned r.end p e
 
--- What a member that stands so has as learned was asked of a member in these stretches and taken in, and nothing was
--- taken in twice.
-abbrev pub LearnWhatWasAsked : Group → (stands : ℕ → NodeState Bytes) → List Stretch → Type 0
-LearnWhatWasAsked g stands stretches =
-    ((m p : ℕ) (e : Entry Bytes) → m < g.members → HasLearned (stands m) p e → Among (asked_in stretches) e) ×
+-- No two members ever had different entries as learned at a position, nor one entry at two positions.
+abbrev pub NeverDiffer : {K : Type 0} → Group → Runs K → Type 0
+NeverDiffer g runs =
+    (i j p q : ℕ) (e f : Entry Bytes) → i < g.members → j < g.members →
+    EverLearned (runs i) p e → EverLearned (runs j) q f → (p ≡ q → e ≡ f) × (e ≡ f → p ≡ q)
+
+-- What a member ever had as learned was asked of a member in these stretches and taken in, and nothing was taken in
+-- twice.
+abbrev pub LearnWhatWasAsked : {K : Type 0} → Group → Runs K → List Stretch → Type 0
+LearnWhatWasAsked g runs stretches =
+    ((m p : ℕ) (e : Entry Bytes) → m < g.members → EverLearned (runs m) p e → Among (asked_in stretches) e) ×
     NoneTwice (asked_in stretches)
 
--- Two nodes that are members that stand so, and have applied equally many positions, have one configuration, and give
--- every packet one verdict.
-abbrev pub EquallyApplied : {R Q : Type 0} → Ghosts R → Ghosts Q → Group → (stands : ℕ → NodeState Bytes) → Type 0
-EquallyApplied {R} {Q} G H g stands =
+-- the node is a member as that stood in the end of one of its runs
+abbrev pub EverStood : {K R : Type 0} {G : Ghosts R} → Node R G → List (Run K) → Type 0
+EverStood {K} {R} {G} x rs = (r : Run K) × Among rs r × StandsSo x r.end
+
+-- Two nodes that are members, and have applied equally many positions, have one configuration, and give every packet
+-- one verdict.
+abbrev pub EquallyApplied : {R Q K : Type 0} → Ghosts R → Ghosts Q → Group → Runs K → Type 0
+EquallyApplied {R} {Q} {K} G H g runs =
     (i j : ℕ) (x : Node R G) (y : Node Q H) → i < g.members → j < g.members →
-    StandsSo x (stands i) → StandsSo y (stands j) → applied_of x ≡ applied_of y →
+    EverStood x (runs i) → EverStood y (runs j) → applied_of x ≡ applied_of y →
     (config_of x ≡ config_of y) × ((p : Packet) → judgement (config_of x) p ≡ judgement (config_of y) p)

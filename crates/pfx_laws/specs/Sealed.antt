@@ -12,7 +12,7 @@ use Rattle.node_udp.specs.Sockets.{SocketEvent, Came, Went}
 use Rattle.node_control.specs.Sockets.{RanSealed, IsNamed}
 use Rattle.pfx_laws.specs.Promised.{IsGroup}
 use Rattle.pfx_laws.specs.Wires.{Stretch}
-use Rattle.pfx_laws.specs.Members.{RunEvent, Starts, During, Run, Runs, AreRuns, IsEmpty, events_at, stands}
+use Rattle.pfx_laws.specs.Members.{RunEvent, Starts, During, Run, Runs, AreRuns, IsEmpty, events_at}
 use Rattle.pfx_laws.specs.Members.{InStretches, NeverDiffer, LearnWhatWasAsked, EquallyApplied}
 
 -- a run's key: the keys with which it opens packets, and who seals its own, with its start
@@ -62,15 +62,15 @@ SealedSocketsGo =
 -- they never differ
 abbrev pub SealedSocketsNeverDiffer : Type 0
 SealedSocketsNeverDiffer =
-    (g : Group) (network : Network) (runs : Runs Keyed) → RanOver g network runs → NeverDiffer g (stands runs)
+    (g : Group) (network : Network) (runs : Runs Keyed) → RanOver g network runs → NeverDiffer g runs
 
 -- they learn what was asked, in the stretches in which they went
 abbrev pub SealedSocketsLearnWhatWasAsked : Type 0
 SealedSocketsLearnWhatWasAsked =
     (g : Group) (network : Network) (runs : Runs Keyed) → RanOver g network runs →
-    (stretches : List Stretch) × InStretches g runs stretches × LearnWhatWasAsked g (stands runs) stretches
+    (stretches : List Stretch) × InStretches g runs stretches × LearnWhatWasAsked g runs stretches
 
 -- where they have applied equally many positions, they have one configuration
 abbrev pub EquallyAppliedAtSealedSockets : {R Q : Type 0} → Ghosts R → Ghosts Q → Type 0
 EquallyAppliedAtSealedSockets {R} {Q} G H =
-    (g : Group) (network : Network) (runs : Runs Keyed) → RanOver g network runs → EquallyApplied G H g (stands runs)
+    (g : Group) (network : Network) (runs : Runs Keyed) → RanOver g network runs → EquallyApplied G H g runs

@@ -9,7 +9,7 @@ use Rattle.node_udp.specs.Sockets.{SocketEvent, Came, Went}
 use Rattle.node_control.specs.Sockets.{RanAt}
 use Rattle.pfx_laws.specs.Promised.{IsGroup}
 use Rattle.pfx_laws.specs.Wires.{Stretch}
-use Rattle.pfx_laws.specs.Members.{RunEvent, Starts, During, Run, Runs, AreRuns, IsEmpty, events_at, stands}
+use Rattle.pfx_laws.specs.Members.{RunEvent, Starts, During, Run, Runs, AreRuns, IsEmpty, events_at}
 use Rattle.pfx_laws.specs.Members.{InStretches, NeverDiffer, LearnWhatWasAsked, EquallyApplied}
 
 -- The datagram was handed to some member's socket before, at any time and however often it comes. Or it is no member's
@@ -50,16 +50,16 @@ SocketsGo =
 -- they never differ
 abbrev pub SocketsNeverDiffer : Type 0
 SocketsNeverDiffer =
-    (g : Group) (network : Network) (runs : Runs (Unit {0})) → RanOver g network runs → NeverDiffer g (stands runs)
+    (g : Group) (network : Network) (runs : Runs (Unit {0})) → RanOver g network runs → NeverDiffer g runs
 
 -- they learn what was asked, in the stretches in which they went
 abbrev pub SocketsLearnWhatWasAsked : Type 0
 SocketsLearnWhatWasAsked =
     (g : Group) (network : Network) (runs : Runs (Unit {0})) → RanOver g network runs →
-    (stretches : List Stretch) × InStretches g runs stretches × LearnWhatWasAsked g (stands runs) stretches
+    (stretches : List Stretch) × InStretches g runs stretches × LearnWhatWasAsked g runs stretches
 
 -- where they have applied equally many positions, they have one configuration
 abbrev pub EquallyAppliedAtSockets : {R Q : Type 0} → Ghosts R → Ghosts Q → Type 0
 EquallyAppliedAtSockets {R} {Q} G H =
     (g : Group) (network : Network) (runs : Runs (Unit {0})) → RanOver g network runs →
-    EquallyApplied G H g (stands runs)
+    EquallyApplied G H g runs

@@ -95,13 +95,13 @@ pub fn lives_go<R: Records>()
 /// Members that run one after another over sockets, each run over what a stop may have left of the one before, and to
 /// whose sockets no datagram comes but those that some member's socket was handed before, and asks from outside: what
 /// befell them went in stretches, and these laws hold of them as they stand in the end. What a run is at its socket,
-/// `node_control::run_member` has in its contract.
+/// node_control says (`specs/Sockets`).
 pub fn sockets_go()
     ensures { SocketsGo }
 {}
 
-/// So over such sockets two members never have different entries as learned at a position, nor one entry at two
-/// positions, wherever they stop and start again.
+/// So over such sockets no two members ever have different entries as learned at a position, nor one entry at two
+/// positions, in the end of whichever of their runs.
 pub fn sockets_never_differ()
     ensures { SocketsNeverDiffer }
 {}
@@ -112,8 +112,8 @@ pub fn sockets_learn_what_was_asked()
     ensures { SocketsLearnWhatWasAsked }
 {}
 
-/// Over such sockets two nodes, over whatever records, that have applied equally many positions have one configuration,
-/// and so give one verdict for every packet.
+/// Over such sockets two nodes, over whatever records, that have applied equally many positions, in the end of
+/// whichever of their runs, have one configuration, and so give one verdict for every packet.
 pub fn equally_applied_at_sockets<R: Records, Q: Records>()
     ensures { EquallyAppliedAtSockets R.Records Q.Records }
 {}
@@ -127,8 +127,8 @@ pub fn sealed_sockets_go()
     px_transport::laws::sealed_is_carried();
 }
 
-/// So with a key two members never have different entries as learned at a position, nor one entry at two positions,
-/// wherever they stop and start again.
+/// So with a key no two members ever have different entries as learned at a position, nor one entry at two positions,
+/// in the end of whichever of their runs.
 pub fn sealed_sockets_never_differ()
     ensures { SealedSocketsNeverDiffer }
 {
@@ -142,8 +142,8 @@ pub fn sealed_sockets_learn_what_was_asked()
     px_transport::laws::sealed_is_carried();
 }
 
-/// With a key two nodes, over whatever records, that have applied equally many positions have one configuration, and so
-/// give one verdict for every packet.
+/// With a key two nodes, over whatever records, that have applied equally many positions, in the end of whichever of
+/// their runs, have one configuration, and so give one verdict for every packet.
 pub fn equally_applied_at_sealed_sockets<R: Records, Q: Records>()
     ensures { EquallyAppliedAtSealedSockets R.Records Q.Records }
 {
