@@ -54,7 +54,7 @@ pub record RanAt (g : Group) (m : ℕ) (first : Record Bytes) (events : List Soc
   pub below_is : events ≡ sockets.below_in passages
   pub ran : RanAbove g m first (sockets.above_in passages) deeds end unanswered
 
--- The same with a key, over a wire of packets that are opened with these keys and sealed so: these went over the socket.
+-- The same with a key, over a wire of packets that are opened with these keys and sealed so: this went over the socket.
 pub record RanSealed (g : Group) (keys : List (List ℕ)) (s : Sealer) (m : ℕ) (first : Record Bytes)
     (events : List SocketEvent) (deeds : List Deed) (end : NodeState Bytes) (unanswered : List Bytes) : Type 0 where
   pub addresses : List Address
