@@ -11,10 +11,10 @@ refused_so (Ok w) outcome is h = absurd (cc)
 refused_so (Err o) outcome is (inl e) = inl (cc)
 refused_so (Err o) outcome is (inr e) = inr (cc)
 
+ok_is : {W : Type 0} (v w : W) → ◌≡◌ {A = Result W Outcome} (Ok v) (Ok w) → v ≡ w
+ok_is v w e = cc
+
 -- what holds of the wire that is there
 pub wire_is : {W : Type 0} (holds : W → Type 0) (wire : Result W Outcome) (w : W) → wire ≡ Ok w → IfOk wire holds → holds w
-wire_is holds (Ok v) w is h = subst holds (some_ok v w is) h
-  where
-    some_ok : (v w : W) → Ok {E = Outcome} v ≡ Ok w → v ≡ w
-    some_ok v w e = cc
+wire_is holds (Ok v) w is h = subst holds (ok_is v w is) h
 wire_is holds (Err o) w is h = absurd (cc)

@@ -92,6 +92,11 @@ within_then c d e a b =
     let is : r.0 ≡ b.asked + a.asked = r.1 in
     record { asked = r.0; fits = omega (arith, is, a.fits, b.fits); times = r.2 }
 
+-- where what is counted aside was noted before
+pub from_here : {R : Type 0} {G : Ghosts R} (c d e : HttpService R G) → d.handler ≡ c.handler → d.changes_left ≡ c.changes_left →
+    AsksWithin d e → AsksWithin c e
+from_here c d e same left w = within_then c d e (turned c d same left) w
+
 -- from a round on
 pub up_to : {R : Type 0} {G : Ghosts R} (c d : HttpService R G) → AsksWithin c d → AsksUpTo c.changes_left c.handler.node d.handler.node
 up_to c d a = (a.asked, omega (arith, a.fits), a.times)

@@ -1,5 +1,5 @@
 -- A member's run at its socket: what befell it, and what went over the socket meanwhile.
-use Rattle.std.specs.Prelude.{◌≡◌, ◌≤◌, ◌^◌, ℕ, Bool, true, List, [], ◌++◌, length}
+use Rattle.std.specs.Prelude.{◌≡◌, ℕ, Bool, true, List, [], ◌++◌}
 use Rattle.std.specs.List.{AllByRecursion}
 use Rattle.px_model.specs.Node.{Record}
 use Rattle.px_model.specs.Spelling.{Bytes}
@@ -54,7 +54,7 @@ pub record RanAt (g : Group) (m : ℕ) (first : Record Bytes) (events : List Soc
   pub below_is : events ≡ sockets.below_in passages
   pub ran : RanAbove g m first (sockets.above_in passages) deeds end unanswered
 
--- The same with a key, over a wire of packets that are opened with these keys and sealed so: these went over the socket.
+-- The same with a key, over a wire of packets that are opened with these keys and sealed so: this went over the socket.
 pub record RanSealed (g : Group) (keys : List (List ℕ)) (s : Sealer) (m : ℕ) (first : Record Bytes)
     (events : List SocketEvent) (deeds : List Deed) (end : NodeState Bytes) (unanswered : List Bytes) : Type 0 where
   pub addresses : List Address
@@ -66,12 +66,6 @@ pub record RanSealed (g : Group) (keys : List (List ℕ)) (s : Sealer) (m : ℕ)
   pub packets_are : steps.below_in made ≡ sockets.above_in passages
   pub are : AreSteps keys s made []
   pub ran : RanAbove g m first (steps.above_in made) deeds end unanswered
-
--- the datagrams that a run was handed have names of four bytes
-abbrev pub IsNamed : {g : Group} {keys : List (List ℕ)} {s : Sealer} {m : ℕ} {first : Record Bytes}
-    {events : List SocketEvent} {deeds : List Deed} {end : NodeState Bytes} {unanswered : List Bytes} →
-    RanSealed g keys s m first events deeds end unanswered → Type 0
-IsNamed r = length (handed_in (steps.above_in r.made)) ≤ 2 ^ 32
 
 -- How the member's record stands after what befell it: so, unless a call on it failed; and whatever a stop leaves of it
 -- is that, or that with the change of one step more.

@@ -18,11 +18,6 @@ abbrev pub IfWaits : Action → Type 0 → Type 0
 IfWaits actions.Tick holds = Unit {0}
 IfWaits (actions.Wait milliseconds) holds = holds
 
--- a wait is 1 to 100 milliseconds long
-abbrev pub IsShort : Action → Type 0
-IsShort actions.Tick = Unit {0}
-IsShort (actions.Wait milliseconds) = (1 ≤ milliseconds) × (milliseconds ≤ 100)
-
 -- the front when it was looked at last
 abbrev pub front_of : TickTimer → ℕ
 front_of p = p.front

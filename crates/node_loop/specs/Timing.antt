@@ -1,6 +1,7 @@
 -- What a node's timer is told in a round: the time, how the node is, and what was seen of others, all as the datagrams
 -- that were taken left them. So one that is nobody's changes nothing of it.
-use Rattle.std.specs.Prelude.{◌≡◌, ◌≤◌, ℕ, suc, ◌*◌, ◌==◌, ◌&&◌, Bool, true, false, not, List, [], ◌∷◌, ◌++◌, is_some, length}
+use Rattle.std.specs.Prelude.{◌≡◌, ◌≤◌, ℕ, suc, ◌*◌, ◌==◌, ◌&&◌, Bool, true, false, not, List, [], ◌∷◌, ◌++◌}
+use Rattle.std.specs.Prelude.{is_some, length}
 use Rattle.px_model.specs.Step.{front}
 use Rattle.px_records.specs.declared.records.Records.{Ghosts}
 use Rattle.px_transport.specs.Wires.{Adds}
@@ -9,7 +10,14 @@ use Rattle.px_replica.specs.declared.state.Replica.{Replica}
 use Rattle.node_loop.specs.Progress.{SawAll, looked}
 use Rattle.node_loop.specs.Turns.{Stand}
 use Rattle.node_loop.specs.declared.peer_progress.PeerProgress.{PeerProgress}
+use Rattle.node_loop.specs.declared.timer.Action.{Action}
+use Rattle.node_loop.specs.declared.timer.Action.TheVariants as actions
 use Rattle.node_loop.specs.declared.timer.View.{View}
+
+-- a wait is 1 to 100 milliseconds long
+abbrev pub IsShort : Action → Type 0
+IsShort actions.Tick = Unit {0}
+IsShort (actions.Wait milliseconds) = (1 ≤ milliseconds) × (milliseconds ≤ 100)
 
 -- what a timer is told
 pub data Told : Type 0 where
@@ -67,6 +75,6 @@ looks_in (Told.Ends ∷ ts) = looks_in ts
 abbrev pub LooksTimes : (n : ℕ) → (before after : List Told → Type 0) → Type 0
 LooksTimes n before after = (more : List Told) × (looks_in more ≡ n) × Adds before after more
 
--- In each round it is told once what is seen, and a round is at most 65 turns: so the given number of turns was made.
+-- In each round it is told once what is seen, and a round is at most 65 turns: so a round at least was made for each 65.
 abbrev pub MakesTurns : (turns : ℕ) → (before after : List Told → Type 0) → Type 0
 MakesTurns turns before after = (n : ℕ) × (turns ≤ 65 * n) × LooksTimes n before after

@@ -1,7 +1,8 @@
 //! When a node's clock ticks.
 
 ghost use Rattle.std.specs.Prelude.{◌≡◌, ◌≤◌, ◌<◌, ◌+◌, ◌/◌, false, max};
-ghost use Rattle.node_loop.specs.Pacing.{AreTimes, IfTicks, IfWaits, IsShort, answer_of, front_of, hold_of, later};
+ghost use Rattle.node_loop.specs.Pacing.{AreTimes, IfTicks, IfWaits, answer_of, front_of, hold_of, later};
+ghost use Rattle.node_loop.specs.Timing.{IsShort};
 ghost use Rattle.node_loop.specs.Pacing.{latest_of, moved_of, patience_of, rest_of, ticked_of};
 
 use crate::tick_timer::TickTimer;
@@ -452,7 +453,7 @@ impl Timer for TickTimer {
     fn action(&mut self, now: u64, view: View) -> Action
         // The clock ticks in time, whatever is seen.
         ensures latest { IfWaits result (now < latest_of self.new) }
-        ensures wait { IsShort result }
+        ensures short { IsShort result }
         // No hold is set more than 4 s ahead, and nothing is proposed before it is over.
         ensures hold { hold_of self.new ≤ max (hold_of self.old) (now + LONGEST) }
         ensures held { IfTicks result (0 < view.waiting → view.is_attempting ≡ false → hold_of self.new ≤ now) }

@@ -7,7 +7,7 @@ ghost use Rattle.node_loop.specs.Again.{HandsAgain};
 ghost use Rattle.node_loop.specs.Resends.{kept_of, requests_of};
 ghost use Rattle.pf_node.specs.Nodes.{applied_of, replica_of};
 ghost use Rattle.node_loop.specs.Progress.{looked, seen_in};
-ghost use Rattle.node_loop.specs.Timing.{LooksTimes, SawThenLooked, looks, view_of};
+ghost use Rattle.node_loop.specs.Timing.{IsShort, LooksTimes, SawThenLooked, looks, view_of};
 ghost use Rattle.node_loop.specs.Turns.{Served, TickedIf, TookThenTicked, standing};
 
 use crate::pacing::microseconds;
@@ -69,6 +69,7 @@ fn tick_if<R: Records, W: Wire>(
         TickedIf is_due (standing node.old es room.old) (standing node.new es' room.new))) }
     ensures few { IfOk result (λ made. made.turns ≤ taken + 1) }
     ensures unseen { seen_in room.new ≡ seen_in room.old }
+    ensures wait { IsShort action → IfOk result (λ p. p.wait ≤ 100) }
     ensures grows { applied_of node.old ≤ applied_of node.new }
     ensures same { W.identity wire.new ≡ W.identity wire.old }
 {
@@ -95,6 +96,7 @@ fn tick_if<R: Records, W: Wire>(
 fn action<T: Timer>(timer: &mut T, peer_progress: &mut PeerProgress, now: u64, view: View) -> Action
     ensures looked { peer_progress.new ≡ looked peer_progress.old }
     ensures told { Adds (T.told timer.old) (T.told timer.new) (looks now view peer_progress.old) }
+    ensures short { IsShort result }
 {
     let action = timer.action(now, view);
     if peer_progress.is_accepting {
@@ -207,6 +209,7 @@ pub fn round<R: Records, W: Wire, T: Timer>(
         (standing node.old es room.old) (seen_in room.old) (seen_in room.new) (T.told timer.old) (T.told timer.new)) }
     ensures few { IfOk result (λ made. made.turns ≤ 65) }
     ensures looks { OnOk result (LooksTimes 1 (T.told timer.old) (T.told timer.new)) }
+    ensures wait { IfOk result (λ p. p.wait ≤ 100) }
     ensures grows { applied_of node.old ≤ applied_of node.new }
     ensures same { W.identity wire.new ≡ W.identity wire.old }
 {

@@ -2,7 +2,7 @@
 
 ghost use Rattle.std.specs.Prelude.{ℕ, List, [], ◌∷◌};
 ghost use Rattle.px_transport.specs.Wires.{Adds};
-ghost use Rattle.node_loop.specs.Timing.{Told};
+ghost use Rattle.node_loop.specs.Timing.{IsShort, Told};
 ghost use Rattle.node_loop.specs.Timing.Told.{Looks, Sends, Repeats, Ends};
 
 /// What is seen of a node when it is to be decided whether its clock ticks.
@@ -39,7 +39,8 @@ pub trait Timer {
 
     /// What the node does next, at this time, where this is seen of it.
     fn action(&mut self, now: u64, view: View) -> Action
-        ensures told { Adds (told self.old) (told self.new) (Looks now view ∷ []) };
+        ensures told { Adds (told self.old) (told self.new) (Looks now view ∷ []) }
+        ensures short { IsShort result };
 
     /// Votes for what another proposes were sent, which may be lost.
     fn sent(&mut self, now: u64)

@@ -17,9 +17,9 @@ use Rattle.px_transport.specs.Wires.{WireEvent, Gave, Handed, handed_in}
 use Rattle.px_transport.specs.Sending.{Sealer}
 use Rattle.px_transport.specs.Wiring.{opened, opened_as}
 use Rattle.px_transport.specs.Steps as steps
-use Rattle.px_transport.specs.Steps.{Step, AreSteps, IsStep, cuts_for}
+use Rattle.px_transport.specs.Steps.{Step, AreSteps, IsStep}
 use Rattle.px_transport.specs.Networks as networks
-use Rattle.px_transport.specs.Networks.{Cluster, StartsDiffer, Before, with_step, IsNamed, PacketsCarried, DatagramsCarried, SealedIsCarried}
+use Rattle.px_transport.specs.Networks.{Cluster, StartsDiffer, Before, with_step, PacketsCarried, DatagramsCarried, SealedIsCarried}
 use Rattle.px_wire.specs.Message.{Group, DatagramBytes}
 use Rattle.node_udp.specs.Sockets.{Came, Went, Passage, Hears, Sends, Loses}
 use Rattle.pfx_laws.specs.Members.{RunEvent, Starts, During, Run, Runs, IsEmpty, events_at}
@@ -139,44 +139,6 @@ highs_are : (m : ℕ) (xs : List Step) → steps.above_in xs ≡ lifting.highs h
 highs_are m [] = refl
 highs_are m (x ∷ xs) = ap (λ (es : List WireEvent). steps.above_of x ++ es) (highs_are m xs)
 
--- ---- names
-
-abbrev AreNamed : List Step → List Step → Type 0
-AreNamed [] before = Unit {0}
-AreNamed (x ∷ xs) before = IsNamed before x × AreNamed xs (x ∷ before)
-
--- how many datagrams were handed over
-abbrev taken : List Step → ℕ
-taken [] = 0
-taken (steps.Hears came given memory now ∷ before) = taken before
-taken (steps.Puts to bytes ∷ before) = taken before
-taken (steps.Takes to m is_cut ∷ before) = taken before + 1
-taken (steps.Reports member now ∷ before) = taken before
-
-few_cuts : (to : ℕ) (before : List Step) → length (cuts_for to before) ≤ taken before
-few_cuts to [] = omega arith
-few_cuts to (steps.Hears came given memory now ∷ before) = few_cuts to before
-few_cuts to (steps.Puts k bytes ∷ before) = few_cuts to before
-few_cuts to (steps.Takes k m is_cut ∷ before) = at (few_cuts to before) (is_cut && (k == to))
-  where
-    at : length (cuts_for to before) ≤ taken before → (b : Bool) →
-        length (if b then cuts_for to before ++ m ∷ [] else cuts_for to before) ≤ taken before + 1
-    at le true = omega (arith, le, length-append (cuts_for to before) (m ∷ []))
-    at le false = omega (arith, le)
-few_cuts to (steps.Reports member now ∷ before) = few_cuts to before
-
-are_named : (xs before : List Step) → taken before + length (handed_in (steps.above_in xs)) ≤ 2 ^ 32 → AreNamed xs before
-are_named [] before le = tt
-are_named (steps.Hears came given memory now ∷ xs) before le = (tt, are_named xs (steps.Hears came given memory now ∷ before) le)
-are_named (steps.Puts to bytes ∷ xs) before le = (tt, are_named xs (steps.Puts to bytes ∷ before) le)
-are_named (steps.Takes to m is_cut ∷ xs) before le =
-    let more = length (handed_in (steps.above_in xs)) in
-    let all : taken before + suc more ≤ 2 ^ 32 = le in (
-      omega (arith, all, few_cuts to before),
-      are_named xs (steps.Takes to m is_cut ∷ before) (omega (arith, all)),
-    )
-are_named (steps.Reports member now ∷ xs) before le = (tt, are_named xs (steps.Reports member now ∷ before) le)
-
 -- ---- what a member does over its wire of packets, run after run
 
 -- The member is in this run, if in any, and these steps were made in it, the latest first.
@@ -184,7 +146,7 @@ abbrev StepsGo : (m : ℕ) → List (RunEvent Keyed Step) → (run : Option Keye
 StepsGo m [] run before = Unit {0}
 StepsGo m (Starts k ∷ xs) run before = (k.sealer.me ≡ m) × StepsGo m xs (Some k) []
 StepsGo m (During x ∷ xs) None before = ⊥
-StepsGo m (During x ∷ xs) (Some k) before = IsStep k.keys k.sealer before x × IsNamed before x × StepsGo m xs (Some k) (x ∷ before)
+StepsGo m (During x ∷ xs) (Some k) before = IsStep k.keys k.sealer before x × StepsGo m xs (Some k) (x ∷ before)
 
 same_state : (m : ℕ) (xs : List (RunEvent Keyed Step)) (run run' : Option Keyed) (before before' : List Step) → run ≡ run' → before ≡ before' →
     StepsGo m xs run before → StepsGo m xs run' before'
@@ -198,30 +160,27 @@ before_none m (Starts k ∷ xs) run before before' s = s
 before_none m (During x ∷ xs) run before before' s = absurd s
 
 steps_then : (m : ℕ) (k : Keyed) (xs : List Step) (later : List (RunEvent Keyed Step)) (before : List Step) → AreSteps k.keys k.sealer xs before →
-    AreNamed xs before → StepsGo m later None [] → StepsGo m (during xs ++ later) (Some k) before
-steps_then m k [] later before are named s = before_none m later (Some k) [] before s
-steps_then m k (x ∷ xs) later before are named s = (are.0, named.0, steps_then m k xs later (x ∷ before) are.1 named.1 s)
+    StepsGo m later None [] → StepsGo m (during xs ++ later) (Some k) before
+steps_then m k [] later before are s = before_none m later (Some k) [] before s
+steps_then m k (x ∷ xs) later before are s = (are.0, steps_then m k xs later (x ∷ before) are.1 s)
 
 -- the packets of a run
 record IsPackets (g : Group) (m : ℕ) (r : Run Keyed) (events : List WireEvent) : Type 0 where
   made : List Step
   packets_are : steps.below_in made ≡ events
   are : AreSteps r.key.keys r.key.sealer made []
-  named : AreNamed made []
   me : r.key.sealer.me ≡ m
   ran : IsAbove g m r (steps.above_in made)
 
 raises_packets : (g : Group) (m : ℕ) → lifting.Raises {K = Keyed} socketing.low socketing.high m (IsSealed g m) (IsPackets g m) AreFaithful
 raises_packets g m r own sealed =
-    let ran = sealed.ran in
-    let few = sealed.named in (
+    let ran = sealed.ran in (
       ran.passages,
       ran.below_is ∙ sym (socketing.lowers_are ran.passages),
       record {
         made = ran.made;
         packets_are = ran.packets_are ∙ socketing.highs_are m ran.passages;
         are = ran.are;
-        named = are_named ran.made [] (omega (arith, few));
         me = sealed.me;
         ran = ran.ran;
       },
@@ -233,14 +192,14 @@ raises g m r own packets = (
   packets.made,
   sym packets.packets_are ∙ sym (lowers_are packets.made),
   subst (λ (es : List WireEvent). IsAbove g m r es) (highs_are m packets.made) packets.ran,
-  λ later good. (packets.me, steps_then m r.key packets.made later [] packets.are packets.named good),
+  λ later good. (packets.me, steps_then m r.key packets.made later [] packets.are good),
 )
 
 steps_own : (m : ℕ) (xs : List (RunEvent Keyed Step)) (run : Option Keyed) (before : List Step) → StepsGo m xs run before → AreOwn m xs
 steps_own m [] run before s = tt
 steps_own m (Starts k ∷ xs) run before s = (s.0, steps_own m xs (Some k) [] s.1)
 steps_own m (During x ∷ xs) None before s = absurd s
-steps_own m (During x ∷ xs) (Some k) before s = steps_own m xs (Some k) (x ∷ before) s.2
+steps_own m (During x ∷ xs) (Some k) before s = steps_own m xs (Some k) (x ∷ before) s.1
 
 -- ---- steps by runs
 
@@ -368,7 +327,7 @@ by_runs bs n ((m, During x) ∷ xs) run now k before handed nums from below go f
               (sym e ∙ ap run (sym is.1))
               (sym (cond-true (nat_eq (now m) (now m)) (x ∷ before (now m)) (before (now m)) (eq-eqb (now m) (now m) refl))
               ∙ ap (λ (i : ℕ). with_step before (now m) x (now i)) (sym is.1))
-              (subst (λ (i : ℕ). StepsGo i (events_at i xs) (Some s) (x ∷ before (now m))) (sym is.1) own.2)
+              (subst (λ (i : ℕ). StepsGo i (events_at i xs) (Some s) (x ∷ before (now m))) (sym is.1) own.1)
           | inr other ↦ unchanged j s (run j) e refl other.1
               (subst (λ (es : List (RunEvent Keyed Step)). StepsGo j es (run j) (before (now j)))
               (cond-false (nat_eq j m) (During x ∷ events_at j xs) (events_at j xs) other.0) (go j l))
@@ -377,7 +336,7 @@ by_runs bs n ((m, During x) ∷ xs) run now k before handed nums from below go f
           | inl is ↦ absurd (let same = is.1 in let l = num.0 in omega (arith, same, l, le))
           | inr other ↦ cond-false (nat_eq r (now m)) (x ∷ before r) (before r) other.0 ∙ fresh r le
         ]) in (
-          (is, own.1, later.0),
+          (is, later.0),
           carried_first bs (now m) m s x (numbered now k xs) handed num.1 num.2
               (subst (λ (o : Option Keyed). MayCome o handed x) e (go_first n run m x xs handed packets).0) later.1,
         )

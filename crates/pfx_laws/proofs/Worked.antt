@@ -16,7 +16,7 @@ use Rattle.px_transport.specs.Sending.{Sealer}
 use Rattle.px_transport.specs.Wiring.{opened}
 use Rattle.px_records.specs.declared.records.Records.{Ghosts}
 use Rattle.px_wire.specs.declared.membership.Membership.{Membership}
-use Rattle.node_control.specs.Sockets.{RanAt, RunsAt, RunsSealed, IsNamed}
+use Rattle.node_control.specs.Sockets.{RanAt, RunsAt, RunsSealed}
 use Rattle.pfx_laws.specs.Wires.{AreCarried}
 use Rattle.pfx_laws.specs.Members.{Starts, During, Run, AreRuns, IsEmpty, IsTrace}
 use Rattle.pfx_laws.specs.Sockets.{SocketsCarry, IsRun}
@@ -194,15 +194,15 @@ sealed_run_of {R} {G} {m} {keys} {s} {given} {back} {events} a =
     record { key = record { keys = keys; sealer = s }; first = G.stored given; deeds = a.deeds; end = a.end; unanswered = a.unanswered }
 
 pub sealed_store_goes_on : {R : Type 0} (G : Ghosts R) (m : Membership) (k l : Keyed) (given back next end : R) (events later : List SocketEvent)
-    (a : RunsSealed G m k.keys k.sealer given back events) (b : RunsSealed G m l.keys l.sealer next end later) → IsNamed a.ran → IsNamed b.ran →
+    (a : RunsSealed G m k.keys k.sealer given back events) (b : RunsSealed G m l.keys l.sealer next end later) →
     k.sealer.me ≡ m.me → l.sealer.me ≡ m.me → G.stored given ≡ nothing_stored → G.may_leave back (G.stored next) →
     AreRuns (group m) m.me (IsSealed (group m) m.me) IsEmpty (sealed_run_of a ∷ sealed_run_of b ∷ [])
     (Starts k ∷ (map (λ x. During x) events ++ (Starts l ∷ (map (λ x. During x) later ++ []))))
-sealed_store_goes_on G m k l given back next end events later a b named also mine too empty left = (
+sealed_store_goes_on G m k l given back next end events later a b mine too empty left = (
   empty,
   events,
   Starts l ∷ (map (λ x. During x) later ++ []),
-  record { ran = a.ran; named = named; me = mine },
+  record { ran = a.ran; me = mine },
   refl,
-  (a.leaves.stop (G.stored next) left, later, [], record { ran = b.ran; named = also; me = too }, refl, refl),
+  (a.leaves.stop (G.stored next) left, later, [], record { ran = b.ran; me = too }, refl, refl),
 )

@@ -9,7 +9,7 @@ use Rattle.px_packet.specs.Headers.{start_bytes}
 use Rattle.px_transport.specs.Sending.{Sealer}
 use Rattle.px_transport.specs.Wiring.{opened}
 use Rattle.node_udp.specs.Sockets.{SocketEvent, Came, Went}
-use Rattle.node_control.specs.Sockets.{RanSealed, IsNamed}
+use Rattle.node_control.specs.Sockets.{RanSealed}
 use Rattle.pfx_laws.specs.Promised.{IsGroup}
 use Rattle.pfx_laws.specs.Wires.{Stretch}
 use Rattle.pfx_laws.specs.Members.{RunEvent, Starts, During, Run, Runs, AreRuns, IsEmpty, events_at}
@@ -38,11 +38,9 @@ PacketsCarry n run ((m, During (Came from bytes)) ∷ xs) handed =
     (m < n) × (Among handed bytes ⊎ IsUnopened (run m) bytes) × PacketsCarry n run xs handed
 PacketsCarry n run ((m, During (Went to bytes)) ∷ xs) handed = (m < n) × PacketsCarry n run xs (handed ++ bytes ∷ [])
 
--- A run of the member with a key, over a socket over which this went: it seals as this member, and is handed at most
--- 2^32 datagrams, since their names have four bytes.
+-- a run of the member with a key, over a socket over which this went: it seals as this member
 pub record IsSealed (g : Group) (m : ℕ) (r : Run Keyed) (events : List SocketEvent) : Type 0 where
   pub ran : RanSealed g r.key.keys r.key.sealer m r.first events r.deeds r.end r.unanswered
-  pub named : IsNamed ran
   pub me : r.key.sealer.me ≡ m
 
 -- These are the members' runs over such sockets, each over its own, the first of each over a new store. No two runs of

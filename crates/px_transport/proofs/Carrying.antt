@@ -24,8 +24,8 @@ use Rattle.px_transport.specs.Receiving.{Heard, Given, Whole, Joined, Held, Noth
 use Rattle.px_transport.specs.Sending.{Sealer, header_of}
 use Rattle.px_transport.specs.Wiring.{opened, opened_as, given_of, heard_with, datagram_of}
 use Rattle.px_transport.specs.Laws.{Traffic, IsBodyOf, WasHandedOver}
-use Rattle.px_transport.specs.Steps.{Step, Hears, Puts, Takes, Reports, wholes_for, cuts_for, heard_in, handed_for, IsPut}
-use Rattle.px_transport.specs.Networks.{Cluster, StartsDiffer, Network, Before, with_step, IsNamed, AreSteps, PacketsCarried, DatagramsCarried, SealedIsCarried}
+use Rattle.px_transport.specs.Steps.{Step, Hears, Puts, Takes, Reports, wholes_for, cuts_for, heard_in, handed_for, IsPut, IsStep}
+use Rattle.px_transport.specs.Networks.{Cluster, StartsDiffer, Network, Before, with_step, AreSteps, PacketsCarried, DatagramsCarried, SealedIsCarried}
 use Rattle.px_transport.proofs.Handed.{AreOf, packet_keeps}
 use Rattle.px_transport.proofs.Members.{heard_nobody, set_each}
 
@@ -357,12 +357,12 @@ module _ (c : Cluster) (n : ℕ) (differ : StartsDiffer c n) (front : FrontWasSe
   puts_after before m x went puts bytes h =
       let p = puts bytes h in (p.0, p.1, p.2, put_after before m x p.0 p.2 bytes p.3)
 
-  few_after : (before : Before) (m : ℕ) (x : Step) → IsNamed (before m) x → ((j k : ℕ) → length (cuts_for j (before k)) ≤ 2 ^ 32) →
+  few_after : (before : Before) (m : ℕ) (x : Step) → IsStep (c.keys m) (c.sealer m) (before m) x → ((j k : ℕ) → length (cuts_for j (before k)) ≤ 2 ^ 32) →
       (j k : ℕ) → length (cuts_for j (with_step before m x k)) ≤ 2 ^ 32
-  few_after before m x named few j =
-      each (λ (k : ℕ) (b : List Step). length (cuts_for j b) ≤ 2 ^ 32) before m x (few j) (size_at x named)
+  few_after before m x is few j =
+      each (λ (k : ℕ) (b : List Step). length (cuts_for j b) ≤ 2 ^ 32) before m x (few j) (size_at x is)
     where
-      size_at : (x : Step) → IsNamed (before m) x → length (cuts_for j (x ∷ before m)) ≤ 2 ^ 32
+      size_at : (x : Step) → IsStep (c.keys m) (c.sealer m) (before m) x → length (cuts_for j (x ∷ before m)) ≤ 2 ^ 32
       size_at (Hears came given memory now) h = few j m
       size_at (Puts to bytes) h = few j m
       size_at (Takes to d false) h = few j m
@@ -370,7 +370,7 @@ module _ (c : Cluster) (n : ℕ) (differ : StartsDiffer c n) (front : FrontWasSe
         where
           at : (b : Bool) → (to == j) ≡ b → length (if b then cuts_for j (before m) ++ d ∷ [] else cuts_for j (before m)) ≤ 2 ^ 32
           at true e =
-              let less : length (cuts_for j (before m)) < 2 ^ 32 = subst (λ (k : ℕ). length (cuts_for k (before m)) < 2 ^ 32) (eqb-true to j e) h in
+              let less : length (cuts_for j (before m)) < 2 ^ 32 = subst (λ (k : ℕ). length (cuts_for k (before m)) < 2 ^ 32) (eqb-true to j e) (h refl) in
               omega (arith, less, length-append (cuts_for j (before m)) (d ∷ []))
           at false e = few j m
       size_at (Reports member now) h = few j m
@@ -387,7 +387,7 @@ module _ (c : Cluster) (n : ℕ) (differ : StartsDiffer c n) (front : FrontWasSe
   carried : (xs : Network) (before : Before) (went handed : List (List ℕ)) → Holds before went handed → AreSteps c xs before →
       PacketsCarried c n xs went → DatagramsCarried xs handed
   carried [] before went handed i steps carry = tt
-  carried ((m, Hears came given memory now) ∷ xs) before went handed i (is, named, more) (below, whence, rest) =
+  carried ((m, Hears came given memory now) ∷ xs) before went handed i (is, more) (below, whence, rest) =
       let x = Hears came given memory now in
       let r = comes before went handed i m below came memory now whence (opened (c.keys m) (c.sealer m) came) refl in (
         elim is [ inl none ↦ inr none | inr all ↦ subst (IsKnown handed) (sym all) r.0 ],
@@ -395,11 +395,11 @@ module _ (c : Cluster) (n : ℕ) (differ : StartsDiffer c n) (front : FrontWasSe
             (record {
               puts = puts_after before m x went i.puts;
               parts = parts_after before m x i.parts r.1;
-              few = few_after before m x named i.few;
+              few = few_after before m x is i.few;
               known = known_after before m x handed (λ j. i.known j m) i.known;
             }) more rest,
       )
-  carried ((m, Puts to bytes) ∷ xs) before went handed i (is, named, more) (below, rest) =
+  carried ((m, Puts to bytes) ∷ xs) before went handed i (is, more) (below, rest) =
       let x = Puts to bytes in
       carried xs (with_step before m x) (went ++ bytes ∷ []) handed
       (record {
@@ -408,20 +408,20 @@ module _ (c : Cluster) (n : ℕ) (differ : StartsDiffer c n) (front : FrontWasSe
           | inr new ↦ (m, below, to, subst (IsPut (c.sealer m) (before m) to) (only bytes b new) is)
         ]);
         parts = parts_after before m x i.parts (i.parts m);
-        few = few_after before m x named i.few;
+        few = few_after before m x is i.few;
         known = known_after before m x handed (λ j. i.known j m) i.known;
       }) more rest
     where
       only : (a b : List ℕ) → Contains (a ∷ []) b → a ≡ b
       only a b (zero, l, e) = e
       only a b (suc k, l, e) = absurd (omega (arith, l))
-  carried ((m, Takes to d is_cut) ∷ xs) before went handed i (is, named, more) (below, rest) =
+  carried ((m, Takes to d is_cut) ∷ xs) before went handed i (is, more) (below, rest) =
       let x = Takes to d is_cut in
       carried xs (with_step before m x) went (handed ++ d ∷ [])
       (record {
         puts = puts_after before m x went i.puts;
         parts = parts_after before m x i.parts (i.parts m);
-        few = few_after before m x named i.few;
+        few = few_after before m x is i.few;
         known = known_after before m x (handed ++ d ∷ []) (λ j e h. new j e (to == j) h)
             (λ j k e h. Contains-append_left handed (d ∷ []) e (i.known j k e h));
       }) more rest
@@ -433,7 +433,7 @@ module _ (c : Cluster) (n : ℕ) (differ : StartsDiffer c n) (front : FrontWasSe
         | inr last ↦ Contains-append_right handed (d ∷ []) e last
       ]
       new j e false h = Contains-append_left handed (d ∷ []) e (i.known j m e h)
-  carried ((m, Reports member now) ∷ xs) before went handed i (is, named, more) (below, rest) =
+  carried ((m, Reports member now) ∷ xs) before went handed i (is, more) (below, rest) =
       let x = Reports member now in
       let hs = heard_at m (before m) in
       let e = of_member hs member in
@@ -444,7 +444,7 @@ module _ (c : Cluster) (n : ℕ) (differ : StartsDiffer c n) (front : FrontWasSe
             (set_each (λ (k : ℕ) (y : Heard). AreOf (handed_to before m) k y) hs member
             (record e { unfinished = due_after now e.unfinished }) (i.parts m)
             (keeps (cuts_for (me_of m) (before (run_of n member e.known.start))) e.unfinished now (i.parts m member)));
-        few = few_after before m x named i.few;
+        few = few_after before m x is i.few;
         known = known_after before m x handed (λ j. i.known j m) i.known;
       }) more rest
 

@@ -210,22 +210,22 @@ pub upto_nothing : (s : Sealer) (b : Bool) (ps : List Unsealed) (es : List WireE
     (IsTrue b → ps ≡ []) → SendsUpTo s b ps (λ more. es ≡ es ++ more) os os
 upto_nothing s b ps es os e = ([], ps, refl, e, (sym (append-nil es), refl))
 
-sent_at : (s : Sealer) (r : Bool) (ps : List Unsealed) (h h' : Handed) (os os1 os' : List ToMember)
+sent_at : (N : Type 0) (s : Sealer) (r : Bool) (ps : List Unsealed) (h h' : Handed) (os os1 os' : List ToMember)
     (es : List WireEvent) → h es →
-    ((r ≡ false) × IsQuiet h h' × (os' ≡ os)) ⊎ SendsUpTo s r ps (Adds h h') os1 os' →
+    ((r ≡ false) × IsQuiet h h' × (os' ≡ os)) ⊎ (N × SendsUpTo s r ps (Adds h h') os1 os') →
     (es' : List WireEvent) × h' es' ×
-    (((r ≡ false) × (es' ≡ es) × (os' ≡ os)) ⊎ SendsUpTo s r ps (λ more. es' ≡ es ++ more) os1 os')
-sent_at s r ps h h' os os1 os' es t (inl q) = (es, q.1 es t, inl (q.0, refl, q.2))
-sent_at s r ps h h' os os1 os' es t (inr u) =
-    let x = upto_at s r ps h h' os1 os' es t u in (x.0, x.1, inr x.2)
+    (((r ≡ false) × (es' ≡ es) × (os' ≡ os)) ⊎ (N × SendsUpTo s r ps (λ more. es' ≡ es ++ more) os1 os'))
+sent_at N s r ps h h' os os1 os' es t (inl q) = (es, q.1 es t, inl (q.0, refl, q.2))
+sent_at N s r ps h h' os os1 os' es t (inr (named, u)) =
+    let x = upto_at s r ps h h' os1 os' es t u in (x.0, x.1, inr (named, x.2))
 
 -- a datagram is sent, or can't be
-pub sent_with : (s : Sealer) (can r : Bool) (ps : List Unsealed) (h h' : Handed) (os os1 os' : List ToMember)
+pub sent_with : (N : Type 0) (s : Sealer) (can r : Bool) (ps : List Unsealed) (h h' : Handed) (os os1 os' : List ToMember)
     (es : List WireEvent) → h es → (can ≡ false → (r ≡ false) × IsQuiet h h' × (os' ≡ os)) →
-    ((r ≡ false) × IsQuiet h h' × (os' ≡ os)) ⊎ SendsUpTo s r ps (Adds h h') os1 os' →
+    ((r ≡ false) × IsQuiet h h' × (os' ≡ os)) ⊎ (N × SendsUpTo s r ps (Adds h h') os1 os') →
     (es' : List WireEvent) × h' es' × (can ≡ false → (es' ≡ es) × (os' ≡ os)) ×
-    (((r ≡ false) × (es' ≡ es) × (os' ≡ os)) ⊎ SendsUpTo s r ps (λ more. es' ≡ es ++ more) os1 os')
-sent_with s true r ps h h' os os1 os' es t size sends =
-    let x = sent_at s r ps h h' os os1 os' es t sends in (x.0, x.1, (λ f. absurd cc), x.2)
-sent_with s false r ps h h' os os1 os' es t size sends =
+    (((r ≡ false) × (es' ≡ es) × (os' ≡ os)) ⊎ (N × SendsUpTo s r ps (λ more. es' ≡ es ++ more) os1 os'))
+sent_with N s true r ps h h' os os1 os' es t size sends =
+    let x = sent_at N s r ps h h' os os1 os' es t sends in (x.0, x.1, (λ f. absurd cc), x.2)
+sent_with N s false r ps h h' os os1 os' es t size sends =
     let q = size refl in (es, q.1 es t, (λ f. (refl, q.2)), inl (q.0, refl, q.2))

@@ -1,6 +1,6 @@
 -- The calls of a wire of packets, step by step.
-use Rattle.std.proofs.Common.{◌≡◌, ◌≢◌, ◌∙◌, ◌⊎◌, ℕ, zero, suc, ◌+◌, ◌-◌, ◌*◌, ◌<◌, ◌≤◌, Bool, true, false, List, [], ◌∷◌, ◌++◌, length, map, take, ap, sym, subst, refl, arith, inl, inr, Option, Some, None}
-use Rattle.std.specs.Prelude.{◌==◌, not, nat_lt, nat_le, if◌then◌else◌, replicate, option_map, slice_get, slice_set}
+use Rattle.std.proofs.Common.{◌≡◌, ◌≢◌, ◌∙◌, ◌⊎◌, ℕ, zero, suc, ◌+◌, ◌-◌, ◌*◌, ◌<◌, ◌≤◌, ◌^◌, Bool, true, false, List, [], ◌∷◌, ◌++◌, length, map, take, ap, sym, subst, refl, arith, inl, inr, Option, Some, None}
+use Rattle.std.specs.Prelude.{◌==◌, not, nat_lt, nat_le, if◌then◌else◌, replicate, option_map, slice_get, slice_index_or, slice_set}
 use Rattle.std.specs.List.{All, Contains, position_or_len}
 use Rattle.std.proofs.lemmas.Bool.{eq-eqb, eqb-true, eqb-false, ltb-true, leb-true, and_parts}
 use Rattle.std.proofs.lemmas.List.{append-nil, append_assoc, length-set, length-replicate}
@@ -10,7 +10,7 @@ use Rattle.px_packet.specs.declared.held.PiecesHeld.{PiecesHeld}
 use Rattle.px_packet.specs.Held.{has_bit}
 use Rattle.px_packet.specs.Reassembling.{due_held}
 use Rattle.px_packet.specs.Pieces.{count_of, piece_of}
-use Rattle.px_packet.specs.Sending.{Sent, CanBeCut, is_kept, name_of, sent_after, cut_with, latest}
+use Rattle.px_packet.specs.Sending.{Sent, CanBeCut, is_kept, name_of, place_of, sent_after, cut_with, latest}
 use Rattle.px_packet.specs.PieceLaws.{Keeps, NamedOnce, CutIsPiece, log_after}
 use Rattle.px_transport.specs.Wires.{WireEvent, Gave, Handed, hands, gives, within}
 use Rattle.px_transport.specs.Receiving.{Heard, Memory, reported_of, of_member}
@@ -346,7 +346,7 @@ module _ (keys : List (List ℕ)) (s : Sealer) (named_once : NamedOnce) (is_piec
   takes_whole t os hs es to m a =
       record {
         before = Takes to m false ∷ a.before;
-        are = (tt, a.are);
+        are = ((λ e. absurd cc), a.are);
         below_is = append-nil (below_then a.before) ∙ a.below_is;
         above_is = ap (λ (x : List WireEvent). x ++ Handed to m ∷ []) a.above_is;
         heard_is = a.heard_is;
@@ -359,12 +359,13 @@ module _ (keys : List (List ℕ)) (s : Sealer) (named_once : NamedOnce) (is_piec
   named_at os to m = slice_set os to (named m (to_member os to))
 
   takes_cut : (t : List WireEvent) (os : List ToMember) (hs : List Heard) (es : List WireEvent) (to : ℕ) (m : List ℕ) → CanBeCut m →
-      to < length os → is_kept (sent_of os to) m ≡ false → At t os hs es → At t (named_at os to m) hs (es ++ Handed to m ∷ [])
-  takes_cut t os hs es to m can inside new a =
+      to < length os → is_kept (sent_of os to) m ≡ false → (sent_of os to).count < 2 ^ 32 → At t os hs es →
+      At t (named_at os to m) hs (es ++ Handed to m ∷ [])
+  takes_cut t os hs es to m can inside new left a =
       let o = named m (to_member os to) in
       record {
         before = Takes to m true ∷ a.before;
-        are = (tt, a.are);
+        are = ((λ e. subst (λ (n : ℕ). n < 2 ^ 32) (a.logs to).count_is left), a.are);
         below_is = append-nil (below_then a.before) ∙ a.below_is;
         above_is = ap (λ (x : List WireEvent). x ++ Handed to m ∷ []) a.above_is;
         heard_is = a.heard_is;
@@ -405,11 +406,11 @@ module _ (keys : List (List ℕ)) (s : Sealer) (named_once : NamedOnce) (is_piec
       record { some = ltb-true 0 (length m) both.0; short = leb-true (length m) 33640 both.1 }
 
   sends_cut : (r : Bool) (t t' : List WireEvent) (os os' : List ToMember) (hs : List Heard) (es : List WireEvent) (to : ℕ) (echo : Start)
-      (m : List ℕ) → CanBeCut m → to < length os → At t os hs es →
+      (m : List ℕ) → CanBeCut m → to < length os → name_of (sent_of os to) m < 2 ^ 32 → At t os hs es →
       SendsUpTo s r (burst os to (pieces to echo (record { name = name_of (sent_of os to) m; bits = 0 }) m)) (λ more. t' ≡ t ++ more)
       (named_at os to m) os' → At t' os' hs (es ++ Handed to m ∷ [])
   unfolding takes_cut
-  sends_cut r t t' os os' hs es to echo m can inside a sends = at (is_kept (sent_of os to) m) refl
+  sends_cut r t t' os os' hs es to echo m can inside left a sends = at (is_kept (sent_of os to) m) refl
     where
       held : PiecesHeld
       held = record { name = name_of (sent_of os to) m; bits = 0 }
@@ -438,7 +439,10 @@ module _ (keys : List (List ℕ)) (s : Sealer) (named_once : NamedOnce) (is_piec
           go b (subst (λ (l : List (List ℕ)). slice_get l held.name ≡ Some m)
           (ap (λ (b : Bool). if b then cuts_for to a.before else cuts_for to a.before ++ m ∷ []) e) there)
       at false e =
-          let b = takes_cut t os hs es to m can inside e a in
+          let l : (sent_of os to).count < 2 ^ 32 =
+          subst (λ (c : Bool). (if c then (slice_index_or (sent_of os to).cuts (place_of (sent_of os to).cuts m) (0, [])).0
+          else (sent_of os to).count) < 2 ^ 32) e left in
+          let b = takes_cut t os hs es to m can inside e l a in
           go b (subst (λ (c : Bool). slice_get (if c then cuts_for to a.before ++ m ∷ [] else cuts_for to a.before) held.name ≡ Some m)
           (sym (eq-eqb to to refl)) (subst (λ (l : List (List ℕ)). slice_get l held.name ≡ Some m)
           (ap (λ (b : Bool). if b then cuts_for to a.before else cuts_for to a.before ++ m ∷ []) e) there))
@@ -460,16 +464,17 @@ module _ (keys : List (List ℕ)) (s : Sealer) (named_once : NamedOnce) (is_piec
           (subst (λ (x : List ToMember). At k.traffic x k.heard (es ++ Handed to m ∷ [])) (sym o)
           (takes_whole k.traffic os1 k.heard es to m b))
 
-      short : (c : Bool) → CanBeCut m → to < length os1 →
+      short : (c : Bool) → CanBeCut m → to < length os1 → (c ≡ false → name_of (sent_of os1 to) m < 2 ^ 32) →
           SendsUpTo s sent (if c then whole to (start_of k.heard to) m ∷ []
           else burst os1 to (pieces to (start_of k.heard to) (record { name = name_of (sent_of os1 to) m; bits = 0 }) m))
           (λ more. k'.traffic ≡ k.traffic ++ more) (if c then os1 else named_at os1 to m) k'.outgoing →
           At k'.traffic k'.outgoing k.heard (es ++ Handed to m ∷ [])
-      short true can inside up =
+      short true can inside left up =
           let w = takes_whole k.traffic os1 k.heard es to m b in
           puts_upto sent (whole to (start_of k.heard to) m ∷ []) k.traffic k'.traffic os1 k'.outgoing k.heard (es ++ Handed to m ∷ []) w
           (whole_there to m b.before, tt) up
-      short false can inside up = sends_cut sent k.traffic k'.traffic os1 k'.outgoing k.heard es to (start_of k.heard to) m can inside b up
+      short false can inside left up =
+          sends_cut sent k.traffic k'.traffic os1 k'.outgoing k.heard es to (start_of k.heard to) m can inside (left refl) b up
 
       at : (c : Bool) → can_send s to m ≡ c → At k'.traffic k'.outgoing k.heard (es ++ Handed to m ∷ [])
       at false e = let n = is.cannot e in nothing n.0 n.1
@@ -479,7 +484,7 @@ module _ (keys : List (List ℕ)) (s : Sealer) (named_once : NamedOnce) (is_piec
           let c = b.count in
           elim is.sends [
             | inl none ↦ nothing none.1 none.2
-            | inr up ↦ short (is_short m) (can_is m both.1) (omega (arith, l, c)) up
+            | inr up ↦ short (is_short m) (can_is m both.1) (omega (arith, l, c)) up.0 up.1
           ]
 
   -- ---- calls

@@ -1,10 +1,10 @@
 -- Wires of packets of the members of a cluster that stop and start again, step by step.
-use Rattle.std.specs.Prelude.{◌≡◌, ◌⊎◌, ◌<◌, ◌^◌, ℕ, ◌==◌, List, [], ◌∷◌, ◌++◌, length, None, if◌then◌else◌}
+use Rattle.std.specs.Prelude.{◌≡◌, ◌⊎◌, ◌<◌, ℕ, ◌==◌, List, [], ◌∷◌, ◌++◌, None, if◌then◌else◌}
 use Rattle.std.specs.List.{Contains}
 use Rattle.px_packet.specs.Headers.{start_bytes}
 use Rattle.px_transport.specs.Sending.{Sealer}
 use Rattle.px_transport.specs.Wiring.{opened}
-use Rattle.px_transport.specs.Steps.{Step, Hears, Puts, Takes, Reports, cuts_for, IsStep}
+use Rattle.px_transport.specs.Steps.{Step, Hears, Puts, Takes, Reports, IsStep}
 
 -- Runs of members, each from one of its starts on: the keys with which it opens packets, and who seals its own.
 pub record Cluster : Type 0 where
@@ -29,18 +29,11 @@ Before = ℕ → List Step
 abbrev pub with_step : Before → (run : ℕ) → Step → Before
 with_step before r x k = if k == r then x ∷ before k else before k
 
--- a datagram that is cut for a member has a name of four bytes: fewer than 2^32 were cut for it before
-abbrev pub IsNamed : List Step → Step → Type 0
-IsNamed before (Hears came given memory now) = Unit {0}
-IsNamed before (Puts to bytes) = Unit {0}
-IsNamed before (Takes to m is_cut) = length (cuts_for to before) < 2 ^ 32
-IsNamed before (Reports member now) = Unit {0}
-
 -- each is a step of its run, behind those before it
 abbrev pub AreSteps : Cluster → Network → Before → Type 0
 AreSteps c [] before = Unit {0}
 AreSteps c ((r, x) ∷ xs) before =
-    IsStep (c.keys r) (c.sealer r) (before r) x × IsNamed (before r) x × AreSteps c xs (with_step before r x)
+    IsStep (c.keys r) (c.sealer r) (before r) x × AreSteps c xs (with_step before r x)
 
 -- Each packet that comes in a run went over some member's wire before, in any run; or it isn't opened with this run's
 -- keys. These went already.

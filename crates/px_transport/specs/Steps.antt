@@ -1,5 +1,5 @@
 -- What goes over a wire of packets, step by step: a step is at most one event over the wire below, and at most one here.
-use Rattle.std.specs.Prelude.{◌≡◌, ◌⊎◌, ℕ, ◌==◌, ◌&&◌, Bool, List, [], ◌∷◌, ◌++◌, if◌then◌else◌}
+use Rattle.std.specs.Prelude.{◌≡◌, ◌⊎◌, ◌<◌, ◌^◌, ℕ, ◌==◌, ◌&&◌, Bool, true, List, [], ◌∷◌, ◌++◌, length, if◌then◌else◌}
 use Rattle.px_transport.specs.Wires.{WireEvent, Gave, Handed}
 use Rattle.px_transport.specs.Receiving.{Heard, Memory, reported_of}
 use Rattle.px_transport.specs.Sending.{Sealer, Unsealed, packet}
@@ -84,10 +84,14 @@ IsHeard keys s before came given memory now =
     (given ≡ []) ⊎
     (given ≡ datagram_of (given_of s.start memory (heard_in keys s before) (opened keys s came) now))
 
+-- a datagram that is cut for a member has a name of four bytes: fewer than 2^32 were cut for it before
+abbrev pub IsNamed : (before : List Step) → (to : ℕ) → (is_cut : Bool) → Type 0
+IsNamed before to is_cut = is_cut ≡ true → length (cuts_for to before) < 2 ^ 32
+
 abbrev pub IsStep : (keys : List (List ℕ)) → Sealer → (before : List Step) → Step → Type 0
 IsStep keys s before (Hears came given memory now) = IsHeard keys s before came given memory now
 IsStep keys s before (Puts to bytes) = IsPut s before to bytes
-IsStep keys s before (Takes to m is_cut) = Unit {0}
+IsStep keys s before (Takes to m is_cut) = IsNamed before to is_cut
 IsStep keys s before (Reports member now) = Unit {0}
 
 -- steps one after another, behind those before them, of which the latest comes first

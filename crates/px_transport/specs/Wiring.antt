@@ -20,7 +20,7 @@ use Rattle.px_transport.specs.declared.packet_wire.PacketWire.{PacketWire}
 use Rattle.px_transport.specs.Receiving.{Heard, Given, Whole, Joined, Held, Nothing, Dropped, Memory, Hears, of_member}
 use Rattle.px_transport.specs.Receiving.{unheard, heard_after, given_by, reported_of, due_of}
 use Rattle.px_transport.specs.Sending.{is_other, can_be_cut, ToMember, Sealer, Unsealed, SendsUpTo, states, stated_for}
-use Rattle.px_transport.specs.Sending.{report, again, packets_of, kept_with, to_member, new_to, next_state}
+use Rattle.px_transport.specs.Sending.{report, again, packets_of, kept_with, HasName, to_member, new_to, next_state}
 use Rattle.px_transport.specs.Sending.{refilled_for}
 use Rattle.px_transport.specs.Senders as senders
 
@@ -298,7 +298,7 @@ abbrev pub can_send : Sealer → (to : ℕ) → List ℕ → Bool
 can_send s to m = is_other s to && can_be_cut m
 
 -- a send: the packets of the datagram were handed over and sent; or they were up to one that wasn't sent; or nothing
--- was, as where it can't be sent
+-- was, as where it can't be sent, or is to be cut and no name is left
 pub record IsSent (s : Sealer) (to : ℕ) (m : List ℕ) (sent : Bool) (k k' : WireState) : Type 0 where
   pub now : ℕ
   pub can : IsTrue sent → can_send s to m ≡ true
@@ -306,8 +306,9 @@ pub record IsSent (s : Sealer) (to : ℕ) (m : List ℕ) (sent : Bool) (k k' : W
       (k'.traffic ≡ k.traffic) × (k'.outgoing ≡ refilled_for k.outgoing to now)
   pub sends :
       ((sent ≡ false) × (k'.traffic ≡ k.traffic) × (k'.outgoing ≡ refilled_for k.outgoing to now)) ⊎
+      (HasName (refilled_for k.outgoing to now) to m ×
       SendsUpTo s sent (packets_of (refilled_for k.outgoing to now) to (start_of k.heard to) m)
-      (λ more. k'.traffic ≡ k.traffic ++ more) (kept_with (refilled_for k.outgoing to now) to m) k'.outgoing
+      (λ more. k'.traffic ≡ k.traffic ++ more) (kept_with (refilled_for k.outgoing to now) to m) k'.outgoing)
   pub heard_is : k'.heard ≡ k.heard
 
 -- ---- traffic

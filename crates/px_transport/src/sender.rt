@@ -38,7 +38,7 @@ impl Sender {
     ghost use Rattle.px_packet.specs.declared.kind.Kind.TheVariants.{Piece};
     ghost use Rattle.px_transport.specs.Sending.{is_other, can_be_cut, new_to, to_member, next_state, stated_for};
     ghost use Rattle.px_transport.specs.Sending.{Sends, SendsUpTo, refilled_for};
-    ghost use Rattle.px_transport.specs.Sending.{piece, pieces, kept_with, packets_of, again, state, report, states};
+    ghost use Rattle.px_transport.specs.Sending.{piece, pieces, kept_with, HasName, packets_of, again, state, report, states};
     ghost use Rattle.px_transport.specs.Senders.{sealer_of, outgoing_of};
 
     /// A member that sent nothing.
@@ -208,9 +208,10 @@ impl Sender {
             (IsQuiet (W.traffic inner.old) (W.traffic inner.new)) × (outgoing_of self.new ≡ outgoing_of self.old) }
         ensures sends { ((result ≡ false) × (IsQuiet (W.traffic inner.old) (W.traffic inner.new)) ×
             (outgoing_of self.new ≡ outgoing_of self.old)) ⊎
+            (HasName (outgoing_of self.old) to datagram.now ×
             SendsUpTo (sealer_of self.old) result (packets_of (outgoing_of self.old) to echo datagram.now)
             (Adds (W.traffic inner.old) (W.traffic inner.new)) (kept_with (outgoing_of self.old) to datagram.now)
-            (outgoing_of self.new) }
+            (outgoing_of self.new)) }
         ensures rest { (sealer_of self.new ≡ sealer_of self.old) × (self.new.keys ≡ self.old.keys) }
         ensures same { W.identity inner.new ≡ W.identity inner.old }
     {

@@ -5,5 +5,5 @@ use Rattle.node_control.proofs.control.Entrance.serve.Goals as goal
 pub loop-client-preserved : goal.loop-client-preserved
 loop-client-preserved g c = within_then _ _ _ c.loop-client.invariant c.look.ensures
 
-pub returns-in-Busy : goal.returns-in-Busy
-returns-in-Busy g c = within_then _ _ _ c.loop-client.invariant c.look.ensures
+pub returns-then-service-left : goal.returns-then-service-left
+returns-then-service-left g c = within_then _ _ _ c.loop-client.invariant c.look.ensures

@@ -5,7 +5,7 @@ use Rattle.px_transport.specs.Wires.{Adds, IsQuiet}
 use Rattle.px_packet.specs.Keyed as keyed
 use Rattle.px_packet.specs.declared.start.Start.{Start}
 use Rattle.px_transport.specs.Receiving.{Hears}
-use Rattle.px_transport.specs.Sending.{ToMember, Sealer, SendsUpTo, packets_of, kept_with, is_other, can_be_cut, refilled_for}
+use Rattle.px_transport.specs.Sending.{ToMember, Sealer, SendsUpTo, packets_of, kept_with, HasName, is_other, can_be_cut, refilled_for}
 use Rattle.px_transport.specs.Senders as senders
 use Rattle.px_transport.specs.Wiring.{start_of, sealer_of, inner_of, Send}
 use Rattle.px_transport.proofs.Duties.{can_from, cannot_from, call_adds}
@@ -60,14 +60,14 @@ returns-clause-sent g c hs h es t =
     let other : is_other s to ≡ true = search rules in
     let P : Sealer → List ToMember → Start → Type 0 =
     λ x o echo. ((sent.result ≡ false) × IsQuiet below below' × (new ≡ o)) ⊎
-    SendsUpTo x sent.result (packets_of o to echo m) (Adds below below') (kept_with o to m) new in
+    (HasName o to m × SendsUpTo x sent.result (packets_of o to echo m) (Adds below below') (kept_with o to m) new) in
     let size : can_be_cut m ≡ false → (sent.result ≡ false) × IsQuiet below below' × (new ≡ os) =
     λ f. let x = sent.ensures.size f in (x.0, x.1, x.2 ∙ c.refill.ensures.refilled) in
     let sends : P s os (start_of hs to) =
     subst (λ x. P x os (start_of hs to)) c.refill.ensures.rest.0
     (subst (λ o. P (senders.sealer_of n) o (start_of hs to)) c.refill.ensures.refilled
     (subst (P (senders.sealer_of n) (senders.outgoing_of n)) e sent.ensures.sends)) in
-    let r = sent_with s (can_be_cut m) sent.result (packets_of os to (start_of hs to) m) below below' os
+    let r = sent_with (HasName os to m) s (can_be_cut m) sent.result (packets_of os to (start_of hs to) m) below below' os
     (kept_with os to m) new es t size sends in (
       record { traffic = r.0; outgoing = new; heard = hs; failures = c.count_sent-self-2.result },
       record {

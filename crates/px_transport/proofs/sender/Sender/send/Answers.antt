@@ -1,5 +1,5 @@
 -- all pieces are sent under its name
-use Rattle.std.proofs.Common.{rules, ◌≡◌, ℕ, List, false, [], ◌∷◌, ◌∙◌, ◌<◌, length, take, subst, ap, arith, inr}
+use Rattle.std.proofs.Common.{rules, ◌≡◌, ℕ, List, false, [], ◌∷◌, ◌∙◌, ◌<◌, ◌^◌, length, take, subst, ap, arith, inr}
 use Rattle.std.specs.Prelude.{slice_set}
 use Rattle.px_transport.specs.Wires.{Adds}
 use Rattle.px_packet.specs.Sending.{name_of}
@@ -36,7 +36,12 @@ returns-clause-sends g c =
     subst (P (to_member os a.to).left (name_of (to_member os a.to).sent m)) kept
     (subst (λ n. P (to_member os a.to).left n (slice_set os c.from.result c.name.new.self)) name
     (subst (λ k. P k c.in-Some.name (slice_set os c.from.result c.name.new.self)) left sends)) in
-    inr (upto_if s (is_short m) c.send_pieces.result (whole a.to a.echo m ∷ [])
-    (burst os a.to (pieces a.to a.echo (record { name = name_of (to_member os a.to).sent m; bits = 0 }) m))
-    (g.W.Wire.traffic a.inner.now) os (named_for os a.to m) (g.W.Wire.traffic c.send_pieces.new.inner)
-    (outgoing_of c.send_pieces.new.self) (λ f. absurd cc) (λ _. all))
+    let few : c.in-Some.name < 2 ^ 32 = omega arith in
+    let short : name_of (to_member os a.to).sent m < 2 ^ 32 = subst (λ n. n < 2 ^ 32) name few in
+    inr (
+      (λ _. short),
+      upto_if s (is_short m) c.send_pieces.result (whole a.to a.echo m ∷ [])
+          (burst os a.to (pieces a.to a.echo (record { name = name_of (to_member os a.to).sent m; bits = 0 }) m))
+          (g.W.Wire.traffic a.inner.now) os (named_for os a.to m) (g.W.Wire.traffic c.send_pieces.new.inner)
+          (outgoing_of c.send_pieces.new.self) (λ f. absurd cc) (λ _. all),
+    )
