@@ -11,6 +11,13 @@
 //! `answers` whether an answer says that what was asked for was done, `outcome` what a run writes and how it ends,
 //! `showing` an answer for a terminal, `script` reads the changes of a script, `scripting` asks them, and `telling` has
 //! what is printed for people on standard error.
+//!
+//! # Why
+//!
+//! - **`ask --control` has its own arguments beside `ask --to`** (cli_node), since the options of the two exclude each
+//!   other; `main` picks one by the first arguments.
+//! - **The client reads a ruleset before it asks** (by `from_matches` and `parse`), not the node: the node accepts what
+//!   is asked, so the model's Ask stays what a change is, and `--unchecked` is the client's alone.
 #![tactic(auto)]
 
 mod answers;

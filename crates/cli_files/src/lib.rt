@@ -43,6 +43,11 @@
 //! on above the old ones where a file was lost and made anew; one that only counts would begin at 1 again, and nobody
 //! would hear the member. The file is made before its store, so that a store without it is one whose file was lost.
 //! It is replaced, not written over: a stop leaves the old one or the new one.
+//! - **The tags' key is made of the list as it is written**, since a name may have different addresses on different
+//!   machines.
+//! - **A key's file that others may read is refused** (83), as ssh does it; standard error says which of the three
+//!   reasons it was. Nothing is promised of the random source of which `pfx key` makes one.
+//! - **The file of starts is text**, a line for each member, so that it can be read; there is one spelling.
 #![tactic(auto)]
 
 mod cluster;

@@ -17,6 +17,8 @@
 //! # Why
 //!
 //! - Each subcommand has a crate of its own, so that they are proved side by side; what is here is theirs together.
+//! - **A regular file is recognized before it is opened**, since std opens without `O_NONBLOCK`, and a pipe would be
+//!   waited for; who may write in the folder can put another file there in between. The ruleset of `-f` may be a pipe.
 #![tactic(auto)]
 
 mod files;

@@ -7,6 +7,25 @@
 //! Within: `words` has the words as `clap` reads them, `settings` those of a node's file, `node`, `ask` and `key` what
 //! each comes to, and `check` what `node` with `--check`; `store` opens or makes a node's store; `outcome` has what is
 //! written, `events` and `faults` what a node says.
+//!
+//! # Why
+//!
+//! - **A start makes no store** where settings come from a file: a store that is gone, as behind a folder that isn't
+//!   mounted, would come back empty, and its node vote twice. `--new` makes it. With arguments alone one is made where
+//!   there is none: whoever types them says which node it is. An empty file counts as none, in both.
+//! - **94 is a new key's file too**: a file that is to be made is there.
+//! - **A member that had failed ends with the cause**, 70 or 72, and not with the 80 that the next turn answers: 70
+//!   where the record counts a failure, as `px_replica` has it of the call that failed.
+//! - **The control socket is made in a folder of its own**, 0700, and linked to its place once its mode is set, since
+//!   std has no umask and a socket listens from `bind` on. A link, not a rename: a link replaces nothing.
+//! - **Why a store isn't opened** is what the system says of reading and writing its file, asked again, else what the
+//!   database says; `px_store` keeps no cause of a statement that failed.
+//! - **`node` without an address is refused with 40**, as are more than 15, and a number that is none of theirs.
+//! - **`node` closes its store at its end**; out of memory in a turn ends it with `memory`.
+//! - **`--other-key` alone is refused**: in the first step of a change the other key is the new one, in the second the
+//!   old one.
+//! - **No node hears both formats of datagrams**: whichever format has a majority goes on without it, so it would save
+//!   one restart's time once in a cluster's life, for a second wire of which no law speaks.
 #![tactic(auto)]
 
 mod ask;

@@ -10,6 +10,30 @@
 //!   error.
 //!
 //! Whoever may open the socket's file may ask: its mode, 0660, and the folder that it lies in say who.
+//!
+//! # Why
+//!
+//! - **A Unix socket, HTTP and plain text**: the file's folder is the lock, any HTTP client will do, and no port is
+//!   opened.
+//! - **There is one loop of rounds** (`run_member`), which has the control socket as an `Option`. Without one its
+//!   clause `turns` says that it makes turns alone; with one the clause `hosted` has commands asked between them. A
+//!   trait for what is done between two rounds isn't possible: its ghost member would have to name the bounds' own
+//!   members.
+//! - **A run takes its timer from the caller**, and is proved for any. It knows a timer by its calls alone, so what the
+//!   timer was given counts the rounds (`MakesTurns`), and a run that makes none isn't proved.
+//! - **It waits by `mio`** over the members' socket and the connections, so no operator waits for a tick. Between two
+//!   rounds it asks eight changes at most, or handles one other request.
+//! - **A ninth connection is accepted and answered 503**, but for `health` and `stop`: what a connection is for is in
+//!   its first request. It is the last of the list, so once another one closes it is one of the eight.
+//! - **Metrics over TCP are a second entrance of the same control socket** (`--metrics`), at an address of this machine
+//!   alone and with clients of its own, so those who connect there keep no operator out. The request handler sees what
+//!   comes there only if it is a read of one of three paths, so nothing changes there. Without `--control` there is no
+//!   such port (status 2).
+//! - **A node that hears no majority warns on standard error by the observer**, with a control socket and without one,
+//!   from the heads of what the node accepted; the health is `alone` then. The same reports when it has caught up, and,
+//!   by the positions of others' datagrams, that the log nears its end: a cluster of one doesn't report that, but its
+//!   control socket does. **A command that is refused where it is applied has no line there**: the client gets the
+//!   refusal, and the control socket's log and figures have it.
 #![tactic(auto)]
 
 mod at_socket;

@@ -20,6 +20,92 @@
 //!
 //! - The loop knows a node and any wire, and neither sockets nor operators; node_control adds requests between two
 //!   rounds.
+//! - **A round makes turns and nothing else** (`Served`), whatever its timer answers (`Timer`, which `TickTimer` is).
+//!   Asks, ticks and receives may come in any order, so what a round does is a matter of time and never of what is
+//!   decided.
+//! - **A tick is a turn that received no datagram and is followed by no wait**; `round` has no other sign of it.
+//! - **`turn` takes a `Room`**, so its 33,057 bytes are kept from turn to turn, and none is cleared.
+//! - **When the clock ticks** (`TickTimer`). At once where commands wait and no attempt is under way. Again where an
+//!   attempt isn't answered within the sum of four round trips, 20 ms, and 5 ms times the member's number; this time
+//!   doubles with each loss, up to 64 times and up to 4 s. After a pause that grows where another node took the lead;
+//!   part of the pause is by the clock and part by the member's number. Where nothing waits: at the start, once a
+//!   second, and at once while missing entries arrive.
+//! - **Two times are measured.** The first is how long an attempt takes. It is taken from attempts that led to
+//!   something and weren't begun anew meanwhile. A longer one counts half, a shorter one an eighth: an attempt that is
+//!   begun anew too early makes a new round and loses what was on its way. The second is how long an answer takes: from
+//!   a round's request for promises to a majority of them, and from accept requests until the entry is learned, where
+//!   nothing was sent again meanwhile and no other member's request came. Each counts half. A 32nd is added whenever
+//!   something is sent again, so a time that is too short doesn't stay so. Promises belong to the round that was begun
+//!   last, so their time is known however often it was begun anew. Requests for promises aren't sent again; they are
+//!   begun anew after four answers and 20 ms. On bad lines the first time contains the pauses that lost packets make,
+//!   and the second doesn't; so with the first alone what is lost would be sent again later and later.
+//! - **A node that lacks entries listens.** The kind and position of each accepted datagram show how far its sender is
+//!   (`PeerProgress`): a member that proposes, votes at or lacks a position has learned all positions below. A node
+//!   that is behind asks for what it lacks. It makes no proposal of its own until its front has stood still for as long
+//!   as an attempt may take. Meanwhile, and for the first 200 ms after its start, a change at its control socket is
+//!   answered with 503, and `ask --wait` asks again. So a node that was away and is asked doesn't take the lead from
+//!   the node that has it. A command that comes by a datagram is accepted at any time. Commands that were accepted
+//!   before are proposed after that time: the protocol has no message by which such a node could ask for what it lacks.
+//! - **Lost datagrams are sent again by the loop, above the seal** (`Resender`). A datagram may come twice, so this
+//!   changes nothing that is decided. The laws say that what a wire was handed is what the calls sent, and some of that
+//!   again; a wire of packets sends packets of its own besides (state, reports, missing pieces). The resender sees the
+//!   heads of what the node sends and accepts. It keeps the accept requests and votes of one ballot at one position
+//!   that were sent last. The loop has them sent again one and a half answers and 5 ms after they were sent, then in
+//!   pauses that grow, 64 times at most, until the front moves. A round begun anew would do it too, but loses the votes
+//!   that were on their way: a change of 32 KB is some 22 packets, and one lost packet loses the datagram without a
+//!   key.
+//! - **A repeated accept request isn't shown to the node** where the vote for it is kept: the vote is sent again to the
+//!   member that asks. The request is recognized by its bytes, which are those of the request that the node accepted
+//!   last, so only what was decoded and opened before is believed. The node would answer with the same vote to all
+//!   members, after a sync, or, if it has promised a later round meanwhile, with a nack. The nack is left out: the vote
+//!   is true and on the disk, and the leader of that round has asked the others for promises too. Datagrams that come
+//!   again byte for byte are of one ballot, position and entry. They count for no member.
+//! - **A datagram longer than a packet is sent again at 131 bytes a millisecond** to each member, by all others
+//!   together (`LARGE_RATE`). IP fragments it; where one fragment is lost the others are in the receiver's memory for
+//!   30 s (Linux: `net.ipv4.ipfrag_time`), of 4 MiB in all (`net.ipv4.ipfrag_high_thresh`). Sent again faster they fill
+//!   it, and then no such datagram arrives any more. A packet has 1,200 bytes here, which with a tag IPv6 carries
+//!   everywhere, in tunnels too.
+//! - **A member that lacks entries is sent the votes for them again** (`Resender::repeat_to`). A need is answered by
+//!   one entry; but a learner keeps the votes of the 64 positions from its front on, and a vote may come at any time
+//!   and twice. The resender keeps the votes that were sent: 131,072 and 16 MiB at most. Of the votes to two others
+//!   that is 65,536 positions, some 20 MB with what each takes beside its bytes. Where a member shows by a need, or by
+//!   a request for promises below the front, that it lacks entries, it is sent those votes of 63 positions that this
+//!   member sent to it before. Each of the others does so. With a majority of votes of one ballot the entry is learned,
+//!   by the same law as ever: no step is new. A member that advances is sent what follows. One that stands still, goes
+//!   back, or advances by one three times in a row is sent all of it again, 20 ms apart at least. In 10 ms it is sent
+//!   no more than fills this member's part of a socket's buffer as Linux has it. That also limits what somebody gets
+//!   who forges a member's address on a need: some 600 kB of small votes a second from a member of three. Votes sent
+//!   before the node's last start aren't kept, nor those longer than a packet: such entries are sent one by one.
+//! - **A member is handed its own votes again** (`Resender::repeat_own`). A member accepts proposals at any position,
+//!   but its learner drops a vote outside its 64 positions, its own vote too, and nobody else sends it that one. So the
+//!   resender keeps these votes with the others. While another member is further ahead the loop hands those of 63
+//!   positions from the front on to the wire again, for the member itself. Without them a position that only this
+//!   member and one other accepted in one ballot would be learned neither by votes nor, while commands wait, by a need.
+//!   Votes sent before a restart aren't kept.
+//! - **A member that was refused tries again soon** (`TickTimer`). A round begins above what nacks reported. Where a
+//!   nack comes before a majority promised, the next attempt begins within the time of one, while what the nack
+//!   reported is still true. Of two such attempts in a row only the second is followed by a pause; nacks double the
+//!   pause three times at most, and a member that is behind waits for nothing else then. Each wait is drawn anew by
+//!   each member, from its number, the time and the last draw, so that not always the same members collide. This keeps
+//!   up a member that is nearly up. One that is more than 48 entries behind with commands of its own waiting doesn't
+//!   catch up while the cluster is asked for more than it can do: it can't ask for what it lacks, and each proposal
+//!   brings it one entry of those that it didn't accept.
+//! - **A gap is filled soon.** A learner keeps the votes of 64 positions from its front on. A node that sees others
+//!   advance while its front stands still asks for what it lacks a round trip and 1 ms later. Where commands wait at
+//!   it, it can't ask, and proposes, which takes the lead from the node that has it: soon where it lacks 48 entries or
+//!   fewer, since one is enough then; with pauses where it lacks more and others advance; at once where they rest.
+//! - **The clock rests for a fifth of a round trip** after each tick, unless the front moves. No hold before a proposal
+//!   is set more than 4 s ahead, and the definitions say by when the clock ticks at the latest: the clauses of
+//!   `TickTimer::action`. Nothing of the protocol rests on these; an operator's figures do.
+//! - **A node that is stopped proposes what waits** (`finish`): 3,000 rounds more at most, of which one with a wait
+//!   counts for its milliseconds. Meanwhile it accepts no command (`TickTimer::end`), and one with a control socket at
+//!   which an operator asked for the stop answers nobody.
+//! - **What is counted is what the node accepted.** `Node::receive` decodes a datagram; the loop keeps the heads of
+//!   those that it accepted (`Room::heads`) and how many datagrams went over the wire (`Room::counts`), and one
+//!   `Observer` sees both after each round. So `ignored` and `heard` are what the node ignores and hears, and no
+//!   datagram is decoded twice.
+//! - **No promise says when something is learned**: `Wire`'s contract knows no time. None says that a datagram is
+//!   received: under a flood the system discards what its buffer can't hold, members' datagrams too.
 #![tactic(auto)]
 
 mod counts;

@@ -19,6 +19,10 @@
 //! # Why
 //!
 //! - No crate depends on a law, so a law costs no other crate its proof.
+//! - **The law at sockets counts runs, not members.** What happens at the members' sockets is one list, in which a
+//!   run's start is an event too. So the order of a member's runs, and the key that it has when a packet comes, are
+//!   read off the list (`specs/Members`). A packet of an earlier start may come at any time; that no two runs of a
+//!   member have one start is what the file of starts is for.
 #![tactic(auto)]
 
 mod levels;
