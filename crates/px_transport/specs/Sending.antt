@@ -1,5 +1,6 @@
 -- Packets that a member sends.
-use Rattle.std.specs.Prelude.{◌≡◌, ℕ, ◌+◌, ◌-◌, ◌<◌, ◌^◌, ◌==◌, ◌&&◌, Bool, false, not, min, List, [], ◌∷◌, ◌++◌, length, map, take}
+use Rattle.std.specs.Prelude.{◌≡◌, ℕ, ◌+◌, ◌-◌, ◌<◌, ◌^◌, ◌==◌, ◌&&◌, Bool, false, not, min, List, [], ◌∷◌, ◌++◌}
+use Rattle.std.specs.Prelude.{length, map, take}
 use Rattle.std.specs.Prelude.{Option, Some, None, slice_set, slice_index_or, nat_le, nat_lt, if◌then◌else◌, IsTrue}
 use Rattle.std.specs.List.{range_with_len, filter}
 use Rattle.px_transport.specs.Wires.{WireEvent, hands}
@@ -192,7 +193,7 @@ refilled_for os to now = slice_set os to (refilled now (to_member os to))
 abbrev pub kept_with : List ToMember → (to : ℕ) → List ℕ → List ToMember
 kept_with os to m = if is_short m then os else named_for os to m
 
--- where it is cut, its name has four bytes
+-- where the datagram is cut, its name has four bytes
 abbrev pub HasName : List ToMember → (to : ℕ) → List ℕ → Type 0
 HasName os to m = is_short m ≡ false → name_of (to_member os to).sent m < 2 ^ 32
 

@@ -1,5 +1,6 @@
 -- What goes over a wire of packets, step by step: a step is at most one event over the wire below, and at most one here.
-use Rattle.std.specs.Prelude.{◌≡◌, ◌⊎◌, ◌<◌, ◌^◌, ℕ, ◌==◌, ◌&&◌, Bool, true, List, [], ◌∷◌, ◌++◌, length, if◌then◌else◌}
+use Rattle.std.specs.Prelude.{◌≡◌, ◌⊎◌, ◌<◌, ◌^◌, ℕ, ◌==◌, ◌&&◌, Bool, true, List, [], ◌∷◌, ◌++◌, length}
+use Rattle.std.specs.Prelude.{if◌then◌else◌}
 use Rattle.px_transport.specs.Wires.{WireEvent, Gave, Handed}
 use Rattle.px_transport.specs.Receiving.{Heard, Memory, reported_of}
 use Rattle.px_transport.specs.Sending.{Sealer, Unsealed, packet}
@@ -54,7 +55,8 @@ abbrev pub cuts_for : (to : ℕ) → List Step → List (List ℕ)
 cuts_for to [] = []
 cuts_for to (Hears came given memory now ∷ before) = cuts_for to before
 cuts_for to (Puts k bytes ∷ before) = cuts_for to before
-cuts_for to (Takes k m is_cut ∷ before) = if is_cut && (k == to) then cuts_for to before ++ m ∷ [] else cuts_for to before
+cuts_for to (Takes k m is_cut ∷ before) =
+    if is_cut && (k == to) then cuts_for to before ++ m ∷ [] else cuts_for to before
 cuts_for to (Reports member now ∷ before) = cuts_for to before
 
 -- what was heard of each member
@@ -68,7 +70,8 @@ heard_in keys s (Reports member now ∷ before) = reported_of (heard_in keys s b
 
 -- what was handed over for a member, at any start
 abbrev pub handed_for : (to : ℕ) → List Step → Traffic
-handed_for to before = record { wholes = λ member start. wholes_for to before; cuts = λ member start. cuts_for to before }
+handed_for to before =
+    record { wholes = λ member start. wholes_for to before; cuts = λ member start. cuts_for to before }
 
 -- A packet for a member was sealed with what was handed over for that member before.
 pub record IsPut (s : Sealer) (before : List Step) (to : ℕ) (bytes : List ℕ) : Type 0 where
@@ -84,7 +87,7 @@ IsHeard keys s before came given memory now =
     (given ≡ []) ⊎
     (given ≡ datagram_of (given_of s.start memory (heard_in keys s before) (opened keys s came) now))
 
--- a datagram that is cut for a member has a name of four bytes: fewer than 2^32 were cut for it before
+-- where a datagram is cut for a member, a name of four bytes is left: fewer than 2^32 were cut for it before
 abbrev pub IsNamed : (before : List Step) → (to : ℕ) → (is_cut : Bool) → Type 0
 IsNamed before to is_cut = is_cut ≡ true → length (cuts_for to before) < 2 ^ 32
 

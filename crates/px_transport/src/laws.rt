@@ -44,7 +44,8 @@ pub fn stays_bounded()
 }
 
 /// What goes over a wire of packets in its calls are steps, each at most one packet below and one datagram here: each
-/// packet was sealed with what was handed over before, and what is given is what the receiver makes of a packet.
+/// packet was sealed with what was handed over before, what is given is what the receiver makes of a packet, and a
+/// datagram is cut only while a name is left.
 pub fn calls_are_steps()
     ensures { CallsAreSteps }
 {

@@ -16,6 +16,22 @@
 //!
 //! - `px_packet` knows packets and pieces. Here is who sends which packet when, and what is given of those that come.
 //! - A wire over UDP is node_udp's, so nothing here knows of sockets.
+//! - **A wire shows whose it is** (`identity` of `Wire`: the member whose datagrams to itself it keeps, and the keys
+//!   and the sealer of its packets), and no call changes that. So the wire after a run is the member's, and the
+//!   contracts of `run_at_socket` and `run_sealed_at_socket` (node_control) are about the wire that was handed in.
+//! - **`Wire` is below nodes**, in a crate that knows none, so node_udp's proofs don't wait for theirs.
+//! - **A faulty wire reports what was given, not what it was handed**, since not all of that goes on.
+//! - **A wire that keeps what a member sends to itself** (`LoopbackWire`) hands it on below where 64 are kept or memory
+//!   is refused. These are datagrams like any other: what is kept may be lost, and is where the wire is taken apart.
+//! - **`poll` has the clauses of `recv`**: no contract can distinguish a wait from none. Tests show that it waits for
+//!   nothing.
+//! - **A wire reports how long a caller may wait elsewhere** (`Wire::due`): a node with a control socket waits at that
+//!   and at the datagrams' socket together, and not in the wire. A wire of packets has reports of pieces to send;
+//!   without `due` they would go out in the next round, up to 100 ms later.
+//! - **The law at sockets with a key** cuts what a wire of packets does into steps, each at most one packet below and
+//!   one datagram above (`specs/Steps`). So an order of all members' packets is one of their datagrams too (pfx_laws,
+//!   `proofs/Lifting`). Its premise is about the packets that a member opens: what strangers send needs none. A datagram
+//!   is cut only while one of the 2^32 names for its receiver is left, so no premise bounds how many there are.
 #![tactic(auto)]
 
 mod coming;

@@ -37,8 +37,8 @@ impl Sender {
     ghost use Rattle.px_packet.specs.Keyed.{key_of};
     ghost use Rattle.px_packet.specs.declared.kind.Kind.TheVariants.{Piece};
     ghost use Rattle.px_transport.specs.Sending.{is_other, can_be_cut, new_to, to_member, next_state, stated_for};
-    ghost use Rattle.px_transport.specs.Sending.{Sends, SendsUpTo, refilled_for};
-    ghost use Rattle.px_transport.specs.Sending.{piece, pieces, kept_with, HasName, packets_of, again, state, report, states};
+    ghost use Rattle.px_transport.specs.Sending.{Sends, SendsUpTo, HasName, refilled_for};
+    ghost use Rattle.px_transport.specs.Sending.{piece, pieces, kept_with, packets_of, again, state, report, states};
     ghost use Rattle.px_transport.specs.Senders.{sealer_of, outgoing_of};
 
     /// A member that sent nothing.
