@@ -5,6 +5,7 @@ use Rattle.std.proofs.lemmas.List.{append-nil}
 use Rattle.std.specs.List.{AllByRecursion}
 use Rattle.px_model.specs.Law.{Among}
 use Rattle.px_model.specs.Node.{Record, Input}
+use Rattle.px_model.specs.Node.Input.{Asks, Ticks, Comes}
 use Rattle.px_model.specs.Spelling.{Bytes}
 use Rattle.px_model.specs.World.{NodeState, started}
 use Rattle.px_wire.specs.Message.{Group}
@@ -16,7 +17,8 @@ use Rattle.node_loop.specs.Again.{AreAmong}
 use Rattle.node_loop.specs.Resending.{came_in}
 use Rattle.node_loop.specs.Turns.{handed_over}
 use Rattle.node_loop.specs.Living as living
-use Rattle.node_loop.specs.Living.{Move, deeds_of, events_of, sent_by, AreMoves}
+use Rattle.node_loop.specs.Living.{Move, deeds_of, events_of, sent_by, message_in, AreMoves, IsBrought, AreBrought, LeavesThere}
+use Rattle.node_loop.proofs.Traffic.{one_brought}
 use Rattle.px_transport.specs.Loopback as loopback
 use Rattle.px_transport.specs.Loopback.{Loop, IsQueue}
 use Rattle.px_transport.specs.Sending.{Sealer}
@@ -470,3 +472,128 @@ front_at_sealed_socket g keys s m first front back deeds end unanswered r =
     })
     (front_below g m first (steps.above_in k.before) (steps.above_in k.behind) deeds end unanswered
     (subst (λ (es : List WireEvent). RanAbove g m first es deeds end unanswered) all r.ran))
+
+-- ---- any moment of a run
+
+-- Moves up to a moment, and those behind it: how the member stands there, what had come, and what had been handed over.
+record Moment (g : Group) (m : ℕ) (hears : Bool) (done rest : List Move) (s t : NodeState Bytes) (before : List Bytes)
+    (kept : List (ℕ × Bytes)) : Type 0 where
+  then : NodeState Bytes
+  lived : Lived g m s (deeds_of done) then
+  goes_on : Lived g m then (deeds_of rest) t
+  are : AreMoves g m hears done before kept
+  came : List Bytes
+  sent : List (ℕ × Bytes)
+  next : AreMoves g m hears rest came sent
+
+moment : (g : Group) (m : ℕ) (hears : Bool) (done rest : List Move) (s t : NodeState Bytes) (before : List Bytes) (kept : List (ℕ × Bytes)) →
+    Lived g m s (deeds_of (done ++ rest)) t → AreMoves g m hears (done ++ rest) before kept → Moment g m hears done rest s t before kept
+moment g m hears [] rest s t before kept v a =
+    record { then = s; lived = refl; goes_on = v; are = tt; came = before; sent = kept; next = a }
+moment g m hears (living.Does b i u out ∷ done) rest s t before kept v a =
+    let r = moment g m hears done rest u t (before ++ came_in b) (kept ++ handed_over out) v.3 a.1 in record {
+      then = r.then;
+      lived = (v.0, v.1, v.2, r.lived);
+      goes_on = r.goes_on;
+      are = (a.0, r.are);
+      came = r.came;
+      sent = r.sent;
+      next = r.next;
+    }
+moment g m hears (living.Passes b ∷ done) rest s t before kept v a =
+    let r = moment g m hears done rest s t (before ++ b ∷ []) kept v a.1 in record {
+      then = r.then;
+      lived = r.lived;
+      goes_on = r.goes_on;
+      are = (a.0, r.are);
+      came = r.came;
+      sent = r.sent;
+      next = r.next;
+    }
+moment g m hears (living.Repeats to b ∷ done) rest s t before kept v a =
+    let r = moment g m hears done rest s t before kept v a.1 in record {
+      then = r.then;
+      lived = r.lived;
+      goes_on = r.goes_on;
+      are = (a.0, r.are);
+      came = r.came;
+      sent = r.sent;
+      next = r.next;
+    }
+
+at_moment : (g : Group) (m : ℕ) (first : Record Bytes) (events : List WireEvent) (deeds : List Deed) (end : NodeState Bytes)
+    (unanswered : List Bytes) (r : Ran g m first events deeds end unanswered) (done rest : List Move) → r.moves ≡ done ++ rest →
+    Moment g m r.hears done rest (started first) end [] []
+at_moment g m first events deeds end unanswered r done rest is =
+    moment g m r.hears done rest (started first) end [] []
+    (subst (λ (ms : List Move). Lived g m (started first) (deeds_of ms) end) is r.lived)
+    (subst (λ (ms : List Move). AreMoves g m r.hears ms [] []) is r.are)
+
+-- A run that is killed between two moves, or, as `fronts_are_runs` has it, before all of the one before is handed over.
+pub killed_between : (g : Group) (m : ℕ) (first : Record Bytes) (events : List WireEvent) (deeds : List Deed) (end : NodeState Bytes)
+    (unanswered : List Bytes) (r : Ran g m first events deeds end unanswered) (done rest : List Move) → r.moves ≡ done ++ rest →
+    (then : NodeState Bytes) × Ran g m first (events_of done) (deeds_of done) then [] × Lived g m then (deeds_of rest) end
+killed_between g m first events deeds end unanswered r done rest is =
+    let o = at_moment g m first events deeds end unanswered r done rest is in (
+      o.then,
+      record {
+        moves = done;
+        does = refl;
+        lived = o.lived;
+        up = up_before g m rest o.then end o.goes_on r.up;
+        hears = r.hears;
+        are = o.are;
+        last = [];
+        came = refl;
+        lost = [];
+        went = refl;
+        again = λ d n. absurd n;
+      },
+      o.goes_on,
+    )
+
+came_is : (came : Option Bytes) → came_in came ≡ given_in (gives came)
+came_is None = refl
+came_is (Some b) = refl
+
+none_handed : (came : Option Bytes) (sent : List (ℕ × Bytes)) → AreAmong (handed_in (gives came)) sent
+none_handed None sent d n = absurd n
+none_handed (Some b) sent d n = absurd n
+
+brought : (g : Group) (m : ℕ) (came : Option Bytes) (i : Input Bytes) → IsBrought g m came i → AreBrought g m (came_in came) (message_in i)
+brought g m None (Asks command) is = λ x n. absurd n
+brought g m None Ticks is = λ x n. absurd n
+brought g m None (Comes sender message) is = absurd is
+brought g m (Some b) (Asks command) is = absurd is
+brought g m (Some b) Ticks is = absurd is
+brought g m (Some b) (Comes sender message) is = one_brought g m b sender message is
+
+-- A run that is killed in a call: what came for it is unanswered, and whether the call had committed or not, what it
+-- left of the record is what a stop may leave.
+pub killed_in_call : (g : Group) (m : ℕ) (first : Record Bytes) (events : List WireEvent) (deeds : List Deed) (end : NodeState Bytes)
+    (unanswered : List Bytes) (r : Ran g m first events deeds end unanswered) (done later : List Move) (came : Option Bytes)
+    (i : Input Bytes) (u : NodeState Bytes) (out : List Datagram) → r.moves ≡ done ++ living.Does came i u out ∷ later →
+    (then : NodeState Bytes) × Ran g m first (events_of done ++ gives came) (deeds_of done) then (came_in came) ×
+    LeavesThere g m (came_in came) then then.stored × LeavesThere g m (came_in came) then u.stored
+killed_in_call g m first events deeds end unanswered r done later came i u out is =
+    let o = at_moment g m first events deeds end unanswered r done (living.Does came i u out ∷ later) is in
+    let v = o.goes_on in
+    let makes = v.2 in
+    let comes = brought g m came i o.next.0 in (
+      o.then,
+      record {
+        moves = done;
+        does = refl;
+        lived = o.lived;
+        up = v.0;
+        hears = r.hears;
+        are = o.are;
+        last = gives came;
+        came = came_is came;
+        lost = [];
+        went = append-nil (events_of done ++ gives came);
+        again = none_handed came (sent_by (deeds_of done));
+      },
+      (i, v.1, comes, inl refl),
+      (i, v.1, comes, inr (makes.plan, makes.steps, ap (λ (w : NodeState Bytes). w.stored) makes.follows)),
+    )
