@@ -1,5 +1,6 @@
 -- A member's run over its wire is one at its socket.
 use Rattle.std.proofs.Common.{◌≡◌, ◌∙◌, ◌⊎◌, sym, ap, subst, refl, ℕ, false, ◌<◌, List, [], ◌++◌, Option, Some, inl, inr, arith}
+use Rattle.std.proofs.lemmas.List.{append-nil}
 use Rattle.px_model.specs.Node.{Record}
 use Rattle.px_model.specs.Node.Input.{Ticks}
 use Rattle.px_model.specs.Spelling.{Bytes}
@@ -41,7 +42,8 @@ ran G m given back es l = record {
   are = l.are;
   last = l.last;
   came = refl;
-  went = l.went;
+  lost = [];
+  went = append-nil es ∙ l.went;
   again = l.again;
 }
 
@@ -56,7 +58,8 @@ idle g m first es none = record {
   are = tt;
   last = [];
   came = refl;
-  went = none;
+  lost = [];
+  went = append-nil es ∙ none;
   again = λ d n. n;
 }
 

@@ -8,7 +8,7 @@ use Rattle.px_records.specs.declared.records.Records.{Ghosts}
 use Rattle.px_wire.specs.Message.{Group, group}
 use Rattle.px_wire.specs.declared.membership.Membership.{Membership}
 use Rattle.px_replica.specs.Lives.{Deed, Lived}
-use Rattle.px_transport.specs.Wires.{WireEvent, given_in, handed_in}
+use Rattle.px_transport.specs.Wires.{WireEvent, given_in, handed_in, hands}
 use Rattle.px_transport.specs.Loopback as loopback
 use Rattle.px_transport.specs.Loopback.{Loop, IsQueue}
 use Rattle.px_transport.specs.Sending.{Sealer}
@@ -21,7 +21,14 @@ use Rattle.node_udp.specs.Sockets.{SocketEvent, Passage, IsSound}
 use Rattle.node_udp.specs.declared.address.Address.{Address}
 
 -- A member of the group ran from this record on; this befell it, and it stands so then. This went over its wire: its
--- moves, and then, where a call failed, what came for that call and after it, and what was handed over again.
+-- moves, and then, where a call failed, what came for that call and after it, and what was handed over again. Of what
+-- was to be handed over, the end may be lost; of what was given, nothing is.
+-- So a run that is killed is one, too, wherever that happens. If it was in a call, what came for the call is
+-- unanswered, and it left of the record what a stop may leave. If it was after a call, before all that this sends was
+-- handed over, the rest is lost. Each layer below is what happened there so far, step by step, so a front of it is one:
+-- a datagram of which some packets were put is taken, and its other packets are no steps; one that the wire wasn't
+-- handed yet is lost here; and what the wire kept of the member's own is what it keeps then. A packet that came when
+-- nothing was made of it yet is given, and unanswered.
 pub record Ran (g : Group) (m : ℕ) (first : Record Bytes) (events : List WireEvent) (deeds : List Deed)
     (end : NodeState Bytes) (unanswered : List Bytes) : Type 0 where
   pub moves : List Move
@@ -32,7 +39,9 @@ pub record Ran (g : Group) (m : ℕ) (first : Record Bytes) (events : List WireE
   pub are : AreMoves g m hears moves [] []
   pub last : List WireEvent
   pub came : unanswered ≡ given_in last
-  pub went : events ≡ events_of moves ++ last
+  -- what was still to be handed over when it stopped
+  pub lost : List (ℕ × Bytes)
+  pub went : events ++ hands lost ≡ events_of moves ++ last
   pub again : AreAmong (handed_in last) (sent_by (deeds_of moves))
 
 -- The same over a wire that keeps what the member sends to itself: this went over the wire below.

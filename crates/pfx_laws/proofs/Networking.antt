@@ -3,7 +3,7 @@ use Rattle.std.proofs.Common.{◌≡◌, ◌∙◌, ◌⊎◌, sym, ap, subst, r
 use Rattle.std.proofs.lemmas.Bool.{cond-true, cond-false, eq-eqb}
 use Rattle.std.proofs.lemmas.Bool.Decides.{eqb_tells}
 use Rattle.std.proofs.lemmas.List.{append-nil}
-use Rattle.px_model.proofs.Basics.{among_left, among_right, among_cases}
+use Rattle.px_model.proofs.Basics.{among_left, among_cases}
 use Rattle.px_model.specs.Law.{Among}
 use Rattle.px_model.specs.Node.{Record, Input, Envelope}
 use Rattle.px_model.specs.Node.Input.{Asks, Ticks, Comes}
@@ -37,11 +37,11 @@ use Rattle.pfx_laws.proofs.Lifting.{during, during_append, below_or}
 -- ---- what a member does, one thing after another, through its runs
 
 data Act (K : Type 0) : Type 0 where
-  -- a call answers
+  -- a call answers, for a datagram that came or for none
   Answers : (came : Option Bytes) (input : Input Bytes) (then : NodeState Bytes) (out : List Datagram) → Act K
   -- a datagram comes, and nothing befalls the member
   Skips : (bytes : Bytes) → Act K
-  -- a datagram is handed over again
+  -- a datagram that was sent is handed over, at first or again
   Resends : (to : ℕ) (bytes : Bytes) → Act K
   -- a run starts; before it this befell the member
   Begins : (key : K) (deeds : List Deed) → Act K
@@ -55,7 +55,7 @@ befall (Begins k ds ∷ xs) = ds ++ befall xs
 
 abbrev happen : {K : Type 0} → List (Act K) → List (RunEvent K WireEvent)
 happen [] = []
-happen (Answers came i t out ∷ xs) = during (gives came ++ hands (handed_over out)) ++ happen xs
+happen (Answers came i t out ∷ xs) = during (gives came) ++ happen xs
 happen (Skips b ∷ xs) = During (Gave b) ∷ happen xs
 happen (Resends to b ∷ xs) = During (Handed to b) ∷ happen xs
 happen (Begins k ds ∷ xs) = Starts k ∷ happen xs
@@ -68,21 +68,12 @@ abbrev handed_by : {K : Type 0} → RunEvent K WireEvent → List (ℕ × Bytes)
 handed_by (Starts k) = []
 handed_by (During e) = handed_in (e ∷ [])
 
--- what is still to be handed over of its last call, and what it does after that
-record Plan (K : Type 0) : Type 0 where
-  pending : List (ℕ × Bytes)
-  acts : List (Act K)
-
--- what still happens at it
-abbrev rest : {K : Type 0} → Plan K → List (RunEvent K WireEvent)
-rest p = during (hands p.pending) ++ happen p.acts
-
 -- each is a message
 abbrev AreMessages : Group → List (ℕ × Bytes) → Type 0
 AreMessages g sent = (d : ℕ × Bytes) → Among sent d → (from : ℕ) × (message : Message) × DatagramBytes g from d.0 message d.1
 
 -- Each message comes in its place, and that of a call that a stop cut short came before; what is sent is messages; and
--- what is handed over again was sent. These came already, and these were sent.
+-- what is handed over was sent. These came already, and these were sent.
 abbrev AreSound : {K : Type 0} → Group → (m : ℕ) → List (Act K) → (came : List Bytes) → (sent : List (ℕ × Bytes)) → Type 0
 AreSound g m [] came sent = Unit {0}
 AreSound g m (Answers b i t out ∷ xs) came sent =
@@ -90,10 +81,6 @@ AreSound g m (Answers b i t out ∷ xs) came sent =
 AreSound g m (Skips b ∷ xs) came sent = AreSound g m xs (came ++ b ∷ []) sent
 AreSound g m (Resends to b ∷ xs) came sent = Among sent (to, b) × AreSound g m xs came sent
 AreSound g m (Begins k ds ∷ xs) came sent = AreBrought g m came (messages_of ds) × (sent_by ds ≡ []) × AreSound g m xs came sent
-
-record IsSound {K : Type 0} (g : Group) (m : ℕ) (came : List Bytes) (sent : List (ℕ × Bytes)) (p : Plan K) : Type 0 where
-  pub pending : AreAmong p.pending sent
-  pub acts : AreSound g m p.acts came sent
 
 brought_among : (g : Group) (m : ℕ) (few many : List Bytes) (xs : List Heard) → AreAmong few many → AreBrought g m few xs → AreBrought g m many xs
 brought_among g m few many xs a b x n = let r = b x n in (r.0, a r.0 r.1, r.2)
@@ -115,13 +102,6 @@ sound_more g m (Resends to b ∷ xs) less more few many c a s = (a (to, b) s.0, 
 sound_more g m (Begins k ds ∷ xs) less more few many c a s =
     (brought_among g m less more (messages_of ds) c s.0, s.1, sound_more g m xs less more few many c a s.2)
 
-plan_more : {K : Type 0} (g : Group) (m : ℕ) (p : Plan K) (less more : List Bytes) (few many : List (ℕ × Bytes)) → AreAmong less more →
-    AreAmong few many → IsSound g m less few p → IsSound g m more many p
-plan_more g m p less more few many c a s = record {
-  pending = among_then p.pending few many s.pending a;
-  acts = sound_more g m p.acts less more few many c a s.acts;
-}
-
 -- what a step hands out
 are_messages : (g : Group) (xs : List (Envelope Bytes)) (out : List Datagram) → AreSpelled g xs out → AreMessages g (handed_over out)
 are_messages g xs [] s d n = absurd n
@@ -132,40 +112,43 @@ are_messages g (x ∷ xs) (e ∷ out) s d (inl is) =
     (x.sender, as_sent x.message, subst (λ (c : ℕ × Bytes). DatagramBytes g x.sender c.0 (as_sent x.message) c.1) is here)
 are_messages g (x ∷ xs) (e ∷ out) s d (inr later) = are_messages g xs out s.1 d later
 
+messages_both : (g : Group) (xs ys : List (ℕ × Bytes)) → AreMessages g xs → AreMessages g ys → AreMessages g (xs ++ ys)
+messages_both g xs ys a b d n = elim (among_cases xs ys d n) [ inl here ↦ a d here | inr there ↦ b d there ]
+
 -- ---- one event
 
 -- The next thing that happens at a member: what befalls the member by then, and what it still does.
-record Stepped {K : Type 0} (g : Group) (m : ℕ) (came : List Bytes) (sent : List (ℕ × Bytes)) (p : Plan K) (e : RunEvent K WireEvent)
+record Stepped {K : Type 0} (g : Group) (m : ℕ) (came : List Bytes) (sent : List (ℕ × Bytes)) (xs : List (Act K)) (e : RunEvent K WireEvent)
     (es : List (RunEvent K WireEvent)) : Type 0 where
   deeds : List Deed
-  then : Plan K
-  rest_is : rest then ≡ es
-  all : befall p.acts ≡ deeds ++ befall then.acts
+  then : List (Act K)
+  rest_is : happen then ≡ es
+  all : befall xs ≡ deeds ++ befall then
   brought : AreBrought g m (came ++ given_by e) (messages_of deeds)
-  sound : IsSound g m (came ++ given_by e) (sent ++ sent_by deeds) then
+  sound : AreSound g m then (came ++ given_by e) (sent ++ sent_by deeds)
   handed : AreAmong (handed_by e) (sent ++ sent_by deeds)
   spelled : AreMessages g (sent_by deeds)
 
-stepped_is : {K : Type 0} (g : Group) (m : ℕ) (came : List Bytes) (sent : List (ℕ × Bytes)) (p : Plan K) (e f : RunEvent K WireEvent)
-    (es fs : List (RunEvent K WireEvent)) → (f ∷ fs) ≡ (e ∷ es) → Stepped g m came sent p f fs → Stepped g m came sent p e es
-stepped_is {K} g m came sent p e f es fs h s =
+stepped_is : {K : Type 0} (g : Group) (m : ℕ) (came : List Bytes) (sent : List (ℕ × Bytes)) (xs : List (Act K)) (e f : RunEvent K WireEvent)
+    (es fs : List (RunEvent K WireEvent)) → (f ∷ fs) ≡ (e ∷ es) → Stepped g m came sent xs f fs → Stepped g m came sent xs e es
+stepped_is {K} g m came sent xs e f es fs h s =
     let one : f ≡ e = cc in
     let more : fs ≡ es = cc in
-    subst (λ (x : RunEvent K WireEvent). Stepped g m came sent p x es) one
-    (subst (λ (xs : List (RunEvent K WireEvent)). Stepped g m came sent p f xs) more s)
+    subst (λ (x : RunEvent K WireEvent). Stepped g m came sent xs x es) one
+    (subst (λ (ys : List (RunEvent K WireEvent)). Stepped g m came sent xs f ys) more s)
 
 -- no deed
-idle : {K : Type 0} (g : Group) (m : ℕ) (came : List Bytes) (sent : List (ℕ × Bytes)) (p q : Plan K) (e : RunEvent K WireEvent) →
-    befall p.acts ≡ befall q.acts → AreAmong q.pending sent → AreSound g m q.acts (came ++ given_by e) sent → AreAmong (handed_by e) sent →
-    Stepped g m came sent p e (rest q)
-idle g m came sent p q e same pending sound handed = record {
+idle : {K : Type 0} (g : Group) (m : ℕ) (came : List Bytes) (sent : List (ℕ × Bytes)) (xs ys : List (Act K)) (e : RunEvent K WireEvent) →
+    befall xs ≡ befall ys → AreSound g m ys (came ++ given_by e) sent → AreAmong (handed_by e) sent →
+    Stepped g m came sent xs e (happen ys)
+idle g m came sent xs ys e same sound handed = record {
   deeds = [];
-  then = q;
+  then = ys;
   rest_is = refl;
   all = same;
   brought = none_brought g m (came ++ given_by e);
-  sound = plan_more g m q (came ++ given_by e) (came ++ given_by e) sent (sent ++ []) (among_all (came ++ given_by e))
-      (among_front sent sent [] (among_all sent)) (record { pending = pending; acts = sound });
+  sound = sound_more g m ys (came ++ given_by e) (came ++ given_by e) sent (sent ++ []) (among_all (came ++ given_by e))
+      (among_front sent sent [] (among_all sent)) sound;
   handed = among_front (handed_by e) sent [] handed;
   spelled = λ d n. absurd n;
 }
@@ -195,81 +178,55 @@ and_none xs x n = subst (λ (ys : List _). Among ys x) (append-nil xs) n
 with_none : {X : Type 0} (xs : List X) → AreAmong xs (xs ++ [])
 with_none xs x n = among_left xs [] x n
 
-step : {K : Type 0} (g : Group) (m : ℕ) (came : List Bytes) (sent pending : List (ℕ × Bytes)) (xs : List (Act K)) (e : RunEvent K WireEvent)
-    (es : List (RunEvent K WireEvent)) → AreAmong pending sent → AreSound g m xs came sent →
-    rest (record { pending = pending; acts = xs }) ≡ e ∷ es → Stepped g m came sent (record { pending = pending; acts = xs }) e es
-step g m came sent (d ∷ ds) xs e es a s h =
-    stepped_is g m came sent _ e (During (Handed d.0 d.1)) es (rest (record { pending = ds; acts = xs })) h
-    (idle g m came sent _ (record { pending = ds; acts = xs }) (During (Handed d.0 d.1)) refl (λ x n. a x (inr n))
-    (sound_more g m xs came (came ++ []) sent sent (with_none came) (among_all sent) s)
-    (one_sent sent d.0 d.1 (a d (inl refl))))
-step g m came sent [] [] e es a s h = absurd (cc)
-step g m came sent [] (Skips b ∷ xs) e es a s h =
-    stepped_is g m came sent _ e (During (Gave b)) es (rest (record { pending = []; acts = xs })) h
-    (idle g m came sent _ (record { pending = []; acts = xs }) (During (Gave b)) refl a s (among_none sent))
-step g m came sent [] (Resends to b ∷ xs) e es a s h =
-    stepped_is g m came sent _ e (During (Handed to b)) es (rest (record { pending = []; acts = xs })) h
-    (idle g m came sent _ (record { pending = []; acts = xs }) (During (Handed to b)) refl a
+step : {K : Type 0} (g : Group) (m : ℕ) (came : List Bytes) (sent : List (ℕ × Bytes)) (xs : List (Act K)) (e : RunEvent K WireEvent)
+    (es : List (RunEvent K WireEvent)) → AreSound g m xs came sent → happen xs ≡ e ∷ es → Stepped g m came sent xs e es
+step g m came sent [] e es s h = absurd (cc)
+step g m came sent (Skips b ∷ xs) e es s h =
+    stepped_is g m came sent _ e (During (Gave b)) es (happen xs) h
+    (idle g m came sent _ xs (During (Gave b)) refl s (among_none sent))
+step g m came sent (Resends to b ∷ xs) e es s h =
+    stepped_is g m came sent _ e (During (Handed to b)) es (happen xs) h
+    (idle g m came sent _ xs (During (Handed to b)) refl
     (sound_more g m xs came (came ++ []) sent sent (with_none came) (among_all sent) s.1) (one_sent sent to b s.0))
-step g m came sent [] (Begins k ds ∷ xs) e es a s h =
-    stepped_is g m came sent _ e (Starts k) es (rest (record { pending = []; acts = xs })) h
+step g m came sent (Begins k ds ∷ xs) e es s h =
+    stepped_is g m came sent _ e (Starts k) es (happen xs) h
     (record {
       deeds = ds;
-      then = record { pending = []; acts = xs };
+      then = xs;
       rest_is = refl;
       all = refl;
       brought = brought_more g m came [] (messages_of ds) s.0;
-      sound = record {
-        pending = among_none (sent ++ sent_by ds);
-        acts = sound_more g m xs came (came ++ []) sent (sent ++ sent_by ds) (with_none came)
-            (among_front sent sent (sent_by ds) (among_all sent)) s.2;
-      };
+      sound = sound_more g m xs came (came ++ []) sent (sent ++ sent_by ds) (with_none came)
+          (among_front sent sent (sent_by ds) (among_all sent)) s.2;
       handed = among_none (sent ++ sent_by ds);
       spelled = λ d n. absurd (subst (λ (bs : List (ℕ × Bytes)). Among bs d) s.1 n);
     })
-step g m came sent [] (Answers (Some b) i t out ∷ xs) e es a s h =
-    stepped_is g m came sent _ e (During (Gave b)) es (rest (record { pending = handed_over out; acts = xs })) h
+step g m came sent (Answers (Some b) i t out ∷ xs) e es s h =
+    stepped_is g m came sent _ e (During (Gave b)) es (happen xs) h
     (record {
       deeds = Calls i t out ∷ [];
-      then = record { pending = handed_over out; acts = xs };
+      then = xs;
       rest_is = refl;
       all = refl;
       brought = brought_then g m came (b ∷ []) [] (message_in i ++ []) (none_brought g m came) (some_given g m b i s.0);
-      sound = record {
-        pending = among_back (handed_over out) sent (handed_over out ++ []) (with_none (handed_over out));
-        acts = subst (λ (ds : List (ℕ × Bytes)). AreSound g m xs (came ++ b ∷ []) (sent ++ ds)) (sym (append-nil (handed_over out))) s.2;
-      };
+      sound = subst (λ (ds : List (ℕ × Bytes)). AreSound g m xs (came ++ b ∷ []) (sent ++ ds)) (sym (append-nil (handed_over out))) s.2;
       handed = among_none (sent ++ (handed_over out ++ []));
       spelled = one_spelled g (handed_over out) s.1;
     })
-step g m came sent [] (Answers None i t [] ∷ xs) e es a s h =
-    let r = step g m came sent [] xs e es a (sound_more g m xs (came ++ []) came (sent ++ []) sent (and_none came) (and_none sent) s.2) h in
+step g m came sent (Answers None i t out ∷ xs) e es s h =
+    let all = sent ++ handed_over out in
+    let r = step g m came all xs e es (sound_more g m xs (came ++ []) came all all (and_none came) (among_all all) s.2) h in
+    let same = append_assoc sent (handed_over out) (sent_by r.deeds) in
     record {
-      deeds = Calls i t [] ∷ r.deeds;
+      deeds = Calls i t out ∷ r.deeds;
       then = r.then;
       rest_is = r.rest_is;
-      all = ap (λ (ds : List Deed). Calls i t [] ∷ ds) r.all;
+      all = ap (λ (ds : List Deed). Calls i t out ∷ ds) r.all;
       brought = subst (λ (ms : List _). AreBrought g m (came ++ given_by e) (ms ++ messages_of r.deeds)) (sym (none_given None g m i refl s.0)) r.brought;
-      sound = r.sound;
-      handed = r.handed;
-      spelled = r.spelled;
+      sound = subst (λ (ds : List (ℕ × Bytes)). AreSound g m r.then (came ++ given_by e) ds) same r.sound;
+      handed = subst (λ (ds : List (ℕ × Bytes)). AreAmong (handed_by e) ds) same r.handed;
+      spelled = messages_both g (handed_over out) (sent_by r.deeds) s.1 r.spelled;
     }
-step g m came sent [] (Answers None i t (d ∷ out) ∷ xs) e es a s h =
-    stepped_is g m came sent _ e (During (Handed d.to d.bytes.items)) es (rest (record { pending = handed_over out; acts = xs })) h
-    (record {
-      deeds = Calls i t (d ∷ out) ∷ [];
-      then = record { pending = handed_over out; acts = xs };
-      rest_is = refl;
-      all = refl;
-      brought = subst (λ (ms : List _). AreBrought g m (came ++ []) (ms ++ [])) (sym (none_given None g m i refl s.0)) (none_brought g m (came ++ []));
-      sound = record {
-        pending = λ x n. among_right sent (handed_over (d ∷ out) ++ []) x (among_left (handed_over (d ∷ out)) [] x (inr n));
-        acts = subst (λ (ds : List (ℕ × Bytes)). AreSound g m xs (came ++ []) (sent ++ ds)) (sym (append-nil (handed_over (d ∷ out)))) s.2;
-      };
-      handed = one_sent (sent ++ (handed_over (d ∷ out) ++ [])) d.to d.bytes.items
-          (among_right sent (handed_over (d ∷ out) ++ []) (d.to, d.bytes.items) (inl refl));
-      spelled = one_spelled g (handed_over (d ∷ out)) s.1;
-    })
 
 -- ---- where nothing more happens
 
@@ -280,16 +237,16 @@ silent g m (Skips b ∷ xs) came sent s h = absurd (cc)
 silent g m (Resends to b ∷ xs) came sent s h = absurd (cc)
 silent g m (Begins k ds ∷ xs) came sent s h = absurd (cc)
 silent g m (Answers (Some b) i t out ∷ xs) came sent s h = absurd (cc)
-silent g m (Answers None i t [] ∷ xs) came sent s h =
-    ap (λ (ys : List _). ys ++ messages_of (befall xs)) (none_given None g m i refl s.0) ∙ silent g m xs (came ++ []) (sent ++ []) s.2 h
-silent g m (Answers None i t (d ∷ out) ∷ xs) came sent s h = absurd (cc)
+silent g m (Answers None i t out ∷ xs) came sent s h =
+    ap (λ (ys : List _). ys ++ messages_of (befall xs)) (none_given None g m i refl s.0)
+    ∙ silent g m xs (came ++ []) (sent ++ handed_over out) s.2 h
 
 -- what is left of the members before this one
-abbrev finals : {K : Type 0} → (plans : ℕ → Plan K) → ℕ → List Stretch
+abbrev finals : {K : Type 0} → (plans : ℕ → List (Act K)) → ℕ → List Stretch
 finals plans zero = []
-finals plans (suc k) = record { member = k; deeds = befall (plans k).acts; gave = [] } ∷ finals plans k
+finals plans (suc k) = record { member = k; deeds = befall (plans k); gave = [] } ∷ finals plans k
 
-finals_above : {K : Type 0} (plans : ℕ → Plan K) (k m : ℕ) → k ≤ m → deeds_in m (finals plans k) ≡ []
+finals_above : {K : Type 0} (plans : ℕ → List (Act K)) (k m : ℕ) → k ≤ m → deeds_in m (finals plans k) ≡ []
 finals_above plans zero m le = refl
 finals_above plans (suc k) m le =
     elim (eqb_tells m k) [
@@ -297,37 +254,32 @@ finals_above plans (suc k) m le =
       | inr other ↦ cond-false (nat_eq m k) _ _ other.0 ∙ finals_above plans k m (omega (arith, le))
     ]
 
-finals_below : {K : Type 0} (plans : ℕ → Plan K) (k m : ℕ) → m < k → deeds_in m (finals plans k) ≡ befall (plans m).acts
+finals_below : {K : Type 0} (plans : ℕ → List (Act K)) (k m : ℕ) → m < k → deeds_in m (finals plans k) ≡ befall (plans m)
 finals_below plans zero m l = absurd (omega (arith, l))
 finals_below plans (suc k) m l =
     elim (eqb_tells m k) [
       | inl is ↦ cond-true (nat_eq m k) _ _ is.0
-          ∙ ap (λ (ds : List Deed). befall (plans k).acts ++ ds) (finals_above plans k m (let same = is.1 in omega (arith, same)))
-          ∙ append-nil (befall (plans k).acts)
-          ∙ ap (λ (i : ℕ). befall (plans i).acts) (sym is.1)
+          ∙ ap (λ (ds : List Deed). befall (plans k) ++ ds) (finals_above plans k m (let same = is.1 in omega (arith, same)))
+          ∙ append-nil (befall (plans k))
+          ∙ ap (λ (i : ℕ). befall (plans i)) (sym is.1)
       | inr other ↦ cond-false (nat_eq m k) _ _ other.0 ∙ finals_below plans k m (let differ = other.1 in omega (arith, l, differ))
     ]
 
-finals_are : {K : Type 0} (g : Group) (plans : ℕ → Plan K) (came : ℕ → List Bytes) (sent : List (ℕ × Bytes)) (k : ℕ) → k ≤ g.members →
-    ((m : ℕ) → m < g.members → IsSound g m (came m) sent (plans m)) → ((m : ℕ) → m < g.members → rest (plans m) ≡ []) →
+finals_are : {K : Type 0} (g : Group) (plans : ℕ → List (Act K)) (came : ℕ → List Bytes) (sent : List (ℕ × Bytes)) (k : ℕ) → k ≤ g.members →
+    ((m : ℕ) → m < g.members → AreSound g m (plans m) (came m) sent) → ((m : ℕ) → m < g.members → happen (plans m) ≡ []) →
     AreStretches g (finals plans k)
 finals_are {K} g plans came sent zero le sound none = tt
 finals_are {K} g plans came sent (suc k) le sound none =
-    let below : k < g.members = omega (arith, le) in
-    let p = plans k in (
+    let below : k < g.members = omega (arith, le) in (
       below,
-      subst (λ (ms : List _). AreBrought g k [] ms)
-          (sym (silent g k p.acts (came k) sent (sound k below).acts (no_more p.pending (happen p.acts) (none k below)))) (none_brought g k []),
+      subst (λ (ms : List _). AreBrought g k [] ms) (sym (silent g k (plans k) (came k) sent (sound k below) (none k below)))
+          (none_brought g k []),
       finals_are g plans came sent k (omega (arith, le)) sound none,
     )
-  where
-    no_more : (pending : List (ℕ × Bytes)) (es : List (RunEvent K WireEvent)) → during (hands pending) ++ es ≡ [] → es ≡ []
-    no_more [] es h = h
-    no_more (d ∷ ds) es h = absurd (cc)
 
-finals_carried : {K : Type 0} (g : Group) (plans : ℕ → Plan K) (k : ℕ) (sent : List (ℕ × Bytes)) → AreCarried g (finals plans k) sent
+finals_carried : {K : Type 0} (g : Group) (plans : ℕ → List (Act K)) (k : ℕ) (sent : List (ℕ × Bytes)) → AreCarried g (finals plans k) sent
 finals_carried g plans zero sent = tt
-finals_carried g plans (suc k) sent = (λ bytes n. absurd n, finals_carried g plans k (sent ++ sent_by (befall (plans k).acts)))
+finals_carried g plans (suc k) sent = (λ bytes n. absurd n, finals_carried g plans k (sent ++ sent_by (befall (plans k))))
 
 -- ---- the whole network
 
@@ -388,22 +340,19 @@ carried_later : (g : Group) (m : ℕ) (bytes : Bytes) (few many : List (ℕ × B
 carried_later g m bytes few many a (inl sent) = inl (a (m, bytes) sent)
 carried_later g m bytes few many a (inr outside) = inr outside
 
-messages_both : (g : Group) (xs ys : List (ℕ × Bytes)) → AreMessages g xs → AreMessages g ys → AreMessages g (xs ++ ys)
-messages_both g xs ys a b d n = elim (among_cases xs ys d n) [ inl here ↦ a d here | inr there ↦ b d there ]
-
-record Whole {K : Type 0} (g : Group) (plans : ℕ → Plan K) (sent : List (ℕ × Bytes)) : Type 0 where
+record Whole {K : Type 0} (g : Group) (plans : ℕ → List (Act K)) (sent : List (ℕ × Bytes)) : Type 0 where
   stretches : List Stretch
   are : AreStretches g stretches
   carried : AreCarried g stretches sent
-  deeds : (m : ℕ) → m < g.members → deeds_in m stretches ≡ befall (plans m).acts
+  deeds : (m : ℕ) → m < g.members → deeds_in m stretches ≡ befall (plans m)
 
 -- what came to each member was carried
 abbrev HasCome : Group → (came : ℕ → List Bytes) → (sent : List (ℕ × Bytes)) → Type 0
 HasCome g came sent = (m : ℕ) (bytes : Bytes) → m < g.members → Among (came m) bytes → IsCarried g sent m bytes
 
 whole : {K : Type 0} (g : Group) (network : List (ℕ × RunEvent K WireEvent)) (handed : List Bytes) (sent : List (ℕ × Bytes))
-    (came : ℕ → List Bytes) (plans : ℕ → Plan K) →
-    ((m : ℕ) → m < g.members → IsSound g m (came m) sent (plans m)) → ((m : ℕ) → m < g.members → rest (plans m) ≡ events_at m network) →
+    (came : ℕ → List Bytes) (plans : ℕ → List (Act K)) →
+    ((m : ℕ) → m < g.members → AreSound g m (plans m) (came m) sent) → ((m : ℕ) → m < g.members → happen (plans m) ≡ events_at m network) →
     HasCome g came sent → WereSent handed sent → AreMessages g sent → Carries g network handed → Whole g plans sent
 whole g [] handed sent came plans sound rests has a spelled c = record {
   stretches = finals plans g.members;
@@ -413,9 +362,8 @@ whole g [] handed sent came plans sound rests has a spelled c = record {
 }
 whole {K} g ((m, e) ∷ xs) handed sent came plans sound rests has a spelled c =
     let f = carries_first g m e xs handed c in
-    let p = plans m in
-    let own : rest p ≡ e ∷ events_at m xs = rests m f.0 ∙ cond-true (nat_eq m m) _ _ (eq-eqb m m refl) in
-    let s = step g m (came m) sent p.pending p.acts e (events_at m xs) (sound m f.0).pending (sound m f.0).acts own in
+    let own : happen (plans m) ≡ e ∷ events_at m xs = rests m f.0 ∙ cond-true (nat_eq m m) _ _ (eq-eqb m m refl) in
+    let s = step g m (came m) sent (plans m) e (events_at m xs) (sound m f.0) own in
     let then = put plans m s.then in
     let here = came m ++ given_by e in
     let gone = put came m here in
@@ -429,16 +377,16 @@ whole {K} g ((m, e) ∷ xs) handed sent came plans sound rests has a spelled c =
     ] in
     let r = whole g xs (handed ++ more) later gone then
     (λ k below. elim (eqb_tells k m) [
-      | inl is ↦ subst (λ (q : Plan K). IsSound g k (gone k) later q) (sym (cond-true (nat_eq k m) s.then (plans k) is.0))
-          (subst (λ (bs : List Bytes). IsSound g k bs later s.then) (sym (cond-true (nat_eq k m) here (came k) is.0))
-          (subst (λ (j : ℕ). IsSound g j here later s.then) (sym is.1) s.sound))
-      | inr other ↦ subst (λ (q : Plan K). IsSound g k (gone k) later q) (sym (cond-false (nat_eq k m) s.then (plans k) other.0))
-          (subst (λ (bs : List Bytes). IsSound g k bs later (plans k)) (sym (cond-false (nat_eq k m) here (came k) other.0))
-          (plan_more g k (plans k) (came k) (came k) sent later (among_all (came k)) on (sound k below)))
+      | inl is ↦ subst (λ (q : List (Act K)). AreSound g k q (gone k) later) (sym (cond-true (nat_eq k m) s.then (plans k) is.0))
+          (subst (λ (bs : List Bytes). AreSound g k s.then bs later) (sym (cond-true (nat_eq k m) here (came k) is.0))
+          (subst (λ (j : ℕ). AreSound g j s.then here later) (sym is.1) s.sound))
+      | inr other ↦ subst (λ (q : List (Act K)). AreSound g k q (gone k) later) (sym (cond-false (nat_eq k m) s.then (plans k) other.0))
+          (subst (λ (bs : List Bytes). AreSound g k (plans k) bs later) (sym (cond-false (nat_eq k m) here (came k) other.0))
+          (sound_more g k (plans k) (came k) (came k) sent later (among_all (came k)) on (sound k below)))
     ])
     (λ k below. elim (eqb_tells k m) [
-      | inl is ↦ ap rest (cond-true (nat_eq k m) s.then (plans k) is.0) ∙ s.rest_is ∙ ap (λ (j : ℕ). events_at j xs) (sym is.1)
-      | inr other ↦ ap rest (cond-false (nat_eq k m) s.then (plans k) other.0) ∙ rests k below ∙ cond-false (nat_eq k m) _ _ other.0
+      | inl is ↦ ap happen (cond-true (nat_eq k m) s.then (plans k) is.0) ∙ s.rest_is ∙ ap (λ (j : ℕ). events_at j xs) (sym is.1)
+      | inr other ↦ ap happen (cond-false (nat_eq k m) s.then (plans k) other.0) ∙ rests k below ∙ cond-false (nat_eq k m) _ _ other.0
     ])
     (λ k b below n. carried_later g k b sent later on (elim (eqb_tells k m) [
       | inl is ↦ subst (λ (j : ℕ). IsCarried g sent j b) (sym is.1)
@@ -456,18 +404,23 @@ whole {K} g ((m, e) ∷ xs) handed sent came plans sound rests has a spelled c =
       carried = (carried, r.carried);
       deeds = λ k below. elim (eqb_tells k m) [
         | inl is ↦ cond-true (nat_eq k m) _ _ is.0
-            ∙ ap (λ (ds : List Deed). s.deeds ++ ds) (r.deeds k below ∙ ap (λ (q : Plan K). befall q.acts) (cond-true (nat_eq k m) s.then (plans k) is.0))
-            ∙ sym s.all ∙ ap (λ (j : ℕ). befall (plans j).acts) (sym is.1)
+            ∙ ap (λ (ds : List Deed). s.deeds ++ ds) (r.deeds k below ∙ ap (λ (q : List (Act K)). befall q) (cond-true (nat_eq k m) s.then (plans k) is.0))
+            ∙ sym s.all ∙ ap (λ (j : ℕ). befall (plans j)) (sym is.1)
         | inr other ↦ cond-false (nat_eq k m) _ _ other.0 ∙ r.deeds k below
-            ∙ ap (λ (q : Plan K). befall q.acts) (cond-false (nat_eq k m) s.then (plans k) other.0)
+            ∙ ap (λ (q : List (Act K)). befall q) (cond-false (nat_eq k m) s.then (plans k) other.0)
       ];
     }
 
 -- ---- from runs to acts
 
+-- what was sent is handed over
+abbrev hands_then : {K : Type 0} → List (ℕ × Bytes) → List (Act K) → List (Act K)
+hands_then [] later = later
+hands_then (d ∷ ds) later = Resends d.0 d.1 ∷ hands_then ds later
+
 abbrev moves_then : {K : Type 0} → List Move → List (Act K) → List (Act K)
 moves_then [] later = later
-moves_then (living.Does came i t out ∷ ms) later = Answers came i t out ∷ moves_then ms later
+moves_then (living.Does came i t out ∷ ms) later = Answers came i t out ∷ hands_then (handed_over out) (moves_then ms later)
 moves_then (living.Passes b ∷ ms) later = Skips b ∷ moves_then ms later
 moves_then (living.Repeats to b ∷ ms) later = Resends to b ∷ moves_then ms later
 
@@ -477,11 +430,19 @@ last_then [] later = later
 last_then (Gave b ∷ es) later = Skips b ∷ last_then es later
 last_then (Handed to b ∷ es) later = Resends to b ∷ last_then es later
 
+hands_happen : {K : Type 0} (ds : List (ℕ × Bytes)) (later : List (Act K)) → happen (hands_then ds later) ≡ during (hands ds) ++ happen later
+hands_happen [] later = refl
+hands_happen (d ∷ ds) later = ap (λ (fs : List (RunEvent _ WireEvent)). During (Handed d.0 d.1) ∷ fs) (hands_happen ds later)
+
 moves_happen : {K : Type 0} (ms : List Move) (later : List (Act K)) → happen (moves_then ms later) ≡ during (events_of ms) ++ happen later
 moves_happen [] later = refl
 moves_happen (living.Does came i t out ∷ ms) later =
-    let es = gives came ++ hands (handed_over out) in
-    ap (λ (fs : List (RunEvent _ WireEvent)). during es ++ fs) (moves_happen ms later) ∙ sym (during_append es (events_of ms) (happen later))
+    let ds = handed_over out in
+    let then = during (events_of ms) ++ happen later in
+    ap (λ (fs : List (RunEvent _ WireEvent)). during (gives came) ++ fs)
+    (hands_happen ds (moves_then ms later) ∙ ap (λ (fs : List (RunEvent _ WireEvent)). during (hands ds) ++ fs) (moves_happen ms later))
+    ∙ sym (during_append (gives came) (hands ds) then)
+    ∙ sym (during_append (gives came ++ hands ds) (events_of ms) (happen later))
 moves_happen (living.Passes b ∷ ms) later = ap (λ (fs : List (RunEvent _ WireEvent)). During (Gave b) ∷ fs) (moves_happen ms later)
 moves_happen (living.Repeats to b ∷ ms) later = ap (λ (fs : List (RunEvent _ WireEvent)). During (Handed to b) ∷ fs) (moves_happen ms later)
 
@@ -490,9 +451,14 @@ last_happens [] later = refl
 last_happens (Gave b ∷ es) later = ap (λ (fs : List (RunEvent _ WireEvent)). During (Gave b) ∷ fs) (last_happens es later)
 last_happens (Handed to b ∷ es) later = ap (λ (fs : List (RunEvent _ WireEvent)). During (Handed to b) ∷ fs) (last_happens es later)
 
+hands_befall : {K : Type 0} (ds : List (ℕ × Bytes)) (later : List (Act K)) → befall (hands_then ds later) ≡ befall later
+hands_befall [] later = refl
+hands_befall (d ∷ ds) later = hands_befall ds later
+
 moves_befall : {K : Type 0} (ms : List Move) (later : List (Act K)) → befall (moves_then ms later) ≡ deeds_of ms ++ befall later
 moves_befall [] later = refl
-moves_befall (living.Does came i t out ∷ ms) later = ap (λ (ds : List Deed). Calls i t out ∷ ds) (moves_befall ms later)
+moves_befall (living.Does came i t out ∷ ms) later =
+    ap (λ (ds : List Deed). Calls i t out ∷ ds) (hands_befall (handed_over out) (moves_then ms later) ∙ moves_befall ms later)
 moves_befall (living.Passes b ∷ ms) later = moves_befall ms later
 moves_befall (living.Repeats to b ∷ ms) later = moves_befall ms later
 
@@ -510,6 +476,11 @@ last_sound g m (Gave b ∷ es) later came sent a s =
     (λ more c. s more (subst (λ (bs : List Bytes). AreAmong bs more) (append_assoc came (b ∷ []) (given_in es)) c))
 last_sound g m (Handed to b ∷ es) later came sent a s = (a (to, b) (inl refl), last_sound g m es later came sent (λ x n. a x (inr n)) s)
 
+hands_sound : {K : Type 0} (g : Group) (m : ℕ) (ds : List (ℕ × Bytes)) (later : List (Act K)) (came : List Bytes) (sent : List (ℕ × Bytes)) →
+    AreAmong ds sent → AreSound g m later came sent → AreSound g m (hands_then ds later) came sent
+hands_sound g m [] later came sent a s = s
+hands_sound g m (d ∷ ds) later came sent a s = (a d (inl refl), hands_sound g m ds later came sent (λ x n. a x (inr n)) s)
+
 moves_sound : {K : Type 0} (g : Group) (m : ℕ) (hears : Bool) (ms : List Move) (before : List Bytes) (kept : List (ℕ × Bytes))
     (later : List (Act K)) (came : List Bytes) (sent : List (ℕ × Bytes)) (from then : NodeState Bytes) → Lived g m from (deeds_of ms) then →
     AreMoves g m hears ms before kept → AreAmong kept sent →
@@ -520,15 +491,124 @@ moves_sound g m hears (living.Does b i t out ∷ ms) before kept later came sent
     let made = v.2 in (
       a.0,
       are_messages g made.plan.sends out (subst (λ (ds : List Datagram). AreSpelled g made.plan.sends ds) (sym made.handed) made.spelled),
-      moves_sound g m hears ms (before ++ came_in b) (kept ++ handed_over out) later (came ++ came_in b) (sent ++ handed_over out) t then v.3 a.1
+      hands_sound g m (handed_over out) (moves_then ms later) (came ++ came_in b) (sent ++ handed_over out)
+          (among_back (handed_over out) sent (handed_over out) (among_all (handed_over out)))
+          (moves_sound g m hears ms (before ++ came_in b) (kept ++ handed_over out) later (came ++ came_in b) (sent ++ handed_over out) t then v.3 a.1
           (among_sides kept (handed_over out) sent (handed_over out) k (among_all (handed_over out)))
           (λ more many c. s more many
-          (subst (λ (ds : List (ℕ × Bytes)). AreAmong ds many) (append_assoc kept (handed_over out) (sent_by (deeds_of ms))) c)),
+          (subst (λ (ds : List (ℕ × Bytes)). AreAmong ds many) (append_assoc kept (handed_over out) (sent_by (deeds_of ms))) c))),
     )
 moves_sound g m hears (living.Passes b ∷ ms) before kept later came sent from then v a k s =
     moves_sound g m hears ms (before ++ b ∷ []) kept later (came ++ b ∷ []) sent from then v a.1 k s
 moves_sound g m hears (living.Repeats to b ∷ ms) before kept later came sent from then v a k s =
     (k (to, b) a.0, moves_sound g m hears ms before kept later came sent from then v a.1 k s)
+
+-- ---- one list of acts behind another
+
+happen_append : {K : Type 0} (xs ys : List (Act K)) → happen (xs ++ ys) ≡ happen xs ++ happen ys
+happen_append [] ys = refl
+happen_append (Answers came i t out ∷ xs) ys =
+    ap (λ (fs : List (RunEvent _ WireEvent)). during (gives came) ++ fs) (happen_append xs ys)
+    ∙ sym (append_assoc (during (gives came)) (happen xs) (happen ys))
+happen_append (Skips b ∷ xs) ys = ap (λ (fs : List (RunEvent _ WireEvent)). During (Gave b) ∷ fs) (happen_append xs ys)
+happen_append (Resends to b ∷ xs) ys = ap (λ (fs : List (RunEvent _ WireEvent)). During (Handed to b) ∷ fs) (happen_append xs ys)
+happen_append (Begins k ds ∷ xs) ys = ap (λ (fs : List (RunEvent _ WireEvent)). Starts k ∷ fs) (happen_append xs ys)
+
+befall_append : {K : Type 0} (xs ys : List (Act K)) → befall (xs ++ ys) ≡ befall xs ++ befall ys
+befall_append [] ys = refl
+befall_append (Answers came i t out ∷ xs) ys = ap (λ (ds : List Deed). Calls i t out ∷ ds) (befall_append xs ys)
+befall_append (Skips b ∷ xs) ys = befall_append xs ys
+befall_append (Resends to b ∷ xs) ys = befall_append xs ys
+befall_append (Begins k ds ∷ xs) ys =
+    ap (λ (es : List Deed). ds ++ es) (befall_append xs ys) ∙ sym (append_assoc ds (befall xs) (befall ys))
+
+hands_apart : {K : Type 0} (ds : List (ℕ × Bytes)) (xs ys : List (Act K)) → hands_then ds (xs ++ ys) ≡ hands_then ds xs ++ ys
+hands_apart [] xs ys = refl
+hands_apart (d ∷ ds) xs ys = ap (λ (zs : List (Act _)). Resends d.0 d.1 ∷ zs) (hands_apart ds xs ys)
+
+moves_apart : {K : Type 0} (ms : List Move) (xs ys : List (Act K)) → moves_then ms (xs ++ ys) ≡ moves_then ms xs ++ ys
+moves_apart [] xs ys = refl
+moves_apart (living.Does came i t out ∷ ms) xs ys =
+    ap (λ (zs : List (Act _)). Answers came i t out ∷ hands_then (handed_over out) zs) (moves_apart ms xs ys)
+    ∙ ap (λ (zs : List (Act _)). Answers came i t out ∷ zs) (hands_apart (handed_over out) (moves_then ms xs) ys)
+moves_apart (living.Passes b ∷ ms) xs ys = ap (λ (zs : List (Act _)). Skips b ∷ zs) (moves_apart ms xs ys)
+moves_apart (living.Repeats to b ∷ ms) xs ys = ap (λ (zs : List (Act _)). Resends to b ∷ zs) (moves_apart ms xs ys)
+
+last_apart : {K : Type 0} (es : List WireEvent) (ys : List (Act K)) → last_then es ys ≡ last_then es [] ++ ys
+last_apart [] ys = refl
+last_apart (Gave b ∷ es) ys = ap (λ (zs : List (Act _)). Skips b ∷ zs) (last_apart es ys)
+last_apart (Handed to b ∷ es) ys = ap (λ (zs : List (Act _)). Resends to b ∷ zs) (last_apart es ys)
+
+-- ---- where a run stops before all is handed over
+
+abbrev behind : List WireEvent → List WireEvent
+behind [] = []
+behind (e ∷ es) = es
+
+-- the acts of a run over which this went: nothing more is handed over, and each call answers still
+abbrev only : {K : Type 0} → List (Act K) → (own : List WireEvent) → List (Act K)
+only [] own = []
+only (Answers None i t out ∷ xs) own = Answers None i t out ∷ only xs own
+only (Answers (Some b) i t out ∷ xs) own = Answers (Some b) i t out ∷ only xs (behind own)
+only (Skips b ∷ xs) own = Skips b ∷ only xs (behind own)
+only (Resends to b ∷ xs) [] = only xs []
+only (Resends to b ∷ xs) (e ∷ own) = Resends to b ∷ only xs own
+only (Begins k ds ∷ xs) own = Begins k ds ∷ only xs own
+
+abbrev with_first : {K : Type 0} → WireEvent → List (RunEvent K WireEvent) → List (RunEvent K WireEvent)
+with_first e es = During e ∷ es
+
+only_first : {K : Type 0} (d e : WireEvent) (es fs : List (RunEvent K WireEvent)) (own : List WireEvent) (lost : List (ℕ × Bytes)) →
+    During d ∷ es ≡ During e ∷ (during own ++ during (hands lost)) → (es ≡ during own ++ during (hands lost) → fs ≡ during own) →
+    During d ∷ fs ≡ During e ∷ during own
+only_first {K} d e es fs own lost h then =
+    let one : d ≡ e = cc in
+    let more : es ≡ during own ++ during (hands lost) = cc in
+    ap (λ (ys : List (RunEvent K WireEvent)). During d ∷ ys) (then more)
+    ∙ ap (λ (x : WireEvent). with_first {K = K} x (during own)) one
+
+only_happens : {K : Type 0} (xs : List (Act K)) (own : List WireEvent) (lost : List (ℕ × Bytes)) →
+    happen xs ≡ during own ++ during (hands lost) → happen (only xs own) ≡ during own
+only_happens [] [] lost h = refl
+only_happens [] (e ∷ own) lost h = absurd (cc)
+only_happens (Answers None i t out ∷ xs) own lost h = only_happens xs own lost h
+only_happens (Answers (Some b) i t out ∷ xs) [] [] h = absurd (cc)
+only_happens (Answers (Some b) i t out ∷ xs) [] (d ∷ ds) h = absurd (cc)
+only_happens (Answers (Some b) i t out ∷ xs) (e ∷ own) lost h =
+    only_first (Gave b) e (happen xs) (happen (only xs own)) own lost h (λ more. only_happens xs own lost more)
+only_happens (Skips b ∷ xs) [] [] h = absurd (cc)
+only_happens (Skips b ∷ xs) [] (d ∷ ds) h = absurd (cc)
+only_happens (Skips b ∷ xs) (e ∷ own) lost h =
+    only_first (Gave b) e (happen xs) (happen (only xs own)) own lost h (λ more. only_happens xs own lost more)
+only_happens (Resends to b ∷ xs) [] [] h = absurd (cc)
+only_happens (Resends to b ∷ xs) [] (d ∷ ds) h =
+    let more : happen xs ≡ during (hands ds) = cc in only_happens xs [] ds more
+only_happens (Resends to b ∷ xs) (e ∷ own) lost h =
+    only_first (Handed to b) e (happen xs) (happen (only xs own)) own lost h (λ more. only_happens xs own lost more)
+only_happens (Begins k ds ∷ xs) [] [] h = absurd (cc)
+only_happens (Begins k ds ∷ xs) [] (d ∷ es) h = absurd (cc)
+only_happens (Begins k ds ∷ xs) (e ∷ own) lost h = absurd (cc)
+
+only_befalls : {K : Type 0} (xs : List (Act K)) (own : List WireEvent) → befall (only xs own) ≡ befall xs
+only_befalls [] own = refl
+only_befalls (Answers None i t out ∷ xs) own = ap (λ (ds : List Deed). Calls i t out ∷ ds) (only_befalls xs own)
+only_befalls (Answers (Some b) i t out ∷ xs) own = ap (λ (ds : List Deed). Calls i t out ∷ ds) (only_befalls xs (behind own))
+only_befalls (Skips b ∷ xs) own = only_befalls xs (behind own)
+only_befalls (Resends to b ∷ xs) [] = only_befalls xs []
+only_befalls (Resends to b ∷ xs) (e ∷ own) = only_befalls xs own
+only_befalls (Begins k ds ∷ xs) own = ap (λ (es : List Deed). ds ++ es) (only_befalls xs own)
+
+only_sound : {K : Type 0} (g : Group) (m : ℕ) (xs : List (Act K)) (own : List WireEvent) (later : List (Act K)) (came : List Bytes)
+    (sent : List (ℕ × Bytes)) → AreSound g m (xs ++ later) came sent → AreSound g m (only xs own ++ later) came sent
+only_sound g m [] own later came sent s = s
+only_sound g m (Answers None i t out ∷ xs) own later came sent s =
+    (s.0, s.1, only_sound g m xs own later (came ++ []) (sent ++ handed_over out) s.2)
+only_sound g m (Answers (Some b) i t out ∷ xs) own later came sent s =
+    (s.0, s.1, only_sound g m xs (behind own) later (came ++ b ∷ []) (sent ++ handed_over out) s.2)
+only_sound g m (Skips b ∷ xs) own later came sent s = only_sound g m xs (behind own) later (came ++ b ∷ []) sent s
+only_sound g m (Resends to b ∷ xs) [] later came sent s = only_sound g m xs [] later came sent s.1
+only_sound g m (Resends to b ∷ xs) (e ∷ own) later came sent s = (s.0, only_sound g m xs own later came sent s.1)
+only_sound g m (Begins k ds ∷ xs) own later came sent s = (s.0, s.1, only_sound g m xs own later came sent s.2)
 
 -- ---- runs of a member
 
@@ -536,26 +616,42 @@ abbrev pub IsRun : {K : Type 0} → Group → (m : ℕ) → Run K → List WireE
 IsRun g m r events = Ran g m r.first events r.deeds r.end r.unanswered
 
 module _ {K : Type 0} (g : Group) (m : ℕ) where
-  -- what a member does in a run, and later
+  -- all that a member would do in a run, and what it does there, and later
+  abbrev whole_run : (r : Run K) (own : List WireEvent) → IsRun g m r own → List (Act K)
+  whole_run r own ran = moves_then ran.moves (last_then ran.last [])
+
   run_then : (r : Run K) (own : List WireEvent) → IsRun g m r own → List (Act K) → List (Act K)
-  run_then r own ran later = moves_then ran.moves (last_then ran.last later)
+  run_then r own ran later = only (whole_run r own ran) own ++ later
+
+  whole_happens : (r : Run K) (own : List WireEvent) (ran : IsRun g m r own) →
+      happen (whole_run r own ran) ≡ during own ++ during (hands ran.lost)
+  whole_happens r own ran =
+      moves_happen ran.moves (last_then ran.last [])
+      ∙ ap (λ (es : List (RunEvent K WireEvent)). during (events_of ran.moves) ++ es) (last_happens ran.last [])
+      ∙ sym (during_append (events_of ran.moves) ran.last [])
+      ∙ ap (λ (es : List WireEvent). during es ++ []) (sym ran.went)
+      ∙ during_append own (hands ran.lost) []
+      ∙ ap (λ (es : List (RunEvent K WireEvent)). during own ++ es) (append-nil (during (hands ran.lost)))
 
   run_happens : (r : Run K) (own : List WireEvent) (ran : IsRun g m r own) (later : List (Act K)) →
       happen (run_then r own ran later) ≡ during own ++ happen later
   unfolding run_then
   run_happens r own ran later =
-      moves_happen ran.moves (last_then ran.last later)
-      ∙ ap (λ (es : List (RunEvent K WireEvent)). during (events_of ran.moves) ++ es) (last_happens ran.last later)
-      ∙ sym (during_append (events_of ran.moves) ran.last (happen later))
-      ∙ ap (λ (es : List WireEvent). during es ++ happen later) (sym ran.went)
+      happen_append (only (whole_run r own ran) own) later
+      ∙ ap (λ (es : List (RunEvent K WireEvent)). es ++ happen later)
+      (only_happens (whole_run r own ran) own ran.lost (whole_happens r own ran))
 
   run_befalls : (r : Run K) (own : List WireEvent) (ran : IsRun g m r own) (later : List (Act K)) →
       befall (run_then r own ran later) ≡ r.deeds ++ befall later
   unfolding run_then
   run_befalls r own ran later =
-      moves_befall ran.moves (last_then ran.last later)
-      ∙ ap (λ (ds : List Deed). deeds_of ran.moves ++ ds) (last_befalls ran.last later)
-      ∙ ap (λ (ds : List Deed). ds ++ befall later) (sym ran.does)
+      befall_append (only (whole_run r own ran) own) later
+      ∙ ap (λ (ds : List Deed). ds ++ befall later)
+      (only_befalls (whole_run r own ran) own
+      ∙ moves_befall ran.moves (last_then ran.last [])
+      ∙ ap (λ (ds : List Deed). deeds_of ran.moves ++ ds) (last_befalls ran.last [])
+      ∙ append-nil (deeds_of ran.moves)
+      ∙ sym ran.does)
 
   run_lives : (r : Run K) (own : List WireEvent) (ran : IsRun g m r own) (later : List (Act K)) (then : NodeState Bytes) →
       Lived g m r.end (befall later) then → Lived g m (started r.first) (befall (run_then r own ran later)) then
@@ -572,10 +668,13 @@ module _ {K : Type 0} (g : Group) (m : ℕ) where
       (came : List Bytes) (sent : List (ℕ × Bytes)) → AreSound g m (run_then r own ran later) came sent
   unfolding run_then
   run_sound r own ran later s came sent =
-      moves_sound g m ran.hears ran.moves [] [] (last_then ran.last later) came sent (started r.first) r.end ran.lived ran.are (among_none sent)
+      only_sound g m (whole_run r own ran) own later came sent
+      (subst (λ (xs : List (Act K)). AreSound g m xs came sent)
+      (ap (λ (xs : List (Act K)). moves_then ran.moves xs) (last_apart ran.last later) ∙ moves_apart ran.moves (last_then ran.last []) later)
+      (moves_sound g m ran.hears ran.moves [] [] (last_then ran.last later) came sent (started r.first) r.end ran.lived ran.are (among_none sent)
       (λ more many c. last_sound g m ran.last later more many (among_then (handed_in ran.last) (sent_by (deeds_of ran.moves)) many ran.again c)
       (λ all d. s all many (subst (λ (bs : List Bytes). AreAmong bs all) (sym ran.came)
-      (among_then (given_in ran.last) (more ++ given_in ran.last) all (among_back (given_in ran.last) more (given_in ran.last) (among_all (given_in ran.last))) d))))
+      (among_then (given_in ran.last) (more ++ given_in ran.last) all (among_back (given_in ran.last) more (given_in ran.last) (among_all (given_in ran.last))) d))))))
 
   -- what a member does that stands so, in its next runs
   record Later (s : NodeState Bytes) (unanswered : List Bytes) (runs : List (Run K)) (events : List (RunEvent K WireEvent)) : Type 0 where
@@ -642,19 +741,19 @@ module _ {K : Type 0} (g : Group) (network : List (ℕ × RunEvent K WireEvent))
   acted_at m below = acted g m (runs m) (events_at m network) (are m below)
 
   -- what a member does from the start on; nothing of no member
-  abbrev plan_of : (m : ℕ) → (m < g.members) ⊎ (g.members ≤ m) → Plan K
-  plan_of m (inl below) = record { pending = []; acts = (acted_at m below).acts }
-  plan_of m (inr above) = record { pending = []; acts = [] }
+  abbrev plan_of : (m : ℕ) → (m < g.members) ⊎ (g.members ≤ m) → List (Act K)
+  plan_of m (inl below) = (acted_at m below).acts
+  plan_of m (inr above) = []
 
-  sound_at : (m : ℕ) (w : (m < g.members) ⊎ (g.members ≤ m)) → m < g.members → IsSound g m [] [] (plan_of m w)
-  sound_at m (inl b) below = record { pending = among_none []; acts = (acted_at m b).sound }
+  sound_at : (m : ℕ) (w : (m < g.members) ⊎ (g.members ≤ m)) → m < g.members → AreSound g m (plan_of m w) [] []
+  sound_at m (inl b) below = (acted_at m b).sound
   sound_at m (inr above) below = absurd (omega (arith, above, below))
 
-  rest_at : (m : ℕ) (w : (m < g.members) ⊎ (g.members ≤ m)) → m < g.members → rest (plan_of m w) ≡ events_at m network
+  rest_at : (m : ℕ) (w : (m < g.members) ⊎ (g.members ≤ m)) → m < g.members → happen (plan_of m w) ≡ events_at m network
   rest_at m (inl b) below = (acted_at m b).happens
   rest_at m (inr above) below = absurd (omega (arith, above, below))
 
-  lived_at : (m : ℕ) (w : (m < g.members) ⊎ (g.members ≤ m)) → m < g.members → (ds : List Deed) → ds ≡ befall (plan_of m w).acts →
+  lived_at : (m : ℕ) (w : (m < g.members) ⊎ (g.members ≤ m)) → m < g.members → (ds : List Deed) → ds ≡ befall (plan_of m w) →
       Lived g m (started nothing_stored) ds (stands runs m) × IsTrace (runs m) ds
   lived_at m (inl b) below ds e = (
     subst (λ (xs : List Deed). Lived g m (started nothing_stored) xs (stands runs m)) (sym e) (acted_at m b).lived,

@@ -123,6 +123,7 @@ nothing_yet g m first = record {
       are = tt;
       last = [];
       came = refl;
+      lost = [];
       went = refl;
       again = λ d none. none;
     };
