@@ -2,3 +2,4 @@ pub mod Writing
 mod Refusing
 pub mod Stores
 pub mod Endings
+pub mod Sealed

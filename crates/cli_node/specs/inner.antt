@@ -2,3 +2,4 @@
 pub mod Places
 pub mod Outcomes
 pub mod Stores
+pub mod Running

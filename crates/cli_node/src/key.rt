@@ -1,6 +1,6 @@
 //! The keys that the words of `node` name, and new ones.
 
-ghost use Rattle.std.specs.Prelude.{◌≡◌, ◌⊎◌, ◌==◌, ◌/◌, Err, OnErr};
+ghost use Rattle.std.specs.Prelude.{◌≡◌, ◌⊎◌, ◌==◌, ◌/◌, Ok, Err, Some, true, OnErr, IfOk, IfSome, option_map, is_some};
 ghost use Rattle.node_udp.specs.Addresses.{address_of};
 ghost use Rattle.cli_node.specs.declared.outcome.Outcome.TheVariants.{Memory, Refused};
 ghost use Rattle.cli_node.specs.inner.Places.{is_loopback, is_loopback_ip};
@@ -44,6 +44,21 @@ fn key_refused(rt: &HostRuntime, path: &str, fault: KeyFault) -> Outcome
     Outcome::Refused(BAD_KEY)
 }
 
+/// The key that was read, if it was.
+fn key_of(
+    rt: &HostRuntime,
+    path: &str,
+    read: Result<[u8; 32], KeyFault>,
+) -> Result<[u8; 32], Outcome>
+    ensures refused { OnErr result ((result ≡ Err Memory) ⊎ (result ≡ Err (Refused 83))) }
+    ensures read { IfOk result (λ k. read ≡ Ok k) }
+{
+    match read {
+        Ok(key) => Ok(key),
+        Err(fault) => Err(key_refused(rt, path, fault)),
+    }
+}
+
 /// The key of the cluster's tags that the secret in a file makes.
 pub(crate) fn key_in(
     rt: &HostRuntime,
@@ -53,9 +68,43 @@ pub(crate) fn key_in(
 ) -> Result<[u8; 32], Outcome>
     ensures { OnErr result ((result ≡ Err Memory) ⊎ (result ≡ Err (Refused 83))) }
 {
-    match read_cluster_key(rt, alloc, path, words.cluster, words.members) {
-        Ok(key) => Ok(key),
-        Err(fault) => Err(key_refused(rt, path, fault)),
+    let read = read_cluster_key(rt, alloc, path, words.cluster, words.members);
+    key_of(rt, path, read)
+}
+
+/// The keys, where the other was read.
+fn keys_of(key: [u8; 32], other: Result<[u8; 32], Outcome>) -> Result<Option<Keys>, Outcome>
+    requires refused { OnErr other ((other ≡ Err Memory) ⊎ (other ≡ Err (Refused 83))) }
+    ensures refused { OnErr result ((result ≡ Err Memory) ⊎ (result ≡ Err (Refused 83))) }
+    ensures key { IfOk result (λ ks. option_map (λ k. k.key) ks ≡ Some key) }
+    ensures read { IfOk result (λ ks. IfSome ks (λ k. IfSome k.other (λ o. other ≡ Ok o))) }
+    ensures other { IfOk result (λ ks. option_map (λ k. is_some k.other) ks ≡ Some true) }
+    ensures keyed { IfOk result (λ ks. is_some ks ≡ true) }
+{
+    match other {
+        Ok(other) => Ok(Some(Keys {
+            key,
+            other: Some(other),
+        })),
+        Err(outcome) => Err(outcome),
+    }
+}
+
+/// The keys with this one, and another that the words name, if they do.
+fn keys_with(
+    rt: &HostRuntime,
+    alloc: Global,
+    words: NodeWords<'_, '_, '_>,
+    key: [u8; 32],
+) -> Result<Option<Keys>, Outcome>
+    ensures refused { OnErr result ((result ≡ Err Memory) ⊎ (result ≡ Err (Refused 83))) }
+    ensures key { IfOk result (λ ks. option_map (λ k. k.key) ks ≡ Some key) }
+    ensures other { IfOk result (λ ks. option_map (λ k. is_some k.other) ks ≡ Some (is_some words.entry.other_key)) }
+    ensures keyed { IfOk result (λ ks. is_some ks ≡ true) }
+{
+    match words.other_key {
+        Some(path) => keys_of(key, key_in(rt, alloc, words, path)),
+        None => Ok(Some(Keys { key, other: None })),
     }
 }
 
@@ -65,23 +114,14 @@ pub(crate) fn keys_for(
     alloc: Global,
     words: NodeWords<'_, '_, '_>,
 ) -> Result<Option<Keys>, Outcome>
-    ensures { OnErr result ((result ≡ Err Memory) ⊎ (result ≡ Err (Refused 83))) }
+    ensures refused { OnErr result ((result ≡ Err Memory) ⊎ (result ≡ Err (Refused 83))) }
+    ensures keyed { IfOk result (λ ks. is_some ks ≡ is_some words.entry.key) }
 {
     let Some(path) = words.key else {
         return Ok(None);
     };
-    let key = match key_in(rt, alloc, words, path) {
-        Ok(key) => key,
-        Err(outcome) => return Err(outcome),
-    };
-    let Some(path) = words.other_key else {
-        return Ok(Some(Keys { key, other: None }));
-    };
     match key_in(rt, alloc, words, path) {
-        Ok(other) => Ok(Some(Keys {
-            key,
-            other: Some(other),
-        })),
+        Ok(key) => keys_with(rt, alloc, words, key),
         Err(outcome) => Err(outcome),
     }
 }

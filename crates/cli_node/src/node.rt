@@ -1,15 +1,15 @@
 //! The word `node`: a node over UDP.
 
 ghost use Rattle.std.specs.Prelude.{◌≡◌, ◌≢◌, ◌<◌, ◌≤◌, ◌⊎◌, ◌↔◌, Err, false, length, IfSome, OnErr, IsSome, IsTrue};
-ghost use Rattle.std.specs.Prelude.{ℕ, Bool, [], Some, None, IfOk, option_map, option_and_then};
+ghost use Rattle.std.specs.Prelude.{ℕ, Bool, [], Some, None, IfOk, option_map, option_and_then, is_some};
 ghost use Rattle.toml.specs.Data.{as_str, get_member};
-ghost use Rattle.px_packet.specs.Hmac.{key_block};
-ghost use Rattle.px_packet.specs.Packets.{packet_key};
-ghost use Rattle.px_packet.specs.Keyed.{and_key};
 ghost use Rattle.px_transport.specs.Wiring.{keys_of, sealer_of};
+ghost use Rattle.node_loop.specs.Lives.{OnFront};
+ghost use Rattle.node_loop.specs.Timing.{MakesTurns};
 ghost use Rattle.cli_files.specs.Files.{settings_of};
 ghost use Rattle.cli_files.specs.Settings.{number_of};
 ghost use Rattle.cli_node.specs.declared.outcome.Outcome.TheVariants.{Memory, Refused};
+ghost use Rattle.cli_node.specs.inner.Running.{IsAlone, IsUnrun, RunsHere, keys_with, sealer_with};
 ghost use Rattle.cli_node.specs.inner.Outcomes.{ComesTo, ComesOpen, ComesOpenOr, IsWireless};
 ghost use Rattle.cli_node.specs.inner.Stores.{IsStoreless};
 ghost use Rattle.cli_node.specs.inner.Places.{is_count, has_place, turns_or_all, chosen};
@@ -23,7 +23,7 @@ use crate::store::{Found, found_at, is_made, record_at};
 use clap::ArgMatches;
 use cli_files::NodeFile;
 use node_control::{ControlPlace, Observer, run_at_socket, run_sealed_at_socket};
-use node_loop::{Membership, TickTimer, open_member};
+use node_loop::{Membership, TickTimer, Timer, open_member};
 use node_udp::{Address, BindFault, UdpWire};
 use px_packet::PacketKeys;
 use px_records::Records;
@@ -220,15 +220,8 @@ fn sealed(
     ensures refused { OnErr result ((result ≡ Err Memory) ⊎ (result ≡ Err (Refused 82))) }
     ensures new { IfOk result (λ w.
         ⟦<PacketWire<UdpWire<UdpSocket, HostRuntime>, HostRuntime> as Wire>⟧.traffic w []) }
-    ensures sealer { IfOk result (λ w. sealer_of w ≡ record {
-      cluster = m.cluster;
-      members = m.members;
-      me = m.me;
-      start = sealing.start;
-      key = key_block (packet_key sealing.keys.key);
-    }) }
-    ensures keys { IfOk result (λ w. keys_of w ≡ and_key (key_block (packet_key sealing.keys.key))
-        (option_map (λ k. key_block (packet_key k)) sealing.keys.other)) }
+    ensures sealer { IfOk result (λ w. sealer_of w ≡ sealer_with m sealing) }
+    ensures keys { IfOk result (λ w. keys_of w ≡ keys_with sealing) }
 {
     let wire = match wire {
         Ok(wire) => wire,
@@ -263,6 +256,7 @@ fn open_alone<R: Records>(
     requires wireless { IsWireless outcome }
     ensures hosted { ComesOpen R.Records m records result.0 result.1 }
     ensures turns { ComesTo R.Records m records result.0 result.1 }
+    ensures alone { IsAlone R.Records m records result.0 result.1 }
 {
     let (ended, records) = open_member(alloc, m, records);
     (ended_outcome(ended, outcome), records)
@@ -270,21 +264,26 @@ fn open_alone<R: Records>(
 
 /// The run of a member at its socket, without a key, with a control socket at the place if there is one; without a wire
 /// its record is opened alone.
-fn run_plain<R: Records>(
+fn run_plain<R: Records, T: Timer>(
     rt: &HostRuntime,
     alloc: Global,
     words: NodeWords<'_, '_, '_>,
     m: Membership,
     records: R,
     wire: Result<UdpWire<UdpSocket, HostRuntime>, Outcome>,
+    timer: &mut T,
     place: Option<ControlPlace<'_>>,
 ) -> (Outcome, R)
     requires members { R.members records ≡ m.members }
     requires here { m.me < m.members }
+    requires failed { R.failed records ≡ 0 }
     requires refused { OnErr wire ((wire ≡ Err Memory) ⊎ (wire ≡ Err (Refused 82))) }
     requires new { IfOk wire (λ w. ⟦<UdpWire<UdpSocket, HostRuntime> as Wire>⟧.traffic w []) }
     ensures hosted { ComesOpen R.Records m records result.0 result.1 }
     ensures turns { place.entry ≡ None → ComesTo R.Records m records result.0 result.1 }
+    ensures ran { IsAlone R.Records m records result.0 result.1 ⊎
+        RunsHere R.Records m None records result.0 result.1 (λ how. place.entry ≡ None →
+        OnFront how (MakesTurns words.entry.turns (T.told timer.old) (T.told timer.new))) }
 {
     let wire = match wire {
         Ok(wire) => wire,
@@ -293,14 +292,13 @@ fn run_plain<R: Records>(
     let Ok(mut observer) = Observer::new(alloc, m, words.key.is_some(), words.is_quiet) else {
         return open_alone(alloc, m, records, Outcome::Memory);
     };
-    let mut timer = TickTimer::new(m.me());
     let (ended, records, _wire) = run_at_socket(
         rt,
         alloc,
         m,
         records,
         wire,
-        &mut timer,
+        timer,
         &mut observer,
         words.hears_asks(),
         place,
@@ -309,39 +307,43 @@ fn run_plain<R: Records>(
     (ended_outcome(ended, Outcome::Memory), records)
 }
 
-/// The same with a key.
-fn run_with_key<R: Records>(
+/// The same with keys, over a wire of packets.
+fn run_with_key<R: Records, T: Timer>(
     rt: &HostRuntime,
     alloc: Global,
     words: NodeWords<'_, '_, '_>,
     m: Membership,
     records: R,
-    wire: Result<PacketWire<UdpWire<UdpSocket, HostRuntime>, HostRuntime>, Outcome>,
+    wire: Result<UdpWire<UdpSocket, HostRuntime>, Outcome>,
+    sealing: Sealing,
+    timer: &mut T,
     place: Option<ControlPlace<'_>>,
 ) -> (Outcome, R)
     requires members { R.members records ≡ m.members }
     requires here { m.me < m.members }
+    requires failed { R.failed records ≡ 0 }
     requires refused { OnErr wire ((wire ≡ Err Memory) ⊎ (wire ≡ Err (Refused 82))) }
-    requires new { IfOk wire (λ w.
-        ⟦<PacketWire<UdpWire<UdpSocket, HostRuntime>, HostRuntime> as Wire>⟧.traffic w []) }
+    requires new { IfOk wire (λ w. ⟦<UdpWire<UdpSocket, HostRuntime> as Wire>⟧.traffic w []) }
     ensures hosted { ComesOpen R.Records m records result.0 result.1 }
     ensures turns { place.entry ≡ None → ComesTo R.Records m records result.0 result.1 }
+    ensures ran { IsAlone R.Records m records result.0 result.1 ⊎
+        RunsHere R.Records m (Some sealing) records result.0 result.1 (λ how. place.entry ≡ None →
+        OnFront how (MakesTurns words.entry.turns (T.told timer.old) (T.told timer.new))) }
 {
-    let wire = match wire {
+    let wire = match sealed(rt, alloc, m, wire, sealing) {
         Ok(wire) => wire,
         Err(outcome) => return open_alone(alloc, m, records, outcome),
     };
     let Ok(mut observer) = Observer::new(alloc, m, words.key.is_some(), words.is_quiet) else {
         return open_alone(alloc, m, records, Outcome::Memory);
     };
-    let mut timer = TickTimer::new(m.me());
     let (ended, records, _wire) = run_sealed_at_socket(
         rt,
         alloc,
         m,
         records,
         wire,
-        &mut timer,
+        timer,
         &mut observer,
         words.hears_asks(),
         place,
@@ -350,28 +352,56 @@ fn run_with_key<R: Records>(
     (ended_outcome(ended, Outcome::Memory), records)
 }
 
+/// The run of a member at its socket, with keys if there are some.
+fn run_at<R: Records, T: Timer>(
+    rt: &HostRuntime,
+    alloc: Global,
+    words: NodeWords<'_, '_, '_>,
+    m: Membership,
+    records: R,
+    wire: Result<UdpWire<UdpSocket, HostRuntime>, Outcome>,
+    sealing: Option<Sealing>,
+    timer: &mut T,
+    place: Option<ControlPlace<'_>>,
+) -> (Outcome, R)
+    requires members { R.members records ≡ m.members }
+    requires here { m.me < m.members }
+    requires failed { R.failed records ≡ 0 }
+    requires refused { OnErr wire ((wire ≡ Err Memory) ⊎ (wire ≡ Err (Refused 82))) }
+    requires new { IfOk wire (λ w. ⟦<UdpWire<UdpSocket, HostRuntime> as Wire>⟧.traffic w []) }
+    ensures hosted { ComesOpen R.Records m records result.0 result.1 }
+    ensures turns { place.entry ≡ None → ComesTo R.Records m records result.0 result.1 }
+    ensures ran { IsAlone R.Records m records result.0 result.1 ⊎
+        RunsHere R.Records m sealing records result.0 result.1 (λ how. place.entry ≡ None →
+        OnFront how (MakesTurns words.entry.turns (T.told timer.old) (T.told timer.new))) }
+{
+    match sealing {
+        Some(sealing) => { run_with_key(rt, alloc, words, m, records, wire, sealing, timer, place) }
+        None => run_plain(rt, alloc, words, m, records, wire, timer, place),
+    }
+}
+
 /// The run of a member over a socket, without a control socket.
-fn run_node<R: Records>(
+fn run_node<R: Records, T: Timer>(
     rt: &HostRuntime,
     alloc: Global,
     words: NodeWords<'_, '_, '_>,
     m: Membership,
     records: R,
     sealing: Option<Sealing>,
+    timer: &mut T,
 ) -> (Outcome, R)
     requires members { R.members records ≡ m.members }
     requires here { m.me < m.members }
+    requires failed { R.failed records ≡ 0 }
     ensures hosted { ComesOpen R.Records m records result.0 result.1 }
     ensures turns { ComesTo R.Records m records result.0 result.1 }
+    ensures ran { IsAlone R.Records m records result.0 result.1 ⊎
+        RunsHere R.Records m sealing records result.0 result.1 (λ how.
+        OnFront how (MakesTurns words.entry.turns (T.told timer.old) (T.told timer.new))) }
 {
     let wire = bind(rt, alloc, words);
-    match sealing {
-        Some(sealing) => {
-            let wire = sealed(rt, alloc, m, wire, sealing);
-            run_with_key(rt, alloc, words, m, records, wire, None)
-        }
-        None => run_plain(rt, alloc, words, m, records, wire, None),
-    }
+    run_at(rt, alloc, words, m, records, wire, sealing, timer, None)
 }
 
 /// Where figures are told over TCP, if they are: 82 for what is no address at which this machine alone is heard, with a
@@ -408,7 +438,7 @@ fn addresses_text(alloc: Global, addresses: &[Address]) -> Result<String, AllocE
 }
 
 /// The run of a member with a control socket at the path. What is asked by datagrams isn't heard.
-fn run_with_control<R: Records>(
+fn run_with_control<R: Records, T: Timer>(
     rt: &HostRuntime,
     alloc: Global,
     words: NodeWords<'_, '_, '_>,
@@ -416,10 +446,14 @@ fn run_with_control<R: Records>(
     m: Membership,
     records: R,
     sealing: Option<Sealing>,
+    timer: &mut T,
 ) -> (Outcome, R)
     requires members { R.members records ≡ m.members }
     requires here { m.me < m.members }
-    ensures { ComesOpenOr R.Records m records result.0 result.1 }
+    requires failed { R.failed records ≡ 0 }
+    ensures hosted { ComesOpenOr R.Records m records result.0 result.1 }
+    ensures ran { IsUnrun R.Records m records result.0 result.1 ⊎
+        RunsHere R.Records m sealing records result.0 result.1 (λ how. Unit {0}) }
 {
     let wire = match bind(rt, alloc, words) {
         Ok(wire) => wire,
@@ -438,32 +472,42 @@ fn run_with_control<R: Records>(
         members: members.as_str(),
         fd: wire.raw_fd(),
     });
-    match sealing {
-        Some(sealing) => {
-            let wire = sealed(rt, alloc, m, Ok(wire), sealing);
-            run_with_key(rt, alloc, words, m, records, wire, place)
-        }
-        None => run_plain(rt, alloc, words, m, records, Ok(wire), place),
-    }
+    run_at(
+        rt,
+        alloc,
+        words,
+        m,
+        records,
+        Ok(wire),
+        sealing,
+        timer,
+        place,
+    )
 }
 
 /// The run of a member over its record and a socket.
-fn run_member_in<R: Records>(
+fn run_member_in<R: Records, T: Timer>(
     rt: &HostRuntime,
     alloc: Global,
     words: NodeWords<'_, '_, '_>,
     m: Membership,
     records: R,
     sealing: Option<Sealing>,
+    timer: &mut T,
 ) -> (Outcome, R)
     requires members { R.members records ≡ m.members }
     requires here { m.me < m.members }
+    requires failed { R.failed records ≡ 0 }
+    requires keyed { is_some sealing ≡ is_some words.key }
     ensures hosted { ComesOpenOr R.Records m records result.0 result.1 }
     ensures turns { words.entry.control ≡ None → ComesTo R.Records m records result.0 result.1 }
+    ensures ran { IsUnrun R.Records m records result.0 result.1 ⊎
+        RunsHere R.Records m sealing records result.0 result.1 (λ how. words.entry.control ≡ None →
+        OnFront how (MakesTurns words.entry.turns (T.told timer.old) (T.told timer.new))) }
 {
     match words.control {
-        Some(path) => run_with_control(rt, alloc, words, path, m, records, sealing),
-        None => run_node(rt, alloc, words, m, records, sealing),
+        Some(path) => run_with_control(rt, alloc, words, path, m, records, sealing, timer),
+        None => run_node(rt, alloc, words, m, records, sealing, timer),
     }
 }
 
@@ -479,11 +523,14 @@ fn run_on(
 ) -> Outcome
     requires members { ⟦<SqlRecords<FileStore<File>> as Records>⟧.members records ≡ m.members }
     requires here { m.me < m.members }
+    requires failed { ⟦<SqlRecords<FileStore<File>> as Records>⟧.failed records ≡ 0 }
+    requires keyed { is_some sealing ≡ is_some words.key }
     ensures why { result ≢ Refused 80 }
     ensures store { (file new : Bool) → IsStoreless file new result }
 {
     say_start(rt, words);
-    let (outcome, records) = run_member_in(rt, alloc, words, m, records, sealing);
+    let mut timer = TickTimer::new(m.me());
+    let (outcome, records) = run_member_in(rt, alloc, words, m, records, sealing, &mut timer);
     let outcome = ending_of(outcome, records.failures());
     say_end(rt, words, outcome);
     let _closed = records.release().close();
@@ -501,6 +548,8 @@ fn run_sealed(
 ) -> Outcome
     requires members { ⟦<SqlRecords<FileStore<File>> as Records>⟧.members records ≡ m.members }
     requires here { m.me < m.members }
+    requires failed { ⟦<SqlRecords<FileStore<File>> as Records>⟧.failed records ≡ 0 }
+    requires keyed { is_some keys ≡ is_some words.key }
     ensures ending { result ≢ Refused 80 }
     ensures store { (file new : Bool) → IsStoreless file new result }
 {
@@ -524,6 +573,7 @@ fn run_new(
     keys: Option<Keys>,
 ) -> Outcome
     requires here { m.me < m.members }
+    requires keyed { is_some keys ≡ is_some words.key }
     ensures ending { result ≢ Refused 80 }
     ensures store { IsStoreless words.entry.is_from_file words.entry.is_new result }
 {

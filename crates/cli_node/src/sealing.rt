@@ -1,6 +1,6 @@
 //! How a node's packets are sealed: its keys, and this start of it.
 
-ghost use Rattle.std.specs.Prelude.{◌≡◌, ◌⊎◌, ◌<◌, Err, OnErr, IfOk, IfSome, option_map};
+ghost use Rattle.std.specs.Prelude.{◌≡◌, ◌⊎◌, ◌<◌, Ok, Err, Some, true, OnErr, IfOk, option_map, is_some};
 ghost use Rattle.cli_node.specs.declared.outcome.Outcome.TheVariants.{Memory, Refused, Sound};
 
 use crate::key::Keys;
@@ -34,26 +34,45 @@ fn starts_refused(rt: &HostRuntime, path: &str, fault: RaiseFault) -> Outcome
     Outcome::Refused(BAD_STARTS)
 }
 
-/// This start of a node with keys, written into the file beside its store first. The file is made with a store that is
-/// new, and where that is asked for.
-fn start_of(
+/// How a node's packets are sealed with these keys in the start that was raised, if it was.
+fn sealing_of(
+    rt: &HostRuntime,
+    path: &str,
+    keys: Keys,
+    raised: Result<Start, RaiseFault>,
+) -> Result<Option<Sealing>, Outcome>
+    ensures refused { OnErr result ((result ≡ Err Memory) ⊎ (result ≡ Err (Refused 95))) }
+    ensures keys { IfOk result (λ s. option_map (λ x. x.keys) s ≡ Some keys) }
+    ensures start { IfOk result (λ s. option_map (λ x. Ok x.start) s ≡ Some raised) }
+    ensures keyed { IfOk result (λ s. is_some s ≡ true) }
+{
+    match raised {
+        Ok(start) => Ok(Some(Sealing { keys, start })),
+        Err(fault) => Err(starts_refused(rt, path, fault)),
+    }
+}
+
+/// How a node's packets are sealed with these keys in this start of it, written into the file beside its store first.
+/// The file is made with a store that is new, and where that is asked for.
+fn sealing_with(
     rt: &HostRuntime,
     alloc: Global,
     words: NodeWords<'_, '_, '_>,
     m: Membership,
+    keys: Keys,
     is_new: bool,
-) -> Result<Start, Outcome>
+) -> Result<Option<Sealing>, Outcome>
     requires here { m.me < m.members }
-    ensures { OnErr result ((result ≡ Err Memory) ⊎ (result ≡ Err (Refused 95))) }
+    ensures refused { OnErr result ((result ≡ Err Memory) ⊎ (result ≡ Err (Refused 95))) }
+    ensures keys { IfOk result (λ s. option_map (λ x. x.keys) s ≡ Some keys) }
+    ensures keyed { IfOk result (λ s. is_some s ≡ true) }
 {
     let Ok(path) = starts_path(alloc, words.store) else {
         return Err(Outcome::Memory);
     };
     let may_be_made = is_new || words.makes_starts;
-    match raise_start(rt, alloc, path.as_str(), m.members(), m.me(), may_be_made) {
-        Ok(start) => Ok(start),
-        Err(fault) => Err(starts_refused(rt, path.as_str(), fault)),
-    }
+    let raised = raise_start(rt, alloc, path.as_str(), m.members(), m.me(), may_be_made);
+    sealing_of(rt, path.as_str(), keys, raised)
 }
 
 /// How the node's packets are sealed, where it has keys: 95 where its file of starts can't be used.
@@ -68,13 +87,11 @@ pub(crate) fn sealing_for(
     requires here { m.me < m.members }
     ensures refused { OnErr result ((result ≡ Err Memory) ⊎ (result ≡ Err (Refused 95))) }
     ensures keys { IfOk result (λ s. option_map (λ x. x.keys) s ≡ keys) }
+    ensures keyed { IfOk result (λ s. is_some s ≡ is_some keys) }
 {
-    let Some(keys) = keys else {
-        return Ok(None);
-    };
-    match start_of(rt, alloc, words, m, is_new) {
-        Ok(start) => Ok(Some(Sealing { keys, start })),
-        Err(outcome) => Err(outcome),
+    match keys {
+        Some(keys) => sealing_with(rt, alloc, words, m, keys, is_new),
+        None => Ok(None),
     }
 }
 

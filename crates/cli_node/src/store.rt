@@ -130,7 +130,9 @@ pub(crate) fn untaken<S: Alter>(
 
 /// Whom the store of a member belongs to.
 pub(crate) fn identity_of(m: Membership) -> Identity
-    ensures { result.members ≡ m.members }
+    ensures cluster { result.cluster ≡ m.cluster }
+    ensures members { result.members ≡ m.members }
+    ensures node { result.node ≡ m.me }
 {
     Identity {
         cluster: m.cluster(),
@@ -218,6 +220,7 @@ pub(crate) fn record_at(
     found: Found,
 ) -> Result<SqlRecords<FileStore<File>>, Outcome>
     ensures members { IfOk result (λ r. ⟦<SqlRecords<FileStore<File>> as Records>⟧.members r ≡ m.members) }
+    ensures begins { IfOk result (λ r. ⟦<SqlRecords<FileStore<File>> as Records>⟧.failed r ≡ 0) }
     ensures refused { IfErr result (IsStoreless words.entry.is_from_file words.entry.is_new) }
     ensures unfailed { OnErr result (result ≢ Err (Refused 80)) }
 {

@@ -22,3 +22,12 @@ returns-clause-turns g c = (
   c.ended_outcome.ensures,
   c.requires.wireless,
 )
+
+pub returns-clause-alone : goal.returns-clause-alone
+returns-clause-alone g c = (
+  c.open_member-ended.result.0,
+  c.args.outcome,
+  c.open_member-ended.ensures [],
+  c.ended_outcome.ensures,
+  c.requires.wireless,
+)

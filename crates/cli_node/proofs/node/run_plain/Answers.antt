@@ -1,6 +1,6 @@
 -- a run at the socket
-use Rattle.std.proofs.Common.{refl, inl}
-use Rattle.cli_node.proofs.Refusing.{refused_so, wire_is}
+use Rattle.std.proofs.Common.{refl, inl, inr}
+use Rattle.cli_node.proofs.Refusing.{wire_is}
 use Rattle.cli_node.proofs.node.run_plain.Goals as goal
 
 pub returns-clause-hosted : goal.returns-clause-hosted
@@ -12,3 +12,11 @@ pub returns-clause-turns : goal.returns-clause-turns
 returns-clause-turns g c none =
     let r = c.run_at_socket-ended.ensures.turns none (wire_is _ _ _ c.in-Ok.is c.requires.new) in
     (r.0, _, _, r.1, c.ended_outcome.ensures, inl refl)
+
+pub returns-clause-ran : goal.returns-clause-ran
+returns-clause-ran g c = inr (
+  c.run_at_socket-ended.result.0,
+  c.ended_outcome.ensures,
+  c.run_at_socket-ended.ensures.made,
+  λ honest. let r = c.run_at_socket-ended.ensures.ran (wire_is _ _ _ c.in-Ok.is c.requires.new) honest c.requires.failed in (r.0, r.2),
+)

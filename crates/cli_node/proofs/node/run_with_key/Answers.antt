@@ -1,14 +1,28 @@
 -- a run at the socket
-use Rattle.std.proofs.Common.{refl, inl}
-use Rattle.cli_node.proofs.Refusing.{refused_so, wire_is}
+use Rattle.std.proofs.Common.{refl, inl, inr}
+use Rattle.cli_node.proofs.Refusing.{wire_is}
+use Rattle.cli_node.proofs.Sealed.{as_sealed}
 use Rattle.cli_node.proofs.node.run_with_key.Goals as goal
 
 pub returns-clause-hosted : goal.returns-clause-hosted
 returns-clause-hosted g c =
-    let r = c.run_sealed_at_socket-ended.ensures.hosted (wire_is _ _ _ c.in-Ok.is c.requires.new) in
+    let r = c.run_sealed_at_socket-ended.ensures.hosted (wire_is _ _ _ c.in-Ok.is c.sealed.ensures.new) in
     (r.0, _, _, r.1, c.ended_outcome.ensures, inl refl)
 
 pub returns-clause-turns : goal.returns-clause-turns
 returns-clause-turns g c none =
-    let r = c.run_sealed_at_socket-ended.ensures.turns none (wire_is _ _ _ c.in-Ok.is c.requires.new) in
+    let r = c.run_sealed_at_socket-ended.ensures.turns none (wire_is _ _ _ c.in-Ok.is c.sealed.ensures.new) in
     (r.0, _, _, r.1, c.ended_outcome.ensures, inl refl)
+
+pub returns-clause-ran : goal.returns-clause-ran
+returns-clause-ran g c = inr (
+  c.run_sealed_at_socket-ended.result.0,
+  c.ended_outcome.ensures,
+  c.run_sealed_at_socket-ended.ensures.made,
+  λ honest.
+      let r = c.run_sealed_at_socket-ended.ensures.ran (wire_is _ _ _ c.in-Ok.is c.sealed.ensures.new) honest c.requires.failed in (
+        r.0,
+        as_sealed _ _ _ _ _ _ _ _ _ (wire_is _ _ _ c.in-Ok.is c.sealed.ensures.keys)
+            (wire_is _ _ _ c.in-Ok.is c.sealed.ensures.sealer) r.2,
+      ),
+)

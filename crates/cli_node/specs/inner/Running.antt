@@ -1,0 +1,52 @@
+-- How a member's run went at its socket.
+use Rattle.std.specs.Prelude.{◌≡◌, ◌⊎◌, ℕ, List, [], Option, Some, None, option_map}
+use Rattle.px_packet.specs.Hmac.{key_block}
+use Rattle.px_packet.specs.Packets.{packet_key}
+use Rattle.px_packet.specs.Keyed.{and_key}
+use Rattle.px_records.specs.declared.records.Records.{Ghosts}
+use Rattle.px_transport.specs.Sending.{Sealer}
+use Rattle.px_wire.specs.declared.membership.Membership.{Membership}
+use Rattle.node_loop.specs.Lives.{Runs}
+use Rattle.node_loop.specs.declared.ended.Ended.{Ended}
+use Rattle.node_udp.specs.Sockets.{SocketEvent}
+use Rattle.node_control.specs.Sockets.{RunsAt, RunsSealed}
+use Rattle.cli_node.specs.declared.outcome.Outcome.{Outcome}
+use Rattle.cli_node.specs.declared.outcome.Outcome.TheVariants.{Memory}
+use Rattle.cli_node.specs.declared.sealing.Sealing.{Sealing}
+use Rattle.cli_node.specs.inner.Outcomes.{IsWireless, ended_outcome}
+
+-- the keys of packets that are opened
+abbrev pub keys_with : Sealing → List (List ℕ)
+keys_with s = and_key (key_block (packet_key s.keys.key)) (option_map (λ k. key_block (packet_key k)) s.keys.other)
+
+-- who seals what is sent
+abbrev pub sealer_with : Membership → Sealing → Sealer
+sealer_with m s = record {
+  cluster = m.cluster;
+  members = m.members;
+  me = m.me;
+  start = s.start;
+  key = key_block (packet_key s.keys.key);
+}
+
+-- what went over its socket: packets where there are keys, sealed and opened with them, and else the bare datagrams
+abbrev pub RunsWith : {R : Type 0} → Ghosts R → Membership → Option Sealing → (given back : R) → List SocketEvent → Type 0
+RunsWith G m None given back events = RunsAt G m given back events
+RunsWith G m (Some s) given back events = RunsSealed G m (keys_with s) (sealer_with m s) given back events
+
+-- it ran at its socket, and this holds of how it ended
+abbrev pub RunsHere : {R : Type 0} → Ghosts R → Membership → Option Sealing → (given : R) → Outcome → (back : R) →
+    (made : Ended → Type 0) → Type 0
+RunsHere G m sealing given outcome back made =
+    (how : Ended) × (outcome ≡ ended_outcome Memory how) × made how
+    × (G.is_honest back → (events : List SocketEvent) × RunsWith G m sealing given back events)
+
+-- there is no wire, or no memory: its record is opened alone
+abbrev pub IsAlone : {R : Type 0} → Ghosts R → Membership → (given : R) → Outcome → (back : R) → Type 0
+IsAlone G m given outcome back =
+    (how : Ended) × (without : Outcome) × Runs G m given [] [] how back
+    × (outcome ≡ ended_outcome without how) × IsWireless without
+
+-- the same where the record may stay closed
+abbrev pub IsUnrun : {R : Type 0} → Ghosts R → Membership → (given : R) → Outcome → (back : R) → Type 0
+IsUnrun G m given outcome back = IsAlone G m given outcome back ⊎ (IsWireless outcome × (back ≡ given))
