@@ -1,5 +1,7 @@
 //! Texts for pfctl(8) in files, one for each path.
 
+use crate::followed_configuration::FollowedConfiguration;
+use crate::follower::say;
 use pf_config::Config;
 use pf_dump::{push_text, text_paths};
 use pf_rules::Name;
@@ -18,9 +20,11 @@ struct TextFile {
 
 /// The files of a folder.
 #[derive(Drop)]
-pub(crate) struct TextFiles {
+pub struct TextFiles {
     folder: String,
     written: Vec<TextFile>,
+    /// Whether a file couldn't be written, so that what is there is of an earlier configuration.
+    pub(crate) is_behind: bool,
 }
 
 /// The name of a path's file: `main.conf`, or `anchor` and the names behind a `+` each, which no name has, and `.conf`.
@@ -84,10 +88,11 @@ fn write_new(rt: &HostRuntime, path: &str, text: &str) -> io::Result<()> {
 
 impl TextFiles {
     /// Before anything is written.
-    pub(crate) fn new(alloc: Global, folder: &str) -> Result<TextFiles, AllocError> {
+    pub fn new(alloc: Global, folder: &str) -> Result<TextFiles, AllocError> {
         Ok(TextFiles {
             folder: String::from_str(alloc, folder)?,
             written: Vec::new(alloc),
+            is_behind: false,
         })
     }
 
@@ -124,7 +129,7 @@ impl TextFiles {
 
     /// Writes those files of a configuration that aren't written so yet, empty ones for paths that are gone, and
     /// answers whether all could be.
-    pub(crate) fn write(
+    fn write_all(
         &mut self,
         rt: &HostRuntime,
         alloc: Global,
@@ -147,5 +152,26 @@ impl TextFiles {
         }
         self.written = files;
         Ok(is_whole)
+    }
+
+    /// Writes the files of what was followed. That one couldn't be written is said once until it could be.
+    pub(crate) fn write<E: Write>(
+        &mut self,
+        rt: &HostRuntime,
+        alloc: Global,
+        followed: &FollowedConfiguration,
+        errors: &mut E,
+    ) -> Result<(), AllocError> {
+        let is_behind = !self.write_all(rt, alloc, &followed.config)?;
+        if is_behind && !self.is_behind {
+            say(
+                errors,
+                alloc,
+                followed.position,
+                "a file couldn't be written\n",
+            )?;
+        }
+        self.is_behind = is_behind;
+        Ok(())
     }
 }
