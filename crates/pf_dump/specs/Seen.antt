@@ -1,7 +1,7 @@
 -- What values of the code stand for.
 use Rattle.std.specs.Prelude.{string_bytes}
 use Rattle.pf_dump.specs.Texts.{Text}
-use Rattle.pf_dump.specs.declared.texts.PathText.{PathText}
+use Rattle.pf_dump.specs.declared.path_texts.PathText.{PathText}
 
 -- a path and its text
 abbrev pub text_of : PathText → Text

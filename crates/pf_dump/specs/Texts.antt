@@ -1,5 +1,5 @@
 -- Texts for pfctl(8), one for each path.
-use Rattle.std.specs.Prelude.{◌≡◌, ◌++◌, ◌&&◌, ◌||◌, ℕ, Bool, List, [], ◌∷◌, fold, map, filter, not, if◌then◌else◌}
+use Rattle.std.specs.Prelude.{◌≡◌, ◌++◌, ◌||◌, ℕ, Bool, false, List, [], ◌∷◌, fold, map, filter, not, if◌then◌else◌}
 use Rattle.std.specs.List.{list_any, list_all}
 use Rattle.pf_rules.specs.declared.profile.Profile.TheVariants.{Two}
 use Rattle.pf_rules.specs.Names.{is_path_name}
@@ -16,7 +16,8 @@ pub record Text : Type 0 where
 
 -- a path that isn't main's and that a command may name: no name in it is an unnamed block's
 abbrev pub is_anchor : Path → Bool
-is_anchor p = not (is_empty p) && list_all is_path_name p
+is_anchor [] = false
+is_anchor (n ∷ p) = list_all is_path_name (n ∷ p)
 
 -- main has a text where something is there, or an interface is skipped
 abbrev pub has_main : Configuration → Bool

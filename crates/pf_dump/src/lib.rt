@@ -20,16 +20,16 @@
 #![tactic(auto)]
 
 mod dumping;
+mod path_texts;
 mod replay;
 mod same;
 mod same_parts;
 mod same_rules;
 mod script;
 mod text;
-mod texts;
 
 pub use dumping::{dump, gives};
+pub use path_texts::{PathText, texts};
 pub use same::is_same;
 pub use script::push_change;
 pub use text::push_path;
-pub use texts::{PathText, texts};

@@ -1,7 +1,7 @@
 //! The commands of a script.
 
+use crate::path_texts::text_paths;
 use crate::text::{push_path, push_text};
-use crate::texts::text_paths;
 use pf_arguments::Command;
 use pf_command::push_command;
 use pf_config::Config;

@@ -3,6 +3,8 @@
 ghost use Rattle.std.specs.Prelude.{◌≡◌, ◌++◌, true, IfOk, IfSome, map};
 ghost use Rattle.pf_dump.specs.Texts.{is_anchor, text_paths, after_text, after_texts, GivenBy};
 ghost use Rattle.pf_command.specs.Effect.{place_at};
+ghost use Rattle.pf_rules.specs.Names.{is_path_name};
+ghost use Rattle.std.specs.List.{list_all};
 ghost use Rattle.pf_dump.specs.Seen.{text_of};
 
 use crate::same::is_same;
@@ -21,11 +23,29 @@ pub struct PathText<'c> {
     pub text: String,
 }
 
+/// Whether a command may name it in a path: it isn't an unnamed block's.
+fn is_path_name(name: &Name) -> bool
+    ensures { result ≡ is_path_name name.now }
+{
+    let _form = name.as_bytes();
+    !name.is_unnamed()
+}
+
+/// Whether a command may name each.
+fn are_path_names(names: &[Name]) -> bool
+    ensures { result ≡ list_all is_path_name names.now }
+{
+    names.iter().all(is_path_name)
+}
+
 /// Whether it is an anchor's path that a command may name.
 fn is_anchor(path: &[Name]) -> bool
     ensures { result ≡ is_anchor path.now }
 {
-    !path.is_empty() && path.iter().all(|name| !name.is_unnamed())
+    match path {
+        [] => false,
+        [_, ..] => are_path_names(path),
+    }
 }
 
 /// The paths that a command may load: main, which comes last, and those with rules or tables that aren't below an
@@ -116,10 +136,13 @@ fn written(alloc: Global, config: &Config) -> Result<Vec<PathText<'_>>, AllocErr
     ensures { IfOk result (λ ts. map (λ t. t.path.now) ts.items ≡ text_paths config.now) }
 {
     let mut texts = Vec::new(alloc);
-    for path in text_paths(alloc, config)? {
+    let paths = text_paths(alloc, config)?;
+    let mut left = paths.as_slice();
+    while let [path, rest @ ..] = left {
         let mut text = String::new(alloc);
         push_text(alloc, &mut text, config, path, true)?;
         texts.push(PathText { path, text })?;
+        left = rest;
     }
     Ok(texts)
 }
