@@ -1,7 +1,7 @@
 -- What a step hands out is what there is to load.
 use Rattle.std.proofs.Common.{◌≡◌, ◌∙◌, ℕ, ◌&&◌, Bool, true, false, List, [], ◌++◌, Option, Some, None, refl, sym, ap}
 use Rattle.std.specs.Prelude.{not, bytes_eq, string_bytes, if◌then◌else◌, MatchOption}
-use Rattle.core.specs.Cmp.Lexicographic.{bytes_decides}
+use Rattle.std.specs.Cmp.Lexicographic.{bytes_decides}
 use Rattle.std.proofs.lemmas.Bool.{and_parts, true≢false}
 use Rattle.pf_config.specs.Map.{Configuration}
 use Rattle.cli_nft.specs.Outputs.{Written, config_output}
@@ -57,9 +57,9 @@ handed file ms old (Some l) c position lines other h =
     let text = string_bytes l.text in
     let differs = same_false file ms old c other in
     ap (λ (b : Bool). if b then record { last = given_of old; lines = [] } else loads_new (given_of old) position (config_output (Some file) ms position c)) differs
-    ∙ ap (λ (w : Written). loads_new (given_of old) position w) h.1.0
+    ∙ ap (λ (w : Written). loads_new (given_of old) position w) h.1
     ∙ ap (λ (p : ℕ). record { last = Some (record { position = p; text = text }); lines = two_lines text ++ end_of position (given_of old) }) (sym h.0)
-    ∙ ap (λ (ls : List ℕ). record { last = given_of (Some l); lines = ls }) (ap (λ (e : List ℕ). two_lines text ++ e) (sym (ends position old)) ∙ sym h.1.1)
+    ∙ ap (λ (ls : List ℕ). record { last = given_of (Some l); lines = ls }) (ap (λ (e : List ℕ). two_lines text ++ e) (sym (ends position old)) ∙ sym h.2)
 
 pub loads_by : (file : List ℕ) (ms : List Member) (old new : Option Loaded) (c : Configuration) (position : ℕ) (s : Step) →
     IsStep file ms old new c position s → loads file ms (given_of old) c position ≡ record { last = given_of new; lines = lines_of s }

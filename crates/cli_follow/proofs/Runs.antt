@@ -81,9 +81,13 @@ pub stopped_on : (x y z : List Exchange → Type 0) (w : Wanted) (s t : Stage) (
 stopped_on x y z w s t a b c p q =
     let (es, out, given, led, wrote) = p in
     let (fs, r, given2, led2, wrote2) = q in
-    let (front, rest, split, wrote3) = wrote2 in
-    (es ++ fs, behind out r, adds_more x y z es fs given given2, run_on w es fs s t out r led led2,
-      (out ++ front, rest, ap (λ (l : List ℕ). out ++ l) split ∙ sym (append_assoc out front rest), Appends-trans a b c out front wrote wrote3))
+    let (front, rest, split, wrote3) = wrote2 in (
+      es ++ fs,
+      behind out r,
+      adds_more x y z es fs given given2,
+      run_on w es fs s t out r led led2,
+      (out ++ front, rest, ap (λ (l : List ℕ). out ++ l) split ∙ sym (append_assoc out front rest), Appends-trans a b c out front wrote wrote3),
+    )
 
 pub stopped_here : (x y : List Exchange → Type 0) (w : Wanted) (s t : Stage) (a b : Option (List ℕ)) → Went x y w s t a b → Stopped x y w s a b
 stopped_here x y w s t a b p =

@@ -152,8 +152,8 @@ same_member a b = same_addr a.address b.address && (a.port == b.port)
 abbrev pub same_members : List Member → List Member → Bool
 same_members [] [] = true
 same_members [] (b ∷ bs) = false
-same_members (a ∷ as) [] = false
-same_members (a ∷ as) (b ∷ bs) = same_member a b && same_members as bs
+same_members (a ∷ more) [] = false
+same_members (a ∷ more) (b ∷ bs) = same_member a b && same_members more bs
 
 -- the members are known; others than before are let through at once
 abbrev pub informed : Wanted → Follower → Option (List Member) → Reached
