@@ -5,3 +5,4 @@ pub mod Same
 pub mod Told
 pub mod Loads
 pub mod Runs
+pub mod Writes

@@ -1,12 +1,18 @@
 -- Runs one after the other.
-use Rattle.std.proofs.Common.{◌≡◌, ◌∙◌, ℕ, ◌==◌, Bool, true, false, List, [], ◌∷◌, ◌++◌, Option, Some, None, Result, refl, sym, ap, subst, append_assoc, append-nil, arith}
-use Rattle.std.specs.Prelude.{option_map, option_and_then}
+use Rattle.std.proofs.Common.{◌≡◌, ◌∙◌, ℕ, ◌==◌, Bool, true, false, List, [], ◌∷◌, ◌++◌, Option, Some, None, Result, Ok, Err, refl, sym, ap, subst, append_assoc, append-nil, arith}
+use Rattle.std.specs.Prelude.{option_map, option_and_then, if◌then◌else◌, IfOk, IfErr}
 use Rattle.std.specs.Io.KnownBytes.{Appends}
 use Rattle.std.proofs.KnownBytes.{Appends-nil, Appends-trans}
 use Rattle.std.proofs.lemmas.Bool.Decides.{nat_tests}
+use Rattle.cli_ask.specs.declared.exchange.AskFault.{AskFault}
+use Rattle.cli_ask.specs.declared.exchange.Reply.{Reply}
 use Rattle.cli_io.specs.Written.{AppendsFront}
-use Rattle.cli_follow.specs.Exchanges.{Exchange, Adds}
-use Rattle.cli_follow.specs.Output.{Wanted, Stage, Reached, after, after_one, behind, Went, Stopped}
+use Rattle.cli_io.proofs.Fronts.{nothing_written}
+use Rattle.cli_follow.specs.declared.follower.Due.{Due}
+use Rattle.cli_follow.specs.Exchanges.{Exchange, Entries, Status, Adds, asked}
+use Rattle.cli_follow.specs.Output.{Wanted, Follower, Stage, AsksEntries, AsksStatus, Reached, after, after_one, behind, Went, Stopped}
+use Rattle.cli_follow.specs.Output.{after_entries, after_status}
+use Rattle.cli_follow.specs.inner.Seen.{due_in, Leads, Fails}
 
 abbrev reached : Stage → List ℕ → Reached
 reached s out = record { stage = s; out = out }
@@ -94,5 +100,67 @@ stopped_here x y w s t a b p =
     let (es, out, given, led, wrote) = p in
     (es, reached t out, given, led, (out, [], sym (append-nil out), wrote))
 
-pub itself : (n : ℕ) → (n == n) ≡ true
+-- ---- one turn
+
+itself : (n : ℕ) → (n == n) ≡ true
 itself n = grind (arith, nat_tests)
+
+pub entries_one : (w : Wanted) (f : Follower) (a : Result Reply AskFault) → after_one w (AsksEntries f) (asked (Entries f.followed.position) a) ≡ Some (after_entries w f a)
+entries_one w f a = ap (λ (b : Bool). if b then Some (after_entries w f a) else None) (itself f.followed.position)
+
+pub entries_led : (w : Wanted) (f : Follower) (a : Result Reply AskFault) → after w (AsksEntries f) (asked (Entries f.followed.position) a ∷ []) ≡ Some (after_entries w f a)
+entries_led w f a = run_one w (AsksEntries f) (asked (Entries f.followed.position) a) (after_entries w f a) (entries_one w f a)
+
+pub status_led : (w : Wanted) (f g : Follower) (a b : Result Reply AskFault) → after_entries w f a ≡ reached (AsksStatus g) [] →
+    after w (AsksEntries f) (asked (Entries f.followed.position) a ∷ asked Status b ∷ []) ≡ Some (after_status w g b)
+status_led w f g a b h =
+    run_two w (AsksEntries f) (AsksStatus g) (asked (Entries f.followed.position) a) (asked Status b) (after_status w g b)
+    (entries_one w f a ∙ ap Some h) refl
+
+-- an answer that was taken
+pub entries_lead : (x y : List Exchange → Type 0) (w v : Wanted) (f g : Follower) (a : Result Reply AskFault) (d : Due) → Adds x y (asked (Entries f.followed.position) a ∷ []) →
+    v ≡ w → after_entries w f a ≡ due_in v g d → Leads x y w (AsksEntries f) (due_in w g d)
+entries_lead x y w v f g a d given same h =
+    (asked (Entries f.followed.position) a ∷ [], given, entries_led w f a ∙ ap Some (h ∙ ap (λ (u : Wanted). due_in u g d) same))
+
+-- one that wasn't
+pub entries_fail : {T E : Type 0} (r : Result T E) (x y : List Exchange → Type 0) (w : Wanted) (f : Follower) (a : Result Reply AskFault) →
+    Adds x y (asked (Entries f.followed.position) a ∷ []) → IfErr r (λ e. Fails x y w (AsksEntries f))
+entries_fail (Ok v) x y w f a given = tt
+entries_fail (Err e) x y w f a given = (after_entries w f a, (asked (Entries f.followed.position) a ∷ [], given, entries_led w f a))
+
+-- the status was asked for too
+pub status_leads : {E : Type 0} (r : Result Due E) (x y z : List Exchange → Type 0) (w v u : Wanted) (f : Follower) (n : ℕ) (g h : ℕ → Follower) (a b : Result Reply AskFault) →
+    Adds x y (asked (Entries f.followed.position) a ∷ []) → Adds y z (asked Status b ∷ []) → v ≡ w → u ≡ v → after_entries w f a ≡ reached (AsksStatus (g n)) [] →
+    IfOk r (λ d. (k : ℕ) → after_status v (g k) b ≡ due_in u (h k) d) → IfOk r (λ d. Leads x z w (AsksEntries f) (due_in w (h n) d))
+status_leads (Err e) x y z w v u f n g h a b first second same again leads due = tt
+status_leads (Ok d) x y z w v u f n g h a b first second same again leads due = (
+  asked (Entries f.followed.position) a ∷ asked Status b ∷ [],
+  adds_more x y z (asked (Entries f.followed.position) a ∷ []) (asked Status b ∷ []) first second,
+  status_led w f (g n) a b leads ∙ ap Some (ap (λ (k : Wanted). after_status k (g n) b) (sym same) ∙ due n ∙ ap (λ (k : Wanted). due_in k (h n) d) (again ∙ same)),
+)
+
+pub status_fails : {T E : Type 0} (r : Result T E) (x y z : List Exchange → Type 0) (w : Wanted) (f g : Follower) (a b : Result Reply AskFault) →
+    Adds x y (asked (Entries f.followed.position) a ∷ []) → Adds y z (asked Status b ∷ []) → after_entries w f a ≡ reached (AsksStatus g) [] →
+    IfErr r (λ e. Fails x z w (AsksEntries f))
+status_fails (Ok v) x y z w f g a b first second leads = tt
+status_fails (Err e) x y z w f g a b first second leads = (
+  after_status w g b,
+  (
+    asked (Entries f.followed.position) a ∷ asked Status b ∷ [],
+    adds_more x y z (asked (Entries f.followed.position) a ∷ []) (asked Status b ∷ []) first second,
+    status_led w f g a b leads,
+  ),
+)
+
+-- ---- what was written
+
+pub stopped_before : (x y : List Exchange → Type 0) (w : Wanted) (s : Stage) (r : Reached) (a : Option (List ℕ)) → Leads x y w s r → Stopped x y w s a a
+stopped_before x y w s r a h = let (es, given, led) = h in (es, r, given, led, nothing_written a r.out)
+
+pub stopped_within : (x y : List Exchange → Type 0) (w : Wanted) (s : Stage) (r : Reached) (a b : Option (List ℕ)) → Leads x y w s r → AppendsFront a b r.out → Stopped x y w s a b
+stopped_within x y w s r a b h front = let (es, given, led) = h in (es, r, given, led, front)
+
+pub if_err : {T E : Type 0} (r : Result T E) (P : Type 0) → P → IfErr r (λ e. P)
+if_err (Ok v) P h = tt
+if_err (Err e) P h = h

@@ -1,10 +1,12 @@
 //! What follows one node's log, and writes what nft(8) is to load.
 
-ghost use Rattle.std.specs.Prelude.{◌≡◌, ◌+◌, ℕ, true, Some, IfOk, IfErr, OnOk, OnErr, option_map};
+ghost use Rattle.std.specs.Prelude.{◌≡◌, ◌+◌, ◌||◌, ◌&&◌, ℕ, true, not, Some, Ok, IfOk, IfErr, OnOk, OnErr, option_map};
 ghost use Rattle.std.specs.Io.KnownBytes.{Appends};
 ghost use Rattle.cli_io.specs.Written.{AppendsFront};
 ghost use Rattle.cli_follow.specs.Output.{wanted, start, is_again, is_more, is_behind, caught_up, informed};
-ghost use Rattle.cli_follow.specs.Output.{after_entries, after_status, written_to};
+ghost use Rattle.cli_follow.specs.Output.{after_entries, after_status, same_members, written_if, written_to};
+ghost use Rattle.cli_follow.specs.Output.{Wanted};
+ghost use Rattle.cli_follow.specs.Output as code;
 ghost use Rattle.cli_follow.specs.inner.Seen.{follower_of, wanted_of, due_in, loads_of, Wrote, Written};
 
 use crate::followed_configuration::{FollowedConfiguration, TakeFault};
@@ -32,6 +34,10 @@ pub enum WriteFault {
 }
 
 impl From<AllocError> for WriteFault {
+    ghost use Rattle.cli_follow.specs.declared.follower.WriteFault.TheVariants.{Memory};
+
+    ghost from_gives = { λ _ e. e ≡ Memory };
+
     fn from(_error: AllocError) -> WriteFault {
         WriteFault::Memory
     }
@@ -122,8 +128,35 @@ fn write_lines<W: Write>(writer: &mut W, lines: &[u8]) -> Result<(), WriteFault>
     Ok(())
 }
 
+/// Whether something is to be written: commands were done, or the members are others than what was written has.
+fn is_wanted(is_moved: bool, is_new: bool, has_begun: bool) -> bool
+    ensures { result ≡ (is_moved || (is_new && has_begun)) }
+{
+    is_moved || (is_new && has_begun)
+}
+
+/// What is due where something is to be written or not.
+fn due_if(is_wanted: bool) -> Due
+    ensures due { (w : Wanted) (f : code.Follower) → written_if w is_wanted f ≡ due_in w f result }
+    ensures status { result ≡ Due.Status → ⊥ }
+{
+    if is_wanted { Due::Write } else { Due::Rest }
+}
+
 impl Nft {
+    /// From now on what these members send each other passes. Whether they are others than those before.
+    fn set_members(&mut self, members: Vec<Member>) -> bool
+        ensures other { result ≡ not (same_members self.old.kernel.members.items members.items) }
+        ensures members { self.new.kernel.members ≡ members }
+        ensures interfaces { self.new.kernel.interfaces ≡ self.old.kernel.interfaces }
+        ensures last { self.new.kernel.last ≡ self.old.kernel.last }
+        ensures guarded { self.new.is_guarded ≡ self.old.is_guarded }
+    {
+        self.kernel.set_members(members)
+    }
+
     /// Writes what a kernel is to load; a refusal is said.
+    #[tactic(auto, using(cli_io::proofs::Fronts::nothing_written))]
     fn write<W: Write, E: Write>(
         &mut self,
         alloc: Global,
@@ -186,8 +219,9 @@ impl Follower {
 
     /// What is due where all that is applied is there.
     fn caught_up(&self, again: bool) -> Due
-        ensures { (asks : ℕ) → caught_up (wanted_of self.now) again (follower_of asks self.now)
+        ensures due { (asks : ℕ) → caught_up (wanted_of self.now) again (follower_of asks self.now)
             ≡ due_in (wanted_of self.now) (follower_of asks self.now) result }
+        ensures guarded { result ≡ Due.Status → (wanted_of self.now).is_guarded ≡ true }
     {
         if self.is_guarded() && (self.followed.is_moved || again) {
             return Due::Status;
@@ -208,6 +242,7 @@ impl Follower {
         ensures due { IfOk result (λ d. after_entries (wanted_of self.old) (follower_of asks self.old) answer
             ≡ due_in (wanted_of self.new) (follower_of (asks + 1) self.new) d) }
         ensures wanted { wanted_of self.new ≡ wanted_of self.old }
+        ensures guarded { result ≡ Ok Due.Status → (wanted_of self.new).is_guarded ≡ true }
     {
         let reply = match answer {
             Ok(reply) => reply,
@@ -237,14 +272,13 @@ impl Follower {
         ensures wanted { wanted_of self.new ≡ wanted_of self.old }
         ensures status { result ≡ Due.Status → ⊥ }
     {
-        let is_new = match &mut self.nft {
-            Some(nft) => nft.kernel.set_members(members),
-            None => false,
-        };
-        if self.followed.is_moved || (is_new && self.has_begun) {
-            return Due::Write;
+        match &mut self.nft {
+            Some(nft) => {
+                let is_new = nft.set_members(members);
+                due_if(is_wanted(self.followed.is_moved, is_new, self.has_begun))
+            }
+            None => Due::Rest,
         }
-        Due::Rest
     }
 
     /// Takes the answer to the ask for the status.

@@ -1,4 +1,4 @@
-use Rattle.std.proofs.Common.{◌≡◌, map, option_map}
+use Rattle.std.proofs.Common.{◌≡◌, option_map}
 use Rattle.cli_follow.specs.Output.{AsksEntries, wanted, start, Went}
 use Rattle.cli_follow.specs.inner.Seen.{follower_of, wanted_of}
 use Rattle.cli_follow.proofs.running.follow.Given as goal
