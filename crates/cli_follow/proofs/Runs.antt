@@ -9,8 +9,10 @@ use Rattle.cli_ask.specs.declared.exchange.Reply.{Reply}
 use Rattle.cli_io.specs.Written.{AppendsFront}
 use Rattle.cli_io.proofs.Fronts.{nothing_written}
 use Rattle.cli_follow.specs.declared.follower.Due.{Due}
+use Rattle.cli_follow.specs.declared.follower.WriteFault.{WriteFault}
+use Rattle.cli_follow.specs.declared.follower.WriteFault.TheVariants as fault
 use Rattle.cli_follow.specs.Exchanges.{Exchange, Entries, Status, Adds, asked}
-use Rattle.cli_follow.specs.Output.{Wanted, Follower, Stage, AsksEntries, AsksStatus, Reached, after, after_one, behind, Went, Stopped}
+use Rattle.cli_follow.specs.Output.{Wanted, Follower, Stage, AsksEntries, AsksStatus, Reached, after, after_one, behind, start, Went, Stopped, Ends}
 use Rattle.cli_follow.specs.Output.{after_entries, after_status}
 use Rattle.cli_follow.specs.inner.Seen.{due_in, Leads, Fails}
 
@@ -164,3 +166,19 @@ stopped_within x y w s r a b h front = let (es, given, led) = h in (es, r, given
 pub if_err : {T E : Type 0} (r : Result T E) (P : Type 0) → P → IfErr r (λ e. P)
 if_err (Ok v) P h = tt
 if_err (Err e) P h = h
+
+-- ---- the loop
+
+pub ends_early : (x y : List Exchange → Type 0) (w : Wanted) (turns : ℕ) (e : WriteFault) (a b : Option (List ℕ)) → (e ≡ fault.Another → ⊥) →
+    Stopped x y w (AsksEntries start) a b → Ends x y w turns (Err e) a b
+ends_early x y w turns fault.Another a b other h = absurd (other refl)
+ends_early x y w turns fault.Memory a b other h = h
+ends_early x y w turns fault.Closed a b other h = h
+
+-- a turn behind those before it
+pub turned : (x y z : List Exchange → Type 0) (w v : Wanted) (s t u k : Stage) (a b c : Option (List ℕ)) → v ≡ w → u ≡ k → Went x y w s t a b → Went y z v t u b c → Went x z w s k a c
+turned x y z w v s t u k a b c same is p q =
+    went_on x y z w s t k a b c p (subst (λ (r : Wanted). Went y z r t k b c) same (subst (λ (r : Stage). Went y z v t r b c) is q))
+
+pub stopped_turn : (x y z : List Exchange → Type 0) (w v : Wanted) (s t : Stage) (a b c : Option (List ℕ)) → v ≡ w → Went x y w s t a b → Stopped y z v t b c → Stopped x z w s a c
+stopped_turn x y z w v s t a b c same p q = stopped_on x y z w s t a b c p (subst (λ (r : Wanted). Stopped y z r t b c) same q)

@@ -59,6 +59,7 @@ impl FollowedConfiguration {
     pub fn new(alloc: Global) -> Result<FollowedConfiguration, AllocError>
         ensures config { IfOk result (λ m. m.config ≡ empty) }
         ensures position { IfOk result (λ m. m.position ≡ 0) }
+        ensures moved { IfOk result (λ m. m.is_moved ≡ false) }
     {
         Ok(FollowedConfiguration {
             config: Config::new(alloc)?,

@@ -193,18 +193,22 @@ impl Follower {
         ensures wanted { IfOk result (λ f. wanted_of f
             ≡ wanted (option_map (λ v. v.items) interfaces) is_guarded) }
     {
-        let nft = match interfaces {
-            Some(text) => Some(Nft {
-                kernel: Kernel::new(alloc, text),
-                is_guarded,
+        let followed = FollowedConfiguration::new(alloc)?;
+        match interfaces {
+            Some(text) => {
+                let kernel = Kernel::new(alloc, text);
+                Ok(Follower {
+                    followed,
+                    nft: Some(Nft { kernel, is_guarded }),
+                    has_begun: false,
+                })
+            }
+            None => Ok(Follower {
+                followed,
+                nft: None,
+                has_begun: false,
             }),
-            None => None,
-        };
-        Ok(Follower {
-            followed: FollowedConfiguration::new(alloc)?,
-            nft,
-            has_begun: false,
-        })
+        }
     }
 
     /// Whether the node is asked where its members listen.

@@ -2,7 +2,8 @@
 
 ghost use Rattle.std.specs.Prelude.{◌≡◌, ◌+◌, IfOk, IfErr, option_map};
 ghost use Rattle.cli_follow.specs.Output.{AsksEntries, wanted, Went, Stopped, Ends};
-ghost use Rattle.cli_follow.specs.inner.Seen.{follower_of, wanted_of, due_in, stage_in, Leads, Fails};
+ghost use Rattle.cli_follow.specs.inner.Seen.{follower_of, wanted_of, due_in, stage_in, stage_if, Leads, Fails};
+ghost use Rattle.cli_follow.specs.Output as code;
 
 use crate::control::{Control, ControlSocket};
 use crate::files::TextFiles;
@@ -107,6 +108,7 @@ fn turn<C: Control, W: Write, E: Write>(
         (wanted_of follower.old) (AsksEntries (follower_of asks follower.old))
         (W.contents writer.old) (W.contents writer.new)) }
     ensures fault { IfErr result (λ e. e ≡ WriteFault.Another → ⊥) }
+    ensures status { IfOk result (λ d. d ≡ Due.Status → ⊥) }
     ensures wanted { wanted_of follower.new ≡ wanted_of follower.old }
 {
     let Ok(due) = ask(alloc, control, asks, follower) else {
@@ -127,6 +129,38 @@ fn turn<C: Control, W: Write, E: Write>(
             Ok(due)
         }
         _ => Ok(due),
+    }
+}
+
+/// Whether the log is another than the one that was followed, so that nothing is asked for next.
+fn is_another(due: Due) -> bool
+    requires status { due ≡ Due.Status → ⊥ }
+    ensures { (f : code.Follower) → stage_in f due ≡ stage_if result f }
+{
+    match due {
+        Due::Another => true,
+        _ => false,
+    }
+}
+
+/// Says once that there is no answer, and waits before entries are asked for again, but for some that weren't all.
+fn rest<C: Control, E: Write>(
+    rt: &HostRuntime,
+    control: &C,
+    errors: &mut E,
+    due: Due,
+    said: &mut Option<AskFault>,
+) {
+    match due {
+        Due::More => *said = None,
+        Due::Nothing(fault) => {
+            say_nothing(control, errors, fault, said);
+            pause(rt, PAUSE);
+        }
+        _ => {
+            *said = None;
+            pause(rt, PAUSE);
+        }
     }
 }
 
@@ -154,7 +188,7 @@ pub fn follow<C: Control, W: Write, E: Write>(
     let mut files = files;
     let mut said = None;
     for asks in 0..turns {
-        let due = turn(
+        let due = match turn(
             rt,
             alloc,
             control,
@@ -163,19 +197,14 @@ pub fn follow<C: Control, W: Write, E: Write>(
             &mut files,
             writer,
             errors,
-        )?;
-        match due {
-            Due::Another => return Err(WriteFault::Another),
-            Due::More => said = None,
-            Due::Nothing(fault) => {
-                say_nothing(control, errors, fault, &mut said);
-                pause(rt, PAUSE);
-            }
-            _ => {
-                said = None;
-                pause(rt, PAUSE);
-            }
+        ) {
+            Ok(due) => due,
+            Err(fault) => return Err(fault),
+        };
+        if is_another(due) {
+            return Err(WriteFault::Another);
         }
+        rest(rt, control, errors, due, &mut said);
     }
     Ok(())
 }

@@ -93,3 +93,8 @@ stage_in f (due.Nothing fault) = AsksEntries f
 stage_in f due.Status = AsksStatus f
 stage_in f due.Write = AsksEntries f
 stage_in f due.Another = Ended
+
+-- nothing is asked for where the log is another
+abbrev pub stage_if : (another : Bool) → Follower → Stage
+stage_if true f = Ended
+stage_if false f = AsksEntries f
