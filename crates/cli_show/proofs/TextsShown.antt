@@ -22,4 +22,5 @@ texts_shown (Ok s) o v c text is paths given same bytes plain =
     let p : map (λ t. t.path.now) v.items ≡ text_paths c = subst (λ (x : Option (Vec PathText Global)). IfSome x (λ ts. map (λ t. t.path.now) ts.items ≡ text_paths c)) is paths in
     let g : GivenBy (map text_of v.items) c = subst (λ (x : Option (Vec PathText Global)). IfSome x (λ ts. GivenBy (map text_of ts.items) c)) is given in (
       λ e. (map text_of v.items, paths_of v.items ∙ p, g, bytes ∙ same),
-      λ e. absurd (false≢true (sym plain ∙ e)))
+      λ e. absurd (false≢true (sym plain ∙ e)),
+    )
