@@ -3,3 +3,6 @@ mod Texts
 pub mod Following
 pub mod Same
 pub mod Told
+pub mod Loads
+pub mod Runs
+pub mod Writes

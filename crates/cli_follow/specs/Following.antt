@@ -1,5 +1,6 @@
 -- What a control socket's lines of entries do to a configuration.
-use Rattle.std.specs.Prelude.{◌≡◌, ℕ, ◌+◌, ◌≤◌, ◌⊎◌, List, [], ◌∷◌, Option, Some, Result, Ok, Err, OnOk}
+use Rattle.std.specs.Prelude.{◌≡◌, ℕ, ◌+◌, ◌≤◌, ◌||◌, ◌⊎◌, Bool, true, false, List, [], ◌∷◌, Option, Some, None, Result}
+use Rattle.std.specs.Prelude.{Ok, Err, OnOk, nat_lt, option_map, if◌then◌else◌}
 use Rattle.std.specs.List.{fold}
 use Rattle.hex.specs.Hex.{IsBytes, decode_of}
 use Rattle.hex.specs.declared.error.FromHexError.{FromHexError}
@@ -7,6 +8,8 @@ use Rattle.px_model.specs.Node.{Entry, Log}
 use Rattle.px_model.specs.Step.{front}
 use Rattle.px_model.specs.Spelling.{Bytes, spelled}
 use Rattle.pf_config.specs.Map.{Configuration}
+use Rattle.pf_command.specs.Effect.{Effect, RefusedCommand, effect}
+use Rattle.pf_entry.specs.Entry as entries
 use Rattle.pf_entry.specs.Reading.{reading}
 use Rattle.pf_scripts.specs.Lines.{ScriptLine, lines}
 use Rattle.pf_node.specs.Applied.{after, after_read}
@@ -24,6 +27,49 @@ after_line c l = after_decoded c (decode_of l.content)
 -- after those of all lines of a text
 abbrev pub after_lines : Configuration → List ℕ → Configuration
 after_lines c text = fold after_line c (lines text)
+
+-- ---- what is kept of a log
+
+-- The configuration after a log's first entries, how many they are, and whether a command was done since what it gives
+-- was written.
+pub record Followed : Type 0 where
+  pub configuration : Configuration
+  pub position : ℕ
+  pub is_moved : Bool
+
+-- a command that isn't refused
+abbrev pub is_done : Result Effect RefusedCommand → Bool
+is_done (Ok e) = true
+is_done (Err refused) = false
+
+-- whether the command that was read is done at this configuration, if one was read
+abbrev pub does : Configuration → Option entries.Entry → Bool
+does c None = false
+does c (Some e) = is_done (effect c e.command)
+
+-- after one entry more; none where the line isn't an entry's, or a position has no 32 bits
+abbrev pub next_of : Followed → Result (List ℕ) FromHexError → Option Followed
+next_of f (Err e) = None
+next_of f (Ok bytes) = if nat_lt f.position 4294967295 then Some (record {
+  configuration = after_read f.configuration (reading bytes);
+  position = f.position + 1;
+  is_moved = f.is_moved || does f.configuration (reading bytes);
+}) else None
+
+-- after the lines up to the first that isn't taken, and whether all are
+pub record Taken : Type 0 where
+  pub followed : Followed
+  pub is_whole : Bool
+
+-- where a line isn't taken it ends there
+abbrev pub or_ends : Followed → Option Taken → Taken
+or_ends f None = record { followed = f; is_whole = false }
+or_ends f (Some t) = t
+
+-- Example: three lines of which the second has an odd digit: one is taken.
+abbrev pub taken : Followed → List ScriptLine → Taken
+taken f [] = record { followed = f; is_whole = true }
+taken f (l ∷ ls) = or_ends f (option_map (λ g. taken g ls) (next_of f (decode_of l.content)))
 
 -- Lines were taken one after the other up to one that wasn't, or to the last: the configuration is then that after the
 -- lines before it, and it stands that many entries further.

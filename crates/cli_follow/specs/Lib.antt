@@ -1,3 +1,6 @@
 pub mod Following
 pub mod Stepping
 pub mod Members
+pub mod Exchanges
+pub mod Output
+pub mod inner

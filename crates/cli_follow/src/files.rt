@@ -1,7 +1,9 @@
 //! Texts for pfctl(8) in files, one for each path.
 
+use crate::followed_configuration::FollowedConfiguration;
+use crate::follower::say;
 use pf_config::Config;
-use pf_dump::{push_text, text_paths};
+use pf_dump::{PathText, texts};
 use pf_rules::Name;
 use std::alloc::{AllocError, Global};
 use std::fs::{self, OpenOptions};
@@ -18,9 +20,11 @@ struct TextFile {
 
 /// The files of a folder.
 #[derive(Drop)]
-pub(crate) struct TextFiles {
+pub struct TextFiles {
     folder: String,
     written: Vec<TextFile>,
+    /// Whether a file couldn't be written, so that what is there is of an earlier configuration.
+    pub(crate) is_behind: bool,
 }
 
 /// The name of a path's file: `main.conf`, or `anchor` and the names behind a `+` each, which no name has, and `.conf`.
@@ -37,13 +41,15 @@ fn file_name(alloc: Global, path: &[Name]) -> Result<String, AllocError> {
     Ok(name)
 }
 
-/// The files of a configuration: those of all paths that a command may load, and main's in any case.
-fn files_of(alloc: Global, config: &Config) -> Result<Vec<TextFile>, AllocError> {
+/// The files of a configuration: those of all paths that a command may load, and main's in any case. None where texts
+/// don't give it.
+fn files_of(alloc: Global, config: &Config) -> Result<Option<Vec<TextFile>>, AllocError> {
+    let Some(texts) = texts(alloc, config)? else {
+        return Ok(None);
+    };
     let mut files = Vec::new(alloc);
     let mut has_main = false;
-    for path in text_paths(alloc, config)? {
-        let mut text = String::new(alloc);
-        push_text(alloc, &mut text, config, path, true)?;
+    for PathText { path, text } in texts {
         has_main = has_main || path.is_empty();
         files.push(TextFile {
             name: file_name(alloc, path)?,
@@ -58,7 +64,7 @@ fn files_of(alloc: Global, config: &Config) -> Result<Vec<TextFile>, AllocError>
             is_put: false,
         })?;
     }
-    Ok(files)
+    Ok(Some(files))
 }
 
 /// Whether one of the files has this name.
@@ -84,10 +90,11 @@ fn write_new(rt: &HostRuntime, path: &str, text: &str) -> io::Result<()> {
 
 impl TextFiles {
     /// Before anything is written.
-    pub(crate) fn new(alloc: Global, folder: &str) -> Result<TextFiles, AllocError> {
+    pub fn new(alloc: Global, folder: &str) -> Result<TextFiles, AllocError> {
         Ok(TextFiles {
             folder: String::from_str(alloc, folder)?,
             written: Vec::new(alloc),
+            is_behind: false,
         })
     }
 
@@ -122,15 +129,14 @@ impl TextFiles {
         self.put(rt, alloc, name, text)
     }
 
-    /// Writes those files of a configuration that aren't written so yet, empty ones for paths that are gone, and
-    /// answers whether all could be.
-    pub(crate) fn write(
+    /// Writes those files that aren't written so yet, empty ones for paths that are gone, and answers whether all could
+    /// be.
+    fn put_all(
         &mut self,
         rt: &HostRuntime,
         alloc: Global,
-        config: &Config,
+        mut files: Vec<TextFile>,
     ) -> Result<bool, AllocError> {
-        let mut files = files_of(alloc, config)?;
         for old in self.written.as_slice() {
             if !has_name(files.as_slice(), old.name.as_str()) && !old.text.is_empty() {
                 files.push(TextFile {
@@ -147,5 +153,30 @@ impl TextFiles {
         }
         self.written = files;
         Ok(is_whole)
+    }
+
+    /// Writes the files of what was followed. That one couldn't be written is said once until it could be. Where texts
+    /// don't give the configuration that is said, and the files stay as they are.
+    pub(crate) fn write<E: Write>(
+        &mut self,
+        rt: &HostRuntime,
+        alloc: Global,
+        followed: &FollowedConfiguration,
+        errors: &mut E,
+    ) -> Result<(), AllocError> {
+        let Some(files) = files_of(alloc, &followed.config)? else {
+            return say(errors, alloc, followed.position, "refused 91\n");
+        };
+        let is_behind = !self.put_all(rt, alloc, files)?;
+        if is_behind && !self.is_behind {
+            say(
+                errors,
+                alloc,
+                followed.position,
+                "a file couldn't be written\n",
+            )?;
+        }
+        self.is_behind = is_behind;
+        Ok(())
     }
 }

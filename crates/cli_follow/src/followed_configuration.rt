@@ -1,12 +1,13 @@
 //! The configuration of a node, as its entries make it.
 
-ghost use Rattle.std.specs.Prelude.{◌≡◌, ◌+◌, OnOk, OnErr, IfOk, Ok, false, length};
+ghost use Rattle.std.specs.Prelude.{◌≡◌, ◌+◌, OnOk, OnErr, IfOk, Ok, Err, Some, None, true, false, length};
 ghost use Rattle.hex.specs.Hex.{decode_of};
 ghost use Rattle.pf_command.specs.Effect.{empty};
 ghost use Rattle.pf_entry.specs.Reading.{reading};
 ghost use Rattle.pf_node.specs.Applied.{after_read};
 ghost use Rattle.pf_scripts.specs.Lines.{lines};
-ghost use Rattle.cli_follow.specs.Following.{after_decoded, after_lines, Follows, StopsIn};
+ghost use Rattle.cli_follow.specs.Following.{after_decoded, after_lines, Follows, StopsIn, does, next_of, taken};
+ghost use Rattle.cli_follow.specs.inner.Seen.{followed_of};
 
 use hex::FromHexError;
 use pf_command::{ApplyFault, apply};
@@ -40,6 +41,7 @@ pub enum TakeFault {
 fn apply_bytes(alloc: Global, config: &mut Config, bytes: &[u8]) -> Result<bool, AllocError>
     ensures ok { OnOk result (config.new ≡ after_read config.old (reading bytes.now)) }
     ensures still { result ≡ Ok false → config.new ≡ config.old }
+    ensures done { IfOk result (λ d. d ≡ does config.old (reading bytes.now)) }
     ensures err { OnErr result (config.new ≡ config.old) }
 {
     match decode(bytes) {
@@ -57,6 +59,7 @@ impl FollowedConfiguration {
     pub fn new(alloc: Global) -> Result<FollowedConfiguration, AllocError>
         ensures config { IfOk result (λ m. m.config ≡ empty) }
         ensures position { IfOk result (λ m. m.position ≡ 0) }
+        ensures moved { IfOk result (λ m. m.is_moved ≡ false) }
     {
         Ok(FollowedConfiguration {
             config: Config::new(alloc)?,
@@ -71,6 +74,10 @@ impl FollowedConfiguration {
         ensures position { OnOk result (self.new.position ≡ self.old.position + 1) }
         ensures still { self.new.is_moved ≡ false → self.new.config ≡ self.old.config }
         ensures before { self.new.is_moved ≡ false → self.old.is_moved ≡ false }
+        ensures next { OnOk result (next_of (followed_of self.old) (decode_of digits.now)
+            ≡ Some (followed_of self.new)) }
+        ensures bad { result ≡ Err TakeFault.BadLine →
+            next_of (followed_of self.old) (decode_of digits.now) ≡ None }
         ensures err { OnErr result (self.new ≡ self.old) }
     {
         let Some(next) = self.position.checked_add(1) else {
@@ -99,6 +106,10 @@ impl FollowedConfiguration {
         ensures still { self.new.is_moved ≡ false → self.new.config ≡ self.old.config }
         ensures err { OnErr result (StopsIn self.old.config self.new.config self.old.position self.new.position
             (lines text.now)) }
+        ensures taken { OnOk result (taken (followed_of self.old) (lines text.now)
+            ≡ record { followed = followed_of self.new; is_whole = true }) }
+        ensures bad { result ≡ Err TakeFault.BadLine → taken (followed_of self.old) (lines text.now)
+            ≡ record { followed = followed_of self.new; is_whole = false } }
         ensures follows { OnOk result (Follows self.old.config self.new.config self.old.position self.new.position
             text.now) }
     {

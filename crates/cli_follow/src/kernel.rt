@@ -4,6 +4,8 @@ ghost use Rattle.std.specs.Prelude.{◌≡◌, [], ◌≤◌, ◌==◌, ◌↔�
 ghost use Rattle.std.specs.List.{prefix_len};
 ghost use Rattle.cli_nft.specs.Outputs.{config_output};
 ghost use Rattle.cli_nft.specs.Seen.{written};
+ghost use Rattle.cli_follow.specs.Output.{loads};
+ghost use Rattle.cli_follow.specs.inner.Seen.{given_of, lines_of};
 ghost use Rattle.cli_follow.specs.Stepping.{line_end, two_lines, end_line, end_of, IsSameAs, IsStep};
 
 use cli_nft::{Member, Written, config_output};
@@ -170,5 +172,22 @@ impl Kernel {
             text: written.text,
         });
         Ok(Step::Lines(lines))
+    }
+
+    /// The same, as what was handed out last and what is to be loaded.
+    #[tactic(auto, using(crate::proofs::Loads::loads_by))]
+    pub(crate) fn load(
+        &mut self,
+        alloc: Global,
+        config: &Config,
+        position: u32,
+    ) -> Result<Step, AllocError>
+        ensures loads { IfOk result (λ s. loads self.old.interfaces.items self.old.members.items
+            (given_of self.old.last) config.now position
+            ≡ record { last = given_of self.new.last; lines = lines_of s }) }
+        ensures interfaces { self.new.interfaces ≡ self.old.interfaces }
+        ensures members { self.new.members ≡ self.old.members }
+    {
+        self.step(alloc, config, position)
     }
 }

@@ -2,14 +2,15 @@
 //!
 //! # Organization
 //!
-//! - [`run_follow`]: the subcommand, over any writers.
+//! - [`run_follow`]: the subcommand, over any writers; [`follow`]: its loop, over whoever answers as a node does
+//!   ([`Control`]): what it writes is what the answers lead to.
 //! - [`FollowedConfiguration`]: the configuration after the first entries of a log, as a control socket's lines give
 //!   them.
 //! - [`Kernel`]: what nft(8) is to load, one position after the other; it knows neither sockets nor files.
 //! - [`members_are_read`]: the members that a node names are read as such.
 //!
-//! Within: `words` has the arguments as `clap` reads them, `running` the loop, `outlets` where it is written, `files`
-//! the texts for pfctl(8), `members` where a node's members listen.
+//! Within: `words` has the arguments as `clap` reads them, `running` the loop, `control` the control socket, `follower`
+//! what an answer leads to, `files` the texts for pfctl(8), `members` where a node's members listen.
 //!
 //! # Why
 //!
@@ -37,16 +38,20 @@
 //!   one text.
 #![tactic(auto)]
 
+mod control;
 mod files;
 mod followed_configuration;
+mod follower;
 mod kernel;
 mod laws;
 mod members;
-mod outlets;
 mod running;
 mod words;
 
+pub use control::Control;
+pub use files::TextFiles;
 pub use followed_configuration::{FollowedConfiguration, TakeFault};
+pub use follower::WriteFault;
 pub use kernel::{Kernel, Step};
 pub use laws::members_are_read;
-pub use running::run_follow;
+pub use running::{follow, run_follow};

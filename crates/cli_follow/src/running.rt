@@ -1,16 +1,18 @@
 //! A run of `follow`.
 
+ghost use Rattle.std.specs.Prelude.{◌≡◌, ◌+◌, IfOk, IfErr, option_map};
+ghost use Rattle.cli_follow.specs.Output.{AsksEntries, wanted, Went, Stopped, Ends};
+ghost use Rattle.cli_follow.specs.inner.Seen.{follower_of, wanted_of, due_in, stage_in, stage_if, Leads, Fails};
+ghost use Rattle.cli_follow.specs.Output as code;
+
+use crate::control::{Control, ControlSocket};
 use crate::files::TextFiles;
-use crate::followed_configuration::{FollowedConfiguration, TakeFault};
-use crate::kernel::Kernel;
-use crate::members::members_told;
-use crate::outlets::{Outlets, WriteFault};
+use crate::follower::{Due, Follower, WriteFault, is_again};
 use crate::words::command;
 use clap::ArgMatches;
-use cli_ask::{AskFault, pause, read_at};
-use cli_io::{Shown, Status, knock, misused};
+use cli_ask::{AskFault, pause};
+use cli_io::{Status, misused};
 use cli_nft::{machine_in, read_file};
-use node_requests::{ENTRIES_BYTES, ENTRIES_MAX};
 use std::alloc::{AllocError, Global};
 use std::convert::AsStr;
 use std::io::Write;
@@ -18,106 +20,13 @@ use std::io::Write;
 /// How long it waits between two asks, but for entries that weren't all, in milliseconds.
 const PAUSE: u64 = 50;
 
-/// After how many asks a file is tried again that couldn't be written, and the node is asked again where its members
-/// listen.
-const AGAIN: u64 = 20;
-
 /// What is risked without the guard.
 const NO_GUARD: &[u8] =
     b"pfx: no member guard: rules that drop the members' own datagrams cut this node off, and no command mends them\n";
 
-/// What asking once gave.
-#[derive(Clone, Copy, PartialEq, Eq)]
-enum Asked {
-    /// Entries that weren't all.
-    More,
-    /// All that is applied.
-    All,
-    /// The log at the control socket is shorter than what was followed of it.
-    Another,
-    /// Nobody answers, or what comes is no answer of a node's.
-    Nothing(AskFault),
-}
-
-/// Takes what is new at the control socket.
-fn ask_on(
-    rt: &HostRuntime,
-    alloc: Global,
-    control: &str,
-    followed_configuration: &mut FollowedConfiguration,
-) -> Result<Asked, AllocError> {
-    let first = followed_configuration.position;
-    let target = format!(in alloc; "/v1/entries?from={first}")?;
-    let reply = match read_at(rt, alloc, control, target) {
-        Ok(reply) => reply,
-        Err(AskFault::Memory) => return Err(AllocError),
-        Err(fault) => return Ok(Asked::Nothing(fault)),
-    };
-    if reply.front.is_some_and(|front| front < first) {
-        return Ok(Asked::Another);
-    }
-    match followed_configuration.take(alloc, reply.body.as_slice()) {
-        Ok(()) => {}
-        Err(TakeFault::Memory) => return Err(AllocError),
-        Err(TakeFault::BadLine) => return Ok(Asked::Nothing(AskFault::BadAnswer)),
-    }
-    if followed_configuration.position.saturating_sub(first) >= ENTRIES_MAX
-        || reply.body.len() >= ENTRIES_BYTES
-    {
-        return Ok(Asked::More);
-    }
-    Ok(Asked::All)
-}
-
-/// Asks where the members listen, and answers whether what was written has another guard.
-fn ask_members(
-    rt: &HostRuntime,
-    alloc: Global,
-    control: &str,
-    outlets: &mut Outlets,
-) -> Result<Result<bool, AskFault>, AllocError> {
-    let reply = match read_at(rt, alloc, control, String::from_str(alloc, "/v1/status")?) {
-        Ok(reply) => reply,
-        Err(AskFault::Memory) => return Err(AllocError),
-        Err(fault) => return Ok(Err(fault)),
-    };
-    match members_told(alloc, reply.body.as_slice())? {
-        Some(members) => Ok(Ok(outlets.set_members(members))),
-        None => Ok(Err(AskFault::BadAnswer)),
-    }
-}
-
-/// Writes what is new, once all that is applied was taken: the rules where they moved, and all where the members listen
-/// elsewhere. Answers why nothing was written, where the members aren't known.
-fn write_on<W: Write, E: Write>(
-    rt: &HostRuntime,
-    alloc: Global,
-    control: &str,
-    is_again: bool,
-    followed_configuration: &mut FollowedConfiguration,
-    outlets: &mut Outlets,
-    writer: &mut W,
-    errors: &mut E,
-) -> Result<Option<AskFault>, WriteFault> {
-    let mut is_wanted = followed_configuration.is_moved || (outlets.is_behind && is_again);
-    if outlets.is_guarded && (followed_configuration.is_moved || is_again) {
-        match ask_members(rt, alloc, control, outlets)? {
-            Ok(is_new) => is_wanted = is_wanted || is_new,
-            Err(fault) => return Ok(Some(fault)),
-        }
-    }
-    if is_wanted {
-        followed_configuration.is_moved = false;
-        outlets.write(rt, alloc, followed_configuration, writer, errors)?;
-    }
-    Ok(None)
-}
-
-/// Says that there is no answer, and what the system says of a control socket at which nobody answers, unless that was
-/// said last.
-fn say_nothing<E: Write>(
-    rt: &HostRuntime,
-    control: &str,
+/// Says that there is no answer, and why nobody answers, unless that was said last.
+fn say_nothing<C: Control, E: Write>(
+    control: &C,
     errors: &mut E,
     fault: AskFault,
     said: &mut Option<AskFault>,
@@ -132,50 +41,170 @@ fn say_nothing<E: Write>(
     };
     let _said = errors.write_all(line.as_bytes());
     if fault == AskFault::NoAnswer {
-        if let Err(error) = knock(rt, control) {
-            let _said = writeln!(errors, "pfx: {}: {error}", Shown(control));
+        control.tell(errors);
+    }
+}
+
+/// Asks for entries after the given number of asks, and for the status where that is needed.
+fn ask<C: Control>(
+    alloc: Global,
+    control: &mut C,
+    asks: u64,
+    follower: &mut Follower,
+) -> Result<Due, AllocError>
+    ensures due { IfOk result (λ d. Leads (C.exchanged control.old) (C.exchanged control.new)
+        (wanted_of follower.old) (AsksEntries (follower_of asks follower.old))
+        (due_in (wanted_of follower.old) (follower_of (asks + 1) follower.new) d)) }
+    ensures failed { IfErr result (λ e. Fails (C.exchanged control.old) (C.exchanged control.new)
+        (wanted_of follower.old) (AsksEntries (follower_of asks follower.old))) }
+    ensures status { IfOk result (λ d. d ≡ Due.Status → ⊥) }
+    ensures wanted { wanted_of follower.new ≡ wanted_of follower.old }
+{
+    let answer = control.entries(alloc, follower.followed.position);
+    match follower.entered(alloc, asks, answer)? {
+        Due::Status => {
+            let answer = control.status(alloc);
+            follower.informed(alloc, answer)
+        }
+        due => Ok(due),
+    }
+}
+
+/// Writes texts for pfctl(8), where they are wanted; with `is_late` those alone that couldn't be written.
+fn write_texts<E: Write>(
+    rt: &HostRuntime,
+    alloc: Global,
+    is_late: bool,
+    follower: &Follower,
+    files: &mut Option<TextFiles>,
+    errors: &mut E,
+) -> Result<(), AllocError> {
+    match files {
+        Some(files) => {
+            if is_late && !files.is_behind {
+                return Ok(());
+            }
+            files.write(rt, alloc, &follower.followed, errors)
+        }
+        None => Ok(()),
+    }
+}
+
+/// Asks once, after the given number of asks, and writes what is to be written.
+fn turn<C: Control, W: Write, E: Write>(
+    rt: &HostRuntime,
+    alloc: Global,
+    control: &mut C,
+    asks: u64,
+    follower: &mut Follower,
+    files: &mut Option<TextFiles>,
+    writer: &mut W,
+    errors: &mut E,
+) -> Result<Due, WriteFault>
+    ensures went { IfOk result (λ d. Went (C.exchanged control.old) (C.exchanged control.new)
+        (wanted_of follower.old) (AsksEntries (follower_of asks follower.old))
+        (stage_in (follower_of (asks + 1) follower.new) d) (W.contents writer.old) (W.contents writer.new)) }
+    ensures stopped { IfErr result (λ e. Stopped (C.exchanged control.old) (C.exchanged control.new)
+        (wanted_of follower.old) (AsksEntries (follower_of asks follower.old))
+        (W.contents writer.old) (W.contents writer.new)) }
+    ensures fault { IfErr result (λ e. e ≡ WriteFault.Another → ⊥) }
+    ensures status { IfOk result (λ d. d ≡ Due.Status → ⊥) }
+    ensures wanted { wanted_of follower.new ≡ wanted_of follower.old }
+{
+    let Ok(due) = ask(alloc, control, asks, follower) else {
+        return Err(WriteFault::Memory);
+    };
+    match due {
+        Due::Write => {
+            if write_texts(rt, alloc, false, follower, files, errors).is_err() {
+                return Err(WriteFault::Memory);
+            }
+            follower.write(alloc, writer, errors)?;
+            Ok(due)
+        }
+        Due::Rest => {
+            if is_again(asks) && write_texts(rt, alloc, true, follower, files, errors).is_err() {
+                return Err(WriteFault::Memory);
+            }
+            Ok(due)
+        }
+        _ => Ok(due),
+    }
+}
+
+/// Whether the log is another than the one that was followed, so that nothing is asked for next.
+fn is_another(due: Due) -> bool
+    requires status { due ≡ Due.Status → ⊥ }
+    ensures { (f : code.Follower) → stage_in f due ≡ stage_if result f }
+{
+    match due {
+        Due::Another => true,
+        _ => false,
+    }
+}
+
+/// Says once that there is no answer, and waits before entries are asked for again, but for some that weren't all.
+fn rest<C: Control, E: Write>(
+    rt: &HostRuntime,
+    control: &C,
+    errors: &mut E,
+    due: Due,
+    said: &mut Option<AskFault>,
+) {
+    match due {
+        Due::More => *said = None,
+        Due::Nothing(fault) => {
+            say_nothing(control, errors, fault, said);
+            pause(rt, PAUSE);
+        }
+        _ => {
+            *said = None;
+            pause(rt, PAUSE);
         }
     }
 }
 
-/// Follows until the output is closed, or the control socket was asked so often, or another log is there.
-fn follow<W: Write, E: Write>(
+/// Follows a node's log until the output is closed, or entries were asked for so often, or another log is there: what
+/// nft(8) is to load goes to the writer, for the interfaces that a text lists, if there is one, with the members' guard
+/// or without; texts for pfctl(8) go into files, where they are wanted. Refusals go to `errors`.
+pub fn follow<C: Control, W: Write, E: Write>(
     rt: &HostRuntime,
     alloc: Global,
-    control: &str,
+    control: &mut C,
     turns: u64,
-    outlets: &mut Outlets,
+    interfaces: Option<Vec<u8>>,
+    is_guarded: bool,
+    files: Option<TextFiles>,
     writer: &mut W,
     errors: &mut E,
-) -> Result<(), WriteFault> {
-    let mut followed_configuration = FollowedConfiguration::new(alloc)?;
+) -> Result<(), WriteFault>
+    ensures { Ends (C.exchanged control.old) (C.exchanged control.new)
+        (wanted (option_map (λ v. v.items) interfaces) is_guarded) turns result
+        (W.contents writer.old) (W.contents writer.new) }
+{
+    let Ok(mut follower) = Follower::new(alloc, interfaces, is_guarded) else {
+        return Err(WriteFault::Memory);
+    };
+    let mut files = files;
     let mut said = None;
-    for turn in 0..turns {
-        match ask_on(rt, alloc, control, &mut followed_configuration)? {
-            Asked::More => said = None,
-            Asked::All => {
-                let again = turn % AGAIN == 0;
-                match write_on(
-                    rt,
-                    alloc,
-                    control,
-                    again,
-                    &mut followed_configuration,
-                    outlets,
-                    writer,
-                    errors,
-                )? {
-                    None => said = None,
-                    Some(fault) => say_nothing(rt, control, errors, fault, &mut said),
-                }
-                pause(rt, PAUSE);
-            }
-            Asked::Another => return Err(WriteFault::Another),
-            Asked::Nothing(fault) => {
-                say_nothing(rt, control, errors, fault, &mut said);
-                pause(rt, PAUSE);
-            }
+    for asks in 0..turns {
+        let due = match turn(
+            rt,
+            alloc,
+            control,
+            asks,
+            &mut follower,
+            &mut files,
+            writer,
+            errors,
+        ) {
+            Ok(due) => due,
+            Err(fault) => return Err(fault),
+        };
+        if is_another(due) {
+            return Err(WriteFault::Another);
         }
+        rest(rt, control, errors, due, &mut said);
     }
     Ok(())
 }
@@ -209,39 +238,62 @@ fn memory<E: Write>(errors: &mut E) -> Status {
     }
 }
 
-/// What a file of interfaces makes of a kernel; none where it lists none.
-fn kernel_for(rt: &HostRuntime, alloc: Global, file: &str) -> Result<Option<Kernel>, AllocError> {
+/// What is to be written where.
+#[derive(Drop)]
+struct Places {
+    /// The interfaces for which lines for nft(8) are wanted.
+    interfaces: Option<Vec<u8>>,
+    /// Whether those have the members' guard.
+    is_guarded: bool,
+    /// Texts for pfctl(8).
+    files: Option<TextFiles>,
+}
+
+/// The text of a file of interfaces; none where it lists none.
+fn interfaces_in(
+    rt: &HostRuntime,
+    alloc: Global,
+    file: &str,
+) -> Result<Option<Vec<u8>>, AllocError> {
     let Some(text) = read_file(rt, alloc, file)? else {
         return Ok(None);
     };
     match machine_in(alloc, text.as_slice())? {
-        Some(_) => Ok(Some(Kernel::new(alloc, text))),
+        Some(_) => Ok(Some(text)),
         None => Ok(None),
     }
 }
 
 /// Where the words want it written. 40 where they want it nowhere, `--nft` and `--interfaces` aren't both there, or
 /// `--no-member-guard` is without them; 89 where the file lists no interfaces.
-fn outlets_for(
+fn places_for(
     rt: &HostRuntime,
     alloc: Global,
     matches: &ArgMatches<'_>,
-) -> Result<Result<Outlets, u8>, AllocError> {
+) -> Result<Result<Places, u8>, AllocError> {
     let files = match matches.get_str("pf") {
         Some(folder) => Some(TextFiles::new(alloc, folder)?),
         None => None,
     };
     let is_guarded = !matches.get_flag("no-member-guard");
     match (matches.get_flag("nft"), matches.get_str("interfaces")) {
-        (true, Some(file)) => match kernel_for(rt, alloc, file)? {
-            Some(kernel) => Ok(Ok(Outlets::new(Some(kernel), files, is_guarded))),
+        (true, Some(file)) => match interfaces_in(rt, alloc, file)? {
+            Some(text) => Ok(Ok(Places {
+                interfaces: Some(text),
+                is_guarded,
+                files,
+            })),
             None => Ok(Err(89)),
         },
         (false, None) => {
             if files.is_none() || !is_guarded {
                 return Ok(Err(40));
             }
-            Ok(Ok(Outlets::new(None, files, false)))
+            Ok(Ok(Places {
+                interfaces: None,
+                is_guarded: false,
+                files,
+            }))
         }
         _ => Ok(Err(40)),
     }
@@ -255,19 +307,34 @@ fn followed<W: Write, E: Write>(
     writer: &mut W,
     errors: &mut E,
 ) -> Status {
-    let Some(control) = matches.get_str("control") else {
+    let Some(path) = matches.get_str("control") else {
         return Status::Usage;
     };
     let turns = matches.get_one::<u64>("turns").unwrap_or(u64::MAX);
-    let mut outlets = match outlets_for(rt, alloc, matches) {
-        Ok(Ok(outlets)) => outlets,
+    let Places {
+        interfaces,
+        is_guarded,
+        files,
+    } = match places_for(rt, alloc, matches) {
+        Ok(Ok(places)) => places,
         Ok(Err(code)) => return refused(alloc, code, errors),
         Err(_) => return memory(errors),
     };
-    if outlets.kernel.is_some() && !outlets.is_guarded {
+    if interfaces.is_some() && !is_guarded {
         let _said = errors.write_all(NO_GUARD);
     }
-    match follow(rt, alloc, control, turns, &mut outlets, writer, errors) {
+    let mut control = ControlSocket { rt, path };
+    match follow(
+        rt,
+        alloc,
+        &mut control,
+        turns,
+        interfaces,
+        is_guarded,
+        files,
+        writer,
+        errors,
+    ) {
         Ok(()) => Status::Done,
         Err(WriteFault::Closed) => Status::Failed,
         Err(WriteFault::Another) => another(errors),

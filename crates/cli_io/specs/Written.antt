@@ -1,5 +1,5 @@
 -- What a run has written that comes to nothing else.
-use Rattle.std.specs.Prelude.{ℕ, List, [], ◌∷◌, ◌++◌, Option, codes}
+use Rattle.std.specs.Prelude.{◌≡◌, ℕ, List, [], ◌∷◌, ◌++◌, Option, codes}
 use Rattle.std.specs.Io.KnownBytes.{Appends}
 use Rattle.cli_io.specs.declared.status.Status.{Status}
 use Rattle.cli_io.specs.declared.status.Status.TheVariants.{Done, Refused, Usage, Memory, Failed}
@@ -7,6 +7,12 @@ use Rattle.cli_io.specs.declared.status.Status.TheVariants.{Done, Refused, Usage
 -- a text and a newline
 abbrev pub line : List ℕ → List ℕ
 line text = text ++ 10 ∷ []
+
+-- a front of the text was written behind what was there before, and nothing else
+-- Example: of the text ab: nothing, a or ab.
+abbrev pub AppendsFront : Option (List ℕ) → Option (List ℕ) → List ℕ → Type 0
+AppendsFront old new text =
+    (front : List ℕ) × (rest : List ℕ) × (text ≡ front ++ rest) × Appends old new front
 
 -- What a run has done that ended so because its words aren't understood. Where memory ran out it wrote that alone; of a
 -- write that failed, and of the text for such words, nothing is said.

@@ -7,7 +7,8 @@
 //! - [`open_regular`], [`make_private`]: a file that isn't waited for, and one that its owner alone may read;
 //!   [`knock`]: why nobody answers at a socket.
 //! - [`Shown`]: a text of others for people.
-//! - [`misused`], [`out_of_memory`]: what is written of arguments that aren't understood, and of out of memory.
+//! - [`write_bytes`]: all of an output, or a front of it; [`misused`], [`out_of_memory`]: what is written of arguments
+//!   that aren't understood, and of out of memory.
 //! - [`REFUSALS`]: the table, which has each refusal that the program answers once, by its number. [`explanation`],
 //!   [`named`]: what it says of a number, and of a number's digits; [`explain_all`]: all that it says. An
 //!   [`Explanation`] is shown as its paragraph; [`Remark`]: one line for people about a refusal that came.
@@ -41,4 +42,4 @@ pub use remark::Remark;
 pub use shown::Shown;
 pub use status::Status;
 pub use table::REFUSALS;
-pub use writing::{misused, out_of_memory};
+pub use writing::{misused, out_of_memory, write_bytes};

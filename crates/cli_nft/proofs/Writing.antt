@@ -1,4 +1,4 @@
--- What is wrong with the words, and out of memory, are of no file and no position.
+-- What a run has written.
 use Rattle.std.proofs.Common.{◌≡◌, ◌⊎◌, ◌∙◌, List, ℕ, Option, None, Some, Result, Ok, Err, true, inl, inr, refl, ap}
 use Rattle.std.proofs.Common.{sym, subst, codes}
 use Rattle.std.specs.Io.KnownBytes.{Appends}
@@ -9,44 +9,15 @@ use Rattle.cli_io.specs.Written.{line, IsMisused}
 use Rattle.clap.specs.Words.{App, Text, HasMatchesOf, is_simple, subcommand_rows_of}
 use Rattle.clap.specs.declared.parser.matches.ArgMatches.{ArgMatches}
 use Rattle.nft_rules.specs.declared.guard.Member.{Member}
-use Rattle.cli_nft.specs.Running.{Wrote, Ran, IsAt}
+use Rattle.cli_io.proofs.Fronts.{nothing_written}
+use Rattle.cli_nft.specs.Running.{Wrote, Ran}
 use Rattle.cli_nft.specs.Words.{nft_app, named_in, members_named, position_text, IsPosition, IsPositionOf}
 
-wrote_misused : (ms : Option (List Member)) (s : Status) (input old new : Option (List ℕ)) → IsMisused s old new → Wrote None ms 0 s input old new
-wrote_misused ms Done input old new e = absurd e
-wrote_misused ms Refused input old new e = absurd e
-wrote_misused ms Usage input old new e = tt
-wrote_misused ms Memory input old new e = e
-wrote_misused ms Failed input old new e = tt
-
-at_misused : (words : List Text) (s : Status) (old new : Option (List ℕ)) → IsMisused s old new → IsAt words s 0
-at_misused words Done old new e = absurd e
-at_misused words Refused old new e = absurd e
-at_misused words Usage old new e = tt
-at_misused words Memory old new e = tt
-at_misused words Failed old new e = tt
-
-pub misused : (words : List Text) (s : Status) (input old new : Option (List ℕ)) → IsMisused s old new → Ran words s input old new
-misused words s input old new e = record {
-  file = None;
-  position = 0;
-  at = at_misused words s old new e;
-  wrote = wrote_misused (members_named words) s input old new e;
-}
-
 pub memory : (words : List Text) (s : Status) (input old new : Option (List ℕ)) → (s ≡ Failed) ⊎ ((s ≡ Memory) × Appends old new (line (codes "memory"))) → Ran words s input old new
-memory words s input old new h = record {
-  file = None;
-  position = 0;
-  at = elim h [
-    | inl failed ↦ subst (λ e. IsAt words e 0) (sym failed) tt
-    | inr both ↦ subst (λ e. IsAt words e 0) (sym both.0) tt
-  ];
-  wrote = elim h [
-    | inl failed ↦ subst (λ e. Wrote None (members_named words) 0 e input old new) (sym failed) tt
-    | inr both ↦ subst (λ e. Wrote None (members_named words) 0 e input old new) (sym both.0) both.1
-  ];
-}
+memory words s input old new h = inr (elim h [
+  | inl failed ↦ subst (λ e. IsMisused e old new) (sym failed) tt
+  | inr both ↦ subst (λ e. IsMisused e old new) (sym both.0) both.1
+])
 
 -- ---- what clap says of a command that is this one
 
@@ -66,19 +37,16 @@ placed a words m n same h e =
     let P : App → Type 0 = λ b. HasMatchesOf b words m in
     subst (λ rows. IsPosition (position_text rows) n) (subst P same h simple).1 e
 
-at : (words : List Text) (n : ℕ) (s : Status) → IsPositionOf words n → IsAt words s n
-at words n Done e = e
-at words n Refused e = e
-at words n Usage e = tt
-at words n Memory e = tt
-at words n Failed e = tt
-
 -- what was written of these members and this position, which are those that the words name
 pub ran_by : (words : List Text) (file : Option (List ℕ)) (ms : Option (List Member)) (position : ℕ) (s : Status) (input old new : Option (List ℕ)) →
     ms ≡ members_named words → IsPositionOf words position → Wrote file ms position s input old new → Ran words s input old new
-ran_by words file ms position s input old new e p w = record {
+ran_by words file ms position s input old new e p w = inl (record {
   file = file;
   position = position;
-  at = at words position s p;
+  at = p;
   wrote = subst (λ (m : Option (List Member)). Wrote file m position s input old new) e w;
-}
+})
+
+-- a read that failed wrote nothing
+pub unread : (file : Option (List ℕ)) (ms : Option (List Member)) (position : ℕ) (input old : Option (List ℕ)) → Wrote file ms position Failed input old old
+unread file ms position input old = inl (nothing_written old _)

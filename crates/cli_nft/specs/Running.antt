@@ -1,9 +1,9 @@
 -- Which words ask for what nft(8) loads, and what a run has done.
-use Rattle.std.specs.Prelude.{◌≡◌, ℕ, Bool, true, false, ◌&&◌, List, [], ◌∷◌, Option, IfSome, bytes_eq, codes}
+use Rattle.std.specs.Prelude.{◌≡◌, ◌⊎◌, ℕ, Bool, true, false, ◌&&◌, List, [], ◌∷◌, Option, IfSome, bytes_eq, codes}
 use Rattle.std.specs.List.{list_any}
 use Rattle.std.specs.Io.KnownBytes.{Appends}
 use Rattle.clap.specs.Words.{Text}
-use Rattle.cli_io.specs.Written.{line}
+use Rattle.cli_io.specs.Written.{line, AppendsFront, IsMisused}
 use Rattle.cli_nft.specs.Words.{members_named, IsPositionOf}
 use Rattle.cli_nft.specs.Outputs.{output}
 use Rattle.nft_rules.specs.declared.guard.Member.{Member}
@@ -17,30 +17,25 @@ asks_nft (name ∷ []) = false
 asks_nft (name ∷ word ∷ words) = bytes_eq word (codes "check") && list_any (λ w. bytes_eq w (codes "--nft")) words
 
 -- What a run that ended so has written, of this file of interfaces, these members, this position and this input. Where
--- memory ran out it wrote that alone; of a read or a write that failed, and of words that aren't understood, nothing is
--- said.
+-- memory ran out it wrote that alone; a run that failed wrote a front of either, and nothing where the input wasn't read.
 abbrev pub Wrote : Option (List ℕ) → Option (List Member) → ℕ → Status → Option (List ℕ) → Option (List ℕ) →
     Option (List ℕ) → Type 0
 Wrote file ms position status.Done input old new = IfSome input (λ bytes.
     ((output file ms position bytes).refused ≡ false) × Appends old new (output file ms position bytes).text)
 Wrote file ms position status.Refused input old new = IfSome input (λ bytes.
     ((output file ms position bytes).refused ≡ true) × Appends old new (output file ms position bytes).text)
-Wrote file ms position status.Usage input old new = Unit {0}
+Wrote file ms position status.Usage input old new = ⊥
 Wrote file ms position status.Memory input old new = Appends old new (line (codes "memory"))
-Wrote file ms position status.Failed input old new = Unit {0}
+Wrote file ms position status.Failed input old new = AppendsFront old new (line (codes "memory"))
+    ⊎ IfSome input (λ bytes. AppendsFront old new (output file ms position bytes).text)
 
--- Words that aren't understood name no position, so nothing is said of one there.
-abbrev pub IsAt : List Text → Status → ℕ → Type 0
-IsAt words status.Done position = IsPositionOf words position
-IsAt words status.Refused position = IsPositionOf words position
-IsAt words status.Usage position = Unit {0}
-IsAt words status.Memory position = Unit {0}
-IsAt words status.Failed position = Unit {0}
-
--- the same of these words, the program's name first: of the members and the position that they name, for some file of
--- interfaces
-pub record Ran (words : List Text) (ending : Status) (input old new : Option (List ℕ)) : Type 0 where
+-- a run of words that are understood: of the members and the position that they name, for some file of interfaces
+pub record Answered (words : List Text) (ending : Status) (input old new : Option (List ℕ)) : Type 0 where
   pub file : Option (List ℕ)
   pub position : ℕ
-  pub at : IsAt words ending position
+  pub at : IsPositionOf words position
   pub wrote : Wrote file (members_named words) position ending input old new
+
+-- a run of these words, the program's name first, which are understood, or memory ran out, or they aren't
+abbrev pub Ran : List Text → Status → (input old new : Option (List ℕ)) → Type 0
+Ran words ending input old new = Answered words ending input old new ⊎ IsMisused ending old new

@@ -10,7 +10,7 @@ use crate::members::members_in;
 use crate::outputs::nft_output;
 use crate::words::command;
 use clap::ArgMatches;
-use cli_io::{InputFault, Status, misused, out_of_memory, read_all};
+use cli_io::{InputFault, Status, misused, out_of_memory, read_all, write_bytes};
 use nft_rules::Member;
 use std::alloc::{AllocError, Global};
 use std::convert::AsStr;
@@ -139,7 +139,7 @@ fn answer<R: Read, W: Write>(
     let Ok(output) = nft_output(alloc, file, members, position, &input) else {
         return out_of_memory(writer);
     };
-    match writer.write_all(output.text.as_bytes()) {
+    match write_bytes(writer, output.text.as_bytes()) {
         Ok(()) => if output.refused {
             Status::Refused
         } else {

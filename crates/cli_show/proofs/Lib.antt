@@ -1,3 +1,4 @@
 pub mod Opened
 mod Reading
 mod Writing
+pub mod TextsShown

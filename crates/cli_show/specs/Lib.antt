@@ -2,3 +2,4 @@ pub mod Writing
 pub mod Showing
 pub mod Stores
 pub mod Outcomes
+pub mod Texts

@@ -1,9 +1,9 @@
 -- What a run of show writes.
-use Rattle.std.specs.Prelude.{◌≡◌, ℕ, List, ◌++◌, Bool, true, false, Option, Some, None, codes, decimal}
+use Rattle.std.specs.Prelude.{◌≡◌, ◌⊎◌, ℕ, List, ◌++◌, Bool, true, false, Option, Some, None, codes, decimal}
 use Rattle.std.specs.Io.KnownBytes.{Appends}
 use Rattle.cli_io.specs.declared.status.Status.{Status}
 use Rattle.cli_io.specs.declared.status.Status.TheVariants as status
-use Rattle.cli_io.specs.Written.{line}
+use Rattle.cli_io.specs.Written.{line, AppendsFront}
 use Rattle.cli_show.specs.declared.outcome.Outcome.{Outcome}
 use Rattle.cli_show.specs.declared.outcome.Outcome.TheVariants.{Shown, Refused, Memory}
 
@@ -25,10 +25,11 @@ ending (Shown s) = status_of s.refused
 ending (Refused code) = status.Refused
 ending Memory = status.Memory
 
--- the outcome is written; when out of memory that alone; of a write that failed nothing is said
+-- the outcome is written; when out of memory that alone; where a write failed a front of either
 abbrev pub Wrote : Status → Outcome → Option (List ℕ) → Option (List ℕ) → Type 0
 Wrote status.Memory outcome old new = Appends old new (line (codes "memory"))
-Wrote status.Failed outcome old new = Unit {0}
+Wrote status.Failed outcome old new =
+    AppendsFront old new (line (codes "memory")) ⊎ AppendsFront old new (text_of outcome)
 Wrote ended outcome old new = (ended ≡ ending outcome) × Appends old new (text_of outcome)
 
 -- a run that came to an outcome wrote it; without one the words weren't understood, or memory ran out

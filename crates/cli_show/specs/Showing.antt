@@ -11,20 +11,21 @@ use Rattle.pf_config.specs.Map.{Configuration}
 use Rattle.pf_node.specs.Applied.{after}
 use Rattle.cli_nft.specs.Outputs.{config_output}
 use Rattle.pf_dump.specs.Scripts.{Gives}
-use Rattle.cli_show.specs.Writing.{listed, verdicts, log_shown, figures, of_kernel, shown_value}
+use Rattle.cli_show.specs.Texts.{ShowsTexts}
+use Rattle.cli_show.specs.Writing.{listed, verdicts, log_shown, figures, of_kernel, OrNone, shown_value}
 use Rattle.cli_show.specs.declared.shown.Shown.{Shown}
 use Rattle.cli_show.specs.declared.shown.Wanted.{Wanted}
 use Rattle.cli_show.specs.declared.shown.Wanted.TheVariants as wanted
 
--- What is shown of the configuration after the first k entries of a log. Of texts for pfctl(8) nothing is said; a
--- script, unless it is refused, gives the configuration.
+-- What is shown of the configuration after the first k entries of a log. Texts for pfctl(8), and a script, unless they
+-- are refused with 91, give the configuration.
 abbrev pub Shows : Log Bytes → (k kept : ℕ) → Configuration → Wanted → Shown → Type 0
 Shows log k kept c (wanted.Words words) s = shown_value s ≡ listed c (map (λ w. w.now) words.now)
 Shows log k kept c (wanted.Packets packets) s = shown_value s ≡ verdicts c (map (λ p. p.now) packets.now)
 Shows log k kept c (wanted.Log from count) s = shown_value s ≡ log_shown log k kept from count
 Shows log k kept c (wanted.Nft file) s = shown_value s ≡ of_kernel (config_output (option_map (λ t. t.now) file) [] k c)
-Shows log k kept c wanted.Texts s = s.refused ≡ false
-Shows log k kept c wanted.Script s = s.refused ≡ false → Gives s.bytes.items c
+Shows log k kept c wanted.Texts s = OrNone s (ShowsTexts c)
+Shows log k kept c wanted.Script s = OrNone s (λ script. Gives script c)
 Shows log k kept c wanted.Figures s = shown_value s ≡ figures k
 
 -- of the first entries of the log that is in a record, up to the first gap

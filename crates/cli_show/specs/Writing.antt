@@ -105,3 +105,13 @@ of_kernel w = record { bytes = w.text; refused = w.refused }
 -- what is shown, of the code's value
 abbrev pub shown_value : Shown → ShownValue
 shown_value s = record { bytes = s.bytes.items; refused = s.refused }
+
+-- ---- what gives the configuration
+
+-- no script, or no texts, give the configuration
+abbrev pub none_shown : ShownValue
+none_shown = refused 91 0
+
+-- what is shown is that, or that there is none
+abbrev pub OrNone : Shown → (List ℕ → Type 0) → Type 0
+OrNone s gives = (s.refused ≡ false → gives s.bytes.items) × (s.refused ≡ true → shown_value s ≡ none_shown)

@@ -5,11 +5,11 @@
 //! - [`run_show`]: the subcommand, over any writer.
 //! - [`show_store`]: what is shown of the record in a database; a refusal is [`Closed`].
 //! - [`show_record`]: what is shown of a record, as [`Wanted`]; the record is given back as it was. [`show_node`]: the
-//!   same of a node. [`push_texts`]: rulesets for pfctl(8).
+//!   same of a node.
 //!
 //! Within: `arguments` has the arguments as `clap` reads them, `wanted` what they ask for, `file` opens the store,
 //! `owner` reads whose it is, `outcome` has what is written; `pfctl` has pfctl's listings and packets, `logged` the
-//! log, `texts` rulesets for pfctl(8), `scripts` a script that gives the configuration, `figures` how far it is.
+//! log, `texts` rulesets for pfctl(8) that give the configuration, `scripts` a script that gives the configuration, `figures` how far it is.
 //!
 //! # Why
 //!
@@ -19,7 +19,7 @@
 //! - The library opens a database for writing alone. So `show` takes the node's lock, which refuses a store in use,
 //!   writes nothing, and lets the connection go without closing it, which would copy the log of writes.
 //! - Only a store of format 3 with its row is shown, since to take any other one writes.
-//! - **A script is checked, not proved to be made well.** What is made of the configuration is done by the
+//! - **A script and texts are checked, not proved to be made well.** What is made of the configuration is done by the
 //!   definition of `ctl` on an empty one, and the two are compared; what doesn't come to the same is not shown. So
 //!   nothing is said of how it is made, and a wrong script can't be shown. It costs a replay.
 //! - Main's load stands last in a script, since a load takes away each table that no rule names: the rules of the
@@ -46,4 +46,3 @@ pub use running::run_show;
 pub use showing::{show_node, show_record};
 pub use shown::{Shown, Wanted};
 pub use store::{Closed, show_store};
-pub use texts::push_texts;

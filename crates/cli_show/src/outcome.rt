@@ -5,7 +5,7 @@ ghost use Rattle.cli_show.specs.Outcomes.{Wrote, status_of};
 
 use crate::shown::Shown;
 use crate::store::Closed;
-use cli_io::{Status, out_of_memory};
+use cli_io::{Status, out_of_memory, write_bytes};
 use std::alloc::Global;
 use std::io::Write;
 
@@ -45,7 +45,7 @@ pub(crate) fn write_outcome<W: Write>(alloc: Global, outcome: Outcome, writer: &
     ensures { Wrote result outcome (W.contents writer.old) (W.contents writer.new) }
 {
     match outcome {
-        Outcome::Shown(shown) => match writer.write_all(shown.bytes.as_slice()) {
+        Outcome::Shown(shown) => match write_bytes(writer, shown.bytes.as_slice()) {
             Ok(()) => status_of(shown.refused),
             Err(_) => Status::Failed,
         },
@@ -53,7 +53,7 @@ pub(crate) fn write_outcome<W: Write>(alloc: Global, outcome: Outcome, writer: &
             let Ok(line) = format!(in alloc; "refused {code}\n") else {
                 return out_of_memory(writer);
             };
-            match writer.write_all(line.as_bytes()) {
+            match write_bytes(writer, line.as_bytes()) {
                 Ok(()) => Status::Refused,
                 Err(_) => Status::Failed,
             }

@@ -3,9 +3,11 @@
 ghost use Rattle.std.specs.Prelude.{◌≡◌, true, false, IfOk, IfSome};
 ghost use Rattle.pf_dump.specs.Scripts.{Gives};
 ghost use Rattle.pf_node.specs.Nodes.{config_of};
+ghost use Rattle.cli_show.specs.Writing.{OrNone};
 
 use crate::pfctl::refused;
 use crate::shown::Shown;
+use cli_io::NO_SCRIPT;
 use pf_command::{ApplyFault, apply};
 use pf_config::Config;
 use pf_dump::{dump, gives, push_change};
@@ -13,9 +15,6 @@ use pf_entry::decode;
 use pf_node::Node;
 use px_records::Records;
 use std::alloc::{AllocError, Global};
-
-/// The number of the refusal where no script gives the configuration.
-const NO_SCRIPT: u8 = 91;
 
 /// Puts the command that bytes spell behind a script, unless it is refused at this configuration, where it is done.
 fn push_done(
@@ -67,7 +66,7 @@ fn log_dump<R: Records>(
 /// A script that gives the node's configuration: one load a path, and where a path's rules are too long for that the
 /// commands of the log that weren't refused. 91 where neither gives it.
 pub(crate) fn show_script<R: Records>(alloc: Global, node: &Node<R>) -> Result<Shown, AllocError>
-    ensures { IfOk result (λ s. s.refused ≡ false → Gives s.bytes.items (config_of node.now)) }
+    ensures { IfOk result (λ s. OrNone s (λ script. Gives script (config_of node.now))) }
 {
     let config = node.config();
     if let Some(bytes) = dump(alloc, config)? {

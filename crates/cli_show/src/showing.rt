@@ -12,7 +12,7 @@ use crate::logged::show_log;
 use crate::pfctl::{as_shown, show_verdicts, show_words};
 use crate::scripts::show_script;
 use crate::shown::{Shown, Wanted};
-use crate::texts::push_texts;
+use crate::texts::show_texts;
 use cli_nft::config_output;
 use pf_config::Config;
 use pf_node::Node;
@@ -32,15 +32,6 @@ fn show_nft(
 {
     let written = config_output(alloc, file, config, &[], position)?;
     as_shown(alloc, written.text.as_str(), written.refused)
-}
-
-/// The rulesets as texts for pfctl(8).
-fn show_texts(alloc: Global, config: &Config) -> Result<Shown, AllocError>
-    ensures { IfOk result (λ s. s.refused ≡ false) }
-{
-    let mut text = String::new(alloc);
-    push_texts(alloc, &mut text, config)?;
-    as_shown(alloc, text.as_str(), false)
 }
 
 /// What is shown of a node's configuration and log.

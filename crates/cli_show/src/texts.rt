@@ -1,27 +1,48 @@
 //! Rulesets as texts for pfctl(8).
 
+ghost use Rattle.std.specs.Prelude.{◌≡◌, ◌++◌, OnOk, IfOk, map, string_bytes};
+ghost use Rattle.pf_dump.specs.Seen.{text_of};
+ghost use Rattle.cli_show.specs.Texts.{shown_text, shown_texts, ShowsTexts};
+ghost use Rattle.cli_show.specs.Writing.{OrNone};
+
+use crate::pfctl::{as_shown, refused};
+use crate::shown::Shown;
+use cli_io::NO_SCRIPT;
 use pf_config::Config;
-use pf_dump::{push_path, push_text, text_paths};
-use pf_rules::Name;
+use pf_dump::{PathText, push_path, texts};
 use std::alloc::{AllocError, Global};
 
-/// Puts the comment behind the text that says how the text below it is loaded.
-fn push_comment(out: &mut String, path: &[Name]) -> Result<(), AllocError> {
+/// Puts a text behind others, and before it a comment that is the command which loads it.
+fn push_text(out: &mut String, text: &PathText<'_>) -> Result<(), AllocError>
+    ensures { OnOk result (string_bytes out.new ≡ string_bytes out.old ++ shown_text (text_of text.now)) }
+{
     out.push_str("# pfctl ")?;
-    if !path.is_empty() {
-        out.push_str("-a ")?;
-        push_path(out, path)?;
-        out.push(' ')?;
-    }
-    out.push_str("-f -\n")
+    push_path(out, text.path)?;
+    out.push_str("-f -\n")?;
+    out.push_str(text.text.as_str())
 }
 
-/// Puts the texts of all paths that a command may load behind another, main last: before each a comment that is the
-/// command which loads it, `# pfctl -a PATH -f -`.
-pub fn push_texts(alloc: Global, out: &mut String, config: &Config) -> Result<(), AllocError> {
-    for path in text_paths(alloc, config)? {
-        push_comment(out, path)?;
-        push_text(alloc, out, config, path, true)?;
+/// Texts one behind the other.
+fn joined_texts(alloc: Global, texts: &[PathText<'_>]) -> Result<String, AllocError>
+    ensures { IfOk result (λ s. string_bytes s ≡ shown_texts (map text_of texts.now)) }
+{
+    let mut out = String::new(alloc);
+    for text in texts {
+        push_text(&mut out, text)?;
     }
-    Ok(())
+    Ok(out)
+}
+
+/// The texts of all paths that a command may load, main's last: before each a comment that is the command which loads
+/// it, `# pfctl -a PATH -f -`. 91 where they don't give the configuration.
+pub(crate) fn show_texts(alloc: Global, config: &Config) -> Result<Shown, AllocError>
+    ensures { IfOk result (λ s. OrNone s (ShowsTexts config.now)) }
+{
+    match texts(alloc, config)? {
+        Some(texts) => {
+            let text = joined_texts(alloc, &texts)?;
+            as_shown(alloc, text.as_str(), false)
+        }
+        None => refused(alloc, NO_SCRIPT, 0),
+    }
 }

@@ -1,3 +1,5 @@
 pub mod Contents
 pub mod Scripts
+pub mod Texts
+pub mod Seen
 pub mod inner

@@ -5,8 +5,8 @@
 //! - [`dump`]: such a script, in the form of `ctl`'s (pfctl(8)), with at most one load a path; [`push_change`] makes
 //!   one of a log's commands.
 //! - [`gives`]: whether a script, done on an empty configuration, gives a configuration.
-//! - [`push_text`]: the text of a path alone, as `pfctl -a PATH -f -` reads it; [`text_paths`]: the paths that have
-//!   one.
+//! - [`texts`]: texts for pfctl(8), one for each path, that give a configuration; a [`PathText`] is loaded by `pfctl -a
+//!   PATH -f -`, [`push_path`] puts the option for its path.
 //! - [`is_same`]: whether two configurations skip the same interfaces, and have the same rules and tables at the same
 //!   paths.
 //!
@@ -15,10 +15,12 @@
 //!
 //! # Why
 //!
-//! - A script is made by no clause's word: what is made is done, and what it gives is compared with the configuration.
+//! - Scripts and texts are made by no clause's word: what is made is done, and what it gives is compared with the
+//!   configuration.
 #![tactic(auto)]
 
 mod dumping;
+mod path_texts;
 mod replay;
 mod same;
 mod same_parts;
@@ -27,6 +29,7 @@ mod script;
 mod text;
 
 pub use dumping::{dump, gives};
+pub use path_texts::{PathText, texts};
 pub use same::is_same;
 pub use script::push_change;
-pub use text::{push_path, push_text, text_paths};
+pub use text::push_path;

@@ -1,6 +1,7 @@
 //! The commands of a script.
 
-use crate::text::{push_path, push_text, text_paths};
+use crate::path_texts::text_paths;
+use crate::text::{push_path, push_text};
 use pf_arguments::Command;
 use pf_command::push_command;
 use pf_config::Config;
@@ -21,11 +22,7 @@ fn push_load(
     text: &[u8],
 ) -> Result<(), AllocError> {
     let mut line = String::from_str(alloc, "pfctl ")?;
-    if !path.is_empty() {
-        line.push_str("-a ")?;
-        push_path(&mut line, path)?;
-        line.push(' ')?;
-    }
+    push_path(&mut line, path)?;
     line.push_str("-f -\n")?;
     script.extend_from_slice(line.as_bytes())?;
     script.extend_from_slice(text)?;
@@ -65,11 +62,7 @@ fn push_entries(
     for _command in 0..entries.len() / ADDRESSES + 1 {
         let (now, later) = left.split_at(left.len().min(ADDRESSES));
         let mut line = String::from_str(alloc, "pfctl ")?;
-        if !path.is_empty() {
-            line.push_str("-a ")?;
-            push_path(&mut line, path)?;
-            line.push(' ')?;
-        }
+        push_path(&mut line, path)?;
         line.push_str("-t ")?;
         line.push_str(name)?;
         line.push_str(" -T ")?;

@@ -1,5 +1,8 @@
 //! The text of a path.
 
+ghost use Rattle.std.specs.Prelude.{◌≡◌, ◌++◌, OnOk, string_bytes};
+ghost use Rattle.pf_command.specs.Arguments.{joined, path_words};
+
 use pf_config::{Config, Table};
 use pf_rules::{AnchorHeading, Item, Name};
 use pf_show::show_items;
@@ -31,27 +34,10 @@ enum Stepped {
     Opens(Level),
 }
 
-/// The paths that a command may load: main, which comes last, and those with rules or tables that aren't below an
-/// unnamed block, in byte order. Main is left out where nothing is there and no interface is skipped.
-pub fn text_paths(alloc: Global, config: &Config) -> Result<Vec<&[Name]>, AllocError> {
-    let mut found = Vec::new(alloc);
-    let mut has_main = !config.skip().is_empty();
-    for path in config.paths()? {
-        if path.is_empty() {
-            has_main = true;
-        } else if !path.iter().any(|name| name.is_unnamed()) {
-            found.push(path)?;
-        }
-    }
-    if has_main {
-        let main: &[Name] = &[];
-        found.push(main)?;
-    }
-    Ok(found)
-}
-
 /// Puts names behind the text, with slashes between them.
-pub fn push_path(out: &mut String, path: &[Name]) -> Result<(), AllocError> {
+fn push_joined(out: &mut String, path: &[Name]) -> Result<(), AllocError>
+    ensures { OnOk result (string_bytes out.new ≡ string_bytes out.old ++ joined path.now) }
+{
     let mut left = path;
     while let [first, rest @ ..] = left {
         out.push_str(first.as_str())?;
@@ -61,6 +47,18 @@ pub fn push_path(out: &mut String, path: &[Name]) -> Result<(), AllocError> {
         left = rest;
     }
     Ok(())
+}
+
+/// Puts `-a PATH` and a blank behind the text; of main's path nothing.
+pub fn push_path(out: &mut String, path: &[Name]) -> Result<(), AllocError>
+    ensures { OnOk result (string_bytes out.new ≡ string_bytes out.old ++ path_words path.now) }
+{
+    if path.is_empty() {
+        return Ok(());
+    }
+    out.push_str("-a ")?;
+    push_joined(out, path)?;
+    out.push(' ')
 }
 
 /// Puts the line of the skipped interfaces behind the text, if there are any.
@@ -278,7 +276,7 @@ fn push_rules(
 
 /// Puts the text of a path behind another, as `pfctl -a PATH -f -` reads it: the skipped interfaces of main, the tables
 /// with their flags and, if they are listed, their entries, and the rules with the blocks that no command names.
-pub fn push_text(
+pub(crate) fn push_text(
     alloc: Global,
     out: &mut String,
     config: &Config,

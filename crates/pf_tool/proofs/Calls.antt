@@ -1,5 +1,5 @@
 -- The word that a parse entered, and its packet words.
-use Rattle.std.proofs.Common.{◌≡◌, ℕ, true, List, Option, Some, None, [], ◌∷◌, inl, inr, refl, subst, sym, ◌⊎◌}
+use Rattle.std.proofs.Common.{◌≡◌, ℕ, true, List, Option, Some, None, [], ◌∷◌, inl, inr, refl, subst, sym, ◌⊎◌, codes}
 use Rattle.std.specs.Prelude.{option_map}
 use Rattle.clap.specs.Words.{Row, Text, subcommand_rows_of, subcommand_rows, subcommand_name_of}
 use Rattle.clap.specs.declared.parser.matches.ArgMatches.{ArgMatches}
@@ -11,7 +11,8 @@ use Rattle.clap.specs.declared.error.Error.{Error}
 use Rattle.clap.specs.declared.error.kind.ErrorKind.TheVariants.{OutOfMemory}
 use Rattle.cli_io.specs.declared.status.Status.{Status}
 use Rattle.cli_io.specs.declared.status.Status.TheVariants as status
-use Rattle.cli_io.specs.Written.{IsMisused}
+use Rattle.std.specs.Io.KnownBytes.{Appends}
+use Rattle.cli_io.specs.Written.{IsMisused, AppendsFront, line}
 use Rattle.pf_tool.specs.Words.{pfx_app, CallValue, called, unless_faulty, call_of}
 use Rattle.cli_io.specs.declared.paragraph.Explanation.{Explanation}
 use Rattle.pf_tool.specs.Tool.{Ran}
@@ -45,13 +46,18 @@ pub call_entered : (table : List Explanation) (words : List Text) (m : ArgMatche
 unfolding call_of
 call_entered table words m e f = rw (e, f) refl
 
+-- a front of `memory` was written
+abbrev MemoryFront : (old new : Option (List ℕ)) → Type 0
+MemoryFront old new = AppendsFront old new (line (codes "memory"))
+
 -- when out of memory or something failed, nothing hangs on what was called
-unhindered : (table : List Explanation) (s : Status) (call : Option CallValue) (input old new : Option (List ℕ)) → IsMisused s old new → (s ≡ status.Usage → ⊥) → Ran table s call input old new
-unhindered table status.Memory call input old new h k = h
-unhindered table status.Failed call input old new h k = tt
-unhindered table status.Done call input old new h k = absurd h
-unhindered table status.Refused call input old new h k = absurd h
-unhindered table status.Usage call input old new h k = absurd (k refl)
+unhindered : (table : List Explanation) (s : Status) (call : Option CallValue) (input old new : Option (List ℕ)) → IsMisused s old new → (s ≡ status.Usage → ⊥) → (s ≡ status.Failed → MemoryFront old new) → Ran table s call input old new
+unhindered table status.Memory call input old new h k f = h
+unhindered table status.Failed None input old new h k f = tt
+unhindered table status.Failed (Some call) input old new h k f = inl (f refl)
+unhindered table status.Done call input old new h k f = absurd h
+unhindered table status.Refused call input old new h k f = absurd h
+unhindered table status.Usage call input old new h k f = absurd (k refl)
 
 misused_over : (table : List Explanation) (s : Status) (input old new : Option (List ℕ)) → IsMisused s old new → Ran table s None input old new
 misused_over table status.Memory input old new h = h
@@ -61,15 +67,28 @@ misused_over table status.Refused input old new h = absurd h
 misused_over table status.Usage input old new h = refl
 
 refused_by : (table : List Explanation) (s : Status) (kinds : Kinds) (call : Option CallValue) (e : Error) (input old new : Option (List ℕ)) → IsMisused s old new → HasKind kinds e
-    → (kind_of e ≡ OutOfMemory → s ≡ status.Usage → ⊥) → Ran table s (unless_faulty kinds call) input old new
-refused_by table s [] call e input old new h k none = elim k as (λ _. Ran table s call input old new) [ inl m ↦ unhindered table s call input old new h (none m) | inr bad ↦ absurd bad ]
-refused_by table s (x ∷ xs) call e input old new h k none = misused_over table s input old new h
+    → (kind_of e ≡ OutOfMemory → s ≡ status.Usage → ⊥) → (kind_of e ≡ OutOfMemory → s ≡ status.Failed → MemoryFront old new) → Ran table s (unless_faulty kinds call) input old new
+refused_by table s [] call e input old new h k none failed = elim k as (λ _. Ran table s call input old new) [ inl m ↦ unhindered table s call input old new h (none m) (failed m) | inr bad ↦ absurd bad ]
+refused_by table s (x ∷ xs) call e input old new h k none failed = misused_over table s input old new h
 
 -- a parse that is refused
 pub call_refused : (table : List Explanation) (s : Status) (words : List Text) (e : Error) (input old new : Option (List ℕ)) → IsMisused s old new
-    → HasKind (fault_of pfx_app words) e → (kind_of e ≡ OutOfMemory → s ≡ status.Usage → ⊥) → Ran table s (call_of table words) input old new
+    → HasKind (fault_of pfx_app words) e → (kind_of e ≡ OutOfMemory → s ≡ status.Usage → ⊥) → (kind_of e ≡ OutOfMemory → s ≡ status.Failed → MemoryFront old new)
+    → Ran table s (call_of table words) input old new
 unfolding call_of
-call_refused table s words e input old new h k none = refused_by table s (fault_of pfx_app words) _ e input old new h k none
+call_refused table s words e input old new h k none failed = refused_by table s (fault_of pfx_app words) _ e input old new h k none failed
+
+-- memory ran out
+pub memory_over : (table : List Explanation) (s : Status) (call : Option CallValue) (input old new : Option (List ℕ)) →
+    (s ≡ status.Failed) ⊎ ((s ≡ status.Memory) × Appends old new (line (codes "memory"))) → (s ≡ status.Failed → MemoryFront old new) → Ran table s call input old new
+memory_over table s None input old new h f = elim h [
+  | inl e ↦ subst (λ r. Ran table r None input old new) (sym e) tt
+  | inr both ↦ subst (λ r. Ran table r None input old new) (sym both.0) both.1
+]
+memory_over table s (Some call) input old new h f = elim h [
+  | inl e ↦ subst (λ r. Ran table r (Some call) input old new) (sym e) (inl (f e))
+  | inr both ↦ subst (λ r. Ran table r (Some call) input old new) (sym both.0) both.1
+]
 
 -- what is said of words that ask for nothing
 pub misnamed_over : (table : List Explanation) (s : Status) (input old new : Option (List ℕ)) → (s ≡ status.Usage) ⊎ (s ≡ status.Failed) → Ran table s None input old new

@@ -1,5 +1,5 @@
 -- What the program writes.
-use Rattle.std.specs.Prelude.{◌≡◌, ℕ, Bool, true, false, List, [], ◌∷◌, ◌++◌, Option, Some, None}
+use Rattle.std.specs.Prelude.{◌≡◌, ◌⊎◌, ℕ, Bool, true, false, List, [], ◌∷◌, ◌++◌, Option, Some, None}
 use Rattle.std.specs.Prelude.{Result, Ok, Err}
 use Rattle.std.specs.Prelude.{IfSome, codes, decimal, length, map, option_map, if◌then◌else◌}
 use Rattle.std.specs.List.{flat_map, list_any}
@@ -30,7 +30,7 @@ use Rattle.pf_tool.specs.declared.output.Ending.TheVariants.{Done, Refused}
 use Rattle.pf_tool.specs.Words.{CallValue, Test, Check, Ctl, Lab, Explain, CheckFiles, TestFiles}
 use Rattle.cli_io.specs.declared.status.Status.{Status}
 use Rattle.cli_io.specs.declared.status.Status.TheVariants as status
-use Rattle.cli_io.specs.Written.{line}
+use Rattle.cli_io.specs.Written.{line, AppendsFront}
 
 -- ---- what is written
 
@@ -200,12 +200,18 @@ IsAnswer table (TestFiles file more quiet packets) input w = AreTested file more
 abbrev pub Writes : Option (List ℕ) → Option (List ℕ) → Status → Written → Type 0
 Writes old new ending written = Appends old new written.text × (ending ≡ status_of written.ending)
 
--- What a run has done that ended so, over this input. Where memory ran out it wrote that alone; of a read or a write
--- that failed, and of the text for words that aren't understood, nothing is said.
+-- What a run of a call may have written that failed: a front of its answer, or of `memory`. Nothing is a front of either.
+abbrev pub WroteFront : List Explanation → CallValue → (input old new : Option (List ℕ)) → Type 0
+WroteFront table call input old new = AppendsFront old new (line (codes "memory"))
+    ⊎ IfSome input (λ bytes. (w : Written) × IsAnswer table call bytes w × AppendsFront old new w.text)
+
+-- What a run has done that ended so, over this input. Where memory ran out it wrote that alone; of the text for words
+-- that aren't understood nothing is said.
 abbrev pub Ran : List Explanation → Status → Option CallValue → Option (List ℕ) → Option (List ℕ) →
     Option (List ℕ) → Type 0
 Ran table status.Memory call input old new = Appends old new (line (codes "memory"))
-Ran table status.Failed call input old new = Unit {0}
+Ran table status.Failed None input old new = Unit {0}
+Ran table status.Failed (Some call) input old new = WroteFront table call input old new
 Ran table ending (Some call) input old new =
     IfSome input (λ bytes. (w : Written) × IsAnswer table call bytes w × Writes old new ending w)
 Ran table ending None input old new = ending ≡ status.Usage

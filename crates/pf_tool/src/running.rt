@@ -10,11 +10,12 @@ use crate::call::{Call, call_in, is_verbose, misnamed};
 use crate::output::Ending;
 use crate::remarks::{Level, Remarks};
 use crate::words::command;
-use cli_io::{Explanation, Status, misused, out_of_memory};
+use cli_io::{Explanation, Status, misused, out_of_memory, write_bytes};
 use std::convert::AsStr;
 use std::io::{Read, Write};
 
 /// Does what is asked for, and writes it, with what is said to people.
+#[tactic(auto, using(cli_io::proofs::Fronts::nothing_written))]
 fn answer<R: Read, W: Write, E: Write>(
     rt: &HostRuntime,
     table: &[Explanation],
@@ -33,7 +34,7 @@ fn answer<R: Read, W: Write, E: Write>(
         Err(RunFault::Memory) => return out_of_memory(writer),
         Err(RunFault::Failed) => return Status::Failed,
     };
-    match writer.write_all(output.text.as_bytes()) {
+    match write_bytes(writer, output.text.as_bytes()) {
         Ok(()) => {
             // that people can't be told changes nothing
             let _told = errors.write_all(remarks.as_str().as_bytes());

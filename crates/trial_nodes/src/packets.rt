@@ -121,6 +121,51 @@ fn lives(rt: &HostRuntime, k: u64) -> Result<bool, Fail>
     Ok(is_short && is_long && agree(alloc, &parties)?)
 }
 
+/// A member whose packets went over this wire is started again over its record, with the packets of its second start.
+fn reopened(rt: &HostRuntime, party: Party, me: u8) -> Result<Party, Fail> {
+    let Party { node, wire } = party;
+    drop(wire);
+    let m = node.membership();
+    let node = match Node::open(rt.alloc(), m, node.close()) {
+        Ok(node) => node,
+        Err((fault, _)) => return Err(Fail::new(fault)),
+    };
+    let wire = wire_of(rt, me, 2, u64::MAX)?;
+    Ok(Party { node, wire })
+}
+
+/// Each of the three is asked a load, which all apply.
+fn ask_each(alloc: Global, parties: &mut [Party]) -> Result<bool, Fail> {
+    let first = spread(alloc, parties, 0, "block from 10/8\n", 1)?;
+    let second = spread(alloc, parties, 1, "pass to 10/8\n", 2)?;
+    let third = spread(alloc, parties, 2, "block out\n", 3)?;
+    Ok(first && second && third)
+}
+
+/// The last member stops; what another is asked meanwhile it has once it was started again, and what it is asked then
+/// all have.
+fn comes_back(rt: &HostRuntime) -> Result<bool, Fail> {
+    let alloc = rt.alloc();
+    let mut parties = grouped(rt, u64::MAX)?;
+    let are_asked = ask_each(alloc, &mut parties)?;
+    let Some(last) = parties.pop() else {
+        return Err(Fail::new("no member"));
+    };
+    let goes_on = spread(alloc, &mut parties, 0, "pass out\n", 4)?;
+    let was_away = last.node.applied() == 3;
+    parties.push(reopened(rt, last, 2)?)?;
+    let is_back = have_applied(alloc, &mut parties, 4)?;
+    let is_asked = spread(alloc, &mut parties, 2, "pass in\n", 5)?;
+    Ok(are_asked && goes_on && was_away && is_back && is_asked && agree(alloc, &parties)?)
+}
+
+#[test]
+fn a_member_that_was_away_has_what_the_others_have(rt: HostRuntime) -> Result<(), Fail> {
+    let is_back = comes_back(&rt)?;
+    assert!(rt; is_back);
+    Ok(())
+}
+
 #[test]
 fn what_is_asked_is_applied_over_packets(rt: HostRuntime) -> Result<(), Fail> {
     let is_applied = lives(&rt, u64::MAX)?;

@@ -1,12 +1,12 @@
-use Rattle.std.proofs.Common.{◌∙◌, map}
-use Rattle.cli_nft.proofs.Writing.{memory, misused, named, placed, ran_by}
+use Rattle.std.proofs.Common.{◌∙◌, map, inr}
+use Rattle.cli_nft.proofs.Writing.{memory, named, placed, ran_by}
 use Rattle.cli_nft.proofs.running.run_nft.Goals as goal
 
 pub returns-in-Err : goal.returns-in-Err
-returns-in-Err g c = misused _ _ _ _ _ c.misused.ensures.ran
+returns-in-Err g c = inr c.misused.ensures.ran
 
 pub returns-in_default-members_of : goal.returns-in_default-members_of
-returns-in_default-members_of g c = memory _ _ _ _ _ c.out_of_memory-in_default-members_of.ensures
+returns-in_default-members_of g c = memory _ _ _ _ _ c.out_of_memory-in_default-members_of.ensures.ends
 
 pub returns-in-Ok-Some : goal.returns-in-Ok-Some
 returns-in-Ok-Some g c =
@@ -27,4 +27,4 @@ returns-in-Ok-None g c =
     ran_by _ _ _ _ _ _ _ _ e p c.answer-in-Ok-None.ensures
 
 pub returns : goal.returns
-returns g c = memory _ _ _ _ _ c.out_of_memory-in-Err-read_file.ensures
+returns g c = memory _ _ _ _ _ c.out_of_memory-in-Err-read_file.ensures.ends

@@ -5,7 +5,7 @@ use Rattle.pf_tool.proofs.running.run.Goals as goal
 pub returns-in-Err : goal.returns-in-Err
 returns-in-Err g c =
     let kinds = kinds_of_program _ (map g.S.AsStr.text c.args.words.now) c.in-Err.error c.in-Ok.ensures c.in-Err.ensures.kinds in
-    call_refused _ c.misused.result _ c.in-Err.error _ _ _ c.misused.ensures.ran kinds c.misused.ensures.memory
+    call_refused _ c.misused.result _ c.in-Err.error _ _ _ c.misused.ensures.ran kinds c.misused.ensures.memory c.misused.ensures.failed
 
 -- a word is named
 pub returns-in-Some : goal.returns-in-Some

@@ -1,0 +1,12 @@
+use Rattle.std.proofs.Common.{◌≡◌, option_map}
+use Rattle.cli_follow.specs.Output.{AsksEntries, wanted, start, Went}
+use Rattle.cli_follow.specs.inner.Seen.{follower_of, wanted_of}
+use Rattle.cli_follow.proofs.running.follow.Given as goal
+
+-- what was asked so far leads here, and was written
+abbrev pub invariant-loop-asks : goal.invariant-loop-asks
+invariant-loop-asks g l = record {
+  went : Went (g.C.Control.exchanged l.fn.control) (g.C.Control.exchanged l.control) (wanted (option_map (λ v. v.items) l.fn.interfaces) l.fn.is_guarded)
+      (AsksEntries start) (AsksEntries (follower_of l.asks l.follower)) (g.W.Write.contents l.fn.writer) (g.W.Write.contents l.writer);
+  wanted : wanted_of l.follower ≡ wanted (option_map (λ v. v.items) l.fn.interfaces) l.fn.is_guarded;
+}

@@ -1,0 +1,230 @@
+-- What `follow` writes for nft(8), of the answers that it is given.
+use Rattle.std.specs.Prelude.{ℕ, ◌+◌, ◌-◌, ◌%◌, ◌==◌, ◌≡◌, ◌&&◌, ◌||◌, Bool, true, false, not, nat_lt, List, [], ◌∷◌, ◌++◌}
+use Rattle.std.specs.Prelude.{Option, Some, None, Result, Ok, Err, length, bytes_eq, option_map, option_and_then}
+use Rattle.std.specs.Prelude.{if◌then◌else◌}
+use Rattle.std.specs.Io.KnownBytes.{Appends}
+use Rattle.pf_config.specs.Map.{Configuration}
+use Rattle.pf_command.specs.Effect.{empty}
+use Rattle.pf_scripts.specs.Lines.{lines}
+use Rattle.nft_rules.specs.declared.guard.Member.{Member}
+use Rattle.nft_rules.specs.Guard.{same_addr}
+use Rattle.cli_ask.specs.declared.exchange.AskFault.{AskFault}
+use Rattle.cli_ask.specs.declared.exchange.Reply.{Reply}
+use Rattle.cli_nft.specs.Outputs.{Written, config_output}
+use Rattle.cli_io.specs.Written.{AppendsFront}
+use Rattle.node_requests.specs.declared.entries.TheConstants.{ENTRIES_MAX, ENTRIES_BYTES}
+use Rattle.cli_follow.specs.declared.follower.TheConstants.{AGAIN}
+use Rattle.cli_follow.specs.declared.follower.WriteFault.{WriteFault}
+use Rattle.cli_follow.specs.declared.follower.WriteFault.TheVariants as fault
+use Rattle.cli_follow.specs.Exchanges.{Question, Entries, Status, Exchange, Adds}
+use Rattle.cli_follow.specs.Following.{Followed, Taken, taken}
+use Rattle.cli_follow.specs.Members.{members_told}
+use Rattle.cli_follow.specs.Stepping.{two_lines, end_line}
+
+-- ---- what is kept
+
+-- what nft(8) was given last: the position whose names it has, and its three lines
+pub record Given : Type 0 where
+  pub position : ℕ
+  pub text : List ℕ
+
+-- what is wanted: lines for the interfaces that a file lists, if one is named; and whether behind the members' guard
+pub record Wanted : Type 0 where
+  pub file : Option (List ℕ)
+  pub is_guarded : Bool
+
+-- of this file, if there is one: without lines there is no guard
+abbrev pub wanted : Option (List ℕ) → (guarded : Bool) → Wanted
+wanted None guarded = record { file = None; is_guarded = false }
+wanted (Some file) guarded = record { file = Some file; is_guarded = guarded }
+
+-- the log's configuration, the members that the guard lets through, what was given last, whether anything was to be
+-- written yet, and how often entries were asked for
+pub record Follower : Type 0 where
+  pub followed : Followed
+  pub members : List Member
+  pub last : Option Given
+  pub has_begun : Bool
+  pub asks : ℕ
+
+-- what is asked for next: entries, or where the members listen; nothing, where another log was there
+pub data Stage : Type 0 where
+  AsksEntries : (follower : Follower) → Stage
+  AsksStatus : (follower : Follower) → Stage
+  Ended : Stage
+
+-- a stage, and what was written before it
+pub record Reached : Type 0 where
+  pub stage : Stage
+  pub out : List ℕ
+
+-- ---- lines for nft(8)
+
+-- the rendering is no refusal, and that text
+abbrev pub renders : Written → List ℕ → Bool
+renders w text = not w.refused && bytes_eq w.text text
+
+-- under the names of what was given last the configuration is that again
+abbrev pub is_same : (file : List ℕ) → List Member → Option Given → Configuration → Bool
+is_same file ms None c = false
+is_same file ms (Some g) c = renders (config_output (Some file) ms g.position c) g.text
+
+-- the line that ends what was given last, unless its names are used on
+abbrev pub end_of : (position : ℕ) → Option Given → List ℕ
+end_of position None = []
+end_of position (Some g) = if g.position == position then [] else end_line g.text
+
+-- what was given last, and the lines that were written for it
+pub record Loads : Type 0 where
+  pub last : Option Given
+  pub lines : List ℕ
+
+-- a rendering is given, but for a refusal
+abbrev pub loads_new : Option Given → (position : ℕ) → Written → Loads
+loads_new last position w = if w.refused then record { last = last; lines = [] } else record {
+  last = Some (record { position = position; text = w.text });
+  lines = two_lines w.text ++ end_of position last;
+}
+
+-- what nft(8) is to load of a configuration after that many entries: nothing that it has already
+abbrev pub loads : (file : List ℕ) → List Member → Option Given → Configuration → (position : ℕ) → Loads
+loads file ms last c position =
+    if is_same file ms last c then record { last = last; lines = [] }
+    else loads_new last position (config_output (Some file) ms position c)
+
+-- ---- what an answer leads to
+
+-- nothing is written, and entries are asked for next
+abbrev pub silent : Follower → Reached
+silent f = record { stage = AsksEntries f; out = [] }
+
+-- what was followed is written from here on where something new comes
+abbrev pub settled : Follower → Follower
+settled f = record f { followed = record f.followed { is_moved = false }; has_begun = true }
+
+-- what there is to load is written
+abbrev pub given : Follower → Loads → Reached
+given f l = record { stage = AsksEntries (record (settled f) { last = l.last }); out = l.lines }
+
+-- the configuration is written where it is wanted
+abbrev pub written_to : Option (List ℕ) → Follower → Reached
+written_to None f = silent (settled f)
+written_to (Some file) f =
+    given f (loads file f.members f.last f.followed.configuration f.followed.position)
+
+abbrev pub written_if : Wanted → Bool → Follower → Reached
+written_if w wanted f = if wanted then written_to w.file f else silent f
+
+-- the first ask of so many: of 20
+abbrev pub is_again : (asks : ℕ) → Bool
+is_again asks = asks % AGAIN == 0
+
+-- all that is applied is there: it is written where it moved, and behind a guard once the members are known
+abbrev pub caught_up : Wanted → (again : Bool) → Follower → Reached
+caught_up w again f =
+    if w.is_guarded && (f.followed.is_moved || again) then record { stage = AsksStatus f; out = [] }
+    else written_if w f.followed.is_moved f
+
+-- entries that weren't all: 1,000 lines, or 262,144 bytes
+abbrev pub is_more : (from to : ℕ) → List ℕ → Bool
+is_more from to body = not (nat_lt (to - from) ENTRIES_MAX) || not (nat_lt (length body) ENTRIES_BYTES)
+
+-- the lines of an answer were taken
+abbrev pub taken_in : Wanted → Follower → List ℕ → Taken → Reached
+taken_in w f body t =
+    let g : Follower = record f { followed = t.followed; asks = f.asks + 1 } in
+    if not t.is_whole || is_more f.followed.position t.followed.position body then silent g
+    else caught_up w (is_again f.asks) g
+
+-- the node knows of fewer positions than were followed: the log is another
+abbrev pub is_behind : (front : Option ℕ) → (position : ℕ) → Bool
+is_behind None position = false
+is_behind (Some front) position = nat_lt front position
+
+-- after an answer to the question for entries
+abbrev pub after_entries : Wanted → Follower → Result Reply AskFault → Reached
+after_entries w f (Err fault) = silent (record f { asks = f.asks + 1 })
+after_entries w f (Ok reply) = if is_behind reply.front f.followed.position then record { stage = Ended; out = [] }
+    else taken_in w f reply.body.items (taken f.followed (lines reply.body.items))
+
+-- two lists name the same members
+abbrev pub same_member : Member → Member → Bool
+same_member a b = same_addr a.address b.address && (a.port == b.port)
+
+abbrev pub same_members : List Member → List Member → Bool
+same_members [] [] = true
+same_members [] (b ∷ bs) = false
+same_members (a ∷ more) [] = false
+same_members (a ∷ more) (b ∷ bs) = same_member a b && same_members more bs
+
+-- the members are known; others than before are let through at once
+abbrev pub informed : Wanted → Follower → Option (List Member) → Reached
+informed w f None = silent f
+informed w f (Some ms) = written_if w (f.followed.is_moved || (not (same_members f.members ms) && f.has_begun))
+    (record f { members = ms })
+
+-- after an answer to the question for the status
+abbrev pub after_status : Wanted → Follower → Result Reply AskFault → Reached
+after_status w f (Err fault) = silent f
+after_status w f (Ok reply) = informed w f (members_told reply.body.items)
+
+-- ---- all answers
+
+-- entries are asked for from where the configuration is
+abbrev pub answered_entries : Wanted → Follower → Question → Result Reply AskFault → Option Reached
+answered_entries w f Status answer = None
+answered_entries w f (Entries from) answer =
+    if from == f.followed.position then Some (after_entries w f answer) else None
+
+-- the status is asked for
+abbrev pub answered_status : Wanted → Follower → Question → Result Reply AskFault → Option Reached
+answered_status w f (Entries from) answer = None
+answered_status w f Status answer = Some (after_status w f answer)
+
+-- after one answer; none where something else is asked
+abbrev pub after_one : Wanted → Stage → Exchange → Option Reached
+after_one w (AsksEntries f) e = answered_entries w f e.question e.answer
+after_one w (AsksStatus f) e = answered_status w f e.question e.answer
+after_one w Ended e = None
+
+-- what was written before
+abbrev pub behind : List ℕ → Reached → Reached
+behind out r = record { stage = r.stage; out = out ++ r.out }
+
+-- after these answers, in their order; none where something else is asked than what the answers before lead to
+unfoldable pub after : Wanted → Stage → List Exchange → Option Reached
+after w s [] = Some (record { stage = s; out = [] })
+after w s (e ∷ es) = option_and_then (λ r. option_map (behind r.out) (after w r.stage es)) (after_one w s e)
+
+-- nothing was asked yet
+abbrev pub start : Follower
+start = record {
+  followed = record { configuration = empty; position = 0; is_moved = false };
+  members = [];
+  last = None;
+  has_begun = false;
+  asks = 0;
+}
+
+-- ---- a run
+
+-- From one stage to another: these answers were given meanwhile, and what they lead to was written.
+abbrev pub Went : (given now : List Exchange → Type 0) → Wanted → Stage → Stage → (before written : Option (List ℕ)) →
+    Type 0
+Went given now w s t before written = (es : List Exchange) × (out : List ℕ) × Adds given now es
+    × (after w s es ≡ Some (record { stage = t; out = out })) × Appends before written out
+
+-- It ended early: of what the answers lead to, a front was written.
+abbrev pub Stopped : (given now : List Exchange → Type 0) → Wanted → Stage → (before written : Option (List ℕ)) → Type 0
+Stopped given now w s before written = (es : List Exchange) × (r : Reached) × Adds given now es
+    × (after w s es ≡ Some r) × AppendsFront before written r.out
+
+-- How a run ends that is to ask for entries so often: after that many asks, or at another log, all is written that the
+-- answers lead to; where memory runs out, or the output is closed, a front of it.
+abbrev pub Ends : (given now : List Exchange → Type 0) → Wanted → (turns : ℕ) → Result Unit WriteFault →
+    (before written : Option (List ℕ)) → Type 0
+Ends given now w turns (Ok done) before written = (f : Follower) × (f.asks ≡ turns)
+    × Went given now w (AsksEntries start) (AsksEntries f) before written
+Ends given now w turns (Err fault.Another) before written = Went given now w (AsksEntries start) Ended before written
+Ends given now w turns (Err fault.Memory) before written = Stopped given now w (AsksEntries start) before written
+Ends given now w turns (Err fault.Closed) before written = Stopped given now w (AsksEntries start) before written

@@ -1,0 +1,2 @@
+-- What only code and proofs use, and what a value of the code stands for.
+pub mod Seen

@@ -1,0 +1,64 @@
+//! What a node answers at its control socket.
+
+ghost use Rattle.std.specs.Prelude.{List, [], ◌∷◌, ⊤};
+ghost use Rattle.cli_follow.specs.Exchanges.{Exchange, Entries, Status, Adds, asked};
+
+use cli_ask::{AskFault, Reply, read_at};
+use cli_io::{Shown, knock};
+use std::alloc::{AllocError, Global};
+use std::io::Write;
+
+/// Whoever answers as a node does at its control socket.
+pub trait Control {
+    // this was asked and answered so far, in order
+    ghost exchanged: { Self → List Exchange → Type 0 };
+
+    /// Asks for the entries from a position on, a line each.
+    fn entries(&mut self, alloc: Global, from: u32) -> Result<Reply, AskFault>
+        ensures { Adds (exchanged self.old) (exchanged self.new) (asked (Entries from) result ∷ []) };
+
+    /// Asks for the node's status.
+    fn status(&mut self, alloc: Global) -> Result<Reply, AskFault>
+        ensures { Adds (exchanged self.old) (exchanged self.new) (asked Status result ∷ []) };
+
+    /// Says why nobody answers, where that is known.
+    fn tell<E: Write>(&self, errors: &mut E);
+}
+
+/// A control socket.
+#[derive(Clone, Copy)]
+pub(crate) struct ControlSocket<'a> {
+    pub(crate) rt: &'a HostRuntime,
+    pub(crate) path: &'a str,
+}
+
+/// An answer to a target.
+fn read(
+    socket: ControlSocket<'_>,
+    alloc: Global,
+    target: Result<String, AllocError>,
+) -> Result<Reply, AskFault> {
+    match target {
+        Ok(target) => read_at(socket.rt, alloc, socket.path, target),
+        Err(AllocError) => Err(AskFault::Memory),
+    }
+}
+
+impl Control for ControlSocket<'_> {
+    // no contract can say what a socket gives
+    ghost exchanged = { λ _ _. ⊤ };
+
+    fn entries(&mut self, alloc: Global, from: u32) -> Result<Reply, AskFault> {
+        read(*self, alloc, format!(in alloc; "/v1/entries?from={from}"))
+    }
+
+    fn status(&mut self, alloc: Global) -> Result<Reply, AskFault> {
+        read(*self, alloc, String::from_str(alloc, "/v1/status"))
+    }
+
+    fn tell<E: Write>(&self, errors: &mut E) {
+        if let Err(error) = knock(self.rt, self.path) {
+            let _said = writeln!(errors, "pfx: {}: {error}", Shown(self.path));
+        }
+    }
+}

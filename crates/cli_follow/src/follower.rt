@@ -1,0 +1,332 @@
+//! What follows one node's log, and writes what nft(8) is to load.
+
+ghost use Rattle.std.specs.Prelude.{◌≡◌, ◌+◌, ◌||◌, ◌&&◌, ℕ, true, not, Some, Ok, IfOk, IfErr, OnOk, OnErr, option_map};
+ghost use Rattle.std.specs.Io.KnownBytes.{Appends};
+ghost use Rattle.cli_io.specs.Written.{AppendsFront};
+ghost use Rattle.cli_follow.specs.Output.{wanted, start, is_again, is_more, is_behind, caught_up, informed};
+ghost use Rattle.cli_follow.specs.Output.{after_entries, after_status, same_members, written_if, written_to};
+ghost use Rattle.cli_follow.specs.Output.{Wanted};
+ghost use Rattle.cli_follow.specs.Output as code;
+ghost use Rattle.cli_follow.specs.inner.Seen.{follower_of, wanted_of, due_in, loads_of, Wrote, Written};
+
+use crate::followed_configuration::{FollowedConfiguration, TakeFault};
+use crate::kernel::{Kernel, Step};
+use crate::members::members_told;
+use cli_ask::{AskFault, Reply};
+use cli_io::write_bytes;
+use cli_nft::Member;
+use node_requests::{ENTRIES_BYTES, ENTRIES_MAX};
+use std::alloc::{AllocError, Global};
+use std::io::Write;
+
+/// Of how many asks the first has a file tried again that couldn't be written, and asks where the members listen.
+const AGAIN: u64 = 20;
+
+/// Why nothing more can be written.
+#[derive(Clone, Copy, PartialEq, Eq)]
+pub enum WriteFault {
+    /// A growth was refused.
+    Memory,
+    /// The output is closed.
+    Closed,
+    /// The log at the control socket is another than the one that was followed.
+    Another,
+}
+
+impl From<AllocError> for WriteFault {
+    ghost use Rattle.cli_follow.specs.declared.follower.WriteFault.TheVariants.{Memory};
+
+    ghost from_gives = { λ _ e. e ≡ Memory };
+
+    fn from(_error: AllocError) -> WriteFault {
+        WriteFault::Memory
+    }
+}
+
+/// What an answer leads to.
+#[derive(Clone, Copy, PartialEq, Eq)]
+pub(crate) enum Due {
+    /// Entries that weren't all: those behind them are asked for.
+    More,
+    /// All is there, and nothing is to be written.
+    Rest,
+    /// Nobody answers, or what comes is no answer of a node's.
+    Nothing(AskFault),
+    /// The status is asked for, since what is to be written needs it.
+    Status,
+    /// What was followed is to be written.
+    Write,
+    /// The log is another than the one that was followed.
+    Another,
+}
+
+/// Lines for nft(8).
+#[derive(Drop)]
+struct Nft {
+    kernel: Kernel,
+    /// Whether the lines have the members' guard, so that the node is asked where its members listen.
+    is_guarded: bool,
+}
+
+/// What follows one node's log.
+#[derive(Drop)]
+pub struct Follower {
+    /// What was followed.
+    pub(crate) followed: FollowedConfiguration,
+    /// Lines for nft(8), where they are wanted.
+    nft: Option<Nft>,
+    /// Whether something was to be written already.
+    has_begun: bool,
+}
+
+/// Whether this is the first of some asks.
+pub(crate) fn is_again(asks: u64) -> bool
+    ensures { result ≡ is_again asks }
+{
+    asks % AGAIN == 0
+}
+
+/// Whether an answer hasn't all entries that are applied, by where it leads from and to, and its length.
+fn is_more(from: u32, to: u32, body: &[u8]) -> bool
+    ensures { result ≡ is_more from to body.now }
+{
+    to.saturating_sub(from) >= ENTRIES_MAX || body.len() >= ENTRIES_BYTES
+}
+
+/// Whether a node that knows of the commands of that many positions has another log than the one that was followed so
+/// far.
+fn is_behind(front: Option<u32>, position: u32) -> bool
+    ensures { result ≡ is_behind front position }
+{
+    match front {
+        Some(front) => front < position,
+        None => false,
+    }
+}
+
+/// Says what came at a position.
+pub(crate) fn say<E: Write>(
+    errors: &mut E,
+    alloc: Global,
+    position: u32,
+    what: &str,
+) -> Result<(), AllocError> {
+    let line = format!(in alloc; "pfx: at {position} {what}")?;
+    let _said = errors.write_all(line.as_bytes());
+    Ok(())
+}
+
+/// Writes lines, and all that is kept back.
+fn write_lines<W: Write>(writer: &mut W, lines: &[u8]) -> Result<(), WriteFault>
+    ensures whole { OnOk result (Appends (W.contents writer.old) (W.contents writer.new) lines.now) }
+    ensures front { OnErr result (AppendsFront (W.contents writer.old) (W.contents writer.new) lines.now) }
+    ensures closed { IfErr result (λ e. e ≡ WriteFault.Closed) }
+{
+    if write_bytes(writer, lines).is_err() || writer.flush().is_err() {
+        return Err(WriteFault::Closed);
+    }
+    Ok(())
+}
+
+/// Whether something is to be written: commands were done, or the members are others than what was written has.
+fn is_wanted(is_moved: bool, is_new: bool, has_begun: bool) -> bool
+    ensures { result ≡ (is_moved || (is_new && has_begun)) }
+{
+    is_moved || (is_new && has_begun)
+}
+
+/// What is due where something is to be written or not.
+fn due_if(is_wanted: bool) -> Due
+    ensures due { (w : Wanted) (f : code.Follower) → written_if w is_wanted f ≡ due_in w f result }
+    ensures status { result ≡ Due.Status → ⊥ }
+{
+    if is_wanted { Due::Write } else { Due::Rest }
+}
+
+impl Nft {
+    /// From now on what these members send each other passes. Whether they are others than those before.
+    fn set_members(&mut self, members: Vec<Member>) -> bool
+        ensures other { result ≡ not (same_members self.old.kernel.members.items members.items) }
+        ensures members { self.new.kernel.members ≡ members }
+        ensures interfaces { self.new.kernel.interfaces ≡ self.old.kernel.interfaces }
+        ensures last { self.new.kernel.last ≡ self.old.kernel.last }
+        ensures guarded { self.new.is_guarded ≡ self.old.is_guarded }
+    {
+        self.kernel.set_members(members)
+    }
+
+    /// Writes what a kernel is to load; a refusal is said.
+    #[tactic(auto, using(cli_io::proofs::Fronts::nothing_written))]
+    fn write<W: Write, E: Write>(
+        &mut self,
+        alloc: Global,
+        followed: &FollowedConfiguration,
+        writer: &mut W,
+        errors: &mut E,
+    ) -> Result<(), WriteFault>
+        ensures whole { OnOk result (Wrote self.old self.new followed.now
+            (W.contents writer.old) (W.contents writer.new)) }
+        ensures front { OnErr result (AppendsFront (W.contents writer.old) (W.contents writer.new)
+            (loads_of self.old followed.now).lines) }
+        ensures fault { IfErr result (λ e. e ≡ WriteFault.Another → ⊥) }
+        ensures members { self.new.kernel.members ≡ self.old.kernel.members }
+        ensures interfaces { self.new.kernel.interfaces ≡ self.old.kernel.interfaces }
+        ensures guarded { self.new.is_guarded ≡ self.old.is_guarded }
+    {
+        let position = followed.position;
+        match self.kernel.load(alloc, &followed.config, position)? {
+            Step::Same => Ok(()),
+            Step::Refused(line) => Ok(say(errors, alloc, position, line.as_str())?),
+            Step::Lines(lines) => write_lines(writer, lines.as_slice()),
+        }
+    }
+}
+
+impl Follower {
+    /// Nothing was followed yet: lines for nft(8) are wanted where a text lists the interfaces.
+    pub fn new(
+        alloc: Global,
+        interfaces: Option<Vec<u8>>,
+        is_guarded: bool,
+    ) -> Result<Follower, AllocError>
+        ensures start { IfOk result (λ f. follower_of 0 f ≡ start) }
+        ensures wanted { IfOk result (λ f. wanted_of f
+            ≡ wanted (option_map (λ v. v.items) interfaces) is_guarded) }
+    {
+        let followed = FollowedConfiguration::new(alloc)?;
+        match interfaces {
+            Some(text) => {
+                let kernel = Kernel::new(alloc, text);
+                Ok(Follower {
+                    followed,
+                    nft: Some(Nft { kernel, is_guarded }),
+                    has_begun: false,
+                })
+            }
+            None => Ok(Follower {
+                followed,
+                nft: None,
+                has_begun: false,
+            }),
+        }
+    }
+
+    /// Whether the node is asked where its members listen.
+    fn is_guarded(&self) -> bool
+        ensures { result ≡ (wanted_of self.now).is_guarded }
+    {
+        match &self.nft {
+            Some(nft) => nft.is_guarded,
+            None => false,
+        }
+    }
+
+    /// What is due where all that is applied is there.
+    fn caught_up(&self, again: bool) -> Due
+        ensures due { (asks : ℕ) → caught_up (wanted_of self.now) again (follower_of asks self.now)
+            ≡ due_in (wanted_of self.now) (follower_of asks self.now) result }
+        ensures guarded { result ≡ Due.Status → (wanted_of self.now).is_guarded ≡ true }
+    {
+        if self.is_guarded() && (self.followed.is_moved || again) {
+            return Due::Status;
+        }
+        if self.followed.is_moved {
+            return Due::Write;
+        }
+        Due::Rest
+    }
+
+    /// Takes the answer to the ask for entries that came after the given number of asks.
+    pub(crate) fn entered(
+        &mut self,
+        alloc: Global,
+        asks: u64,
+        answer: Result<Reply, AskFault>,
+    ) -> Result<Due, AllocError>
+        ensures due { IfOk result (λ d. after_entries (wanted_of self.old) (follower_of asks self.old) answer
+            ≡ due_in (wanted_of self.new) (follower_of (asks + 1) self.new) d) }
+        ensures wanted { wanted_of self.new ≡ wanted_of self.old }
+        ensures guarded { result ≡ Ok Due.Status → (wanted_of self.new).is_guarded ≡ true }
+    {
+        let reply = match answer {
+            Ok(reply) => reply,
+            Err(AskFault::Memory) => return Err(AllocError),
+            Err(fault) => return Ok(Due::Nothing(fault)),
+        };
+        let from = self.followed.position;
+        if is_behind(reply.front, from) {
+            return Ok(Due::Another);
+        }
+        match self.followed.take(alloc, reply.body.as_slice()) {
+            Ok(()) => {}
+            Err(TakeFault::Memory) => return Err(AllocError),
+            Err(TakeFault::BadLine) => return Ok(Due::Nothing(AskFault::BadAnswer)),
+        }
+        if is_more(from, self.followed.position, reply.body.as_slice()) {
+            return Ok(Due::More);
+        }
+        Ok(self.caught_up(is_again(asks)))
+    }
+
+    /// From now on what these members send each other passes. What is due then.
+    fn set_members(&mut self, members: Vec<Member>) -> Due
+        requires guarded { (wanted_of self.old).is_guarded ≡ true }
+        ensures due { (asks : ℕ) → informed (wanted_of self.old) (follower_of asks self.old) (Some members.items)
+            ≡ due_in (wanted_of self.new) (follower_of asks self.new) result }
+        ensures wanted { wanted_of self.new ≡ wanted_of self.old }
+        ensures status { result ≡ Due.Status → ⊥ }
+    {
+        match &mut self.nft {
+            Some(nft) => {
+                let is_new = nft.set_members(members);
+                due_if(is_wanted(self.followed.is_moved, is_new, self.has_begun))
+            }
+            None => Due::Rest,
+        }
+    }
+
+    /// Takes the answer to the ask for the status.
+    pub(crate) fn informed(
+        &mut self,
+        alloc: Global,
+        answer: Result<Reply, AskFault>,
+    ) -> Result<Due, AllocError>
+        requires guarded { (wanted_of self.old).is_guarded ≡ true }
+        ensures due { IfOk result (λ d. (asks : ℕ) → after_status (wanted_of self.old) (follower_of asks self.old) answer
+            ≡ due_in (wanted_of self.new) (follower_of asks self.new) d) }
+        ensures wanted { wanted_of self.new ≡ wanted_of self.old }
+        ensures status { IfOk result (λ d. d ≡ Due.Status → ⊥) }
+    {
+        let reply = match answer {
+            Ok(reply) => reply,
+            Err(AskFault::Memory) => return Err(AllocError),
+            Err(fault) => return Ok(Due::Nothing(fault)),
+        };
+        match members_told(alloc, reply.body.as_slice())? {
+            Some(members) => Ok(self.set_members(members)),
+            None => Ok(Due::Nothing(AskFault::BadAnswer)),
+        }
+    }
+
+    /// Writes what was followed, where lines for nft(8) are wanted. What is refused is said.
+    pub(crate) fn write<W: Write, E: Write>(
+        &mut self,
+        alloc: Global,
+        writer: &mut W,
+        errors: &mut E,
+    ) -> Result<(), WriteFault>
+        ensures whole { OnOk result ((asks : ℕ) → Written (written_to (wanted_of self.old).file (follower_of asks self.old))
+            (follower_of asks self.new) (W.contents writer.old) (W.contents writer.new)) }
+        ensures front { OnErr result ((asks : ℕ) → AppendsFront (W.contents writer.old) (W.contents writer.new)
+            (written_to (wanted_of self.old).file (follower_of asks self.old)).out) }
+        ensures fault { IfErr result (λ e. e ≡ WriteFault.Another → ⊥) }
+        ensures wanted { wanted_of self.new ≡ wanted_of self.old }
+    {
+        self.followed.is_moved = false;
+        self.has_begun = true;
+        match &mut self.nft {
+            Some(nft) => nft.write(alloc, &self.followed, writer, errors),
+            None => Ok(()),
+        }
+    }
+}

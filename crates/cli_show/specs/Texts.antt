@@ -1,0 +1,23 @@
+-- What is written of a configuration for pfctl(8).
+use Rattle.std.specs.Prelude.{◌≡◌, ℕ, List, ◌++◌, codes, map}
+use Rattle.std.specs.List.{flat_map}
+use Rattle.pf_config.specs.Map.{Configuration, Path}
+use Rattle.pf_command.specs.Arguments.{path_words}
+use Rattle.pf_dump.specs.Texts.{Text, text_paths, GivenBy}
+
+-- the command that loads a text, as a comment
+-- Example: # pfctl -a x/y -f -
+abbrev pub comment : Path → List ℕ
+comment p = codes "# pfctl " ++ (path_words p ++ codes "-f -\n")
+
+-- a text behind its comment
+abbrev pub shown_text : Text → List ℕ
+shown_text t = comment t.path ++ t.text
+
+abbrev pub shown_texts : List Text → List ℕ
+shown_texts ts = flat_map shown_text ts
+
+-- one text for each path that a command may load, which together give the configuration
+abbrev pub ShowsTexts : Configuration → List ℕ → Type 0
+ShowsTexts c bytes = (ts : List Text) × (map (λ t. t.path) ts ≡ text_paths c) × GivenBy ts c
+    × (bytes ≡ shown_texts ts)
