@@ -30,38 +30,58 @@ use Rattle.node_udp.specs.declared.udp.UdpWire.{UdpWire}
 use Rattle.node_control.specs.Sockets.{Ran, RanAbove, RanAt, RanSealed, Leaves, RunsAt, RunsSealed}
 use Rattle.node_control.specs.inner.Looping.{WentLooped}
 
+-- a run that handed over all
+abbrev AllRan : (g : Group) (m : ℕ) (first : Record Bytes) (es : List WireEvent) (deeds : List Deed) (end : NodeState Bytes)
+    (unanswered : List Bytes) → Type 0
+AllRan g m first es deeds end unanswered = (r : Ran g m first es deeds end unanswered) × (r.lost ≡ [])
+
+abbrev AllRanAbove : (g : Group) (m : ℕ) (first : Record Bytes) (es : List WireEvent) (deeds : List Deed) (end : NodeState Bytes)
+    (unanswered : List Bytes) → Type 0
+AllRanAbove g m first es deeds end unanswered = (r : RanAbove g m first es deeds end unanswered) × (r.ran.lost ≡ [])
+
+abbrev AllRanSealed : (g : Group) (keys : List (List ℕ)) (s : Sealer) (m : ℕ) (first : Record Bytes) (es : List SocketEvent)
+    (deeds : List Deed) (end : NodeState Bytes) (unanswered : List Bytes) → Type 0
+AllRanSealed g keys s m first es deeds end unanswered =
+    (r : RanSealed g keys s m first es deeds end unanswered) × (r.ran.ran.lost ≡ [])
+
 -- what a run lived, a member ran
 ran : {R : Type 0} (G : Ghosts R) (m : Membership) (given back : R) (es : List WireEvent) (l : LivedOver G m given back [] es) →
-    Ran (group m) m.me (G.stored given) es (deeds_of l.moves) l.then (given_in l.last)
-ran G m given back es l = record {
-  moves = l.moves;
-  does = refl;
-  lived = l.lived;
-  up = l.up;
-  hears = l.hears;
-  are = l.are;
-  last = l.last;
-  came = refl;
-  lost = [];
-  went = append-nil es ∙ l.went;
-  again = l.again;
-}
+    AllRan (group m) m.me (G.stored given) es (deeds_of l.moves) l.then (given_in l.last)
+ran G m given back es l = (
+  record {
+    moves = l.moves;
+    does = refl;
+    lived = l.lived;
+    up = l.up;
+    hears = l.hears;
+    are = l.are;
+    last = l.last;
+    came = refl;
+    lost = [];
+    went = append-nil es ∙ l.went;
+    again = l.again;
+  },
+  refl,
+)
 
 -- nothing befell it
-idle : (g : Group) (m : ℕ) (first : Record Bytes) (es : List WireEvent) → es ≡ [] → Ran g m first es [] (started first) []
-idle g m first es none = record {
-  moves = [];
-  does = refl;
-  lived = refl;
-  up = refl;
-  hears = false;
-  are = tt;
-  last = [];
-  came = refl;
-  lost = [];
-  went = append-nil es ∙ none;
-  again = λ d n. n;
-}
+idle : (g : Group) (m : ℕ) (first : Record Bytes) (es : List WireEvent) → es ≡ [] → AllRan g m first es [] (started first) []
+idle g m first es none = (
+  record {
+    moves = [];
+    does = refl;
+    lived = refl;
+    up = refl;
+    hears = false;
+    are = tt;
+    last = [];
+    came = refl;
+    lost = [];
+    went = append-nil es ∙ none;
+    again = λ d n. n;
+  },
+  refl,
+)
 
 -- while no call on a record has failed, a stop leaves it as it stands
 abbrev pub Settles : {R : Type 0} → Ghosts R → Type 0
@@ -73,7 +93,7 @@ record RunsOver {R : Type 0} (G : Ghosts R) (m : Membership) (given back : R) (e
   pub deeds : List Deed
   pub end : NodeState Bytes
   pub unanswered : List Bytes
-  pub ran : Ran (group m) m.me (G.stored given) es deeds end unanswered
+  pub ran : AllRan (group m) m.me (G.stored given) es deeds end unanswered
   pub leaves : Leaves G m back end unanswered
 
 runs_over : {R : Type 0} (G : Ghosts R) → Settles G → HostedRunsAreLived G → (m : Membership) (given back : R) (es : List WireEvent)
@@ -101,16 +121,20 @@ runs_over G settles law m given back es ended honest fresh (inl (e, is, refused,
 -- the same over the wire below
 above : {W : Type 0} (g : Group) (m : ℕ) (first : Record Bytes) (below : List WireEvent → Type 0) (w : LoopbackWire W)
     (es : List WireEvent) (deeds : List Deed) (end : NodeState Bytes) (unanswered : List Bytes) (looped : Looped below w es) →
-    loopback.me_of w ≡ m → Ran g m first es deeds end unanswered →
-    RanAbove g m first (loopback.below_in looped.loops) deeds end unanswered
-above g m first below w es deeds end unanswered looped me r = record {
-  loops = looped.loops;
-  kept = loopback.kept_of w;
-  queue = looped.queue;
-  below_is = refl;
-  ran = subst (λ (fs : List WireEvent). Ran g m first fs deeds end unanswered)
-      (looped.above_is ∙ ap (λ (k : ℕ). loopback.above_in k looped.loops) me) r;
-}
+    loopback.me_of w ≡ m → AllRan g m first es deeds end unanswered →
+    AllRanAbove g m first (loopback.below_in looped.loops) deeds end unanswered
+above g m first below w es deeds end unanswered looped me r =
+    let own = subst (λ (fs : List WireEvent). AllRan g m first fs deeds end unanswered)
+    (looped.above_is ∙ ap (λ (k : ℕ). loopback.above_in k looped.loops) me) r in (
+      record {
+        loops = looped.loops;
+        kept = loopback.kept_of w;
+        queue = looped.queue;
+        below_is = refl;
+        ran = own.0;
+      },
+      own.1,
+    )
 
 -- at the socket
 pub runs_at : {R S C : Type 0} (G : Ghosts R) (H : socket.Ghosts S) → Settles G → HostedRunsAreLived G → (m : Membership) (given back : R)
@@ -119,7 +143,10 @@ pub runs_at : {R S C : Type 0} (G : Ghosts R) (H : socket.Ghosts S) → Settles 
     (events : List SocketEvent) × H.traffic (socket_of wire) events × RunsAt G m given back events
 runs_at {R} {S} {C} G H settles law m given back ended wire honest fresh (w, es, is, me, looped, hosted) =
     let r = runs_over G settles law m given back es ended honest fresh hosted in
-    let o = looped.below_is in (
+    let o = looped.below_is in
+    let own = subst (λ (fs : List WireEvent). AllRanAbove (group m) m.me (G.stored given) fs r.deeds r.end r.unanswered) o.above_is
+    (above (group m) m.me (G.stored given) (WentOver (H.traffic (socket_of (loopback.below_of w))) (loopback.below_of w)) w es
+    r.deeds r.end r.unanswered looped me r.ran) in (
       sockets.below_in o.passages,
       subst (λ (u : UdpWire S C). H.traffic (socket_of u) (sockets.below_in o.passages)) is o.below_is,
       record {
@@ -132,10 +159,9 @@ runs_at {R} {S} {C} G H settles law m given back ended wire honest fresh (w, es,
           passages = o.passages;
           sound = o.sound;
           below_is = refl;
-          ran = subst (λ (fs : List WireEvent). RanAbove (group m) m.me (G.stored given) fs r.deeds r.end r.unanswered) o.above_is
-              (above (group m) m.me (G.stored given) (WentOver (H.traffic (socket_of (loopback.below_of w))) (loopback.below_of w)) w es
-              r.deeds r.end r.unanswered looped me r.ran);
+          ran = own.0;
         };
+        whole = own.1;
         leaves = r.leaves;
       },
     )
@@ -153,27 +179,33 @@ runs_sealed {R} {S} {C} {D} G H settles are_steps law m given back ended wire ho
     let sealed = looped.below_is in
     let o = sealed.state_is.traffic_is in
     let events = sockets.below_in o.passages in
-    let made = are_steps (wiring.keys_of p) (wiring.sealer_of p) sealed.calls sealed.state (loopback.below_in looped.loops) sealed.made in (
+    let made = are_steps (wiring.keys_of p) (wiring.sealer_of p) sealed.calls sealed.state (loopback.below_in looped.loops) sealed.made in
+    let own = subst (λ (fs : List WireEvent). AllRanAbove (group m) m.me (G.stored given) fs r.deeds r.end r.unanswered) (sym made.2)
+    (above (group m) m.me (G.stored given) (WentSealed (WentOver (H.traffic (socket_of (wiring.inner_of p))) (wiring.inner_of p)) p)
+    w es r.deeds r.end r.unanswered looped me r.ran) in
+    let all = subst (λ (u : PacketWire (UdpWire S C) D). AllRanSealed (group m) (wiring.keys_of u) (wiring.sealer_of u) m.me (G.stored given)
+    events r.deeds r.end r.unanswered) is (
+      record {
+        addresses = peers_of (wiring.inner_of p);
+        me = me_of (wiring.inner_of p);
+        passages = o.passages;
+        sound = o.sound;
+        below_is = refl;
+        made = made.0;
+        packets_are = made.1 ∙ o.above_is;
+        are = made.3;
+        ran = own.0;
+      },
+      own.1,
+    ) in (
       events,
       subst (λ (u : PacketWire (UdpWire S C) D). H.traffic (socket_of (wiring.inner_of u)) events) is o.below_is,
       record {
         deeds = r.deeds;
         end = r.end;
         unanswered = r.unanswered;
-        ran = subst (λ (u : PacketWire (UdpWire S C) D). RanSealed (group m) (wiring.keys_of u) (wiring.sealer_of u) m.me (G.stored given)
-            events r.deeds r.end r.unanswered) is (record {
-              addresses = peers_of (wiring.inner_of p);
-              me = me_of (wiring.inner_of p);
-              passages = o.passages;
-              sound = o.sound;
-              below_is = refl;
-              made = made.0;
-              packets_are = made.1 ∙ o.above_is;
-              are = made.3;
-              ran = subst (λ (fs : List WireEvent). RanAbove (group m) m.me (G.stored given) fs r.deeds r.end r.unanswered) (sym made.2)
-                  (above (group m) m.me (G.stored given) (WentSealed (WentOver (H.traffic (socket_of (wiring.inner_of p))) (wiring.inner_of p)) p)
-                  w es r.deeds r.end r.unanswered looped me r.ran);
-            });
+        ran = all.0;
+        whole = all.1;
         leaves = r.leaves;
       },
     )

@@ -83,13 +83,14 @@ pub record Leaves {R : Type 0} (G : Ghosts R) (m : Membership) (back : R) (end :
   pub stays : G.failed back ≡ 0 → G.stored back ≡ end.stored
   pub stop : (left : Record Bytes) → G.may_leave back left → LeavesThere (group m) m.me unanswered end left
 
--- a run over a record, without a key: what went over its socket
+-- A run over a record, without a key, that ended: what went over its socket. All was handed over.
 pub record RunsAt {R : Type 0} (G : Ghosts R) (m : Membership) (given back : R) (events : List SocketEvent) :
     Type 0 where
   pub deeds : List Deed
   pub end : NodeState Bytes
   pub unanswered : List Bytes
   pub ran : RanAt (group m) m.me (G.stored given) events deeds end unanswered
+  pub whole : ran.ran.ran.lost ≡ []
   pub leaves : Leaves G m back end unanswered
 
 -- the same with a key
@@ -99,4 +100,5 @@ pub record RunsSealed {R : Type 0} (G : Ghosts R) (m : Membership) (keys : List 
   pub end : NodeState Bytes
   pub unanswered : List Bytes
   pub ran : RanSealed (group m) keys s m.me (G.stored given) events deeds end unanswered
+  pub whole : ran.ran.ran.lost ≡ []
   pub leaves : Leaves G m back end unanswered

@@ -143,6 +143,9 @@ within_one g m hears came i u out ms s t before kept front lost v up a h =
       goes_on = v.3;
     }
 
+both_first : {E : Type 0} (x e : E) (xs es : List E) → x ≡ e → xs ≡ es → x ∷ xs ≡ e ∷ es
+both_first {E} x e xs es one more = ap (λ (ys : List E). x ∷ ys) more ∙ ap (λ (y : E). y ∷ es) one
+
 went_more : (own front behind events last : List WireEvent) (lost : List (ℕ × Bytes)) → front ≡ own ++ behind →
     behind ++ hands lost ≡ events ++ last → front ++ hands lost ≡ (own ++ events) ++ last
 went_more own front behind events last lost is h =
@@ -179,7 +182,7 @@ cut g m hears (living.Passes b ∷ ms) s t before kept (e ∷ front) rest last h
       are = (a.0, c.are);
       last = c.last;
       lost = c.lost;
-      went = ap (λ (es : List WireEvent). e ∷ es) c.went ∙ ap (λ (x : WireEvent). x ∷ (events_of c.moves ++ c.last)) one;
+      went = both_first e (Gave b) (front ++ hands c.lost) (events_of c.moves ++ c.last) one c.went;
       again = c.again;
       later = c.later;
       all = c.all;
@@ -199,7 +202,7 @@ cut g m hears (living.Repeats to b ∷ ms) s t before kept (e ∷ front) rest la
       are = (a.0, c.are);
       last = c.last;
       lost = c.lost;
-      went = ap (λ (es : List WireEvent). e ∷ es) c.went ∙ ap (λ (x : WireEvent). x ∷ (events_of c.moves ++ c.last)) one;
+      went = both_first e (Handed to b) (front ++ hands c.lost) (events_of c.moves ++ c.last) one c.went;
       again = c.again;
       later = c.later;
       all = c.all;
@@ -317,9 +320,6 @@ more_before {X} over x xs front then h is = record {
 
 none_before : {X E : Type 0} (over : List X → List E) (xs : List X) → [] ≡ over [] → Halves over xs []
 none_before over xs is = record { before = []; behind = xs; all = refl; front_is = is }
-
-both_first : {E : Type 0} (x e : E) (xs es : List E) → x ≡ e → xs ≡ es → x ∷ xs ≡ e ∷ es
-both_first {E} x e xs es one more = ap (λ (ys : List E). x ∷ ys) more ∙ ap (λ (y : E). y ∷ es) one
 
 cut_loops : (ls : List Loop) (front back : List WireEvent) → front ++ back ≡ loopback.below_in ls → Halves loopback.below_in ls front
 cut_loops ls [] back h = none_before loopback.below_in ls refl
