@@ -7,7 +7,8 @@ use Rattle.cli_follow.specs.declared.followed_configuration.FollowedConfiguratio
 use Rattle.cli_follow.specs.declared.follower.Nft.{Nft}
 use Rattle.cli_follow.specs.Following.{Followed}
 use Rattle.cli_follow.specs.Output.{Stage, Follower, Given, AsksEntries, written_to}
-use Rattle.cli_follow.specs.inner.Seen.{Wrote, Written, given_of, followed_of, members_of, last_of, wanted_for, loads_of}
+use Rattle.cli_follow.specs.Following.{followed_of}
+use Rattle.cli_follow.specs.inner.Seen.{Wrote, Written, given_of, members_of, last_of, wanted_for, loads_of}
 
 -- with these lines' place, before it is written and then
 abbrev before : FollowedConfiguration → Option Nft → Bool → (asks : ℕ) → Follower

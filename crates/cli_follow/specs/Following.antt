@@ -14,6 +14,7 @@ use Rattle.pf_entry.specs.Reading.{reading}
 use Rattle.pf_scripts.specs.Lines.{ScriptLine, lines}
 use Rattle.pf_node.specs.Applied.{after, after_read}
 use Rattle.node_requests.specs.EntryLines.{entries_from}
+use Rattle.cli_follow.specs.declared.followed_configuration.FollowedConfiguration.{FollowedConfiguration}
 
 -- the configuration after the entry whose bytes were decoded, if they were
 abbrev pub after_decoded : Configuration → Result (List ℕ) FromHexError → Configuration
@@ -36,6 +37,10 @@ pub record Followed : Type 0 where
   pub configuration : Configuration
   pub position : ℕ
   pub is_moved : Bool
+
+-- what a followed configuration has of it
+abbrev pub followed_of : FollowedConfiguration → Followed
+followed_of f = record { configuration = f.config; position = f.position; is_moved = f.is_moved }
 
 -- a command that isn't refused
 abbrev pub is_done : Result Effect RefusedCommand → Bool

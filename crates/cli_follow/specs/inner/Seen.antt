@@ -2,7 +2,7 @@
 use Rattle.std.specs.Prelude.{◌≡◌, ℕ, Bool, true, false, List, [], Option, Some, None, option_map, string_bytes}
 use Rattle.std.specs.Io.KnownBytes.{Appends}
 use Rattle.nft_rules.specs.declared.guard.Member.{Member}
-use Rattle.cli_follow.specs.Following.{Followed}
+use Rattle.cli_follow.specs.Following.{followed_of}
 use Rattle.cli_follow.specs.Output.{Wanted, Follower, Given, Loads, Reached, AsksEntries, AsksStatus, Ended, loads, silent}
 use Rattle.cli_follow.specs.Output.{Stage, written_to, after}
 use Rattle.cli_follow.specs.Exchanges.{Exchange, Adds}
@@ -14,10 +14,6 @@ use Rattle.cli_follow.specs.declared.follower.Nft.{Nft}
 use Rattle.cli_follow.specs.declared.kernel.Loaded.{Loaded}
 use Rattle.cli_follow.specs.declared.kernel.Step.{Step}
 use Rattle.cli_follow.specs.declared.kernel.Step.TheVariants as step
-
--- what was followed
-abbrev pub followed_of : FollowedConfiguration → Followed
-followed_of f = record { configuration = f.config; position = f.position; is_moved = f.is_moved }
 
 -- what was handed out last
 abbrev pub given_of : Option Loaded → Option Given

@@ -2,7 +2,7 @@ use Rattle.std.proofs.Common.{◌≡◌, ◌+◌, ℕ, false, length, fold}
 use Rattle.pf_config.specs.Map.{Configuration}
 use Rattle.pf_scripts.specs.Lines.{lines}
 use Rattle.cli_follow.specs.Following.{after_lines, StopsIn, taken}
-use Rattle.cli_follow.specs.inner.Seen.{followed_of}
+use Rattle.cli_follow.specs.Following.{followed_of}
 use Rattle.cli_follow.proofs.followed_configuration.FollowedConfiguration.take.Given as goal
 
 -- what was taken so far, with what the lines that are left lead to
