@@ -28,6 +28,7 @@ use Rattle.node_udp.specs.Sockets as sockets
 use Rattle.node_udp.specs.Sockets.{SocketEvent, Passage}
 use Rattle.node_udp.specs.declared.address.Address.{Address}
 use Rattle.node_control.specs.Sockets.{Ran, RanAbove, RanAt, RanSealed}
+use Rattle.pfx_laws.specs.Fronts.{Front, FrontsAreRuns}
 
 -- ---- what was still to be handed over
 
@@ -247,17 +248,6 @@ cut g m hears (living.Does came i u out ∷ ms) s t before kept front rest last 
         let r = hands_end f lack (handed_over out) more in
         within_one g m hears (Some b) i u out ms s t before kept (x ∷ f) r.0 v' up a'
         (ap (λ (es : List WireEvent). (x ∷ f) ++ es) (sym r.1) ∙ e)
-
--- a front of what befell the member, of which this holds, with how the member stands behind it and what is unanswered
-pub record Front (g : Group) (m : ℕ) (Is : List Deed → NodeState Bytes → List Bytes → Type 0) (deeds : List Deed) (end : NodeState Bytes) :
-    Type 0 where
-  pub before : List Deed
-  pub then : NodeState Bytes
-  pub unanswered : List Bytes
-  pub ran : Is before then unanswered
-  pub later : List Deed
-  pub all : deeds ≡ before ++ later
-  pub goes_on : Lived g m then later end
 
 so_is : (g : Group) (m : ℕ) (Is Are : List Deed → NodeState Bytes → List Bytes → Type 0) (deeds : List Deed) (end : NodeState Bytes) →
     ((ds : List Deed) (t : NodeState Bytes) (bs : List Bytes) → Is ds t bs → Are ds t bs) → Front g m Is deeds end → Front g m Are deeds end
@@ -597,3 +587,9 @@ killed_in_call g m first events deeds end unanswered r done later came i u out i
       (i, v.1, comes, inl refl),
       (i, v.1, comes, inr (makes.plan, makes.steps, ap (λ (w : NodeState Bytes). w.stored) makes.follows)),
     )
+
+pub at_sockets : FrontsAreRuns
+at_sockets g m first front back deeds end unanswered = (
+  λ r. front_at_socket g m first front back deeds end unanswered r,
+  λ keys s r. front_at_sealed_socket g keys s m first front back deeds end unanswered r,
+)

@@ -10,7 +10,7 @@
 -- | `Again` | a shown rule has no fault: its tokens are clean, its braces are low (`item_low`), its length is asked; then as `RoundTrip` of pf_grammar, whose invariant it has with one field more |
 -- | `Lifting` | an order of what goes over a lower layer of all members is one of what goes over the layer above it: socket, packets, own datagrams, wire; starts of runs are on each of them |
 -- | `Networking` | a member's runs are acts, each at most one event at its wire: so the events in order are stretches; at a start what is left of the run before, a stop and an opening |
--- | `Fronts` | every front of a run is a run, to which a front of what befell the whole run befell; so a run that is killed is one, between two moves or in a call; no law rests on this |
+-- | `Fronts` | every front of a run is a run, to which a front of what befell the whole run befell; so a run that is killed is one, between two moves or in a call |
 -- | `Looping`, `Socketing`, `Sealing` | a layer each: what goes over it is carried, if what goes over the layer below is |
 -- | `Keeping` | what a member has as learned in the end of a run it has in the end of each later one |
 -- | `Numbering` | with a key, runs get numbers as they start, for the law of px_transport; no two of a member have one start |

@@ -14,3 +14,4 @@ pub mod Runs
 pub mod Members
 pub mod Sockets
 pub mod Sealed
+pub mod Fronts

@@ -1,0 +1,33 @@
+-- A run that is killed: what went over its socket up to then.
+use Rattle.std.specs.Prelude.{◌≡◌, ℕ, List, ◌++◌}
+use Rattle.px_model.specs.Node.{Record}
+use Rattle.px_model.specs.Spelling.{Bytes}
+use Rattle.px_model.specs.World.{NodeState}
+use Rattle.px_wire.specs.Message.{Group}
+use Rattle.px_replica.specs.Lives.{Deed, Lived}
+use Rattle.px_transport.specs.Sending.{Sealer}
+use Rattle.node_udp.specs.Sockets.{SocketEvent}
+use Rattle.node_control.specs.Sockets.{RanAt, RanSealed}
+
+-- Of what befell the member a front, of which this holds, with how the member stands behind it and what is unanswered
+-- then. From there on the rest befell it.
+pub record Front (g : Group) (m : ℕ) (Is : List Deed → NodeState Bytes → List Bytes → Type 0) (deeds : List Deed)
+    (end : NodeState Bytes) : Type 0 where
+  pub before : List Deed
+  pub then : NodeState Bytes
+  pub unanswered : List Bytes
+  pub ran : Is before then unanswered
+  pub later : List Deed
+  pub all : deeds ≡ before ++ later
+  pub goes_on : Lived g m then later end
+
+-- Wherever what went over a run's socket is cut off, without a key or with one, the front of it is what went over the
+-- socket of a run: a front of what befell the member befell it.
+abbrev pub FrontsAreRuns : Type 0
+FrontsAreRuns =
+    (g : Group) (m : ℕ) (first : Record Bytes) (front back : List SocketEvent) (deeds : List Deed)
+    (end : NodeState Bytes) (unanswered : List Bytes) →
+    (RanAt g m first (front ++ back) deeds end unanswered →
+    Front g m (λ ds s came. RanAt g m first front ds s came) deeds end) ×
+    ((keys : List (List ℕ)) (s : Sealer) → RanSealed g keys s m first (front ++ back) deeds end unanswered →
+    Front g m (λ ds t came. RanSealed g keys s m first front ds t came) deeds end)
