@@ -30,7 +30,8 @@ sealer_with m s = record {
 }
 
 -- what went over its socket: packets where there are keys, sealed and opened with them, and else the bare datagrams
-abbrev pub RunsWith : {R : Type 0} → Ghosts R → Membership → Option Sealing → (given back : R) → List SocketEvent → Type 0
+abbrev pub RunsWith : {R : Type 0} → Ghosts R → Membership → Option Sealing → (given back : R) → List SocketEvent →
+    Type 0
 RunsWith G m None given back events = RunsAt G m given back events
 RunsWith G m (Some s) given back events = RunsSealed G m (keys_with s) (sealer_with m s) given back events
 
