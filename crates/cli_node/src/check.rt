@@ -13,7 +13,7 @@ use crate::node::{NodeWords, figures_at, membership};
 use crate::outcome::Outcome;
 use crate::sealing::of_starts;
 use crate::store::{
-    Found, Opening, failed_outcome, found_at, identity_of, is_made, opening_of, untaken,
+    Found, Opening, failed_outcome, found_at, identity_of, opening_of, untaken,
 };
 use cli_io::{Shown, open_regular};
 use node_loop::Membership;
@@ -247,7 +247,8 @@ fn of_store(
     }
 }
 
-/// What is refused of the file of starts, where a node with these words would need one.
+/// What is refused of the file of starts beside a store that is there; where none is, a start makes both or is refused
+/// for the store.
 fn starts_of(
     rt: &HostRuntime,
     alloc: Global,
@@ -257,13 +258,10 @@ fn starts_of(
     ensures { (result ≡ Sound) ⊎ ((result ≡ Memory) ⊎ (result ≡ Refused 95)) }
 {
     match found_at(rt, alloc, words.store) {
-        Ok(found) => of_starts(
-            rt,
-            alloc,
-            words,
-            m,
-            is_made(words.is_from_file, words.is_new, found),
-        ),
+        Ok(found) => {
+            let is_absent = matches!(found, Found::Nothing | Found::Empty);
+            of_starts(rt, alloc, words, m, is_absent)
+        }
         Err(_) => Outcome::Memory,
     }
 }

@@ -27,9 +27,8 @@
 //! - **`turn` takes a `Room`**, so its 33,057 bytes are kept from turn to turn, and none is cleared.
 //! - **When the clock ticks** (`TickTimer`). At once where commands wait and no attempt is under way. Again where an
 //!   attempt isn't answered within the sum of four round trips, 20 ms, and 5 ms times the member's number; this time
-//!   doubles with each loss, up to 64 times and up to 4 s. After a pause that grows where another node took the lead;
-//!   part of the pause is by the clock and part by the member's number. Where nothing waits: at the start, once a
-//!   second, and at once while missing entries arrive.
+//!   doubles with each loss, up to 64 times and up to 4 s. After a pause where another node took the lead. Where
+//!   nothing waits: at the start, once a second, and at once while missing entries arrive.
 //! - **Two times are measured.** The first is how long an attempt takes. It is taken from attempts that led to
 //!   something and weren't begun anew meanwhile. A longer one counts half, a shorter one an eighth: an attempt that is
 //!   begun anew too early makes a new round and loses what was on its way. The second is how long an answer takes: from
@@ -83,17 +82,19 @@
 //!   member and one other accepted in one ballot would be learned neither by votes nor, while commands wait, by a need.
 //!   Votes sent before a restart aren't kept.
 //! - **A member that was refused tries again soon** (`TickTimer`). A round begins above what nacks reported. Where a
-//!   nack comes before a majority promised, the next attempt begins within the time of one, while what the nack
-//!   reported is still true. Of two such attempts in a row only the second is followed by a pause; nacks double the
-//!   pause three times at most, and a member that is behind waits for nothing else then. Each wait is drawn anew by
-//!   each member, from its number, the time and the last draw, so that not always the same members collide. This keeps
-//!   up a member that is nearly up. One that is more than 48 entries behind with commands of its own waiting doesn't
-//!   catch up while the cluster is asked for more than it can do: it can't ask for what it lacks, and each proposal
-//!   brings it one entry of those that it didn't accept.
+//!   nack comes before a majority promised, the next attempt begins within the time of an answer, while what the nack
+//!   reported is still true. Of two such attempts in a row only the second is followed by a pause, as the loss of the
+//!   lead is. It is at most eight answers' time and 16 ms, and nacks double that twice more. Each wait is drawn anew by
+//!   each member, from its number, the time and the last draw, so that not always the same members collide.
+//! - **Where the front moves a pause ends within four answers' time**, as drawn anew. Without any pause all members
+//!   with commands begin a round with each entry that is learned, and of rounds of one number that of the highest
+//!   member wins; with the whole pause a member that has the lead once makes the others wait for nothing. Waits are
+//!   taken from the time of an answer: that of an attempt grows with the waits of others.
 //! - **A gap is filled soon.** A learner keeps the votes of 64 positions from its front on. A node that sees others
-//!   advance while its front stands still asks for what it lacks a round trip and 1 ms later. Where commands wait at
-//!   it, it can't ask, and proposes, which takes the lead from the node that has it: soon where it lacks 48 entries or
-//!   fewer, since one is enough then; with pauses where it lacks more and others advance; at once where they rest.
+//!   advance while its front stands still asks for what it lacks an attempt's time and 1 ms later. Where commands wait
+//!   at it, it can't ask, and proposes, which takes the lead from the node that has it and brings the votes of 63
+//!   positions. It does so after the same time, again whenever 16 entries came, and after a refusal. Of what it didn't
+//!   accept a proposal brings one entry; so while it leads it goes on at once.
 //! - **The clock rests for a fifth of a round trip** after each tick, unless the front moves. No hold before a proposal
 //!   is set more than 4 s ahead, and the definitions say by when the clock ticks at the latest: the clauses of
 //!   `TickTimer::action`. Nothing of the protocol rests on these; an operator's figures do.

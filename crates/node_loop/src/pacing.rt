@@ -39,9 +39,6 @@ const LONGEST: u64 = 4_000_000;
 /// How many ticks a round trip has at most while the front stays.
 const TICKS: u64 = 5;
 
-/// How many entries a node may lack that are filled by the votes that it keeps, once it has the first.
-const NEAR: u32 = 48;
-
 /// After how many entries more a node that lacks some asks on.
 const STEP: u32 = 16;
 
@@ -64,8 +61,6 @@ impl TickTimer {
             hold: 0,
             rest: 0,
             moved: 0,
-            reached: 0,
-            reached_at: 0,
             trip: FIRST_TRIP,
             answer: FIRST_TRIP,
             losses: 0,
@@ -133,16 +128,20 @@ impl TickTimer {
         }
     }
 
-    /// The front is there now.
+    /// The front is there now. A pause ends soon, but not at once: so who has the lead makes some commits, and those
+    /// who keep still don't all begin at one moment, when the member of the highest number would win each time.
     fn come_on(&mut self, now: u64, front: u32)
-        ensures hold { self.new.hold ≡ now }
+        ensures hold { self.new.hold ≤ self.old.hold }
         ensures moved { self.new.moved ≡ now }
         ensures ticked { self.new.ticked ≡ self.old.ticked }
         ensures front { self.new.front ≡ front }
     {
         self.front = front;
         self.moved = now;
-        self.hold = now;
+        self.drawn = self.draw(now);
+        self.hold = self
+            .hold
+            .min(now.saturating_add(self.soon().saturating_mul(4)));
         self.rest = 0;
         self.repeats = REPEATS;
         self.is_timed = false;
@@ -189,10 +188,6 @@ impl TickTimer {
         ensures ticked { self.new.ticked ≡ self.old.ticked }
         ensures front { self.new.front ≡ self.old.front }
     {
-        if view.reached > self.reached {
-            self.reached = view.reached;
-            self.reached_at = now;
-        }
         let is_behind = view.reached > view.front;
         if is_behind && !self.is_behind {
             self.moved = now;
@@ -272,22 +267,24 @@ impl TickTimer {
             .wrapping_add(2 * u64::from(self.me) + 1)
     }
 
-    /// How long a node waits that was refused and knows by what: one to eight eighths of an attempt's time, as drawn.
+    /// How long a node waits that was refused and knows by what: one to eight eighths of an answer's time, as drawn. Of
+    /// an attempt's time it would be refused again, by what others have begun meanwhile.
     fn soon(&self) -> u64
         ensures { result ≤ 4000000 }
     {
         let part = (self.drawn >> 33) % 8 + 1;
-        (self.trip / 8).saturating_mul(part).min(LONGEST)
+        (self.answer / 8).saturating_mul(part).min(LONGEST)
     }
 
-    /// How long a node keeps still that lost the lead: one to sixteen sixteenths, as drawn, of two attempts' time and
-    /// some more. That doubles with each loss, three times at most: a refusal tells nothing of the line, and a longer
-    /// pause leaves a node behind where others go on.
+    /// How long a node keeps still that lost the lead, while the front stays: one to sixteen sixteenths, as drawn, of
+    /// four answers' time and some more. That doubles with each loss, three times at most: a refusal tells nothing of
+    /// the line, and a longer pause leaves a node behind where others go on. An attempt's time would grow with the
+    /// pauses of others, and they with it.
     fn pause(&self) -> u64
         ensures { result ≤ 4000000 }
     {
         let part = (self.drawn >> 33) % 16 + 1;
-        let most = self.trip.saturating_mul(2).saturating_add(4_000);
+        let most = self.answer.saturating_mul(4).saturating_add(8_000);
         let times = 2u64.saturating_pow(self.losses.min(FEWER_DOUBLINGS));
         (most.saturating_mul(times).min(LONGEST) / 16)
             .saturating_mul(part)
@@ -329,28 +326,17 @@ impl TickTimer {
         }
     }
 
-    /// When a node that lacks entries proposes what waits, which takes the lead from who has it: where it lacks few, as
-    /// soon as it would ask for them; where it lacks many, at once if others rest, else after its patience.
-    fn intrudes(&self, now: u64, view: View) -> u64
-        ensures { result ≤ latest_of self.now }
-    {
-        if view.reached.saturating_sub(view.front) <= NEAR {
-            return self.fills();
-        }
-        if now >= self.reached_at.saturating_add(self.patience()) {
-            return self.moved;
-        }
-        self.moved.max(self.ticked).saturating_add(self.patience())
-    }
-
-    /// Whether a node that lacks entries waits for the end of its hold alone: it was refused, and tries again soon, or
-    /// lacks few. Where it lacks many, what it takes from others brings it one entry.
-    fn goes_on(&self, view: View) -> bool {
-        self.is_quick || self.is_refused && view.reached.saturating_sub(view.front) <= NEAR
+    /// Whether a node that lacks entries waits for what it asked for before it proposes what waits: not where it leads,
+    /// was refused, or has got many of them.
+    fn expects(&self, view: View) -> bool {
+        self.is_behind
+            && !view.is_leading
+            && !self.is_refused
+            && view.front < self.asked.saturating_add(STEP)
     }
 
     /// When the clock is to tick, by what waits.
-    fn wanted(&self, now: u64, view: View) -> u64
+    fn wanted(&self, view: View) -> u64
         ensures latest { result ≤ latest_of self.now }
         ensures held { 0 < view.waiting → view.is_attempting ≡ false → self.now.hold ≤ result }
     {
@@ -358,8 +344,8 @@ impl TickTimer {
             return self.ticked.saturating_add(self.patience());
         }
         if view.waiting > 0 {
-            return if self.is_behind && !self.goes_on(view) {
-                self.hold.max(self.intrudes(now, view))
+            return if self.expects(view) {
+                self.hold.max(self.fills())
             } else {
                 self.hold
             };
@@ -375,12 +361,12 @@ impl TickTimer {
     }
 
     /// The same, but not before a part of a round trip is over since it ticked last, unless the front moved.
-    fn due(&self, now: u64, view: View) -> u64
+    fn due(&self, view: View) -> u64
         ensures latest { result ≤ latest_of self.now }
         ensures held { 0 < view.waiting → view.is_attempting ≡ false → self.now.hold ≤ result }
         ensures rest { self.now.rest ≤ result }
     {
-        self.wanted(now, view).max(self.rest)
+        self.wanted(view).max(self.rest)
     }
 
     /// The clock has ticked now.
@@ -468,7 +454,7 @@ impl Timer for TickTimer {
     {
         self.look(now, view);
         self.compare(now, view);
-        let due = self.due(now, view);
+        let due = self.due(view);
         if now >= due {
             self.tick(now, view);
             return Action::Tick;

@@ -159,10 +159,10 @@ fn who_is_refused_tries_again_soon_and_the_second_time_keeps_still(rt: HostRunti
     assert!(rt; tick_timer.action(6_999, WAITING) == Action::Wait(1));
     assert!(rt; tick_timer.action(7_000, WAITING) == Action::Tick);
     assert!(rt; tick_timer.action(8_000, ATTEMPTING) == Action::Wait(100));
-    // so is the next: eleven sixteenths of 44 ms, twice
-    assert!(rt; tick_timer.action(30_000, WAITING) == Action::Wait(61));
-    assert!(rt; tick_timer.action(90_499, WAITING) == Action::Wait(1));
-    assert!(rt; tick_timer.action(90_500, WAITING) == Action::Tick);
+    // so is the next: eleven sixteenths of 88 ms, twice
+    assert!(rt; tick_timer.action(30_000, WAITING) == Action::Wait(100));
+    assert!(rt; tick_timer.action(150_999, WAITING) == Action::Wait(1));
+    assert!(rt; tick_timer.action(151_000, WAITING) == Action::Tick);
 }
 
 #[test]
@@ -170,10 +170,10 @@ fn who_lost_the_lead_keeps_still(rt: HostRuntime) {
     let mut tick_timer = TickTimer::new(1);
     assert!(rt; tick_timer.action(0, WAITING) == Action::Tick);
     assert!(rt; tick_timer.action(1_000, ACCEPTING) == Action::Wait(21));
-    // a majority had promised: ten sixteenths of 44 ms, twice
-    assert!(rt; tick_timer.action(2_000, WAITING) == Action::Wait(56));
-    assert!(rt; tick_timer.action(56_999, WAITING) == Action::Wait(1));
-    assert!(rt; tick_timer.action(57_000, WAITING) == Action::Tick);
+    // a majority had promised within 1 ms, so an answer is taken to take 10.5: ten sixteenths of 50 ms, twice
+    assert!(rt; tick_timer.action(2_000, WAITING) == Action::Wait(63));
+    assert!(rt; tick_timer.action(64_499, WAITING) == Action::Wait(1));
+    assert!(rt; tick_timer.action(64_500, WAITING) == Action::Tick);
 }
 
 #[test]
@@ -195,33 +195,48 @@ fn who_lacks_a_few_entries_fills_the_gap_soon(rt: HostRuntime) {
 }
 
 #[test]
-fn who_lacks_many_proposes_nothing_for_a_while(rt: HostRuntime) {
+fn who_has_got_many_of_those_it_lacks_proposes_at_once(rt: HostRuntime) {
     let mut tick_timer = TickTimer::new(0);
-    let far = View {
+    let some = View {
+        front: 18,
         reached: 99,
         ..BEHIND
     };
-    let farther = View {
-        reached: 120,
-        ..BEHIND
-    };
-    assert!(rt; tick_timer.action(10, far) == Action::Wait(100));
-    assert!(rt; tick_timer.action(50_000, farther) == Action::Wait(51));
-    assert!(rt; tick_timer.action(100_009, farther) == Action::Wait(1));
-    assert!(rt; tick_timer.action(100_010, farther) == Action::Tick);
+    let many = View { front: 19, ..some };
+    assert!(rt; tick_timer.action(10, BEHIND) == Action::Wait(22));
+    assert!(rt; tick_timer.action(21_010, BEHIND) == Action::Tick);
+    assert!(rt; tick_timer.action(25_000, some) == Action::Wait(19));
+    assert!(rt; tick_timer.action(26_000, many) == Action::Tick);
 }
 
 #[test]
-fn who_lacks_many_proposes_at_once_while_others_rest(rt: HostRuntime) {
+fn who_leads_and_lacks_many_goes_on_at_once(rt: HostRuntime) {
     let mut tick_timer = TickTimer::new(0);
-    let far = View {
+    let next = View {
+        is_leading: true,
+        front: 4,
         reached: 99,
         ..BEHIND
     };
-    let next = View { front: 4, ..far };
-    assert!(rt; tick_timer.action(10, far) == Action::Wait(100));
-    assert!(rt; tick_timer.action(100_010, far) == Action::Tick);
-    assert!(rt; tick_timer.action(100_500, next) == Action::Tick);
+    assert!(rt; tick_timer.action(10, BEHIND) == Action::Wait(22));
+    assert!(rt; tick_timer.action(21_010, BEHIND) == Action::Tick);
+    assert!(rt; tick_timer.action(22_000, next) == Action::Tick);
+}
+
+#[test]
+fn a_pause_ends_soon_where_the_front_moves(rt: HostRuntime) {
+    let mut tick_timer = TickTimer::new(1);
+    let next = View {
+        front: 1,
+        ..WAITING
+    };
+    assert!(rt; tick_timer.action(0, WAITING) == Action::Tick);
+    assert!(rt; tick_timer.action(1_000, ACCEPTING) == Action::Wait(21));
+    assert!(rt; tick_timer.action(2_000, WAITING) == Action::Wait(63));
+    // eight eighths of four answers
+    assert!(rt; tick_timer.action(3_000, next) == Action::Wait(42));
+    assert!(rt; tick_timer.action(44_983, next) == Action::Wait(1));
+    assert!(rt; tick_timer.action(44_984, next) == Action::Tick);
 }
 
 #[test]
