@@ -5,6 +5,12 @@
 //! - `Packet` and `parse_packet`: a packet as a record, and its text; `packets_as_spelled`: which texts spell one.
 //! - `verdict`: the verdict of a configuration; `verdict_flat`: that of one ruleset alone.
 //! - `show_verdict`: a verdict as text.
+//!
+//! # Why
+//!
+//! - **A packet's numbers are read without a look-up among the names of ports and protocols**, and an interface's
+//!   name that ends with a digit but 6 without one among the reserved words. Keywords are compared in place, and only
+//!   values are cut (`behind`, `first_word`); an octet is cut by its first four bytes (`cut_dot`, pf_addr).
 #![tactic(auto)]
 
 mod answer;

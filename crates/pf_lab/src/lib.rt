@@ -59,6 +59,8 @@
 //!   (`px_model::laws::in_reach`).
 //! - A message that doesn't decode has no line in `sent`. None is among a lab's, whose messages are spelled
 //!   (`IsWorld`).
+//! - **An event that delivers a message for nobody among the members counts as naming none.** In a lab there is no
+//!   such message, so 81 is exact for every world.
 #![tactic(auto)]
 
 mod asking;

@@ -26,7 +26,7 @@ fn answer<R: Read, W: Write, E: Write>(
     writer: &mut W,
     errors: &mut E,
 ) -> Status
-    ensures { Ran table.now result (Some (asked call.entry)) (R.remaining reader.old) (W.contents writer.old)
+    ensures ran { Ran table.now result (Some (asked call.entry)) (R.remaining reader.old) (W.contents writer.old)
         (W.contents writer.new) }
     ensures asked { result ≡ Status.Usage → ⊥ }
 {

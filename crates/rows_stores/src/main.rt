@@ -25,6 +25,25 @@
 //! | `count` | reads the format that its row says, and counts its tables |
 //!
 //! The steps are those of [`record`].
+//!
+//! # Why
+//!
+//! - **Each line is done as one process after the other would leave its file.** A record is found again by the next
+//!   opening; another cluster's is refused with 71. Stores of format 1 and 2 are brought to format 3 with their rows;
+//!   an unknown format is 73, and 72 where a row is missing. Positions, numbers and entries serve up to their bounds,
+//!   and past them the opening or the read is 72. A file of text, a folder, a path in no folder and a store cut short
+//!   don't open, which a node answers with 70. A store that is open doesn't open a second time, and the first goes
+//!   on. Nor does a store open for a user who may not write it, and it isn't changed: that was run by hand, since the
+//!   superuser may write it all the same.
+//! - **Either file of a store in memory stops after 0, 1, 2 .. calls**, its tables are counted, and its format and,
+//!   adopted again, its record are compared: while changes are made, while a store of format 1 or 2 is adopted, and
+//!   while a node runs over the store, which a new node opens then. Each line prints how many calls on either file
+//!   its run has.
+//! - **Nodes run over stores in memory, too.** A node that reads a bad slot, or one whose entry can't be decoded, for
+//!   a datagram answers 72 and from then on 80, and its record is as it was; a bad slot that no step reads hinders
+//!   none, and a tick reads none. A node doesn't open, with 72, over a learned entry that can't be decoded, and gives
+//!   back the record, which is adopted and read again. A node over a store of format 1 whose round is 5 records round
+//!   6 as it is asked and its clock ticks; the store has format 3 then.
 #![tactic(auto)]
 
 mod change;
