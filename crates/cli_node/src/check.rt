@@ -12,9 +12,7 @@ use crate::key::key_in;
 use crate::node::{NodeWords, figures_at, membership};
 use crate::outcome::Outcome;
 use crate::sealing::of_starts;
-use crate::store::{
-    Found, Opening, failed_outcome, found_at, identity_of, opening_of, untaken,
-};
+use crate::store::{Found, Opening, failed_outcome, found_at, identity_of, opening_of, untaken};
 use cli_io::{Shown, open_regular};
 use node_loop::Membership;
 use px_store::{AdoptFault, SqlRecords};

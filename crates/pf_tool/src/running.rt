@@ -1,6 +1,6 @@
 //! A run of the program.
 
-ghost use Rattle.std.specs.Prelude.{◌≡◌, ◌⊎◌, ⊥, true, map, Some};
+ghost use Rattle.std.specs.Prelude.{◌≡◌, ◌⊎◌, true, map, Some};
 ghost use Rattle.pf_tool.specs.Words.{call_of, is_others, is_others_word};
 ghost use Rattle.pf_tool.specs.Tool.{Ran};
 ghost use Rattle.pf_tool.specs.inner.Calls.{asked};
