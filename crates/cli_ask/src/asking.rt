@@ -76,7 +76,18 @@ fn ask_once<RT: Net + Clock>(
     printable(alloc, reply)
 }
 
-/// Asks again while that is to be done and time is left, if it may be asked again at all.
+/// What stands for an answer that didn't come to what was taken in.
+fn waiting(alloc: Global) -> Result<Reply, AllocError> {
+    Ok(Reply {
+        code: 503,
+        body: Vec::from_slice(alloc, WAITING)?,
+        front: None,
+        applied: None,
+    })
+}
+
+/// Asks again while that is to be done and time is left, if it may be asked again at all. Where the time is over in the
+/// midst of an ask, the answer is the one before.
 fn ask_on<RT: Net + Clock>(
     rt: &RT,
     alloc: Global,
@@ -85,11 +96,20 @@ fn ask_on<RT: Net + Clock>(
     deadline: Deadline,
     is_once: bool,
 ) -> Result<Reply, AskFault> {
+    let mut is_waiting = false;
     for ask in 0..u64::MAX {
         let found = ask_once(rt, alloc, control, call, deadline);
-        if is_once || !is_open(call, &found) || deadline.left(rt).is_err() {
+        if is_once || !is_open(call, &found) {
             return found;
         }
+        if deadline.left(rt).is_err() {
+            return if is_waiting && found.is_err() {
+                Ok(waiting(alloc)?)
+            } else {
+                found
+            };
+        }
+        is_waiting = found.is_ok();
         if ask >= AT_ONCE {
             pause(rt, PAUSE);
         }
@@ -209,16 +229,6 @@ fn position_in(body: &[u8]) -> Option<u32> {
         Ok(text) => text.parse::<u32>().ok(),
         Err(_) => None,
     }
-}
-
-/// What stands for an answer that didn't come to what was taken in.
-fn waiting(alloc: Global) -> Result<Reply, AllocError> {
-    Ok(Reply {
-        code: 503,
-        body: Vec::from_slice(alloc, WAITING)?,
-        front: None,
-        applied: None,
-    })
 }
 
 /// How many positions a node has applied that applied this command.

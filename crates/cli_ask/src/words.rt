@@ -35,7 +35,7 @@ const FROM: &str = "With --script: the number of the first line that is asked";
 const BELOW: &str = "Words of a change, or of a listing; or, without pfctl's options:
   test PACKET..    the verdicts for packets        request N.NUMBER  what became of a request
   log [FROM]       what was learned                status            how the node is
-  health           ok, behind, alone or failed     metrics           numbers for Prometheus
+  health           ok, or what is wrong            metrics           numbers for Prometheus
   sync             asks what changes nothing       stop              ends the node
 A refusal is refused CODE; 85 nobody answers at the control socket, 86 the answer is none.";
 
