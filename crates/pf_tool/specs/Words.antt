@@ -163,21 +163,6 @@ called_by table word rows =
     else (if bytes_eq word (codes "lab") then Some Lab
     else (if bytes_eq word (codes "explain") then explain_as table (first_of (codes "code") rows) else None))))
 
--- whether a word is named alone, since another crate has its options
-abbrev pub is_others_word : Text → Bool
-is_others_word word =
-    if bytes_eq word (codes "node") then true
-    else (if bytes_eq word (codes "ask") then true
-    else (if bytes_eq word (codes "key") then true
-    else (if bytes_eq word (codes "show") then true
-    else (if bytes_eq word (codes "follow") then true else bytes_eq word (codes "batch")))))
-
--- whether the first word behind the program's name is such a one
-abbrev pub is_others : List Text → Bool
-is_others [] = false
-is_others (program ∷ []) = false
-is_others (program ∷ word ∷ words) = is_others_word word
-
 -- what the words ask for, by the word named; nothing where none is, where it is one that is named alone (node, ask,
 -- key, show, follow, batch), or where what is given with it isn't understood
 abbrev pub called : List Explanation → Option (Text × List Row) → Option CallValue

@@ -225,6 +225,6 @@ pub(crate) fn misnamed(matches: &ArgMatches<'_>) -> &'static str {
         Some("test") =>
             "error: no packet is given\n\nFor more information, try 'pfx test --help'.\n",
         Some("explain") => "error: no refusal has this number; pfx explain shows all\n",
-        _ => "error: nothing is asked for\n",
+        _ => "error: this word stands by itself, behind pfx\n",
     }
 }

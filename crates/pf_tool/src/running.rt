@@ -1,7 +1,7 @@
 //! A run of the program.
 
-ghost use Rattle.std.specs.Prelude.{◌≡◌, ◌⊎◌, true, map, Some};
-ghost use Rattle.pf_tool.specs.Words.{call_of, is_others, is_others_word};
+ghost use Rattle.std.specs.Prelude.{◌≡◌, ◌⊎◌, map, Some};
+ghost use Rattle.pf_tool.specs.Words.{call_of};
 ghost use Rattle.pf_tool.specs.Tool.{Ran};
 ghost use Rattle.pf_tool.specs.inner.Calls.{asked};
 
@@ -10,7 +10,6 @@ use crate::call::{Call, call_in, is_verbose, misnamed};
 use crate::output::Ending;
 use crate::remarks::{Level, Remarks};
 use crate::words::command;
-use clap::error::ErrorKind;
 use cli_io::{Explanation, Status, misused, out_of_memory, write_bytes};
 use std::convert::AsStr;
 use std::io::{Read, Write};
@@ -26,9 +25,8 @@ fn answer<R: Read, W: Write, E: Write>(
     writer: &mut W,
     errors: &mut E,
 ) -> Status
-    ensures ran { Ran table.now result (Some (asked call.entry)) (R.remaining reader.old) (W.contents writer.old)
+    ensures { Ran table.now result (Some (asked call.entry)) (R.remaining reader.old) (W.contents writer.old)
         (W.contents writer.new) }
-    ensures asked { result ≡ Status.Usage → ⊥ }
 {
     let mut remarks = Remarks::new(rt.alloc(), table, level);
     let output = match output_for(rt, table, call, reader, &mut remarks) {
@@ -60,28 +58,6 @@ fn level_of(is_verbose: bool, is_terminal: bool) -> Level {
     Level::Silent
 }
 
-/// Whether a word is named alone, since another crate has its options.
-fn is_others_word(word: &str) -> bool
-    ensures { result ≡ is_others_word word.now }
-{
-    word == "node"
-        || word == "ask"
-        || word == "key"
-        || word == "show"
-        || word == "follow"
-        || word == "batch"
-}
-
-/// Whether the first word behind the program's name is such a one.
-fn is_others<S: AsStr>(words: &[S]) -> bool
-    ensures { result ≡ is_others (map S.text words.now) }
-{
-    match words {
-        [_, word, ..] => is_others_word(word.as_str()),
-        _ => false,
-    }
-}
-
 /// Writes what is wrong with words that `clap` takes and that ask for nothing.
 fn misnamed_words<W: Write>(text: &str, writer: &mut W) -> Status
     ensures { (result ≡ Status.Usage) ⊎ (result ≡ Status.Failed) }
@@ -101,8 +77,7 @@ fn misnamed_words<W: Write>(text: &str, writer: &mut W) -> Status
 /// anchor. Both read files where their words name some; one that can't be read gives `refused 90`. All that is written
 /// goes to the writer at once; an input, and a file, is 16,777,216 bytes at most. What is said to people, a line for
 /// each refusal and, with `-v`, the rules that decide, changes nothing of what is written, nor of the status. `explain`
-/// writes what the table says of a number, or all of it, and reads nothing. Words that begin with one of another crate
-/// (`node`, `ask`, `key`, `show`, `follow`, `batch`) aren't understood, and nothing is written.
+/// writes what the table says of a number, or all of it, and reads nothing.
 pub fn run<S: AsStr, R: Read, W: Write, E: Write>(
     rt: &HostRuntime,
     table: &[Explanation],
@@ -112,10 +87,8 @@ pub fn run<S: AsStr, R: Read, W: Write, E: Write>(
     errors: &mut E,
     is_terminal: bool,
 ) -> Status
-    ensures ran { Ran table.now result (call_of table.now (map S.text words.now)) (R.remaining reader.old)
+    ensures { Ran table.now result (call_of table.now (map S.text words.now)) (R.remaining reader.old)
         (W.contents writer.old) (W.contents writer.new) }
-    ensures others { is_others (map S.text words.now) ≡ true → result ≡ Status.Usage →
-        W.contents writer.new ≡ W.contents writer.old }
 {
     let alloc = rt.alloc();
     let Ok(command) = command(alloc) else {
@@ -123,19 +96,13 @@ pub fn run<S: AsStr, R: Read, W: Write, E: Write>(
     };
     let matches = match command.try_get_matches_from(words) {
         Ok(matches) => matches,
-        Err(error) => {
-            if is_others(words) && error.kind() != ErrorKind::OutOfMemory {
-                return Status::Usage;
-            }
-            return misused(alloc, &error, writer);
-        }
+        Err(error) => return misused(alloc, &error, writer),
     };
     match call_in(table, &matches) {
         Some(call) => {
             let level = level_of(is_verbose(&matches), is_terminal);
             answer(rt, table, call, level, reader, writer, errors)
         }
-        None if is_others(words) => Status::Usage,
         None => misnamed_words(misnamed(&matches), writer),
     }
 }
