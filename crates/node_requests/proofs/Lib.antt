@@ -3,7 +3,6 @@ pub mod PositionsLogged
 pub mod Budget
 pub mod Logged
 pub mod HitsCounted
-pub mod Places
 mod Digits
 mod Behind
 mod Posted

@@ -1,7 +1,6 @@
 -- What became of a request.
-use Rattle.std.specs.Prelude.{ℕ, zero, suc, Bool, false, List, ◌++◌, ◌==◌, ◌&&◌, nat_lt, nat_le}
+use Rattle.std.specs.Prelude.{ℕ, Bool, false, List, ◌++◌, ◌==◌, ◌&&◌, nat_lt, nat_le}
 use Rattle.std.specs.Prelude.{Option, Some, None, codes, decimal, if◌then◌else◌}
-use Rattle.px_model.specs.Node as node
 use Rattle.px_model.specs.Node.{Log}
 use Rattle.px_model.specs.Step.{front}
 use Rattle.px_model.specs.Spelling.{Bytes}
@@ -9,23 +8,9 @@ use Rattle.px_records.specs.declared.records.Records.{Ghosts}
 use Rattle.pf_scripts.specs.Lines.{line}
 use Rattle.node_requests.specs.Outcomes.{kept_line}
 use Rattle.pf_node.specs.Nodes.{learned_by, applied_of, kept_of, membership_of}
+use Rattle.pf_node.specs.Requests.{place_below}
 use Rattle.pf_node.specs.declared.state.Node.{Node}
 use Rattle.node_requests.specs.Answers.{AnswerValue, shown}
-
--- ---- where it was learned
-
--- an entry is the request's
-abbrev pub is_request : ℕ → ℕ → Option (node.Entry Bytes) → Bool
-is_request origin number None = false
-is_request origin number (Some e) = (e.origin == origin) && (e.number == number)
-
--- the last position below k at which the request was learned
-abbrev pub place_below : Log Bytes → ℕ → ℕ → (k : ℕ) → Option ℕ
-place_below log origin number zero = None
-place_below log origin number (suc k) =
-    if is_request origin number (log k) then Some k else place_below log origin number k
-
--- ---- what is answered
 
 -- the number is one of those that were given, from the first to the last
 abbrev pub is_taken : Option (ℕ × ℕ) → ℕ → Bool

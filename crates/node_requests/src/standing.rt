@@ -1,9 +1,8 @@
 //! What became of a request.
 
 ghost use Rattle.std.specs.Prelude.{◌≡◌, IfOk, string_bytes};
-ghost use Rattle.pf_node.specs.Nodes.{learned_by};
 ghost use Rattle.node_requests.specs.Answers.{answer_value};
-ghost use Rattle.node_requests.specs.Standing.{is_request, place_below, is_taken, applied_line, waiting, unknown};
+ghost use Rattle.node_requests.specs.Standing.{is_taken, applied_line, waiting, unknown};
 ghost use Rattle.node_requests.specs.Standing.{standing};
 
 use crate::answer::Answer;
@@ -12,31 +11,6 @@ use pf_node::Node;
 use pf_scripts::push_number;
 use px_records::Records;
 use std::alloc::{AllocError, Global};
-
-/// Whether an entry is a request's.
-#[tactic(auto, using(crate::proofs::Places::request_some, crate::proofs::Places::request_none))]
-fn is_request<R: Records>(node: &Node<R>, position: u32, origin: u8, number: u64) -> bool
-    ensures { result ≡ is_request origin number (learned_by node.now position) }
-{
-    match node.entry(position) {
-        Some(entry) => entry.origin() == origin && entry.number() == number,
-        None => false,
-    }
-}
-
-/// The last position below an end at which a request was learned.
-fn place_below<R: Records>(node: &Node<R>, end: u32, origin: u8, number: u64) -> Option<u32>
-    ensures { result ≡ place_below (learned_by node.now) origin number end }
-{
-    let mut left = end;
-    while left > 0 {
-        left -= 1;
-        if is_request(node, left, origin, number) {
-            return Some(left);
-        }
-    }
-    None
-}
 
 /// Whether a number is one of those that were given.
 fn is_taken(taken: Option<(u64, u64)>, number: u64) -> bool
@@ -86,7 +60,7 @@ pub(crate) fn standing<R: Records>(
 ) -> Result<Answer, AllocError>
     ensures { IfOk result (λ a. answer_value a ≡ standing node.now taken origin number) }
 {
-    match place_below(node, node.front(), origin, number) {
+    match node.position_of(origin, number) {
         Some(position) => {
             if position >= node.applied() {
                 return waiting(alloc);

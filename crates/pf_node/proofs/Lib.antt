@@ -1,3 +1,4 @@
 pub mod Following
 pub mod Commands
 pub mod Recording
+pub mod Places

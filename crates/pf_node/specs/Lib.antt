@@ -1,5 +1,6 @@
 pub mod Applied
 pub mod Outcomes
+pub mod Requests
 pub mod Nodes
 pub mod Asked
 pub mod inner

@@ -1,2 +1,3 @@
 -- What only code and proofs use: no contract of a public function needs it.
 pub mod Outcomes
+pub mod Requests

@@ -1,6 +1,6 @@
 //! What is learned is applied in order.
 
-ghost use Rattle.std.specs.Prelude.{◌≡◌, ◌≤◌, Some, IfOk, OnOk, OnErr, length, true};
+ghost use Rattle.std.specs.Prelude.{◌≡◌, ◌≤◌, ◌*◌, Some, IfOk, OnOk, OnErr, length, true};
 ghost use Rattle.pf_command.specs.Effect.{after_command, effect};
 ghost use Rattle.pf_entry.specs.Entry.{are_names, path_of, rest_fits};
 ghost use Rattle.pf_entry.specs.Reading.{reading};
@@ -12,8 +12,10 @@ ghost use Rattle.px_replica.specs.Replicas.{learned_by};
 ghost use Rattle.pf_node.specs.Applied.{after, entry_applied};
 ghost use Rattle.pf_node.specs.Outcomes.{outcome_of, outcome_read};
 ghost use Rattle.pf_node.specs.inner.Outcomes.{outcomes_below};
+ghost use Rattle.pf_node.specs.inner.Requests.{AreWithin, AreBounds};
 
 use crate::outcomes::{Outcome, Outcomes};
+use crate::requests::Numbers;
 use pf_command::{ApplyFault, apply};
 use pf_config::Config;
 use pf_entry::{CommandView, decode};
@@ -63,25 +65,34 @@ pub(crate) fn take_up<R: Records>(
     config: &mut Config,
     applied: &mut u32,
     outcomes: &mut Outcomes,
+    numbers: &mut Numbers,
 ) -> Result<(), AllocError>
     requires configured { after (learned_by replica.now) applied.old ≡ Some config.old }
     requires behind { applied.old ≤ front (learned_by replica.now) }
     requires recorded { outcomes.old.kept.items ≡
         outcomes_below (learned_by replica.now) applied.old (length outcomes.old.kept.items) }
+    requires numbered { AreWithin (learned_by replica.now) numbers.old.origin applied.old numbers.old.last }
+    requires bounded { AreBounds (learned_by replica.now) numbers.old.origin numbers.old.bounds.items }
+    requires stretched { 256 * length numbers.old.bounds.items ≤ applied.old }
     ensures configured { after (learned_by replica.now) applied.new ≡ Some config.new }
     ensures behind { applied.new ≤ front (learned_by replica.now) }
     ensures recorded { outcomes.new.kept.items ≡
         outcomes_below (learned_by replica.now) applied.new (length outcomes.new.kept.items) }
+    ensures numbered { AreWithin (learned_by replica.now) numbers.new.origin applied.new numbers.new.last }
+    ensures bounded { AreBounds (learned_by replica.now) numbers.new.origin numbers.new.bounds.items }
+    ensures stretched { 256 * length numbers.new.bounds.items ≤ applied.new }
     ensures grows { applied.old ≤ applied.new }
     ensures done { OnOk result (applied.new ≡ front (learned_by replica.now)) }
 {
     let end = replica.front();
     for position in *applied..end {
-        let outcome = match replica.learned(position) {
+        let entry = match replica.learned(position) {
             None => return Ok(()),
-            Some(entry) => apply_entry(alloc, config, entry)?,
+            Some(entry) => entry,
         };
+        let outcome = apply_entry(alloc, config, entry)?;
         outcomes.put(outcome);
+        numbers.put(position + 1, entry.origin(), entry.number());
         *applied = position + 1;
     }
     Ok(())

@@ -3,11 +3,17 @@
 //! # Organization
 //!
 //! - [`Node`]: `ask`, `tick` and `receive` are steps of the agreement, and apply what was learned; `verdict` answers
-//!   packets; `outcome` says what came of the command at a position.
+//!   packets; `outcome` says what came of the command at a position, `position_of` where a request was learned.
 //! - `specs/Applied` is the configuration of a log, `specs/Outcomes` what came of its commands; what a call makes
 //!   is in px_replica's `specs/Made`.
 //!
 //! The configuration is always that after the first `applied` learned entries.
+//!
+//! # Why
+//!
+//! - A request is sought from the front down. A client asks again and again for one that waits, so below each 256th
+//!   position a bound on the numbers of this member's requests is kept (`requests`): what waits has a number above the
+//!   bound, and the search ends there. An index of all requests would take more memory than it saves time.
 #![tactic(auto)]
 
 mod applying;
@@ -15,6 +21,7 @@ mod asking;
 mod node;
 mod opening;
 mod outcomes;
+mod requests;
 mod state;
 
 pub use asking::{asked_bytes, asked_entry};

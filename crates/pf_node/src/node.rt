@@ -18,10 +18,12 @@ ghost use Rattle.pf_node.specs.Asked.{unnamed, bytes_of};
 ghost use Rattle.pf_node.specs.Nodes.{records_of, learned_by, membership_of, has_failed, state_in, config_of};
 ghost use Rattle.pf_node.specs.Nodes.{applied_of, replica_of, kept_of};
 ghost use Rattle.pf_node.specs.Outcomes.{outcome_at};
+ghost use Rattle.pf_node.specs.Requests.{place_below};
 
 use crate::applying::take_up;
 use crate::asking::{asked_bytes, asked_entry};
 use crate::outcomes::Outcome;
+use crate::requests::place_below;
 use crate::state::Node;
 use pf_config::Config;
 use pf_entry::Command;
@@ -97,6 +99,7 @@ impl<R: Records> Node<R> {
             &mut self.config,
             &mut self.applied,
             &mut self.outcomes,
+            &mut self.numbers,
         )
         .is_err()
         {
@@ -124,6 +127,7 @@ impl<R: Records> Node<R> {
                     &mut self.config,
                     &mut self.applied,
                     &mut self.outcomes,
+                    &mut self.numbers,
                 );
                 Ok(Received::Done)
             }
@@ -199,6 +203,19 @@ impl<R: Records> Node<R> {
             return None;
         }
         self.outcomes.before((self.applied - 1 - position) as usize)
+    }
+
+    /// The last position below the front at which a request was learned: that of this member with this number.
+    pub fn position_of(&self, origin: u8, number: u64) -> Option<u32>
+        ensures { result ≡ place_below (learned_by self.now) origin number (front (learned_by self.now)) }
+    {
+        place_below(
+            &self.replica,
+            &self.numbers,
+            self.replica.front(),
+            origin,
+            number,
+        )
     }
 
     /// The entry learned at the position.

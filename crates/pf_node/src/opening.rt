@@ -11,6 +11,7 @@ ghost use Rattle.pf_node.specs.Nodes.{records_of, learned_by, membership_of, has
 
 use crate::applying::take_up;
 use crate::outcomes::Outcomes;
+use crate::requests::Numbers;
 use crate::state::Node;
 use pf_config::Config;
 use px_records::Records;
@@ -22,12 +23,14 @@ fn joined<R: Records>(alloc: Global, replica: Replica<R>) -> Result<Node<R>, R>
     ensures replica { IfOk result (λ n. n.replica ≡ replica) }
     ensures kept { IfErr result (λ r. r ≡ replicas.records_of replica) }
 {
+    let me = replica.membership().me;
     match Config::new(alloc) {
         Ok(config) => Ok(Node {
             replica,
             config,
             applied: 0,
             outcomes: Outcomes::new(alloc),
+            numbers: Numbers::new(alloc, me),
             alloc,
         }),
         Err(_) => Err(replica.close()),
@@ -45,6 +48,7 @@ fn bring_up<R: Records>(node: &mut Node<R>) -> Result<(), AllocError>
         &mut node.config,
         &mut node.applied,
         &mut node.outcomes,
+        &mut node.numbers,
     )
 }
 

@@ -3,6 +3,7 @@ use Rattle.std.proofs.Common.{sym, refl, arith}
 use Rattle.px_replica.specs.Replicas.{learned_by}
 use Rattle.pf_node.proofs.Following.{after_next, learned_below}
 use Rattle.pf_node.proofs.Recording.{recorded_next}
+use Rattle.pf_node.proofs.Places.{within_next, bounds_next}
 use Rattle.pf_node.proofs.applying.take_up.Goals as goal
 
 pub returns-in-None-clause-done : goal.returns-in-None-clause-done
@@ -20,5 +21,9 @@ loop-position-preserved g c =
       here = refl;
       recorded = recorded_next log k 4095 c.loop-position.config _ c.in_ok-outcome-in-Some.outcome c.loop-position.outcomes.kept.items c.put.new.self.kept.items
           c.loop-position.invariant.configured here c.in_ok-outcome-in-Some.ensures.outcome c.loop-position.invariant.recorded c.put.ensures;
+      numbered = within_next log c.loop-position.numbers.origin k c.loop-position.numbers.last c.put-1.new.self.last _ c.loop-position.invariant.numbered c.put-1.ensures.grows here c.put-1.ensures.here;
+      bounded = bounds_next log c.loop-position.numbers.origin (k + 1) c.put-1.new.self.last c.loop-position.numbers.bounds.items c.put-1.new.self.bounds.items c.loop-position.invariant.bounded
+          (within_next log c.loop-position.numbers.origin k c.loop-position.numbers.last c.put-1.new.self.last _ c.loop-position.invariant.numbered c.put-1.ensures.grows here c.put-1.ensures.here) c.put-1.ensures.bounds;
+      stretched = omega arith;
       grown = omega arith;
     }

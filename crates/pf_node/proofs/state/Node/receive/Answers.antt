@@ -4,6 +4,7 @@ use Rattle.px_replica.specs.Replicas.{learned_by}
 use Rattle.px_replica.proofs.Called.{received_below, received_front}
 use Rattle.pf_node.proofs.Following.{after_kept}
 use Rattle.pf_node.proofs.Recording.{recorded_kept}
+use Rattle.pf_node.proofs.Places.{within_kept, bounds_kept}
 use Rattle.pf_node.proofs.state.Node.receive.Goals as goal
 
 pub take_up-taken-requires-clause-configured : goal.take_up-taken-requires-clause-configured
@@ -24,6 +25,18 @@ take_up-taken-requires-clause-recorded g c =
     recorded_kept (learned_by n.replica) (learned_by c.receive.new.self) n.applied n.outcomes.kept.items n.recorded n.behind
     (received_below n.replica c.receive.new.self _ _ _ _ c.receive.ensures.received)
 
+pub take_up-taken-requires-clause-numbered : goal.take_up-taken-requires-clause-numbered
+take_up-taken-requires-clause-numbered g c =
+    let n = c.args.self.now in
+    within_kept (learned_by n.replica) (learned_by c.receive.new.self) n.numbers.origin n.applied n.numbers.last n.numbered n.behind
+    (received_below n.replica c.receive.new.self _ _ _ _ c.receive.ensures.received)
+
+pub take_up-taken-requires-clause-bounded : goal.take_up-taken-requires-clause-bounded
+take_up-taken-requires-clause-bounded g c =
+    let n = c.args.self.now in
+    bounds_kept (learned_by n.replica) (learned_by c.receive.new.self) n.numbers.origin n.applied n.numbers.bounds.items n.bounded n.stretched n.behind
+    (received_below n.replica c.receive.new.self _ _ _ _ c.receive.ensures.received)
+
 pub invariant_of-self-in-Err-1 : goal.invariant_of-self-in-Err-1
 invariant_of-self-in-Err-1 g c =
     let n = c.args.self.now in
@@ -34,4 +47,9 @@ invariant_of-self-in-Err-1 g c =
       behind = omega (arith, n.behind, h);
       recorded = recorded_kept (learned_by n.replica) (learned_by c.receive.new.self) n.applied n.outcomes.kept.items n.recorded n.behind
           (received_below n.replica c.receive.new.self _ _ _ _ c.receive.ensures.received);
+      numbered = within_kept (learned_by n.replica) (learned_by c.receive.new.self) n.numbers.origin n.applied n.numbers.last n.numbered n.behind
+          (received_below n.replica c.receive.new.self _ _ _ _ c.receive.ensures.received);
+      bounded = bounds_kept (learned_by n.replica) (learned_by c.receive.new.self) n.numbers.origin n.applied n.numbers.bounds.items n.bounded n.stretched n.behind
+          (received_below n.replica c.receive.new.self _ _ _ _ c.receive.ensures.received);
+      stretched = n.stretched;
     }
