@@ -8,6 +8,7 @@ pub mod EntryLines
 pub mod Health
 pub mod Listings
 pub mod LogLines
+pub mod Metrics
 pub mod Posting
 pub mod Queries
 pub mod Requests

@@ -4,7 +4,7 @@ use Rattle.px_model.specs.Step.{front, positions}
 use Rattle.px_records.specs.declared.records.Records.{Ghosts}
 use Rattle.pf_entry.specs.Entry as entries
 use Rattle.pf_scripts.specs.WordsRead.{change_in}
-use Rattle.pf_node.specs.Nodes.{learned_by, applied_of, config_of, membership_of, has_failed, state_in}
+use Rattle.pf_node.specs.Nodes.{learned_by, applied_of, config_of, membership_of, has_failed, records_of, state_in}
 use Rattle.pf_node.specs.declared.state.Node.{Node}
 use Rattle.node_requests.specs.declared.changing.Changed.{Changed}
 use Rattle.node_requests.specs.declared.handler.RequestHandler.{RequestHandler}
@@ -21,6 +21,7 @@ use Rattle.node_requests.specs.EntryLines.{entries_answer}
 use Rattle.node_requests.specs.Health.{health, health_answer, ready_answer}
 use Rattle.node_requests.specs.Listings.{words_of}
 use Rattle.node_requests.specs.LogLines.{log_answer}
+use Rattle.node_requests.specs.Metrics.{metrics_text}
 use Rattle.node_requests.specs.Standing.{standing}
 use Rattle.node_requests.specs.StatusJson.{status_as}
 
@@ -36,6 +37,7 @@ pub record AreFigures {R : Type 0} {G : Ghosts R} (n : Node R G) (f : Figures) :
   pub applied : f.applied ≡ applied_of n
   pub waiting : f.waiting ≡ length (state_in n).volatile.waiting
   pub failed : f.has_failed ≡ has_failed n
+  pub round : has_failed n ≡ false → G.is_honest (records_of n) → f.round ≡ (G.stored (records_of n)).meta.round
 
 -- the status of figures that are the node's, as JSON or in lines
 -- Example: at front 412, 999,588 positions are left.
@@ -45,7 +47,13 @@ pub record IsStatus {R : Type 0} {G : Ghosts R} (n : Node R G) (t : Counters) (j
   pub are : AreFigures n figures
   pub answered : a ≡ shown (status_as json figures (health n t) t)
 
--- what a read answers; of the numbers for Prometheus only that they are there
+-- the numbers for Prometheus of figures that are the node's
+pub record AreMetrics {R : Type 0} {G : Ghosts R} (n : Node R G) (t : Counters) (a : AnswerValue) : Type 0 where
+  pub figures : Figures
+  pub are : AreFigures n figures
+  pub answered : a ≡ shown (metrics_text figures (health n t) t)
+
+-- what a read answers
 abbrev pub IsRead : {R : Type 0} {G : Ghosts R} → Node R G → Option (ℕ × ℕ) → Counters → Read → AnswerValue → Type 0
 IsRead n taken t (read.List listing) a = a ≡ listed (config_of n) (words_of listing)
 IsRead n taken t (read.Test packets) a = a ≡ verdicts_within (config_of n) (map (λ p. p.now) packets.items)
@@ -55,7 +63,7 @@ IsRead n taken t (read.Entries from count) a = a ≡ entries_answer n from count
 IsRead n taken t (read.Status json) a = IsStatus n t json a
 IsRead n taken t read.Health a = a ≡ health_answer (health n t)
 IsRead n taken t read.Ready a = a ≡ ready_answer (health n t)
-IsRead n taken t read.Metrics a = a.code ≡ 200
+IsRead n taken t read.Metrics a = AreMetrics n t a
 
 -- fewer positions are applied than the reader asks for
 -- Example: with 411 applied, a read at 412 is waiting, one at 411 is read.

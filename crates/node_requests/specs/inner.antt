@@ -3,5 +3,4 @@
 -- What only code and proofs use: no contract of a public function needs it.
 pub mod Outcomes
 pub mod Left
-pub mod Metrics
 pub mod Parameters

@@ -8,7 +8,7 @@ ghost use Rattle.node_requests.specs.Bounded.{verdicts_within};
 ghost use Rattle.node_requests.specs.Changing.{Changes, with_number};
 ghost use Rattle.node_requests.specs.Health.{health};
 ghost use Rattle.node_requests.specs.Listings.{words_of};
-ghost use Rattle.node_requests.specs.Requests.{IsStatus, IsRead, IsReadIf, IsChange, Answers};
+ghost use Rattle.node_requests.specs.Requests.{IsStatus, AreMetrics, IsRead, IsReadIf, IsChange, Answers};
 ghost use Rattle.node_requests.specs.Standing.{standing};
 ghost use Rattle.node_requests.specs.StatusJson.{status_as};
 
@@ -132,7 +132,7 @@ impl<R: Records> RequestHandler<R> {
 
     /// The node's numbers for Prometheus.
     fn metrics(&self, counters: &Counters) -> Result<Answer, AllocError>
-        ensures { IfOk result (λ a. a.code ≡ 200) }
+        ensures { IfOk result (λ a. AreMetrics self.now.node counters.now (answer_value a)) }
     {
         let figures = Figures::of(&self.node)?;
         metrics(self.alloc, &figures, self.health(counters), counters)

@@ -1,7 +1,11 @@
 //! Numbers for Prometheus, in its text format 0.0.4.
 
-ghost use Rattle.std.specs.Prelude.{◌≡◌, ◌++◌, IfOk, OnOk, string_bytes};
-ghost use Rattle.node_requests.specs.inner.Metrics.{heading, metric, labelled, sample};
+ghost use Rattle.std.specs.Prelude.{◌≡◌, ◌++◌, IfOk, OnOk, map, string_bytes};
+ghost use Rattle.node_requests.specs.Metrics.{heading, metric, labelled, sample, metrics_of, samples_of, peers_of};
+ghost use Rattle.node_requests.specs.Metrics.{bit, is_at, heard_rows, node_metrics, state_metrics, health_metrics};
+ghost use Rattle.node_requests.specs.Metrics.{config_metrics, heard_metrics, in_metrics, out_metrics, loop_metrics};
+ghost use Rattle.node_requests.specs.Metrics.{control_metrics, metrics_text};
+ghost use Rattle.node_requests.specs.Answers.{answer_value, shown};
 
 use crate::answer::Answer;
 use crate::counters::{Counters, PeerCounters};
@@ -11,6 +15,7 @@ use pf_scripts::{push_line, push_number};
 use std::alloc::{AllocError, Global};
 
 /// Puts what a metric is for, and its kind, behind the output.
+#[tactic(auto, unfolding(crate::specs::Metrics::heading))]
 fn push_heading(out: &mut String, kind: &str, name: &str, help: &str) -> Result<(), AllocError>
     ensures { OnOk result (string_bytes out.new
         ≡ string_bytes out.old ++ heading kind.now name.now help.now) }
@@ -26,6 +31,7 @@ fn push_heading(out: &mut String, kind: &str, name: &str, help: &str) -> Result<
 }
 
 /// Puts a metric with one number behind the output.
+#[tactic(auto, unfolding(crate::specs::Metrics::metric))]
 fn push_metric(
     alloc: Global,
     out: &mut String,
@@ -44,7 +50,24 @@ fn push_metric(
     out.push('\n')
 }
 
+/// Puts metrics of one kind behind the output.
+fn push_metrics(
+    alloc: Global,
+    out: &mut String,
+    kind: &str,
+    rows: &[(&str, &str, u64)],
+) -> Result<(), AllocError>
+    ensures { OnOk result (string_bytes out.new
+        ≡ string_bytes out.old ++ metrics_of kind.now (map (λ r. (r.0.now, r.1.now, r.2)) rows.now)) }
+{
+    for (name, help, value) in rows {
+        push_metric(alloc, out, kind, name, help, *value)?;
+    }
+    Ok(())
+}
+
 /// Puts a label behind the output.
+#[tactic(auto, unfolding(crate::specs::Metrics::labelled))]
 fn push_label(out: &mut String, label: &str, of: &str) -> Result<(), AllocError>
     ensures { OnOk result (string_bytes out.new ≡ string_bytes out.old ++ labelled label.now of.now) }
 {
@@ -56,6 +79,7 @@ fn push_label(out: &mut String, label: &str, of: &str) -> Result<(), AllocError>
 }
 
 /// Puts the number of one of several behind the output.
+#[tactic(auto, unfolding(crate::specs::Metrics::sample))]
 fn push_sample(
     alloc: Global,
     out: &mut String,
@@ -73,156 +97,272 @@ fn push_sample(
     out.push('\n')
 }
 
-/// How far the node is.
-fn push_node(alloc: Global, out: &mut String, f: &Figures) -> Result<(), AllocError> {
-    let rows = [
-        (
-            "pfx_front",
-            "Least position not learned.",
-            u64::from(f.front),
-        ),
-        ("pfx_applied", "Positions applied.", u64::from(f.applied)),
-        ("pfx_round", "Round of the last prepare.", f.round),
-        (
-            "pfx_waiting",
-            "Commands that wait to be proposed.",
-            f.waiting as u64,
-        ),
-        (
-            "pfx_failed",
-            "1 after a fault of the store.",
-            u64::from(f.has_failed),
-        ),
-        (
-            "pfx_members",
-            "Members of the cluster.",
-            u64::from(f.members),
-        ),
-    ];
-    for (name, help, value) in rows {
-        push_metric(alloc, out, "gauge", name, help, value)?;
+/// Puts one metric of several numbers behind the output.
+fn push_samples(
+    alloc: Global,
+    out: &mut String,
+    kind: &str,
+    name: &str,
+    help: &str,
+    label: &str,
+    rows: &[(&str, u64)],
+) -> Result<(), AllocError>
+    ensures { OnOk result (string_bytes out.new ≡ string_bytes out.old
+        ++ samples_of kind.now name.now help.now label.now (map (λ r. (r.0.now, r.1)) rows.now)) }
+{
+    push_heading(out, kind, name, help)?;
+    for (of, value) in rows {
+        push_sample(alloc, out, name, label, of, *value)?;
     }
     Ok(())
+}
+
+/// The same of peers, by their numbers as members.
+fn push_peers(
+    alloc: Global,
+    out: &mut String,
+    kind: &str,
+    name: &str,
+    help: &str,
+    rows: &[(u8, u64)],
+) -> Result<(), AllocError>
+    ensures { OnOk result (string_bytes out.new ≡ string_bytes out.old
+        ++ peers_of kind.now name.now help.now rows.now) }
+{
+    push_heading(out, kind, name, help)?;
+    for (peer, value) in rows {
+        let of = peer.to_string(alloc)?;
+        push_sample(alloc, out, name, "peer", of.as_str(), *value)?;
+    }
+    Ok(())
+}
+
+/// 1 where it is so.
+fn bit(is_so: bool) -> u64
+    ensures { result ≡ bit is_so }
+{
+    if is_so { 1 } else { 0 }
+}
+
+/// How far the node is.
+fn push_node(alloc: Global, out: &mut String, f: &Figures) -> Result<(), AllocError>
+    ensures { OnOk result (string_bytes out.new ≡ string_bytes out.old ++ node_metrics f.now) }
+{
+    push_metrics(
+        alloc,
+        out,
+        "gauge",
+        &[
+            (
+                "pfx_front",
+                "Least position not learned.",
+                u64::from(f.front),
+            ),
+            ("pfx_applied", "Positions applied.", u64::from(f.applied)),
+            ("pfx_round", "Round of the last prepare.", f.round),
+            (
+                "pfx_waiting",
+                "Commands that wait to be proposed.",
+                f.waiting as u64,
+            ),
+        ],
+    )
+}
+
+/// How its store is, and how many members there are.
+fn push_state(alloc: Global, out: &mut String, f: &Figures) -> Result<(), AllocError>
+    ensures { OnOk result (string_bytes out.new ≡ string_bytes out.old ++ state_metrics f.now) }
+{
+    push_metrics(
+        alloc,
+        out,
+        "gauge",
+        &[
+            (
+                "pfx_failed",
+                "1 after a fault of the store.",
+                bit(f.has_failed),
+            ),
+            (
+                "pfx_members",
+                "Members of the cluster.",
+                u64::from(f.members),
+            ),
+        ],
+    )
+}
+
+/// 1 of the same health, 0 of another one.
+fn is_at(state: Health, health: Health) -> u64
+    ensures { result ≡ is_at state health }
+{
+    match (state, health) {
+        (Health::Works, Health::Works) => 1,
+        (Health::Behind, Health::Behind) => 1,
+        (Health::Alone, Health::Alone) => 1,
+        (Health::Stuck, Health::Stuck) => 1,
+        (Health::Failed, Health::Failed) => 1,
+        _ => 0,
+    }
 }
 
 /// How it stands among the others: 1 at its health, and 0 at each other.
-fn push_health(alloc: Global, out: &mut String, health: Health) -> Result<(), AllocError> {
-    let name = "pfx_health";
-    push_heading(out, "gauge", name, "1 at the health that the node has.")?;
-    for state in [
-        Health::Works,
-        Health::Behind,
-        Health::Alone,
-        Health::Stuck,
-        Health::Failed,
-    ] {
-        let value = u64::from(state == health);
-        push_sample(alloc, out, name, "state", state.word(), value)?;
-    }
-    Ok(())
+fn push_health(alloc: Global, out: &mut String, health: Health) -> Result<(), AllocError>
+    ensures { OnOk result (string_bytes out.new ≡ string_bytes out.old ++ health_metrics health) }
+{
+    push_samples(
+        alloc,
+        out,
+        "gauge",
+        "pfx_health",
+        "1 at the health that the node has.",
+        "state",
+        &[
+            ("ok", is_at(Health::Works, health)),
+            ("behind", is_at(Health::Behind, health)),
+            ("alone", is_at(Health::Alone, health)),
+            ("stuck", is_at(Health::Stuck, health)),
+            ("failed", is_at(Health::Failed, health)),
+        ],
+    )
 }
 
 /// How much its configuration has.
-fn push_config(alloc: Global, out: &mut String, f: &Figures) -> Result<(), AllocError> {
-    let rows = [
-        (
-            "pfx_anchors",
-            "Paths with rules or tables.",
-            f.anchors as u64,
-        ),
-        ("pfx_rules", "Rules at all paths.", f.rules as u64),
-        ("pfx_tables", "Tables at all paths.", f.tables as u64),
-        (
-            "pfx_table_addresses",
-            "Entries in all tables.",
-            f.addresses as u64,
-        ),
-    ];
-    for (name, help, value) in rows {
-        push_metric(alloc, out, "gauge", name, help, value)?;
-    }
-    Ok(())
+fn push_config(alloc: Global, out: &mut String, f: &Figures) -> Result<(), AllocError>
+    ensures { OnOk result (string_bytes out.new ≡ string_bytes out.old ++ config_metrics f.now) }
+{
+    push_metrics(
+        alloc,
+        out,
+        "gauge",
+        &[
+            (
+                "pfx_anchors",
+                "Paths with rules or tables.",
+                f.anchors as u64,
+            ),
+            ("pfx_rules", "Rules at all paths.", f.rules as u64),
+            ("pfx_tables", "Tables at all paths.", f.tables as u64),
+            (
+                "pfx_table_addresses",
+                "Entries in all tables.",
+                f.addresses as u64,
+            ),
+        ],
+    )
 }
 
-/// What the loop counted.
-fn push_loop(alloc: Global, out: &mut String, t: &Counters) -> Result<(), AllocError> {
-    let rows = [
-        (
-            "pfx_unsent_total",
-            "Datagrams the system did not take.",
-            t.unsent,
-        ),
-        (
-            "pfx_dropped_total",
-            "Datagrams with a wrong tag, or asks.",
-            t.dropped,
-        ),
-        (
-            "pfx_ignored_total",
-            "Datagrams that spell nothing.",
-            t.ignored,
-        ),
-        ("pfx_turns_total", "Turns of the node.", t.turns),
-        ("pfx_ticks_total", "Ticks of its clock.", t.ticks),
-    ];
-    for (name, help, value) in rows {
-        push_metric(alloc, out, "counter", name, help, value)?;
-    }
-    Ok(())
-}
-
-/// When peers were heard, but for those that never were.
-fn push_heard(alloc: Global, out: &mut String, peers: &[PeerCounters]) -> Result<(), AllocError> {
-    let name = "pfx_peer_heard_seconds";
-    push_heading(out, "gauge", name, "Whole seconds since a datagram came.")?;
+/// When each peer was heard, but for those that never were.
+fn heard_rows(alloc: Global, peers: &[PeerCounters]) -> Result<Vec<(u8, u64)>, AllocError>
+    ensures { IfOk result (λ rows. rows.items ≡ heard_rows peers.now) }
+{
+    let mut rows = Vec::new(alloc);
     for peer in peers {
         if let Some(seconds) = peer.heard {
-            let of = peer.node.to_string(alloc)?;
-            push_sample(alloc, out, name, "peer", of.as_str(), seconds)?;
+            rows.push((peer.node, seconds))?;
         }
     }
-    Ok(())
+    Ok(rows)
+}
+
+/// When peers were heard.
+fn push_heard(alloc: Global, out: &mut String, peers: &[PeerCounters]) -> Result<(), AllocError>
+    ensures { OnOk result (string_bytes out.new ≡ string_bytes out.old ++ heard_metrics peers.now) }
+{
+    let rows = heard_rows(alloc, peers)?;
+    push_peers(
+        alloc,
+        out,
+        "gauge",
+        "pfx_peer_heard_seconds",
+        "Whole seconds since a datagram came.",
+        &rows,
+    )
 }
 
 /// How many datagrams came from peers.
-fn push_in(alloc: Global, out: &mut String, peers: &[PeerCounters]) -> Result<(), AllocError> {
-    let name = "pfx_datagrams_in_total";
-    push_heading(out, "counter", name, "Datagrams from the peer.")?;
+fn push_in(alloc: Global, out: &mut String, peers: &[PeerCounters]) -> Result<(), AllocError>
+    ensures { OnOk result (string_bytes out.new ≡ string_bytes out.old ++ in_metrics peers.now) }
+{
+    let mut rows = Vec::new(alloc);
     for peer in peers {
-        let of = peer.node.to_string(alloc)?;
-        push_sample(alloc, out, name, "peer", of.as_str(), peer.datagrams_in)?;
+        rows.push((peer.node, peer.datagrams_in))?;
     }
-    Ok(())
+    push_peers(
+        alloc,
+        out,
+        "counter",
+        "pfx_datagrams_in_total",
+        "Datagrams from the peer.",
+        &rows,
+    )
 }
 
 /// How many datagrams went to peers.
-fn push_out(alloc: Global, out: &mut String, peers: &[PeerCounters]) -> Result<(), AllocError> {
-    let name = "pfx_datagrams_out_total";
-    push_heading(out, "counter", name, "Datagrams to the peer.")?;
+fn push_out(alloc: Global, out: &mut String, peers: &[PeerCounters]) -> Result<(), AllocError>
+    ensures { OnOk result (string_bytes out.new ≡ string_bytes out.old ++ out_metrics peers.now) }
+{
+    let mut rows = Vec::new(alloc);
     for peer in peers {
-        let of = peer.node.to_string(alloc)?;
-        push_sample(alloc, out, name, "peer", of.as_str(), peer.datagrams_out)?;
+        rows.push((peer.node, peer.datagrams_out))?;
     }
-    Ok(())
+    push_peers(
+        alloc,
+        out,
+        "counter",
+        "pfx_datagrams_out_total",
+        "Datagrams to the peer.",
+        &rows,
+    )
+}
+
+/// What the loop counted.
+fn push_loop(alloc: Global, out: &mut String, t: &Counters) -> Result<(), AllocError>
+    ensures { OnOk result (string_bytes out.new ≡ string_bytes out.old ++ loop_metrics t.now) }
+{
+    push_metrics(
+        alloc,
+        out,
+        "counter",
+        &[
+            (
+                "pfx_unsent_total",
+                "Datagrams the system did not take.",
+                t.unsent,
+            ),
+            (
+                "pfx_dropped_total",
+                "Datagrams with a wrong tag, or asks.",
+                t.dropped,
+            ),
+            (
+                "pfx_ignored_total",
+                "Datagrams that spell nothing.",
+                t.ignored,
+            ),
+            ("pfx_turns_total", "Turns of the node.", t.turns),
+            ("pfx_ticks_total", "Ticks of its clock.", t.ticks),
+        ],
+    )
 }
 
 /// How many requests were answered.
-fn push_control(alloc: Global, out: &mut String, t: &Counters) -> Result<(), AllocError> {
-    let name = "pfx_control_requests_total";
-    push_heading(
+fn push_control(alloc: Global, out: &mut String, t: &Counters) -> Result<(), AllocError>
+    ensures { OnOk result (string_bytes out.new ≡ string_bytes out.old ++ control_metrics t.now) }
+{
+    push_samples(
+        alloc,
         out,
         "counter",
-        name,
+        "pfx_control_requests_total",
         "Requests of operators, by their status.",
-    )?;
-    for (code, value) in [
-        ("2xx", t.served),
-        ("4xx", t.refused),
-        ("5xx", t.unavailable),
-    ] {
-        push_sample(alloc, out, name, "code", code, value)?;
-    }
-    Ok(())
+        "code",
+        &[
+            ("2xx", t.served),
+            ("4xx", t.refused),
+            ("5xx", t.unavailable),
+        ],
+    )
 }
 
 /// A node's numbers for Prometheus.
@@ -232,10 +372,11 @@ pub(crate) fn metrics(
     health: Health,
     t: &Counters,
 ) -> Result<Answer, AllocError>
-    ensures { IfOk result (λ a. a.code ≡ 200) }
+    ensures { IfOk result (λ a. answer_value a ≡ shown (metrics_text f.now health t.now)) }
 {
     let mut body = String::new(alloc);
     push_node(alloc, &mut body, f)?;
+    push_state(alloc, &mut body, f)?;
     push_health(alloc, &mut body, health)?;
     push_config(alloc, &mut body, f)?;
     push_heard(alloc, &mut body, &t.peers)?;

@@ -1,0 +1,136 @@
+-- Numbers for Prometheus, in its text format 0.0.4.
+use Rattle.std.specs.Prelude.{ℕ, Bool, true, false, List, [], ◌∷◌, ◌++◌, ◌==◌, Option, Some, None, map, codes, decimal}
+use Rattle.std.specs.List.{flat_map}
+use Rattle.clap.specs.Words.{Text}
+use Rattle.pf_scripts.specs.Lines.{line}
+use Rattle.node_requests.specs.declared.counters.Counters.{Counters}
+use Rattle.node_requests.specs.declared.counters.PeerCounters.{PeerCounters}
+use Rattle.node_requests.specs.declared.figures.Figures.{Figures}
+use Rattle.node_requests.specs.declared.health.Health.{Health}
+use Rattle.node_requests.specs.declared.health.Health.TheVariants.{Works, Behind, Alone, Stuck, Failed}
+
+-- ---- lines
+
+-- what a metric is for, and its kind
+-- Source: Prometheus, Exposition formats, Text format.
+unfoldable pub heading : (kind name help : Text) → List ℕ
+heading kind name help =
+    line (codes "# HELP " ++ name ++ codes " " ++ help) ++ line (codes "# TYPE " ++ name ++ codes " " ++ kind)
+
+-- a metric with one number
+unfoldable pub metric : (kind name help : Text) → ℕ → List ℕ
+metric kind name help value = heading kind name help ++ line (name ++ codes " " ++ decimal value)
+
+-- {LABEL="OF"}
+unfoldable pub labelled : (label of : Text) → List ℕ
+labelled label of = codes "{" ++ label ++ codes "=\"" ++ of ++ codes "\"} "
+
+-- the number of a peer, or of whatever a label names
+-- Example: pfx_datagrams_in_total{peer="2"} 88140.
+unfoldable pub sample : (name label of : Text) → ℕ → List ℕ
+sample name label of value = line (name ++ labelled label of ++ decimal value)
+
+-- metrics of one kind: the name of each, what it is for, and its number
+abbrev pub metrics_of : (kind : Text) → List (Text × Text × ℕ) → List ℕ
+metrics_of kind rows = flat_map (λ r. metric kind r.0 r.1 r.2) rows
+
+-- one metric of several numbers: what the label names, and the number
+abbrev pub samples_of : (kind name help label : Text) → List (Text × ℕ) → List ℕ
+samples_of kind name help label rows = heading kind name help ++ flat_map (λ r. sample name label r.0 r.1) rows
+
+-- the same of peers: the number of each as a member, and its number
+abbrev pub peers_of : (kind name help : Text) → List (ℕ × ℕ) → List ℕ
+peers_of kind name help rows =
+    heading kind name help ++ flat_map (λ r. sample name (codes "peer") (decimal r.0) r.1) rows
+
+-- ---- what is measured
+
+-- 1 where it is so
+abbrev pub bit : Bool → ℕ
+bit true = 1
+bit false = 0
+
+-- how far the node is
+abbrev pub node_metrics : Figures → List ℕ
+node_metrics f = metrics_of (codes "gauge")
+    ((codes "pfx_front", codes "Least position not learned.", f.front)
+    ∷ (codes "pfx_applied", codes "Positions applied.", f.applied)
+    ∷ (codes "pfx_round", codes "Round of the last prepare.", f.round)
+    ∷ (codes "pfx_waiting", codes "Commands that wait to be proposed.", f.waiting) ∷ [])
+
+-- how its store is, and how many members there are
+abbrev pub state_metrics : Figures → List ℕ
+state_metrics f = metrics_of (codes "gauge")
+    ((codes "pfx_failed", codes "1 after a fault of the store.", bit f.has_failed)
+    ∷ (codes "pfx_members", codes "Members of the cluster.", f.members) ∷ [])
+
+-- 1 of the same health, 0 of another one
+abbrev pub is_at : (state h : Health) → ℕ
+is_at Works Works = 1
+is_at Behind Behind = 1
+is_at Alone Alone = 1
+is_at Stuck Stuck = 1
+is_at Failed Failed = 1
+is_at state h = 0
+
+-- how it stands among the others: 1 at its health, and 0 at each other
+abbrev pub health_metrics : Health → List ℕ
+health_metrics h = samples_of (codes "gauge") (codes "pfx_health") (codes "1 at the health that the node has.")
+    (codes "state")
+    ((codes "ok", is_at Works h) ∷ (codes "behind", is_at Behind h) ∷ (codes "alone", is_at Alone h)
+    ∷ (codes "stuck", is_at Stuck h) ∷ (codes "failed", is_at Failed h) ∷ [])
+
+-- how much its configuration has
+abbrev pub config_metrics : Figures → List ℕ
+config_metrics f = metrics_of (codes "gauge")
+    ((codes "pfx_anchors", codes "Paths with rules or tables.", f.anchors)
+    ∷ (codes "pfx_rules", codes "Rules at all paths.", f.rules)
+    ∷ (codes "pfx_tables", codes "Tables at all paths.", f.tables)
+    ∷ (codes "pfx_table_addresses", codes "Entries in all tables.", f.addresses) ∷ [])
+
+-- the seconds of a peer, if it ever was heard, before those of others
+abbrev pub heard_row : ℕ → Option ℕ → List (ℕ × ℕ) → List (ℕ × ℕ)
+heard_row node None later = later
+heard_row node (Some seconds) later = (node, seconds) ∷ later
+
+-- when each peer was heard; nothing of one that never was
+abbrev pub heard_rows : List PeerCounters → List (ℕ × ℕ)
+heard_rows [] = []
+heard_rows (p ∷ peers) = heard_row p.node p.heard (heard_rows peers)
+
+-- what came of each peer
+abbrev pub heard_metrics : List PeerCounters → List ℕ
+heard_metrics peers =
+    peers_of (codes "gauge") (codes "pfx_peer_heard_seconds") (codes "Whole seconds since a datagram came.") (heard_rows peers)
+
+abbrev pub in_metrics : List PeerCounters → List ℕ
+in_metrics peers =
+    peers_of (codes "counter") (codes "pfx_datagrams_in_total") (codes "Datagrams from the peer.")
+    (map (λ p. (p.node, p.datagrams_in)) peers)
+
+-- what went to it
+abbrev pub out_metrics : List PeerCounters → List ℕ
+out_metrics peers =
+    peers_of (codes "counter") (codes "pfx_datagrams_out_total") (codes "Datagrams to the peer.")
+    (map (λ p. (p.node, p.datagrams_out)) peers)
+
+-- what the loop counted
+abbrev pub loop_metrics : Counters → List ℕ
+loop_metrics t = metrics_of (codes "counter")
+    ((codes "pfx_unsent_total", codes "Datagrams the system did not take.", t.unsent)
+    ∷ (codes "pfx_dropped_total", codes "Datagrams with a wrong tag, or asks.", t.dropped)
+    ∷ (codes "pfx_ignored_total", codes "Datagrams that spell nothing.", t.ignored)
+    ∷ (codes "pfx_turns_total", codes "Turns of the node.", t.turns)
+    ∷ (codes "pfx_ticks_total", codes "Ticks of its clock.", t.ticks) ∷ [])
+
+-- how many requests were answered, by the class of HTTP's status
+abbrev pub control_metrics : Counters → List ℕ
+control_metrics t = samples_of (codes "counter") (codes "pfx_control_requests_total")
+    (codes "Requests of operators, by their status.") (codes "code")
+    ((codes "2xx", t.served) ∷ (codes "4xx", t.refused) ∷ (codes "5xx", t.unavailable) ∷ [])
+
+-- all of them
+abbrev pub metrics_text : Figures → Health → Counters → List ℕ
+metrics_text f h t =
+    (((((((node_metrics f ++ state_metrics f) ++ health_metrics h) ++ config_metrics f) ++ heard_metrics t.peers.items)
+    ++ in_metrics t.peers.items) ++ out_metrics t.peers.items) ++ loop_metrics t) ++ control_metrics t
