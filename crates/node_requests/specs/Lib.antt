@@ -13,6 +13,7 @@ pub mod Posting
 pub mod Queries
 pub mod Requests
 pub mod Routing
+pub mod Sizes
 pub mod Standing
 pub mod Status
 pub mod StatusJson

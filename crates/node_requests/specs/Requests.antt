@@ -2,6 +2,7 @@
 use Rattle.std.specs.Prelude.{◌≡◌, ◌⊎◌, ◌-◌, ℕ, Bool, true, false, [], map, length, nat_lt, Option, Result, codes}
 use Rattle.px_model.specs.Step.{front, positions}
 use Rattle.px_records.specs.declared.records.Records.{Ghosts}
+use Rattle.pf_config.specs.Map.{paths_in}
 use Rattle.pf_entry.specs.Entry as entries
 use Rattle.pf_scripts.specs.WordsRead.{change_in}
 use Rattle.pf_node.specs.Nodes.{learned_by, applied_of, config_of, membership_of, has_failed, records_of, state_in}
@@ -22,6 +23,7 @@ use Rattle.node_requests.specs.Health.{health, health_answer, ready_answer}
 use Rattle.node_requests.specs.Listings.{words_of}
 use Rattle.node_requests.specs.LogLines.{log_answer}
 use Rattle.node_requests.specs.Metrics.{metrics_text}
+use Rattle.node_requests.specs.Sizes.{rules_below, tables_below, entries_below}
 use Rattle.node_requests.specs.Standing.{standing}
 use Rattle.node_requests.specs.StatusJson.{status_as}
 
@@ -36,6 +38,10 @@ pub record AreFigures {R : Type 0} {G : Ghosts R} (n : Node R G) (f : Figures) :
   pub front : f.front ≡ front (learned_by n)
   pub applied : f.applied ≡ applied_of n
   pub waiting : f.waiting ≡ length (state_in n).volatile.waiting
+  pub anchors : f.anchors ≡ length (paths_in (config_of n).anchors)
+  pub rules : f.rules ≡ rules_below (config_of n) (paths_in (config_of n).anchors)
+  pub tables : f.tables ≡ tables_below (config_of n) (paths_in (config_of n).anchors)
+  pub addresses : f.addresses ≡ entries_below (config_of n) (paths_in (config_of n).anchors)
   pub failed : f.has_failed ≡ has_failed n
   pub round : has_failed n ≡ false → G.is_honest (records_of n) → f.round ≡ (G.stored (records_of n)).meta.round
 

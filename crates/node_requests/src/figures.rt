@@ -1,11 +1,13 @@
 //! A node in numbers.
 
-ghost use Rattle.std.specs.Prelude.{◌≡◌, IfOk, ◌-◌};
+ghost use Rattle.std.specs.Prelude.{◌≡◌, IfOk, ◌-◌, map, option_copied};
 ghost use Rattle.px_model.specs.Step.{front, positions};
 ghost use Rattle.pf_node.specs.Nodes.{learned_by};
 ghost use Rattle.node_requests.specs.Requests.{AreFigures};
+ghost use Rattle.node_requests.specs.Sizes.{entries_of, entries_at};
+ghost use Rattle.node_requests.specs.inner.Counts.{AreCounts};
 
-use pf_config::Config;
+use pf_config::{Config, Table};
 use pf_node::Node;
 use pf_rules::Name;
 use px_core::POSITIONS;
@@ -52,19 +54,31 @@ struct Counts {
     addresses: usize,
 }
 
+/// How many entries a table has, none where it isn't there.
+fn entries_of(table: Option<&Table>) -> usize
+    ensures { result ≡ entries_of (option_copied table) }
+{
+    match table {
+        Some(table) => table.entry_count(),
+        None => 0,
+    }
+}
+
 /// How many entries the tables of a path have.
-fn entries_at(config: &Config, path: &[Name], names: &[&str]) -> usize {
+fn entries_at(config: &Config, path: &[Name], names: &[&str]) -> usize
+    ensures { result ≡ entries_at config.now path.now (map (λ n. n.now) names.now) }
+{
     let mut entries = 0usize;
     for name in names {
-        if let Some(table) = config.table(path, name) {
-            entries = entries.saturating_add(table.entry_count());
-        }
+        entries = entries.saturating_add(entries_of(config.table(path, name)));
     }
     entries
 }
 
 /// How much a configuration has.
-fn count_config(config: &Config) -> Result<Counts, AllocError> {
+fn count_config(config: &Config) -> Result<Counts, AllocError>
+    ensures { IfOk result (AreCounts config.now) }
+{
     let paths = config.paths()?;
     let mut counts = Counts {
         anchors: paths.len(),
