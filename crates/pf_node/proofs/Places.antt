@@ -71,6 +71,12 @@ pub bounds_next : (log : Log Bytes) (origin k n : ℕ) (old new : List ℕ) → 
 bounds_next log origin k n old new h w (inl is) = subst (AreBounds log origin) (sym is) h
 bounds_next log origin k n old new h w (inr (is, under)) = subst (AreBounds log origin) (sym is) (more_bounds log origin k n old h w under)
 
+pub stretched_next : (k n : ℕ) (old new : List ℕ) → 256 * length old ≤ k →
+    (new ≡ old) ⊎ ((new ≡ old ++ (n ∷ [])) × (256 * (length old + 1) ≤ k + 1)) → 256 * length new ≤ k + 1
+stretched_next k n old new was (inl is) = let l : length new ≡ length old = ap length is in omega (arith, was, l)
+stretched_next k n old new was (inr (is, under)) =
+    let l : length new ≡ length old + 1 = ap length is ∙ length-append old (n ∷ []) in omega (arith, under, l)
+
 -- what is said of a log holds of one that is the same below all of them
 pub bounds_same : (log more : Log Bytes) (origin k : ℕ) (bounds : List ℕ) → ((p : ℕ) → p < k → more p ≡ log p) →
     256 * length bounds ≤ k → AreBounds log origin bounds → AreBounds more origin bounds

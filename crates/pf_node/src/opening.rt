@@ -23,7 +23,7 @@ fn joined<R: Records>(alloc: Global, replica: Replica<R>) -> Result<Node<R>, R>
     ensures replica { IfOk result (λ n. n.replica ≡ replica) }
     ensures kept { IfErr result (λ r. r ≡ replicas.records_of replica) }
 {
-    let me = replica.membership().me;
+    let me = replica.membership().me();
     match Config::new(alloc) {
         Ok(config) => Ok(Node {
             replica,

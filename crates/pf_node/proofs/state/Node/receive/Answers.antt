@@ -53,3 +53,20 @@ invariant_of-self-in-Err-1 g c =
           (received_below n.replica c.receive.new.self _ _ _ _ c.receive.ensures.received);
       stretched = n.stretched;
     }
+
+pub invariant_of-self-in-Ignored-1 : goal.invariant_of-self-in-Ignored-1
+invariant_of-self-in-Ignored-1 g c =
+    let n = c.args.self.now in
+    let h = received_front n.replica c.receive.new.self _ _ _ _ c.receive.ensures.received in
+    record {
+      configured = after_kept (learned_by n.replica) (learned_by c.receive.new.self) n.applied n.config n.configured n.behind
+          (received_below n.replica c.receive.new.self _ _ _ _ c.receive.ensures.received);
+      behind = omega (arith, n.behind, h);
+      recorded = recorded_kept (learned_by n.replica) (learned_by c.receive.new.self) n.applied n.outcomes.kept.items n.recorded n.behind
+          (received_below n.replica c.receive.new.self _ _ _ _ c.receive.ensures.received);
+      numbered = within_kept (learned_by n.replica) (learned_by c.receive.new.self) n.numbers.origin n.applied n.numbers.last n.numbered n.behind
+          (received_below n.replica c.receive.new.self _ _ _ _ c.receive.ensures.received);
+      bounded = bounds_kept (learned_by n.replica) (learned_by c.receive.new.self) n.numbers.origin n.applied n.numbers.bounds.items n.bounded n.stretched n.behind
+          (received_below n.replica c.receive.new.self _ _ _ _ c.receive.ensures.received);
+      stretched = n.stretched;
+    }
