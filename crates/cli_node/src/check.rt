@@ -7,6 +7,7 @@ ghost use Rattle.cli_node.specs.inner.Outcomes.{checked, first_of};
 ghost use Rattle.cli_node.specs.inner.Places.{has_place};
 ghost use Rattle.cli_node.specs.inner.Stores.{IsStoreless};
 
+use crate::database::open_database;
 use crate::faults::{owner_of, say_closed, say_figures, say_place, say_storeless, say_unknown};
 use crate::key::key_in;
 use crate::node::{NodeWords, figures_at, membership};
@@ -192,7 +193,7 @@ fn looked_at(
         );
         return Outcome::Sound;
     }
-    match Connection::open(rt, words.store) {
+    match open_database(rt, words.store) {
         Ok(conn) => judged(rt, alloc, words, m, conn),
         Err(Error::SqliteFailure(ErrorCode::DatabaseBusy)) => {
             let _said = eprintln!(rt;

@@ -5,14 +5,18 @@
 //! - [`run_net`]: the words, over any reader and writer.
 //!
 //! Within: `words` has the words as `clap` reads them, `settings` those of a node's file, `node`, `ask` and `key` what
-//! each comes to, and `check` what `node` with `--check`; `store` opens or makes a node's store; `outcome` has what is
-//! written, `events` and `faults` what a node says.
+//! each comes to, and `check` what `node` with `--check`; `store` opens or makes a node's store, and `database` the
+//! database in it; `outcome` has what is written, `events` and `faults` what a node says.
 //!
 //! # Why
 //!
 //! - **A start makes no store** where settings come from a file: a store that is gone, as behind a folder that isn't
 //!   mounted, would come back empty, and its node vote twice. `--new` makes it. With arguments alone one is made where
 //!   there is none: whoever types them says which node it is. An empty file counts as none, in both.
+//! - **A new store has pages of 1,024 bytes**, where the database's own size is 4,096: a commit writes whole pages, and
+//!   copies, counts and sums their bytes, most often to put one row of some 50 bytes. A store that is there keeps its
+//!   size. The files are made by the calls that the database itself makes them by, with its lock held, so that a stop
+//!   meanwhile leaves what the next start takes for a new store.
 //! - **94 is a new key's file too**: a file that is to be made is there.
 //! - **A member that had failed ends with the cause**, 70 or 72, and not with the 80 that the next turn answers: 70
 //!   where the record counts a failure, as `px_replica` has it of the call that failed.
@@ -30,6 +34,7 @@
 
 mod ask;
 mod check;
+mod database;
 mod events;
 mod faults;
 mod key;

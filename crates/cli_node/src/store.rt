@@ -6,6 +6,7 @@ ghost use Rattle.cli_node.specs.declared.store.TheConstants.{NO_STORE, FILE_IS_T
 ghost use Rattle.cli_node.specs.inner.Outcomes.{adopt_outcome};
 ghost use Rattle.cli_node.specs.inner.Stores.{IsOpening, IsStoreless, is_made};
 
+use crate::database::open_database;
 use crate::faults::{say_closed, say_judged, say_storeless};
 use crate::node::NodeWords;
 use crate::outcome::Outcome;
@@ -158,7 +159,7 @@ pub(crate) fn failed_outcome(rt: &HostRuntime, path: &str, error: Error) -> Outc
 fn open_file(rt: &HostRuntime, path: &str) -> Result<Connection<FileStore<File>>, Outcome>
     ensures { OnErr result ((result ≡ Err Memory) ⊎ (result ≡ Err (Refused 70))) }
 {
-    match Connection::open(rt, path) {
+    match open_database(rt, path) {
         Ok(conn) => Ok(conn),
         Err(error) => Err(failed_outcome(rt, path, error)),
     }

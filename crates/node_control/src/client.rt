@@ -21,6 +21,10 @@ const MOST: u32 = 1_000;
 /// The most bytes that a body has.
 const BODY: usize = 65_536;
 
+/// The least bytes that a read is given, which are zeroed for each connection. Most requests have some 100, and where
+/// more comes the next read is given twice as many as the last one took.
+const READ: usize = 2_048;
+
 /// A connection over which requests come.
 #[derive(Drop)]
 pub(crate) struct Client {
@@ -56,6 +60,7 @@ impl Client {
         let config = Config {
             max_body_len: BODY,
             max_pending: 0,
+            read_size: READ,
             ..Config::default()
         };
         Client {

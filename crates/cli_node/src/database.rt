@@ -1,0 +1,178 @@
+//! The database of a node in its file: a new one has small pages.
+
+ghost use Rattle.std.specs.Prelude.{◌≡◌, [], IsTrue, IfOk, IfErr, Err, codes};
+ghost use Rattle.sqlite_trees.specs.View.{IsClean};
+ghost use Rattle.sqlite_store.specs.FileStore.{view, is_shielded};
+ghost use Rattle.sqlite_store.specs.Unopened.{AreUsable, wanted_by};
+ghost use Rattle.sqlite.specs.Steps.{IsFresh};
+ghost use Rattle.sqlite.specs.State.{HasCleanDisk};
+ghost use Rattle.sqlite.specs.Held.{IsNew};
+ghost use Rattle.sqlite.specs.Opening.{is_open_error};
+ghost use Rattle.sqlite.specs.Files.{file_state, IsOpened, IsEmpty};
+
+use sqlite::{Connection, Error, ErrorCode, File, FileStore, Files, Options, Unknown};
+use sqlite_disk::Disk;
+use sqlite_pager::Pager;
+use sqlite_pool::probe_blank;
+use sqlite_std_file::OpenError as PathError;
+use sqlite_store::{OpenError, Unopened};
+use sqlite_wal::PageSize;
+use std::alloc::Global;
+use std::hash::{BuildHasher, RandomState};
+use std::io::ErrorKind;
+
+/// The bytes of a page of a new database. A commit writes whole pages, most often to put one row of some 50 bytes.
+const PAGE: usize = 1_024;
+
+const NO_MEMORY: Error = Error::SqliteFailure(ErrorCode::OutOfMemory);
+
+const CANNOT_OPEN: Error = Error::SqliteFailure(ErrorCode::CannotOpen);
+
+/// Why it isn't known what the files hold.
+fn read_error(error: sqlite_wal::Error) -> Error
+    ensures { IsTrue (is_open_error result) }
+{
+    Error::SqliteFailure(match error {
+        sqlite_wal::Error::OutOfMemory => ErrorCode::OutOfMemory,
+        sqlite_wal::Error::Io(_) => ErrorCode::SystemIoFailure,
+        sqlite_wal::Error::Full => ErrorCode::DiskFull,
+        _ => ErrorCode::NotADatabase,
+    })
+}
+
+/// Why a database isn't made.
+fn make_error(error: OpenError) -> Error
+    ensures { IsTrue (is_open_error result) }
+{
+    Error::SqliteFailure(match error {
+        OpenError::OutOfMemory => ErrorCode::OutOfMemory,
+        OpenError::Io => ErrorCode::SystemIoFailure,
+        OpenError::Full => ErrorCode::DiskFull,
+        OpenError::Refused => ErrorCode::DatabaseCorrupt,
+    })
+}
+
+/// The store without tables, of pages of this size, that is to be made in the files.
+fn unmade<D: Disk + Drop>(
+    alloc: Global,
+    files: Files<D>,
+    size: PageSize,
+    options: Options,
+) -> Result<Unopened<D>, Error>
+    requires log { IsTrue (D.Disk.is_usable files.log) }
+    requires db { IsTrue (D.Disk.is_usable files.db) }
+    ensures named { IfErr result (λ e. IsTrue (is_open_error e)) }
+    ensures usable { IfOk result AreUsable }
+    ensures none { IfOk result (λ it. wanted_by it ≡ []) }
+{
+    let Ok(pager) = Pager::new(alloc, files, size, options) else {
+        return Err(NO_MEMORY);
+    };
+    let Ok(unmade) = Unopened::with_sums(alloc, pager, &[], false) else {
+        return Err(NO_MEMORY);
+    };
+    Ok(unmade)
+}
+
+/// Makes the store in its files.
+fn made<D: Disk + Drop>(files: Unopened<D>) -> Result<FileStore<D>, Error>
+    requires usable { AreUsable files }
+    requires none { wanted_by files ≡ [] }
+    ensures named { IfErr result (λ e. IsTrue (is_open_error e)) }
+    ensures fresh { IfOk result (λ store. IsClean (view store) → IsFresh (view store)) }
+    ensures empty { IfOk result (λ store. IsTrue (view store).is_clean → IsEmpty (view store).trees) }
+    ensures guarded { IfOk result (λ store. IsTrue (view store).is_clean → is_shielded store) }
+{
+    match files.create() {
+        Ok(store) => Ok(store),
+        Err((error, _files)) => Err(make_error(error)),
+    }
+}
+
+/// Makes a database without tables in files that hold none.
+fn make<D: Disk + Drop>(
+    alloc: Global,
+    files: Files<D>,
+    size: PageSize,
+    options: Options,
+) -> Result<Connection<FileStore<D>>, Error>
+    requires log { IsTrue (D.Disk.is_usable files.log) }
+    requires db { IsTrue (D.Disk.is_usable files.db) }
+    ensures named { IfErr result (λ e. IsTrue (is_open_error e)) }
+    ensures opened { IfOk result (λ c. HasCleanDisk (file_state c) → IsOpened c) }
+    ensures empty { IfOk result (λ c. HasCleanDisk (file_state c) → IsEmpty (file_state c).now.trees) }
+    ensures fresh { IfOk result IsNew }
+    ensures guarded { IfOk result (λ c. HasCleanDisk (file_state c) → (file_state c).IsShielded) }
+{
+    let files = unmade(alloc, files, size, options)?;
+    let store = made(files)?;
+    match Connection::over(alloc, store) {
+        Ok(conn) => Ok(conn),
+        Err((error, _store)) => Err(error),
+    }
+}
+
+/// The database that the files hold. Where they hold none, or one that a stop left half made, a new one of small pages.
+fn open_files<D: Disk + Drop>(
+    alloc: Global,
+    mut files: Files<D>,
+    options: Options,
+) -> Result<Connection<FileStore<D>>, Error>
+    requires log { IsTrue (D.Disk.is_usable files.log) }
+    requires db { IsTrue (D.Disk.is_usable files.db) }
+    ensures named { IfErr result (λ e. IsTrue (is_open_error e)) }
+    ensures opened { IfOk result (λ c. HasCleanDisk (file_state c) → IsOpened c) }
+    ensures fresh { IfOk result IsNew }
+    ensures guarded { IfOk result (λ c. HasCleanDisk (file_state c) → (file_state c).IsShielded) }
+{
+    let size = PageSize::new(PAGE).unwrap();
+    match probe_blank(alloc, &mut files, size, false) {
+        Ok(is_blank) => {
+            if is_blank {
+                return make(alloc, files, size, options);
+            }
+        }
+        Err(error) => return Err(read_error(error)),
+    }
+    match Connection::open_files(alloc, files, options) {
+        Ok(conn) => Ok(conn),
+        Err((error, _left)) => Err(error),
+    }
+}
+
+/// The database file at the path and its log, locked; those that are missing are made.
+fn files_at(rt: &HostRuntime, path: &str) -> Result<Files<File>, Error>
+    ensures memory { path.now ≡ codes ":memory:" → result ≡ Err (Error.SqliteFailure ErrorCode.CannotOpen) }
+    ensures named { IfErr result (λ e. IsTrue (is_open_error e)) }
+    ensures log { IfOk result (λ files. IsTrue (⟦<File as Disk>⟧.is_usable files.log)) }
+    ensures db { IfOk result (λ files. IsTrue (⟦<File as Disk>⟧.is_usable files.db)) }
+{
+    if path == ":memory:" || path.starts_with("file:") {
+        return Err(CANNOT_OPEN);
+    }
+    match sqlite_std_file::open(rt, path, Unknown) {
+        Ok(files) => Ok(files),
+        Err(PathError::OutOfMemory) => Err(NO_MEMORY),
+        Err(PathError::Busy) => Err(Error::SqliteFailure(ErrorCode::DatabaseBusy)),
+        Err(PathError::Io(error)) if error.kind() == ErrorKind::OutOfMemory => Err(NO_MEMORY),
+        Err(_) => Err(CANNOT_OPEN),
+    }
+}
+
+/// Opens the database in a file as [`Connection::open`] does, or makes one there, of pages of 1,024 bytes.
+pub(crate) fn open_database(
+    rt: &HostRuntime,
+    path: &str,
+) -> Result<Connection<FileStore<File>>, Error>
+    ensures memory { path.now ≡ codes ":memory:" → result ≡ Err (Error.SqliteFailure ErrorCode.CannotOpen) }
+    ensures named { IfErr result (λ e. IsTrue (is_open_error e)) }
+    ensures opened { IfOk result (λ c. HasCleanDisk (file_state c) → IsOpened c) }
+    ensures fresh { IfOk result IsNew }
+    ensures guarded { IfOk result (λ c. HasCleanDisk (file_state c) → (file_state c).IsShielded) }
+{
+    let files = files_at(rt, path)?;
+    let Ok(keys) = RandomState::new(rt) else {
+        return Err(CANNOT_OPEN);
+    };
+    open_files(rt.alloc(), files, Options::new(keys.hash_one(&0u8)))
+}
