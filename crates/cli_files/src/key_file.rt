@@ -1,5 +1,8 @@
 //! A key's file.
 
+ghost use Rattle.std.specs.Prelude.{List, ℕ, IfOk, map};
+ghost use Rattle.cli_files.specs.Clusters.{IsClusterKey};
+
 use crate::cluster::cluster_key_from;
 use crate::key_fault::KeyFault;
 use cli_io::open_regular;
@@ -16,7 +19,10 @@ pub fn read_cluster_key<F: Files>(
     path: &str,
     cluster: u32,
     members: &[&str],
-) -> Result<[u8; 32], KeyFault> {
+) -> Result<[u8; 32], KeyFault>
+    ensures made { IfOk result (λ k. (text : List ℕ) ×
+        IsClusterKey text cluster (map (λ t. t.now) members.now) k) }
+{
     let Ok(mut file) = open_regular(files, path) else {
         return Err(KeyFault::Unread);
     };
