@@ -121,5 +121,5 @@ made m n z b p q r =
 pub same_count : (ms ns : List KnownMember) → starts_text ms ≡ starts_text ns → length ms ≡ length ns
 same_count ms ns e =
     let lines : length (lines_of ms) ≡ length (lines_of ns) =
-        omega (arith, ap length e, length-append version (lines_of ms), length-append version (lines_of ns)) in
+    omega (arith, ap length e, length-append version (lines_of ms), length-append version (lines_of ns)) in
     omega (arith, lines, length-lines ms, length-lines ns)

@@ -5,11 +5,12 @@
 //! - [`NodeFile`]: a file of settings in TOML that was read, and what it says of each setting by its name.
 //!   [`FileFault`]: why a text is none, and in which line.
 //! - [`read_cluster_key`]: the key of a cluster that the secret in a file makes, which its owner alone may read;
-//!   [`cluster_key_from`]: the same over any reader; [`key_from`]: the secret; [`KeyFault`]. [`new_key`]: a new one, of
-//!   a source of random bytes; [`key_text`]: what a file has of it. [`key_laws`]: what is written is read.
+//!   [`cluster_key_in`]: the same of a [`SecretFile`]; [`cluster_key_from`]: over any reader and mode; [`key_from`]: the
+//!   secret; [`KeyFault`]. [`new_key`]: a new one, of a source of random bytes; [`key_text`]: what a file has of it.
+//!   [`key_laws`]: what is written is read.
 //! - [`raise_start`]: a member's next start, written into the file of starts first; [`raise_at`]: the same at any
-//!   [`StartsPlace`], exactly. [`starts_in`], [`starts_path`]; [`RaiseFault`]. [`next_start`]: the start that follows a start. [`read_starts`] and [`write_starts`]: what the
-//!   file has of each member, [`KnownMember`]; [`StartsFault`].
+//!   [`StartsPlace`], exactly. [`starts_in`], [`starts_path`]; [`RaiseFault`]. [`next_start`]: the start that follows a
+//!   start. [`read_starts`] and [`write_starts`]: what the file has of each member, [`KnownMember`]; [`StartsFault`].
 //! - `specs/Settings` defines the settings, `specs/KeyTexts` the text of a key, `specs/StartsTexts` that of starts,
 //!   `specs/Next` the next start, `specs/Raising` what raising one does.
 //!
@@ -72,7 +73,7 @@ mod starts_writing;
 
 pub use cluster::cluster_key_from;
 pub use key_fault::KeyFault;
-pub use key_file::read_cluster_key;
+pub use key_file::{SecretFile, cluster_key_in, read_cluster_key};
 pub use key_making::{key_text, new_key};
 pub use key_reading::key_from;
 pub use known::KnownMember;

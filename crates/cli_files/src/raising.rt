@@ -30,11 +30,7 @@ fn blank(alloc: Global, members: u8) -> Result<Vec<KnownMember>, AllocError>
 }
 
 /// What a text has of a cluster of that many members.
-fn known_in_text(
-    alloc: Global,
-    text: &[u8],
-    members: u8,
-) -> Result<Vec<KnownMember>, RaiseFault>
+fn known_in_text(alloc: Global, text: &[u8], members: u8) -> Result<Vec<KnownMember>, RaiseFault>
     ensures known { IfOk result (λ v. (length v.items ≡ members) × (text.now ≡ starts_text v.items)) }
     ensures damaged { result ≡ Err RaiseFault.Damaged → (known : List declared.KnownMember) → AreFit known →
         length known ≤ 15 → length known ≡ members → text.now ≡ starts_text known → ⊥ }
