@@ -6,10 +6,10 @@
 //!   [`FileFault`]: why a text is none, and in which line.
 //! - [`read_cluster_key`]: the key of a cluster that the secret in a file makes, which its owner alone may read;
 //!   [`cluster_key_in`]: the same of a [`SecretFile`]; [`cluster_key_from`]: over any reader and mode; [`key_from`]: the
-//!   secret; [`KeyFault`]. [`new_key`]: a new one, of a source of random bytes; [`key_text`]: what a file has of it.
+//!   secret; [`KeyFault`]. [`new_key`]: a new one, of a source of [`RandomBytes`]; [`key_text`]: what a file has of it.
 //!   [`key_laws`]: what is written is read.
 //! - [`raise_start`]: a member's next start, written into the file of starts first; [`raise_at`]: the same at any
-//!   [`StartsPlace`], exactly. [`starts_in`], [`starts_path`]; [`RaiseFault`]. [`next_start`]: the start that follows a
+//!   [`StartsPlace`], exactly. [`starts_in`], [`starts_at`], [`starts_path`]; [`RaiseFault`]. [`next_start`]: the start that follows a
 //!   start. [`read_starts`] and [`write_starts`]: what the file has of each member, [`KnownMember`]; [`StartsFault`].
 //! - `specs/Settings` defines the settings, `specs/KeyTexts` the text of a key, `specs/StartsTexts` that of starts,
 //!   `specs/Next` the next start, `specs/Raising` what raising one does.
@@ -47,7 +47,7 @@
 //! - **The tags' key is made of the list as it is written**, since a name may have different addresses on different
 //!   machines.
 //! - **A key's file that others may read is refused** (83), as ssh does it; standard error says which of the three
-//!   reasons it was. Nothing is promised of the random source of which `pfx key` makes one.
+//!   reasons it was. A key that `pfx key` makes is what the random source gave; of that nothing is promised.
 //! - **The file of starts is text**, a line for each member, so that it can be read; there is one spelling.
 #![tactic(auto)]
 
@@ -63,6 +63,7 @@ mod lines;
 mod next;
 mod raise;
 mod raising;
+mod random_bytes;
 mod settings;
 mod settings_fault;
 mod starts_fault;
@@ -79,7 +80,8 @@ pub use key_reading::key_from;
 pub use known::KnownMember;
 pub use next::next_start;
 pub use raise::RaiseFault;
-pub use raising::raise_at;
+pub use raising::{raise_at, starts_at};
+pub use random_bytes::RandomBytes;
 pub use settings::NodeFile;
 pub use settings_fault::FileFault;
 pub use starts_fault::StartsFault;

@@ -1,6 +1,6 @@
 //! The raising of a member's start in its file of starts.
 
-ghost use Rattle.std.specs.Prelude.{◌≡◌, ◌≢◌, ◌<◌, ◌≤◌, List, Err, None, IfOk, IfErr, false, length};
+ghost use Rattle.std.specs.Prelude.{◌≡◌, ◌≢◌, ◌<◌, ◌≤◌, List, ℕ, Err, Some, None, IfOk, IfErr, false, length};
 ghost use Rattle.std.specs.Prelude.{option_map, replicate};
 ghost use Rattle.cli_files.specs.StartsTexts.{starts_text, AreFit};
 ghost use Rattle.cli_files.specs.Raising.{unheard, AreKnown, Raises, IsSpent, ComesFirst, IsOfRead};
@@ -68,6 +68,22 @@ pub(crate) fn known_in(
             Err(RaiseFault::Missing)
         },
     }
+}
+
+/// What the file of starts at a place has of a cluster of that many members: `Missing` where there is none.
+pub fn starts_at<P: StartsPlace>(
+    alloc: Global,
+    place: &P,
+    members: u8,
+) -> Result<Vec<KnownMember>, RaiseFault>
+    ensures known { IfOk result (λ v. (text : List ℕ) × P.has place.now (Some text) × (length v.items ≡ members) ×
+        (text ≡ starts_text v.items)) }
+    ensures missing { result ≡ Err RaiseFault.Missing → P.has place.now None }
+    ensures all { IfOk result (λ v. length v.items ≡ members) }
+    ensures why { (result ≢ Err RaiseFault.Spent) × (result ≢ Err RaiseFault.Unwritten) }
+{
+    let text = place.read(alloc)?;
+    known_in(alloc, &text, members, false)
 }
 
 /// A start of the member `me` of a cluster of that many, at a time in seconds since 1970, with a random salt: it is the

@@ -1,11 +1,13 @@
 //! The file of starts beside a store.
 
-ghost use Rattle.std.specs.Prelude.{◌≡◌, ◌≢◌, ◌++◌, ◌<◌, Err, IfOk, codes, length, string_bytes};
+ghost use Rattle.std.specs.Prelude.{◌≡◌, ◌≢◌, ◌++◌, ◌<◌, ℕ, List, Err, IfOk, codes, length, string_bytes};
+ghost use Rattle.std.specs.Int.{w32, from_be_bytes};
 
 use crate::known::KnownMember;
 use crate::raise::RaiseFault;
-use crate::raising::{known_in, raise_at};
-use crate::starts_place::{StartsFile, StartsPlace};
+use crate::raising::{raise_at, starts_at};
+use crate::random_bytes::RandomBytes;
+use crate::starts_place::StartsFile;
 use px_packet::Start;
 use std::alloc::{AllocError, Global};
 use std::io;
@@ -22,7 +24,7 @@ pub fn starts_path(alloc: Global, store: &str) -> Result<String, AllocError>
     Ok(path)
 }
 
-/// What a file of starts has of a cluster of that many members: `Missing` where it isn't there.
+/// What a file of starts has of a cluster of that many members, by [`starts_at`] at the file at a path.
 pub fn starts_in<F: Files>(
     files: &F,
     alloc: Global,
@@ -32,14 +34,15 @@ pub fn starts_in<F: Files>(
     ensures all { IfOk result (λ known. length known.items ≡ members) }
     ensures why { (result ≢ Err RaiseFault.Spent) × (result ≢ Err RaiseFault.Unwritten) }
 {
-    let text = StartsFile { files, path }.read(alloc)?;
-    known_in(alloc, &text, members, false)
+    starts_at(alloc, &StartsFile { files, path }, members)
 }
 
-/// Four bytes of a random source.
-fn salt<R: RandomSource>(source: &R) -> io::Result<u32> {
+/// The number of the next four bytes of a random source.
+fn salt<R: RandomBytes>(source: &R) -> io::Result<u32>
+    ensures { IfOk result (λ n. (bytes : List ℕ) × R.gives source.now bytes × (n ≡ from_be_bytes w32 bytes)) }
+{
     let mut bytes = [0u8; 4];
-    source.fill_bytes(&mut bytes)?;
+    source.fill(&mut bytes)?;
     Ok(u32::from_be_bytes(bytes))
 }
 
