@@ -1,5 +1,5 @@
 -- A member's next start, and the file of starts that has it.
-use Rattle.std.specs.Prelude.{◌≡◌, ⊤, ℕ, Bool, true, List, [], Option, Some, None}
+use Rattle.std.specs.Prelude.{◌≡◌, ⊤, ℕ, Bool, true, List, Option, Some, None}
 use Rattle.std.specs.Prelude.{get_or, slice_set, replicate, length}
 use Rattle.px_packet.specs.declared.start.Start.{Start}
 use Rattle.cli_files.specs.Next.{next_start}

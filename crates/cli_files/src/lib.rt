@@ -5,12 +5,13 @@
 //! - [`NodeFile`]: a file of settings in TOML that was read, and what it says of each setting by its name.
 //!   [`FileFault`]: why a text is none, and in which line.
 //! - [`read_cluster_key`]: the key of a cluster that the secret in a file makes, which its owner alone may read;
-//!   [`cluster_key_in`]: the same of a [`SecretFile`]; [`cluster_key_from`]: over any reader and mode; [`key_from`]: the
-//!   secret; [`KeyFault`]. [`new_key`]: a new one, of a source of [`RandomBytes`]; [`key_text`]: what a file has of it.
-//!   [`key_laws`]: what is written is read.
+//!   [`cluster_key_in`]: the same of a [`SecretFile`]; [`cluster_key_from`]: over any reader and mode; [`key_from`]:
+//!   the secret; [`KeyFault`]. [`new_key`]: a new one, of a source of [`RandomBytes`]; [`key_text`]: what a file has of
+//!   it. [`key_laws`]: what is written is read.
 //! - [`raise_start`]: a member's next start, written into the file of starts first; [`raise_at`]: the same at any
-//!   [`StartsPlace`], exactly. [`starts_in`], [`starts_at`], [`starts_path`]; [`RaiseFault`]. [`next_start`]: the start that follows a
-//!   start. [`read_starts`] and [`write_starts`]: what the file has of each member, [`KnownMember`]; [`StartsFault`].
+//!   [`StartsPlace`], exactly. [`starts_in`], [`starts_at`], [`starts_path`]; [`RaiseFault`]. [`next_start`]: the start
+//!   that follows a start. [`read_starts`] and [`write_starts`]: what the file has of each member, [`KnownMember`];
+//!   [`StartsFault`].
 //! - `specs/Settings` defines the settings, `specs/KeyTexts` the text of a key, `specs/StartsTexts` that of starts,
 //!   `specs/Next` the next start, `specs/Raising` what raising one does.
 //!
@@ -40,10 +41,14 @@
 //! - **What clap asks for** (`--me`, `--cluster`, `--store`, a control socket for `--metrics`, a key for `--other-key`)
 //!   it asks for where no file is named. With a file these are asked of what both say: 92, without a line.
 //! - **90 before 92**, and both before the refusals of a node's words.
-//! - **A start's number is above the last one's**: the other members drop what is of a start below the one that they know. A number that is at least the time in seconds goes
-//! on above the old ones where a file was lost and made anew; one that only counts would begin at 1 again, and nobody
-//! would hear the member. The file is made before its store, so that a store without it is one whose file was lost.
-//! It is replaced, not written over: a stop leaves the old one or the new one.
+//! - **A start's number is above the last one's**: the other members drop what is of a start below the one that they
+//!   know. A number that is at least the time in seconds goes on above the old ones where a file was lost and made
+//!   anew; one that only counts would begin at 1 again, and nobody would hear the member. The file is made before its
+//!   store, so that a store without it is one whose file was lost. It is replaced, not written over: a stop leaves the
+//!   old one or the new one.
+//! - **What the system's files and random source give is behind traits** ([`StartsPlace`], [`SecretFile`],
+//!   [`RandomBytes`]), of which the clauses speak: the calls that decide something are generic, and only the few lines
+//!   of the system's impls are believed.
 //! - **The tags' key is made of the list as it is written**, since a name may have different addresses on different
 //!   machines.
 //! - **A key's file that others may read is refused** (83), as ssh does it; standard error says which of the three
