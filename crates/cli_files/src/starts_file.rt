@@ -1,13 +1,14 @@
 //! The file of starts beside a store.
 
-ghost use Rattle.std.specs.Prelude.{◌≡◌, ◌≢◌, ◌++◌, ◌<◌, ℕ, List, Err, IfOk, codes, length, string_bytes};
+ghost use Rattle.std.specs.Prelude.{◌≡◌, ◌≢◌, ◌++◌, ◌<◌, ⊤, ℕ, List, Err, IfOk, codes, length, string_bytes};
+ghost use Rattle.cli_files.specs.Raising.{Raises};
 ghost use Rattle.std.specs.Int.{w32, from_be_bytes};
 
 use crate::known::KnownMember;
 use crate::raise::RaiseFault;
 use crate::raising::{raise_at, starts_at};
 use crate::random_bytes::RandomBytes;
-use crate::starts_place::StartsFile;
+use crate::starts_place::{StartsFile, StartsPlace};
 use px_packet::Start;
 use std::alloc::{AllocError, Global};
 use std::io;
@@ -46,15 +47,50 @@ fn salt<R: RandomBytes>(source: &R) -> io::Result<u32>
     Ok(u32::from_be_bytes(bytes))
 }
 
-/// The time in seconds since 1970, 0 where the system doesn't tell it.
-fn seconds_now<C: Clock>(clock: &C) -> u64 {
-    match SystemTime::now(clock) {
-        Ok(now) => match now.duration_since(SystemTime::UNIX_EPOCH) {
-            Ok(since) => since.as_secs(),
+/// A clock that tells the time in seconds since 1970.
+trait Seconds {
+    // it may tell this time
+    ghost tells: { Self → ℕ → Type 0 };
+
+    /// The time, 0 where the system doesn't tell it.
+    fn seconds(&self) -> u64
+        ensures { tells self.now result };
+}
+
+impl<C: Clock> Seconds for C {
+    // no contract says what the system's clock tells
+    ghost tells = { λ _ _. ⊤ };
+
+    fn seconds(&self) -> u64 {
+        match SystemTime::now(self) {
+            Ok(now) => match now.duration_since(SystemTime::UNIX_EPOCH) {
+                Ok(since) => since.as_secs(),
+                Err(_) => 0,
+            },
             Err(_) => 0,
-        },
-        Err(_) => 0,
+        }
     }
+}
+
+/// A start that is raised at a place, with the time that a clock tells and a salt of a random source.
+fn raise_with<P: StartsPlace, C: Seconds, R: RandomBytes>(
+    alloc: Global,
+    place: &mut P,
+    clock: &C,
+    random: &R,
+    members: u8,
+    me: u8,
+    may_be_made: bool,
+) -> Result<Start, RaiseFault>
+    requires here { me < members }
+    ensures raised { IfOk result (λ start. (seconds : ℕ) × C.tells clock.now seconds × (bytes : List ℕ) ×
+        R.gives random.now bytes × Raises (P.has place.old) (P.has place.new) members me may_be_made seconds
+        (from_be_bytes w32 bytes) start) }
+    ensures started { IfOk result (λ start. 0 < start.number) }
+{
+    let seconds = clock.seconds();
+    let salt = salt(random)?;
+    raise_at(alloc, place, members, me, may_be_made, seconds, salt)
 }
 
 /// A start of the member `me` of a cluster of that many, by [`raise_at`] at the file at a path, with the time that the
@@ -71,7 +107,5 @@ pub fn raise_start<R: Files + Clock + RandomSource>(
     ensures started { IfOk result (λ start. 0 < start.number) }
 {
     let mut place = StartsFile { files: rt, path };
-    let seconds = seconds_now(rt);
-    let salt = salt(rt)?;
-    raise_at(alloc, &mut place, members, me, may_be_made, seconds, salt)
+    raise_with(alloc, &mut place, rt, rt, members, me, may_be_made)
 }
