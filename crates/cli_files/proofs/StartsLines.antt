@@ -116,3 +116,10 @@ pub made : (m : KnownMember) (n z b : ℕ) → n ≡ m.start.number → z ≡ m.
 made m n z b p q r =
     ap (λ x. member_of x z b) p ∙ ap (λ x. member_of m.start.number x b) q
     ∙ ap (λ x. member_of m.start.number m.start.salt x) r
+
+-- texts that are the same have equally many members
+pub same_count : (ms ns : List KnownMember) → starts_text ms ≡ starts_text ns → length ms ≡ length ns
+same_count ms ns e =
+    let lines : length (lines_of ms) ≡ length (lines_of ns) =
+    omega (arith, ap length e, length-append version (lines_of ms), length-append version (lines_of ns)) in
+    omega (arith, lines, length-lines ms, length-lines ns)

@@ -5,4 +5,5 @@ pub mod KeyTexts
 pub mod Clusters
 pub mod StartsTexts
 pub mod Next
+pub mod Raising
 pub mod StartsExamples

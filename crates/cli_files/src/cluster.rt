@@ -25,6 +25,8 @@ pub fn cluster_key_from<R: Read>(
 ) -> Result<[u8; 32], KeyFault>
     ensures key { IfOk result (λ k. IfSome (R.remaining reader.old) (λ text.
         IsClusterKey text cluster (map (λ t. t.now) members.now) k)) }
+    ensures made { IfOk result (λ k. (text : List ℕ) ×
+        IsClusterKey text cluster (map (λ t. t.now) members.now) k) }
     ensures private { (result ≡ Err KeyFault.Open) ↔ (IsPrivate mode → ⊥) }
     ensures none { result ≡ Err KeyFault.NoKey → IfSome (R.remaining reader.new) (λ rest.
         IfSome (R.remaining reader.old) (λ text. IsNoKey text)) }

@@ -1,28 +1,74 @@
 //! A key's file.
 
+ghost use Rattle.std.specs.Prelude.{◌≡◌, List, ℕ, ⊤, Err, IfOk, IfSome, map};
+ghost use Rattle.cli_files.specs.Clusters.{IsPrivate, IsClusterKey};
+
 use crate::cluster::cluster_key_from;
 use crate::key_fault::KeyFault;
 use cli_io::open_regular;
 use std::alloc::Global;
 use std::fs::OpenFile;
+use std::io::Read;
 use std::os::unix::fs::PermissionsExt;
 use std::rt::Files;
 
-/// The key of a cluster that the secret in a file makes, by [`cluster_key_from`]: `Unread` where the file isn't there,
-/// is no regular file or can't be read.
+/// An opened file with a secret.
+pub trait SecretFile: Read {
+    // this may be its mode
+    ghost has_mode: { Self → ℕ → Type 0 };
+
+    /// Its mode, none where the system doesn't tell it.
+    fn mode(&self) -> Option<u32>
+        ensures { IfSome result (has_mode self.now) };
+}
+
+impl<T: OpenFile + Read> SecretFile for T {
+    // no contract says what a file's mode is
+    ghost has_mode = { λ _ _. ⊤ };
+
+    fn mode(&self) -> Option<u32> {
+        match self.metadata() {
+            Ok(about) => Some(about.permissions().mode()),
+            Err(_) => None,
+        }
+    }
+}
+
+/// The key of a cluster that the secret in an opened file makes, by [`cluster_key_from`] with the file's own mode:
+/// `Unread` where that isn't told.
+pub fn cluster_key_in<F: SecretFile>(
+    alloc: Global,
+    file: &mut F,
+    cluster: u32,
+    members: &[&str],
+) -> Result<[u8; 32], KeyFault>
+    ensures key { IfOk result (λ k. IfSome (F.remaining file.old) (λ text.
+        IsClusterKey text cluster (map (λ t. t.now) members.now) k)) }
+    ensures made { IfOk result (λ k. (text : List ℕ) ×
+        IsClusterKey text cluster (map (λ t. t.now) members.now) k) }
+    ensures private { IfOk result (λ k. (mode : ℕ) × F.has_mode file.old mode × IsPrivate mode) }
+    ensures open { result ≡ Err KeyFault.Open → (mode : ℕ) × F.has_mode file.old mode × (IsPrivate mode → ⊥) }
+{
+    let Some(mode) = file.mode() else {
+        return Err(KeyFault::Unread);
+    };
+    cluster_key_from(alloc, file, mode, cluster, members)
+}
+
+/// The key of a cluster that the secret in a file makes, by [`cluster_key_in`]: `Unread` where the file isn't there, is
+/// no regular file or can't be read.
 pub fn read_cluster_key<F: Files>(
     files: &F,
     alloc: Global,
     path: &str,
     cluster: u32,
     members: &[&str],
-) -> Result<[u8; 32], KeyFault> {
+) -> Result<[u8; 32], KeyFault>
+    ensures made { IfOk result (λ k. (text : List ℕ) ×
+        IsClusterKey text cluster (map (λ t. t.now) members.now) k) }
+{
     let Ok(mut file) = open_regular(files, path) else {
         return Err(KeyFault::Unread);
     };
-    let Ok(about) = file.metadata() else {
-        return Err(KeyFault::Unread);
-    };
-    let mode = about.permissions().mode();
-    cluster_key_from(alloc, &mut file, mode, cluster, members)
+    cluster_key_in(alloc, &mut file, cluster, members)
 }

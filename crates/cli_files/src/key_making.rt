@@ -3,14 +3,16 @@
 ghost use Rattle.std.specs.Prelude.{◌≡◌, IfOk, string_bytes};
 ghost use Rattle.cli_files.specs.KeyTexts.{key_text};
 
+use crate::random_bytes::RandomBytes;
 use std::alloc::{AllocError, Global};
 use std::io;
-use std::random::RandomSource;
 
-/// A new key, of the source's next 32 bytes. Nothing is known of them but that they are the source's.
-pub fn new_key<R: RandomSource>(source: &R) -> io::Result<[u8; 32]> {
+/// A new key: the source's next 32 bytes.
+pub fn new_key<R: RandomBytes>(source: &R) -> io::Result<[u8; 32]>
+    ensures { IfOk result (R.gives source.now) }
+{
     let mut key = [0u8; 32];
-    source.fill_bytes(&mut key)?;
+    source.fill(&mut key)?;
     Ok(key)
 }
 

@@ -67,6 +67,7 @@ pub fn key_from<R: Read>(alloc: Global, reader: &mut R) -> Result<[u8; 32], KeyF
     ensures key { IfOk result (λ k. IfSome (R.remaining reader.old) (λ text. IsKey text k)) }
     ensures none { result ≡ Err KeyFault.NoKey → IfSome (R.remaining reader.new) (λ rest.
         IfSome (R.remaining reader.old) (λ text. IsNoKey text)) }
+    ensures spelled { IfOk result (λ k. (text : List ℕ) × IsKey text k) }
     ensures private { result ≢ Err KeyFault.Open }
 {
     let text = read_text(alloc, reader)?;

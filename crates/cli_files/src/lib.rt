@@ -5,13 +5,15 @@
 //! - [`NodeFile`]: a file of settings in TOML that was read, and what it says of each setting by its name.
 //!   [`FileFault`]: why a text is none, and in which line.
 //! - [`read_cluster_key`]: the key of a cluster that the secret in a file makes, which its owner alone may read;
-//!   [`cluster_key_from`]: the same over any reader; [`key_from`]: the secret; [`KeyFault`]. [`new_key`]: a new one, of
-//!   a source of random bytes; [`key_text`]: what a file has of it. [`key_laws`]: what is written is read.
-//! - [`raise_start`]: a member's next start, written into the file of starts first. [`starts_in`], [`starts_path`];
-//!   [`RaiseFault`]. [`next_start`]: the start that follows a start. [`read_starts`] and [`write_starts`]: what the
-//!   file has of each member, [`KnownMember`]; [`StartsFault`].
+//!   [`cluster_key_in`]: the same of a [`SecretFile`]; [`cluster_key_from`]: over any reader and mode; [`key_from`]:
+//!   the secret; [`KeyFault`]. [`new_key`]: a new one, of a source of [`RandomBytes`]; [`key_text`]: what a file has of
+//!   it. [`key_laws`]: what is written is read.
+//! - [`raise_start`]: a member's next start, written into the file of starts first; [`raise_at`]: the same at any
+//!   [`StartsPlace`], exactly. [`starts_in`], [`starts_at`], [`starts_path`]; [`RaiseFault`]. [`next_start`]: the start
+//!   that follows a start. [`read_starts`] and [`write_starts`]: what the file has of each member, [`KnownMember`];
+//!   [`StartsFault`].
 //! - `specs/Settings` defines the settings, `specs/KeyTexts` the text of a key, `specs/StartsTexts` that of starts,
-//!   `specs/Next` the next start.
+//!   `specs/Next` the next start, `specs/Raising` what raising one does.
 //!
 //! Within: `kinds` has the names of the settings with what each may be, `lines` the line of a key.
 //!
@@ -39,14 +41,18 @@
 //! - **What clap asks for** (`--me`, `--cluster`, `--store`, a control socket for `--metrics`, a key for `--other-key`)
 //!   it asks for where no file is named. With a file these are asked of what both say: 92, without a line.
 //! - **90 before 92**, and both before the refusals of a node's words.
-//! The others drop what is of a start below the one that they know. A number that is at least the time in seconds goes
-//! on above the old ones where a file was lost and made anew; one that only counts would begin at 1 again, and nobody
-//! would hear the member. The file is made before its store, so that a store without it is one whose file was lost.
-//! It is replaced, not written over: a stop leaves the old one or the new one.
+//! - **A start's number is above the last one's**: the other members drop what is of a start below the one that they
+//!   know. A number that is at least the time in seconds goes on above the old ones where a file was lost and made
+//!   anew; one that only counts would begin at 1 again, and nobody would hear the member. The file is made before its
+//!   store, so that a store without it is one whose file was lost. It is replaced, not written over: a stop leaves the
+//!   old one or the new one.
+//! - **What the system's files and random source give is behind traits** ([`StartsPlace`], [`SecretFile`],
+//!   [`RandomBytes`]), of which the clauses speak: the calls that decide something are generic, and only the few lines
+//!   of the system's impls are believed.
 //! - **The tags' key is made of the list as it is written**, since a name may have different addresses on different
 //!   machines.
 //! - **A key's file that others may read is refused** (83), as ssh does it; standard error says which of the three
-//!   reasons it was. Nothing is promised of the random source of which `pfx key` makes one.
+//!   reasons it was. A key that `pfx key` makes is what the random source gave; of that nothing is promised.
 //! - **The file of starts is text**, a line for each member, so that it can be read; there is one spelling.
 #![tactic(auto)]
 
@@ -61,24 +67,30 @@ mod known;
 mod lines;
 mod next;
 mod raise;
+mod raising;
+mod random_bytes;
 mod settings;
 mod settings_fault;
 mod starts_fault;
 mod starts_file;
+mod starts_place;
 mod starts_reading;
 mod starts_writing;
 
 pub use cluster::cluster_key_from;
 pub use key_fault::KeyFault;
-pub use key_file::read_cluster_key;
+pub use key_file::{SecretFile, cluster_key_in, read_cluster_key};
 pub use key_making::{key_text, new_key};
 pub use key_reading::key_from;
 pub use known::KnownMember;
 pub use next::next_start;
 pub use raise::RaiseFault;
+pub use raising::{raise_at, starts_at};
+pub use random_bytes::RandomBytes;
 pub use settings::NodeFile;
 pub use settings_fault::FileFault;
 pub use starts_fault::StartsFault;
 pub use starts_file::{raise_start, starts_in, starts_path};
+pub use starts_place::StartsPlace;
 pub use starts_reading::read_starts;
 pub use starts_writing::write_starts;

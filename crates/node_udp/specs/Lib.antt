@@ -3,3 +3,4 @@ pub mod Members
 pub mod Asking
 pub mod Sockets
 pub mod MemorySockets
+pub mod inner

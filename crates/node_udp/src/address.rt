@@ -7,6 +7,7 @@ ghost use Rattle.pf_rules.specs.Words.{number_of};
 ghost use Rattle.node_udp.specs.Addresses.{address_of, four_of, six_of, four_in, six_in, joined};
 ghost use Rattle.node_udp.specs.Addresses.{is_no_colon, is_no_bracket, shown_address};
 ghost use Rattle.node_udp.specs.Sockets.{IsSocketOf};
+ghost use Rattle.node_udp.specs.inner.Heard.{ip_at, address_at};
 
 use pf_addr::{Addr, parse_bytes};
 use pf_rules::parse_decimal;
@@ -131,7 +132,9 @@ pub fn parse_address(text: &str) -> Option<Address>
 }
 
 /// The address as the system has it.
-pub(crate) fn bits_of(ip: IpAddr) -> Addr {
+pub(crate) fn bits_of(ip: IpAddr) -> Addr
+    ensures { result ≡ ip_at ip }
+{
     match ip {
         IpAddr::V4(four) => Addr::V4(four.to_bits()),
         IpAddr::V6(six) => Addr::V6(six.to_bits()),
@@ -160,7 +163,9 @@ impl Address {
     }
 
     /// What a socket says of where a datagram came from.
-    pub(crate) fn of_socket(from: SocketAddr) -> Address {
+    pub(crate) fn of_socket(from: SocketAddr) -> Address
+        ensures { result ≡ address_at from }
+    {
         Address {
             ip: bits_of(from.ip()),
             port: from.port(),

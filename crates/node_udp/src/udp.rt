@@ -1,13 +1,15 @@
 //! Datagrams over a UDP socket.
 
 ghost use Rattle.std.specs.Prelude.{◌≡◌, ◌⊎◌, ◌<◌, ◌≤◌, ◌==◌, Some, None, Err, IfOk, IfSome, OnErr, IsTrue};
-ghost use Rattle.std.specs.Prelude.{[], ◌∷◌, map, length, option_map, take};
+ghost use Rattle.std.specs.Prelude.{[], ◌∷◌, ◌≢◌, map, length, option_map, take, true, false};
+ghost use Rattle.std.specs.List.{list_any};
 ghost use Rattle.px_transport.specs.Identities.{plain};
-ghost use Rattle.px_transport.specs.Wires.{Adds, IsQuiet, gives};
+ghost use Rattle.px_transport.specs.Wires.{Adds, IsQuiet, gives, one_more};
 ghost use Rattle.node_udp.specs.declared.udp.BindFault.TheVariants.{Memory};
 ghost use Rattle.node_udp.specs.Addresses.{AreFound};
 ghost use Rattle.node_udp.specs.Members.{socket_of, peers_of, me_of, strangers_of, Drops};
 ghost use Rattle.node_udp.specs.Sockets.{GoesTo, IsStill, Went, WentOver};
+ghost use Rattle.node_udp.specs.inner.Heard.{address_at};
 
 use crate::address::Address;
 use crate::host::find;
@@ -130,6 +132,13 @@ fn is_asking(datagram: &[u8]) -> bool {
     }
 }
 
+/// Whether an address is one of these.
+fn is_among(peers: &[Address], address: Address) -> bool
+    ensures { result ≡ list_any (λ a. ⟦<Address as PartialEq>⟧.eq a address) peers.now }
+{
+    peers.contains(&address)
+}
+
 impl<R: Net + Clock + Copy> UdpWire<UdpSocket, R> {
     /// A wire of a member, which listens at its address of these, or with 255 of an asker on any free port, of whom the
     /// first address takes every send. A wait is so many milliseconds long.
@@ -235,6 +244,7 @@ impl<S: Socket, C> UdpWire<S, C> {
 
     /// Counts a fault.
     fn count_failure(&mut self)
+        ensures counted { self.new.failures ≡ one_more self.old.failures }
         ensures still { IsStill (S.traffic (socket_of self.old)) (S.traffic (socket_of self.new)) self.old self.new }
         ensures failures { self.old.failures ≤ self.new.failures }
         ensures strangers { self.new.strangers ≡ self.old.strangers }
@@ -244,6 +254,10 @@ impl<S: Socket, C> UdpWire<S, C> {
 
     /// Counts what a receive or a wait met, unless nothing came in time.
     fn met(&mut self, kind: ErrorKind)
+        ensures counted { kind ≢ ErrorKind.WouldBlock → kind ≢ ErrorKind.TimedOut →
+            self.new.failures ≡ one_more self.old.failures }
+        ensures uncounted { (kind ≡ ErrorKind.WouldBlock) ⊎ (kind ≡ ErrorKind.TimedOut) →
+            self.new.failures ≡ self.old.failures }
         ensures still { IsStill (S.traffic (socket_of self.old)) (S.traffic (socket_of self.new)) self.old self.new }
         ensures failures { self.old.failures ≤ self.new.failures }
         ensures strangers { self.new.strangers ≡ self.old.strangers }
@@ -286,13 +300,23 @@ impl<S: Socket, C> UdpWire<S, C> {
     }
 
     /// Whether a datagram is heard: it comes from a member's address, or is of one who asks, where such are heard.
-    fn is_heard(&self, from: SocketAddr, datagram: &[u8]) -> bool {
-        self.peers.as_slice().contains(&Address::of_socket(from))
+    fn is_heard(&self, from: SocketAddr, datagram: &[u8]) -> bool
+        ensures member { list_any (λ a. ⟦<Address as PartialEq>⟧.eq a (address_at from)) (peers_of self.now) ≡ true →
+            result ≡ true }
+        ensures stranger { list_any (λ a. ⟦<Address as PartialEq>⟧.eq a (address_at from)) (peers_of self.now) ≡ false →
+            self.now.hears_asks ≡ false → result ≡ false }
+    {
+        is_among(self.peers.as_slice(), Address::of_socket(from))
             || (self.hears_asks && is_asking(datagram))
     }
 
     /// What is given of a datagram that came: all its bytes, or none of a stranger's, which is counted.
     fn admit(&mut self, from: SocketAddr, datagram: &[u8]) -> usize
+        ensures member { list_any (λ a. ⟦<Address as PartialEq>⟧.eq a (address_at from)) (peers_of self.old) ≡ true →
+            (result ≡ length datagram.now) × (strangers_of self.new ≡ strangers_of self.old) }
+        ensures stranger { list_any (λ a. ⟦<Address as PartialEq>⟧.eq a (address_at from)) (peers_of self.old) ≡ false →
+            self.old.hears_asks ≡ false →
+            (result ≡ 0) × (strangers_of self.new ≡ one_more (strangers_of self.old)) }
         ensures still { IsStill (S.traffic (socket_of self.old)) (S.traffic (socket_of self.new)) self.old self.new }
         ensures whole { (result ≡ length datagram.now) ⊎ (result ≡ 0) }
         ensures failures { self.new.failures ≡ self.old.failures }
