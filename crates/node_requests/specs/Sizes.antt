@@ -1,7 +1,8 @@
 -- How large a configuration is.
 use Rattle.std.specs.Prelude.{ℕ, ◌+◌, fold, min, length, List, Option, Some, None}
 use Rattle.pf_tables.specs.Tables.{TableValue}
-use Rattle.pf_config.specs.Map.{Configuration, Path, Name, paths_in, rules_at, table_at, table_names}
+use Rattle.pf_rules.specs.Names.{Name}
+use Rattle.pf_config.specs.Map.{Configuration, Path, rules_at, table_at, table_names}
 
 -- the sum of f over a list, or 2^64 - 1 where it is above that
 abbrev pub total : {X : Type 0} → (X → ℕ) → List X → ℕ

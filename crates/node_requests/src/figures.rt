@@ -1,6 +1,7 @@
 //! A node in numbers.
 
-ghost use Rattle.std.specs.Prelude.{◌≡◌, IfOk, ◌-◌, map, option_copied};
+ghost use Rattle.std.specs.Prelude.{◌≡◌, IfOk, ◌+◌, ◌-◌, length, map, min, option_copied};
+ghost use Rattle.pf_config.specs.Map.{rules_at, table_names};
 ghost use Rattle.px_model.specs.Step.{front, positions};
 ghost use Rattle.pf_node.specs.Nodes.{learned_by};
 ghost use Rattle.node_requests.specs.Requests.{AreFigures};
@@ -56,7 +57,7 @@ struct Counts {
 
 /// How many entries a table has, none where it isn't there.
 fn entries_of(table: Option<&Table>) -> usize
-    ensures { result ≡ entries_of (option_copied table) }
+    ensures { result ≡ entries_of (option_copied table.entry) }
 {
     match table {
         Some(table) => table.entry_count(),
@@ -75,6 +76,28 @@ fn entries_at(config: &Config, path: &[Name], names: &[&str]) -> usize
     entries
 }
 
+/// These counts and what a path has.
+fn with_path(config: &Config, path: &[Name], counts: Counts) -> Result<Counts, AllocError>
+    ensures anchors { IfOk result (λ n. n.anchors ≡ counts.anchors) }
+    ensures rules { IfOk result (λ n. n.rules ≡
+        min (counts.rules + length (rules_at config.now path.now)) 18446744073709551615) }
+    ensures tables { IfOk result (λ n. n.tables ≡
+        min (counts.tables + length (table_names config.now path.now)) 18446744073709551615) }
+    ensures addresses { IfOk result (λ n. n.addresses ≡
+        min (counts.addresses + entries_at config.now path.now (table_names config.now path.now))
+        18446744073709551615) }
+{
+    let names = config.table_names(path)?;
+    let rules = config.items(path).len();
+    let addresses = entries_at(config, path, &names);
+    Ok(Counts {
+        anchors: counts.anchors,
+        rules: counts.rules.saturating_add(rules),
+        tables: counts.tables.saturating_add(names.len()),
+        addresses: counts.addresses.saturating_add(addresses),
+    })
+}
+
 /// How much a configuration has.
 fn count_config(config: &Config) -> Result<Counts, AllocError>
     ensures { IfOk result (AreCounts config.now) }
@@ -87,12 +110,7 @@ fn count_config(config: &Config) -> Result<Counts, AllocError>
         addresses: 0,
     };
     for path in &paths {
-        let names = config.table_names(path)?;
-        counts.rules = counts.rules.saturating_add(config.items(path).len());
-        counts.tables = counts.tables.saturating_add(names.len());
-        counts.addresses = counts
-            .addresses
-            .saturating_add(entries_at(config, path, &names));
+        counts = with_path(config, path, counts)?;
     }
     Ok(counts)
 }
