@@ -1,5 +1,5 @@
 -- What requests ask of the node.
-use Rattle.std.proofs.Common.{◌≡◌, ◌⊎◌, ◌≤◌, ◌+◌, ℕ, zero, suc, true, false, Bool, Result, Ok, Err, refl, sym, ap, subst, inl, inr, arith}
+use Rattle.std.proofs.Common.{◌≡◌, ◌⊎◌, ◌≤◌, ◌+◌, ℕ, zero, suc, true, false, Bool, Result, Ok, Err, refl, sym, ap, subst, ◌∙◌, inl, inr, arith}
 use Rattle.std.specs.Prelude.{if◌then◌else◌}
 use Rattle.px_records.specs.declared.records.Records.{Ghosts}
 use Rattle.px_replica.specs.declared.state.Replica.{Replica}
@@ -16,7 +16,7 @@ use Rattle.node_requests.specs.declared.request.Request.{Request}
 use Rattle.node_requests.specs.declared.request.Request.TheVariants as request
 use Rattle.node_requests.specs.declared.counters.Counters.{Counters}
 use Rattle.node_control.specs.inner.Handling.{is_change}
-use Rattle.node_control.specs.inner.Runs.{AsksWithin}
+use Rattle.node_control.specs.inner.Runs.{AsksWithin, ServesFigures}
 use Rattle.node_control.specs.declared.service.HttpService.{HttpService}
 
 -- Nothing was asked of the node, or a command was, once; what is applied stays.
@@ -100,3 +100,12 @@ from_here c d e same left w = within_then c d e (turned c d same left) w
 -- from a round on
 pub up_to : {R : Type 0} {G : Ghosts R} (c d : HttpService R G) → AsksWithin c d → AsksUpTo c.changes_left c.handler.node d.handler.node
 up_to c d a = (a.asked, omega (arith, a.fits), a.times)
+
+-- ---- where figures alone are served
+
+pub figures_turned : {R : Type 0} {G : Ghosts R} (c d : HttpService R G) → d.handler ≡ c.handler → d.is_scraped ≡ c.is_scraped → ServesFigures c d
+figures_turned c d same scraped = record { still = λ h. same; scraped = scraped }
+
+pub figures_then : {R : Type 0} {G : Ghosts R} (c d e : HttpService R G) → ServesFigures c d → ServesFigures d e → ServesFigures c e
+figures_then c d e a b =
+    record { still = λ h. b.still (a.scraped ∙ h) ∙ a.still h; scraped = b.scraped ∙ a.scraped }

@@ -10,9 +10,9 @@ use Rattle.node_requests.specs.declared.handler.RequestHandler.{RequestHandler}
 use Rattle.node_requests.specs.declared.request.Request as asked
 use Rattle.node_control.specs.inner.Asking.{asked_for}
 use Rattle.node_control.specs.inner.Handling.{IsHandled, IsTurnedAway, HandledAs, HandledIf, PassedOnIf, is_asked, is_served}
-use Rattle.node_control.specs.inner.Runs.{AsksWithin}
+use Rattle.node_control.specs.inner.Runs.{AsksWithin, ServesFigures}
 use Rattle.node_control.specs.declared.service.HttpService.{HttpService}
-use Rattle.node_control.proofs.Asked.{turned, answered, within_then}
+use Rattle.node_control.proofs.Asked.{turned, answered, within_then, figures_turned, figures_then}
 
 away : {R : Type 0} {G : Ghosts R} (c d : HttpService R G) (a : AnswerValue) (r : Response) → IsTurnedAway c d a r → AsksWithin c d
 away c d a r t = turned c d t.still t.left
@@ -45,3 +45,12 @@ chained {R} {G} answers are c d [] e =
     turned c d (ap (λ (k : HttpService R G). k.handler) e) (ap (λ (k : HttpService R G). k.changes_left) e)
 chained answers are c d (k ∷ calls) (next, one, rest) =
     within_then c next d (handled c next k.0 k.1 (are c next k.0 k.1 one)) (chained answers are next d calls rest)
+
+-- the same where figures alone are served
+pub figures_chained : {R : Type 0} {G : Ghosts R} (answers : HttpService R G → Request (List ℕ) → Response → HttpService R G → Type 0) →
+    ((c d : HttpService R G) (q : Request (List ℕ)) (r : Response) → answers c q r d → ServesFigures c d) →
+    (c d : HttpService R G) (calls : List Call) → Chain answers c calls d → ServesFigures c d
+figures_chained {R} {G} answers are c d [] e =
+    figures_turned c d (ap (λ (k : HttpService R G). k.handler) e) (ap (λ (k : HttpService R G). k.is_scraped) e)
+figures_chained answers are c d (k ∷ calls) (next, one, rest) =
+    figures_then c next d (are c next k.0 k.1 one) (figures_chained answers are next d calls rest)

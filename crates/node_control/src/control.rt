@@ -1,9 +1,9 @@
 //! The control socket: a Unix socket, where figures alone are told a TCP port too, and the clients of both.
 
-ghost use Rattle.std.specs.Prelude.{◌≡◌};
+ghost use Rattle.std.specs.Prelude.{◌≡◌, true};
 ghost use Rattle.node_loop.specs.Hosting.{AsksUpTo};
 ghost use Rattle.node_control.specs.declared.control.TheConstants.{CHANGES};
-ghost use Rattle.node_control.specs.inner.Runs.{AsksWithin};
+ghost use Rattle.node_control.specs.inner.Runs.{AsksWithin, ServesFigures};
 
 use crate::client::{Client, Look};
 use crate::noting::say;
@@ -71,8 +71,6 @@ struct Entrance {
     most: usize,
     /// Which client is looked at next.
     next: usize,
-    /// Whether figures alone are told.
-    is_scraped: bool,
     alloc: Global,
     keys: RandomState,
 }
@@ -173,7 +171,6 @@ impl Entrance {
         keys: RandomState,
         listener: Listener,
         most: usize,
-        is_scraped: bool,
     ) -> Result<Entrance, AllocError> {
         let clients = Vec::with_capacity(alloc, most.saturating_add(1))?;
         Ok(Entrance {
@@ -181,7 +178,6 @@ impl Entrance {
             clients,
             most,
             next: 0,
-            is_scraped,
             alloc,
             keys,
         })
@@ -257,6 +253,7 @@ impl Entrance {
     fn leave<R: Records>(&mut self, place: usize, service: &mut HttpService<R>)
         ensures handler { service.new.handler ≡ service.old.handler }
         ensures left { service.new.changes_left ≡ service.old.changes_left }
+        ensures scraped { service.new.is_scraped ≡ service.old.is_scraped }
     {
         if place >= self.clients.len() {
             return;
@@ -270,7 +267,8 @@ impl Entrance {
     /// Does what can be done at once for a client: one read, one answer, one write. The client beyond the others is let
     /// go behind its first answer, so that it is there for whoever asks next.
     fn look_at<R: Records>(&mut self, place: usize, service: &mut HttpService<R>, now: u64) -> Look
-        ensures { AsksWithin service.old service.new }
+        ensures asks { AsksWithin service.old service.new }
+        ensures figures { ServesFigures service.old service.new }
     {
         let Some(client) = self.clients.get_mut(place) else {
             return Look::Quiet;
@@ -292,7 +290,8 @@ impl Entrance {
 
     /// Looks at the next client.
     fn look<R: Records>(&mut self, service: &mut HttpService<R>, now: u64) -> Look
-        ensures { AsksWithin service.old service.new }
+        ensures asks { AsksWithin service.old service.new }
+        ensures figures { ServesFigures service.old service.new }
     {
         if self.next >= self.clients.len() {
             self.next = 0;
@@ -308,11 +307,18 @@ impl Entrance {
     }
 
     /// Serves one client after the other, each once, beginning behind the last, until one asked something other than a
-    /// change. Whether anything was done.
-    fn serve<R: Records>(&mut self, poll: &Poll, service: &mut HttpService<R>, now: u64) -> bool
-        ensures { AsksWithin service.old service.new }
+    /// change. Where figures alone are served nothing is changed. Whether anything was done.
+    fn serve<R: Records>(
+        &mut self,
+        poll: &Poll,
+        service: &mut HttpService<R>,
+        is_scraped: bool,
+        now: u64,
+    ) -> bool
+        ensures asks { AsksWithin service.old service.new }
+        ensures figures { is_scraped ≡ true → service.new.handler ≡ service.old.handler }
     {
-        service.is_scraped = self.is_scraped;
+        service.is_scraped = is_scraped;
         let mut is_busy = self.take_in(poll, now);
         for _client in 0..self.clients.len() {
             let left = service.changes_left;
@@ -416,10 +422,11 @@ impl ControlSocket {
 
     /// Serves those who are told figures, if there is a port for them.
     fn serve_figures<R: Records>(&mut self, service: &mut HttpService<R>, now: u64) -> bool
-        ensures { AsksWithin service.old service.new }
+        ensures asks { AsksWithin service.old service.new }
+        ensures figures { service.new.handler ≡ service.old.handler }
     {
         match &mut self.figures {
-            Some(figures) => figures.serve(&self.poll, service, now),
+            Some(figures) => figures.serve(&self.poll, service, true, now),
             None => false,
         }
     }
@@ -431,14 +438,14 @@ impl ControlSocket {
         if self.serve_figures(service, now) {
             return true;
         }
-        self.operators.serve(&self.poll, service, now)
+        self.operators.serve(&self.poll, service, false, now)
     }
 
     /// Serves operators, and those who are told figures where nothing was done there.
     fn operators_first<R: Records>(&mut self, service: &mut HttpService<R>, now: u64) -> bool
         ensures { AsksWithin service.old service.new }
     {
-        if self.operators.serve(&self.poll, service, now) {
+        if self.operators.serve(&self.poll, service, false, now) {
             return true;
         }
         self.serve_figures(service, now)
@@ -486,7 +493,7 @@ fn open_path<RT: Files + Net>(
         let _gone = fs::remove_file(rt, path);
         return Err(ControlFault::NoSocket);
     }
-    match Entrance::new(alloc, keys, listener, CLIENTS, false) {
+    match Entrance::new(alloc, keys, listener, CLIENTS) {
         Ok(entrance) => Ok(entrance),
         Err(AllocError) => {
             let _gone = fs::remove_file(rt, path);
@@ -518,7 +525,7 @@ where
     if watch(poll, listener.raw_fd()).is_err() {
         return Err(ControlFault::NoPort);
     }
-    match Entrance::new(alloc, keys, listener, FIGURE_CLIENTS, true) {
+    match Entrance::new(alloc, keys, listener, FIGURE_CLIENTS) {
         Ok(entrance) => Ok(Some(entrance)),
         Err(AllocError) => Err(ControlFault::Memory),
     }

@@ -3,4 +3,4 @@ use Rattle.node_control.proofs.Asked.{within_then}
 use Rattle.node_control.proofs.control.ControlSocket.figures_first.Goals as goal
 
 pub returns : goal.returns
-returns g c = within_then _ _ _ c.serve_figures.ensures c.serve.ensures
+returns g c = within_then _ _ _ c.serve_figures.ensures.asks c.serve.ensures.asks

@@ -1,9 +1,16 @@
 -- what was asked at the client
-use Rattle.node_control.proofs.Asked.{turned, within_then}
+use Rattle.node_control.proofs.Asked.{turned, within_then, figures_turned, figures_then}
 use Rattle.node_control.proofs.control.Entrance.look.Goals as goal
 
-pub returns-then-eq : goal.returns-then-eq
-returns-then-eq g c = within_then _ _ _ c.look_at-look.ensures (turned _ _ c.leave.ensures.handler c.leave.ensures.left)
+pub returns-then-eq-clause-asks : goal.returns-then-eq-clause-asks
+returns-then-eq-clause-asks g c = within_then _ _ _ c.look_at-look.ensures.asks (turned _ _ c.leave.ensures.handler c.leave.ensures.left)
 
-pub returns-else-eq : goal.returns-else-eq
-returns-else-eq g c = c.look_at-look.ensures
+pub returns-then-eq-clause-figures : goal.returns-then-eq-clause-figures
+returns-then-eq-clause-figures g c =
+    figures_then _ _ _ c.look_at-look.ensures.figures (figures_turned _ _ c.leave.ensures.handler c.leave.ensures.scraped)
+
+pub returns-else-eq-clause-asks : goal.returns-else-eq-clause-asks
+returns-else-eq-clause-asks g c = c.look_at-look.ensures.asks
+
+pub returns-else-eq-clause-figures : goal.returns-else-eq-clause-figures
+returns-else-eq-clause-figures g c = c.look_at-look.ensures.figures

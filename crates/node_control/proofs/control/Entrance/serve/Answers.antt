@@ -1,9 +1,21 @@
 -- one client more
+use Rattle.std.proofs.Common.{◌∙◌}
 use Rattle.node_control.proofs.Asked.{within_then}
 use Rattle.node_control.proofs.control.Entrance.serve.Goals as goal
 
 pub loop-client-preserved : goal.loop-client-preserved
-loop-client-preserved g c = within_then _ _ _ c.loop-client.invariant c.look.ensures
+loop-client-preserved g c =
+    let before = c.loop-client.invariant in
+    record {
+      asks = within_then _ _ _ before.asks c.look.ensures.asks;
+      figures = λ scraped. c.look.ensures.figures.still (before.scraped ∙ scraped) ∙ before.figures scraped;
+      scraped = c.look.ensures.figures.scraped ∙ before.scraped;
+    }
 
-pub returns-then-service-left : goal.returns-then-service-left
-returns-then-service-left g c = within_then _ _ _ c.loop-client.invariant c.look.ensures
+pub returns-then-service-left-clause-asks : goal.returns-then-service-left-clause-asks
+returns-then-service-left-clause-asks g c = within_then _ _ _ c.loop-client.invariant.asks c.look.ensures.asks
+
+pub returns-then-service-left-clause-figures : goal.returns-then-service-left-clause-figures
+returns-then-service-left-clause-figures g c scraped =
+    let before = c.loop-client.invariant in
+    c.look.ensures.figures.still (before.scraped ∙ scraped) ∙ before.figures scraped

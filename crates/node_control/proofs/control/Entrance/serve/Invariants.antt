@@ -1,6 +1,11 @@
 -- requests were asked one after another
+use Rattle.std.proofs.Common.{◌≡◌, true}
 use Rattle.node_control.specs.inner.Runs.{AsksWithin}
 use Rattle.node_control.proofs.control.Entrance.serve.Given as goal
 
 abbrev pub invariant-loop-client : goal.invariant-loop-client
-invariant-loop-client g l = AsksWithin l.fn.service l.service
+invariant-loop-client g l = record {
+  asks : AsksWithin l.fn.service l.service;
+  figures : l.fn.is_scraped ≡ true → l.service.handler ≡ l.fn.service.handler;
+  scraped : l.service.is_scraped ≡ l.fn.is_scraped;
+}
