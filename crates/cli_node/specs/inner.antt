@@ -3,3 +3,4 @@ pub mod Places
 pub mod Outcomes
 pub mod Stores
 pub mod Running
+pub mod Asked

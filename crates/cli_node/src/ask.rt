@@ -6,6 +6,7 @@ ghost use Rattle.pf_entry.specs.Owned.{command_value};
 ghost use Rattle.pf_arguments.specs.Asked.{asked, given_in, Change};
 ghost use Rattle.cli_node.specs.declared.outcome.Outcome.TheVariants.{Memory, Refused, Unread};
 ghost use Rattle.cli_node.specs.inner.Places.{has_place, waits_of};
+ghost use Rattle.cli_node.specs.inner.Asked.{IsAsked};
 ghost use Rattle.cli_node.specs.declared.ask.TheConstants.{ASKER};
 
 use crate::outcome::{Outcome, answer_outcome, fault_outcome};
@@ -154,6 +155,7 @@ fn asked_over<W: Wire>(
 ) -> Outcome
     requires asker { m.now.me ≡ ASKER }
     requires member { words.node < m.now.members }
+    ensures { IsAsked W.traffic wire.old wire.new m.now words.entry.node words.entry.waits command.now result }
 {
     match ask_once(alloc, m, words.node, command, words.waits, wire) {
         Ok(answer) => answer_outcome(words.node, answer),

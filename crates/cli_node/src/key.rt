@@ -1,6 +1,8 @@
 //! The keys that the words of `node` name, and new ones.
 
 ghost use Rattle.std.specs.Prelude.{◌≡◌, ◌⊎◌, ◌==◌, ◌/◌, Ok, Err, Some, true, OnErr, IfOk, IfSome, option_map, is_some};
+ghost use Rattle.std.specs.Prelude.{ℕ, List, map};
+ghost use Rattle.cli_files.specs.Clusters.{IsClusterKey};
 ghost use Rattle.node_udp.specs.Addresses.{address_of};
 ghost use Rattle.cli_node.specs.declared.outcome.Outcome.TheVariants.{Memory, Refused};
 ghost use Rattle.cli_node.specs.inner.Places.{is_loopback, is_loopback_ip};
@@ -66,7 +68,9 @@ pub(crate) fn key_in(
     words: NodeWords<'_, '_, '_>,
     path: &str,
 ) -> Result<[u8; 32], Outcome>
-    ensures { OnErr result ((result ≡ Err Memory) ⊎ (result ≡ Err (Refused 83))) }
+    ensures refused { OnErr result ((result ≡ Err Memory) ⊎ (result ≡ Err (Refused 83))) }
+    ensures made { IfOk result (λ k. (text : List ℕ) ×
+        IsClusterKey text words.entry.cluster (map (λ t. t.now) words.entry.members.now) k) }
 {
     let read = read_cluster_key(rt, alloc, path, words.cluster, words.members);
     key_of(rt, path, read)
@@ -116,6 +120,8 @@ pub(crate) fn keys_for(
 ) -> Result<Option<Keys>, Outcome>
     ensures refused { OnErr result ((result ≡ Err Memory) ⊎ (result ≡ Err (Refused 83))) }
     ensures keyed { IfOk result (λ ks. is_some ks ≡ is_some words.entry.key) }
+    ensures made { IfOk result (λ ks. IfSome ks (λ k. (text : List ℕ) ×
+        IsClusterKey text words.entry.cluster (map (λ t. t.now) words.entry.members.now) k.key)) }
 {
     let Some(path) = words.key else {
         return Ok(None);

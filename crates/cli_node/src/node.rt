@@ -1,7 +1,7 @@
 //! The word `node`: a node over UDP.
 
 ghost use Rattle.std.specs.Prelude.{◌≡◌, ◌≢◌, ◌<◌, ◌≤◌, ◌⊎◌, ◌↔◌, Err, false, length, IfSome, OnErr, IsSome, IsTrue};
-ghost use Rattle.std.specs.Prelude.{ℕ, Bool, [], Some, None, IfOk, option_map, option_and_then, is_some};
+ghost use Rattle.std.specs.Prelude.{ℕ, Bool, [], Some, None, IfOk, option_map, option_and_then, is_some, not, ◌&&◌};
 ghost use Rattle.toml.specs.Data.{as_str, get_member};
 ghost use Rattle.px_transport.specs.Wiring.{keys_of, sealer_of};
 ghost use Rattle.node_loop.specs.Lives.{OnFront};
@@ -144,7 +144,9 @@ impl<'m, 'w, 'a> NodeWords<'m, 'w, 'a> {
     }
 
     /// Whether commands are heard by datagrams: where these carry no tag of a key, and there is no control socket.
-    fn hears_asks(self) -> bool {
+    fn hears_asks(self) -> bool
+        ensures { result ≡ (not (is_some self.entry.key) && not (is_some self.entry.control)) }
+    {
         self.key.is_none() && self.control.is_none()
     }
 
