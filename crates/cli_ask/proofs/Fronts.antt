@@ -1,4 +1,4 @@
--- A front of a text is no longer than the text.
+-- A front of a string is no longer than the string.
 use Rattle.std.proofs.Common.{◌≡◌, ◌==◌, ◌≤◌, ℕ, List, length, not, subst, sym}
 use Rattle.std.proofs.lemmas.List.Sums.{prefix_len-le-length}
 use Rattle.cli_ask.specs.Answers.{line_len, word_len}

@@ -138,7 +138,7 @@ text_cut args line text e =
     let p = plain args line e in
     cut_off line text (ap (list_all (λ b. not (b == 10))) (sym p.1) ∙ no_newlines args p.0)
 
--- ---- the words of other requests: none has this control character of ASCII
+-- ---- the arguments of other requests: none has this control character of ASCII
 
 not_this : (t c : ℕ) → is_control t ≡ true → is_control c ≡ false → not (c == t) ≡ true
 not_this t c k e =

@@ -4,7 +4,7 @@ use Rattle.std.specs.List.{prefix_len, starts_with}
 use Rattle.cli_ask.specs.declared.call.Kind.{Kind}
 use Rattle.cli_ask.specs.declared.call.Kind.TheVariants as kind
 
--- whether a text begins with this one
+-- whether a string begins with this one
 abbrev pub begins : (text front : List ℕ) → Bool
 begins text front = starts_with (λ a b. a == b) text front
 

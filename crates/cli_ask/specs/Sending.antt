@@ -1,4 +1,4 @@
--- The line of a change that is sent to a node, and the words of other requests.
+-- The line of a change that is sent to a node, and the arguments of other requests.
 use Rattle.std.specs.Prelude.{ℕ, ◌==◌, ◌&&◌, Bool, false, List, [], ◌∷◌, ◌++◌, Option, Some, None, not, nat_lt}
 use Rattle.std.specs.Prelude.{option_map}
 use Rattle.std.specs.Prelude.{if◌then◌else◌}
@@ -7,7 +7,7 @@ use Rattle.std.specs.List.{list_all, list_any}
 use Rattle.std.specs.Str.{chars}
 use Rattle.pf_scripts.specs.Lines.{spaced}
 
--- whether a text has a control character: U+0000 to U+001F, U+007F to U+009F
+-- whether a string has a control character: U+0000 to U+001F, U+007F to U+009F
 abbrev pub has_control : List ℕ → Bool
 has_control text = list_any is_control (chars text)
 

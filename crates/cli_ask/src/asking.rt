@@ -76,7 +76,7 @@ fn ask_once<RT: Net + Clock>(
     printable(alloc, reply)
 }
 
-/// What stands for an answer that didn't come to what was taken in.
+/// What replaces an answer to an accepted request that never came.
 fn waiting(alloc: Global) -> Result<Reply, AllocError> {
     Ok(Reply {
         code: 503,
@@ -209,7 +209,7 @@ fn code_of(reply: &Reply) -> u16 {
     }
 }
 
-/// The line that a command was taken in, and behind it what came of it.
+/// The line that a command was accepted, and behind it what came of it.
 fn joined(taken: Reply, reply: Reply) -> Result<Reply, AllocError> {
     let mut body = taken.body;
     body.extend_from_slice(behind(reply.body.as_slice(), APPLIED))?;
@@ -253,8 +253,8 @@ fn synced(alloc: Global, reply: Reply) -> Result<Reply, AllocError> {
 }
 
 /// Asks, and waits for the given number of seconds in all: for a node that isn't so far yet, and for what comes of a
-/// command that was taken in, whose position is asked for again where no answer comes; it is `waiting` where none came
-/// in time. No command is asked twice that may have been taken in. With 0 seconds it is asked once, and the answer is
+/// command that was accepted, whose position is asked for again where no answer comes; it is `waiting` where none came
+/// in time. No command is asked twice that may have been accepted. With 0 seconds it is asked once, and the answer is
 /// waited for 10 seconds at most. Verdicts of many packets are asked for in as many requests as the node wants; they are
 /// of one position, or there is no answer.
 pub(crate) fn ask_at<RT: Net + Clock>(

@@ -31,7 +31,7 @@ fn refused_text(
     }
 }
 
-/// What a command is refused for whatever is at the node: a text that the grammar refuses.
+/// What a command is refused for whatever is at the node: a ruleset that the grammar refuses.
 pub(crate) fn refused_command(
     alloc: Global,
     command: &Command,
@@ -54,7 +54,7 @@ pub(crate) fn refused_command(
 }
 
 /// What pfctl's arguments are refused for before a node is asked, as `ctl` refuses them: 40, 24, 1 to 3, 41, and of the
-/// text that they load 10 to 19, with its line. What reads a text and doesn't load it is 40.
+/// text that they load 10 to 19, with its line. What reads a ruleset and doesn't load it is 40.
 pub(crate) fn refused_args(
     alloc: Global,
     matches: &ArgMatches<'_>,

@@ -2,7 +2,7 @@
 //!
 //! # Organization
 //!
-//! - [`run_control_ask`]: the word `ask` with `--control`, over any reader and writer.
+//! - [`run_control_ask`]: the subcommand `ask` with `--control`, over any reader and writer.
 //! - [`read_at`], [`pause`]: one read at a control socket with its [`Reply`], and the time between two.
 //! - [`change_line`]: the line of a change that is sent, and [`laws`]: it is read as the arguments that it was made of.
 //!

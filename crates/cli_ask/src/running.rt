@@ -157,7 +157,7 @@ fn run_script<R: Read, W: Write>(
 
 /// What the subcommand `ask` with `--control` asks for, the program's name first: a request at a node's control socket,
 /// whose answer is written; with `--script` each change of a script, one after the other. Arguments of a change that
-/// are refused wherever they are asked (40, 24, 1 to 3, 41), and a text that the grammar refuses, are refused before
+/// are refused wherever they are asked (40, 24, 1 to 3, 41), and a ruleset that the grammar refuses, are refused before
 /// the node is asked, unless `--unchecked` is among them. An argument with a control character is refused (40) in any
 /// case. 85 where nobody answers at the socket, 86 where the answer is cut short or none.
 ///

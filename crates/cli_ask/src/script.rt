@@ -98,7 +98,7 @@ pub(crate) fn next_change<'a>(
 
 impl Change<'_> {
     /// What it is refused for wherever it is asked, with the line of the script: 40, 24, 1 to 3, 41, and what the
-    /// grammar refuses of a text.
+    /// grammar refuses of a ruleset.
     pub(crate) fn fault(&self, alloc: Global) -> Result<Option<Refused>, AllocError> {
         match read_change(alloc, self.words.as_slice(), self.text.as_slice()) {
             Ok(command) => match refused_command(alloc, &command) {

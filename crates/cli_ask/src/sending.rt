@@ -1,4 +1,4 @@
-//! The line of a change, and the words of other requests.
+//! The line of a change, and the arguments of other requests.
 
 ghost use Rattle.std.specs.Prelude.{◌≡◌, IfOk, false, map, option_map, string_bytes};
 ghost use Rattle.std.specs.List.{list_all, list_any};
@@ -7,14 +7,14 @@ ghost use Rattle.cli_ask.specs.Sending.{has_control, is_graphic, is_plain, chang
 use pf_scripts::spaced;
 use std::alloc::{AllocError, Global};
 
-/// Whether a text has a control character: U+0000 to U+001F, U+007F to U+009F.
+/// Whether a string has a control character: U+0000 to U+001F, U+007F to U+009F.
 pub(crate) fn has_control(text: &str) -> bool
     ensures { result ≡ has_control text.now }
 {
     text.chars().any(|c| c.is_control())
 }
 
-/// Whether one of the texts has one.
+/// Whether one of the strings has one.
 pub(crate) fn have_control(texts: &[&str]) -> bool
     ensures { result ≡ list_any has_control (map (λ t. t.now) texts.now) }
 {

@@ -85,7 +85,7 @@ birth_of m b fits e =
 abbrev pub behind : List ℕ → List ℕ
 behind text = take (length text - 13) (drop 13 text)
 
--- how many lines a text has
+-- how many lines a string has
 pub count_is : (ms : List KnownMember) (text : List ℕ) → text ≡ starts_text ms → length (behind text) / 33 ≡ length ms
 count_is ms text e =
     let n : length text ≡ length (starts_text ms) = ap length e in
@@ -93,7 +93,7 @@ count_is ms text e =
     omega (arith, n, length-append version (lines_of ms), length-lines ms, length-take (length text - 13) (drop 13 text), length-drop 13 text) in
     omega (arith, m)
 
--- the digits of a line of a text, as the reader cuts them
+-- the digits of a line of a ruleset, as the reader cuts them
 pub digits_of : (ms : List KnownMember) (text : List ℕ) (i : ℕ) (d : KnownMember) → text ≡ starts_text ms → i < length ms →
     take ((33 * i + 32) - 33 * i) (drop (33 * i) (behind text)) ≡ encode_lower (known_bytes (get_or ms i d))
 digits_of ms text i d e h =
@@ -117,7 +117,7 @@ made m n z b p q r =
     ap (λ x. member_of x z b) p ∙ ap (λ x. member_of m.start.number x b) q
     ∙ ap (λ x. member_of m.start.number m.start.salt x) r
 
--- texts that are the same have equally many members
+-- strings that are the same have equally many members
 pub same_count : (ms ns : List KnownMember) → starts_text ms ≡ starts_text ns → length ms ≡ length ns
 same_count ms ns e =
     let lines : length (lines_of ms) ≡ length (lines_of ns) =

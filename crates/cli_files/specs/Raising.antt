@@ -27,7 +27,7 @@ abbrev pub with_start : List KnownMember → (me : ℕ) → Start → List Known
 with_start known me start =
     slice_set known me (record { start = start; birth = (get_or known me unheard).birth })
 
--- of a place that may have had one of these texts, or none, and may have one of those now: the start is the one after
+-- of a place that may have had one of these strings, or none, and may have one of those now: the start is the one after
 -- the member's in the text that it had, and in the text that it has it is the member's, with what else there was
 -- Source: crates/cli_files/src/lib.rt, The file of starts.
 pub record Raises (had has : Option (List ℕ) → Type 0) (members me : ℕ) (may_be_made : Bool) (seconds salt : ℕ)

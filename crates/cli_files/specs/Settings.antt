@@ -45,13 +45,13 @@ at_most most (Some n) = nat_le n most
 abbrev pub is_number : Data → ℕ → Bool
 is_number value most = at_most most (number_of value)
 
--- each item is a text
+-- each item is a string
 abbrev pub are_texts : Items → Bool
 are_texts no_items = true
 are_texts (item (string text) values) = are_texts values
 are_texts (item _ values) = false
 
--- there is a list, and each of its items is a text
+-- there is a list, and each of its items is a string
 -- Source: TOML 1.1, Array.
 abbrev pub are_texts_of : Option Items → Bool
 are_texts_of None = false
@@ -90,18 +90,18 @@ abbrev pub flag_at : Option Data → Bool
 flag_at None = false
 flag_at (Some value) = is_true (as_bool value)
 
--- the texts among some items
+-- the strings among some items
 abbrev pub texts_of : Items → List (List ℕ)
 texts_of no_items = []
 texts_of (item (string text) values) = text ∷ texts_of values
 texts_of (item _ values) = texts_of values
 
--- the texts of a list, none where there is no list
+-- the strings of a list, none where there is no list
 abbrev pub texts_if : Option Items → List (List ℕ)
 texts_if None = []
 texts_if (Some values) = texts_of values
 
--- the texts of a value that is a list, none where it isn't one or isn't there
+-- the strings of a value that is a list, none where it isn't one or isn't there
 abbrev pub texts_at : Option Data → List (List ℕ)
 texts_at value = texts_if (option_and_then as_array value)
 
@@ -126,7 +126,7 @@ abbrev pub is_unknown : Option Kind → Bool
 is_unknown None = true
 is_unknown (Some kind) = false
 
--- why a text is refused; nothing is said of out of memory
+-- why a string is refused; nothing is said of out of memory
 abbrev pub IsRefused : FileFault → List ℕ → Type 0
 IsRefused fault.Memory text = Unit {0}
 IsRefused (fault.Syntax line) text = IsUtf8 text → parse_document text ≡ None

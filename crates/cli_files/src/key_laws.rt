@@ -1,4 +1,4 @@
-//! What is true of keys' texts.
+//! What is true of keys' strings.
 
 ghost use Rattle.cli_files.specs.KeyTexts.{WrittenIsRead};
 

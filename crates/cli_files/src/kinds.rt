@@ -10,13 +10,13 @@ use toml::Value;
 /// What a value may be.
 #[derive(Clone, Copy)]
 pub(crate) enum Kind {
-    /// A text.
+    /// A string.
     Text,
     /// A whole number from 0 to this one.
     Number(u32),
     /// A `true` or `false`.
     Flag,
-    /// A list of texts.
+    /// A list of strings.
     Texts,
 }
 
@@ -59,7 +59,7 @@ fn is_number(value: &Value, most: u32) -> bool
     }
 }
 
-/// Whether all values are texts.
+/// Whether all values are strings.
 fn are_texts(values: &[Value]) -> bool
     ensures { result ≡ are_texts (items_view values.now) }
 {
@@ -71,7 +71,7 @@ fn are_texts(values: &[Value]) -> bool
     true
 }
 
-/// Whether a value is a list of texts.
+/// Whether a value is a list of strings.
 fn is_list(value: &Value) -> bool
     ensures { result ≡ fits Texts (view value.now) }
 {

@@ -3,7 +3,7 @@
 //! # Organization
 //!
 //! - [`NodeFile`]: a file of settings in TOML that was read, and what it says of each setting by its name.
-//!   [`FileFault`]: why a text is none, and in which line.
+//!   [`FileFault`]: why a string is none, and in which line.
 //! - [`read_cluster_key`]: the key of a cluster that the secret in a file makes, which its owner alone may read;
 //!   [`cluster_key_in`]: the same of a [`SecretFile`]; [`cluster_key_from`]: over any reader and mode; [`key_from`]:
 //!   the secret; [`KeyFault`]. [`new_key`]: a new one, of a source of [`RandomBytes`]; [`key_text`]: what a file has of
@@ -33,7 +33,7 @@
 //!   `turns` is none, since a node that ends by itself is nothing that a machine is set up with; `config` and
 //!   `help` are none.
 //! - **An unknown key is refused**, as nothing else would tell a misspelt one. Of several wrong keys the first by
-//!   its bytes is told, since that is the table's order.
+//!   its bytes is reported, since that is the table's order.
 //! - **The line** of what isn't TOML is the port's. The port's table doesn't keep where a key stands, so the line
 //!   of a wrong key is the first that begins with it; a key that is written with escapes has none. No clause says
 //!   which line it is.

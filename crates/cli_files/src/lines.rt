@@ -1,4 +1,4 @@
-//! Lines of a text.
+//! Lines of a string.
 
 ghost use Rattle.std.specs.Prelude.{◌≡◌};
 ghost use Rattle.cli_files.specs.inner.Settings.{line_behind};

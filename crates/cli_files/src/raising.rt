@@ -29,7 +29,7 @@ fn blank(alloc: Global, members: u8) -> Result<Vec<KnownMember>, AllocError>
     Ok(known)
 }
 
-/// What a text has of a cluster of that many members.
+/// What a string has of a cluster of that many members.
 fn known_in_text(alloc: Global, text: &[u8], members: u8) -> Result<Vec<KnownMember>, RaiseFault>
     ensures known { IfOk result (λ v. (length v.items ≡ members) × (text.now ≡ starts_text v.items)) }
     ensures damaged { result ≡ Err RaiseFault.Damaged → (known : List declared.KnownMember) → AreFit known →
@@ -87,7 +87,7 @@ pub fn starts_at<P: StartsPlace>(
 }
 
 /// A start of the member `me` of a cluster of that many, at a time in seconds since 1970, with a random salt: it is the
-/// one that follows the member's in the text at the place, and stands in that text before this returns, with what else
+/// one that follows the member's in the text at the place, and is in that text before this returns, with what else
 /// the text has. A file is made where there is none and one `may_be_made`, and is `Missing` else. After a fault what is
 /// there is as it was, but for `Unwritten` and `Memory`: then it is that or the new one.
 pub fn raise_at<P: StartsPlace>(

@@ -33,7 +33,7 @@ fn first_wrong(table: &Table) -> Option<&str>
     None
 }
 
-/// What a text that isn't TOML is refused for.
+/// What a string that isn't TOML is refused for.
 fn syntax_fault(text: &[u8], error: Error) -> FileFault
     requires { ¬ IsMemory error → IsUtf8 text.now → parse_document text.now ≡ None }
     ensures { IsRefused result text.now }
@@ -78,8 +78,8 @@ impl NodeFile {
         }
     }
 
-    /// The settings that a text has, which is TOML in UTF-8. `Syntax` where it isn't, `Unknown` of a key that names no
-    /// setting, `Value` of one whose value the setting doesn't take; of these the first key by its bytes.
+    /// The settings that a string has, which is TOML in UTF-8. `Syntax` where it isn't, `Unknown` of a key that names
+    /// no setting, `Value` of one whose value the setting doesn't take; of these the first key by its bytes.
     pub fn read(alloc: Global, text: &[u8]) -> Result<NodeFile, FileFault>
         ensures settings { IfOk result (λ f. parse_document text.now ≡ Some (settings_of f)) }
         ensures all { IfOk result (λ f. first_wrong (settings_of f) ≡ None) }
@@ -128,7 +128,7 @@ impl NodeFile {
         }
     }
 
-    /// The texts of a setting's list; none where the file doesn't have it.
+    /// The strings of a setting's list; none where the file doesn't have it.
     pub fn texts(&self, alloc: Global, name: &str) -> Result<Vec<&str>, AllocError>
         ensures { IfOk result (λ v. map (λ s. s.now) v.items ≡ texts_at (get_member name.now (settings_of self.now))) }
     {
@@ -156,7 +156,7 @@ fn flag_of(value: &Value) -> bool
     }
 }
 
-/// The texts among values.
+/// The strings among values.
 fn texts_in(alloc: Global, values: &[Value]) -> Result<Vec<&str>, AllocError>
     ensures { IfOk result (λ v. map (λ s. s.now) v.items ≡ texts_of (items_view values.now)) }
 {
@@ -169,7 +169,7 @@ fn texts_in(alloc: Global, values: &[Value]) -> Result<Vec<&str>, AllocError>
     Ok(texts)
 }
 
-/// The texts of a value that is a list.
+/// The strings of a value that is a list.
 fn texts_of(alloc: Global, value: &Value) -> Result<Vec<&str>, AllocError>
     ensures { IfOk result (λ v. map (λ s. s.now) v.items ≡ texts_at (Some (view value.now))) }
 {

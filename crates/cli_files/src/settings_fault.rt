@@ -1,11 +1,11 @@
-//! Why a text is no file of settings.
+//! Why a string is no file of settings.
 
 ghost use Rattle.std.specs.Prelude.{◌≡◌};
 ghost use Rattle.cli_files.specs.Settings.{line_of_fault};
 
 use thiserror::Error;
 
-/// Why a text is no file of settings, and in which line, from 1. A key that is written with escapes has no line.
+/// Why a string is no file of settings, and in which line, from 1. A key that is written with escapes has no line.
 #[derive(Clone, Copy, Debug, PartialEq, Eq, Error)]
 pub enum FileFault {
     /// A growth was refused.

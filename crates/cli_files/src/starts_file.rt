@@ -47,7 +47,7 @@ fn salt<R: RandomBytes>(source: &R) -> io::Result<u32>
     Ok(u32::from_be_bytes(bytes))
 }
 
-/// A clock that tells the time in seconds since 1970.
+/// A clock that reports the time in seconds since 1970.
 trait Seconds {
     // it may tell this time
     ghost tells: { Self → ℕ → Type 0 };
@@ -58,7 +58,7 @@ trait Seconds {
 }
 
 impl<C: Clock> Seconds for C {
-    // no contract says what the system's clock tells
+    // no contract says what the system's clock reports
     ghost tells = { λ _ _. ⊤ };
 
     fn seconds(&self) -> u64 {
@@ -72,7 +72,7 @@ impl<C: Clock> Seconds for C {
     }
 }
 
-/// A start that is raised at a place, with the time that a clock tells and a salt of a random source.
+/// A start that is raised at a place, with the time that a clock reports and a salt of a random source.
 fn raise_with<P: StartsPlace, C: Seconds, R: RandomBytes>(
     alloc: Global,
     place: &mut P,
@@ -94,7 +94,7 @@ fn raise_with<P: StartsPlace, C: Seconds, R: RandomBytes>(
 }
 
 /// A start of the member `me` of a cluster of that many, by [`raise_at`] at the file at a path, with the time that the
-/// clock tells and a salt of the random source.
+/// clock reports and a salt of the random source.
 pub fn raise_start<R: Files + Clock + RandomSource>(
     rt: &R,
     alloc: Global,

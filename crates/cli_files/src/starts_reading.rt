@@ -41,7 +41,7 @@ fn member_in(digits: &[u8]) -> Option<KnownMember>
     })
 }
 
-/// The members of a file of starts. A text is read where it is the text of some members, 15 at most, and as those.
+/// The members of a file of starts. A string is read where it is the text of some members, 15 at most, and as those.
 pub fn read_starts(alloc: Global, text: &[u8]) -> Result<Vec<KnownMember>, StartsFault>
     ensures read { IfOk result (λ members. text.now ≡ starts_text members.items) }
     ensures few { IfOk result (λ members. length members.items ≤ 15) }

@@ -21,7 +21,7 @@ use Rattle.node_requests.specs.EntryLines.{digits_line, entry_line, entries_befo
 use Rattle.cli_follow.specs.Following.{after_decoded, after_line, after_lines, AreBytes, Follows}
 use Rattle.cli_follow.proofs.Texts.{line_of, IsWhole, whole_nothing, lines_more, whole_more}
 
--- a text is whole lines, and leads from a configuration at a place of a log to the one at p
+-- a string is whole lines, and leads from a configuration at a place of a log to the one at p
 record Stands (log : Log Bytes) (first : ℕ) (c : Configuration) (text : List ℕ) (p : ℕ) : Type 0 where
   whole : IsWhole text
   place : first + length (lines text) ≡ p
@@ -94,7 +94,7 @@ lines_to log first end c h known a = elim (cases_lt end first) [
       })
 ]
 
--- what was taken of a text that a control socket answered
+-- what was taken of a string that a control socket answered
 pub followed : (old new : Configuration) (from to : ℕ) (text : List ℕ) → to ≡ from + length (lines text) →
     new ≡ after_lines old text → Follows old new from to text
 followed old new from to text place is log applied count h known a same =

@@ -40,7 +40,7 @@ lines_encoded (x ∷ b) rest h =
     (encode_lower b) (lines rest) (no_newline (x / 16) (omega arith)) (no_newline (x % 16) (omega arith))
     (lines_encoded b rest (λ k. h (suc k)))
 
--- what follows a text is cut into lines as if it stood alone
+-- what follows a string is cut into lines as if it stood alone
 abbrev pub IsWhole : List ℕ → Type 0
 IsWhole text = (rest : List ℕ) → lines (text ++ rest) ≡ lines text ++ lines rest
 

@@ -25,7 +25,7 @@ after_decoded c (Err e) = c
 abbrev pub after_line : Configuration → ScriptLine → Configuration
 after_line c l = after_decoded c (decode_of l.content)
 
--- after those of all lines of a text
+-- after those of all lines of a string
 abbrev pub after_lines : Configuration → List ℕ → Configuration
 after_lines c text = fold after_line c (lines text)
 
@@ -88,8 +88,8 @@ StopsIn old new from to (l ∷ ls) =
 abbrev pub AreBytes : Log Bytes → Type 0
 AreBytes log = (p : ℕ) (e : Entry Bytes) → log p ≡ Some e → IsBytes (spelled e)
 
--- Where a configuration is that of a log's first entries, and a text is what a control socket answers of this log from
--- there on, it is afterwards that of the log's first entries up to where it stands then.
+-- Where a configuration is that of a log's first entries, and a string is what a control socket answers of this log
+-- from there on, it is afterwards that of the log's first entries up to where it stands then.
 -- Example: at 3, with two lines: after five entries.
 abbrev pub Follows : (old new : Configuration) → (from to : ℕ) → (text : List ℕ) → Type 0
 Follows old new from to text = (log : Log Bytes) (applied count : ℕ) → AreBytes log → applied ≤ front log →

@@ -10,17 +10,17 @@ use Rattle.nft_rules.specs.declared.guard.Member.{Member}
 use Rattle.cli_nft.specs.Words.{member_at, members_in}
 use Rattle.cli_nft.specs.declared.members.TheConstants.{MEMBERS_MAX}
 
--- texts, if there are some
+-- strings, if there are some
 abbrev pub some_texts : List (List ℕ) → Option (List (List ℕ))
 some_texts [] = None
 some_texts (text ∷ texts) = Some (text ∷ texts)
 
--- the texts behind the word `members`, if these are the words of a line that begins with it
+-- the strings behind `members`, if these are the arguments of a line that begins with it
 abbrev pub texts_on : List (List ℕ) → Option (List (List ℕ))
 texts_on [] = None
 texts_on (first ∷ texts) = if bytes_eq first (codes "members") then some_texts texts else None
 
--- the members at these addresses; where there are no such texts, those of further lines
+-- the members at these addresses; where there are no such strings, those of further lines
 abbrev pub members_or : Option (List (List ℕ)) → Option (List Member) → Option (List Member)
 members_or None further = further
 members_or (Some texts) further = members_in texts

@@ -115,7 +115,7 @@ written_to (Some file) f =
 abbrev pub written_if : Wanted → Bool → Follower → Reached
 written_if w wanted f = if wanted then written_to w.file f else silent f
 
--- the first ask of so many: of 20
+-- the first ask of a series: of 20
 abbrev pub is_again : (asks : ℕ) → Bool
 is_again asks = asks % AGAIN == 0
 

@@ -32,7 +32,7 @@ abbrev pub end_of : (position : ℕ) → Option Loaded → List ℕ
 end_of position None = []
 end_of position (Some l) = if l.position == position then [] else end_line (string_bytes l.text)
 
--- a text that is no refusal
+-- a string that is no refusal
 abbrev pub shown : List ℕ → Written
 shown text = record { text = text; refused = false }
 

@@ -1,4 +1,4 @@
-//! Texts for pfctl(8) in files, one for each path.
+//! rulesets for pfctl(8) in files, one for each path.
 
 use crate::followed_configuration::FollowedConfiguration;
 use crate::follower::say;
@@ -41,8 +41,8 @@ fn file_name(alloc: Global, path: &[Name]) -> Result<String, AllocError> {
     Ok(name)
 }
 
-/// The files of a configuration: those of all paths that a command may load, and main's in any case. None where texts
-/// don't give it.
+/// The files of a configuration: those of all paths that a command may load, and main's in any case. None where
+/// rulesets don't give it.
 fn files_of(alloc: Global, config: &Config) -> Result<Option<Vec<TextFile>>, AllocError> {
     let Some(texts) = texts(alloc, config)? else {
         return Ok(None);
@@ -155,8 +155,8 @@ impl TextFiles {
         Ok(is_whole)
     }
 
-    /// Writes the files of what was followed. That one couldn't be written is said once until it could be. Where texts
-    /// don't give the configuration that is said, and the files stay as they are.
+    /// Writes the files of what was followed. That one couldn't be written is said once until it could be. Where
+    /// rulesets don't give the configuration that is said, and the files stay as they are.
     pub(crate) fn write<E: Write>(
         &mut self,
         rt: &HostRuntime,

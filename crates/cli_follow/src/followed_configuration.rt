@@ -97,7 +97,7 @@ impl FollowedConfiguration {
         }
     }
 
-    /// Takes the entries of a text of lines, the first of them at this configuration's position: what a control socket
+    /// Takes the entries of lines, the first of them at this configuration's position: what a control socket
     /// answers from there on. So a followed configuration that has the configuration after the first entries of a
     /// node's log has it again. Where a line isn't taken those before it are.
     pub fn take(&mut self, alloc: Global, text: &[u8]) -> Result<(), TakeFault>

@@ -183,7 +183,7 @@ impl Nft {
 }
 
 impl Follower {
-    /// Nothing was followed yet: lines for nft(8) are wanted where a text lists the interfaces.
+    /// Nothing was followed yet: lines for nft(8) are wanted where a file lists the interfaces.
     pub fn new(
         alloc: Global,
         interfaces: Option<Vec<u8>>,

@@ -17,7 +17,7 @@ fn some_texts<'w, 'a>(texts: &'w [&'a str]) -> Option<&'w [&'a str]>
     Some(texts)
 }
 
-/// The texts behind the word `members`, if these are the words of a line that begins with it.
+/// The strings behind `members`, if these are the arguments of a line that begins with it.
 fn texts_on<'w, 'a>(words: &'w [&'a str]) -> Option<&'w [&'a str]>
     ensures { option_map (λ ts. map (λ t. t.now) ts.now) result ≡ texts_on (map (λ w. w.now) words.now) }
 {

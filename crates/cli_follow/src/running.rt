@@ -70,7 +70,7 @@ fn ask<C: Control>(
     }
 }
 
-/// Writes texts for pfctl(8), where they are wanted; with `is_late` those alone that couldn't be written.
+/// Writes rulesets for pfctl(8), where they are wanted; with `is_late` those alone that couldn't be written.
 fn write_texts<E: Write>(
     rt: &HostRuntime,
     alloc: Global,
@@ -165,8 +165,8 @@ fn rest<C: Control, E: Write>(
 }
 
 /// Follows a node's log until the output is closed, or entries were asked for so often, or another log is there: what
-/// nft(8) is to load goes to the writer, for the interfaces that a text lists, if there is one, with the members' guard
-/// or without; texts for pfctl(8) go into files, where they are wanted. Refusals go to `errors`.
+/// nft(8) is to load goes to the writer, for the interfaces that a file lists, if there is one, with the members' guard
+/// or without; rulesets for pfctl(8) go into files, where they are wanted. Refusals go to `errors`.
 pub fn follow<C: Control, W: Write, E: Write>(
     rt: &HostRuntime,
     alloc: Global,
@@ -245,7 +245,7 @@ struct Places {
     interfaces: Option<Vec<u8>>,
     /// Whether those have the members' guard.
     is_guarded: bool,
-    /// Texts for pfctl(8).
+    /// rulesets for pfctl(8).
     files: Option<TextFiles>,
 }
 
@@ -342,9 +342,9 @@ fn followed<W: Write, E: Write>(
     }
 }
 
-/// What the word `follow` asks for, the program's name first: the rules of a running node's configuration, whole, once
-/// it has applied a command and each time that what it applies changes them; for nft(8) to the writer, for pfctl(8)
-/// into files. Refusals go to `errors`.
+/// What the subcommand `follow` asks for, the program's name first: the rules of a running node's configuration, whole,
+/// once it has applied a command and each time that what it applies changes them; for nft(8) to the writer, for
+/// pfctl(8) into files. Refusals go to `errors`.
 pub fn run_follow<S: AsStr, W: Write, E: Write>(
     rt: &HostRuntime,
     alloc: Global,

@@ -1,4 +1,4 @@
-//! The word `follow`, as `clap` reads it.
+//! The subcommand `follow`, as `clap` reads it.
 
 ghost use Rattle.std.specs.Prelude.{◌≡◌, IfOk, false};
 ghost use Rattle.clap.specs.declared.builder.command.Command.TheViews.{out-Command};

@@ -26,7 +26,7 @@ paragraphs table = flat_map (λ r. paragraph r ++ 10 ∷ []) table
 
 -- ---- one line for a refusal
 
--- the line of a text, where there is one
+-- the line of a ruleset, where there is one
 abbrev pub place_of : Option ℕ → List ℕ
 place_of None = []
 place_of (Some line) = 58 ∷ decimal line

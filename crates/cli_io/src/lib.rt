@@ -6,7 +6,7 @@
 //! - [`read_all`]: the whole input, up to a limit.
 //! - [`open_regular`], [`make_private`]: a file that isn't waited for, and one that its owner alone may read;
 //!   [`knock`]: why nobody answers at a socket.
-//! - [`Shown`]: a text of others for people.
+//! - [`Shown`]: a foreign string for people.
 //! - [`write_bytes`]: all of an output, or a front of it; [`misused`], [`out_of_memory`]: what is written of arguments
 //!   that aren't understood, and of out of memory.
 //! - [`REFUSALS`]: the table, which has each refusal that the program answers once, by its number. [`explanation`],

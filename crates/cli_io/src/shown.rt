@@ -5,12 +5,12 @@ ghost use Rattle.cli_io.specs.Shown.{shown, shown_char};
 
 use std::fmt;
 
-/// A text of others, as a file's name, for people: each control character is shown as its number, `\u{1b}`, so that it
-/// does nothing to a terminal and ends no line.
+/// A string of others, as a file's name, for people: each control character is shown as its number, `\u{1b}`, so that
+/// it does nothing to a terminal and ends no line.
 #[derive(Clone, Copy)]
 pub struct Shown<'a>(pub &'a str);
 
-/// A character of such a text.
+/// A character of such a string.
 #[derive(Clone, Copy)]
 struct ShownChar(char);
 

@@ -8,7 +8,7 @@ ghost use Rattle.cli_io.specs.Status.{code_of};
 pub enum Status {
     /// All that was asked for is done.
     Done,
-    /// A text or a packet is refused; the refusal is written.
+    /// A string or a packet is refused; the refusal is written.
     Refused,
     /// The words aren't understood; what is wrong with them, or the help asked for, is written.
     Usage,

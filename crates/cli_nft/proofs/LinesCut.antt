@@ -1,4 +1,4 @@
--- The first line of a text, and what is behind it.
+-- The first line of a string, and what is behind it.
 use Rattle.std.proofs.Common.{◌≡◌, ◌==◌, ℕ, suc, ◌+◌, ◌-◌, ◌<◌, ◌≤◌, true, false, cond, List, [], ◌∷◌, length, length-drop, take, take_all, drop, refl, sym, ap, ◌∙◌, arith}
 use Rattle.std.specs.Prelude.{if◌then◌else◌, not}
 use Rattle.std.specs.List.{prefix_len}
@@ -57,7 +57,7 @@ nothing (x ∷ s) h k =
       | false ↦ rw (one_and (line_len s)) (λ e j. absurd (omega (arith, j)))
     ]) h k
 
--- the same of a text that is split there
+-- the same of a string that is split there
 pub cut_back : (s front back : List ℕ) (n : ℕ) → n ≡ line_len s → front ≡ take n s → back ≡ drop n s → 1 ≤ length back → lines s ≡ front ∷ lines (take (length back - 1) (drop 1 back))
 cut_back s front [] n e f g h = absurd (omega (arith, h))
 cut_back s front (b ∷ rest) n e f g h =

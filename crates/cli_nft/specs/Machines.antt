@@ -39,12 +39,12 @@ abbrev pub at_front : ℕ → List (List ℕ) → List (List ℕ)
 at_front b [] = (b ∷ []) ∷ []
 at_front b (l ∷ ls) = (b ∷ l) ∷ ls
 
--- the lines of a text
+-- the lines of a string
 abbrev pub lines : List ℕ → List (List ℕ)
 lines [] = []
 lines (b ∷ bytes) = if b == 10 then [] ∷ lines bytes else at_front b (lines bytes)
 
--- the machine of a text, none where a line isn't as it should be
+-- the machine of a string, none where a line isn't as it should be
 -- Example: em0 lan.
 unfoldable pub machine_in : List ℕ → Option Machine
 machine_in text = machine_with [] (map words (lines text))

@@ -1,4 +1,4 @@
--- What is written of a text of rules for a machine.
+-- What is written of a ruleset for a machine.
 use Rattle.std.specs.Prelude.{ℕ, Bool, true, false, List, [], ◌++◌, Option, Some, None, Result, Ok, Err, codes, decimal}
 use Rattle.pf_grammar.specs.declared.fault.Refusal.{Refusal}
 use Rattle.pf_grammar.specs.declared.place.Place.TheVariants.{Main}
@@ -27,7 +27,7 @@ abbrev pub refused : Option ℕ → Written
 refused None = record { text = []; refused = true }
 refused (Some code) = record { text = codes "refused " ++ (decimal code ++ codes "\n"); refused = true }
 
--- of a text, with the line at which the statement begins
+-- of a ruleset, with the line at which the statement begins
 -- Example: refused 88, refused 3 line 2.
 abbrev pub refused_at : ℕ → ℕ → Written
 refused_at code line = record {

@@ -25,7 +25,7 @@ and_member None more = None
 and_member (Some a) None = None
 and_member (Some a) (Some ms) = Some (member_at a ∷ ms)
 
--- the members at these addresses, none where a text is no address with a port of 1 to 65535
+-- the members at these addresses, none where a string is no address with a port of 1 to 65535
 abbrev pub members_at : List Text → Option (List Member)
 members_at [] = Some []
 members_at (text ∷ texts) = and_member (address_of text) (members_at texts)
@@ -90,12 +90,12 @@ abbrev pub position_text : Option (Text × List Row) → Option Text
 position_text None = None
 position_text (Some (word, rows)) = one_of (codes "position") rows
 
--- a number of 32 bits that a text spells, where a plus may stand first
+-- a number of 32 bits that a string spells, where a plus may stand first
 abbrev pub IsSpelled : Text → ℕ → Type 0
 IsSpelled text n = IsNumeral 10 (without_leading_plus text) → digits_value 10 (without_leading_plus text) < 2 ^ 32
     → n ≡ digits_value 10 (without_leading_plus text)
 
--- the position that a text spells, 0 without one
+-- the position that a string spells, 0 without one
 -- Source: pfx(8), check. Example: --position 3 is 3.
 abbrev pub IsPosition : Option Text → ℕ → Type 0
 IsPosition None n = n ≡ 0

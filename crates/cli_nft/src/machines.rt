@@ -26,7 +26,7 @@ fn line_len(text: &[u8]) -> usize
     text.iter().take_while(|b| **b != b'\n').count()
 }
 
-/// The first line of a text, and what is behind it; none of an empty one.
+/// The first line of a string, and what is behind it; none of an empty one.
 #[tactic(auto, using(crate::proofs::LinesCut::cuts))]
 fn cut_line(text: &[u8]) -> Option<(&[u8], &[u8])>
     ensures cut { IfSome result (λ c. lines text.now ≡ c.0.now ∷ lines c.1.now) }
@@ -107,8 +107,8 @@ fn push_line(
     push_interface(machine, name, names)
 }
 
-/// The machine that a text lists, a line an interface: its name and then its groups, between blanks. None where a word
-/// is no name of an interface, an interface is listed twice, or there are more than 1,024.
+/// The machine that a string lists, a line an interface: its name and then its groups, between blanks. None where a
+/// word is no name of an interface, an interface is listed twice, or there are more than 1,024.
 #[tactic(auto, unfolding(crate::specs::Machines::machine_in))]
 pub fn machine_in(alloc: Global, text: &[u8]) -> Result<Option<Vec<MachineInterface>>, AllocError>
     ensures { IfOk result (λ o. option_map (λ v. machine_of v.items) o ≡ machine_in text.now) }

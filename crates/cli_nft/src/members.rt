@@ -1,4 +1,4 @@
-//! Which members texts name.
+//! Which members strings name.
 
 ghost use Rattle.std.specs.Prelude.{◌≡◌, IfOk, map, option_map};
 ghost use Rattle.node_udp.specs.Addresses.{address_of};
@@ -11,7 +11,7 @@ use std::alloc::{AllocError, Global};
 /// How many members a cluster has at most.
 pub const MEMBERS_MAX: usize = 15;
 
-/// The member that a text is.
+/// The member that a string is.
 fn member_of(text: &str) -> Option<Member>
     ensures { result ≡ option_map member_at (address_of text.now) }
 {
@@ -24,7 +24,7 @@ fn member_of(text: &str) -> Option<Member>
     }
 }
 
-/// The members that texts are, however many, none where one of them is none.
+/// The members that strings are, however many, none where one of them is none.
 #[tactic(auto, using(crate::proofs::Joining::one_more))]
 fn members_at(alloc: Global, texts: &[&str]) -> Result<Option<Vec<Member>>, AllocError>
     ensures { IfOk result (λ o. option_map (λ v. v.items) o ≡ members_at (map (λ t. t.now) texts.now)) }
@@ -39,8 +39,8 @@ fn members_at(alloc: Global, texts: &[&str]) -> Result<Option<Vec<Member>>, Allo
     Ok(Some(members))
 }
 
-/// The members that these texts are, none where one of them isn't spelled as an address and a port, or where there are
-/// more than 15.
+/// The members that these strings are, none where one of them isn't spelled as an address and a port, or where there
+/// are more than 15.
 #[tactic(auto, unfolding(crate::specs::Words::members_in))]
 pub fn members_in(alloc: Global, texts: &[&str]) -> Result<Option<Vec<Member>>, AllocError>
     ensures { IfOk result (λ o. option_map (λ v. v.items) o ≡ members_in (map (λ t. t.now) texts.now)) }

@@ -40,7 +40,7 @@ fn refused(alloc: Global, code: u8) -> Result<Written, AllocError>
     })
 }
 
-/// The refusal of a text.
+/// The refusal of a ruleset.
 fn refused_at(alloc: Global, code: u8, line: u64) -> Result<Written, AllocError>
     ensures { IfOk result (λ w. written w ≡ refused_at code line) }
 {

@@ -70,7 +70,7 @@ fn or_none<'m, 'a>(words: Option<&'m [&'a str]>) -> &'m [&'a str]
     }
 }
 
-/// The texts behind `--members`.
+/// The strings behind `--members`.
 fn member_texts<'m, 'a>(inner: &'m ArgMatches<'a>) -> &'m [&'a str]
     ensures { map (λ w. w.now) result.now
         ≡ unwrap_or (all_of (codes "members") (rows_of (found_of inner.now))) [] }
@@ -149,8 +149,8 @@ fn answer<R: Read, W: Write>(
     }
 }
 
-/// What the words `check --nft --interfaces FILE [--members ADDRESS:PORT..]` ask for, the program's name first, with
-/// the input and the output that are lent: the text's rules behind the guard of these members as three lines for
+/// What the arguments `check --nft --interfaces FILE [--members ADDRESS:PORT..]` ask for, the program's name first,
+/// with the input and the output that are lent: the text's rules behind the guard of these members as three lines for
 /// nft(8), or a refusal. Other words are refused.
 pub fn run_nft<S: AsStr, R: Read, W: Write>(
     rt: &HostRuntime,

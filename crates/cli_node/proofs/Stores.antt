@@ -149,7 +149,7 @@ pub unfailed_opening : (file new : Bool) (f : Found) (o : Opening) (code : ℕ) 
     Refused code ≢ Refused 80
 unfailed_opening file new f o code is e = not_80 file new f code (is.refused code e)
 
--- want of memory
+-- out of memory
 pub by_memory : (file new : Bool) → IsStoreless file new Memory
 by_memory file new = record { missing = λ e. absurd (cc); there = λ e. absurd (cc) }
 

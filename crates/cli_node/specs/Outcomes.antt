@@ -35,7 +35,7 @@ status_of Made = status.Done
 status_of Memory = status.Memory
 status_of Unread = status.Failed
 
--- the outcome's line is written; where memory ran out that alone; of a write that failed nothing is said
+-- the outcome's line is written; out of memory, that alone; of a write that failed nothing is said
 abbrev pub Wrote : Status → Outcome → Option (List ℕ) → Option (List ℕ) → Type 0
 Wrote status.Memory outcome old new = Appends old new (line (codes "memory"))
 Wrote status.Failed outcome old new = Unit {0}

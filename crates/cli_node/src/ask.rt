@@ -1,4 +1,4 @@
-//! The word `ask`: a command asked of a node.
+//! The subcommand `ask`: a command asked of a node.
 
 ghost use Rattle.std.specs.Prelude.{◌≡◌, ◌<◌, ◌⊎◌, ◌↔◌, Err, Ok, false, IfSome, IfOk, OnErr, IsSome, IsTrue};
 ghost use Rattle.clap.specs.Words.{found_of, rows_of};
@@ -40,7 +40,7 @@ pub(crate) struct AskWords<'a> {
     pub(crate) waits: u32,
 }
 
-/// How many waits so many seconds are, one at least; without a number there are five.
+/// How many waits a number of seconds is, one at least; without a number there are five.
 fn waits_of(seconds: Option<u16>) -> u32
     ensures { result ≡ waits_of seconds }
 {
@@ -130,7 +130,7 @@ fn change_in(alloc: Global, matches: &ArgMatches<'_>, text: &[u8]) -> Result<Com
     }
 }
 
-/// The asker's wire.
+/// The client's wire.
 fn bind(
     rt: &HostRuntime,
     alloc: Global,

@@ -1,4 +1,4 @@
-//! The word `node` with `--check`: whether a node could be started. Nothing is made or changed.
+//! The subcommand `node` with `--check`: whether a node could be started. Nothing is made or changed.
 
 ghost use Rattle.std.specs.Prelude.{◌≡◌, ◌⊎◌, Bool, Err, false, length, OnErr};
 ghost use Rattle.cli_node.specs.declared.outcome.Outcome.{Outcome};
@@ -168,7 +168,7 @@ fn is_database(rt: &HostRuntime, path: &str) -> bool {
     }
 }
 
-/// What is refused of a store that stands there; nothing of one that a node has open, nor of one without its log of
+/// What is refused of a store that is there; nothing of one that a node has open, nor of one without its log of
 /// writes, which an opening makes.
 #[tactic(auto, using(crate::proofs::Stores::by_read, crate::proofs::Stores::by_memory, crate::proofs::Stores::refused_70, crate::proofs::Stores::sound))]
 fn looked_at(

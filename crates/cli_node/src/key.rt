@@ -1,4 +1,4 @@
-//! The keys that the words of `node` name, and new ones.
+//! The keys that the arguments of `node` name, and new ones.
 
 ghost use Rattle.std.specs.Prelude.{◌≡◌, ◌⊎◌, ◌==◌, ◌/◌, Ok, Err, Some, true, OnErr, IfOk, IfSome, option_map, is_some};
 ghost use Rattle.std.specs.Prelude.{ℕ, List, map};

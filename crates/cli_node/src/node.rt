@@ -1,4 +1,4 @@
-//! The word `node`: a node over UDP.
+//! The subcommand `node`: a node over UDP.
 
 ghost use Rattle.std.specs.Prelude.{◌≡◌, ◌≢◌, ◌<◌, ◌≤◌, ◌⊎◌, ◌↔◌, Err, false, length, IfSome, OnErr, IsSome, IsTrue};
 ghost use Rattle.std.specs.Prelude.{ℕ, Bool, [], Some, None, IfOk, option_map, option_and_then, is_some, not, ◌&&◌};
@@ -36,7 +36,7 @@ use std::net::{SocketAddr, UdpSocket};
 /// How long a turn waits for a datagram, in milliseconds.
 const WAIT_MS: u32 = 100;
 
-/// What the words of `node` say.
+/// What the arguments of `node` say.
 #[derive(Clone, Copy)]
 pub(crate) struct NodeWords<'m, 'w, 'a> {
     /// This node's number.
@@ -58,7 +58,7 @@ pub(crate) struct NodeWords<'m, 'w, 'a> {
     pub(crate) is_unsealed: bool,
     /// Where operators ask, if there is a control socket.
     pub(crate) control: Option<&'a str>,
-    /// Where figures are told over TCP, if they are.
+    /// Where figures are served over TCP, if they are.
     pub(crate) metrics: Option<&'a str>,
     /// Whether only warnings and errors are said.
     pub(crate) is_quiet: bool,
@@ -406,8 +406,8 @@ fn run_node<R: Records, T: Timer>(
     run_at(rt, alloc, words, m, records, wire, sealing, timer, None)
 }
 
-/// Where figures are told over TCP, if they are: 82 for what is no address at which this machine alone is heard, with a
-/// port.
+/// Where figures are served over TCP, if they are: 82 for what is no address at which this machine alone is heard, with
+/// a port.
 pub(crate) fn figures_at(words: NodeWords<'_, '_, '_>) -> Result<Option<SocketAddr>, Outcome>
     ensures { OnErr result (result ≡ Err (Refused 82)) }
 {

@@ -13,7 +13,7 @@ use px_replica::NodeFault;
 use std::alloc::{AllocError, Global};
 use std::io::Write;
 
-/// What a run comes to.
+/// How a run ends.
 #[derive(Clone, Copy, PartialEq, Eq)]
 pub(crate) enum Outcome {
     /// All turns were made: how many positions are learned without a gap, and how many are applied.
@@ -142,7 +142,8 @@ pub(crate) fn fault_outcome(fault: NodeFault) -> Outcome
     }
 }
 
-/// What a run comes to whose store has so many failures: a node that had failed ends with what it failed of, 70 or 72.
+/// How a run ends whose store has this number of failures: a node that had failed ends with what it failed of, 70 or
+/// 72.
 pub(crate) fn ending_of(outcome: Outcome, failures: u64) -> Outcome
     ensures is { result ≡ ending_of outcome failures }
     ensures why { result ≢ Refused 80 }

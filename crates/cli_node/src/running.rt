@@ -37,8 +37,8 @@ fn outcome_of<R: Read>(
     }
 }
 
-/// What the words `node`, `ask` and `key` ask for, the program's name first, with the input and the output that are
-/// lent.
+/// What the subcommands `node`, `ask` and `key` ask for, the program's name first, with the input and the output that
+/// are lent.
 ///
 /// `node` makes turns of a node over UDP, and writes `front F applied A`, or `refused CODE`; with `--check` it makes
 /// none, and writes `ok` where nothing is to be refused. `ask` asks a node to take a command of pfctl's words in, and

@@ -1,4 +1,4 @@
-//! The word `node` with its file of settings.
+//! The subcommand `node` with its file of settings.
 
 use crate::check::check_outcome;
 use crate::node::{NodeWords, node_outcome};

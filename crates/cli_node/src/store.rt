@@ -49,7 +49,7 @@ pub(crate) enum Opening {
     Refuses(u8),
 }
 
-/// What becomes of what stands there. Where settings come from a file a store is made with `--new` alone (93), which
+/// What becomes of what is there. Where settings come from a file a store is made with `--new` alone (93), which
 /// wants none there (94).
 #[tactic(auto, using(crate::proofs::Stores::is_opening))]
 pub(crate) fn opening_of(is_from_file: bool, is_new: bool, found: Found) -> Opening
@@ -83,7 +83,7 @@ fn is_empty(rt: &HostRuntime, path: &str) -> bool {
     }
 }
 
-/// What stands at a path.
+/// What is at a path.
 pub(crate) fn found_at(rt: &HostRuntime, alloc: Global, path: &str) -> Result<Found, AllocError> {
     match fs::metadata(rt, path) {
         Ok(found) => {
@@ -188,7 +188,7 @@ pub(crate) fn is_made(is_from_file: bool, is_new: bool, found: Found) -> bool
     }
 }
 
-/// The database where a store is named, by what becomes of what stands there.
+/// The database where a store is named, by what becomes of what is there.
 #[tactic(auto, using(crate::proofs::Stores::by_opening, crate::proofs::Stores::by_file))]
 fn open_store(
     rt: &HostRuntime,

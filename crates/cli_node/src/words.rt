@@ -80,7 +80,7 @@ const ASK_BELOW: &str =
     "It writes asked NODE.NUMBER, no answer, or refused CODE; a node refuses with 60 (64 wait) or 62 (no number left).
 Asked is not yet learned: the nodes' logs tell.";
 
-/// An option with a text, which may be missing.
+/// An option with a string, which may be missing.
 fn optional<'a>(alloc: Global, name: &'a str, help: &'a str) -> Arg<'a>
     ensures local { result.global ≡ false }
 {
@@ -90,7 +90,7 @@ fn optional<'a>(alloc: Global, name: &'a str, help: &'a str) -> Arg<'a>
         .help(help)
 }
 
-/// An option with a text.
+/// An option with a string.
 fn text<'a>(alloc: Global, name: &'a str, help: &'a str) -> Arg<'a>
     ensures local { result.global ≡ false }
 {
@@ -120,7 +120,7 @@ fn with<'a>(command: Command<'a>, arg: Arg<'a>) -> Result<Command<'a>, AllocErro
     command.arg(arg)
 }
 
-/// Adds an option that may not be had, for want of memory.
+/// Adds an option, which is missing if memory ran out.
 fn with_made<'a>(
     command: Command<'a>,
     arg: Result<Arg<'a>, AllocError>,
@@ -138,7 +138,7 @@ fn with_made<'a>(
     }
 }
 
-/// Adds an option that has to stand in the words where no file of settings does.
+/// Adds an option that has to be in the words where no file of settings does.
 fn with_required<'a>(command: Command<'a>, arg: Arg<'a>) -> Result<Command<'a>, AllocError>
     requires command { (out-Command command).has_globals ≡ false }
     requires arg { arg.global ≡ false }
@@ -218,7 +218,7 @@ fn with_either<'a>(
     }
 }
 
-/// Adds an option with a text that stands only where another stands.
+/// Adds an option with a string that stands only where another stands.
 fn with_below<'a>(
     alloc: Global,
     command: Command<'a>,
@@ -342,7 +342,7 @@ fn key_command<'a>(alloc: Global) -> Result<Command<'a>, AllocError> {
     with(key, file)
 }
 
-/// Adds a word that may not be had, for want of memory.
+/// Adds a subcommand, which is missing if memory ran out.
 fn with_word<'a>(
     command: Command<'a>,
     word: Result<Command<'a>, AllocError>,

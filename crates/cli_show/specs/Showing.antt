@@ -17,8 +17,8 @@ use Rattle.cli_show.specs.declared.shown.Shown.{Shown}
 use Rattle.cli_show.specs.declared.shown.Wanted.{Wanted}
 use Rattle.cli_show.specs.declared.shown.Wanted.TheVariants as wanted
 
--- What is shown of the configuration after the first k entries of a log. Texts for pfctl(8), and a script, unless they
--- are refused with 91, give the configuration.
+-- What is shown of the configuration after the first k entries of a log. rulesets for pfctl(8), and a script, unless
+-- they are refused with 91, give the configuration.
 abbrev pub Shows : Log Bytes → (k kept : ℕ) → Configuration → Wanted → Shown → Type 0
 Shows log k kept c (wanted.Words words) s = shown_value s ≡ listed c (map (λ w. w.now) words.now)
 Shows log k kept c (wanted.Packets packets) s = shown_value s ≡ verdicts c (map (λ p. p.now) packets.now)

@@ -5,12 +5,12 @@ use Rattle.pf_config.specs.Map.{Configuration, Path}
 use Rattle.pf_command.specs.Arguments.{path_words}
 use Rattle.pf_dump.specs.Texts.{Text, text_paths, GivenBy}
 
--- the command that loads a text, as a comment
+-- the command that loads a ruleset, as a comment
 -- Example: # pfctl -a x/y -f -
 abbrev pub comment : Path → List ℕ
 comment p = codes "# pfctl " ++ (path_words p ++ codes "-f -\n")
 
--- a text behind its comment
+-- a ruleset behind its comment
 abbrev pub shown_text : Text → List ℕ
 shown_text t = comment t.path ++ t.text
 

@@ -25,7 +25,7 @@ pub record ShownValue : Type 0 where
 abbrev pub written : List ℕ → ShownValue
 written bytes = record { bytes = bytes; refused = false }
 
--- the line of a refusal: the number, and a line of a text where it isn't 0
+-- the line of a refusal: the number, and a line of a ruleset where it isn't 0
 -- Example: refused 40 0 is the line refused 40.
 abbrev pub refused : ℕ → ℕ → ShownValue
 refused code at = record { bytes = refused_line code at; refused = true }
@@ -45,11 +45,11 @@ listed c words = answered (words_read c words [])
 
 -- ---- packets
 
--- a text before what is shown
+-- a string before what is shown
 abbrev pub behind : List ℕ → ShownValue → ShownValue
 behind text later = record { bytes = text ++ later.bytes; refused = later.refused }
 
--- a verdict before what follows; a text that is no packet ends it
+-- a verdict before what follows; a string that is no packet ends it
 abbrev pub put_verdict : Option (List ℕ) → ShownValue → ShownValue
 put_verdict None later = refused 30 0
 put_verdict (Some verdict) later = behind (line verdict) later
@@ -108,7 +108,7 @@ shown_value s = record { bytes = s.bytes.items; refused = s.refused }
 
 -- ---- what gives the configuration
 
--- no script, or no texts, give the configuration
+-- no script, or no rulesets, give the configuration
 abbrev pub none_shown : ShownValue
 none_shown = refused 91 0
 

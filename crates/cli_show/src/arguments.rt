@@ -1,4 +1,4 @@
-//! The word `show`, as `clap` reads it.
+//! The subcommand `show`, as `clap` reads it.
 
 ghost use Rattle.std.specs.Prelude.{◌≡◌, IfOk, false};
 ghost use Rattle.clap.specs.declared.builder.command.Command.TheViews.{out-Command};

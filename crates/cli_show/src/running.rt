@@ -47,7 +47,7 @@ fn log_outcome(rt: &HostRuntime, alloc: Global, store: &str, matches: &ArgMatche
     shown_of(rt, alloc, store, Wanted::Log { from, count })
 }
 
-/// The verdicts for the packets behind the word `test`.
+/// The verdicts for the packets behind the subcommand `test`.
 fn packets_outcome(rt: &HostRuntime, alloc: Global, store: &str, rest: &[&str]) -> Outcome {
     match rest.split_first() {
         Some((_, packets)) => shown_of(rt, alloc, store, Wanted::Packets(packets)),
@@ -84,9 +84,9 @@ fn outcome_of(rt: &HostRuntime, alloc: Global, matches: &ArgMatches<'_>) -> Outc
     }
 }
 
-/// What the word `show` asks for, the program's name first: what a node's store holds, which no node has open and which
-/// isn't changed. It is written as `show_store` has it, or `refused CODE`: the numbers of [`Closed`](crate::Closed), or
-/// 40 for words that don't go together. Other words are refused.
+/// What the subcommand `show` asks for, the program's name first: what a node's store holds, which no node has open and
+/// which isn't changed. It is written as `show_store` has it, or `refused CODE`: the numbers of
+/// [`Closed`](crate::Closed), or 40 for words that don't go together. Other words are refused.
 pub fn run_show<S: AsStr, W: Write>(
     rt: &HostRuntime,
     alloc: Global,

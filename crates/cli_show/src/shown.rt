@@ -17,7 +17,7 @@ pub enum Wanted<'a> {
     Nft {
         interfaces: Option<&'a [u8]>,
     },
-    /// The rulesets as texts for pfctl(8).
+    /// The rulesets as pfctl(8) loads them.
     Texts,
     /// A script that gives the configuration.
     Script,

@@ -1,4 +1,4 @@
-//! Rulesets as texts for pfctl(8).
+//! Rulesets as pfctl(8) loads them.
 
 ghost use Rattle.std.specs.Prelude.{◌≡◌, ◌++◌, OnOk, IfOk, map, string_bytes};
 ghost use Rattle.pf_dump.specs.Seen.{text_of};
@@ -12,7 +12,7 @@ use pf_config::Config;
 use pf_dump::{PathText, push_path, texts};
 use std::alloc::{AllocError, Global};
 
-/// Puts a text behind others, and before it a comment that is the command which loads it.
+/// Puts a ruleset behind others, and before it a comment that is the command which loads it.
 fn push_text(out: &mut String, text: &PathText<'_>) -> Result<(), AllocError>
     ensures { OnOk result (string_bytes out.new ≡ string_bytes out.old ++ shown_text (text_of text.now)) }
 {
@@ -33,8 +33,8 @@ fn joined_texts(alloc: Global, texts: &[PathText<'_>]) -> Result<String, AllocEr
     Ok(out)
 }
 
-/// The texts of all paths that a command may load, main's last: before each a comment that is the command which loads
-/// it, `# pfctl -a PATH -f -`. 91 where they don't give the configuration.
+/// The rulesets of all paths that a command may load, main's last: before each a comment that is the command which
+/// loads it, `# pfctl -a PATH -f -`. 91 where they don't give the configuration.
 pub(crate) fn show_texts(alloc: Global, config: &Config) -> Result<Shown, AllocError>
     ensures { IfOk result (λ s. OrNone s (ShowsTexts config.now)) }
 {

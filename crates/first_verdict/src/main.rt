@@ -1,7 +1,7 @@
 //! What `pfx check` and `pfx test` answer of the rules on standard input: without words the rules as they are
 //! understood, with packets in the words a verdict for each, a line each. What is refused is `refused` and its number,
-//! with the line where a text is at fault; that ends the program with 1, as does out of memory. It links what judges a
-//! packet and nothing else, so it is tried soon after a clone; `pfx` says more, and is what runs.
+//! with the line where a ruleset is at fault; that ends the program with 1, as does out of memory. It links what judges
+//! a packet and nothing else, so it is tried soon after a clone; `pfx` says more, and is what runs.
 #![tactic(auto)]
 
 use pf_config::Config;

@@ -193,7 +193,7 @@ backward_found c m d p =
 abbrev Decides : Pass → (ChainName → Option Decision) → (Path → Option PfSpot) → Type 0
 Decides pass jumped walk = (q : Path) → jumped (At pass q) ≡ decided_in (walk q)
 
--- where nothing is, the walk comes to nothing
+-- where nothing is, the walk yields nothing
 abbrev IsNothing : Configuration → (Path → Option PfSpot) → Type 0
 IsNothing c walk = (q : Path) → rules_at c q ≡ [] → walk q ≡ None
 

@@ -240,7 +240,7 @@ alternatives c m d p r = both (such_alternatives m d r) (end_alternatives c p r)
 unfoldable pub with_statement : Statement → Alternative → NftRule
 with_statement s a = record { matches = matches_of a; statement = s }
 
--- a rule's action in the words of nftables: block return is reject
+-- a rule's action in the terms of nftables: block return is reject
 abbrev pub outcome_of : Action → Outcome
 outcome_of act.Pass = Accept
 outcome_of act.Drop = Drop

@@ -1,4 +1,4 @@
-//! The names of chains and sets in a text.
+//! The names of chains and sets in a ruleset.
 
 ghost use Rattle.std.specs.Prelude.{◌≡◌, Some, map};
 ghost use Rattle.nft_rules.specs.Seen.{chain_name_of, chain_of, set_name_of, named_set_of, ruleset_of};
@@ -36,7 +36,7 @@ fn set_index<'c>(sets: &[NamedSet<'c>], name: SetName<'c>) -> usize
     index
 }
 
-/// What a text is of: a ruleset, its direction, and the position in the names.
+/// What a ruleset is of: a ruleset, its direction, and the position in the names.
 #[derive(Clone, Copy)]
 pub(crate) struct Whole<'r, 'c> {
     pub(crate) position: u32,

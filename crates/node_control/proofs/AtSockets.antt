@@ -64,7 +64,7 @@ ran G m given back es l = (
   refl,
 )
 
--- nothing befell it
+-- nothing happened to it
 idle : (g : Group) (m : ℕ) (first : Record Bytes) (es : List WireEvent) → es ≡ [] → AllRan g m first es [] (started first) []
 idle g m first es none = (
   record {
@@ -88,7 +88,7 @@ abbrev pub Settles : {R : Type 0} → Ghosts R → Type 0
 Settles {R} G =
     (r : R) → G.is_honest r → G.failed r ≡ 0 → (d : Record Bytes) → G.may_leave r d → d ≡ G.stored r
 
--- a run over a record, over some wire: what befell the member, and how its record stands
+-- a run over a record, over some wire: what happened to the member, and how its record stands
 record RunsOver {R : Type 0} (G : Ghosts R) (m : Membership) (given back : R) (es : List WireEvent) : Type 0 where
   pub deeds : List Deed
   pub end : NodeState Bytes

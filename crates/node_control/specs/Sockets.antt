@@ -1,4 +1,4 @@
--- A member's run at its socket: what befell it, and what went over the socket meanwhile.
+-- A member's run at its socket: what happened to it, and what went over the socket meanwhile.
 use Rattle.std.specs.Prelude.{◌≡◌, ℕ, Bool, true, List, [], ◌++◌}
 use Rattle.std.specs.List.{AllByRecursion}
 use Rattle.px_model.specs.Node.{Record}
@@ -20,9 +20,9 @@ use Rattle.node_udp.specs.Sockets as sockets
 use Rattle.node_udp.specs.Sockets.{SocketEvent, Passage, IsSound}
 use Rattle.node_udp.specs.declared.address.Address.{Address}
 
--- A member of the group ran from this record on; this befell it, and it stands so then. This went over its wire: its
--- moves, and then, where a call failed, what came for that call and after it, and what was handed over again. Of what
--- was to be handed over, the end may be lost; of what was given, nothing is.
+-- A member of the group ran from this record on; this happened to it, and it stands so then. This went over its wire:
+-- its moves, and then, where a call failed, what came for that call and after it, and what was handed over again. Of
+-- what was to be handed over, the end may be lost; of what was given, nothing is.
 -- So a run that is killed is one, too, wherever that happens. If it was in a call, what came for the call is
 -- unanswered, and it left of the record what a stop may leave. If it was after a call, before all that this sends was
 -- handed over, the rest is lost. Each layer below is what happened there so far, step by step, so a front of it is one:
@@ -76,8 +76,8 @@ pub record RanSealed (g : Group) (keys : List (List ℕ)) (s : Sealer) (m : ℕ)
   pub are : AreSteps keys s made []
   pub ran : RanAbove g m first (steps.above_in made) deeds end unanswered
 
--- How the member's record stands after what befell it: so, unless a call on it failed; and whatever a stop leaves of it
--- is that, or that with the change of one step more.
+-- How the member's record stands after what happened to it: so, unless a call on it failed; and whatever a stop leaves
+-- of it is that, or that with the change of one step more.
 pub record Leaves {R : Type 0} (G : Ghosts R) (m : Membership) (back : R) (end : NodeState Bytes)
     (unanswered : List Bytes) : Type 0 where
   pub stays : G.failed back ≡ 0 → G.stored back ≡ end.stored

@@ -72,7 +72,7 @@ impl Client {
         }
     }
 
-    /// Since when it has done nothing for whoever asks, in microseconds: since a request has been coming, or else since
+    /// Since when it has done nothing for its client, in microseconds: since a request has been coming, or else since
     /// it moved a byte last.
     pub(crate) fn idle_since(&self) -> u64 {
         self.began.unwrap_or(self.moved)

@@ -1,4 +1,4 @@
-//! The control socket: a Unix socket, where figures alone are told a TCP port too, and the clients of both.
+//! The control socket: a Unix socket, for figures alone a TCP port too, and the clients of both.
 
 ghost use Rattle.std.specs.Prelude.{◌≡◌, true};
 ghost use Rattle.node_loop.specs.Hosting.{AsksUpTo};
@@ -24,8 +24,8 @@ use std::os::unix::net::{UnixListener, UnixStream};
 use std::time::{Clock, Duration};
 use thiserror::Error;
 
-/// How many operators are served at a time, and how many who are told figures. One more is let in, for `health` and
-/// `stop` alone: what a connection is for stands in its first request.
+/// How many operators are served at a time, and how many clients of figures. One more is let in, for `health` and
+/// `stop` alone: what a connection is for is in its first request.
 const CLIENTS: usize = 8;
 
 const FIGURE_CLIENTS: usize = 4;
@@ -82,7 +82,7 @@ pub struct ControlSocket {
     figures: Option<Entrance>,
     poll: Poll,
     events: Events,
-    /// Whether those who are told figures come first now.
+    /// Whether the clients of figures come first now.
     is_figures_first: bool,
     /// The node's health as it was said last.
     health: Health,
@@ -265,7 +265,7 @@ impl Entrance {
     }
 
     /// Does what can be done at once for a client: one read, one answer, one write. The client beyond the others is let
-    /// go behind its first answer, so that it is there for whoever asks next.
+    /// go behind its first answer, so that it is there for the next client.
     fn look_at<R: Records>(&mut self, place: usize, service: &mut HttpService<R>, now: u64) -> Look
         ensures asks { AsksWithin service.old service.new }
         ensures figures { ServesFigures service.old service.new }
@@ -339,10 +339,10 @@ impl Entrance {
 
 impl ControlSocket {
     /// Opens the control socket at a path, where a socket that a node left which is gone is taken away first; and a
-    /// port at which figures alone are told, where one is asked for.
+    /// port at which figures alone are served, where one is asked for.
     ///
     /// `NoPort` (82) where the system refuses the port. `NoSocket` (84) where another node answers at the path, where
-    /// something else stands there, or where the system refuses the socket: then nothing stands there that didn't
+    /// something else is there, or where the system refuses the socket: then nothing is there that didn't
     /// before.
     pub fn open<RT>(
         rt: &RT,
@@ -393,7 +393,7 @@ impl ControlSocket {
         self.operators.has_more()
     }
 
-    /// Waits until something comes, so many milliseconds at most.
+    /// Waits until something comes, at most n milliseconds.
     pub fn wait(&mut self, milliseconds: u32) {
         if milliseconds == 0 {
             return;
@@ -415,12 +415,12 @@ impl ControlSocket {
         }
     }
 
-    /// Closes the control socket, and takes the socket away that stands at the path.
+    /// Closes the control socket, and takes the socket away that is at the path.
     pub fn close<RT: Files>(self, rt: &RT, path: &str) {
         let _gone = fs::remove_file(rt, path);
     }
 
-    /// Serves those who are told figures, if there is a port for them.
+    /// Serves the clients of figures, if there is a port for them.
     fn serve_figures<R: Records>(&mut self, service: &mut HttpService<R>, now: u64) -> bool
         ensures asks { AsksWithin service.old service.new }
         ensures figures { service.new.handler ≡ service.old.handler }
@@ -431,7 +431,7 @@ impl ControlSocket {
         }
     }
 
-    /// Serves those who are told figures, and operators where nothing was done there.
+    /// Serves the clients of figures, and operators where nothing was done there.
     fn figures_first<R: Records>(&mut self, service: &mut HttpService<R>, now: u64) -> bool
         ensures { AsksWithin service.old service.new }
     {
@@ -441,7 +441,7 @@ impl ControlSocket {
         self.operators.serve(&self.poll, service, false, now)
     }
 
-    /// Serves operators, and those who are told figures where nothing was done there.
+    /// Serves operators, and the clients of figures where nothing was done there.
     fn operators_first<R: Records>(&mut self, service: &mut HttpService<R>, now: u64) -> bool
         ensures { AsksWithin service.old service.new }
     {
@@ -451,7 +451,7 @@ impl ControlSocket {
         self.serve_figures(service, now)
     }
 
-    /// Serves clients between two rounds of the node, operators and those who are told figures first in turn: some
+    /// Serves clients between two rounds of the node, operators and the clients of figures first in turn: some
     /// changes are asked, or one other request is worked at. Whether anything was done.
     pub(crate) fn serve<R: Records>(&mut self, service: &mut HttpService<R>, now: u64) -> bool
         ensures { AsksUpTo CHANGES service.old.handler.node service.new.handler.node }

@@ -23,10 +23,10 @@ const MEMBERS: usize = 15;
 const ADVICE: &str = "Do they run, and have all the same key, cluster and list of members?";
 
 /// Warns once on standard error when, for ten seconds, valid datagrams have come from too few members to form a
-/// majority with this one; and tells when a majority is heard again. So a node whose key, cluster, number or list of
-/// members isn't that of the others is told from one that works. It tells too when the node has caught up that lacked
-/// what others have, and warns once that others are at positions near the end of the log. Times are in microseconds
-/// since the start.
+/// majority with this one; and reports when a majority is heard again. So a node whose key, cluster, number or list of
+/// members isn't that of the others can be distinguished from one that works. It also reports when the node has caught
+/// up that lacked what others have, and warns once that others are at positions near the end of the log. Times are in
+/// microseconds since the start.
 #[derive(Clone, Copy)]
 pub(crate) struct Hearing {
     m: Membership,

@@ -9,7 +9,7 @@
 //! - [`Observer`]: what is seen of the node as it runs, for the request handler's figures and for warnings on standard
 //!   error.
 //!
-//! Whoever may open the socket's file may ask: its mode, 0660, and the folder that it lies in say who.
+//! Whoever may open the socket's file may ask: its mode, 0660, and the folder that it is in say who.
 //!
 //! # Why
 //!

@@ -78,7 +78,7 @@ fn close_at<RT: Files>(rt: &RT, control: Option<ControlSocket>, place: Option<Co
     }
 }
 
-/// Where the members listen, as clients are told.
+/// Where the members listen, as clients are answered.
 fn members_at<'a>(place: Option<ControlPlace<'a>>) -> &'a str {
     match place {
         Some(place) => place.members,

@@ -7,7 +7,7 @@ use px_records::Records;
 use std::io::Eprint;
 use std::time::{Clock, SystemTime};
 
-/// The present time; none where the clock can't be read, or tells a time past the year 9999.
+/// The present time; none where the clock can't be read, or gives a time past the year 9999.
 fn date_now<RT: Clock>(rt: &RT) -> Option<HttpDate> {
     match SystemTime::now(rt) {
         Ok(now) => HttpDate::try_from(now).ok(),

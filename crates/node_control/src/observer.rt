@@ -172,7 +172,7 @@ fn first_rows(alloc: Global, m: Membership) -> Result<Vec<Row>, AllocError> {
 }
 
 impl Row {
-    /// What is told of the member, at this time.
+    /// What is reported of the member, at this time.
     fn told(&self, now: u64) -> PeerCounters {
         let [_, _, shown] = self.earlier;
         PeerCounters {
@@ -203,7 +203,7 @@ impl Row {
 
 impl Observer {
     /// The observer of this member, which has seen nothing; whether datagrams go in packets, so that none is too long
-    /// for one, and whether it warns alone, and tells nothing else, on standard error.
+    /// for one, and whether it warns alone, and reports nothing else, on standard error.
     pub fn new(
         alloc: Global,
         m: Membership,

@@ -24,11 +24,11 @@ pub(crate) struct HttpService<R: Records> {
     pub(crate) handler: RequestHandler<R>,
     /// What was counted.
     pub(crate) counters: Counters,
-    /// Whether the node takes no change in now, since it lacks entries that others have.
+    /// Whether the node accepts no change now, since it lacks entries that others have.
     pub(crate) is_listening: bool,
     /// How many changes may be asked before the node's next round.
     pub(crate) changes_left: u8,
-    /// Whether what comes now came where figures alone are told, and nothing is changed.
+    /// Whether what comes now came where figures alone are served, and nothing is changed.
     pub(crate) is_scraped: bool,
     /// Whether what comes now came over the connection that is kept for `health` and `stop`.
     pub(crate) is_spare: bool,
@@ -218,7 +218,7 @@ impl<R: Records> HttpService<R> {
         response.body.put_slice(answer.body.as_bytes())
     }
 
-    /// Writes an answer; where memory is wanting for that it is 503 alone, since what was asked may be done.
+    /// Writes an answer; if memory runs out it is 503 alone, since what was asked may be done.
     fn write(&self, answer: &Answer, kind: &str, response: &mut Response)
         requires { IsBlank response.old }
         ensures { Says response.new (answer_value answer.now) }

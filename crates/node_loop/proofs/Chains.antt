@@ -228,14 +228,14 @@ pub round_took : {R : Type 0} {G : Ghosts R} (n : ℕ) (d : Bool) (w x y z v : S
     Same w x → SawAll n x y s t → Resent y z → TickedIf d z v → (k : ℕ) × (d : Bool) × TookThenTicked k d w v
 round_took n d w x y z v s t a b c e = (n, d, then_ticked n d w x y z v s t a b c e)
 
--- what a timer is told at a look
+-- what a timer is given at a look
 pub looked_so : (a b c : List Told → Type 0) (now : ℕ) (v : View) (t : PeerProgress) (q : Bool) → t.is_accepting ≡ q →
     Adds a b (Told.Looks now v ∷ []) → Adds b c (sends_if q now) → Adds a c (looks now v t)
 looked_so a b c now v t q e g h =
     adds_then a b c (Told.Looks now v ∷ []) (sends_if t.is_accepting now) g
     (subst (λ (p : Bool). Adds b c (sends_if p now)) (sym e) h)
 
--- what is seen in it, and what the timer is told
+-- what is seen in it, and what the timer is given
 pub round_saw : {R : Type 0} {G : Ghosts R} (n now was : ℕ) (w x y : Stand G) (o s t u : PeerProgress) (v : View)
     (a b c : List Told → Type 0) → Same w x → s ≡ o → SawAll n x y s t → u ≡ looked t → was ≡ front (learned_by w.replica) →
     v ≡ view_of y.replica was t → Adds a b (looks now v t) → Adds b c (Told.Repeats now ∷ []) →

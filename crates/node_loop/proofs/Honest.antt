@@ -1,4 +1,4 @@
--- What became of a record in a run, in the words of the model.
+-- What became of a record in a run, in the terms of the model.
 use Rattle.std.proofs.Common.{◌≢◌, ◌∙◌, ℕ, Bool, List, [], ◌∷◌, ◌++◌, Option, Some, None, refl, sym, ap, subst, inl, inr}
 use Rattle.px_model.specs.Node.{Record}
 use Rattle.px_model.specs.Spelling.{Bytes}

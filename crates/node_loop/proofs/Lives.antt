@@ -1,4 +1,4 @@
--- Turns are steps of the model that befell a member, and what they took and handed out went over its wire.
+-- Turns are steps of the model that happened to a member, and what they took and handed out went over its wire.
 use Rattle.std.proofs.Common.{◌≡◌, ◌≢◌, ◌∙◌, ℕ, zero, suc, ◌<◌, Bool, true, false, List, [], ◌∷◌, ◌++◌, Option, Some, None, Result, refl, sym, ap, subst, inl, inr, arith}
 use Rattle.std.proofs.lemmas.Bool.{false_from_ne_true}
 use Rattle.std.proofs.lemmas.List.{append-nil}
@@ -453,7 +453,7 @@ module _ {R : Type 0} (G : Ghosts R)
     membership = l.membership;
   }
 
-  -- and then the call that failed, whichever fault is told in the end
+  -- and then the call that failed, whichever fault is reported in the end
   pub ended_living : (x w z : Stand G) (e : NodeFault) (a : Option NodeFault) → Led (membership_of x.replica) x w →
       (d : Ended w z e) → (a ≡ None → d.last ≡ []) → Living x z a
   ended_living x w z e a l d whole = record {

@@ -1,4 +1,4 @@
--- How often a timer was told what is seen.
+-- How often a timer was given what is seen.
 use Rattle.std.proofs.Common.{◌≡◌, ◌∙◌, ℕ, suc, ◌+◌, ◌*◌, ◌≤◌, Bool, true, false, List, [], ◌∷◌, ◌++◌, refl, arith}
 use Rattle.px_transport.specs.Wires.{Adds}
 use Rattle.px_transport.proofs.Traffic.{adds_none, adds_then}
@@ -29,7 +29,7 @@ looks_once a b c now v t g h =
     let all = looks_append (looks now v t) (Told.Repeats now ∷ []) in
     (looks now v t ++ Told.Repeats now ∷ [], omega (arith, none, all), adds_then a b c (looks now v t) (Told.Repeats now ∷ []) g h)
 
--- it is told something else
+-- it is given something else
 pub looks_not : (a b : List Told → Type 0) (ts : List Told) → looks_in ts ≡ 0 → Adds a b ts → LooksTimes 0 a b
 looks_not a b ts none g = (ts, none, g)
 

@@ -1,4 +1,4 @@
--- What comes to a member from members asks nothing.
+-- What arrives at a member from members asks nothing.
 use Rattle.std.specs.Prelude.{◌≢◌, ℕ, List, Result}
 use Rattle.px_model.specs.Node.Message.{Ask}
 use Rattle.px_model.specs.Spelling.{Bytes}

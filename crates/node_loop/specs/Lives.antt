@@ -45,8 +45,8 @@ stands n traffic b = record {
   hears_asks = b.hears_asks;
 }
 
--- What is said of turns at whose end so many positions are learned without a gap and so many are applied: how many
--- these are, or the fault. Where there is no wire, or memory is wanting before the first turn, none is made.
+-- What is said of turns at whose end n positions are learned without a gap and that many are applied: how many
+-- these are, or the fault. Where there is no wire, or memory runs out before the first turn, none is made.
 abbrev pub Tells : (front applied : ℕ) → (answered : Option NodeFault) → Ended → Type 0
 Tells n applied None ended = (ended ≡ Front n applied) ⊎ ((ended ≡ NoWire) ⊎ (ended ≡ Fault fault.Memory))
 Tells n applied (Some e) ended = ended ≡ Fault e
@@ -118,9 +118,9 @@ HostedRuns G m given w v ended back =
 
 -- ---- a life
 
--- Steps of the model, one after the other, befell the member from what its record held on, up to the call that failed,
--- if one did. That is what the record holds then, unless a call on it failed; and whatever a stop leaves of it is that,
--- or that with the change of the next step.
+-- Steps of the model, one after the other, happened to the member from what its record held on, up to the call that
+-- failed, if one did. That is what the record holds then, unless a call on it failed; and whatever a stop leaves of it
+-- is that, or that with the change of the next step.
 -- What went over the wire meanwhile are the member's moves: each message that came was given in its place, and what each
 -- step sends was handed over after it, each datagram once, in order; and last what came for the call that failed and
 -- after it, and what was handed over again.
@@ -153,16 +153,16 @@ HostedRunsAreLived {R} G =
 
 -- ---- one life of several runs
 
--- A run begins what befell the member; or before it a stop cut a call short, for a message that one of these datagrams
--- brought if it was for one, and the member was opened.
+-- A run begins what happened to the member; or before it a stop cut a call short, for a message that one of these
+-- datagrams brought if it was for one, and the member was opened.
 abbrev pub IsStart : Group → (me : ℕ) → (gave : List Bytes) → List Deed → Type 0
 IsStart g me gave ds =
     (ds ≡ []) ⊎ ((input : Input Bytes) × (left : Record Bytes) × AreBrought g me gave (message_in input) ×
     (ds ≡ Stops input left ∷ Opens ∷ []))
 
--- In these runs, the latest first, each over a wire of its own, this befell the member, and these events are the last
--- ones, since a call failed in the latest. A run is what went over its wire in it: the member's moves, and then, where a
--- call failed, what came for it and after it, and what was handed over again.
+-- In these runs, the latest first, each over a wire of its own, this happened to the member, and these events are the
+-- last ones, since a call failed in the latest. A run is what went over its wire in it: the member's moves, and then,
+-- where a call failed, what came for it and after it, and what was handed over again.
 abbrev pub AreOver : Group → (me : ℕ) → (runs : List (List WireEvent)) → List Deed → (last : List WireEvent) → Type 0
 AreOver g me [] ds last = (ds ≡ []) × (last ≡ [])
 AreOver g me (es ∷ runs) ds last =

@@ -1,4 +1,4 @@
--- What befalls a node in its turns, in the words of the law of nodes, and what goes over its wire meanwhile.
+-- What happens to a node in its turns, in the terms of the law of nodes, and what goes over its wire meanwhile.
 use Rattle.std.specs.Prelude.{◌≡◌, ◌≢◌, ◌⊎◌, ℕ, Bool, true, false, List, [], ◌∷◌, ◌++◌, Option, None, Some}
 use Rattle.px_model.specs.Law.{Among}
 use Rattle.px_model.specs.Node as node
@@ -116,9 +116,9 @@ abbrev pub LeavesThere : Group → (me : ℕ) → (gave : List Bytes) → NodeSt
 LeavesThere g me gave s left =
     (x : Input Bytes) × IsInput g me x × AreBrought g me gave (message_in x) × LeavesOne g.members me s x left
 
--- Steps of the model, one after the other, befell the member, up to the call that failed, if one did. There it stands,
--- unless a call on its record failed; and whenever it stops it leaves its record as it was there, or with the change of
--- the next step.
+-- Steps of the model, one after the other, happened to the member, up to the call that failed, if one did. There it
+-- stands, unless a call on its record failed; and whenever it stops it leaves its record as it was there, or with the
+-- change of the next step.
 -- What went over its wire are its moves: each message that came to it was given in its place, and what each step sends
 -- was handed over after it, each datagram once, in order. And then, where a call failed, what came for that call and
 -- after it, and what was handed over again.

@@ -13,7 +13,7 @@ IsOutside g me bytes = (from : ℕ) (message : Message) → DatagramBytes g from
 abbrev pub IsKnown : Group → (me : ℕ) → (hears_asks : Bool) → (before : List Bytes) → Bytes → Type 0
 IsKnown g me hears before bytes = Among before bytes ⊎ ((hears ≡ false) × IsOutside g me bytes)
 
--- the datagram is no message that comes to the member: it is nobody's, or known
+-- the datagram is no message that arrives at the member: it is nobody's, or known
 abbrev pub IsPassedOver : Group → (me : ℕ) → (hears_asks : Bool) → (before : List Bytes) → Bytes → Type 0
 IsPassedOver g me hears before bytes = IsUnspelled g me bytes ⊎ IsKnown g me hears before bytes
 

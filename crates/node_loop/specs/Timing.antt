@@ -1,4 +1,4 @@
--- What a node's timer is told in a round: the time, how the node is, and what was seen of others, all as the datagrams
+-- What a node's timer is given in a round: the time, how the node is, and what was seen of others, all as the datagrams
 -- that were taken left them. So one that is nobody's changes nothing of it.
 use Rattle.std.specs.Prelude.{◌≡◌, ◌≤◌, ℕ, suc, ◌*◌, ◌==◌, ◌&&◌, Bool, true, false, not, List, [], ◌∷◌, ◌++◌}
 use Rattle.std.specs.Prelude.{is_some, length}
@@ -19,7 +19,7 @@ abbrev pub IsShort : Action → Type 0
 IsShort actions.Tick = Unit {0}
 IsShort (actions.Wait milliseconds) = (1 ≤ milliseconds) × (milliseconds ≤ 100)
 
--- what a timer is told
+-- what a timer is given
 pub data Told : Type 0 where
   -- what is seen at this time, so that it says whether the clock ticks
   Looks : (now : ℕ) (view : View) → Told
@@ -46,11 +46,11 @@ abbrev pub sends_if : Bool → (now : ℕ) → List Told
 sends_if true now = Told.Sends now ∷ []
 sends_if false now = []
 
--- what it is told at a look
+-- what it is given at a look
 abbrev pub looks : (now : ℕ) → View → PeerProgress → List Told
 looks now v t = Told.Looks now v ∷ sends_if t.is_accepting now
 
--- n datagrams were taken, one after the other; then the timer was told what they left to see, and nothing else; and
+-- n datagrams were taken, one after the other; then the timer was given what they left to see, and nothing else; and
 -- what was seen was looked at.
 pub record SawThenLooked {R : Type 0} {G : Ghosts R} (n now : ℕ) (x : Stand G) (s u : PeerProgress)
     (before after : List Told → Type 0) : Type 0 where
@@ -63,7 +63,7 @@ pub record SawThenLooked {R : Type 0} {G : Ghosts R} (n now : ℕ) (x : Stand G)
 
 -- ---- how many rounds there were
 
--- how often it was told what is seen
+-- how often it was given what is seen
 abbrev pub looks_in : List Told → ℕ
 looks_in [] = 0
 looks_in (Told.Looks now view ∷ ts) = suc (looks_in ts)
@@ -71,10 +71,11 @@ looks_in (Told.Sends now ∷ ts) = looks_in ts
 looks_in (Told.Repeats now ∷ ts) = looks_in ts
 looks_in (Told.Ends ∷ ts) = looks_in ts
 
--- it was told what is seen n times from one to the other
+-- it was given what is seen n times from one to the other
 abbrev pub LooksTimes : (n : ℕ) → (before after : List Told → Type 0) → Type 0
 LooksTimes n before after = (more : List Told) × (looks_in more ≡ n) × Adds before after more
 
--- In each round it is told once what is seen, and a round is at most 65 turns: so a round at least was made for each 65.
+-- In each round it is given once what is seen, and a round is at most 65 turns: so a round at least was made for each
+-- 65.
 abbrev pub MakesTurns : (turns : ℕ) → (before after : List Told → Type 0) → Type 0
 MakesTurns turns before after = (n : ℕ) × (turns ≤ 65 * n) × LooksTimes n before after

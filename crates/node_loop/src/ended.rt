@@ -7,7 +7,7 @@ use px_replica::NodeFault;
 pub enum Ended {
     /// All turns were made: how many positions are learned without a gap, and how many are applied.
     Front { front: u32, applied: u32 },
-    /// The record wasn't opened, memory was wanting before the first turn, or this fault ended the turns.
+    /// The record wasn't opened, memory ran out before the first turn, or this fault ended the turns.
     Fault(NodeFault),
     /// There is no wire, and no turn was made.
     NoWire,

@@ -18,10 +18,10 @@ const TRIPS: (u64, u64) = (500, 4_000_000);
 /// How long an idle node waits before it asks what it lacks, in microseconds.
 const IDLE: u64 = 1_000_000;
 
-/// How long a member that starts waits to hear how far others are before it takes commands in, in microseconds.
+/// How long a member that starts waits to hear how far others are before it accepts commands, in microseconds.
 const START: u64 = 200_000;
 
-/// How long a node that lacks entries takes no commands in while nothing moves its front, in microseconds.
+/// How long a node that lacks entries accepts no commands while nothing moves its front, in microseconds.
 const BEHIND: u64 = 2_000_000;
 
 /// How long an entry may be on its way behind those that come after it, beside a round trip, in microseconds.
@@ -277,7 +277,7 @@ impl TickTimer {
     }
 
     /// How long a node keeps still that lost the lead, while the front stays: one to sixteen sixteenths, as drawn, of
-    /// four answers' time and some more. That doubles with each loss, three times at most: a refusal tells nothing of
+    /// four answers' time and some more. That doubles with each loss, three times at most: a refusal says nothing of
     /// the line, and a longer pause leaves a node behind where others go on. An attempt's time would grow with the
     /// pauses of others, and they with it.
     fn pause(&self) -> u64
@@ -433,7 +433,7 @@ impl TickTimer {
 }
 
 impl Timer for TickTimer {
-    // what it was told isn't kept, and is all that it decides by
+    // what it was given isn't kept, and is all that it decides by
     ghost told = { λ p told. Unit {0} };
 
     fn action(&mut self, now: u64, view: View) -> Action

@@ -26,7 +26,7 @@ use std::alloc::{AllocError, Global};
 ///
 /// Of the votes that fit into a packet the last 131,072 are kept, and 16 MiB at most. [`Resender::repeat_to`] sends a
 /// member those that it lacks, at 63 positions at most and in 10 ms no more than this member's part of what its socket
-/// takes in: those that it wasn't sent again yet where it comes on, and all where it doesn't, or comes on by just one
+/// accepts: those that it wasn't sent again yet where it comes on, and all where it doesn't, or comes on by just one
 /// three times in a row, each 20 ms at most. The votes that the member sent to itself are among these, since it drops
 /// those outside its window: [`Resender::repeat_own`] hands it those again that its window has reached.
 #[derive(Drop)]

@@ -14,7 +14,7 @@ use std::alloc::{AllocError, Global};
 /// for a whole one.
 const ROOM_BYTES: usize = 33_057;
 
-/// How many datagrams are taken in a round at most.
+/// How many datagrams are handled in a round at most.
 const HEADS: usize = 64;
 
 /// Room for the datagram that comes in a turn, and for what is sent; and what is sent again, what was seen of other
@@ -26,7 +26,7 @@ pub struct Room {
     pub(crate) out: Vec<Datagram>,
     /// What was seen of other members.
     pub(crate) peer_progress: PeerProgress,
-    /// The heads of the messages that were taken in the last round.
+    /// The heads of the messages that were handled in the last round.
     pub(crate) heads: Vec<Head>,
     pub(crate) resender: Resender,
     /// Whether asks from outside are heard.

@@ -54,7 +54,7 @@ pub struct Progress {
     pub wait: u32,
 }
 
-/// The clock ticks if it is to, after so many datagrams; else it is waited, unless the member was handed own votes.
+/// The clock ticks if it is to, after n datagrams; else it is waited, unless the member was handed own votes.
 fn tick_if<R: Records, W: Wire>(
     node: &mut Node<R>,
     wire: &mut W,
@@ -185,7 +185,7 @@ fn begin(room: &mut Room, now: u64)
     room.resender.set_time(now);
 }
 
-/// What has come is taken, 64 datagrams at most; then the clock ticks where the timer says so, which is told of it what
+/// What has come is taken, 64 datagrams at most; then the clock ticks where the timer says so, which is given what
 /// those datagrams left to see and nothing else. These are turns of the
 /// node and nothing else. Answers how long may be waited before the next round.
 ///

@@ -226,7 +226,7 @@ fn take_one<R: Records, W: Wire>(
     }
 }
 
-/// Takes what has come, one datagram after the other, so many at most: how many there were. What is seen of other
+/// Takes what has come, one datagram after the other, at most n: how many there were. What is seen of other
 /// members comes from those alone that spell a message for this one. Their heads are kept until the next such call.
 pub(crate) fn drain<R: Records, W: Wire>(
     node: &mut Node<R>,

@@ -43,7 +43,7 @@ pub(crate) struct Sent {
     pub(crate) bytes: Vec<u8>,
 }
 
-/// What a member was told of the votes.
+/// What was sent to a member of the votes.
 #[derive(Clone, Copy)]
 pub(crate) struct Told {
     /// The first position that it lacked when it was looked at last.
@@ -60,7 +60,7 @@ pub(crate) struct Told {
 }
 
 /// The votes that were sent last, in ascending order of position, those of one ballot at each position; and what each
-/// member was told of them again.
+/// member was sent them again.
 #[derive(Drop)]
 pub(crate) struct Votes {
     pub(crate) alloc: Global,

@@ -27,14 +27,14 @@ pub struct View {
 pub enum Action {
     /// Its clock ticks.
     Tick,
-    /// It waits for a datagram, so many milliseconds at most, 1 to 100.
+    /// It waits for a datagram, at most n milliseconds, 1 to 100.
     Wait(u32),
 }
 
-/// When a node's clock ticks, and when what was sent is sent again. It decides by what it is told here and by nothing
+/// When a node's clock ticks, and when what was sent is sent again. It decides by what it is given here and by nothing
 /// else. Times are in microseconds since the node started, and never go back.
 pub trait Timer {
-    // it was told this so far, in order
+    // it was given this so far, in order
     ghost told: { Self → List Told → Type 0 };
 
     /// What the node does next, at this time, where this is seen of it.
@@ -51,10 +51,10 @@ pub trait Timer {
     fn repeats(&mut self, now: u64) -> bool
         ensures told { Adds (told self.old) (told self.new) (Repeats now ∷ []) };
 
-    /// From now on the node takes no command in.
+    /// From now on the node accepts no command.
     fn end(&mut self)
         ensures told { Adds (told self.old) (told self.new) (Ends ∷ []) };
 
-    /// Whether the node listens, and takes no command in.
+    /// Whether the node listens, and accepts no command.
     fn is_listening(&self, now: u64) -> bool;
 }

@@ -17,8 +17,8 @@ const MOST_VOTES: usize = 131_072;
 
 const MOST_BYTES: usize = 16 * 1_024 * 1_024;
 
-/// How many positions a member takes votes in at, from the first that it lacks on. It is answered the one below by who
-/// learned it, so one less than the 64 of its window are sent.
+/// How many positions a member accepts votes at, from the first that it lacks on. It is answered the one below by
+/// whoever learned it, so one less than the 64 of its window are sent.
 const WINDOW: u32 = 63;
 
 /// How often a member comes on by just one before it is taken to lack what it was sent.
@@ -30,7 +30,7 @@ const PAUSE: u64 = 20_000;
 /// How often this member's part of a socket may be filled, in microseconds.
 const FILLING: u64 = 10_000;
 
-/// How many bytes a member's socket takes in before they are read, as Linux counts them, where nobody set another size
+/// How many bytes a member's socket buffers before they are read, as Linux counts them, where nobody set another size
 /// (212,992) and with some left free.
 const ROOM: usize = 196_608;
 

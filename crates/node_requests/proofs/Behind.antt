@@ -1,4 +1,4 @@
--- A text behind a front.
+-- A string behind a front.
 use Rattle.std.proofs.Common.{◌≡◌, ◌≢◌, ◌∙◌, ℕ, ◌+◌, ◌≤◌, true, false, true≢false, List, [], ◌∷◌, ◌++◌, length, take}
 use Rattle.std.proofs.Common.{drop, refl, sym, ap, Bor, Option, Some, None, option_copied, ⊎_elim, take-append-drop}
 use Rattle.std.specs.Prelude.{if◌then◌else◌}

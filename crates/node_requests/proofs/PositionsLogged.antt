@@ -10,7 +10,7 @@ lines_step : (log : Log Bytes) (applied kept end n : ℕ) → 0 < n →
 lines_step log applied kept end zero some = absurd (omega arith)
 lines_step log applied kept end (suc n) some = let e : suc n - 1 ≡ n = omega arith in rw e refl
 
--- a text with one line more
+-- a string with one line more
 pub one_more : (log : Log Bytes) (applied kept end n : ℕ) (before after : List ℕ) → 0 < n →
     after ≡ before ++ log_line log applied kept (end - n) →
     after ++ lines_before log applied kept end (n - 1) ≡ before ++ lines_before log applied kept end n

@@ -16,7 +16,7 @@ pub record AnswerValue : Type 0 where
   pub code : ℕ
   pub body : List ℕ
 
--- nothing is taken in: all positions are used, or the store failed
+-- nothing is accepted: all positions are used, or the store failed
 -- Source: RFC 9110, 15. Example: 20 is 404, 40 is 400.
 abbrev pub is_unavailable : ℕ → Bool
 is_unavailable code = (code == 62) || (code == 70) || (code == 72) || (code == 80)
@@ -34,7 +34,7 @@ status_of code =
 abbrev pub shown : List ℕ → AnswerValue
 shown body = record { code = 200; body = body }
 
--- the status for a refusal, and its line: the number, and a line of a text where it isn't 0
+-- the status for a refusal, and its line: the number, and a line of a ruleset where it isn't 0
 -- Example: refused 12 3 is 400 and refused 12 line 3.
 abbrev pub refused : ℕ → ℕ → AnswerValue
 refused code at = record { code = status_of code; body = refused_line code at }
@@ -52,12 +52,12 @@ listed c words = answered (words_read c words [])
 
 -- ---- packets
 
--- an answer with a text before its body
--- Example: over nothing, a packet and then a text that is none: 400, pass default and refused 30.
+-- an answer with a string before its body
+-- Example: over nothing, a packet and then a string that is none: 400, pass default and refused 30.
 abbrev pub behind : List ℕ → AnswerValue → AnswerValue
 behind text later = record { code = later.code; body = text ++ later.body }
 
--- a verdict before what follows; a text that is no packet ends it
+-- a verdict before what follows; a string that is no packet ends it
 abbrev pub put_verdict : Option (List ℕ) → AnswerValue → AnswerValue
 put_verdict None later = refused 30 0
 put_verdict (Some verdict) later = behind (line verdict) later

@@ -19,7 +19,7 @@ digits_line (Some bytes) = encode_lower bytes ++ codes "\n"
 abbrev pub entry_line : Log Bytes → (p : ℕ) → List ℕ
 entry_line log p = digits_line (option_map spelled (log p))
 
--- the lines of the last n positions before an end, behind a text
+-- the lines of the last n positions before an end, behind a string
 abbrev pub entries_before : Log Bytes → (end n : ℕ) → List ℕ → List ℕ
 entries_before log end zero text = text
 entries_before log end (suc n) text =

@@ -1,4 +1,4 @@
--- The words of a listing, as a script of pfctl's has them.
+-- The words in a listing, as a script of pfctl's has them.
 use Rattle.std.specs.Prelude.{ℕ, List, [], ◌∷◌, map, codes, string_bytes}
 use Rattle.clap.specs.Words.{Text}
 use Rattle.node_requests.specs.declared.request.Listing.{Listing}

@@ -13,7 +13,7 @@ use Rattle.node_requests.specs.Answers.{AnswerValue, shown}
 abbrev pub bytes_max : ℕ
 bytes_max = 262144
 
--- the lines of the last n positions before an end, behind a text
+-- the lines of the last n positions before an end, behind a string
 abbrev pub lines_before : Log Bytes → (applied kept end n : ℕ) → List ℕ → List ℕ
 lines_before log applied kept end zero text = text
 lines_before log applied kept end (suc n) text =

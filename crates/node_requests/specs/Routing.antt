@@ -50,7 +50,7 @@ pub data RoutedValue : Type 0 where
 abbrev pub is_newline : ℕ → Bool
 is_newline b = b == 10
 
--- a change: the words of the first line, and the text behind it
+-- a change: the arguments of the first line, and the text behind it
 -- Example: -a x -f -, a newline and block ask for pfctl -a x -f - over block.
 abbrev pub change_of : Option (List Text) → (text : List ℕ) → RoutedValue
 change_of None text = Unread 40

@@ -21,7 +21,7 @@ is_taken (Some (first, last)) number = nat_le first number && nat_le number last
 abbrev pub applied_line : ℕ → List ℕ
 applied_line p = line (codes "applied " ++ decimal p)
 
--- it is taken in, or learned and not applied yet
+-- it is accepted, or learned and not applied yet
 abbrev pub waiting : AnswerValue
 waiting = shown (codes "waiting\n")
 

@@ -10,7 +10,7 @@ use Rattle.node_requests.specs.declared.counters.PeerCounters.{PeerCounters}
 use Rattle.node_requests.specs.declared.counters.Counters.{Counters}
 use Rattle.node_requests.specs.Health.{health_word}
 
--- a text and the number behind it
+-- a string and the number behind it
 abbrev pub field : Text × ℕ → List ℕ
 field f = f.0 ++ decimal f.1
 

@@ -108,7 +108,7 @@ impl<R: Records> RequestHandler<R> {
     }
 
     /// What became of a request: `applied`, its position and what came of it where that is applied, `waiting` where it
-    /// is learned, or was taken in here and isn't learned below the front, else 404 and `unknown`.
+    /// is learned, or was accepted here and isn't learned below the front, else 404 and `unknown`.
     pub fn standing(&self, origin: u8, number: u64) -> Result<Answer, AllocError>
         ensures { IfOk result (λ a. answer_value a ≡ standing self.now.node self.now.taken origin number) }
     {

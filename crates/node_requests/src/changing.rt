@@ -18,9 +18,9 @@ use std::alloc::{AllocError, Global};
 pub enum Changed {
     /// The node took the command in: its number as a member, and the number that the request got there.
     Asked(u8, u64),
-    /// It wasn't taken in: the number of the refusal.
+    /// It wasn't accepted: the number of the refusal.
     Refused(u8),
-    /// It wasn't taken in: memory runs out.
+    /// It wasn't accepted: memory runs out.
     Memory,
 }
 
@@ -40,7 +40,7 @@ fn refused_by(fault: NodeFault) -> Changed
     }
 }
 
-/// Asks the node to take the command in.
+/// Asks the node to accept the command.
 fn ask_once<R: Records>(node: &mut Node<R>, command: &Command) -> Changed
     ensures { AskedOnce node.old node.new (command_value command.now) result }
 {
@@ -97,7 +97,7 @@ fn asked_line(alloc: Global, origin: u8, number: u64) -> Result<String, AllocErr
 }
 
 impl Changed {
-    /// The answer to a change: 202 where it was taken in, else the refusal.
+    /// The answer to a change: 202 where it was accepted, else the refusal.
     pub fn to_answer(self, alloc: Global) -> Result<Answer, AllocError>
         ensures { IfOk result (λ a. answer_value a ≡ change_answer self) }
     {

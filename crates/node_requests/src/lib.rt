@@ -17,6 +17,23 @@
 //! # Why
 //!
 //! - Nothing here knows of sockets: node_control moves the bytes, and hands in what it counted ([`Counters`]).
+//! - **Reads are answered by the definitions that scripts have**, at the position that the node has applied; a change
+//!   is one ask. A run with a control socket is a trace of the model, as one without is (`hosted_runs_are_lived`).
+//! - **The verdicts of one request meet at most 10,000 rules together**, each anchor that is attached to another
+//!   counted as one, since a node that computes a verdict does nothing else. `pfx ask test` asks for the others again,
+//!   three times from the start where another position was applied meanwhile. Listings aren't cut: `docs/SPEED.md` has
+//!   what the longest takes.
+//! - **`stuck` goes by the front**, not by a command. **`behind` goes by what was shown 2 seconds ago**: a sound node
+//!   lacks the last positions while votes are on their way.
+//! - **A carriage return before a newline is no part of an address or a packet**: bodies over HTTP may have such lines.
+//!   In a change it is refused, as in pf.conf(5).
+//! - **The addresses of a look-up follow `--`**, so no line of a body is read as an option of pfctl's.
+//! - **`sync` is a load that no configuration accepts**: it is learned and applied, and changes nothing.
+//! - **A request is sought in the log whenever a client asks for it**, from the front down. One that waits has a number
+//!   above all that this node's requests had a stretch before, so the search ends there (pf_node).
+//! - **This socket lacks** counters of rules and states (pfctl), since there is no traffic here; certificates
+//!   (unbound-control), since nothing leaves the machine; watches and reads through a leader (etcdctl), blocking
+//!   queries and tokens (consul): `sync` and `--at` serve for these.
 #![tactic(auto)]
 
 mod answer;

@@ -24,7 +24,7 @@ fn at_path<'a>(alloc: Global, path: &'a str, words: &[&'a str]) -> Result<Vec<&'
     Ok(all)
 }
 
-/// The words of a table's test. Behind `--` no address is read as an option.
+/// The words in a table's test. Behind `--` no address is read as an option.
 fn test_words<'a>(
     alloc: Global,
     path: &'a str,
@@ -50,7 +50,7 @@ fn anchor_words<'a>(alloc: Global) -> Result<Vec<&'a str>, AllocError>
     Ok(all)
 }
 
-/// The words of a listing, `pfctl` first.
+/// The words in a listing, `pfctl` first.
 fn words_of<'a, 'b: 'a>(alloc: Global, listing: &'a Listing<'b>) -> Result<Vec<&'a str>, AllocError>
     ensures { IfOk result (λ v. map (λ w. w.now) v.items ≡ words_of listing.entry.now) }
 {

@@ -13,7 +13,7 @@ use pf_scripts::push_number;
 use px_records::Records;
 use std::alloc::{AllocError, Global};
 
-/// Puts the words of the command that bytes spell behind the text, with a blank before them.
+/// Puts the arguments of the command that bytes spell behind the text, with a blank before them.
 fn push_words(alloc: Global, out: &mut String, bytes: &[u8]) -> Result<(), AllocError>
     ensures { OnOk result (string_bytes out.new ≡ string_bytes out.old ++ words_read (reading bytes.now)) }
 {

@@ -42,7 +42,7 @@ fn text_of(bytes: &[u8]) -> Option<&str>
     }
 }
 
-/// The lines of a text.
+/// The lines of a string.
 fn lines(alloc: Global, text: &str) -> Result<Vec<&str>, AllocError>
     ensures { IfOk result (λ v. map (λ w. w.now) v.items ≡ lines text.now) }
 {
@@ -288,7 +288,7 @@ fn behind(path: &str) -> Option<&str>
 /// names `application/json`.
 ///
 /// The path has no escapes; those of the query are read, and `+` stands for a blank there. A line of the body ends with
-/// a newline, which the last one may lack; in bodies of addresses or packets a carriage return may stand before it.
+/// a newline, which the last one may lack; in bodies of addresses or packets a carriage return may be before it.
 pub fn request_in<'a>(
     alloc: Global,
     method: &str,

@@ -50,7 +50,7 @@ fn unknown(alloc: Global) -> Result<Answer, AllocError>
 }
 
 /// What became of a request: `applied`, its position and what came of it where that is applied, `waiting` where it is
-/// learned, or was taken in here and isn't learned below the front, else 404 and `unknown`.
+/// learned, or was accepted here and isn't learned below the front, else 404 and `unknown`.
 pub(crate) fn standing<R: Records>(
     alloc: Global,
     node: &Node<R>,

@@ -14,7 +14,7 @@ use crate::health::Health;
 use pf_scripts::push_number;
 use std::alloc::{AllocError, Global};
 
-/// Puts texts behind the output, each with its number.
+/// Puts strings behind the output, each with its number.
 pub(crate) fn push_fields(
     alloc: Global,
     out: &mut String,

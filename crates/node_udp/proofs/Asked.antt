@@ -54,7 +54,7 @@ view_lent e bytes (Some v) d same text =
 
 -- ---- answers
 
--- a message of the node is the answer that it tells, or none
+-- a message of the node is the answer that it gives, or none
 pub answers_told : (g : Group) (from me n : ℕ) (bytes : List ℕ) (x : Message) (r : Option AskAnswer) → me ≡ 255 →
     from ≡ n → DatagramBytes g from me x bytes → r ≡ ask_answer x →
     ((f : ℕ) (y : Message) → DatagramBytes g f me y bytes → (from ≡ f) × (x ≡ y)) → Answers g n (Some bytes) r

@@ -11,7 +11,7 @@ one_more [] (b ∷ rest) text a all one = absurd all
 one_more (t ∷ texts) [] text a all one = absurd all
 one_more (t ∷ texts) (b ∷ rest) text a all one = (all.0, one_more texts rest text a all.1 one)
 
--- of the texts up to a place, and of the one there
+-- of the strings up to a place, and of the one there
 pub found_more : {V : Type 0} (f : V → List ℕ) (xs : List V) (i : ℕ) (d : V) (rest : List Address) (a : Address)
     (now : List Address) → i < length xs → AreFound (map f (take i xs)) rest → IsFound (f (get_or xs i d)) a →
     now ≡ rest ++ a ∷ [] → AreFound (map f (take (i + 1) xs)) now

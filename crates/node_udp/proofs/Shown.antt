@@ -67,7 +67,7 @@ port_again n fits =
       le_is n 65535 fits,
     ) refl
 
--- ---- texts that a mark ends
+-- ---- strings that a mark ends
 
 same_mark : (mark : ℕ) → (mark == mark) ≡ true
 same_mark mark = grind (arith, nat_tests)
@@ -90,7 +90,7 @@ first_no_open : (text rest : List ℕ) → 0 < length text → AllByRecursion Is
 first_no_open [] rest some plain = absurd (omega (arith, some))
 first_no_open (b ∷ text) rest some plain = no_open b plain.0
 
--- an IPv4 address has no colon, since a text with one isn't read as IPv4
+-- an IPv4 address has no colon, since a string with one isn't read as IPv4
 
 six_only : (r : Result ℕ AddrFault) (bits : ℕ) → as_six r ≡ Ok (V4 bits) → ⊥
 six_only (Ok n) bits e = absurd cc

@@ -47,14 +47,14 @@ four_of text =
     let colon = prefix_len is_no_colon text in
     if colon == length text then None else joined (four_in (addr_of (take colon text))) (port_behind colon text)
 
--- what stands behind an opening bracket: an IPv6 address up to the closing one, which a colon follows (RFC 3986, 3.2.2)
+-- what is behind an opening bracket: an IPv6 address up to the closing one, which a colon follows (RFC 3986, 3.2.2)
 unfoldable pub six_of : List ℕ → Option Address
 six_of text =
     let end = prefix_len is_no_bracket text in
     if slice_index text (end + 1) == 58 then joined (six_in (addr_of (take end text))) (port_behind (end + 1) text)
     else None
 
--- an IPv6 address stands in brackets
+-- an IPv6 address is in brackets
 unfoldable pub address_of : List ℕ → Option Address
 address_of text = if slice_index text 0 == 91 then six_of (drop 1 text) else four_of text
 
@@ -95,7 +95,7 @@ host_port text =
 abbrev pub IsFound : List ℕ → Address → Type 0
 IsFound text a = (address_of text ≡ Some a) ⊎ ((address_of text ≡ None) × (host_port text ≡ Some a.port))
 
--- each of the texts, in order
+-- each of the strings, in order
 abbrev pub AreFound : List (List ℕ) → List Address → Type 0
 AreFound [] [] = Unit {0}
 AreFound [] (a ∷ rest) = ⊥

@@ -65,7 +65,7 @@ Answers g node came (Some a) = IsTheAnswer g node came a
 abbrev pub Hears : Group → (node : ℕ) → (es : List WireEvent) → Option AskAnswer → (es' : List WireEvent) → Type 0
 Hears g node es r es' = (came : Option (List ℕ)) × (es' ≡ es ++ gives came) × Answers g node came r
 
--- so many waits at most: the first answer ends them
+-- at most n waits: the first answer ends them
 unfoldable pub Listens : Group → (node waits : ℕ) → (es : List WireEvent) → AskAnswer → (es' : List WireEvent) → Type 0
 Listens g node zero es a es' = (a ≡ NoAnswer) × (es' ≡ es)
 Listens g node (suc n) es a es' =

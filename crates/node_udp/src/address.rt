@@ -36,14 +36,14 @@ impl fmt::Display for Address {
     }
 }
 
-/// How many bytes stand before the first colon.
+/// How many bytes are before the first colon.
 pub(crate) fn before_colon(text: &[u8]) -> usize
     ensures { result ≡ prefix_len is_no_colon text.now }
 {
     text.iter().take_while(|b| **b != b':').count()
 }
 
-/// How many bytes stand before the first closing bracket.
+/// How many bytes are before the first closing bracket.
 fn before_bracket(text: &[u8]) -> usize
     ensures { result ≡ prefix_len is_no_bracket text.now }
 {
@@ -112,7 +112,7 @@ fn parse_six(text: &[u8]) -> Option<Address>
     with_port(six(&text[..end]), &text[end + 2..])
 }
 
-/// An IP address, `:` and a port 1 to 65535 in 1 to 5 digits; `None` for every other text. An IPv6 address stands in
+/// An IP address, `:` and a port 1 to 65535 in 1 to 5 digits; `None` for every other text. An IPv6 address is in
 /// brackets, as in `[2001:db8::1]:4711` (RFC 3986, 3.2.2).
 #[tactic(auto, unfolding(crate::specs::Addresses::address_of))]
 pub fn parse_address(text: &str) -> Option<Address>

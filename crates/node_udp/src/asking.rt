@@ -132,7 +132,7 @@ fn listen<W: Wire>(m: &Membership, node: u8, wire: &mut W) -> Option<AskAnswer>
     }
 }
 
-/// Waits so many times at most: the node's first answer.
+/// Waits at most n times: the node's first answer.
 fn listen_on<W: Wire>(m: &Membership, node: u8, waits: u32, wire: &mut W) -> AskAnswer
     requires { m.now.me ≡ ASKER }
     ensures heard { Moves (W.traffic wire.old) (W.traffic wire.new)
@@ -147,10 +147,10 @@ fn listen_on<W: Wire>(m: &Membership, node: u8, waits: u32, wire: &mut W) -> Ask
     AskAnswer::NoAnswer
 }
 
-/// Asks a node to take a command in: one datagram, and then so many waits at most for its answer. What else comes is
+/// Asks a node to accept a command: one datagram, and then at most n waits for its answer. What else comes is
 /// passed over, and counts as a wait.
 ///
-/// `m` is an asker's, of whom 255 is the number. `TooLong` (41) where no entry of the command has a spelling, and
+/// `m` is a client's, of whom 255 is the number. `TooLong` (41) where no entry of the command has a spelling, and
 /// `Memory`: then nothing is sent. No other fault comes.
 pub fn ask_once<W: Wire>(
     alloc: Global,

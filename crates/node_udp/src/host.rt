@@ -10,14 +10,14 @@ use pf_addr::Addr;
 use pf_rules::parse_decimal;
 use std::net::{Net, SocketAddr, ToSocketAddrs};
 
-/// Whether the byte may stand in a host's name.
+/// Whether the byte may be in a host's name.
 fn is_host_byte(b: u8) -> bool
     ensures { result ≡ is_host_byte b }
 {
     b.is_ascii_alphanumeric() || b == b'-' || b == b'.'
 }
 
-/// Whether each byte may stand there.
+/// Whether each byte may be there.
 fn are_host_bytes(text: &[u8]) -> bool
     ensures { result ≡ list_all is_host_byte text.now }
 {

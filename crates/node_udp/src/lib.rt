@@ -2,8 +2,8 @@
 //!
 //! # Organization
 //!
-//! - [`UdpWire`]: a wire of a member, or of who asks, over a [`Socket`]: the system's, or a [`MemorySocket`]. [`parse_address`]: where a member listens;
-//!   [`shown_is_read`]: what is shown of it is read as it.
+//! - [`UdpWire`]: a wire of a member, or of a client, over a [`Socket`]: the system's, or a [`MemorySocket`].
+//!   [`parse_address`]: where a member listens; [`shown_is_read`]: what is shown of it is read as it.
 //! - [`ask_once`]: one command asked of one node over any wire, and its [`AskAnswer`].
 //!
 //! # Why

@@ -56,12 +56,12 @@ impl<T: Drop> From<AllocFailed<T>> for BindFault {
 
 /// Datagrams over a UDP socket (RFC 768), on their way through a network, which may lose, repeat and reorder them.
 ///
-/// Each receive of an asker waits on its own. A member's wait goes on from receive to receive until it has passed, and
+/// Each receive of a client waits on its own. A member's wait goes on from receive to receive until it has passed, and
 /// then none is answered, whatever has come: that stays for the next receive, with which a new wait begins. Of the time
 /// between two receives no more than a 64th of the wait counts, so that slow turns alone end none before 64 datagrams.
 ///
 /// A datagram that comes from elsewhere than a member's address is given as an empty one, which is nobody's, and is
-/// counted, unless it has a head ([`Head::read`]) whose sender is 255, one who asks. With [`UdpWire::hear_members`] its
+/// counted, unless it has a head ([`Head::read`]) whose sender is 255, a client. With [`UdpWire::hear_members`] its
 /// address alone decides, and no byte of it is looked at.
 #[derive(Drop)]
 pub struct UdpWire<S, C> {
@@ -79,13 +79,13 @@ pub struct UdpWire<S, C> {
     /// How long the socket waits, where it does.
     timeout: Duration,
     is_blocking: bool,
-    /// Whether who asks is heard, from wherever.
+    /// Whether a client is heard, from wherever.
     hears_asks: bool,
     strangers: u64,
     failures: u64,
 }
 
-/// The addresses of the texts.
+/// The addresses of the strings.
 fn addresses<R: Net>(rt: &R, alloc: Global, texts: &[&str]) -> Result<Vec<Address>, BindFault>
     ensures all { IfOk result (λ v. AreFound (map (λ t. t.now) texts.now) v.items) }
 {
@@ -99,7 +99,7 @@ fn addresses<R: Net>(rt: &R, alloc: Global, texts: &[&str]) -> Result<Vec<Addres
     Ok(peers)
 }
 
-/// Where a member listens, or an asker: at any free port, with addresses of the kind that the first is of.
+/// Where a member listens, or a client: at any free port, with addresses of the kind that the first is of.
 fn own_address(peers: &[Address], me: u8) -> Option<SocketAddr> {
     if me != ASKER {
         return match peers.get(usize::from(me)) {
@@ -124,7 +124,7 @@ fn reading<C: Clock>(clock: &C, me: u8) -> Option<Instant> {
     }
 }
 
-/// Whether a datagram is of one who asks and is no member, by its head.
+/// Whether a datagram is of a client, by its head.
 fn is_asking(datagram: &[u8]) -> bool {
     match Head::read(datagram) {
         Some(head) => head.from == ASKER,
@@ -140,8 +140,8 @@ fn is_among(peers: &[Address], address: Address) -> bool
 }
 
 impl<R: Net + Clock + Copy> UdpWire<UdpSocket, R> {
-    /// A wire of a member, which listens at its address of these, or with 255 of an asker on any free port, of whom the
-    /// first address takes every send. A wait is so many milliseconds long.
+    /// A wire of a member, which listens at its address of these, or with 255 of a client on any free port, of whom the
+    /// first address takes every send. A wait is n milliseconds long.
     ///
     /// An address is as `parse_address` reads it, or a host's name, `:` and a port; names are looked up here, once.
     /// `NoSocket` where one is neither, or where the system knows no such name or refuses the socket.
@@ -177,7 +177,7 @@ impl<C> UdpWire<UdpSocket, C> {
 }
 
 impl<S: Socket + Drop, C: Clock + Drop> UdpWire<S, C> {
-    /// A wire over a socket that is bound, of a member with these addresses of all members, or with 255 of an asker.
+    /// A wire over a socket that is bound, of a member with these addresses of all members, or with 255 of a client.
     ///
     /// `NoSocket` where no time can be set for the socket's waits.
     pub fn over(
@@ -299,7 +299,7 @@ impl<S: Socket, C> UdpWire<S, C> {
         true
     }
 
-    /// Whether a datagram is heard: it comes from a member's address, or is of one who asks, where such are heard.
+    /// Whether a datagram is heard: it comes from a member's address, or is of a client, where such are heard.
     fn is_heard(&self, from: SocketAddr, datagram: &[u8]) -> bool
         ensures member { list_any (λ a. ⟦<Address as PartialEq>⟧.eq a (address_at from)) (peers_of self.now) ≡ true →
             result ≡ true }

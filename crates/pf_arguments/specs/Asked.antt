@@ -1,4 +1,4 @@
--- What the words of pfctl ask for (pfctl(8)).
+-- What the arguments of pfctl ask for (pfctl(8)).
 use Rattle.std.specs.Prelude.{ℕ, Bool, true, false, List, [], ◌∷◌, length, ◌==◌, ◌||◌, nat_lt, Option}
 use Rattle.std.specs.Prelude.{Some, None, Result, Ok, Err, bytes_eq, codes, is_some, unwrap_or, option_and_then}
 use Rattle.std.specs.Prelude.{if◌then◌else◌}
@@ -54,7 +54,7 @@ given_in rows = record {
   addresses = unwrap_or (all_of (codes "address") rows) [];
 }
 
--- ---- the word that says what to do
+-- ---- the word which says what to do
 
 -- -F rules|Tables|all
 abbrev pub flush_word : Text → Option Word

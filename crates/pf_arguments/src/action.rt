@@ -3,12 +3,12 @@
 use pf_addr::Addr;
 use pf_entry::{Command, Path, TableName};
 
-/// What the words of pfctl ask for.
+/// What the arguments of pfctl ask for.
 #[derive(Drop)]
 pub enum Action {
     /// A change of the configuration.
     Change(Command),
-    /// A text is read for this path and not loaded.
+    /// A ruleset is read for this path and not loaded.
     CheckOnly(Path),
     /// The rules at a path are listed.
     ShowRules(Path),

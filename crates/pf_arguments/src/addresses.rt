@@ -48,7 +48,7 @@ fn lowest(found: Option<AddrFault>, fault: AddrFault) -> AddrFault
     }
 }
 
-/// The entries that the words spell, as many as there are words, or the lowest fault of any.
+/// The entries that the words spell, one for each of the words, or the lowest fault of any.
 pub(crate) fn entries(alloc: Global, words: &[&str]) -> Result<Vec<TableEntry>, CommandFault>
     ensures values { ReadsEntries (vec_read result) (each entry_of (map (λ w. w.now) words.now)) }
     ensures count { IfOk result (λ v. length v.items ≡ length words.now) }

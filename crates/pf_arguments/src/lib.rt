@@ -23,9 +23,9 @@
 //!   hang on either.
 //! - In a line of a script words are cut at spaces and tabs. A line with a word that isn't UTF-8 is one unknown
 //!   line, 40; as blanks are ASCII, that is the same as a line that isn't UTF-8.
-//! - `test` with no words behind it is a packet text that is none: 30. The words of a packet are put together again
+//! - `test` with no words behind it is a packet text that is none: 30. The words in a packet are put together again
 //!   with one blank between them.
-//! - Whether a text follows a line is asked of `clap`'s matches; where it refuses the words, of the words
+//! - Whether a ruleset follows a line is asked of `clap`'s matches; where it refuses the words, of the words
 //!   themselves (`-f` and `-` side by side).
 //! - `-s Anchors` takes the paths of the entries and of all that lead to them; a line that two of them give is
 //!   printed once.

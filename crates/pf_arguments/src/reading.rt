@@ -183,7 +183,7 @@ fn table_asked(alloc: Global, word: TableWord, given: Given<'_, '_>) -> Result<A
 /// What the matches of pfctl's words ask for; `text` is what the file of `-f` has.
 ///
 /// Faults in this order: 40 of options that don't go together, 24 of a path, 1 to 3 of an address (where several have
-/// one, the lowest), 41 of a change that is too long for an entry. A text is loaded by the second profile.
+/// one, the lowest), 41 of a change that is too long for an entry. A ruleset is loaded by the second profile.
 #[tactic(auto, unfolding(crate::specs::Asked::asked))]
 pub fn from_matches(
     alloc: Global,

@@ -74,7 +74,7 @@ abbrev pub place_at : Path → Place
 place_at [] = Main
 place_at (n ∷ p) = Anchor
 
--- the ruleset that a text gives is loaded
+-- the ruleset that a source gives is loaded
 abbrev pub loaded : Configuration → Path → Result RulesetValue Refusal → Result Effect RefusedCommand
 loaded c p (Ok rules) = uncounted (change.load_ruleset c p rules)
 loaded c p (Err refusal) = Err (refused_text refusal)

@@ -43,7 +43,7 @@ fn answered(changed: Result<(), ConfigFault>, counts: Applied) -> Result<Applied
     }
 }
 
-/// Where a text for this path is loaded.
+/// Where a ruleset for this path is loaded.
 fn place_at(path: &[Name]) -> Place
     ensures { result ≡ place_at path.now }
 {
@@ -53,7 +53,7 @@ fn place_at(path: &[Name]) -> Place
     }
 }
 
-/// Loads a text.
+/// Loads a ruleset.
 #[tactic(auto, using(crate::proofs::Applying::uncounted_applies))]
 fn load_text(
     alloc: Global,

@@ -33,7 +33,7 @@ impl ApplyFault {
         }
     }
 
-    /// The fault of a text that is refused.
+    /// The fault of a ruleset that is refused.
     pub(crate) fn of_text(refusal: Refusal) -> ApplyFault
         ensures { result ≡ fault_of_text refusal }
     {

@@ -22,7 +22,7 @@ part_twice p r (a ∷ es) =
       | false ↦ λ h. elim (starts_with bytes_eq a.path p) as (λ b. part_below (p ++ r) (cond b (a ∷ part_below p es) (part_below p es)) ≡ part_below (p ++ r) es) [ true ↦ rw h (part_twice p r es) | false ↦ part_twice p r es ]
     ]) refl
 
--- a walk down comes to the part of the map below the path
+-- a walk down reaches the part of the map below the path
 pub walk_is : (p : Path) (n : Name) (r : Path) (es : List AnchorValue) → tree_at (record { names = p; anchors = es }) (n ∷ r) ≡ some_part (p ++ n ∷ r) (part_below (p ++ n ∷ r) es)
 walk_is p n [] es = go (part_below (p ++ n ∷ []) es)
   where

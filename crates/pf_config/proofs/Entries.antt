@@ -1,4 +1,4 @@
--- An entry of the map takes its place in the tree.
+-- An entry of the map gets its place in the tree.
 use Rattle.std.proofs.Common.{take, drop, take_all, drop-cons, length, length-drop, get_or, arith, ◌-◌, ◌≤◌, ◌≡◌, Bool, true, false, ◌&&◌, cond, List, [], ◌∷◌, ◌++◌, None, Ordering, refl, sym, subst, ap, ◌∙◌, append_assoc}
 use Rattle.std.specs.declared.cmp.Ordering.TheVariants.{Less, Equal, Greater}
 use Rattle.std.specs.Prelude.{if◌then◌else◌, filter, find}
@@ -212,7 +212,7 @@ six a b c d e f =
     ap (λ r. r ++ (e ++ f)) (append_assoc a (b ++ c) d) ∙ append_assoc a ((b ++ c) ++ d) (e ++ f)
     ∙ ap (λ r. a ++ r) (ap (λ r. r ++ (e ++ f)) (append_assoc b c d) ∙ append_assoc b (c ++ d) (e ++ f) ∙ ap (λ r. b ++ r) (sym (append_assoc (c ++ d) e f)))
 
--- the entry takes its place in the kid that its path goes through
+-- the entry gets its place in the kid that its path goes through
 pub placed_below : (p : Path) (n : Name) (r : Path) (a : AnchorValue) (rules : List AnyRule) (tables : List (Name × TableValue)) (ks : List AnchorTree) (kid : AnchorTree) → AreKids p ks → a.path ≡ p ++ n ∷ r → kid.anchors ≡ with_anchor a (anchors_of (find (is_named n) ks)) →
     own_entry p rules tables ++ below (kids_before n ks ++ (some_kid kid ++ kids_behind n ks)) ≡ with_anchor a (own_entry p rules tables ++ below ks)
 unfolding with_anchor

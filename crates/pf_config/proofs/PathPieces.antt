@@ -47,7 +47,7 @@ no_names names h =
       | false ↦ λ e. (elim (nat_le (length names) 8) as (λ b. (if b && false then Some names else None) ≡ None) [ true ↦ refl | false ↦ refl ])
     ]) refl
 
--- a text that isn't empty is read by its pieces
+-- a string that isn't empty is read by its pieces
 pub some_text : (text : List ℕ) → (length text == 0) ≡ false → some_path text ≡ path_if (pieces text)
 some_text [] h = cc
 some_text (b ∷ bytes) h = refl

@@ -125,7 +125,7 @@ tidied anchors = tidied_of anchors anchors
 
 -- ---- loads
 
--- a table as a text defines it: without a list the contents stay
+-- a table as a ruleset defines it: without a list the contents stay
 abbrev pub Definition : Type 0
 Definition = rulesets.TableValue
 
@@ -163,7 +163,7 @@ defined_table tables d = record {
 abbrev pub defined : List (Name × TableValue) → Definition → List (Name × TableValue)
 defined tables d = with_table tables d.name (defined_table tables d)
 
--- the rules of a path, as a text or a block of it gives them
+-- the rules of a path, as a ruleset or a block of it gives them
 pub record Block : Type 0 where
   pub path : Path
   pub rules : List AnyRule
@@ -201,7 +201,7 @@ unless_full skip anchors = if nat_lt 1024 (length anchors) then Err AnchorsFull
 abbrev pub is_too_deep : Block → Bool
 is_too_deep b = nat_lt 8 (length b.path)
 
--- a text's own rules and definitions at a path, and its blocks in their order, outer ones first
+-- a ruleset's own rules and definitions at a path, and its blocks in their order, outer ones first
 unfoldable pub load : Configuration → List Name → Block → List Definition → List Block →
     Result Configuration ConfigFault
 load c skip own definitions blocks =

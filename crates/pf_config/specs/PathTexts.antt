@@ -6,13 +6,13 @@ use Rattle.pf_config.specs.declared.fault.ConfigFault.{ConfigFault}
 use Rattle.pf_config.specs.declared.fault.ConfigFault.TheVariants.{NoTable, ConstTable, TableFull, AnchorsFull, BadPath}
 use Rattle.pf_config.specs.declared.fault.ConfigFault.TheVariants.{Memory}
 
--- what stands between the slashes of a text, of which this piece has begun
+-- what stands between the slashes of a string, of which this piece has begun
 abbrev pub pieces_from : List ℕ → List ℕ → List (List ℕ)
 pieces_from begun [] = begun ∷ []
 pieces_from begun (b ∷ bytes) = if b == 47 then begun ∷ pieces_from [] bytes
     else pieces_from (begun ++ b ∷ []) bytes
 
--- what stands between the slashes of a text, before the first and behind the last: all of it where there is no slash
+-- what stands between the slashes of a string, before the first and behind the last: all of it where there is no slash
 abbrev pub pieces : List ℕ → List (List ℕ)
 pieces text = pieces_from [] text
 
@@ -21,7 +21,7 @@ abbrev pub some_path : List ℕ → Option (List Name)
 some_path [] = Some []
 some_path (b ∷ bytes) = path_if (pieces (b ∷ bytes))
 
--- the path that a text is: no name, or 1 to 8 names between slashes, of which none is an unnamed block's
+-- the path that a string spells: no name, or 1 to 8 names between slashes, of which none is an unnamed block's
 unfoldable pub path_of : List ℕ → Option (List Name)
 path_of text = some_path text
 
@@ -34,7 +34,7 @@ IsNoPath ConstTable path = ⊥
 IsNoPath TableFull path = ⊥
 IsNoPath AnchorsFull path = ⊥
 
--- a call answers the path that a text is, or 24 where it is none, unless memory ran out
+-- a call answers the path that a string spells, or 24 where it is none, unless memory ran out
 -- Example: a/_1 is none.
 abbrev pub PathAnswers : Result (List Name) ConfigFault → Option (List Name) → Type 0
 PathAnswers (Ok p) path = path ≡ Some p

@@ -1,4 +1,4 @@
-//! The blocks of a text, each with its path.
+//! The blocks of a ruleset, each with its path.
 
 ghost use Rattle.std.specs.Prelude.{◌≡◌, ◌≤◌, ◌++◌, false, length, IfOk, OnOk};
 ghost use Rattle.std.specs.List.{list_any};

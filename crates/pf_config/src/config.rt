@@ -199,7 +199,7 @@ impl Config {
         self.load_placed(skip, &own, &tables, &blocks)
     }
 
-    /// Loads a text's rules and tables at a path, and its blocks below it. The skip list is taken where the path is
+    /// Loads a ruleset's rules and tables at a path, and its blocks below it. The skip list is taken where the path is
     /// main.
     #[tactic(auto, unfolding(crate::specs::Changes::load))]
     fn load_placed(

@@ -1,4 +1,4 @@
-//! How deep the blocks of a text stand.
+//! How deep the blocks of a ruleset stand.
 
 ghost use Rattle.std.specs.Prelude.{◌≡◌, ◌≤◌, ◌||◌, length, nat_lt};
 ghost use Rattle.pf_rules.specs.Items.{values_of};

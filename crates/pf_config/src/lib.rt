@@ -13,7 +13,7 @@
 //! # Why
 //!
 //! - **A table's name is no word that either profile reserves.** A command names a table without a profile, and the
-//!   words reserved in profile One are the fewer: a `TableName` is what profile One allows, and a text in profile
+//!   words reserved in profile One are the fewer: a `TableName` is what profile One allows, and a ruleset in profile
 //!   Two is asked for its own words too.
 //! - **Prefixes have a method `order`** instead of std's trait `Ord`, whose contract wants laws over any two values
 //!   beside the order; the laws of the order that code rests on are lemmas in pf_addr.
@@ -25,7 +25,7 @@
 //! - **The tree of anchors is kept as a tree**, the definition is a map from whole paths. A path of the map has a
 //!   rule or a table; an anchor that has neither, nor any below it that has, isn't kept. A change copies the
 //!   anchors from main to its path, and shares all others with the tree before it (`Rc`).
-//! - **A load puts a text's blocks in their places one after another**: each before those in it, and these before
+//! - **A load puts a ruleset's blocks in their places one after another**: each before those in it, and these before
 //!   the blocks that follow (`blocks_in`). The anchors share the block's rules with the text's value (`Rc`), so
 //!   nothing of a rule is copied.
 //! - **A refused command changes nothing by its form**: the new tables and rules are made beside the old ones, and
@@ -37,18 +37,35 @@
 //!   made anew. Lists of several entries are merged, which costs the table once for all of them.
 //! - **Room for 1,024 paths** (23) is asked of the configuration that the command would leave, so a load that
 //!   clears away others may make room for itself.
-//! - **Faults of a configuration have no place in a text**: `pfx test` says `refused 23` alone.
+//! - **Faults of a configuration have no place in a ruleset**: `pfx test` says `refused 23` alone.
 //! - **`find` and `kid` are `Config::anchor` and `Anchor::child`**: an anchor is lent as a part of the tree, with
 //!   its rules, its tables and the anchors below it. So a verdict goes down name by name, and looks no path up from
 //!   main again. `Config::kids` lends the anchors directly below a path, in byte order of their names; its clause
-//!   tells their paths, `Anchor::kids` that they are those anchors. `Config::paths` lends the paths of the map,
-//!   main among them where it has rules or tables; which anchors there are is told by going down.
+//!   gives their paths, `Anchor::kids` that they are those anchors. `Config::paths` lends the paths of the map,
+//!   main among them where it has rules or tables; which anchors there are is found by going down.
 //! - **The calls that change a table, and the flushes, take names and no `Path`**: a path of 9 names, or one
 //!   through an unnamed block, is a path like others there. No command has one, since its path is a `Path` or is
 //!   decoded from bytes that spell none; so the law that a log leaves a map of paths of 8 names at most asks it of
 //!   the log's entries.
 //! - **Laws over the definitions of several crates are in pfx_laws**, on which nothing stands: they are proved
 //!   beside the crates that use the definitions, and no crate is proved again for them.
+//! - **The tables of an anchor are in the order of their names**, where one is found by binary search; so are skipped
+//!   interfaces (`Skipped`). A new table of a load moves those after it.
+//! - **For unnamed blocks below a block's path the anchor at that path alone is asked**, and the tree of a load is
+//!   changed in place. For which tables stay, the names that rules refer to are gathered once a load, if main has more
+//!   than 16 tables of which one may go (`Referred`).
+//! - **Two lists of candidates, each with a sieve** (`Sieve`): the rules that may end an evaluation, and those that
+//!   aren't quick. A sieve is intervals of 32 bits for the ends and the port, family, direction and protocol. From 64
+//!   candidates on a list's intervals are compiled too (pf_tables, `Classes`, at most 33 buckets), and a walk ands
+//!   three rows, 64 candidates at a time.
+//! - **An anchor rule's anchor is first looked up at its expected place** (`Places`), which is right if just the path's
+//!   rules lead to all anchors below; else it is found by binary search. The guess decides nothing but time. The first
+//!   walk doesn't ask the conditions of an anchor rule if no rule of its anchor can end the evaluation (`is_quiet`,
+//!   pf_eval), and the anchors that a wildcard names are entered in order, since `Anchor::kids` says that each is the
+//!   one of its name (`AreBelow`).
+//! - **A command that changes tables alone shares the order of rules.** Anchors off the changed path are shared, and
+//!   what a load would remove is asked for before anything is copied. A change costs a few walks over all anchors, and
+//!   the new list of pointers.
 #![tactic(auto)]
 
 mod anchor;

@@ -1,4 +1,4 @@
-//! A load: the rules, tables and blocks of a text take their places.
+//! A load: the rules, tables and blocks of a ruleset take their places.
 
 ghost use Rattle.std.specs.Prelude.{◌≡◌, [], IfOk, fold, map};
 ghost use Rattle.std.specs.List.{list_any};
@@ -88,7 +88,7 @@ fn with_definitions(
     Tables::of(alloc, next)
 }
 
-/// The map with a text's rules at its path, and its definitions among the tables there.
+/// The map with a ruleset's rules at its path, and its definitions among the tables there.
 fn with_text(
     alloc: Global,
     main: Anchor,
@@ -106,7 +106,7 @@ fn with_text(
     Ok(next)
 }
 
-/// The map with a text's rules and tables at its path, and no unnamed blocks below it.
+/// The map with a ruleset's rules and tables at its path, and no unnamed blocks below it.
 fn placed_text(
     alloc: Global,
     main: Anchor,

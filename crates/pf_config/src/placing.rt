@@ -9,7 +9,7 @@ use std::alloc::AllocError;
 use std::marker::Model;
 use std::rc::Rc;
 
-/// The rules of a text, or of a block in it, and their path.
+/// The rules of a ruleset, or of a block in it, and their path.
 #[derive(Drop)]
 pub(crate) struct Placing {
     path: Vec<Name>,

@@ -9,7 +9,7 @@ use std::alloc::{AllocError, Global};
 use std::cmp::Ordering;
 use std::marker::Model;
 
-/// Names of interfaces as a text lists them, of which one is found at the logarithm of their number: they stand a
+/// Names of interfaces as a ruleset lists them, of which one is found at the logarithm of their number: they stand a
 /// second time in byte order, where one is looked for by halves.
 #[derive(Drop)]
 pub(crate) struct Skipped {

@@ -6,7 +6,7 @@ use Rattle.pf_scripts.specs.Lines.{ScriptLine, lines}
 use Rattle.pf_scripts.specs.Ctl.{WaitingWords, pfctl, stepped}
 use Rattle.pf_dump.specs.Contents.{IsSame}
 
--- the end of the script ends a text
+-- the end of the script ends a ruleset
 -- Example: pfctl -f - and pass, without a line ., loads pass.
 abbrev pub at_last : Configuration → Option WaitingWords → Configuration
 at_last c None = c

@@ -1,4 +1,4 @@
--- Texts for pfctl(8), one for each path.
+-- rulesets for pfctl(8), one for each path.
 use Rattle.std.specs.Prelude.{◌≡◌, ◌++◌, ◌||◌, ℕ, Bool, false, List, [], ◌∷◌, fold, map, filter, not, if◌then◌else◌}
 use Rattle.std.specs.List.{list_any, list_all}
 use Rattle.pf_rules.specs.declared.profile.Profile.TheVariants.{Two}
@@ -19,19 +19,19 @@ abbrev pub is_anchor : Path → Bool
 is_anchor [] = false
 is_anchor (n ∷ p) = list_all is_path_name (n ∷ p)
 
--- main has a text where something is there, or an interface is skipped
+-- main has a ruleset where something is there, or an interface is skipped
 abbrev pub has_main : Configuration → Bool
 has_main c = not (is_empty c.skip) || list_any is_empty (paths_in c.anchors)
 
 abbrev pub main_if : Bool → List Path
 main_if there = if there then [] ∷ [] else []
 
--- the paths that have a text of their own: what is below an unnamed block is in the text of the path above it
+-- the paths that have a ruleset of their own: what is below an unnamed block is in the text of the path above it
 -- Example: of x, x/_1 and main: x, then main.
 abbrev pub text_paths : Configuration → List Path
 text_paths c = filter is_anchor (paths_in c.anchors) ++ main_if (has_main c)
 
--- after pfctl -a PATH -f - of a text; one that is refused changes nothing
+-- after pfctl -a PATH -f - of a ruleset; one that is refused changes nothing
 abbrev pub after_text : Configuration → Text → Configuration
 after_text c t = after_command c (load t.path Two t.text)
 
@@ -39,7 +39,7 @@ after_text c t = after_command c (load t.path Two t.text)
 abbrev pub after_texts : List Text → Configuration
 after_texts ts = fold after_text empty ts
 
--- the texts, loaded into an empty configuration one after the other, give this one
+-- the rulesets, loaded into an empty configuration one after the other, give this one
 -- Example: an empty text for an anchor with a rule doesn't.
 abbrev pub GivenBy : List Text → Configuration → Type 0
 GivenBy ts c = IsSame (after_texts ts) c

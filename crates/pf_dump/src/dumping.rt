@@ -10,7 +10,7 @@ use pf_config::Config;
 use std::alloc::{AllocError, Global};
 
 /// Whether a script of `ctl`'s form, done on an empty configuration, gives this one: the same skipped interfaces, rules
-/// and tables at the same paths. False also where one of its lines is no change, or a text in it has no end.
+/// and tables at the same paths. False also where one of its lines is no change, or a ruleset in it has no end.
 pub fn gives(alloc: Global, script: &[u8], config: &Config) -> Result<bool, AllocError>
     ensures { IfOk result (λ b. b ≡ true → Gives script.now config.now) }
 {

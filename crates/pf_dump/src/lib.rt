@@ -5,8 +5,8 @@
 //! - [`dump`]: such a script, in the form of `ctl`'s (pfctl(8)), with at most one load a path; [`push_change`] makes
 //!   one of a log's commands.
 //! - [`gives`]: whether a script, done on an empty configuration, gives a configuration.
-//! - [`texts`]: texts for pfctl(8), one for each path, that give a configuration; a [`PathText`] is loaded by `pfctl -a
-//!   PATH -f -`, [`push_path`] puts the option for its path.
+//! - [`texts`]: rulesets for pfctl(8), one for each path, that give a configuration; a [`PathText`] is loaded by `pfctl
+//!   -a PATH -f -`, [`push_path`] puts the option for its path.
 //! - [`is_same`]: whether two configurations skip the same interfaces, and have the same rules and tables at the same
 //!   paths.
 //!
@@ -15,7 +15,7 @@
 //!
 //! # Why
 //!
-//! - Scripts and texts are made by no clause's word: what is made is done, and what it gives is compared with the
+//! - Scripts and rulesets are made by no clause's word: what is made is done, and what it gives is compared with the
 //!   configuration.
 #![tactic(auto)]
 

@@ -1,4 +1,4 @@
-//! A configuration as texts for pfctl(8).
+//! A configuration as rulesets for pfctl(8).
 
 ghost use Rattle.std.specs.Prelude.{◌≡◌, ◌++◌, true, IfOk, IfSome, map};
 ghost use Rattle.pf_dump.specs.Texts.{is_anchor, text_paths, after_text, after_texts, GivenBy};
@@ -93,7 +93,7 @@ fn place_at(path: &[Name]) -> Place
     }
 }
 
-/// Loads a text at a path; false where it is refused.
+/// Loads a ruleset at a path; false where it is refused.
 #[tactic(auto, unfolding(pf_command::specs::Effect::effect))]
 fn load_text(
     alloc: Global,
@@ -118,7 +118,7 @@ fn load_text(
     }
 }
 
-/// The configuration that texts make of an empty one, in their order; none where one is refused.
+/// The configuration that rulesets make of an empty one, in their order; none where one is refused.
 fn loaded(alloc: Global, texts: &[PathText<'_>]) -> Result<Option<Config>, AllocError>
     ensures { IfOk result (λ o. IfSome o (λ c. c ≡ after_texts (map text_of texts.now))) }
 {
@@ -131,7 +131,7 @@ fn loaded(alloc: Global, texts: &[PathText<'_>]) -> Result<Option<Config>, Alloc
     Ok(Some(config))
 }
 
-/// The texts of a configuration, before they are tried.
+/// The rulesets of a configuration, before they are tried.
 fn written(alloc: Global, config: &Config) -> Result<Vec<PathText<'_>>, AllocError>
     ensures { IfOk result (λ ts. map (λ t. t.path.now) ts.items ≡ text_paths config.now) }
 {
@@ -147,8 +147,8 @@ fn written(alloc: Global, config: &Config) -> Result<Vec<PathText<'_>>, AllocErr
     Ok(texts)
 }
 
-/// A configuration as texts for pfctl(8), one for each path that a command may load, main's last: loaded one after the
-/// other into an empty configuration they give this one. None where they don't.
+/// A configuration as rulesets for pfctl(8), one for each path that a command may load, main's last: loaded one after
+/// the other into an empty configuration they give this one. None where they don't.
 pub fn texts(alloc: Global, config: &Config) -> Result<Option<Vec<PathText<'_>>>, AllocError>
     ensures paths { IfOk result (λ o. IfSome o (λ ts. map (λ t. t.path.now) ts.items ≡ text_paths config.now)) }
     ensures given { IfOk result (λ o. IfSome o (λ ts. GivenBy (map text_of ts.items) config.now)) }

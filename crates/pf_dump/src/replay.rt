@@ -22,7 +22,7 @@ use std::alloc::{AllocError, Global};
 /// Where a script is behind a line.
 #[derive(Drop)]
 pub(crate) struct Stand<'a> {
-    /// Whether it goes on: the line was a change, or it is of a text.
+    /// Whether it goes on: the line was a change, or it is of a ruleset.
     pub(crate) goes_on: bool,
     /// The words that wait for the end of their text.
     pub(crate) waiting: Option<Waiting<'a>>,
@@ -81,7 +81,7 @@ fn run_words(
     }
 }
 
-/// Does a line of pfctl's words, unless a text follows it.
+/// Does a line of pfctl's words, unless a ruleset follows it.
 fn run_pfctl<'a>(
     alloc: Global,
     config: &mut Config,
@@ -132,7 +132,7 @@ fn run_line<'a>(
     }
 }
 
-/// Does a line of a text, or one with words.
+/// Does a line of a ruleset, or one with words.
 fn step<'a>(
     alloc: Global,
     config: &mut Config,
@@ -172,7 +172,7 @@ fn step<'a>(
     }
 }
 
-/// The configuration that a script makes of an empty one; none where one of its lines is no change, or a text has no
+/// The configuration that a script makes of an empty one; none where one of its lines is no change, or a ruleset has no
 /// end.
 #[tactic(auto, unfolding(crate::specs::Scripts::configured))]
 pub(crate) fn replayed(alloc: Global, script: &[u8]) -> Result<Option<Config>, AllocError>

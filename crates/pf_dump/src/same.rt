@@ -59,7 +59,7 @@ fn same_table_if(alloc: Global, a: Option<&Table>, b: Option<&Table>) -> Result<
     }
 }
 
-/// Whether two texts are the same.
+/// Whether two strings are the same.
 #[tactic(auto, using(pf_config::proofs::Treed::bytes_same))]
 fn same_text(a: &str, b: &str) -> bool
     ensures { result ≡ true → a.now ≡ b.now }
@@ -67,7 +67,7 @@ fn same_text(a: &str, b: &str) -> bool
     a == b
 }
 
-/// Whether two lists of texts are the same.
+/// Whether two lists of strings are the same.
 fn same_texts(a: &[&str], b: &[&str]) -> bool
     ensures { result ≡ true → map (λ x. x.now) a.now ≡ map (λ x. x.now) b.now }
 {

@@ -8,7 +8,7 @@ use pf_config::Config;
 use pf_rules::{Name, TableEntry};
 use std::alloc::{AllocError, Global};
 
-/// How many bytes a text has at most, so that an entry has room for it.
+/// How many bytes a ruleset has at most, so that an entry has room for it.
 const TEXT_MAX: usize = 32_000;
 
 /// How many addresses a command has at most, so that an entry has room for them.

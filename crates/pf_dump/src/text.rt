@@ -8,10 +8,10 @@ use pf_rules::{AnchorHeading, Item, Name};
 use pf_show::show_items;
 use std::alloc::{AllocError, Global};
 
-/// How many steps a text has at most: one for each rule of each path, and one for the end of each block.
+/// How many steps a ruleset has at most: one for each rule of each path, and one for the end of each block.
 const STEPS: u32 = 4_000_000;
 
-/// Where a text is in the rules of a path.
+/// Where a ruleset is in the rules of a path.
 #[derive(Drop)]
 struct Level {
     path: Vec<Name>,

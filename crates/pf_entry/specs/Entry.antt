@@ -71,7 +71,7 @@ address a = sign a.negated ∷ family a.prefix.base ∷ a.prefix.len ∷ bits a.
 abbrev pub addresses : List Address → List ℕ
 addresses list = to_be_bytes w16 (length list) ++ flat_map address list
 
--- 2 for a text of the second profile, else 1
+-- 2 for a ruleset of the second profile, else 1
 abbrev pub format : Command → ℕ
 format (load p Two text) = 2
 format (load p One text) = 1

@@ -27,7 +27,7 @@ command_value (owned.FlushTable p table) = flush_table p table
 abbrev pub entry_value : rust_entry.Entry → Entry
 entry_value e = record { origin = e.origin; number = e.number; command = command_value e.command }
 
--- a text or a list of addresses is longer than any entry's
+-- a ruleset or a list of addresses is longer than any entry's
 abbrev pub is_long : Command → Bool
 is_long (load p profile text) = nat_lt 32768 (length text)
 is_long (flush_rules p) = false

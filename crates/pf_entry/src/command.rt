@@ -16,7 +16,7 @@ pub struct SomeAddresses {
 /// A change of the configuration, with the path of the anchor that it changes.
 #[derive(Drop)]
 pub enum Command {
-    /// Reads a text by a profile, and makes it the anchor's rules and tables.
+    /// Reads a ruleset by a profile, and makes it the anchor's rules and tables.
     Load {
         /// The anchor.
         path: Path,
@@ -81,7 +81,7 @@ pub enum Command {
 pub struct Entry {
     /// Who was asked: a member, 0 to 14, or 255 where the command comes from outside.
     pub origin: u8,
-    /// Its number there, below 2^48; from outside, the asker's token.
+    /// Its number there, below 2^48; from outside, the client's token.
     pub number: u64,
     /// The command.
     pub command: Command,

@@ -13,7 +13,7 @@
 //!
 //! | Offset | Bytes | What |
 //! |---|---|---|
-//! | 0 | 1 | format: 2 for a text of the second profile, else 1 |
+//! | 0 | 1 | format: 2 for a ruleset of the second profile, else 1 |
 //! | 1 | 1 | origin: the member that was asked, 0 to 14, or 255 |
 //! | 2 | 8 | number there, below 2^48 |
 //! | 10 | 1 | kind: 1 Load, 2 FlushRules, 3 FlushTables, 4 FlushAll, 5 Add, 6 Delete, 7 Replace, 8 FlushTable |

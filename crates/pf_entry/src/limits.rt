@@ -1,6 +1,6 @@
 //! The numbers of the format.
 
-/// The most bytes of an entry, and so of a text.
+/// The most bytes of an entry, and so of a ruleset.
 pub const ENTRY_BYTES: usize = 32_768;
 /// The most addresses of a command.
 pub const ADDRESSES: usize = 4_096;
@@ -8,7 +8,7 @@ pub const ADDRESSES: usize = 4_096;
 pub(crate) const NAMES: u8 = 8;
 /// The last member.
 pub(crate) const LAST_MEMBER: u8 = 14;
-/// Who is no member: whoever asks from outside.
+/// Who is no member: a client.
 pub const ASKER: u8 = 255;
 /// An entry's number is below this: it has six bytes.
 pub(crate) const NUMBERS: u64 = 0x1_0000_0000_0000;

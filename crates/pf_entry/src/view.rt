@@ -24,7 +24,7 @@ pub struct Addresses<'a> {
 /// A command with its path. Names, addresses and text are in the bytes that were read.
 #[derive(Clone, Copy)]
 pub enum CommandView<'a> {
-    /// A text becomes the anchor's rules and tables.
+    /// A ruleset becomes the anchor's rules and tables.
     Load {
         /// The anchor's path.
         path: Names<'a>,
@@ -48,7 +48,7 @@ pub enum CommandView<'a> {
         /// The anchor's path.
         path: Names<'a>,
     },
-    /// Addresses come to a table.
+    /// Addresses are added to a table.
     Add {
         /// The anchor's path.
         path: Names<'a>,

@@ -125,7 +125,7 @@ fn kind_of(command: &Command) -> u8
     }
 }
 
-/// Whether a text or a list of addresses is longer than any entry's.
+/// Whether a ruleset or a list of addresses is longer than any entry's.
 pub(crate) fn is_long(command: &Command) -> bool
     ensures { result ≡ is_long (command_value command.now) }
 {

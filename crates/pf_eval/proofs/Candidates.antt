@@ -1,4 +1,4 @@
--- The walks over candidates come to what walks over all rules come to.
+-- The walks over candidates give what walks over all rules give.
 use Rattle.std.proofs.Common.{◌≡◌, ℕ, ◌+◌, ◌-◌, ◌<◌, ◌≤◌, zero, suc, length, get_or, Bool, true, false, List, [], ◌∷◌, ◌++◌, map, reverse, Option, Some, None, refl, sym, subst, ap, ◌∙◌, arith}
 use Rattle.std.proofs.lemmas.Bool.{eqb-true}
 use Rattle.std.proofs.lemmas.List.{reverse-append}
@@ -38,9 +38,9 @@ some_item f items rules all i x r lt got e g is = is ∙ ap (some_rule f) (sym (
 pub no_rule : (f : AnyRule → Option Spot) (items : List Item) (rules all : List AnyRule) (i : ℕ) → length items ≤ i → map rule_of items ≡ rules → rules ≡ all → None ≡ some_rule f (slice_get all i)
 no_rule f items rules all i past e g = ap (some_rule f) (sym (none_got items i past) ∙ ap (λ rs. slice_get rs i) (e ∙ g))
 
--- ---- rules that come to nothing
+-- ---- rules that yield nothing
 
--- a rule that doesn't pass the test comes to nothing, and one whose sieve doesn't let the packet pass
+-- a rule that doesn't pass the test yields nothing, and one whose sieve doesn't let the packet pass
 abbrev IsQuiet : (AnyRule → Bool) → PacketValue → (ℕ → AnyRule → Option Spot) → Type 0
 IsQuiet test k f = (i : ℕ) (r : AnyRule) → (test r ≡ false → f i r ≡ None) × (passes (sieve_of (conditions_of r)) (key_of k) ≡ false → f i r ≡ None)
 
@@ -154,7 +154,7 @@ others_are_last depth c k t found at some is =
     last_from is_other (last_at (depth - 1) c k t.names) k (rules_at c t.names) 0 (rules_at c t.names) (last_quiet (tables_in c t.names) (target_last (second_walk (depth - 1) c k) c t.names) k t.names) (rest_all (rules_at c t.names)) ∙
     sym (second_at depth c k t.names some)
 
--- ---- anchor rules that come to nothing
+-- ---- anchor rules that yield nothing
 
 -- where no rule can end the evaluation the first walk finds nothing
 idle : (depth : ℕ) (c : Configuration) (k : PacketValue) (t : AnchorTree) → IsAnchorOf c t → [] ≡ stops_of (rules_in (anchor_at t.names t.anchors)) → first_walk depth c k t.names ≡ None

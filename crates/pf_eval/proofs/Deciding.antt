@@ -1,4 +1,4 @@
--- The two walks come to the last hit before the evaluation ends.
+-- The two walks give the last hit before the evaluation ends.
 use Rattle.std.proofs.Common.{◌≡◌, ℕ, ◌+◌, zero, suc, true, false, cond, List, [], ◌∷◌, ◌++◌, length, map, Option, Some, None, refl, sym, subst, ap, ◌∙◌}
 use Rattle.std.specs.Prelude.{not, if◌then◌else◌, filter, nat_le}
 use Rattle.std.specs.List.{flat_map}
@@ -179,7 +179,7 @@ walks_agree (suc depth) c k p =
 agreed : (s l : Option Spot) (hs : List Hit) → Agrees s l hs → or_else s l ≡ last_spot hs
 agreed s l hs a = ap (λ r. or_else r l) a.0 ∙ or_same (first_stop hs) l (last_hit hs) a.1 ∙ sym (last_is hs)
 
--- the first walk, and where it finds nothing the second, come to the last hit before the evaluation ends
+-- the first walk, and where it finds nothing the second, give the last hit before the evaluation ends
 pub two_walks : (depth : ℕ) (c : Configuration) (k : PacketValue) (p : Path) → or_else (first_walk depth c k p) (second_walk depth c k p) ≡ last_spot (hits depth c k p)
 two_walks depth c k p = agreed (first_walk depth c k p) (second_walk depth c k p) (hits depth c k p) (walks_agree depth c k p)
 

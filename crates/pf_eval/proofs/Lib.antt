@@ -3,14 +3,14 @@
 -- ---- Forms
 --
 -- - What is asked before a list is gone over (`begins_with_digit`, `ends_like_reserved`): every word of the list passes
---   the test, by computation; equal texts pass alike; so a text that doesn't pass is none of them (`Digits`, `Reserved`).
+--   the test, by computation; equal strings pass alike; so a string that doesn't pass is none of them (`Digits`, `Reserved`).
 -- - Words with numbers: a `const` table of pairs in the code, a list of pairs in the definition, one loop over a slice
 --   with the invariant "the name is looked for in the rows that are left". A `match` on byte strings leaves its goals open
 --   from about six arms on.
--- - A table of structs with texts: a clause can name a constant that is a number, a text, or a list of these, and of pairs
---   (whose texts then have another type than a reference's has); of a list of structs it can't. So the table is an
+-- - A table of structs with strings: a clause can name a constant that is a number, a string, or a list of these, and of pairs
+--   (whose strings then have another type than a reference's has); of a list of structs it can't. So the table is an
 --   argument, and contracts hold for any.
--- - Packet texts: the definition recurs on the bytes with the word that has begun; the code cuts slices. `words_from (take
+-- - Packets in text form: the definition recurs on the bytes with the word which has begun; the code cuts slices. `words_from (take
 --   (i - start) (drop start text)) (drop i text)` is the invariant, and `put_word` keeps the loop's branch free of joins.
 -- - A reader of words: one method a production over `left`, `Reads result (left new) (production (left old))`, each with
 --   `unfolding` of its own definition and no proof file. `let Some(x) = .. else { return Err(..) }` where memory may run
@@ -29,8 +29,8 @@
 --   answer, and the return of a find wants one (`rule_back`, `kid_back`). Of a `&[Rc<Anchor>]` the element is rewritten by
 --   `c.deref.ensures`. Two cycles (`stops`, `others`) are two proofs, by `9 * depth + rank` and `8 * depth + rank`.
 -- - The walks go over candidates (`Anchor::stops`, `Anchor::others`, the second from the last rule on), each an index and
---   a sieve. `Candidates` says that this comes to the walk over all rules: those left out, and those that a sieve refuses,
---   come to nothing (`IsQuiet`). A sieve has one lemma a field (`Sieves`).
+--   a sieve. `Candidates` says that this gives the same as the walk over all rules: those left out, and those that a sieve refuses,
+--   yield nothing (`IsQuiet`). A sieve has one lemma a field (`Sieves`).
 -- - An interval is a first number and a width, asked by `wrapping_sub`, one compare: what is open needs no fact on the
 --   packet's numbers. A definition's numbers have no bound, so keys and first numbers are `min n 4294967295` there; the
 --   code's `u32` is that by itself.
@@ -41,7 +41,7 @@
 --   the next one's is past it. `Row::next` is exact over rows of any length: std's `bit_at-trailing_zeros` and masks, in
 --   `proofs/Words`. How bounds are chosen has no clause: it is a matter of time alone.
 -- - A search that passes over candidates (`next_passing`): what lies between two places is refused by a sieve, so the rest
---   of the list comes to the same from either place; the walk's contract is that over the whole list.
+--   of the list gives the same from either place; the walk's contract is that over the whole list.
 -- - `run`: the clause cites `fault_of` and `subcommand_of` of `clap`'s own specs, so it speaks of the words. Facts about
 --   `clap`'s command are taken over to the program's by lemmas over a variable command and an equation (`subst`); a `rw`
 --   there computes too long.

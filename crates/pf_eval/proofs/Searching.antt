@@ -1,4 +1,4 @@
--- What a search passes over comes to nothing.
+-- What a search passes over yields nothing.
 use Rattle.std.proofs.Common.{◌≡◌, ℕ, zero, suc, ◌+◌, ◌<◌, ◌≤◌, length, false, List, [], ◌∷◌, drop, Option, Some, None, refl, sym, ap, ◌∙◌, arith, inl, inr, get_or}
 use Rattle.std.specs.Prelude.{slice_get, if◌then◌else◌}
 use Rattle.std.proofs.Math.Seq.{drop-length}
@@ -72,7 +72,7 @@ at_place [] i c h = cc
 at_place (x ∷ cs) zero c h = ap (λ y. y ∷ cs) (same x c h)
 at_place (x ∷ cs) (suc i) c h = at_place cs i c h
 
--- a candidate that doesn't pass comes to nothing
+-- a candidate that doesn't pass yields nothing
 quiet : (f : ℕ → AnyRule → Option Spot) (rules : List AnyRule) (k : PacketValue) (c : Candidate) → passes c.sieve (key_of k) ≡ false → candidate_spot f rules k c ≡ None
 quiet f rules k c h = ap (λ b. if b then some_rule (f c.index) (slice_get rules c.index) else None) h
 
@@ -102,7 +102,7 @@ pub found_there : (f : ℕ → AnyRule → Option Spot) (rules : List AnyRule) (
 found_there f rules k key cs a at d s whole is first rest e =
     ap (λ o. or_else o (first_some (candidate_spot f rules k) (drop (at + 1) cs))) e ∙ sym (rest_at f rules k key cs a at (get_or cs at d) is first (slice_get-get_or cs at d first.1)) ∙ rest
 
--- where it comes to nothing those behind it are left
+-- where it yields nothing those behind it are left
 pub not_there : (f : ℕ → AnyRule → Option Spot) (rules : List AnyRule) (k : PacketValue) (key : Key) (cs : List Candidate) (a at : ℕ) (d : Candidate) (whole : Option Spot) → key ≡ key_of k → PassesFirst cs key a at →
     first_some (candidate_spot f rules k) (drop a cs) ≡ whole → None ≡ some_rule (f (get_or cs at d).index) (slice_get rules (get_or cs at d).index) → first_some (candidate_spot f rules k) (drop (at + 1) cs) ≡ whole
 not_there f rules k key cs a at d whole is first rest e =

@@ -1,4 +1,4 @@
--- The words of a text are those that blanks stand between.
+-- The words in a string are those that blanks stand between.
 use Rattle.std.proofs.Common.{◌≡◌, ◌≢◌, ℕ, suc, ◌-◌, ◌||◌, Bool, true, false, List, [], ◌∷◌, ◌++◌, length, get_or, refl, sym, ap, subst, ◌∙◌, append_assoc, arith}
 use Rattle.std.specs.Prelude.{not}
 use Rattle.std.specs.List.{list_all}
@@ -99,9 +99,9 @@ spaced_begins_plain _ _ (MoreWords word blanks text ws is are more) = word_begin
 pub no_outer_blank : (text : List ℕ) (ws : List Word) → AreSpaced text ws → has_outer_blank text ≡ false
 no_outer_blank text ws s = rw (spaced_begins_plain text ws s, last_byte text (spaced_ends_plain text ws s)) refl
 
--- ---- a text without a blank at either end is spaced so
+-- ---- a string without a blank at either end is spaced so
 
--- a text behind a word that has begun, and behind a word and some blanks
+-- a string behind a word that has begun, and behind a word and some blanks
 record Spaces (text : List ℕ) : Type 0 where
   goes_on : (begun : Word) → IsWord begun → ends_plain text ≡ true → AreSpaced (begun ++ text) (words_from begun text)
   begins : (word blanks : List ℕ) → IsWord word → AreBlanks blanks → text ≢ [] → ends_plain text ≡ true → AreSpaced (word ++ (blanks ++ text)) (word ∷ words_from [] text)

@@ -93,7 +93,7 @@ pub last_of_anchor : (t : Tables) (last : Target → Option Spot) (k : PacketVal
     rule_last t last k p 0 (AnchorRule (heading_of a.heading)) ≡ rule_last t last k p i (rule_of x)
 last_of_anchor t last k p i a x is = ap (rule_last t last k p i) (sym (ap rule_of is ∙ anchor_rule a))
 
--- an anchor rule comes to nothing where there is nothing in any anchor
+-- an anchor rule yields nothing where there is nothing in any anchor
 
 abbrev none : Option Spot
 none = None

@@ -1,4 +1,4 @@
--- How the words of a text come byte by byte.
+-- How the words in a string come byte by byte.
 use Rattle.std.proofs.Common.{◌≡◌, ℕ, Bool, cond, ap, zero, suc, sym, ◌+◌, ◌-◌, ◌<◌, ◌≤◌, true, false, List, [], ◌∷◌, ◌++◌, length, get_or, take, drop, refl, ◌∙◌, arith, drop-cons, add-one, length-drop}
 use Rattle.std.proofs.lemmas.List.{take_more, get_or-drop, take_all, take_rest, drop_all, append-nil, take-append-drop}
 use Rattle.std.proofs.lemmas.Bool.{false≢true}
@@ -36,9 +36,9 @@ word_ends text start i h k e = rw (from_here text i k, e) refl
 pub word_begins : (text : List ℕ) (i : ℕ) → words_from [] (drop i text) ≡ words_from (take (i - i) (drop i text)) (drop i text)
 word_begins text i = let n : i - i ≡ 0 = omega arith in rw n refl
 
--- ---- the first word of a text
+-- ---- the first word of a string
 
--- the word that begins the text has begun
+-- the word which begins the text has begun
 abbrev pub HasBegun : List ℕ → ℕ → Type 0
 HasBegun text i = words_from (take i text) (drop i text) ≡ words text
 

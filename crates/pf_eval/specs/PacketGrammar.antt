@@ -1,5 +1,5 @@
--- The grammar of packet texts, production by production: which text spells which packet. It knows nothing of how a text
--- is read.
+-- The grammar of packets in text form, production by production: which text spells which packet. It knows nothing of
+-- how a string is read.
 use Rattle.std.specs.Prelude.{◌≡◌, ◌≢◌, ℕ, true, List, [], ◌∷◌, ◌++◌, Option, Some, None, codes}
 use Rattle.std.specs.Prelude.{not}
 use Rattle.std.specs.List.{list_all}

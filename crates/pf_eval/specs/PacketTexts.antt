@@ -28,13 +28,13 @@ abbrev pub ended : Word → List Word
 ended [] = []
 ended (b ∷ bytes) = (b ∷ bytes) ∷ []
 
--- the words of a text of which this word has begun: each longest run of bytes that are no blanks
+-- the words in a string of which this word has begun: each longest run of bytes that are no blanks
 abbrev pub words_from : Word → List ℕ → List Word
 words_from begun [] = ended begun
 words_from begun (b ∷ bytes) = if is_blank b then ended begun ++ words_from [] bytes
     else words_from (begun ++ b ∷ []) bytes
 
--- the words of a text: its longest runs of bytes that are no blanks, in their order
+-- the words in a string: its longest runs of bytes that are no blanks, in their order
 abbrev pub words : List ℕ → List Word
 words text = words_from [] text
 
@@ -203,7 +203,7 @@ packet_at ws = do
     icmp_type = icmp_type.0;
   }) icmp_type.1
 
--- what a text spells, as a packet; no blank is at either end
+-- what a string spells, as a packet; no blank is at either end
 -- Example: in on em0 proto tcp from 10.1.2.3 port 4000 to 192.0.2.1 port 22 flags A.
 abbrev pub packet_of : List ℕ → Option PacketValue
 packet_of text = if has_outer_blank text then None else packet_at (words text)

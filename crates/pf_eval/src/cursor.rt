@@ -1,4 +1,4 @@
-//! The words of a packet text, read from the front.
+//! The words in a packet text, read from the front.
 
 ghost use Rattle.std.specs.Prelude.{◌≡◌, Some, ◌<◌, drop, length, IsSome, IfSome, IfOk, IfErr, true, map};
 ghost use Rattle.std.specs.Prelude.{option_map, codes};
@@ -36,7 +36,7 @@ pub(crate) struct Cursor<'t> {
 }
 
 impl<'t> Cursor<'t> {
-    /// Before the first word of a text.
+    /// Before the first word of a string.
     pub(crate) fn new(text: &'t [u8]) -> Cursor<'t>
         ensures { left result ≡ words text.now }
     {

@@ -2,7 +2,7 @@
 //!
 //! # Organization
 //!
-//! - `Packet` and `parse_packet`: a packet as a record, and its text; `packets_as_spelled`: which texts spell one.
+//! - `Packet` and `parse_packet`: a packet as a record, and its text; `packets_as_spelled`: which strings spell one.
 //! - `verdict`: the verdict of a configuration; `verdict_flat`: that of one ruleset alone.
 //! - `show_verdict`: a verdict as text.
 //!

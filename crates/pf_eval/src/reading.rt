@@ -70,7 +70,7 @@ fn agrees(
         && (protocol == 1 || icmp_type.is_none())
 }
 
-/// The packet that the words of a text spell.
+/// The packet that the words in a string spell.
 #[tactic(auto, unfolding(crate::specs::PacketTexts::packet_at))]
 fn packet(alloc: Global, text: &[u8]) -> Result<Packet, PacketFault>
     ensures { Answers result (packet_at (words text.now)) }

@@ -1,4 +1,4 @@
-//! The words of a packet text.
+//! The words in a packet text.
 
 ghost use Rattle.std.specs.Prelude.{◌≡◌, ◌++◌, ◌∷◌, ◌<◌, IfOk, IfSome, OnOk, Some, None, drop, length, map};
 ghost use Rattle.std.specs.Prelude.{if◌then◌else◌, not, option_map, true};
@@ -26,7 +26,7 @@ pub(crate) fn has_outer_blank(text: &[u8]) -> bool
     }
 }
 
-/// What is before the first blank of a text that begins with a word, and what is behind that blank.
+/// What is before the first blank of a string that begins with a word, and what is behind that blank.
 #[tactic(auto, using(crate::proofs::Words::word_stays, crate::proofs::Words::word_cut, crate::proofs::Words::word_whole))]
 fn cut_word(text: &[u8]) -> (&[u8], &[u8])
     requires { begins_plain text.now ≡ true }
@@ -44,7 +44,7 @@ fn cut_word(text: &[u8]) -> (&[u8], &[u8])
     (text, &text[text.len()..])
 }
 
-/// The first word of a text, and what is behind it. A blank that ends the word is gone.
+/// The first word of a string, and what is behind it. A blank that ends the word is gone.
 pub(crate) fn first_word(text: &[u8]) -> Option<(&[u8], &[u8])>
     ensures { cut_words (option_map (λ cut. (cut.0.now, cut.1.now)) result) ≡ words text.now }
 {
@@ -80,7 +80,7 @@ fn cut_key<'a>(text: &'a [u8], key: &[u8]) -> Option<&'a [u8]>
     }
 }
 
-/// What is behind this word, if it is the first one of a text that doesn't begin with it: blanks are before it.
+/// What is behind this word, if it is the first one of a string that doesn't begin with it: blanks are before it.
 #[tactic(auto, using(crate::proofs::Words::other_first))]
 fn behind_blanks<'a>(text: &'a [u8], key: &[u8]) -> Option<&'a [u8]>
     requires { 0 < length key.now }
@@ -121,7 +121,7 @@ fn put_word<'a>(found: &mut Vec<&'a [u8]>, word: &'a [u8]) -> Result<(), AllocEr
     Ok(())
 }
 
-/// The words of a text between blanks, which are spaces and tabs. A growth that is refused is the error.
+/// The words in a string between blanks, which are spaces and tabs. A growth that is refused is the error.
 pub fn words<'a>(alloc: Global, text: &'a [u8]) -> Result<Vec<&'a [u8]>, AllocError>
     ensures { IfOk result (λ found. map (λ w. w.now) found.items ≡ words text.now) }
 {

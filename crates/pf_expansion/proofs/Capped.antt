@@ -1,4 +1,4 @@
--- Numbers of rules, of which no more than 1,025 are told apart.
+-- Numbers of rules, of which no more than 1,025 are distinguished.
 use Rattle.std.proofs.Common.{◌≡◌, ℕ, suc, ◌-◌, ◌^◌, ◌==◌, ◌&&◌, Bool, true, false, not, cond, List, [], ◌∷◌, length, min, refl, sym, arith}
 use Rattle.std.proofs.lemmas.Bool.Decides.{nat_tests}
 use Rattle.pf_rules.specs.declared.parts.FlagTest.{FlagTest}

@@ -92,7 +92,7 @@ numbered_block a b c from at unnamed names olds mids news h items all target sam
       ),
 )
 
--- ---- rules as texts
+-- ---- rules as source
 
 pub rule_text : (r : WrittenRule) → item_text_of (Rule r) ≡ RuleItem (text_of r)
 rule_text r = ap item_text_of (sym (rolls-Rule r)) ∙ fold-roll-WrittenItem ItemText item_step (WrittenItem-F.Rule r)

@@ -51,7 +51,7 @@ abbrev pub carried : List Heading → ItemValues → List ItemValue
 carried [] block = []
 carried (h ∷ hs) block = Blocks h block ∷ map (λ (h : Heading). Anchors h) hs
 
--- the rules of a text behind that many unnamed blocks of its ruleset, a plain `block` being the policy's
+-- the rules of a ruleset behind that many unnamed blocks of its ruleset, a plain `block` being the policy's
 abbrev mutual
   pub item_values : Policy → ℕ → ItemText → List ItemValue
   item_values policy unnamed (RuleItem rule) = map (λ (r : Rule). Filters r) (expanded policy rule)

@@ -21,7 +21,7 @@ use pf_rules::{AnchorHeading, Item, Policy, Rule};
 use pf_statements::{WrittenAnchor, WrittenHeading, WrittenItem, WrittenRule};
 use std::alloc::{AllocError, Global};
 
-/// The most rules that a text may give.
+/// The most rules that a ruleset may give.
 const MOST_RULES: usize = 1_024;
 
 /// Appends the rules.

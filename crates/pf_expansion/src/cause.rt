@@ -21,7 +21,7 @@ pub enum Cause {
     Reserved,
     /// 16: a table that the text has defined before, or a block with the path of another one.
     Twice,
-    /// 17: `set` in a text for an anchor.
+    /// 17: `set` in a ruleset for an anchor.
     SetHere,
     /// 18: more tokens, open braces, nested lists, combinations, rules or entries of a table than there
     /// may be.

@@ -1,4 +1,4 @@
-//! The tables that a text has defined so far.
+//! The tables that a ruleset has defined so far.
 
 ghost use Rattle.std.specs.Prelude.{map};
 ghost use Rattle.pf_rules.specs.Rulesets.{table_of};

@@ -25,7 +25,7 @@ const MOST_COMBINATIONS: usize = 65_536;
 /// The most lists that may be in one another.
 const MOST_NESTED: u64 = 8;
 
-/// The most rules that a text may give.
+/// The most rules that a ruleset may give.
 const MOST_RULES: usize = 1_024;
 
 /// The number of tcp.

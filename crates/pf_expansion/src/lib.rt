@@ -7,7 +7,7 @@
 //! - [`judge_anchor`]: the same of an anchor rule.
 //! - [`judge_block`]: the same of an anchor rule with a block.
 //! - [`judge_table`]: the table that a table statement defines, or the lowest cause that refuses it. [`DefinedTables`]
-//!   keeps those that a text has defined so far.
+//!   keeps those that a ruleset has defined so far.
 //! - [`is_deep`]: whether too many lists are in one another.
 //!
 //! # Why
@@ -32,7 +32,7 @@
 //! - **Empty lists.** The grammar makes no list without elements; the expansion of one has no rule, so it would be
 //!   refused as no combination.
 //! - **Newlines in lists** are blanks in the relation exactly as pf_tokens takes them out, since no more than 65
-//!   open braces are told apart.
+//!   open braces are distinguished.
 //! - **An anchor rule is read like a block rule without its action**: its line shows flags only where something is
 //!   checked, so the proofs that a shown block rule is read again serve it too. It has no option, so `icmp-type`,
 //!   `keep state` and `no state` are refused with 12.
@@ -44,11 +44,15 @@
 //!   refused for its width.
 //! - **The first rule of an expanded block carries it**; the further ones name it, an unnamed one as `_k`.
 //! - **`_k/*` is reserved**: only `_k` alone may be written.
-//! - **At most 65,535 unnamed blocks of a ruleset are told apart**; a statement has no more tokens.
+//! - **At most 65,535 unnamed blocks of a ruleset are distinguished**; a statement has no more tokens.
 //! - **A ruleset with blocks is read again where its lines fit a statement**: a block's expansion can have more
-//!   than 65,536 tokens, and a text with such a statement is refused.
+//!   than 65,536 tokens, and a ruleset with such a statement is refused.
 //! - **`show_items` is stated over rules without blocks** (`AnyRule`), which is what a configuration keeps at a
 //!   path.
+//! - **A prefix of a list is looked up in those kept so far, in order** (`push_first`).
+//! - **Whether a path of a block comes again is asked by numbers.** Each path in a rule has one, found in the logarithm
+//!   of their number. Of the rules before only those blocks are walked to which a path in the rule leads. No path is
+//!   copied, so 64 nested blocks of 8 names cost what their source does.
 #![tactic(auto)]
 
 mod anchors;

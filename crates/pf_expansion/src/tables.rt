@@ -1,4 +1,4 @@
-//! Tables that a text defines.
+//! Tables that a ruleset defines.
 
 ghost use Rattle.std.specs.Prelude.{◌≡◌, option_map, IfOk, IfErr, OnOk, None, Some};
 ghost use Rattle.pf_rules.specs.Rulesets.{table_of};

@@ -37,7 +37,7 @@ use Rattle.pf_grammar.proofs.Targets.{FitsTarget, target_is_part, target_again}
 abbrev pub as_rule : Heading → Rule
 as_rule h = record { action = act.Drop; quick = h.quick; conditions = h.conditions; keeps_state = false }
 
--- an anchor rule of a ruleset that a text gives
+-- an anchor rule of a ruleset that a source gives
 pub record FitsHeading (profile : Profile) (h : Heading) : Type 0 where
   pub target : FitsTarget h.target
   pub conditions : FitsConditions profile h.conditions

@@ -1,4 +1,4 @@
--- A rule of any kind that a text gives, as it is shown: its tokens, what they spell, and what that comes to.
+-- A rule of any kind that a source gives, as it is shown: its tokens, what they spell, and what that gives.
 use Rattle.std.proofs.Common.{◌≡◌, ℕ, ◌+◌, ◌≤◌, ◌||◌, Bool, true, false, cond, List, [], ◌∷◌, ◌++◌, length, map, min, Option, Some, None, refl, sym, ap, ◌∙◌, arith}
 use Rattle.std.specs.Prelude.{codes, nat_lt, if◌then◌else◌}
 use Rattle.std.proofs.lemmas.Bool.{or_parts}
@@ -25,7 +25,7 @@ use Rattle.pf_grammar.proofs.RuleParts.{more_tokens}
 use Rattle.pf_grammar.proofs.Targets.{FitsTarget, target_again}
 use Rattle.pf_grammar.proofs.AnchorLine.{as_rule, FitsHeading, as_fitting, anchor_tokens, written_anchor, anchor_told, flags_behind, no_types_left, types_unwritten, headings_again}
 
--- ---- rules that a text gives
+-- ---- rules that a source gives
 
 -- the name of a block behind that many unnamed ones: the one that it is given, or one that isn't reserved
 pub record FitsName (unnamed : ℕ) (t : Target) : Type 0 where
@@ -137,7 +137,7 @@ judged_one profile r fits =
     let both = or_parts (is_too_wide (written_conditions r)) (has_deep_list (written_conditions r)) many.0 in
     rw (no_bad_ports profile r fits, some_combination profile r fits, both.0, both.1, no_bad_types profile r fits, combined_again profile r fits) refl
 
--- that many rules behind others, of which no more than 1,025 are told apart
+-- that many rules behind others, of which no more than 1,025 are distinguished
 abbrev capped : ℕ → ItemValues → ℕ
 capped n no_items = n
 capped n (one_more i is) = capped (min (n + 1) 1025) is

@@ -39,7 +39,7 @@ use Rattle.pf_grammar.proofs.AnchorLine.{as_rule, as_fitting, anchor_tokens, anc
 use Rattle.pf_grammar.proofs.BlockValues.{FitsItem, written_heading, written_block, written_item, heading_tokens, item_tokens, block_tokens, heading_told, not_wild, block_told, item_clean, item_named, item_made, item_pathed}
 use Rattle.pf_grammar.proofs.BlockLines.{end_line, placed_item, placed_block, item_lexes, item_tokens_of, item_goes, statement_read}
 
--- ---- rules that a text gives, one after another
+-- ---- rules that a source gives, one after another
 
 -- a path of a block in it is that of another one
 abbrev pub twice_in : List ItemValue → ItemValue → Bool

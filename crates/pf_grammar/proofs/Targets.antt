@@ -155,7 +155,7 @@ not_star name e = cases (bytes_eq name (codes "*")) refl
 abbrev pub AreAnchorNames : List Name → Type 0
 AreAnchorNames names = AllByRecursion (λ name. is_anchor_text name ≡ true) names
 
--- a target of a rule that a text gives
+-- a target of a rule that a source gives
 pub record FitsTarget (t : Target) : Type 0 where
   pub names : AreAnchorNames t.names
   pub few : (nat_le 1 (length t.names) && nat_le (length t.names) 8) ≡ true

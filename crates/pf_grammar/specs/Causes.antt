@@ -36,7 +36,7 @@ abbrev pub setting_causes : Place → Setting → List (Bool × Cause)
 setting_causes place setting = (is_anchor place, SetHere) ∷ (is_deep_setting setting, TooMany) ∷ []
 
 -- the cause that refuses a statement, if one does; these tables and rules are before it
--- Example: set skip in a text for an anchor is refused.
+-- Example: set skip in a source for an anchor is refused.
 abbrev pub statement_cause : Place → List TableValue → List ItemValue → Option Statement → Option Cause
 statement_cause place tables before None = Some Syntax
 statement_cause place tables before (Some (Sets setting)) = lowest (setting_causes place setting)

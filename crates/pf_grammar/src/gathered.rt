@@ -1,4 +1,4 @@
-//! What the statements of a text so far give, and what one more changes.
+//! What the statements of a source so far give, and what one more changes.
 
 ghost use Rattle.std.specs.Prelude.{◌≡◌, ◌++◌, map, OnOk};
 ghost use Rattle.pf_rules.specs.declared.rule.Rule.{Rule as IRule};

@@ -1,8 +1,8 @@
-//! Texts of rules, and what they give (pf.conf(5), GRAMMAR).
+//! Rulesets as source, and what they give (pf.conf(5), GRAMMAR).
 //!
 //! # Organization
 //!
-//! - [`parse`] reads a text for a [`Place`] in a [`Profile`]: its [`Ruleset`], or its first refused statement.
+//! - [`parse`] reads a source for a [`Place`] in a [`Profile`]: its [`Ruleset`], or its first refused statement.
 //! - [`Cause`], why a statement is refused.
 //! - [`reading_again`]: what is shown of a ruleset is read as that ruleset.
 //! - Of the layers below: [`show`] and [`show_items`] write a ruleset or its rules in one form; [`Rule`] and the types
@@ -25,9 +25,9 @@
 //! - **Names of skipped interfaces** are kept as often as they are written.
 //! - **What a shown ruleset with more than 65,531 skipped names comes to**: its one `set skip` line has more than
 //!   65,536 tokens and is refused. The law of the round trip says so by its premise; the form of the line leaves no
-//!   other way. The same holds of a rule whose block is shown in more tokens than that, which a text of fewer can
+//!   other way. The same holds of a rule whose block is shown in more tokens than that, which a source of fewer can
 //!   give: a list is shown as one rule for each of its elements.
-//! - **Words for numbers and names** are read by pf_rules for texts of rules and for packets alike, from tables
+//! - **Words for numbers and names** are read by pf_rules for rulesets and for packets alike, from tables
 //!   that the definition and the code both have as lists.
 //! - **A packet text has no blank at either end**; between its words there may be several spaces or tabs. Its ports
 //!   have one to five digits and its types one to three, leading zeros allowed.

@@ -1,6 +1,6 @@
-//! Where a text is loaded.
+//! Where a source is loaded.
 
-/// Where a text is loaded.
+/// Where a source is loaded.
 #[derive(Clone, Copy, PartialEq, Eq)]
 pub enum Place {
     /// The main ruleset.

@@ -9,7 +9,7 @@ use crate::place::Place;
 use pf_expansion::{Cause, is_deep};
 use pf_statements::Setting;
 
-/// The lowest cause that refuses a `set` statement of a text for this place.
+/// The lowest cause that refuses a `set` statement of a source for this place.
 pub(crate) fn setting_cause(place: Place, setting: &Setting) -> Option<Cause>
     ensures { result ≡ lowest (setting_causes place (setting_of setting.now)) }
 {

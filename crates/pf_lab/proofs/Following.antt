@@ -75,7 +75,7 @@ and_not : (b t : Bool) → t ≡ false → (b && t) ≡ false
 and_not true t e = e
 and_not false t e = refl
 
--- nothing comes to a member that is stopped
+-- nothing arrives at a member that is stopped
 pub stopped : (n m : ℕ) (w : World Bytes) (a : Action Bytes) (x : Input Bytes) → comes_to w a ≡ Some (m, x) → (w.nodes m).is_up ≡ false → happens same n w (Runs a) ≡ w
 unfolding happens
 stopped n m w a x come down =
@@ -144,7 +144,7 @@ module _ {M : Type 0} (members : List M) (state_of : M → NodeState Bytes) (gro
       slice_get members m ≡ Some x → m < g.members
   inside m w x sent world at = let within = slice_get_within members m x at in omega (arith, within, world.count)
 
-  -- nothing comes to a member that is stopped, and the lab stays
+  -- nothing arrives at a member that is stopped, and the lab stays
   pub lab_stopped : (m : ℕ) (w : World Bytes) (a : Action Bytes) (x : Input Bytes) (y : M) (sent out : List Datagram) →
       AreWorld members state_of group_of g sent w → slice_get members m ≡ Some y → (state_of y).is_up ≡ false →
       comes_to w a ≡ Some (m, x) → out ≡ [] →
@@ -164,7 +164,7 @@ module _ {M : Type 0} (members : List M) (state_of : M → NodeState Bytes) (gro
       subst (λ (k : ℕ). IsAnswered g (answer g.members k s x) s t out) f
       (subst (λ (h : Group). IsAnswered h (answer h.members p.me s x) s t out) e is)
 
-  -- what comes to a member that runs happens in the world
+  -- what arrives at a member that runs happens in the world
   pub lab_runs : (m : ℕ) (w : World Bytes) (a : Action Bytes) (x : Input Bytes) (y z : M) (sent out : List Datagram) →
       AreWorld members state_of group_of g sent w → slice_get members m ≡ Some y → (state_of y).is_up ≡ true →
       group_of z ≡ group_of y → comes_to w a ≡ Some (m, x) →
@@ -241,7 +241,7 @@ module _ {M : Type 0} (members : List M) (state_of : M → NodeState Bytes) (gro
       lab_ran m w (happens same g.members w (StopAfter a)) y q sent sent world at same_group
       (subst (λ (st : NodeState Bytes). Ran g m (happens same g.members w (StopAfter a)) w st sent) (sym after) told)
 
--- an action before which a running member stops, and one that comes to a stopped one
+-- an action before which a running member stops, and one that arrives at a stopped one
 pub stops_before : (n m : ℕ) (w : World Bytes) (a : Action Bytes) (x : Input Bytes) → comes_to w a ≡ Some (m, x) → m < n → (w.nodes m).is_up ≡ true → happens same n w (StopBefore a) ≡ emptied w m false
 unfolding happens
 stops_before n m w a x come below up =

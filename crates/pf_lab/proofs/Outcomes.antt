@@ -109,7 +109,7 @@ pub err_told : (e : LabFault) (bad : Bool) (o : Outcome) → ◌≡◌ {A = Resu
 err_told fault.Memory bad o h = tt
 err_told fault.BadEvent bad o h = absurd cc
 
--- what comes to one of the members that runs
+-- what arrives at one of the members that runs
 pub takes_at : (r : Result Outcome LabFault) (hosts : List Host) (g : Group) (m : ℕ) (w : World Bytes) (a : Action Bytes) (what : What) (y : Host) (sent : List Datagram) →
     HostsAre hosts g sent w → slice_get hosts m ≡ Some y → y.is_up ≡ true → Came g w a m what → OnErr r (r ≡ Err fault.Memory) →
     ((x : Input Bytes) → IsInput (group (group_of y)) (group_of y).me what x →

@@ -1,4 +1,4 @@
--- What comes to one member of a lab happens in the world.
+-- What arrives at one member of a lab happens in the world.
 use Rattle.std.proofs.Common.{◌≡◌, ◌≢◌, ◌∙◌, sym, ap, subst, refl, ℕ, zero, suc, ◌⊎◌, inl, inr, Bool, true, false, cond, List, [], ◌∷◌, ◌++◌, Option, Some, None, Result, Ok, Err, OnOk, OnErr, slice_get, length, take, drop, get_or, ◌<◌, ◌+◌}
 use Rattle.std.proofs.Math.ListN.{set}
 use Rattle.std.proofs.lemmas.Bool.{false_from_ne_true}
@@ -138,7 +138,7 @@ answered_up g y z a out up same is =
     subst (λ (t : NodeState Bytes). IsAnswered g (a (state_of y)) (state_of y) t out) (sym (state_up z (same ∙ up)))
     (subst (λ (s : NodeState Bytes). IsAnswered g (a s) s (state_in z.node) out) (sym (state_up y up)) is)
 
--- what comes to a member that runs happens in the world
+-- what arrives at a member that runs happens in the world
 pub runs_at : {X E : Type 0} (r : Result X E) (hosts : List Host) (g : Group) (m : ℕ) (w : World Bytes) (a : Action Bytes) (what : What)
     (y z : Host) (sent out : List Datagram) → HostsAre hosts g sent w → slice_get hosts m ≡ Some y → y.is_up ≡ true →
     z.is_up ≡ y.is_up → group_of z ≡ group_of y → Came g w a m what →

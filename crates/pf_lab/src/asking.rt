@@ -28,7 +28,7 @@ fn change_in(alloc: Global, matches: &ArgMatches<'_>, text: &[u8]) -> Result<Com
     }
 }
 
-/// Whether a file may be named so: standard input where a text may be behind the line, else none.
+/// Whether a file may be named so: standard input where a ruleset may be behind the line, else none.
 fn is_allowed(file: Option<&str>, text: Option<&[u8]>) -> bool
     ensures { result ≡ is_allowed (option_copied file.entry) (option_copied text.entry) }
 {

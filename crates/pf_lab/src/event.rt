@@ -33,7 +33,7 @@ pub enum LabEvent {
 pub enum Outcome {
     /// Nothing that is shown.
     Nothing,
-    /// A command was taken in; its number at the member.
+    /// A command was accepted; its number at the member.
     Asked(u64),
     /// The number of a refusal: 41, 60 or 62 of an ask, 61 of a tick.
     Refused(u8),

@@ -31,9 +31,9 @@
 //! - A lab makes room for fifteen messages before it calls a node, which sends no more in a step.
 //! - The configuration of an entry is the effect of what its own bytes spell, origin and number included.
 //! - **What a call means is one definition** (`Call`), which the clauses of a member and of a node cite, and which
-//!   a turn hands on as it is. So whoever reads one call has read all, and what befalls a node in any number of
+//!   a turn hands on as it is. So whoever reads one call has read all, and what happens to a node in any number of
 //!   turns is a list of them.
-//! - **What was asked of a cluster is told by its members' numbers**: a command that comes was taken in where the
+//! - **What was asked of a cluster is known by its members' numbers**: a command that comes was accepted where the
 //!   member's next number went up, in a call that answered or in one that a stop cut short. So the law speaks of
 //!   the history's own asks, and no node has to say what it was asked.
 //! - `open` has no clause on when 70 comes of a record of which a call had failed before: who opens has a fresh
@@ -45,7 +45,7 @@
 //! - The first line that isn't blank says how many members there are. Without one it is 40.
 //! - Numbers are digits, leading zeros too. One that doesn't fit is read as the greatest that does, which names no
 //!   node and no message, and so is 81. `members` with such a number is 40.
-//! - A text follows an ask's line with `-f -` whatever else is wrong with it, of which the first word may be no
+//! - A ruleset follows an ask's line with `-f -` whatever else is wrong with it, of which the first word may be no
 //!   node; the words are then read as pfctl's, `ask` in its place. A line that isn't UTF-8 is one unknown line.
 //! - Of an ask the faults of its words come before all else, those of an action that is no change last among them;
 //!   then an unknown node, then that the node is stopped, then 60 and 62. Of `test` and `log`: an unknown node,

@@ -97,7 +97,7 @@ fn tick(node: &mut Node<MemoryRecords>, out: &mut Vec<Datagram>) -> Result<Outco
     }
 }
 
-/// A datagram comes to a node over a record in memory.
+/// A datagram arrives at a node over a record in memory.
 fn receive(
     node: &mut Node<MemoryRecords>,
     bytes: &[u8],

@@ -14,7 +14,7 @@ use std::alloc::{AllocError, Global};
 /// How many members there are at most.
 const MEMBERS: u64 = 15;
 
-/// How many members the words `members N` say; none for other words, or unless there are 1 to 15.
+/// How many members the line `members N` names; none for other words, or unless there are 1 to 15.
 fn members_in(words: &[&str]) -> Option<u8>
     ensures { IfSome result (λ n. (1 ≤ n) × (n ≤ MEMBERS)) }
 {
@@ -68,7 +68,7 @@ fn new_bench(alloc: Global, members: u8) -> Result<Bench, AllocError>
     }
 }
 
-/// Ends a text that still waits for its last line.
+/// Ends a ruleset that still waits for its last line.
 fn finish(
     alloc: Global,
     bench: &mut Bench,

@@ -46,7 +46,7 @@ pub(crate) fn run_words(
     }
 }
 
-/// Whether a text follows a line with these words: one of an ask, `ask` in pfctl's place.
+/// Whether a ruleset follows a line with these words: one of an ask, `ask` in pfctl's place.
 fn is_followed(alloc: Global, words: &[&str]) -> Result<bool, AllocError>
     ensures { IfOk result (λ b. b ≡ is_followed (map (λ w. w.now) words.now)) }
 {
@@ -62,7 +62,7 @@ fn is_followed(alloc: Global, words: &[&str]) -> Result<bool, AllocError>
     }
 }
 
-/// Does a line with words, unless a text follows it.
+/// Does a line with words, unless a ruleset follows it.
 fn begin<'a>(
     alloc: Global,
     bench: &mut Bench,
@@ -82,7 +82,7 @@ fn begin<'a>(
     Ok(None)
 }
 
-/// Does a line: one of a text, or one with words. Answers what waits for its text then.
+/// Does a line: one of a ruleset, or one with words. Answers what waits for its text then.
 pub(crate) fn step<'a>(
     alloc: Global,
     bench: &mut Bench,

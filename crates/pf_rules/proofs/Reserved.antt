@@ -44,7 +44,7 @@ none_among (word ∷ words) text a e =
     let parts = and_parts _ _ a in
     rw (another text word e parts.0) (none_among words text parts.1 e)
 
--- a text that ends otherwise is kept by no profile
+-- a string that ends otherwise is kept by no profile
 pub unending : (profile : Profile) (text : List ℕ) → ends_like_reserved text ≡ false → is_reserved profile text ≡ false
 unfolding is_reserved
 unending One text e = none_among common_reserved text refl e

@@ -1,4 +1,4 @@
--- Names of interfaces are short texts.
+-- Names of interfaces are short strings.
 use Rattle.std.proofs.Common.{◌≡◌, ℕ, ◌≤◌, Bool, true, false, List, length, arith}
 use Rattle.std.specs.Prelude.{nat_le}
 use Rattle.std.specs.Str.{IsUtf8}

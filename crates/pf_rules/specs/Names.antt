@@ -10,7 +10,7 @@ use Rattle.std.specs.Cmp.Lexicographic.{slice_cmp}
 abbrev pub Name : Type 0
 Name = List ℕ
 
--- the name that a text of this form is
+-- the name that a string of this form spells
 abbrev pub name_if : (List ℕ → Bool) → List ℕ → Option Name
 name_if has_form text = if has_form text then Some text else None
 

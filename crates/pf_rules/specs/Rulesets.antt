@@ -7,7 +7,7 @@ use Rattle.pf_rules.specs.declared.ruleset.Ruleset.{Ruleset}
 use Rattle.pf_rules.specs.declared.ruleset.TableDef.{TableDef}
 use Rattle.pf_rules.specs.declared.ruleset.TableEntry.{TableEntry}
 
--- what a text says of a table: its flags, and its entries where they are listed
+-- what a ruleset says of a table: its flags, and its entries where they are listed
 -- Example: table <t> persist.
 pub record TableValue : Type 0 where
   pub name : Name

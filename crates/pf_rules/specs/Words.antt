@@ -105,7 +105,7 @@ flags_of text = if are_letters text then Some (flags_with text) else None
 
 -- ---- names
 
--- the words that both profiles keep for themselves
+-- the words which both profiles keep for themselves
 abbrev pub common_reserved : List (List ℕ)
 common_reserved =
     codes "pass" ∷ codes "block" ∷ codes "drop" ∷ codes "return" ∷ codes "in" ∷ codes "out" ∷

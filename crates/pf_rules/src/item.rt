@@ -12,7 +12,7 @@ use std::rc::Rc;
 /// Which anchors an anchor rule evaluates, named relative to the anchor that holds the rule (pf.conf(5), ANCHORS).
 #[derive(Drop)]
 pub struct Target {
-    /// The names that lead to the anchor: 1 to 8 in a rule that a text gives.
+    /// The names that lead to the anchor: 1 to 8 in a rule that a ruleset gives.
     pub names: Vec<Name>,
     /// Whether `/*` follows: the anchors directly attached to it are evaluated, and not itself.
     pub children: bool,

@@ -19,7 +19,7 @@ pub struct TableEntry {
     pub prefix: Prefix,
 }
 
-/// A table that a text defines (pf.conf(5), TABLES).
+/// A table that a ruleset defines (pf.conf(5), TABLES).
 #[derive(Drop)]
 pub struct TableDef {
     /// Its name.
@@ -33,7 +33,7 @@ pub struct TableDef {
     pub entries: Option<Vec<TableEntry>>,
 }
 
-/// What a text gives.
+/// What a ruleset gives.
 #[derive(Drop)]
 pub struct Ruleset {
     /// The interfaces and groups whose packets aren't filtered, in the order of the text, as often as written.

@@ -5,7 +5,7 @@
 -- - Counts from sizes: what adding, deleting and emptying count is the difference of `entry_count` before and after, and
 --   asks for no memory. `Counting` says that with entries put in nothing goes and just the difference comes, and with
 --   entries taken out the other way round: it counts with an arbitrary test (`put_count`), so no order is needed. What
---   replacing counts is told before the change. One lemma (`Contents.set_holds`) says that what is put at a path is there,
+--   replacing counts is known before the change. One lemma (`Contents.set_holds`) says that what is put at a path is there,
 --   by look-ups that go past what is before it (`find_past`). No order of the map is needed.
 -- - `Applies` follows from `Changes` by cases on the answer (`refused_applies`), once for any function that keeps
 --   refusals.

@@ -107,19 +107,20 @@ at_rows c text (Some rows) = pfctl_rows c text rows
 abbrev pub pfctl : Configuration → List Text → List ℕ → Outcome
 pfctl c words text = at_rows c text (rows_in words)
 
--- ---- a text behind a line
+-- ---- a ruleset behind a line
 
 -- the file is standard input
 abbrev pub is_input : Option Text → Bool
 is_input None = false
 is_input (Some file) = bytes_eq file (codes "-")
 
--- a text follows: -f - is given, or stands so among words that can't be read
+-- a ruleset follows: -f - is given, or stands so among words that can't be read
 abbrev pub takes_text_by : List Text → Option (List Row) → Bool
 takes_text_by words None = stand_together (codes "-f") (codes "-") words
 takes_text_by words (Some rows) = is_input (first_of (codes "file") rows)
 
--- a text follows where the file is standard input; of words that aren't understood, where -f and - stand side by side
+-- a ruleset follows where the file is standard input; of words that aren't understood, where -f and - stand side by
+-- side
 abbrev pub takes_text : List Text → Bool
 takes_text words = takes_text_by words (rows_in words)
 
@@ -130,7 +131,7 @@ pub record WaitingWords : Type 0 where
   pub words : List Text
   pub text : List ℕ
 
--- the configuration, whether a text is being read, and what a line printed
+-- the configuration, whether a ruleset is being read, and what a line printed
 pub record StepValue : Type 0 where
   pub configuration : Configuration
   pub waiting : Option WaitingWords
@@ -168,7 +169,7 @@ at_words c (Some (w ∷ ws)) =
     else if bytes_eq w (codes "test") then done (prints c (tested c ws))
     else done (prints c (refused_line 40 0))
 
--- a line: of a text up to a line `.`, or one with words
+-- a line: of a ruleset up to a line `.`, or one with words
 abbrev pub stepped : Configuration → Option WaitingWords → ScriptLine → StepValue
 stepped c None l = at_words c (words_in l.content)
 stepped c (Some w) l =
@@ -179,7 +180,7 @@ stepped c (Some w) l =
       output = [];
     }
 
--- the end of the script ends a text
+-- the end of the script ends a ruleset
 abbrev pub at_end : Configuration → Option WaitingWords → List ℕ
 at_end c None = []
 at_end c (Some w) = (pfctl c w.words w.text).output

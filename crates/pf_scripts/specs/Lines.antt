@@ -1,4 +1,4 @@
--- Scripts: lines, and the words of a line.
+-- Scripts: lines, and the arguments of a line.
 use Rattle.std.specs.Prelude.{ℕ, Bool, true, false, List, [], ◌∷◌, ◌++◌, ◌==◌, ◌||◌, ◌&&◌}
 use Rattle.std.specs.Prelude.{Option, Some, None, codes, decimal, if◌then◌else◌, bytes_eq}
 use Rattle.std.specs.List.{list_all}
@@ -29,13 +29,13 @@ bytes_of l = if l.has_newline then l.content ++ 10 ∷ [] else l.content
 abbrev pub words_if : List (List ℕ) → Option (List (List ℕ))
 words_if words = if list_all is_utf8 words then Some words else None
 
--- the words of a line, none where one of them isn't UTF-8
+-- the arguments of a line, none where one of them isn't UTF-8
 unfoldable pub words_in : List ℕ → Option (List (List ℕ))
 words_in line = words_if (words line)
 
 -- ---- what is printed
 
--- a text and a newline
+-- a string and a newline
 abbrev pub line : List ℕ → List ℕ
 line text = text ++ 10 ∷ []
 

@@ -9,7 +9,7 @@ use Rattle.pf_config.specs.Map.{Configuration, AnchorValue, Path, rules_at, tabl
 use Rattle.pf_scripts.specs.Lines.{line, refused_line}
 use Rattle.pf_scripts.specs.Orders.{entries_in_order, lines_in_order}
 
--- the texts, a line each
+-- the strings, a line each
 abbrev pub all_lines : List (List ℕ) → List ℕ
 all_lines texts = flat_map line texts
 

@@ -22,7 +22,7 @@ use Rattle.pf_scripts.specs.Lines.{line, refused_line}
 use Rattle.pf_scripts.specs.Listings.{rules_listed, tables_listed, anchors_listed, entries_listed, matches_listed}
 use Rattle.pf_scripts.specs.Ctl.{Outcome, prints, is_standard, rows_in, is_counted, change_line}
 
--- a change that is asked for and not made; a refusal with its number and a text's line; or what is printed
+-- a change that is asked for and not made; a refusal with its number and a ruleset's line; or what is printed
 pub data WordsValue : Type 0 where
   Asks : (command : Command) → WordsValue
   Refuses : (code : ℕ) → (at : ℕ) → WordsValue
@@ -53,7 +53,7 @@ looked c text (Ok (TableTest p t list)) = of_table (table_at c p t) (matches_lis
 
 -- ---- what words give
 
--- what is given comes to this; another file than standard input is 40
+-- what is given gives this; another file than standard input is 40
 abbrev pub rows_read : Configuration → List ℕ → List Row → WordsValue
 rows_read c text rows =
     if is_standard (first_of (codes "file") rows) then looked c text (asked (given_in rows) text)

@@ -109,7 +109,7 @@ fn run_change(
     }
 }
 
-/// Where a text for this path is loaded.
+/// Where a ruleset for this path is loaded.
 pub(crate) fn place_at(path: &[Name]) -> Place
     ensures { result ≡ place_at path.now }
 {
@@ -119,7 +119,7 @@ pub(crate) fn place_at(path: &[Name]) -> Place
     }
 }
 
-/// Reads a text and loads nothing.
+/// Reads a ruleset and loads nothing.
 fn run_check(alloc: Global, path: &[Name], text: &[u8], out: &mut String) -> Result<(), AllocError>
     ensures { OnOk result (string_bytes out.new
         ≡ string_bytes out.old ++ check_line (reading (place_at path.now) Two text.now)) }

@@ -1,4 +1,4 @@
-//! The lines of a script, and the words of a line.
+//! The lines of a script, and the arguments of a line.
 
 ghost use Rattle.std.specs.Prelude.{◌≡◌, ◌++◌, ◌<◌, IfOk, IfSome, IfNone, OnOk, map, not, [], ◌∷◌};
 ghost use Rattle.std.specs.Prelude.{length, ◌==◌, ◌≤◌, option_map, string_bytes, if◌then◌else◌, Some};
@@ -58,7 +58,7 @@ pub fn cut_line(script: &[u8]) -> Option<(Line<'_>, &[u8])>
     }
 }
 
-/// Puts a line with its newline behind a text.
+/// Puts a line with its newline behind a string.
 pub fn push_bytes(text: &mut Vec<u8>, line: Line<'_>) -> Result<(), AllocError>
     ensures { OnOk result (text.new.items ≡ text.old.items ++ bytes_of (line_of line.entry)) }
 {
@@ -95,7 +95,7 @@ fn texts<'a>(alloc: Global, found: &[&'a [u8]]) -> Result<Option<Vec<&'a str>>, 
     Ok(Some(texts))
 }
 
-/// The words of a line, between blanks; none where one of them isn't UTF-8.
+/// The words in a line, between blanks; none where one of them isn't UTF-8.
 #[tactic(auto, unfolding(crate::specs::Lines::words_in))]
 pub fn words_in<'a>(alloc: Global, line: &'a [u8]) -> Result<Option<Vec<&'a str>>, AllocError>
     ensures { IfOk result (λ words. option_map (λ v. map (λ w. w.now) v.items) words ≡ words_in line.now) }

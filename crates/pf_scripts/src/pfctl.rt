@@ -71,7 +71,7 @@ pub fn file_in<'a>(matches: &ArgMatches<'a>) -> Option<&'a str>
     matches.get_str("file")
 }
 
-/// Whether a text follows the words, up to a line `.`.
+/// Whether a ruleset follows the words, up to a line `.`.
 pub fn takes_text(alloc: Global, words: &[&str]) -> Result<bool, AllocError>
     ensures { IfOk result (λ b. b ≡ takes_text (map (λ w. w.now) words.now)) }
 {

@@ -29,7 +29,7 @@ use pf_grammar::{ParseFault, Profile, parse};
 use pf_rules::Name;
 use std::alloc::{AllocError, Global};
 
-/// Reads a text and loads nothing.
+/// Reads a ruleset and loads nothing.
 fn check_text(alloc: Global, path: &[Name], text: &[u8]) -> Result<WordsRead, AllocError>
     ensures { IfOk result (λ r. words_value r ≡ checked (reading (place_at path.now) Two text.now)) }
 {

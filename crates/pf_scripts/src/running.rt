@@ -11,7 +11,7 @@ use crate::waiting::Waiting;
 use pf_config::Config;
 use std::alloc::{AllocError, Global};
 
-/// Ends a text that still waits for its last line.
+/// Ends a ruleset that still waits for its last line.
 fn finish(
     alloc: Global,
     config: &mut Config,
@@ -34,8 +34,8 @@ fn finish(
 ///
 /// A line is `pfctl` and its words, or `test` and a packet's; an empty one is passed over, any other prints `refused
 /// 40`. A line of pfctl's with `-f -` is followed by its text, up to a line `.` or the end of the script. A change
-/// prints `ok`, one by `-T` the counts behind it, a listing its lines, and a refusal `refused CODE`, of a text `refused
-/// CAUSE line L`; the script then goes on.
+/// prints `ok`, one by `-T` the counts behind it, a listing its lines, and a refusal `refused CODE`, of a ruleset
+/// `refused CAUSE line L`; the script then goes on.
 #[tactic(auto, unfolding(crate::specs::Ctl::printed))]
 pub fn ctl(alloc: Global, script: &[u8]) -> Result<String, AllocError>
     ensures { IfOk result (λ text. string_bytes text ≡ printed script.now) }

@@ -35,7 +35,7 @@ pub fn test_packet(
     }
 }
 
-/// Does a line of pfctl's words, unless a text follows it.
+/// Does a line of pfctl's words, unless a ruleset follows it.
 fn run_pfctl<'a>(
     alloc: Global,
     config: &mut Config,
@@ -86,7 +86,7 @@ fn run_line<'a>(
     }
 }
 
-/// Does a line: one of a text, or one with words. Answers what waits for its text then.
+/// Does a line: one of a ruleset, or one with words. Answers what waits for its text then.
 pub(crate) fn step<'a>(
     alloc: Global,
     config: &mut Config,

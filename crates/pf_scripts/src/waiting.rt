@@ -1,6 +1,6 @@
 //! Words that wait for the end of their text.
 
-/// The words of a line, and the text behind it so far.
+/// The words in a line, and the text behind it so far.
 #[derive(Drop)]
 pub struct Waiting<'a> {
     /// The words.

@@ -3,6 +3,11 @@
 //! # Organization
 //!
 //! - [`show`] and [`show_items`] write a ruleset or its rules in one form, a line for each rule.
+//!
+//! # Why
+//!
+//! - **What is shown is written with `write_str` and calls of `fmt`**: `write!` saves and sets a formatter's options
+//!   for each part.
 #![tactic(auto)]
 
 mod items;

@@ -118,7 +118,7 @@ abbrev pub with_front : List WrittenItem → Read ItemTexts → Read ItemTexts
 with_front items more = more >>= λ m. Some (behind items m.0, m.1)
 
 module _ (profile : Profile) (total : Read ItemTexts) where
-  -- what is left comes to what all comes to
+  -- what is left gives what all gives
   pub record Going (items : List WrittenItem) (ts : List Token) : Type 0 where
     pub steps : ℕ
     pub enough : length ts < steps

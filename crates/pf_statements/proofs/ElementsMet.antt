@@ -23,7 +23,7 @@ spelled {Is = Is} readable ts x e =
 alone : {X : Type 0} {read : List Token → Read X} {Is : List Token → X → Type 0} {Ends : List Token → Type 0} → Readable read Is Ends → Ends [] → (ts : List Token) (x : X) → Is ts x → IsReadAs read ts x
 alone {read = read} readable none ts x is = sym (ap read (append-nil ts)) ∙ readable.reads ts [] x is none
 
--- where what may follow is told by its tokens
+-- where what may follow is known by its tokens
 pub record Tells (Ends : List Token → Type 0) (follows : List Token → Bool) : Type 0 where
   pub sound : (rest : List Token) → follows rest ≡ true → Ends rest
   pub complete : (rest : List Token) → Ends rest → follows rest ≡ true

@@ -14,7 +14,7 @@ use Rattle.pf_rules.specs.Words.{Named, named}
 
 -- ---- what may follow a part of a rule
 
--- the parts of a rule in their order, by the words that begin them
+-- the parts of a rule in their order, by the words which begin them
 abbrev ranked : List Named
 ranked =
     (codes "drop", 1) ∷ (codes "return", 1) ∷ (codes "in", 2) ∷ (codes "out", 2) ∷ (codes "log", 3) ∷ (codes "quick", 4)

@@ -260,7 +260,7 @@ rule_took profile ts x e =
       over = options.over;
     })
 
--- ---- the word that begins a rule
+-- ---- the word which begins a rule
 
 action_not : (word : List ℕ) → bytes_eq (codes "pass") word ≡ false → bytes_eq (codes "block") word ≡ false → (ts rest : List Token) (x : WrittenAction) → IsAction ts x → begins word (ts ++ rest) ≡ false
 action_not word pass block _ rest _ PassWord = pass

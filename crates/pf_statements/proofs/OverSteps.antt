@@ -8,7 +8,7 @@ use Rattle.pf_tokens.specs.Parsing.{Parses}
 use Rattle.pf_statements.specs.Options.{is_over, until_over}
 
 module _ {X : Type 0} (option : X → List Token → Read X) (total : Read X) where
-  -- what is left comes to what all comes to
+  -- what is left gives what all gives
   pub record Going (x : X) (ts : List Token) : Type 0 where
     pub steps : ℕ
     pub enough : length ts < steps

@@ -9,7 +9,7 @@ use Rattle.pf_statements.specs.Options.{to_end}
 use Rattle.pf_statements.specs.Seen.{Spells}
 
 module _ {X : Type 0} (option : X → List Token → Read X) (total : Option X) where
-  -- what is left comes to what all comes to
+  -- what is left gives what all gives
   pub record Going (x : X) (ts : List Token) : Type 0 where
     pub steps : ℕ
     pub enough : length ts < steps

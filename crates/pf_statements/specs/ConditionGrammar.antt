@@ -1,5 +1,5 @@
 -- The grammar of what a rule says of packets, production by production (pf.conf(5), GRAMMAR): which tokens spell which
--- value. It knows nothing of how a text is read.
+-- value. It knows nothing of how a ruleset is read.
 use Rattle.std.specs.Prelude.{◌≡◌, ℕ, ◌+◌, Bool, true, false, List, [], ◌∷◌, ◌++◌, Option, Some}
 use Rattle.std.specs.Prelude.{None, Ok, max, codes}
 use Rattle.pf_addr.specs.Blocks.{Block, Span, span_of}

@@ -1,5 +1,5 @@
 -- The grammar of a statement, production by production (pf.conf(5), GRAMMAR): which tokens spell which value. It knows
--- nothing of how a text is read.
+-- nothing of how a ruleset is read.
 use Rattle.std.specs.Prelude.{◌≡◌, ℕ, Bool, true, false, List, [], ◌∷◌, ◌++◌, Option, Some}
 use Rattle.std.specs.Prelude.{None, codes}
 use Rattle.pf_rules.specs.declared.profile.Profile.{Profile}

@@ -50,7 +50,7 @@ target_text profile Bad = None
 abbrev pub may_name : Profile → Token → Bool
 may_name profile t = is_some (target_text profile t)
 
--- the target that a text spells, if it spells one, with the tokens behind it
+-- the target that a ruleset spells, if it spells one, with the tokens behind it
 abbrev pub target_behind : Option Target → List Token → Read Target
 target_behind None ts = None
 target_behind (Some target) ts = Some (target, ts)

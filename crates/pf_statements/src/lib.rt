@@ -15,6 +15,9 @@
 //! # Why
 //!
 //! - A statement is kept as it is written: its lists are expanded by `pf_expansion`, which reads nothing.
+//! - **A rule is read straight into its statement.** What is called once a rule is one function of machine code.
+//! - **Memory is taken for one rule where conditions are combined, for n rules where there are n conditions, for one
+//!   element of a list without braces**: a first push takes more (also pf_expansion).
 #![tactic(auto)]
 
 mod anchors;

@@ -88,7 +88,7 @@ bit_to row i at k a b h = ap (λ n. bit_at (get_or row n 0) (i % 64)) a ∙ ap (
 abbrev pub HasAll : (a b c : List ℕ) → ℕ → Type 0
 HasAll a b c i = HasBit a i × HasBit b i × HasBit c i
 
--- the words of three rows under a mask
+-- the bits of three rows under a mask
 abbrev pub word_at : (a b c : List ℕ) → (at m : ℕ) → ℕ
 word_at a b c at m = four (get_or a at 0) (get_or b at 0) (get_or c at 0) m
 

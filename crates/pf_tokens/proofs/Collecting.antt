@@ -24,7 +24,7 @@ len_is : (some : Bool) (text item : List ℕ) → (some ≡ false → text ≡ [
 len_is true text item empty = omega (arith, length-append text (32 ∷ item))
 len_is false text item empty = omega (arith, ap (λ (bytes : List ℕ). length bytes) (empty refl))
 
--- a text that is too long with the next item is too long in all
+-- a source that is too long with the next item is too long in all
 pub too_long_there : (ds : List Definition) (some : Bool) (text item : List ℕ) (ts : List Token) (t : Token) (total : Option (List ℕ)) (b : Bool) → joined_items ds (begun_text some text) ts ≡ total → Some t ≡ first ts → Some item ≡ item_of ds t
     → (some ≡ false → text ≡ []) → 4096 < len_with some (length text) (length item) → (b || is_too_long total) ≡ true
 too_long_there ds some text item [] t total b e is_first is_item empty over = absurd cc

@@ -1,4 +1,4 @@
--- The letters of a text as given are those of the text that has been joined, with these lines.
+-- The letters of a source as given are those of the text that has been joined, with these lines.
 use Rattle.std.proofs.Common.{◌≡◌, ℕ, ◌+◌, ◌<◌, ◌≤◌, ◌==◌, ◌&&◌, ◌||◌, Bool, true, false, cond, List, [], ◌∷◌, drop, refl, sym, ap, ◌∙◌, arith}
 use Rattle.std.specs.Prelude.{nat_le}
 use Rattle.std.proofs.lemmas.Bool.{false≢true}
@@ -55,7 +55,7 @@ letters_joined line at (b ∷ c ∷ bytes) = cases (b == 92 && c == 10) (letters
         let same : line + 0 ≡ line = omega arith in
         rw (none_passed (at + 1) at (c ∷ bytes) (omega arith), same) (ap (λ (ls : List Letter). at_line b line ∷ ls) more)
 
--- ---- a text in which no line is continued
+-- ---- a source in which no line is continued
 
 no_first : (a b : Bool) → (a || b) ≡ false → (a ≡ false) × (b ≡ false)
 no_first true b e = absurd (false≢true (sym e))
@@ -69,7 +69,7 @@ letters_given line at (b ∷ c ∷ bytes) e =
     let same : line + 0 ≡ line = omega arith in
     rw (parts.0, same) (ap (λ (ls : List Letter). at_line b line ∷ ls) (letters_given (line_after line b) (at + 1) (c ∷ bytes) parts.1))
 
--- ---- the front of a text
+-- ---- the front of a source
 
 pub joined_pair : (b : ℕ) (bytes : List ℕ) → continues b bytes ≡ true → joined (b ∷ bytes) ≡ joined (drop 1 bytes)
 joined_pair b [] e = absurd (false≢true e)

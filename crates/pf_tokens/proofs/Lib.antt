@@ -14,7 +14,7 @@
 -- - Loops in the form 'with what is left it comes to all' closed with no answer (`collect_items`: seven facts, one
 --   answer).
 -- - **The token at hand.** What ends a statement is a newline, no word and no symbol: so `begins` and `begins_symbol` ask
---   the token at hand and not whether the statement ends (`Skipping.begins_at_hand`). A word at the front of a text is
+--   the token at hand and not whether the statement ends (`Skipping.begins_at_hand`). A word at the front of a source is
 --   known by its first byte (`IsWordOn`, `Lexing.word_on`), so what comes next is most often told without cutting it.
 -- - **Any judge.** `reading_from` takes the judge and the macros of a state as arguments; `Walking` is proved once in a
 --   module over them.

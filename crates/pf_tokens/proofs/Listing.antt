@@ -24,7 +24,7 @@ module _ {X : Type 0} (read : List Token → Read X) (total : Read (Elements X))
   abbrev with_front : List X → Read (Elements X) → Read (Elements X)
   with_front items more = more >>= λ m. Some (record { items = items ++ m.0.items; deepest = m.0.deepest }, m.1)
 
-  -- what is left comes to what all comes to
+  -- what is left gives what all gives
   pub record Going (items : List X) (depth deepest : ℕ) (wanted : Bool) (ts : List Token) : Type 0 where
     pub steps : ℕ
     pub enough : length ts < steps

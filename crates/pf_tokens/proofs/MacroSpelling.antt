@@ -50,7 +50,7 @@ all_there p x _ (There y xs among) e = all_there p x xs among (and_parts (p y) (
 
 -- ---- the text of a macro
 
--- a name without a text is no definition's
+-- a name without a value is no definition's
 no_text : (name : List ℕ) (d : Definition) (ds : List Definition) → IsAmong d ds → text_of ds name ≡ None → d.name ≡ name → ⊥
 no_text name d _ (Here ds) e same = cases (text_of ds name) (bytes_eq d.name name) ((bytes_eq-Decides d.name name).1 same) e
   where
@@ -76,7 +76,7 @@ text_is (d ∷ ds) name text e = cases (text_of ds name) (bytes_eq d.name name) 
     cases None true is same e more = last_is d ds name text ((bytes_eq-Decides d.name name).0 same) (some_is d.text text e) (λ other among same. no_text name other ds among is same)
     cases None false is same e more = absurd cc
 
--- a macro with a text is defined
+-- a macro with a value is defined
 record Defined (name : List ℕ) (ds : List Definition) : Type 0 where
   one : Definition
   among : IsAmong one ds
@@ -126,7 +126,7 @@ with_more : (begun : Option (List ℕ)) (text others : List ℕ) → with_item (
 with_more None text others = refl
 with_more (Some before) text others = ap (λ (all : List ℕ). some all) (append_assoc before (32 ∷ text) (32 ∷ others))
 
--- the items among the tokens, and what their texts come to behind what has begun
+-- the items among the tokens, and what their values give behind what has begun
 data Collected (ds : List Definition) (ts : List Token) : Type 0 where
   Nothing : HasItems ds ts [] → ((begun : Option (List ℕ)) → joined_items ds begun ts ≡ begun) → Collected ds ts
   Something : (items : List Token) (text : List ℕ) → HasItems ds ts items → AreItems ds items text → ((begun : Option (List ℕ)) → joined_items ds begun ts ≡ with_item begun (Some text)) → Collected ds ts

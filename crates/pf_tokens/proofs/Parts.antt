@@ -12,11 +12,11 @@ use Rattle.pf_tokens.specs.inner.Lines.{shown_more, shown_parts, symbol_bytes, a
 use Rattle.pf_tokens.proofs.Lexing.{tokens-front, same_line, pick}
 use Rattle.pf_tokens.proofs.Joining.{letters_plain, letters_given}
 
--- the tokens of a text whose first byte is on this line, in which no line is continued
+-- the tokens of a source whose first byte is on this line, in which no line is continued
 abbrev pub lexed : ℕ → List ℕ → List Placed
 lexed line text = tokens_behind 0 (plain_letters line text)
 
--- ---- a text without a backslash is read as it is
+-- ---- a source without a backslash is read as it is
 
 abbrev pub is_backslash : ℕ → Bool
 is_backslash b = b == 92
@@ -118,7 +118,7 @@ string_front bytes text rest n is_len is_text is_rest =
     quoted_of : ℕ → List ℕ → Front
     quoted_of k text = record { token = Some (Quoted text); len = k + 2 }
 
--- a text between quotes
+-- a string between quotes
 abbrev pub in_quotes : List ℕ → List ℕ
 in_quotes text = 34 ∷ (text ++ 34 ∷ [])
 

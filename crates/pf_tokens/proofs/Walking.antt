@@ -1,4 +1,4 @@
--- A text is read one statement after another, and a statement is what is left of it at its start.
+-- A source is read one statement after another, and a statement is what is left of it at its start.
 use Rattle.std.proofs.Common.{◌≡◌, ℕ, ◌<◌, ◌≤◌, ◌==◌, ◌&&◌, Bool, true, false, cond, List, [], ◌∷◌, ◌++◌, length, drop, Some, None, option_map, Result, Ok, Err, refl, sym, ap, ◌∙◌, arith, append_assoc, length-drop}
 use Rattle.std.specs.Prelude.{flat_map, if◌then◌else◌}
 use Rattle.std.proofs.lemmas.Bool.{false≢true}
@@ -212,7 +212,7 @@ module _ {S R : Type 0} (macros : S → List Definition) (judge : Judge S R) whe
   behind_newline sofar _ AtEnd = refl
   behind_newline sofar _ (AtNewline p ps e) = newline_first macros judge sofar p ps e
 
-  -- the first statement of a text that doesn't begin with a newline, and what follows it
+  -- the first statement of a source that doesn't begin with a newline, and what follows it
   pub reading_next : (sofar : S) (p : Placed) (ps : List Placed) → ends 0 p ≡ false
       → reading_from macros judge sofar [] (p ∷ ps) ≡ (statement_judged judge sofar p.line (is_definition (p ∷ ps)) (statement_raw (macros sofar) (is_definition (p ∷ ps)) 0 (p ∷ ps)) >>= λ next. reading_from macros judge next [] (drop 1 (ending_raw (macros sofar) (is_definition (p ∷ ps)) 0 (p ∷ ps))))
   reading_next sofar p ps e =

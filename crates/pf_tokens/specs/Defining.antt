@@ -56,7 +56,7 @@ text_len (Some text) = length text
 abbrev pub are_items : List Definition → List Token → Bool
 are_items ds ts = list_all (λ t. is_some (item_of ds t)) ts
 
--- a text has at most 4,096 bytes
+-- a value has at most 4,096 bytes
 abbrev pub is_too_long : Option (List ℕ) → Bool
 is_too_long text = nat_lt 4096 (text_len text)
 
@@ -64,7 +64,7 @@ is_too_long text = nat_lt 4096 (text_len text)
 abbrev pub is_macro_name : Profile → List ℕ → Bool
 is_macro_name profile name = not (is_reserved profile name) && list_all is_name_byte name
 
--- the macro of this name with this text; without a text, since there is no item, it isn't spelled as one
+-- the macro of this name with this text; without a value, since there is no item, it isn't spelled as one
 abbrev pub spelled : List ℕ → Option (List ℕ) → Result Definition DefinitionFault
 spelled name None = Err faults.Syntax
 spelled name (Some text) = Ok (record { name = name; text = text })

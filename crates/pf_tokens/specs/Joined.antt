@@ -1,4 +1,4 @@
--- A text without the backslashes and newlines that join its lines, and how its lines are counted then.
+-- A source without the backslashes and newlines that join its lines, and how its lines are counted then.
 use Rattle.std.specs.Prelude.{ℕ, ◌+◌, List, [], ◌∷◌, nat_le}
 use Rattle.std.specs.List.{prefix_len}
 use Rattle.std.specs.Cow.{cow_slice_items}
@@ -15,6 +15,6 @@ letters_at line at steps [] = []
 letters_at line at steps (b ∷ bytes) = record { byte = b; line = line + passed at steps } ∷
     letters_at (line_after line b) (at + 1) steps bytes
 
--- the tokens of a text that has been joined
+-- the tokens of a source that has been joined
 unfoldable pub text_tokens : Text → List Placed
 text_tokens text = tokens_behind 0 (letters_at 1 0 text.steps.items (cow_slice_items text.bytes))

@@ -27,7 +27,7 @@ pub data IsItem (ds : List Definition) : Token → List ℕ → Type 0 where
   StringItem : (text : List ℕ) → IsItem ds (Quoted text) text
   MacroItem : (name text : List ℕ) → HasText name text ds → IsItem ds (Macro name) text
 
--- item {item}   with their texts, joined by one blank
+-- item {item}   with their values, joined by one blank
 pub data AreItems (ds : List Definition) : List Token → List ℕ → Type 0 where
   OneItem : (t : Token) (text : List ℕ) → IsItem ds t text → AreItems ds (t ∷ []) text
   MoreItems : (t : Token) (ts : List Token) (text others : List ℕ) → IsItem ds t text → AreItems ds ts others →

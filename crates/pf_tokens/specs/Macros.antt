@@ -1,4 +1,4 @@
--- Macros, and the tokens of a text in which they are replaced.
+-- Macros, and the tokens of a source in which they are replaced.
 use Rattle.std.specs.Prelude.{ℕ, ◌+◌, ◌-◌, ◌==◌, ◌&&◌, Bool, true, false, List, [], ◌∷◌, map}
 use Rattle.std.specs.Prelude.{Option, Some, None, bytes_eq, nat_lt, fold, flat_map, if◌then◌else◌}
 use Rattle.pf_tokens.specs.declared.symbol.Symbol.TheVariants.{Equals, Open, Close}
@@ -23,7 +23,7 @@ text_of (d ∷ ds) name = or_else (text_of ds name) (if bytes_eq d.name name the
 abbrev pub unwritten : ℕ → Placed → Placed
 unwritten line t = record { token = t.token; line = line; written = false }
 
--- the tokens of a macro's text, on the line of the macro; without a text the macro itself
+-- the tokens of a macro's text, on the line of the macro; without a value the macro itself
 abbrev pub text_tokens : Placed → Option (List ℕ) → List Placed
 text_tokens p None = p ∷ []
 text_tokens p (Some text) = map (unwritten p.line) (plain_tokens text)

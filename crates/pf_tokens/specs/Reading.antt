@@ -1,4 +1,4 @@
--- What a text gives, one statement after another, whatever is done with a statement.
+-- What a source gives, one statement after another, whatever is done with a statement.
 use Rattle.std.specs.Prelude.{ℕ, Bool, List, [], ◌∷◌, ◌++◌, Result, Ok, Err, if◌then◌else◌}
 use Rattle.pf_tokens.specs.Tokens.{Placed}
 use Rattle.pf_tokens.specs.Macros.{Definition, is_definition, flattened, depth_behind, ends}

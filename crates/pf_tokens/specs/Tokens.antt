@@ -1,4 +1,4 @@
--- The tokens of a text, each with its line.
+-- The tokens of a source, each with its line.
 use Rattle.std.specs.Prelude.{ℕ, zero, suc, ◌+◌, ◌-◌, ◌==◌, ◌||◌, ◌&&◌, Bool, true, false, List}
 use Rattle.std.specs.Prelude.{[], ◌∷◌, map, take, drop, Option, Some, None, not, codes, nat_le}
 use Rattle.std.specs.Prelude.{if◌then◌else◌, take_while}
@@ -29,7 +29,7 @@ letters line (b ∷ []) = record { byte = b; line = line } ∷ []
 letters line (b ∷ c ∷ bytes) = if b == 92 && c == 10 then letters (line + 1) bytes
     else record { byte = b; line = line } ∷ letters (line_after line b) (c ∷ bytes)
 
--- the same of a text in which nothing is taken out
+-- the same of a source in which nothing is taken out
 abbrev pub plain_letters : ℕ → List ℕ → List Letter
 plain_letters line [] = []
 plain_letters line (b ∷ bytes) = record { byte = b; line = line } ∷ plain_letters (line_after line b) bytes
@@ -102,7 +102,7 @@ symbol_of_two b c =
     else (if c == 60 then (if b == 62 then Some Between else None)
     else None))
 
--- What is at the front of a text: a token, or none where it is a blank or a comment, and how many
+-- What is at the front of a source: a token, or none where it is a blank or a comment, and how many
 -- letters it takes.
 pub record Front : Type 0 where
   pub token : Option Token
@@ -163,7 +163,7 @@ tokens_behind zero (l ∷ ls) =
     let f = front (l.byte ∷ map (λ (m : Letter). m.byte) ls) in
     placed f.token l.line (tokens_behind (f.len - 1) ls)
 
--- the tokens of a text as given
+-- the tokens of a source as given
 -- Example: a<=b is Word a, Mark LessEqual, Word b.
 abbrev pub tokens : List ℕ → List Placed
 tokens text = tokens_behind 0 (letters 1 text)

@@ -57,7 +57,7 @@ impl<T: Drop> From<AllocFailed<T>> for DefinitionFault {
 struct Items {
     /// Whether there is one.
     some: bool,
-    /// Their texts, joined by a blank.
+    /// Their values, joined by a blank.
     text: Vec<u8>,
     /// Whether all tokens are items.
     all: bool,
@@ -152,7 +152,7 @@ fn collect_items<'t: 's, 's>(
 }
 
 /// The macro that the statement defines (`pf.conf(5)`, MACROS): `WORD "=" item {item}`, each item a word, a string or
-/// a macro, whose texts are joined by a blank. The profile says which names are reserved.
+/// a macro, whose values are joined by a blank. The profile says which names are reserved.
 #[tactic(auto, unfolding(crate::specs::Defining::definition_at, crate::specs::Productions::symbol_at))]
 pub fn definition<'t: 's, 's>(
     alloc: Global,

@@ -1,4 +1,4 @@
-//! Tokens and what is at the front of a text.
+//! Tokens and what is at the front of a source.
 
 ghost use Rattle.std.specs.Prelude.{◌≡◌, ◌≤◌, ◌==◌, length, not, drop};
 ghost use Rattle.std.specs.List.{prefix_len};
@@ -15,7 +15,7 @@ use crate::symbol::{Symbol, symbol_of, symbol_of_two};
 pub enum Lexeme<'a> {
     /// The longest run of letters, digits and `. : _ - + * % @`.
     Word(&'a [u8]),
-    /// A text in quotes, without them: printable ASCII and tabs, but no quote and no backslash.
+    /// A string in quotes, without them: printable ASCII and tabs, but no quote and no backslash.
     Quoted(&'a [u8]),
     /// The name of a macro, without its dollar sign.
     Macro(&'a [u8]),

@@ -1,4 +1,4 @@
-//! Tokens, one after another, from the bytes of a text.
+//! Tokens, one after another, from the bytes of a source.
 
 ghost use Rattle.std.specs.Prelude.{◌≡◌, ◌+◌, ◌<◌, ◌^◌, length};
 ghost use Rattle.pf_tokens.specs.Tokens.{line_after};
@@ -13,7 +13,7 @@ fn line_after(line: u64, b: u8) -> u64
     if b == b'\n' { line + 1 } else { line }
 }
 
-/// The tokens of a text, which are made one at a time.
+/// The tokens of a source, which are made one at a time.
 ///
 /// Lines are those of the text as given: at each of the steps a backslash and a newline were taken out.
 #[derive(Clone, Copy)]
@@ -46,7 +46,7 @@ impl<'a> Lexer<'a> {
         Lexer::joined(text, &[])
     }
 
-    /// The tokens of a text of which a backslash and a newline were taken out at each of the steps.
+    /// The tokens of a source of which a backslash and a newline were taken out at each of the steps.
     #[tactic(auto, unfolding(crate::specs::Left::tokens_left))]
     pub(crate) fn joined(rest: &'a [u8], steps: &'a [usize]) -> Lexer<'a>
         ensures { tokens_left result ≡ tokens_behind 0 (letters_at 1 0 steps.now rest.now) }
@@ -148,7 +148,7 @@ impl<'a> Lexer<'a> {
         }
     }
 
-    /// The line of the word that comes next, where it is at the front, by its first byte.
+    /// The line of the word which comes next, where it is at the front, by its first byte.
     #[tactic(auto, using(crate::proofs::Lexing::word_on), unfolding(crate::specs::Left::tokens_left))]
     pub(crate) fn word_line(&mut self) -> Option<u64>
         ensures left { tokens_left self.new ≡ tokens_left self.old }

@@ -1,4 +1,4 @@
-//! Tokens of texts of rules, and the core of their parser (`pf.conf(5)`, GRAMMAR and MACROS).
+//! Tokens of rulesets, and the core of their parser (`pf.conf(5)`, GRAMMAR and MACROS).
 //!
 //! # Organization
 //!
@@ -14,26 +14,26 @@
 //!   proved side by side: pf_tokens (tokens, macros, braces, lists, the parser's core), pf_statements (the parts of
 //!   a rule), pf_statements (statements as written), pf_expansion (lists to rules, causes), and beside them
 //!   pf_rules (words for numbers, flags and names), pf_rules (rules, tables, names) and pf_show (how rulesets are
-//!   shown). pf_grammar (the reading of a text) keeps its public face: it hands out what they have. pf_config and
-//!   pf_eval stand on rules and tables and not on how texts are read, so they and pf_grammar are proved side by
+//!   shown). pf_grammar (the reading of a source) keeps its public face: it hands out what they have. pf_config and
+//!   pf_eval stand on rules and tables and not on how rulesets are read, so they and pf_grammar are proved side by
 //!   side; pf_tool lists the layers whose definitions its contracts cite.
-//! - **One relation for lists**, `IsList` in pf_tokens, for lists of any element: it is told which tokens spell an
+//! - **One relation for lists**, `IsList` in pf_tokens, for lists of any element: it is given which tokens spell an
 //!   element. The grammar of statements uses it, and `lists_as_spelled` says of each element that is read alike
 //!   whatever may follow it that `list` reads exactly what the relation has. An element that looks further ahead
 //!   has no such law; none of the product's does, which `elements_of_lists` and `entries_of_tables` prove one by
 //!   one.
 //! - **Parts of rules stand beside their productions**, in pf_statements, since an impl of a trait of pf_tokens
-//!   must stand in the crate of its type.
+//!   must be in the crate of its type.
 //! - **A macro's text isn't joined again.** Backslash-newline pairs are taken out once, of the text as given; a
-//!   macro's text is cut into tokens as it is (`plain_tokens`). No macro that a text defines holds a backslash, so
+//!   macro's text is cut into tokens as it is (`plain_tokens`). No macro that a source defines holds a backslash, so
 //!   nobody sees the difference.
-//! - **At most 65 open braces are told apart** (`depth_after`): the 65th refuses the text, so what a deeper count
+//! - **At most 65 open braces are distinguished** (`depth_after`): the 65th refuses the text, so what a deeper count
 //!   would do with a later newline can't be seen. The definition says so, and the code counts in a byte.
 //! - **A list's nesting is not capped** in its definition. The code counts in a `u64` and answers out of memory if
 //!   that overflowed, which no text in memory can make it do.
 //! - **A list keeps at most 65,536 elements**, and a statement's fault while it is read goes before what was read
 //!   of it: a list with more than that has more tokens than a statement may have, so `Stop::TooMany` is never what
-//!   a reader of a text sees.
+//!   a reader of a source sees.
 //! - **Within a list newlines are blanks by being taken out** up to the brace that closes it (`blanked`), before
 //!   elements are read. So they are blanks within an element too (`{ 10.0.0.1` NL `- 10.0.0.2 }`), and elements
 //!   know nothing of them. In other braces (a block) they stay tokens.
@@ -41,13 +41,19 @@
 //!   statement, also behind a token that is no item; the length is measured on the items that there are, joined by
 //!   a blank, other tokens passed over.
 //! - **The name of a macro statement** is judged before its items; both are the same fault, so no order is seen.
-//!   Which words are reserved depends on the profile, which `definition` is told.
+//!   Which words are reserved depends on the profile, which `definition` is given.
 //! - **At one token** a bad byte goes before an unknown macro, and that before too many tokens or braces.
 //! - **Symbols have numbers in the definitions** (`number`), so that 'this symbol' is one test and not 15 cases of
 //!   each of 15.
 //! - **Definitions of a name are kept all, and an index of names says where the last of each stands** (`Macros`): a
-//!   look-up takes time in the logarithm of their number, and each name is kept twice. A hash table with a fixed
-//!   seed would let a text be written whose names all meet.
+//!   look-up costs the logarithm of their number, and each name is kept twice. A hash table with a fixed
+//!   seed would let a source be written whose names all meet.
+//! - **A token that is a word is cut before anything else is asked** (`Lexer::word`), and passed without asking whether
+//!   the statement ends with it (`Parser::pass`). A second token is cut ahead only where the first isn't a word.
+//! - **Whether newlines are passed in a list is asked where a token is passed** (`pass_newlines` is inlined). Lexer,
+//!   `take` and `pull` aren't inlined: that costs more.
+//! - **A macro knows whether its value has a token** (`Macro::is_blank`), and one without costs nothing where it is
+//!   used.
 #![tactic(auto)]
 
 mod defining;

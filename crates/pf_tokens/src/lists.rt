@@ -66,7 +66,7 @@ pub fn list<'t: 's, 's, E: Element>(
     let mut wanted = true;
     'elements: loop {
         if parser.accept_symbol(Symbol::Open) {
-            // No memory holds a text with more open braces than can be counted.
+            // No memory holds a source with more open braces than can be counted.
             let Some(deeper) = depth.checked_add(1) else {
                 return Err(Stop::Memory);
             };

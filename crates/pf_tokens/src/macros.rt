@@ -61,7 +61,7 @@ impl Macros {
         Some(one.text.as_slice())
     }
 
-    /// A text with the tokens of the last macro of that name, with no byte where there is none of them.
+    /// A value with the tokens of the last macro of that name, with no byte where there is none of them.
     pub(crate) fn tokens_of(&self, name: &[u8]) -> Option<&[u8]>
         ensures { HasTokensOf (option_copied result) (text_of (definitions_of self.now) name.now) }
     {

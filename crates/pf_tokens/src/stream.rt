@@ -19,7 +19,7 @@ use crate::macros::Macros;
 use crate::passed::Passed;
 use crate::symbol::Symbol;
 
-/// The tokens of a text from the start of a statement on, in which macros are replaced, with one of them at hand.
+/// The tokens of a source from the start of a statement on, in which macros are replaced, with one of them at hand.
 #[derive(Clone, Copy)]
 pub(crate) struct Stream<'t, 's> {
     pub next: Option<Lexed<'s>>,
@@ -78,7 +78,7 @@ where
         stream
     }
 
-    /// A text with the tokens of a macro that is to be replaced.
+    /// A value with the tokens of a macro that is to be replaced.
     #[tactic(auto, using(crate::proofs::Pulling::same_tokens))]
     fn replacement(&self, token: Lexed<'t>) -> Option<&'s [u8]>
         ensures { text_tokens (placed_of token.entry) (option_copied result) ≡

@@ -1,4 +1,4 @@
-//! A text whose lines are joined.
+//! A source whose lines are joined.
 
 ghost use Rattle.std.specs.Prelude.{◌≡◌, IfOk};
 ghost use Rattle.std.specs.Cow.{cow_slice_items};
@@ -12,7 +12,7 @@ use crate::lexer::Lexer;
 use std::alloc::{AllocError, Global};
 use std::borrow::CowSlice;
 
-/// A text as given, with its tokens: each backslash directly before a newline has been taken out together with
+/// A source as given, with its tokens: each backslash directly before a newline has been taken out together with
 /// it, once, also in strings and comments.
 #[derive(Drop)]
 pub struct Text<'a> {
@@ -66,7 +66,7 @@ fn joined(alloc: Global, text: &[u8]) -> Result<(Vec<u8>, Vec<usize>), AllocErro
 }
 
 impl<'a> Text<'a> {
-    /// Joins the lines of a text. Where none is continued the text itself is lent. An error is out of memory.
+    /// Joins the lines of a source. Where none is continued the text itself is lent. An error is out of memory.
     pub fn new(alloc: Global, text: &'a [u8]) -> Result<Text<'a>, AllocError>
         ensures { IfOk result (λ t. text_tokens t ≡ tokens text.now) }
     {

@@ -39,11 +39,11 @@ pub record Written : Type 0 where
   pub text : List ℕ
   pub ending : Ending
 
--- a text before what is written
+-- a string before what is written
 abbrev pub behind : List ℕ → Written → Written
 behind text written = record { text = text ++ written.text; ending = written.ending }
 
--- a text that is no packet
+-- a line that is no packet
 abbrev pub refused_packet : Written
 refused_packet = record { text = line (codes "refused 30"); ending = Refused }
 
@@ -51,7 +51,7 @@ refused_packet = record { text = line (codes "refused 30"); ending = Refused }
 unfoldable pub verdict_for : Configuration → Text → Option (List ℕ)
 verdict_for c packet = option_map (λ (k : PacketValue). verdict_text (judgement c k)) (packet_of packet)
 
--- the verdict line before what follows; a text that is no packet ends it
+-- the verdict line before what follows; a line that is no packet ends it
 abbrev pub put_verdict : Option (List ℕ) → Written → Written
 put_verdict None later = refused_packet
 put_verdict (Some verdict) later = behind (line verdict) later
@@ -97,13 +97,13 @@ checked (Ok rules) = record { text = shown rules; ending = Done }
 unfoldable pub check_output : Place → List ℕ → Written
 check_output place input = checked (reading place Two input)
 
--- ---- texts in files
+-- ---- rulesets in files
 
 -- a file that can't be read
 abbrev pub unread : Written
 unread = refused_load (Some 90)
 
--- check of a text, none of a file that can't be read
+-- check of a ruleset, none of a file that can't be read
 abbrev pub checked_text : Place → Option (List ℕ) → Written
 checked_text place None = unread
 checked_text place (Some text) = check_output place text
@@ -120,7 +120,7 @@ checked_texts place texts = record {
   ending = if list_any (λ t. is_refused (checked_text place t).ending) texts then Refused else Done;
 }
 
--- the packets of a text, one a line; none where a line isn't UTF-8
+-- the packets of a file, one a line; none where a line isn't UTF-8
 unfoldable pub packet_texts : List ℕ → Option (List Text)
 packet_texts bytes = words_if (map (λ l. l.content) (lines bytes))
 
@@ -140,7 +140,7 @@ abbrev pub quieted : Bool → Written → Written
 quieted true w = record { text = []; ending = w.ending }
 quieted false w = w
 
--- the texts of files, whatever they hold; without files that of the input
+-- the rulesets of files, whatever they hold; without files that of the input
 abbrev pub AreTexts : List Text → List (Option (List ℕ)) → List ℕ → Type 0
 AreTexts [] texts input = texts ≡ Some input ∷ []
 AreTexts (file ∷ files) texts input = length texts ≡ length (file ∷ files)

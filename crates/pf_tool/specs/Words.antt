@@ -74,11 +74,11 @@ lab_app = new_app (codes "lab")
 abbrev pub explain_app : App
 explain_app = with_rule (new_app (codes "explain")) (word_rule (codes "code"))
 
--- the words that read a ruleset's text
+-- the subcommands that read a ruleset's text
 abbrev pub texts_app : App
 texts_app = with_subcommand (with_subcommand (new_app (codes "pfx")) check_app.top) test_app.top
 
--- the words that read a script, and the one that reads nothing
+-- the subcommands that read a script, and the one that reads nothing
 abbrev pub scripts_app : App
 scripts_app = with_subcommand (with_subcommand (with_subcommand texts_app ctl_app.top) lab_app.top) explain_app.top
 
@@ -96,8 +96,8 @@ pfx_app =
 
 -- ---- what they ask for
 
--- Verdicts for packet texts, what a text gives at a place, or what a script prints, over one configuration or over a
--- lab, each of standard input; a refusal's paragraph, or all of them. Of files: what their texts give; verdicts
+-- Verdicts for packets, what a ruleset gives at a place, or what a script prints, over one configuration or over a
+-- lab, each of standard input; a refusal's paragraph, or all of them. Of files: what their rulesets give; verdicts
 -- under a file's rules, and for the packets of a file.
 pub data CallValue : Type 0 where
   Test : (packets : List Text) → CallValue
@@ -113,7 +113,7 @@ abbrev pub is_given : Option Text → Bool
 is_given None = false
 is_given (Some text) = bytes_eq text (codes "true")
 
--- --anchor checks a text for an anchor
+-- --anchor checks a ruleset for an anchor
 abbrev pub place_for : Option Text → Place
 place_for None = Main
 place_for (Some text) = if bytes_eq text (codes "true") then Anchor else Main
@@ -127,7 +127,7 @@ abbrev pub check_as : Place → Bool → List Text → CallValue
 check_as place quiet [] = if quiet then CheckFiles place quiet [] else Check place
 check_as place quiet (file ∷ files) = CheckFiles place quiet (file ∷ files)
 
--- what the word `check` asks for, of what is given
+-- what the subcommand `check` asks for, of what is given
 abbrev pub check_call : List Row → CallValue
 check_call rows = check_as (place_for (first_of (codes "anchor") rows)) (is_given (first_of (codes "quiet") rows))
     (words_of (codes "file") rows)
@@ -144,7 +144,7 @@ test_as (Some file) more quiet packets = Some (TestFiles (Some file) more quiet 
 test_as None (Some more) quiet packets = Some (TestFiles None (Some more) quiet packets)
 test_as None None quiet packets = words_call quiet packets
 
--- what the word `test` asks for, of what is given
+-- what the subcommand `test` asks for, of what is given
 abbrev pub test_call : List Row → Option CallValue
 test_call rows = test_as (first_of (codes "file") rows) (first_of (codes "packets") rows)
     (is_given (first_of (codes "quiet") rows)) (words_of (codes "packet") rows)

@@ -115,7 +115,7 @@ fn lab_input<R: Read>(alloc: Global, reader: &mut R) -> Result<Output, RunFault>
     Ok(output)
 }
 
-/// `check` of these texts.
+/// `check` of these rulesets.
 fn check_sources(
     alloc: Global,
     place: Place,

@@ -14,9 +14,9 @@ use pf_grammar::Place;
 /// What the words ask for.
 #[derive(Clone, Copy)]
 pub(crate) enum Call<'m, 'a> {
-    /// Verdicts for packet texts.
+    /// Verdicts for packets.
     Test(&'m [&'a str]),
-    /// What a text gives at a place.
+    /// What a ruleset gives at a place.
     Check(Place),
     /// What a script over one configuration prints.
     Ctl,
@@ -24,7 +24,7 @@ pub(crate) enum Call<'m, 'a> {
     Lab,
     /// A refusal's paragraph, or all of them.
     Explain(Option<&'m Explanation>),
-    /// What the texts of files give at a place; without files that of the input.
+    /// What the rulesets of files give at a place; without files that of the input.
     CheckFiles {
         place: Place,
         quiet: bool,

@@ -1,4 +1,4 @@
-//! The word `check`: what a text gives.
+//! The subcommand `check`: what a ruleset gives.
 
 ghost use Rattle.std.specs.Prelude.{◌≡◌, IfOk, map, option_map};
 ghost use Rattle.pf_tool.specs.Tool.{check_output, checked_text, checked_texts};
@@ -36,7 +36,7 @@ pub(crate) fn check_output(alloc: Global, place: Place, input: &[u8]) -> Result<
     }
 }
 
-/// What `check` writes over a text, which may be one that can't be read.
+/// What `check` writes over a ruleset, which may be one that can't be read.
 fn checked_text(alloc: Global, place: Place, source: &Source<'_>) -> Result<Output, AllocError>
     ensures { IfOk result (λ o. written o ≡ checked_text place (text_in source.now)) }
 {
@@ -46,7 +46,7 @@ fn checked_text(alloc: Global, place: Place, source: &Source<'_>) -> Result<Outp
     }
 }
 
-/// What `check` writes over these texts in turn, with its remarks.
+/// What `check` writes over these rulesets in turn, with its remarks.
 #[tactic(auto, unfolding(crate::specs::Tool::checked_texts))]
 pub(crate) fn checked_texts(
     alloc: Global,

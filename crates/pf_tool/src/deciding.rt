@@ -49,7 +49,7 @@ fn say_each(
     Ok(())
 }
 
-/// Says of each packet under a text which rule decides; of a text that is refused nothing.
+/// Says of each packet under a ruleset which rule decides; of a ruleset that is refused nothing.
 pub(crate) fn say_rules(
     alloc: Global,
     text: &[u8],

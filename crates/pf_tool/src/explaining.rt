@@ -1,4 +1,4 @@
-//! The word `explain`: what refusals mean.
+//! The subcommand `explain`: what refusals mean.
 
 ghost use Rattle.std.specs.Prelude.{◌≡◌, IfOk};
 ghost use Rattle.std.specs.Option.{option_copied};

@@ -2,19 +2,19 @@
 //!
 //! # Organization
 //!
-//! - [`run`]: the words `check`, `test`, `ctl`, `lab` and `explain`, over any reader and writers.
+//! - [`run`]: the subcommands `check`, `test`, `ctl`, `lab` and `explain`, over any reader and writers.
 //! - [`Status`]: how a run ends, and the exit status.
 //!
 //! Within: `words` has the words as `clap` reads them, `call` what they ask for, `checking`, `testing`, `scripts` and
-//! `explaining` what each word writes, `source` and `packets` texts and packets in files, `answering` what a call
+//! `explaining` what each word writes, `source` and `packets` rulesets and packets in files, `answering` what a call
 //! writes over the input and files, `remarks` and `deciding` what is said to people, `output` what a run writes,
 //! `running` one run from the words to the status.
 //!
 //! # Why
 //!
-//! - **Help texts change nothing that is promised**: what `clap` makes of words doesn't depend on them (`app_of`),
+//! - **Help changes nothing that is promised**: what `clap` makes of words doesn't depend on them (`app_of`),
 //!   so no definition has them.
-//! - **`pfx --help` lists all words, and six programs of `clap` read them.** pf_tool's has the words of others
+//! - **`pfx --help` lists all words, and six programs of `clap` read them.** pf_tool's has the subcommands of others
 //!   (`node`, `ask`, `key`, `show`, `follow`) by their names alone; `main` hands a run whose first word is one of
 //!   these to the crate that has its options. One command of all options would make the crate that holds it stand
 //!   on all of them, SQLite too, and `ask` has two sets of options (`--to`, `--control`), of which `clap` could tell
@@ -26,10 +26,10 @@
 //! - **`run` is lent the table of refusals**, and so are the calls of cli_io. A clause can't name a constant
 //!   that is a list of structs, and a copy of the table among the definitions would be a second table. So what is
 //!   promised of `explain` holds for whatever table is lent, and `main` lends the one that there is.
-//! - **What files hold** no contract says, so the clauses on files say that there are such texts. Names of files
+//! - **What files hold** no contract says, so the clauses on files say that there are such rulesets. Names of files
 //!   are words of UTF-8. A file is read whole before anything is written; `-` is no name of standard input, which
 //!   `/dev/stdin` is.
-//! - **`check FILE..` goes on behind a refused file**, as compilers do, and tells by the status that one was; so a
+//! - **`check FILE..` goes on behind a refused file**, as compilers do, and shows by the status that one was; so a
 //!   script sees all that is wrong. Which file is meant stands on standard error.
 //! - **People's words are made of what is printed**: a line `refused CODE` gives its remark. So they can't say
 //!   another thing than the line does, and need no second way through the parser; which rule decides is asked anew,
@@ -43,13 +43,13 @@
 //!   means; the run ends as one whose input can't be read, with nothing written.
 //! - **All output at once.** A run collects what it writes, and writes it once. So a run that is out of memory
 //!   prints `memory` and not a part of its lines before it.
-//! - **Random packets over random texts are rows too** (`scripts/verdict-rows`): their verdicts are an earlier
+//! - **Random packets over random rulesets are rows too** (`scripts/verdict-rows`): their verdicts are an earlier
 //!   program's, so they show that faster bodies answer alike, and no more.
 //! - **What is wanted of changed datagrams comes from a script** (`scripts/datagram-rows`) that has the formats
 //!   once more and shares nothing with the code. Each byte of 16 datagrams is set to each value there.
-//! - **Rows are data** (pfx, by `batch`): texts, words, exact output and status are in tables that a program goes
-//!   through when the gate runs it, since rows as tests are proved code, and are paid for at each check. A row that
-//!   doesn't match ends the program with a status that its stored run doesn't have.
+//! - **Rows are data** (pfx, by `batch`): rulesets, arguments, exact output and status are in tables that a program
+//!   goes through when the gate runs it, since rows as tests are proved code, and are paid for at each check. A row
+//!   that doesn't match ends the program with a status that its stored run doesn't have.
 //! - **The rows of `pfx` are its stored run**, by `pfx batch`, so that both compilers run them on the program that
 //!   ships, and no second program links what it links. A program has one stored run; `a_quick_pass_after_a_block`
 //!   alone is that of first_verdict, and one of the rows.
@@ -65,14 +65,14 @@
 //! - **A word has to be named** (`subcommand_required`): without one `clap` says so, and the status is 2.
 //! - **A word of the command line that isn't text** is a word that isn't understood, status 2.
 //! - **That a read succeeds can't be said.** std's `Read` and `Write` may answer an error at any call and no word
-//!   of theirs tells when, so a status of a failed read or write has no clause beyond itself; tests with readers
+//!   of theirs reports when, so a status of a failed read or write has no clause beyond itself; tests with readers
 //!   and writers that don't fail are in its place.
 //! - **The status is an enum with a code**, so that a body that gives up doesn't meet the contract by answering 1.
 //! - **`run` answers `node`, `ask`, `key`, `show` and `follow` with status 2**: it knows them by name. These words
 //!   are `run_net`'s, `run_control_ask`'s, `run_show`'s and `run_follow`'s, to which `pfx` hands every run whose first
 //!   word is one of them: so pf_tool knows neither sockets nor databases.
 //! - **What runs of all words have in common** (`Status`, `read_all`, `misused`, `out_of_memory`) is in cli_io, over
-//!   `clap` alone, so that the words of the network, the control socket and nftables wait for no lab.
+//!   `clap` alone, so that the subcommands of the network, the control socket and nftables wait for no lab.
 //! - **No test lends an allocator that refuses**: what takes memory takes `alloc: Global`, which is one type and
 //!   not a parameter. What a call leaves where a growth is refused is in its contract. In place of a test two
 //!   things stand outside the gate: `rt try --fail-alloc N`, which refuses the N-th allocation of a run, and

@@ -1,4 +1,4 @@
-//! The packets of a text, one a line.
+//! The packets of a file, one a line.
 
 ghost use Rattle.std.specs.Prelude.{◌≡◌, IfOk, Some, None, map, option_map, if◌then◌else◌};
 ghost use Rattle.std.specs.Str.{is_utf8};
@@ -8,7 +8,7 @@ ghost use Rattle.pf_tool.specs.Tool.{packet_texts};
 use pf_scripts::cut_line;
 use std::alloc::{AllocError, Global};
 
-/// The lines of a text without their newlines.
+/// The lines of a file without their newlines.
 fn contents<'a>(alloc: Global, bytes: &'a [u8]) -> Result<Vec<&'a [u8]>, AllocError>
     ensures { IfOk result (λ v. map (λ c. c.now) v.items ≡ map (λ l. l.content) (lines bytes.now)) }
 {
@@ -47,7 +47,7 @@ fn texts<'a>(alloc: Global, found: &[&'a [u8]]) -> Result<Option<Vec<&'a str>>, 
     Ok(Some(texts))
 }
 
-/// The packets of a text, one a line; none where a line isn't UTF-8.
+/// The packets of a file, one a line; none where a line isn't UTF-8.
 #[tactic(auto, unfolding(crate::specs::Tool::packet_texts))]
 pub(crate) fn packet_texts<'a>(
     alloc: Global,

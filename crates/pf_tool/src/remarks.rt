@@ -95,7 +95,7 @@ impl<'t> Remarks<'t> {
         self.remark(packet.as_str(), None, NO_PACKET)
     }
 
-    /// Says what is refused of a text, of which `check` or `test` prints this.
+    /// Says what is refused of a ruleset, of which `check` or `test` prints this.
     pub(crate) fn add(&mut self, source: &str, printed: &str) -> Result<(), AllocError> {
         if self.level == Level::Silent {
             return Ok(());

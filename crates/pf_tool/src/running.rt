@@ -72,7 +72,7 @@ fn misnamed_words<W: Write>(text: &str, writer: &mut W) -> Status
 /// for people's words that are lent; `is_terminal` says whether somebody looks at that place.
 ///
 /// `test PACKET..` reads the text of a ruleset and writes a verdict line for each packet text in turn. A refused text
-/// gives `refused CAUSE line L` instead, and a text that is no packet `refused 30`, which ends the run. `check` writes
+/// gives `refused CAUSE line L` instead, and a line that is no packet `refused 30`, which ends the run. `check` writes
 /// the ruleset that the text gives, in its expanded form, or its refusal; with `--anchor` the text is one for an
 /// anchor. Both read files where their words name some; one that can't be read gives `refused 90`. All that is written
 /// goes to the writer at once; an input, and a file, is 16,777,216 bytes at most. What is said to people, a line for

@@ -1,4 +1,4 @@
-//! The texts that words name.
+//! The rulesets that words name.
 
 ghost use Rattle.std.specs.Prelude.{◌≡◌, IfOk, length};
 ghost use Rattle.std.specs.Option.{option_copied};
@@ -8,7 +8,7 @@ use cli_io::{InputFault, read_all};
 use std::alloc::{AllocError, Global};
 use std::fs;
 
-/// A text, and how people call it: a file's name.
+/// A ruleset, and how people call it: a file's name.
 #[derive(Drop)]
 pub(crate) struct Source<'a> {
     pub(crate) name: &'a str,
@@ -50,7 +50,7 @@ pub(crate) fn source_at<'a>(
     Ok(Source { name: path, text })
 }
 
-/// The texts of files, in turn.
+/// The rulesets of files, in turn.
 pub(crate) fn sources_at<'a>(
     rt: &HostRuntime,
     alloc: Global,

@@ -1,4 +1,4 @@
-//! The word `test`: the verdicts of a text's rules for packets.
+//! The subcommand `test`: the verdicts of a ruleset's rules for packets.
 
 ghost use Rattle.std.specs.Prelude.{◌≡◌, ◌++◌, [], Some, IfOk, OnOk, map, option_map, string_bytes};
 ghost use Rattle.std.specs.Option.{option_copied};

@@ -229,7 +229,7 @@ fn explain_command<'a>(alloc: Global) -> Result<Command<'a>, AllocError>
     with_option(command, code(alloc))
 }
 
-/// The program with the words that read a ruleset's text.
+/// The program with the subcommands that read a ruleset's text.
 fn texts_command<'a>(alloc: Global) -> Result<Command<'a>, AllocError>
     ensures { IfOk result (λ c. app_of c ≡ texts_app) }
 {
@@ -242,7 +242,7 @@ fn texts_command<'a>(alloc: Global) -> Result<Command<'a>, AllocError>
         .subcommand(test)
 }
 
-/// The same with the words that read a script, and the one that reads nothing.
+/// The same with the subcommands that read a script, and the one that reads nothing.
 fn scripts_command<'a>(alloc: Global) -> Result<Command<'a>, AllocError>
     ensures { IfOk result (λ c. app_of c ≡ scripts_app) }
 {

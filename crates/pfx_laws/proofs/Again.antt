@@ -1,4 +1,4 @@
--- A ruleset that a text gives is what its shown text gives. What is shown of a rule with its block has no fault while
+-- A ruleset that was read is the same after it is shown and read again. What is shown of a rule with its block has no fault while
 -- it is read, if it isn't too long: its blocks nest no deeper than those of the text, and its tokens are good.
 use Rattle.std.proofs.Common.{◌≡◌, ℕ, ◌+◌, ◌-◌, ◌≤◌, Bool, true, false, ◌&&◌, ◌||◌, cond, List, [], ◌∷◌, ◌++◌, map, length, Option, Some, None, Result, Ok, Err, refl, sym, subst, ap, ◌∙◌, append_assoc, arith, length-append}
 use Rattle.std.specs.Prelude.{codes, nat_le, nat_lt}
@@ -109,7 +109,7 @@ mutual
       let both = both_true (text_shallow d x) (texts_shallow d items) h in
       all_append (shallow d) (item_values p u x) (block_values p (unnamed_after u x) items) (rules_shallow d p u x both.0) (blocks_shallow d p (unnamed_after u x) items both.1)
 
--- ---- what a text gives can be shown, and its blocks nest so
+-- ---- what a ruleset gives can be shown, and its blocks nest so
 
 record IsFit (place : Place) (profile : Profile) (sofar : Sofar) : Type 0 where
   skip : AreNames profile sofar.content.skip
@@ -144,7 +144,7 @@ six false false false false true f is = absurd cc
 six false false false false false true is = absurd cc
 six false false false false false false is = (refl, refl, refl, refl, refl, refl)
 
--- nothing is set in a text for an anchor
+-- nothing is set in a ruleset for an anchor
 set_main : (place : Place) (b : Bool) → lowest ((is_anchor place, SetHere) ∷ (b, TooMany) ∷ []) ≡ None → is_anchor place ≡ true → ⊥
 set_main Main b e anchor = false≢true anchor
 set_main Anchor b e anchor = cc

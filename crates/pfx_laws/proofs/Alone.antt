@@ -1,4 +1,4 @@
--- Rules of main alone come to the verdict of the configuration that has nothing else.
+-- Rules of main alone give the verdict of the configuration that has nothing else.
 use Rattle.std.proofs.Common.{◌≡◌, ◌≤◌, Bool, true, false, List, [], ◌∷◌, length, refl, sym, ap, arith}
 use Rattle.std.specs.Prelude.{nat_le, if◌then◌else◌}
 use Rattle.std.specs.List.{list_all}

@@ -99,7 +99,7 @@ one_delivered g handed sent m gave (Comes sender message) other holds carried br
     let b = brought (sender, message) (inl refl) in
     message_delivered g handed sent m sender message b.0 other holds (carried b.0 b.1) b.2
 
--- each message that came in these deeds was sent
+-- each message that came in this trace was sent
 abbrev AreDelivered : Group → (sent : List Datagram) → (m : ℕ) → List Deed → Type 0
 AreDelivered g sent m [] = Unit {0}
 AreDelivered g sent m (Deed.Calls x t out ∷ ds) = IsDelivered g sent m x × AreDelivered g sent m ds
@@ -248,15 +248,15 @@ lived_back g me s t (Deed.Calls x u out ∷ xs) ys l = lived_back g me u t xs ys
 lived_back g me s t (Deed.Stops x left ∷ xs) ys l = lived_back g me (stopped left) t xs ys l.3
 lived_back g me s t (Deed.Opens ∷ xs) ys l = lived_back g me (started s.stored) t xs ys l
 
--- how the members stand behind a stretch
+-- how the members are behind a stretch
 abbrev pub put_on : (ℕ → NodeState Bytes) → Stretch → ℕ → NodeState Bytes
 put_on nodes x = put nodes x.member (led_to (nodes x.member) x.deeds)
 
--- what befalls each member from there on it lives
+-- what happens to each member from there on it lives
 abbrev pub Live : Group → (ℕ → NodeState Bytes) → List Stretch → Type 0
 Live g nodes xs = (m : ℕ) → m < g.members → Lived g m (nodes m) (deeds_in m xs) (led_to (nodes m) (deeds_in m xs))
 
--- what befalls a member of this stretch is first what befell it there
+-- what happens to a member of this stretch is first what happened to it there
 own_deeds : (m : ℕ) (x : Stretch) (xs : List Stretch) → nat_eq m x.member ≡ true → deeds_in m (x ∷ xs) ≡ x.deeds ++ deeds_in m xs
 own_deeds m x xs is = cond-true (nat_eq m x.member) (x.deeds ++ deeds_in m xs) (deeds_in m xs) is
 

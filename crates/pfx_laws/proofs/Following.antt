@@ -29,7 +29,7 @@ use Rattle.pfx_laws.specs.Clusters.{Cluster, ClusterEvent, begun, asked_of, WasS
 use Rattle.pfx_laws.specs.Clusters.ClusterEvent.{Calls, Stops, Opens}
 use Rattle.pfx_laws.specs.Promised.{IsWorld, IsGroup, IsRun}
 
--- ---- what comes to a member is an action of the world
+-- ---- what arrives at a member is an action of the world
 
 record IsAction (w : World Bytes) (m : ℕ) (x : Input Bytes) : Type 0 where
   action : Action Bytes
@@ -122,7 +122,7 @@ tested g c w m here runs =
     and_from (nat_lt m g.members) (w.nodes m).is_up (lt-ltb m g.members runs.below)
     (ap (λ (f : ℕ → NodeState Bytes). (f m).is_up) here ∙ runs.is_up)
 
--- an action that comes to a member that runs
+-- an action that arrives at a member that runs
 acts : (n m : ℕ) (w : World Bytes) (a : Action Bytes) (x : Input Bytes) (F : ℕ → Input Bytes → World Bytes) →
     comes_to w a ≡ Some (m, x) → (nat_lt m n && (w.nodes m).is_up) ≡ true → at_member n w (comes_to w a) F ≡ F m x
 acts n m w a x F come up = ap (λ (t : Option (ℕ × Input Bytes)). at_member n w t F) come ∙ cond-true _ (F m x) w up

@@ -1,4 +1,4 @@
--- Labels in nftables' text are told apart.
+-- Labels in nftables' text are distinguished.
 use Rattle.std.proofs.Common.{◌≡◌, ℕ, suc, ◌+◌, ◌<◌, ◌≤◌, ◌^◌, Bool, true, false, List, [], ◌∷◌, ◌++◌, length, drop, refl, sym, ap, ap₂, ◌∙◌, arith, append_assoc}
 use Rattle.std.specs.Prelude.{◌≢◌, ◌&&◌, ◌||◌, decimal, if◌then◌else◌}
 use Rattle.std.specs.List.{list_any, AllByRecursion}
@@ -34,7 +34,7 @@ digits_test = record { empty = tt; parts = λ c cs p. p; more = λ c cs p q. (p,
 are_digits : (n : ℕ) → n < 2 ^ 64 → Digits (decimal n)
 are_digits n small = digits_decimal (numerals_by_value Digits digits_test) n small
 
--- what stands before the first _ and what stands behind it
+-- what is before the first _ and what is behind it
 parted : (a b x y : List ℕ) → Digits a → Digits b → a ++ 95 ∷ x ≡ b ++ 95 ∷ y → (a ≡ b) × (x ≡ y)
 parted [] [] x y p q e = (refl, ap (drop 1) e)
 parted [] (d ∷ b) x y p q e = absurd (omega (arith, q.0.1, ap (λ l. get_or l 0 0) e))
@@ -43,7 +43,7 @@ parted (c ∷ a) (d ∷ b) x y p q e =
     let k = parted a b x y p.1 q.1 (ap (drop 1) e) in
     (ap₂ (λ m l. m ∷ l) (ap (λ l. get_or l 0 0) e) k.0, k.1)
 
--- the position and what stands behind it
+-- the position and what is behind it
 behind : (p : ℕ) (x : List ℕ) → generation p ++ x ≡ 103 ∷ (decimal p ++ 95 ∷ x)
 behind p x = ap (λ l. 103 ∷ l) (append_assoc (decimal p) (95 ∷ []) x)
 

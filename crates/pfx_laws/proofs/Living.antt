@@ -12,11 +12,11 @@ use Rattle.pfx_laws.specs.Clusters.{Cluster, ClusterEvent, MayAllHappen, next}
 use Rattle.pfx_laws.specs.Clusters.ClusterEvent.{Calls, Stops, Opens}
 use Rattle.pfx_laws.specs.Lives.{member_of, deed, deeds_of, AreOfMembers, AreDelivered, LivesAreHistories}
 
--- how the members stand, and what befalls each from there on
+-- how the members stand, and what happens to each from there on
 abbrev Live : Group → (ℕ → NodeState Bytes) → List ClusterEvent → Type 0
 Live g nodes hs = (m : ℕ) → m < g.members → (t : NodeState Bytes) × Lived g m (nodes m) (deeds_of m hs) t
 
--- what befalls a member first is what happens to it first
+-- what happens to a member first is what happens to it first
 own : (g : Group) (nodes : ℕ → NodeState Bytes) (h : ClusterEvent) (hs : List ClusterEvent) → member_of h < g.members → Live g nodes (h ∷ hs) →
     (t : NodeState Bytes) × Lived g (member_of h) (nodes (member_of h)) (deed h ∷ deeds_of (member_of h) hs) t
 own g nodes h hs below live =

@@ -1,4 +1,4 @@
--- From what goes over the members' wires, run after run, to stretches of what befell them.
+-- From what goes over the members' wires, run after run, to stretches of what happened to them.
 use Rattle.std.proofs.Common.{◌≡◌, ◌∙◌, ◌⊎◌, sym, ap, subst, refl, true, ℕ, zero, suc, ◌<◌, ◌≤◌, Bool, nat_eq, List, [], ◌∷◌, ◌++◌, map, drop, Option, Some, None, inl, inr, arith, append_assoc}
 use Rattle.std.proofs.lemmas.Bool.{cond-true, cond-false, eq-eqb}
 use Rattle.std.proofs.lemmas.Bool.Decides.{eqb_tells}
@@ -39,11 +39,11 @@ use Rattle.pfx_laws.proofs.Lifting.{during, during_append, below_or}
 data Act (K : Type 0) : Type 0 where
   -- a call answers, for a datagram that came or for none
   Answers : (came : Option Bytes) (input : Input Bytes) (then : NodeState Bytes) (out : List Datagram) → Act K
-  -- a datagram comes, and nothing befalls the member
+  -- a datagram comes, and nothing happens to the member
   Skips : (bytes : Bytes) → Act K
   -- a datagram that was sent is handed over, at first or again
   Resends : (to : ℕ) (bytes : Bytes) → Act K
-  -- a run starts; before it this befell the member
+  -- a run starts; before it this happened to the member
   Begins : (key : K) (deeds : List Deed) → Act K
 
 abbrev befall : {K : Type 0} → List (Act K) → List Deed
@@ -117,7 +117,7 @@ messages_both g xs ys a b d n = elim (among_cases xs ys d n) [ inl here ↦ a d 
 
 -- ---- one event
 
--- The next thing that happens at a member: what befalls the member by then, and what it still does.
+-- The next thing that happens at a member: what happens to the member by then, and what it still does.
 record Stepped {K : Type 0} (g : Group) (m : ℕ) (came : List Bytes) (sent : List (ℕ × Bytes)) (xs : List (Act K)) (e : RunEvent K WireEvent)
     (es : List (RunEvent K WireEvent)) : Type 0 where
   deeds : List Deed
@@ -137,7 +137,7 @@ stepped_is {K} g m came sent xs e f es fs h s =
     subst (λ (x : RunEvent K WireEvent). Stepped g m came sent xs x es) one
     (subst (λ (ys : List (RunEvent K WireEvent)). Stepped g m came sent xs f ys) more s)
 
--- no deed
+-- no event
 idle : {K : Type 0} (g : Group) (m : ℕ) (came : List Bytes) (sent : List (ℕ × Bytes)) (xs ys : List (Act K)) (e : RunEvent K WireEvent) →
     befall xs ≡ befall ys → AreSound g m ys (came ++ given_by e) sent → AreAmong (handed_by e) sent →
     Stepped g m came sent xs e (happen ys)

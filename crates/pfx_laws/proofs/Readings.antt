@@ -1,4 +1,4 @@
--- The rules that a text gives evaluate anchors by 1 to 8 names each, and are in blocks of 1,024 at most.
+-- The rules that a ruleset gives evaluate anchors by 1 to 8 names each, and are in blocks of 1,024 at most.
 use Rattle.std.proofs.Common.{◌≡◌, ℕ, ◌+◌, ◌<◌, ◌≤◌, Bool, true, false, ◌&&◌, cond, List, [], ◌∷◌, ◌++◌, map, length, Option, Some, None, Result, Ok, Err, refl, subst, arith}
 use Rattle.std.specs.Prelude.{nat_le, nat_lt}
 use Rattle.std.specs.List.{list_all, list_any, AllByRecursion}
@@ -186,7 +186,7 @@ made_is (Ok sofar) r e = (sofar, refl, same sofar.content r e)
     same a b e = cc
 made_is (Err refusal) r e = absurd cc
 
--- what holds of the rules that a text gives
+-- what holds of the rules that a ruleset gives
 pub record AreGood (items : List ItemValue) : Type 0 where
   pub targets : list_all good_item items ≡ true
   pub room : Room items

@@ -166,7 +166,7 @@ store_goes_on G m given back next end events later a b empty left = (
   (a.leaves.stop (G.stored next) left, later, [], b.ran, refl, refl),
 )
 
--- what befell it
+-- what happened to it
 pub befell_it : IsTrace (idle nothing_stored ∷ idle nothing_stored ∷ []) (Stops Ticks nothing_stored ∷ Opens ∷ [])
 befell_it = (Stops Ticks nothing_stored ∷ Opens ∷ [], refl, (Ticks, [], refl, refl))
 

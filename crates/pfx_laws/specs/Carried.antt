@@ -15,7 +15,7 @@ use Rattle.pfx_laws.specs.Clusters.{MayAllHappen, after, begun}
 use Rattle.pfx_laws.specs.Promised.{IsGroup}
 use Rattle.pfx_laws.specs.Wires.{Stretch, AreStretches, AreCarried, deeds_in, stand, history_of}
 
--- These stretches happened in a cluster, in this order. What befell each member in its own, one after another, are
+-- These stretches happened in a cluster, in this order. What happened to each member in its own, one after another, are
 -- steps of the model from an empty record on. And the network gave a member no datagram but those that had been handed
 -- to some wire for that member before, requests from outside, and what is no member's message to it.
 pub record Goes (g : Group) (stretches : List Stretch) : Type 0 where
@@ -24,7 +24,7 @@ pub record Goes (g : Group) (stretches : List Stretch) : Type 0 where
   pub lived : (m : ℕ) → m < g.members → Lived g m (started nothing_stored) (deeds_in m stretches) (stand stretches m)
   pub carried : AreCarried g stretches []
 
--- what befell the members is a history of the cluster, which leaves each of them as it stands
+-- what happened to the members is a history of the cluster, which leaves each of them as it stands
 abbrev pub WiresAreHistories : Type 0
 WiresAreHistories =
     (g : Group) (stretches : List Stretch) → Goes g stretches →
@@ -43,11 +43,11 @@ WiresNeverDiffer =
     (i j p q : ℕ) (e f : Entry Bytes) → HasLearned (stand before i) p e → HasLearned (stand (before ++ more) j) q f →
     (p ≡ q → e ≡ f) × (e ≡ f → p ≡ q)
 
--- the entries whose commands were asked of members and taken in
+-- the entries whose commands were asked of members and accepted
 abbrev pub asked_in : List Stretch → List (Entry Bytes)
 asked_in stretches = (after (history_of stretches) begun).asked
 
--- What a member has as learned was asked and taken in before, and no entry was taken in twice; two that were, with one
+-- What a member has as learned was asked and accepted before, and no entry was accepted twice; two that were, with one
 -- origin and one number, are one.
 abbrev pub WiresLearnWhatWasAsked : Type 0
 WiresLearnWhatWasAsked =

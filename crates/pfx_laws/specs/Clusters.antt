@@ -1,4 +1,4 @@
--- Nodes over any records, and what may happen to them, in the words of a node's contracts.
+-- Nodes over any records, and what may happen to them, in the terms of a node's contracts.
 use Rattle.std.specs.Prelude.{◌≡◌, ◌⊎◌, ◌<◌, ℕ, true, List, [], ◌∷◌, ◌++◌, Option, None, Some}
 use Rattle.std.specs.Prelude.{slice_get, nat_eq, if◌then◌else◌}
 use Rattle.px_model.specs.Node as node
@@ -15,7 +15,7 @@ use Rattle.px_replica.specs.Spelled.{for_members}
 use Rattle.px_replica.specs.declared.datagram.Datagram.{Datagram}
 
 -- The members' records and volatile parts, all datagrams that were ever handed out to members, in order, and all
--- entries whose commands were ever asked and taken in, the last one first.
+-- entries whose commands were ever asked and accepted, the last one first.
 pub record Cluster : Type 0 where
   pub nodes : (member : ℕ) → NodeState Bytes
   pub sent : List Datagram
@@ -25,7 +25,7 @@ pub record Cluster : Type 0 where
 abbrev pub begun : Cluster
 begun = record { nodes = λ m. started nothing_stored; sent = []; asked = [] }
 
--- A command that is asked of a member is taken in where the member's next number goes up: its entry has the number that
+-- A command that is asked of a member is accepted where the member's next number goes up: its entry has the number that
 -- was the next one.
 abbrev pub asked_of : (m : ℕ) → (before after : Record Bytes) → Option Bytes → List (Entry Bytes)
 asked_of m d e None = []
@@ -56,7 +56,7 @@ IsDelivered g sent m (Asks command) = Unit {0}
 IsDelivered g sent m Ticks = Unit {0}
 IsDelivered g sent m (Comes sender message) = WasSent g sent m sender message ⊎ (sender ≡ asker)
 
--- What may come to a member: a command that is asked, its clock, a message that was sent to it, or a request from
+-- What may reach a member: a command that is asked, its clock, a message that was sent to it, or a request from
 -- outside.
 abbrev pub MayCome : Group → List Datagram → (m : ℕ) → Input Bytes → Type 0
 MayCome g sent m x = IsInput g m x × IsDelivered g sent m x

@@ -9,8 +9,8 @@ use Rattle.px_transport.specs.Sending.{Sealer}
 use Rattle.node_udp.specs.Sockets.{SocketEvent}
 use Rattle.node_control.specs.Sockets.{RanAt, RanSealed}
 
--- Of what befell the member a front, of which this holds, with how the member stands behind it and what is unanswered
--- then. From there on the rest befell it.
+-- Of what happened to the member a front, of which this holds, with how the member is behind it and what is unanswered
+-- then. From there on the rest happened to it.
 pub record Front (g : Group) (m : ℕ) (Is : List Deed → NodeState Bytes → List Bytes → Type 0) (deeds : List Deed)
     (end : NodeState Bytes) : Type 0 where
   pub before : List Deed
@@ -22,7 +22,7 @@ pub record Front (g : Group) (m : ℕ) (Is : List Deed → NodeState Bytes → L
   pub goes_on : Lived g m then later end
 
 -- Wherever what went over a run's socket is cut off, without a key or with one, the front of it is what went over the
--- socket of a run: a front of what befell the member befell it.
+-- socket of a run: a front of what happened to the member happened to it.
 abbrev pub FrontsAreRuns : Type 0
 FrontsAreRuns =
     (g : Group) (m : ℕ) (first : Record Bytes) (front back : List SocketEvent) (deeds : List Deed)

@@ -1,4 +1,4 @@
--- Names of chains and sets that stand in a ruleset of nftables.
+-- Names of chains and sets that are in a ruleset of nftables.
 use Rattle.std.specs.Prelude.{Bool}
 use Rattle.std.specs.List.{list_any}
 use Rattle.nft_rules.specs.Evaluation.{is_chain, is_set}

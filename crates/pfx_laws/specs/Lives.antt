@@ -1,4 +1,4 @@
--- From what befell each member to what happened to all.
+-- From what happened to each member to what happened to all.
 use Rattle.std.specs.Prelude.{◌<◌, ℕ, List, [], ◌∷◌, ◌++◌, nat_eq, if◌then◌else◌}
 use Rattle.px_model.specs.Spelling.{Bytes}
 use Rattle.px_model.specs.World.{NodeState, nothing_stored, started}
@@ -14,13 +14,13 @@ member_of (ClusterEvent.Calls m x t out) = m
 member_of (ClusterEvent.Stops m x left) = m
 member_of (ClusterEvent.Opens m) = m
 
--- what befalls whoever it happens to
+-- what happens to a member, of an event of the cluster
 abbrev pub deed : ClusterEvent → Deed
 deed (ClusterEvent.Calls m x t out) = Deed.Calls x t out
 deed (ClusterEvent.Stops m x left) = Deed.Stops x left
 deed (ClusterEvent.Opens m) = Deed.Opens
 
--- of all that happened, what befell this member
+-- of all that happened, what happened to this member
 abbrev pub deeds_of : (m : ℕ) → List ClusterEvent → List Deed
 deeds_of m [] = []
 deeds_of m (h ∷ hs) = if nat_eq m (member_of h) then deed h ∷ deeds_of m hs else deeds_of m hs

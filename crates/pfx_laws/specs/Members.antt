@@ -1,4 +1,4 @@
--- Members that stop and start again: what befalls each, run after run.
+-- Members that stop and start again: what happens to each, run after run.
 use Rattle.std.specs.Prelude.{◌≡◌, ◌<◌, ℕ, List, [], ◌∷◌, ◌++◌, map, nat_eq, if◌then◌else◌}
 use Rattle.px_model.specs.Law.{Among, NoneTwice}
 use Rattle.px_model.specs.Node.{Record, Input, Entry}
@@ -28,7 +28,7 @@ abbrev pub events_at : {X : Type 0} → (member : ℕ) → List (ℕ × X) → L
 events_at m [] = []
 events_at m (x ∷ xs) = if nat_eq m x.0 then x.1 ∷ events_at m xs else events_at m xs
 
--- A run of a member: its key, if there is one; the record with which it is opened; what befalls it; how it stands in
+-- A run of a member: its key, if there is one; the record with which it is opened; what happens to it; how it is in
 -- the end; and what came for the call that failed there, if one did, and after it.
 pub record Run (K : Type 0) : Type 0 where
   pub key : K
@@ -78,8 +78,8 @@ IsTrace (r ∷ rs) deeds = (later : List Deed) × (deeds ≡ r.deeds ++ later) �
 
 -- ---- what is promised of them
 
--- What befell the members went in these stretches, one after another, which leave each of them as it stands. So what is
--- promised of stretches is promised of them.
+-- What happened to the members went in these stretches, one after another, which leave each of them as it stands. So
+-- what is promised of stretches is promised of them.
 pub record InStretches {K : Type 0} (g : Group) (runs : Runs K) (stretches : List Stretch) : Type 0 where
   pub goes : Goes g stretches
   pub befell : (m : ℕ) → m < g.members → IsTrace (runs m) (deeds_in m stretches)
@@ -95,7 +95,7 @@ NeverDiffer g runs =
     (i j p q : ℕ) (e f : Entry Bytes) → i < g.members → j < g.members →
     EverLearned (runs i) p e → EverLearned (runs j) q f → (p ≡ q → e ≡ f) × (e ≡ f → p ≡ q)
 
--- What a member ever had as learned was asked of a member in these stretches and taken in, and nothing was taken in
+-- What a member ever had as learned was asked of a member in these stretches and accepted, and nothing was accepted
 -- twice.
 abbrev pub LearnWhatWasAsked : {K : Type 0} → Group → Runs K → List Stretch → Type 0
 LearnWhatWasAsked g runs stretches =

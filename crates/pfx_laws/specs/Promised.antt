@@ -48,7 +48,7 @@ NodesAgree =
 abbrev pub HasLearned : Cluster → (member position : ℕ) → Entry Bytes → Type 0
 HasLearned c m p e = (c.nodes m).stored.learned p ≡ Some e
 
--- Whatever happens: what a member has as learned was asked and taken in before, and no entry was taken in twice; two
+-- Whatever happens: what a member has as learned was asked and accepted before, and no entry was accepted twice; two
 -- that were, with one origin and one number, are one.
 abbrev pub LearnWhatWasAsked : Type 0
 LearnWhatWasAsked =

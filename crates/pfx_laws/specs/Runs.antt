@@ -18,8 +18,8 @@ use Rattle.pfx_laws.specs.Carried.{Goes}
 
 -- ---- from a life to a stretch
 
--- Steps of the model, one after the other, befell a member of the group from there on; and each message that came to it
--- its wire gave it in a datagram.
+-- Steps of the model, one after the other, happened to a member of the group from there on; and each message that came
+-- to it its wire gave it in a datagram.
 pub record IsStretch (g : Group) (from : NodeState Bytes) (x : Stretch) : Type 0 where
   pub below : x.member < g.members
   pub lived : Lived g x.member from x.deeds (led_to from x.deeds)
@@ -72,9 +72,9 @@ pub record IsNew {R : Type 0} {G : Ghosts R} (g : Group) (m : ℕ) (x : Stand G)
   pub me : (membership_of x.replica).me ≡ m
   pub empty : state_in x.replica ≡ started nothing_stored
 
--- Members live side by side, each over a record of its own from empty on; what befell them happened in some order, in
--- stretches of one thing or several; and of what their wires gave and were handed in these the network is such a one.
--- Then what is promised of stretches is promised of them, and each of them stands as its stretches lead it.
+-- Members live side by side, each over a record of its own from empty on; what happened to them happened in some order,
+-- in stretches of one thing or several; and of what their wires gave and were handed in these the network is such a
+-- one. Then what is promised of stretches is promised of them, and each of them stands as its stretches lead it.
 abbrev pub LivesGo : {R : Type 0} → Ghosts R → Type 0
 LivesGo G =
     (g : Group) → IsGroup g → (from to : (m : ℕ) → Stand G) (answered : (m : ℕ) → Option NodeFault)

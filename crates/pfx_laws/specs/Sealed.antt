@@ -29,7 +29,7 @@ IsUnopened (Some k) bytes = opened k.keys k.sealer bytes ≡ None
 abbrev pub Network : Type 0
 Network = List (ℕ × RunEvent Keyed SocketEvent)
 
--- Each packet that comes to a member's socket was handed to some member's socket before, in any run, at any time and
+-- Each packet that arrives at a member's socket was handed to some member's socket before, in any run, at any time and
 -- however often it comes; or it isn't opened. The members are in these runs, and these were handed over already.
 abbrev pub PacketsCarry : (members : ℕ) → (run : ℕ → Option Keyed) → Network → (handed : List Bytes) → Type 0
 PacketsCarry n run [] handed = Unit {0}

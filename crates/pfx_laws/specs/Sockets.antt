@@ -22,7 +22,7 @@ WasHanded g handed m bytes = Among handed bytes ⊎ IsOutside g m bytes
 abbrev pub Network : Type 0
 Network = List (ℕ × RunEvent (Unit {0}) SocketEvent)
 
--- Each datagram that comes to a member's socket is such a one. These were handed over already.
+-- Each datagram that arrives at a member's socket is such a one. These were handed over already.
 abbrev pub SocketsCarry : Group → Network → (handed : List Bytes) → Type 0
 SocketsCarry g [] handed = Unit {0}
 SocketsCarry g ((m, Starts key) ∷ xs) handed = (m < g.members) × SocketsCarry g xs handed

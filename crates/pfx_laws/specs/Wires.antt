@@ -9,19 +9,19 @@ use Rattle.node_loop.specs.Living.{messages_of, AreBrought, sent_by}
 use Rattle.node_loop.specs.Resending.{IsOutside}
 use Rattle.pfx_laws.specs.Clusters.{ClusterEvent}
 
--- A stretch of a member's life: what befell it, one thing or several, and the datagrams that its wire gave meanwhile.
--- What the wire was handed meanwhile is what the member sent (`sent_by`), and some of that again.
+-- A stretch of a member's life: what happened to it, one thing or several, and the datagrams that its wire gave
+-- meanwhile. What the wire was handed meanwhile is what the member sent (`sent_by`), and some of that again.
 pub record Stretch : Type 0 where
   pub member : ℕ
   pub deeds : List Deed
   pub gave : List Bytes
 
--- in all stretches, what befell this member
+-- in all stretches, what happened to this member
 abbrev pub deeds_in : (member : ℕ) → List Stretch → List Deed
 deeds_in m [] = []
 deeds_in m (x ∷ xs) = if nat_eq m x.member then x.deeds ++ deeds_in m xs else deeds_in m xs
 
--- how a member stands after what befell it
+-- how a member stands after what happened to it
 abbrev pub led_to : NodeState Bytes → List Deed → NodeState Bytes
 led_to s [] = s
 led_to s (Deed.Calls x t out ∷ ds) = led_to t ds
@@ -56,13 +56,13 @@ AreCarried g (x ∷ xs) handed =
 
 -- ---- what happens in the cluster
 
--- what befalls this member
+-- what happens to this member
 abbrev pub cluster_event : (member : ℕ) → Deed → ClusterEvent
 cluster_event m (Deed.Calls x t out) = ClusterEvent.Calls m x t out
 cluster_event m (Deed.Stops x left) = ClusterEvent.Stops m x left
 cluster_event m Deed.Opens = ClusterEvent.Opens m
 
--- what befalls the members in these stretches, in order
+-- what happens to the members in these stretches, in order
 abbrev pub history_of : List Stretch → List ClusterEvent
 history_of [] = []
 history_of (x ∷ xs) = map (cluster_event x.member) x.deeds ++ history_of xs

@@ -35,7 +35,7 @@ pub fn nodes_agree()
     ensures { NodesAgree }
 {}
 
-/// A node learns nothing but what was asked of a node and taken in, and nothing is taken in twice.
+/// A node learns nothing but what was asked of a node and accepted, and nothing is accepted twice.
 pub fn nodes_learn_what_was_asked()
     ensures { LearnWhatWasAsked }
 {}
@@ -52,7 +52,7 @@ pub fn equally_applied_nodes_are_equal<R: Records, Q: Records>()
     ensures { EquallyApplied R.Records Q.Records }
 {}
 
-/// What a member lived is a stretch of its life, which leads to where it stands in the end; and what it lived up to a
+/// What a member lived is a stretch of its life, which leads to where it is in the end; and what it lived up to a
 /// stop there is one, whatever that leaves.
 pub fn lives_are_stretches<R: Records>()
     ensures { LivesAreStretches R.Records }
@@ -63,7 +63,7 @@ pub fn openings_are_stretches()
     ensures { OpeningsAreStretches }
 {}
 
-/// What befell members in stretches, one of one member after another, is a history where each lived from an empty
+/// What happened to members in stretches, one of one member after another, is a history where each lived from an empty
 /// record on, and their wires gave no datagram but those that some wire had been handed for that member before,
 /// repeated, late and in whatever order, and asks from outside. It leaves each member as it stands.
 pub fn wires_are_histories()
@@ -76,7 +76,7 @@ pub fn wires_never_differ()
     ensures { WiresNeverDiffer }
 {}
 
-/// Over such a network a node learns nothing but what was asked of a node and taken in, and nothing is taken in twice.
+/// Over such a network a node learns nothing but what was asked of a node and accepted, and nothing is accepted twice.
 pub fn wires_learn_what_was_asked()
     ensures { WiresLearnWhatWasAsked }
 {}
@@ -87,15 +87,15 @@ pub fn equally_applied_over_wires<R: Records, Q: Records>()
     ensures { EquallyAppliedOverWires R.Records Q.Records }
 {}
 
-/// Members that run side by side, each from an empty record on, in whatever order of what befell them such a network is
-/// there: these laws hold of them as they stand in the end.
+/// Members that run side by side, each from an empty record on, in whatever order of what happened to them such a
+/// network is there: these laws hold of them as they are in the end.
 pub fn lives_go<R: Records>()
     ensures { LivesGo R.Records }
 {}
 
 /// Members that run one after another over sockets, each run over what a stop may have left of the one before, and to
 /// whose sockets no datagram comes but those that some member's socket was handed before, and asks from outside: what
-/// befell them went in stretches, and these laws hold of them as they stand in the end. What a run is at its socket,
+/// happened to them went in stretches, and these laws hold of them as they are in the end. What a run is at its socket,
 /// node_control says (`specs/Sockets`).
 pub fn sockets_go()
     ensures { SocketsGo }
@@ -107,7 +107,7 @@ pub fn sockets_never_differ()
     ensures { SocketsNeverDiffer }
 {}
 
-/// Over such sockets a member learns nothing but what was asked of a member and taken in, and nothing is taken in
+/// Over such sockets a member learns nothing but what was asked of a member and accepted, and nothing is accepted
 /// twice.
 pub fn sockets_learn_what_was_asked()
     ensures { SocketsLearnWhatWasAsked }
@@ -120,8 +120,8 @@ pub fn equally_applied_at_sockets<R: Records, Q: Records>()
 {}
 
 /// Members with a key, which run one after another, each run from a start of its own, and to whose sockets no packet
-/// comes that they open but those that some member's socket was handed before, in any run: what befell them went in
-/// stretches, and these laws hold of them as they stand in the end.
+/// comes that they open but those that some member's socket was handed before, in any run: what happened to them went
+/// in stretches, and these laws hold of them as they are in the end.
 pub fn sealed_sockets_go()
     ensures { SealedSocketsGo }
 {
@@ -136,7 +136,7 @@ pub fn sealed_sockets_never_differ()
     px_transport::laws::sealed_is_carried();
 }
 
-/// With a key a member learns nothing but what was asked of a member and taken in, and nothing is taken in twice.
+/// With a key a member learns nothing but what was asked of a member and accepted, and nothing is accepted twice.
 pub fn sealed_sockets_learn_what_was_asked()
     ensures { SealedSocketsLearnWhatWasAsked }
 {

@@ -30,7 +30,7 @@ pub record PlanFits (test : Bytes → Bool) (s : State) (plan : node.Plan Bytes)
   pub sends : SendsFit (Passes test) s.members s.me plan.sends
   pub settled : CoreFits test (settles s plan)
 
--- what can be spelled for a member may come to its core
+-- what can be spelled for a member may reach its core
 abbrev pub SpelledMayCome : Type 0
 SpelledMayCome =
     (test : Bytes → Bool) (members me : ℕ) (event : Event) →

@@ -1,4 +1,4 @@
--- What a core stands for, and what its plans and their settling are: the words of the public contracts.
+-- What a core stands for, and what its plans and their settling are: the terms of the public contracts.
 use Rattle.std.specs.Prelude.{◌≡◌, ℕ, ◌<◌, Option, Some, None, option_map, nat_eq}
 use Rattle.std.specs.Cmp.Lexicographic.{pointwise}
 use Rattle.px_model.specs.Node as node

@@ -96,7 +96,7 @@ impl Core {
         })
     }
 
-    /// The entry is proposed by the lead if it has come to the front, else a round begins.
+    /// The entry is proposed by the lead if it has reached the front, else a round begins.
     fn propose(&self, meta: &Meta, entry: &Entry) -> Result<Plan, CoreFault>
         requires { front_in self.now < positions }
         ensures room { IfOk result (λ plan. IsFor plan self.now) }

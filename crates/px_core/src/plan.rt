@@ -82,7 +82,7 @@ pub enum Sends {
     Nothing,
     /// A message to one.
     One {
-        /// The member, or 255 for whoever asks from outside.
+        /// The member, or 255 for a client.
         to: u8,
         /// The message.
         message: Message<Entry>,

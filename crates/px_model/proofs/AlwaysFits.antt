@@ -54,7 +54,7 @@ module _ {C : Type 0} (S : C → Type 0) (same : C → C → Bool) (n : ℕ) (sm
   stops_fits w g m lt input (Planned plan) fits =
       moved_fits w g m input plan.change false nothing_volatile [] (record { stored = fits.state.stored; volatile = empty_fits S n m _ }) (λ x a. absurd a)
 
-  -- ---- what comes to a member
+  -- ---- what arrives at a member
 
   abbrev ComesFit : Option (ℕ × Input C) → Type 0
   ComesFit None = Unit {0}
@@ -104,7 +104,7 @@ module _ {C : Type 0} (S : C → Type 0) (same : C → C → Bool) (n : ℕ) (sm
   pub always_fits : (es : List (Event C)) → ((e : Event C) → Among es e → EventFits S e) → WorldFits S n (run same n es start)
   always_fits es fits = run_fits es fits start start_fits
 
-  -- so whatever fits and comes to a member then, its answer fits, what it tells an asker too
+  -- so whatever fits and arrives at a member then, its answer fits, what it answers a client too
   pub always_answers : (es : List (Event C)) → ((e : Event C) → Among es e → EventFits S e) → (m : ℕ) → m < n → (input : Input C) → InputFits S n m input → AnswerFits S n m ((run same n es start).nodes m) (step_in same n (run same n es start) m input)
   always_answers es fits m lt input comes =
       let w = run same n es start in

@@ -1,4 +1,4 @@
--- A member that waits for nothing is told what it has missed, position by position.
+-- A member that waits for nothing learns what it has missed, position by position.
 use Rattle.std.proofs.Common.{◌≡◌, ℕ, zero, suc, ◌+◌, ◌-◌, ◌*◌, ◌<◌, ◌≤◌, Bool, true, ◌&&◌, inl, inr, List, [], ◌∷◌, length, Option, Some, None, is_none, arith, refl, sym, ap, subst, ◌∙◌, eqb, ltb, leb, ne_eqb, eq-eqb, eqb-true, lt-ltb, le-leb}
 use Rattle.std.proofs.lemmas.Bool.{cond_both, cases_lt, and_from}
 use Rattle.px_model.specs.Node.{IsEquality, Entry, Log, Message, Input, Plan, Answer, Volatile, Record}
@@ -117,7 +117,7 @@ module _ {C : Type 0} (same : C → C → Bool) (n : ℕ) (w : World C) where
 
 -- ---- one position
 
--- j was told x at the position p, and nothing else was recorded
+-- j learned x at the position p, and nothing else was recorded
 pub record Told {C : Type 0} (w w' : World C) (j p : ℕ) (x : Entry C) : Type 0 where
   pub slots : (i : ℕ) → (record_of w' i).slots ≡ (record_of w i).slots
   pub meta : (i : ℕ) → (record_of w' i).meta ≡ (record_of w i).meta

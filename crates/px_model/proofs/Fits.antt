@@ -307,7 +307,7 @@ module _ {C : Type 0} (S : C → Type 0) (n : ℕ) (small : n ≤ 15) (me : ℕ)
 
   -- ---- all cases
 
-  -- whatever top is told
+  -- whatever top is reported
   pub step_fits_with : (same : C → C → Bool) (t : ℕ) → t ≤ positions → (input : Input C) → InputFits S n me input → Fine (step same n me d.meta (d.slots (position_of input)) t d.learned v input)
   unfolding step
   step_fits_with same t within (Asks c) fits = ask_fits c fits

@@ -18,7 +18,7 @@ use Rattle.px_model.proofs.Finishing.{Attempted, attempt, Finished, finish, lear
 
 -- ---- a member goes one position on
 
--- whoever was told something got no further in anything else
+-- a member that learned something got no further in anything else
 up_to_told : {C : Type 0} (n : ℕ) (members : ℕ → Bool) (top r : ℕ) (w w' : World C) (j p : ℕ) (x : Entry C) → Told w w' j p x → AllUpTo n members top r w → AllUpTo n members top r w'
 up_to_told {C} n members top r w w' j p x t all k lt q =
     let g = all k lt q in
@@ -39,7 +39,7 @@ module _ {C : Type 0} (same : C → C → Bool) (exact : IsEquality same) (n : �
   abbrev At : ℕ → ℕ → ℕ → World C → Type 0
   At j p r w = AllUpTo n members top r w × ((x : Entry C) × (learned_of w j p ≡ Some x))
 
-  -- j waits for nothing: it is told
+  -- j waits for nothing: it learns
   hears_it : (j : ℕ) → j < n → members j ≡ true → (r : ℕ) (w : World C) → Live n since members w → (w.nodes j).volatile.waiting ≡ [] → front (learned_of w j) < front (learned_of w m) → AllUpTo n members top r w → Goes w 3 (At j (front (learned_of w j)) r)
   hears_it j lt q r w l idle_ behind up_to =
       let p = front (learned_of w j) in

@@ -171,7 +171,7 @@ module _ {C : Type 0} (same : C → C → Bool) (exact : IsEquality same) (n : �
       let b = subst (λ (z : World C). Live n since members z → Reach z k P) (sym is) more (live_event w e in_ l) in
       record { events = e ∷ b.events; few = (let u = b.few in omega arith); within = (in_, b.within); reached = b.reached }
 
-  -- what comes to a member that runs
+  -- what arrives at a member that runs
   at_member_is : (w : World C) (m : ℕ) (x : Input C) (plan : Plan C) → m < n → (w.nodes m).is_up ≡ true → step_in same n w m x ≡ Planned plan → at_member n w (Some (m, x)) (λ j y. goes_on w j y (step_in same n w j y)) ≡ after w m x plan
   at_member_is w m x plan lt up is =
       ap (λ (b : Bool). cond b (goes_on w m x (step_in same n w m x)) w) (and_from (ltb m n) (w.nodes m).is_up (lt-ltb m n lt) up) ∙

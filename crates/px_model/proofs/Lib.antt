@@ -10,7 +10,7 @@
 -- |---|---|
 -- | `Basics` | two majorities share a member (`majorities_meet`); maps by position |
 -- | `Backed` | the core fact, as a definition. A proposal of e at p in ballot b is backed: there is a majority in which nobody accepts below b at p any more (`Pledge.closed`), and of what they had accepted there below b, the proposal of highest ballot is for e, or there is none (`bounds`, `Known`, `IsFor`). `Grounds` lists all that the agreement is drawn from |
--- | `Agreement` | from `Grounds` to the law `Agree`, by induction on the ballot. This file and `Backed` know no prepare request and no promise, so another way to come to a backed proposal leaves them alone |
+-- | `Agreement` | from `Grounds` to the law `Agree`, by induction on the ballot. This file and `Backed` know no prepare request and no promise, so another way to reach a backed proposal leaves them alone |
 -- | `Invariant` | what holds of every message that was sent (`SentOk`), every record (`RecordOk`), every volatile part (`VolatileOk`) |
 -- | `Later` | all of it goes on holding while promises rise and the history grows |
 -- | `Moves` | `keeps`: one lemma for any change that a member commits and any one message that it sends. Runs, stops and restarts are instances |
@@ -83,7 +83,7 @@
 -- | a restart forgets the record | `Restart` with an empty record | `Runs.happens_ok` | one entry asked twice; learned and not in the record |
 --
 -- Twenty more edits of the step send or keep a number out of its range: a round or a request number past the last, a clock
--- that goes on past the last position, a refusal that tells the slot's promise alone, an equal ballot promised again, a
+-- that goes on past the last position, a refusal that reports the slot's promise alone, an equal ballot promised again, a
 -- lead past the end, an answer in the other's name, a vote in another ballot, and the like. With each, `steps_fit` isn't
 -- proved, and each really breaks it: the edited definitions were evaluated on random states and inputs that fit, and a
 -- plan that doesn't was found within 250 of them; the right ones gave none. Most of these edits stop other laws too; a

@@ -75,7 +75,7 @@ module _ {C : Type 0} (S : C → Type 0) (n : ℕ) where
   reported_fits b None g = tt
   reported_fits b (Some x) g = g.0
 
-  -- what was accepted is told with a ballot above it
+  -- what was accepted is reported with a ballot above it
   pub report_of : (b promised : ℕ) (a : Option (Proposal C)) → promised < b → IfSome a (λ x. ProposalFits S n x × (x.ballot ≤ promised)) → ReportFits S n b a
   report_of b promised None less g = tt
   report_of b promised (Some x) less g = (g.0, (let u = g.1 in omega arith))

@@ -102,7 +102,7 @@ module _ {C : Type 0} (n : ℕ) (w : World C) (h : List (Acceptance C)) (m : ℕ
       let s = chosen_proposed n w h (grounds n w h inv) q f c in
       inv.asked f (inv.sent s.0 (Accept c.ballot q f) s.1).asked
 
-  -- a request is taken in, and perhaps somebody is told
+  -- a request is accepted, and perhaps somebody is answered
   asked_ok : (input : Input C) (c : C) → command_of input ≡ Some c → (sends : List (Envelope C)) (x : Message C) → AllAre m x sends → is_accept x ≡ false → ((w' : World C) (h' : List (Acceptance C)) → SentOk n w' h' m x) → PlanOk n w h m input (record {
     change = (taken_in m (record_of w m).meta (w.nodes m).volatile c).change;
     volatile = (taken_in m (record_of w m).meta (w.nodes m).volatile c).volatile;

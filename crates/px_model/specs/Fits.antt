@@ -80,7 +80,7 @@ MessageFits S n from to (node.Message.Ask token c) = IsNumber token × S c
 MessageFits S n from to (Asked token k) = IsNumber token × IsNumber k
 MessageFits S n from to (AskRefused token code) = IsNumber token × ((code ≡ 60) ⊎ (code ≡ 62))
 
--- who sends it to whom: whoever asks from outside only asks, and is only told
+-- who sends it to whom: a client only asks, and is only answered
 abbrev pub IsBetween : {C : Type 0} → (n from to : ℕ) → Message C → Type 0
 IsBetween n from to (node.Message.Ask token c) = (from ≡ asker) × (to < n)
 IsBetween n from to (Asked token k) = (from < n) × (to ≡ asker)
@@ -92,7 +92,7 @@ pub record EnvelopeFits {C : Type 0} (IsSpelled : C → Type 0) (n : ℕ) (x : E
   pub between : IsBetween n x.sender x.addressee x.message
   pub message : MessageFits IsSpelled n x.sender x.addressee x.message
 
--- What may come to a member: a command that has a spelling, its clock, what a datagram to it spells.
+-- What may reach a member: a command that has a spelling, its clock, what a datagram to it spells.
 abbrev pub InputFits : {C : Type 0} → (C → Type 0) → (n me : ℕ) → Input C → Type 0
 InputFits S n me (Asks c) = S c
 InputFits S n me Ticks = Unit {0}
@@ -182,7 +182,7 @@ abbrev pub SendsFit : {C : Type 0} → (C → Type 0) → (n me : ℕ) → List 
 SendsFit {C} IsSpelled n me sends =
     (x : Envelope C) → Among sends x → (x.sender ≡ me) × EnvelopeFits IsSpelled n x
 
--- all that is sent, to askers too; a refusal sends nothing
+-- all that is sent, to clients too; a refusal sends nothing
 abbrev pub sends_of : {C : Type 0} → Answer C → List (Envelope C)
 sends_of (Refused code) = []
 sends_of (Planned plan) = plan.sends

@@ -29,7 +29,7 @@ pub record BallotsThatFit : Type 0 where
   pub lower_report : Goes 1 0 (PromiseAll (ballot_of 2 0) 0 1 (proposal (ballot_of 1 2) (entry 1 0 7)))
   pub equal_report : Goes 1 0 (PromiseAll (ballot_of 2 0) 0 1 (proposal (ballot_of 2 0) (entry 1 0 7))) → ⊥
 
--- positions, tops, entries and commands at their borders, and what goes to and from an asker
+-- positions, tops, entries and commands at their borders, and what goes to and from a client
 pub record OthersThatFit : Type 0 where
   pub last_position : Goes 0 1 (Learned 999_999 (entry 1 0 7))
   pub past_the_last : Goes 0 1 (Learned 1_000_000 (entry 1 0 7)) → ⊥

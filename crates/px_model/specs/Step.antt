@@ -114,7 +114,7 @@ taken_in me meta v c = record {
   sends = [];
 }
 
--- a command is asked: refused with 60 where 64 wait, with 62 where positions or numbers are spent, else taken in
+-- a command is asked: refused with 60 where 64 wait, with 62 where positions or numbers are spent, else accepted
 unfoldable pub on_ask : {C : Type 0} → (me : ℕ) → Meta → Log C → Volatile C → C → Answer C
 on_ask me meta learned v c =
     if nat_le 64 (length v.waiting) then Refused 60
@@ -162,7 +162,7 @@ use_lead n me front v e lead = record {
   sends = to_all n me (Accept lead.ballot front e);
 }
 
--- e waits: by the lead if it has come to the front, else by a new ballot
+-- e waits: by the lead if it has reached the front, else by a new ballot
 abbrev pub propose : {C : Type 0} → (n me : ℕ) → Meta → (front : ℕ) → Volatile C → Entry C →
     Option Lead →
     Answer C

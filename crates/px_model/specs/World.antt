@@ -90,7 +90,7 @@ abbrev pub step_in : {C : Type 0} → (C → C → Bool) → (n : ℕ) → World
     Answer C
 step_in same n w m input = step_of same n m (w.nodes m) input
 
--- the messages that go to members; what goes to an asker is nobody's to deliver
+-- the messages that go to members; what goes to a client is nobody's to deliver
 abbrev pub to_members : {C : Type 0} → List (Envelope C) → List (Envelope C)
 to_members [] = []
 to_members (x ∷ xs) = if nat_eq x.addressee asker then to_members xs else x ∷ to_members xs

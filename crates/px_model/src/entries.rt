@@ -66,7 +66,7 @@ impl Entry {
         })
     }
 
-    /// The command of the view's entry, taken in by this member as this number. Fails for lack of memory alone.
+    /// The command of the view's entry, accepted by this member as this number. Fails for lack of memory alone.
     #[tactic(auto, unfolding(crate::specs::Entries::entry_of, crate::specs::Entries::view_of), using(crate::proofs::Commands::renamed_command, crate::proofs::Commands::renamed_again, crate::proofs::Commands::renamed_long))]
     pub fn named(
         alloc: Global,
@@ -189,7 +189,7 @@ impl<'a> EntryView<'a> {
         self.origin
     }
 
-    /// Its number at that member, or the token of whoever asks from outside.
+    /// Its number at that member, or the token of a client.
     #[tactic(auto, unfolding(crate::specs::Entries::view_of))]
     pub fn number(&self) -> u64
         ensures { result ≡ (view_of self.now).number }

@@ -33,7 +33,7 @@
 //! - What is kept of a vote is its ballot. The entry that is learned is that of the vote that completes the
 //!   majority: no ballot carries two entries at a position, so it doesn't matter whose vote that is. A vote not
 //!   above the kept ballot isn't kept, but it is still asked whether its own ballot has a majority.
-//! - A member's promise counts once. If it comes again, its top isn't counted again, and a proposal that it tells
+//! - A member's promise counts once. If it comes again, its top isn't counted again, and a proposal that it reports
 //!   is weighed like any other. Of two reported proposals with one ballot the earlier is kept.
 //! - At a majority of promises the lead is set even where there is nothing to propose and the attempt ends.
 //! - A tick uses a lead only where it begins at or below the front, and then moves it to the position after the

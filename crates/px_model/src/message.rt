@@ -81,21 +81,21 @@ pub enum Message<E> {
         /// The entry.
         entry: E,
     },
-    /// A command is asked from outside. The entry's number is the asker's token.
+    /// A command is asked from outside. The entry's number is the client's token.
     Ask {
         /// The command, with the token.
         entry: E,
     },
-    /// A command was taken in.
+    /// A command was accepted.
     Asked {
-        /// The asker's token.
+        /// The client's token.
         token: u64,
         /// The number that the entry got.
         number: u64,
     },
     /// A command was refused.
     AskRefused {
-        /// The asker's token.
+        /// The client's token.
         token: u64,
         /// 60 or 62.
         code: u8,

@@ -56,7 +56,7 @@ pub fn an_asker_is_told()
     ensures { AnAskerIsTold }
 {}
 
-/// The clock asks for what is missing, begins a round, or uses a lead that has come to the front and no other.
+/// The clock asks for what is missing, begins a round, or uses a lead that has reached the front and no other.
 pub fn the_clock_makes_proposals()
     ensures { TheClockMakesProposals }
 {}

@@ -2,7 +2,7 @@
 use Rattle.std.specs.Prelude.{ℕ, ◌+◌, ◌-◌, ◌*◌, ◌/◌, ◌<◌, ◌≤◌, ◌≡◌, List, ◌∷◌, ◌++◌, length, take, drop, min}
 use Rattle.std.specs.Int.{w16, w32, to_be_bytes}
 
--- how many parts a datagram of so many bytes has
+-- how many parts a datagram of n bytes has
 abbrev pub count_of : ℕ → ℕ
 count_of size = (size + 1159) / 1160
 

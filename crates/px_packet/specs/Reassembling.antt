@@ -16,7 +16,7 @@ pub record Unfinished : Type 0 where
   pub due : ℕ
   pub reports : ℕ
 
--- so many milliseconds later, up to 2^64 - 1
+-- n milliseconds later, up to 2^64 - 1
 abbrev pub later : (now : ℕ) → ℕ → ℕ
 later now n = min (now + n) (2 ^ 64 - 1)
 

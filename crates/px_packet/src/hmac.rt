@@ -9,7 +9,7 @@ ghost use Rattle.px_packet.specs.HmacKeyed.{block_of};
 use crate::hmac_key::HmacKey;
 use sha2::{Digest, Sha256};
 
-/// How many bytes SHA-256 takes in at a time.
+/// How many bytes SHA-256 reads at a time.
 const BLOCK_BYTES: usize = 64;
 
 /// What the key's bytes are masked with, on the inside and on the outside.
@@ -51,7 +51,7 @@ fn padded(pad: u8, block: [u8; 64]) -> [u8; 64]
     out
 }
 
-/// What has taken these bytes in.
+/// The hash after these bytes.
 fn begun(bytes: &[u8]) -> Sha256
     ensures { Holds256 result bytes.now }
 {
@@ -60,7 +60,7 @@ fn begun(bytes: &[u8]) -> Sha256
     hasher
 }
 
-/// The digest of what was taken in, and then of these bytes.
+/// The digest of what was hashed, and then of these bytes.
 fn ended(begun: &Sha256, bytes: &[u8]) -> [u8; 32]
     ensures { (m : List ℕ) → Holds256 begun.now m → result ≡ sha256 (m ++ bytes.now) }
 {

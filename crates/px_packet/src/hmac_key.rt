@@ -10,7 +10,7 @@ use sha2::Sha256;
 #[derive(Drop)]
 pub struct HmacKey {
     pub(crate) block: [u8; 64],
-    /// What has taken the inner pad in, and the outer.
+    /// The hash after the inner pad, and after the outer.
     pub(crate) inner: Sha256,
     pub(crate) outer: Sha256,
     ghost inside: { Holds256 inner (padded 0x36 block) } by { Holds256-prop inner (padded 0x36 block) },

@@ -57,6 +57,27 @@
 //! # Why
 //!
 //! - All of this is values: no wire, no clock, no file. So what is accepted can be said of lists of packets.
+//! - **A node with two keys opens packets of both and seals with the first**, so a key is changed in three steps.
+//! - **A tag says that a holder of the key sealed the packet, not which one.**
+//! - **The key of packets is the tag of `PFXS` and 2 under the cluster's key** (`group_key`), so a tag of one format
+//!   fits the other only where HMAC fails: no datagram of the first format is these five bytes.
+//! - **The number of a start and the counter are from 1 on**, so `Start::NEVER`, which is 0, is no start.
+//! - **A window has the last counter of each rest by 2,048**, not a bit for each: 16 KB, but nothing is cleared as it
+//!   moves.
+//! - **A packet for another start of the receiver doesn't use up its counter**, since it is dropped before the window.
+//!   One of kind state does.
+//! - **A piece's name is 4 bytes**, not a hash and not 8, since the header has the start.
+//! - **A receiver doesn't remember which datagrams it has reassembled**: what is sent again under its name is given
+//!   again, as a repeated request has to be. A late piece begins the datagram anew, and is dropped for the eighth that
+//!   begins after it.
+//! - **A report of what has come may be lost**, so it is repeated (`docs/KEYS.md`).
+//! - **A sender keeps 8 datagrams for a receiver**, as many as a receiver keeps unfinished, and finds them byte for
+//!   byte.
+//! - Proofs: a comparison of every byte gathers the differences by `|` of `^`, which are none exactly if the bytes so
+//!   far are the same (`Apart.shows_more`, `shows_all`). Of a block that is written byte by byte what is written is a
+//!   prefix, the rest is as it was (`Filling.front_more`, `rest_stays`, `whole`); so with a function on each byte
+//!   (`mapped_more`, `mapped_all`). The laws of tags (`packet_opens`, `opened_was_sealed`, `groups_differ`) are about
+//!   bytes alone, and about SHA-256 by its definition in the kit.
 #![tactic(auto)]
 
 mod arrival;

@@ -17,7 +17,7 @@ const REPORT_AFTER: u64 = 20;
 /// How many, where the datagram's last part has come: those before it were sent first.
 const REPORT_SOON: u64 = 5;
 
-/// How many milliseconds after a report it is reported again; after each later one so many more.
+/// How many milliseconds after a report it is reported again; after each later one that many more.
 const REPORT_AGAIN: u64 = 50;
 
 /// How often it is reported at most while no part comes.

@@ -31,7 +31,7 @@ pub struct Piece<'a> {
     ghost long: { length part.now ≡ part_length size index },
 }
 
-/// How many pieces a datagram of so many bytes has.
+/// How many pieces a datagram of n bytes has.
 pub fn piece_count(size: usize) -> usize
     requires { size ≤ DATAGRAM_MAX }
     ensures count { result ≡ count_of size }

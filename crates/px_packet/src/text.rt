@@ -1,4 +1,4 @@
-//! A key as it stands in a file.
+//! A key as it is in a file.
 
 ghost use Rattle.std.specs.Prelude.{◌≡◌, ◌↔◌, Ok, IsSome, IsOk, IfSome};
 ghost use Rattle.hex.specs.Hex.{decode_sized};

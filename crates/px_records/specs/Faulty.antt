@@ -43,7 +43,7 @@ IsSpared failed f = (failed_in failed f ≡ 0) × (f.left ≢ 1)
 abbrev pub FailsAlike : {R : Type 0} → (old new : FaultyRecords R) → Type 0
 FailsAlike old new = (new.left ≡ old.left) × (new.when ≡ old.when) × (new.has_failed ≡ old.has_failed)
 
--- a call that reads, in the words of the record that it keeps
+-- a call that reads, in the terms of the record that it keeps
 abbrev pub IsReadBelow : {R : Type 0} → (honest : R → Type 0) → (stored : R → Record Bytes) →
     (may_leave : R → Record Bytes → Type 0) → (failed : R → ℕ) → (good : R → Place → Type 0) →
     (old new : FaultyRecords R) → Type 0

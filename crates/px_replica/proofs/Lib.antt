@@ -13,7 +13,7 @@
 -- - **A call in one clause** (px_replica's `Call`, node_loop's `Turned` and `Served`): a record of which each field is what
 --   one answer means, the step made, a refusal, a failure, a stop; search takes it apart, and a caller names the field.
 --   `Called` in px_replica's proofs takes calls from one form to another.
--- - **From turns to the law**: what turns make is a life, a list of what befell one member (`Lived`), one life behind the
+-- - **From turns to the law**: what turns make is a life, a list of what happened to one member (`Lived`), one life behind the
 --   other (node_loop's `Lives`). That members' lives, in whatever order, are a history is one induction over what happened,
 --   in which what a member lives next is what happens to it first (`Living.own`), and the others go on as they stood
 --   (`Living.on`).
@@ -41,11 +41,11 @@
 --   function that lets `R: Records` go needs `R: Records + Drop`.
 -- - A lemma about px_model's world alone is checked in seconds in a copy of px_model, before the crates above are built.
 -- - **Scripts of labs**: a line is read by one function for each form, over slices, and its contract is `Reads view result
---   value` for a value or the number of a refusal; it closed without an answer, and so did the texts of messages, each
+--   value` for a value or the number of a refusal; it closed without an answer, and so did the strings of messages, each
 --   part a function. The loops need a measure alone, a log's lines an invariant. A number that doesn't fit is the one
 --   lemma (`number_past`), by std's `parse_digits`.
 --
--- An edit of pf_lab would cost its whole proof. Two of its mutants are ruled out by rows: a text that is
+-- An edit of pf_lab would cost its whole proof. Two of its mutants are ruled out by rows: a ruleset that is
 -- taken under a stop by `stops_of_an_ask` (`refused 40`, and the node runs on), a node shown with its round for its front
 -- by `a_stop_after_the_round` (`round 2 front 1`).
 pub mod Sending

@@ -21,7 +21,7 @@ use Rattle.px_replica.specs.Made.{answer, running}
 use Rattle.px_replica.specs.inner.Seen.{IsSeen, SeenFits}
 use Rattle.px_replica.specs.declared.look.Seen.{Seen}
 
--- what can be told may come to the core
+-- what can be told may reach the core
 pub may_come : (s : State) (n me : ℕ) (event : Event) → s.members ≡ n →
     InputFits (Passes is_command) n me (input_of event) → MayCome s.members event
 may_come s n me event members fits =

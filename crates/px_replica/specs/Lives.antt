@@ -1,4 +1,4 @@
--- What befalls one member, step after step, from one state to another: the calls that answered Ok, stops, openings.
+-- What happens to one member, step after step, from one state to another: the calls that answered Ok, stops, openings.
 use Rattle.std.specs.Prelude.{◌≡◌, ℕ, true, false, List, [], ◌∷◌}
 use Rattle.px_model.specs.Node.{Record, Input}
 use Rattle.px_model.specs.Node.Input.{Asks, Ticks, Comes}
@@ -14,7 +14,7 @@ use Rattle.px_replica.specs.declared.datagram.Datagram.{Datagram}
 abbrev pub stopped : Record Bytes → NodeState Bytes
 stopped d = record { is_up = false; stored = d; volatile = nothing_volatile }
 
--- What befalls a member.
+-- What happens to a member.
 pub data Deed : Type 0 where
   -- a call for this input answered Ok: it stands so then, and handed out these datagrams
   Calls : (input : Input Bytes) (after : NodeState Bytes) (out : List Datagram) → Deed
@@ -23,13 +23,13 @@ pub data Deed : Type 0 where
   -- it was opened with the record that was left
   Opens : Deed
 
--- what may come to a member, if it was sent: a message comes from somebody who may send it
+-- what may reach a member, if it was sent: a message comes from somebody who may send it
 abbrev pub IsInput : Group → (me : ℕ) → Input Bytes → Type 0
 IsInput g me (Asks command) = Unit {0}
 IsInput g me Ticks = Unit {0}
 IsInput g me (Comes sender message) = Passing g.members sender me message
 
--- these befell the member one after the other, each a step of the model, and led it from s to t
+-- these happened to the member one after the other, each a step of the model, and led it from s to t
 abbrev pub Lived : Group → (me : ℕ) → (s : NodeState Bytes) → List Deed → (t : NodeState Bytes) → Type 0
 Lived g me s [] t = t ≡ s
 Lived g me s (Calls x u out ∷ ds) t =

@@ -21,6 +21,6 @@ AreSpelled g [] (d ∷ ds) = ⊥
 AreSpelled g (x ∷ xs) [] = ⊥
 AreSpelled g (x ∷ xs) (d ∷ ds) = IsSpelled g x d × AreSpelled g xs ds
 
--- the datagrams that go to members; what goes to an asker is nobody's to deliver
+-- the datagrams that go to members; what goes to a client is nobody's to deliver
 abbrev pub for_members : List Datagram → List Datagram
 for_members out = filter (λ (d : Datagram). not (nat_eq d.to asker)) out

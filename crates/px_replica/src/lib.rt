@@ -3,9 +3,14 @@
 //! # Organization
 //!
 //! - [`Replica`]: `ask`, `tick` and `receive` read the record, plan, spell what is sent, commit, settle, and hand out.
-//! - `specs/Made` says what a call makes, in the words of px_model's world; `specs/Spelled` how messages are spelled.
+//! - `specs/Made` says what a call makes, in the terms of px_model's world; `specs/Spelled` how messages are spelled.
 //!
 //! Nothing leaves before the change that it rests on is committed, and all memory is taken before the commit.
+//!
+//! # Why
+//!
+//! - **Most instructions of an event apply what was learned**; then come the datagram's decoding, what is sent, the
+//!   core's plan, and last the record in memory, a B-tree.
 #![tactic(auto)]
 
 mod act;

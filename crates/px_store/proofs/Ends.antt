@@ -1,4 +1,4 @@
--- The top and the end that an answer tells.
+-- The top and the end that an answer gives.
 use Rattle.std.proofs.Common.{◌≡◌, ℕ, zero, suc, ◌<◌, pos, List, [], ◌∷◌, Bool, true, false, refl, sym, ap, subst, ◌∙◌, arith}
 use Rattle.std.specs.Ordering.{is_gt}
 use Rattle.sqlite.specs.declared.types.Value.{Value}
@@ -18,7 +18,7 @@ ends_at test rows (a ∷ []) (r, h, there, key, most) t (number, (is, within)) =
     subst (EndsAt test rows) (sym is) (within, (r, h, there, at), λ x has yes. subst (λ (v : Value). is_gt (value_cmp (column x 0) v) ≡ false) at (most x has yes))
 ends_at test rows (a ∷ b ∷ more) last t is = absurd last
 
--- an answer that tells no end is that of a last row that isn't good
+-- an answer that gives no end is that of a last row that isn't good
 pub no_end : (test : Row → Bool) (good : ℕ → Type 0) (rows answer : List Row) → IsLast test rows answer → ((t : ℕ) → IsEndOf answer t → ⊥) → IsLastGood test good rows → ⊥
 no_end test good rows [] last none h = none 0 refl
 no_end test good rows (a ∷ []) (r, has, there, key, most) none h =

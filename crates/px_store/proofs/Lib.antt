@@ -41,7 +41,7 @@
 -- ---- Traps
 --
 -- - `rt fmt` joins a clause that is broken right behind its `{`, and keeps breaks further in.
--- - A parameter bound in a call (`params![1u32]`) is told by the caller's own clause over the text's name, as in `ask`;
+-- - A parameter bound in a call (`params![1u32]`) is given by the caller's own clause over the text's name, as in `ask`;
 --   handed on through a helper that takes any text it doesn't compute.
 -- - A fact of the matched error comes by its `field-0-is`: a clause `result ≡ Err Memory` isn't met by `refl` in the arm
 --   `Err(Trouble::Memory)`, but by `let e = c.in-Err-Memory.field-0-is in cc`.

@@ -28,7 +28,7 @@
 //! - Ranges are asked of the caller of `commit` (`ChangeFits`, and that a promise isn't below the one there), so
 //!   that what is read back can be spelled whatever the keeper. A keeper in memory keeps that of its whole record;
 //!   one in a database tests each row that it reads.
-//! - The format is told by the schema first, then by the row, which has to say the same. `adopt` compares the
+//! - The format is given by the schema first, then by the row, which has to say the same. `adopt` compares the
 //!   schema that it finds with those of the formats, field by field, since a schema has no test of equality, and
 //!   before it reads or writes anything: any other is refused with 73. Before this test a store with as many tables
 //!   as a format has, of which one was another, was refused with 70 where a statement failed, and else taken with
@@ -55,6 +55,9 @@
 //!   stand then is tested by rows_stores, which stops at each file call and counts the tables.
 //! - A keeper of which a stop leaves nothing at all would meet every clause on stops. So `Records` has two laws:
 //!   while no call has failed a stop leaves no more than what is stored (`settled`), and no less (`stays`).
+//! - **`read_top` reads the last position with a ballot, `read_learned_end` the last learned one**, from the end of the
+//!   table to the first row that serves; a top passes over slots that only promise. There is no index beside the keys.
+//! - Round, number and floor are kept beside the connection, and read without a statement.
 #![tactic(auto)]
 
 mod adopt;

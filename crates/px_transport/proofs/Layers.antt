@@ -145,7 +145,7 @@ faulty_quiet b b' q es r = record {
   above_is = r.above_is;
 }
 
--- a datagram doesn't come to the wire below
+-- a datagram doesn't reach the wire below
 pub faulty_loses : (b b' : List WireEvent → Type 0) (to : ℕ) (d : List ℕ) → IsQuiet b b' →
     Adds (WentFaulty b) (WentFaulty b') (Handed to d ∷ [])
 faulty_loses b b' to d q = faulty_more b b' (Loses to d ∷ []) (Handed to d ∷ []) (adds_none b b' q) refl

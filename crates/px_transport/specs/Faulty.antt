@@ -33,7 +33,7 @@ failures_of below w = min (below + w.missed) (2 ^ 64 - 1)
 pub data Faulty : Type 0 where
   -- over the wire below, too
   Passes : WireEvent → Faulty
-  -- it is handed a datagram that doesn't come to the wire below
+  -- it is handed a datagram that doesn't reach the wire below
   Loses : (to : ℕ) (bytes : List ℕ) → Faulty
 
 -- over the wire below

@@ -26,7 +26,7 @@ pub data Event : Type 0 where
   -- it reports which pieces of a member's datagram have come
   Reports : (member now : ℕ) → Event
 
--- nobody was heard, in a cluster of so many members
+-- nobody was heard, in a cluster of n members
 abbrev pub nobody : (members : ℕ) → List Heard
 nobody members = replicate members unheard
 

@@ -45,7 +45,7 @@ new_to =
 abbrev pub counted : ToMember → ToMember
 counted o = record o { counter = o.counter + 1; left = o.left - 1 }
 
--- each 5 ms 92 packets may go to it again: a socket takes in so many before they are read, where nobody set another
+-- each 5 ms 92 packets may go to it again: a socket buffers that many before they are read, where nobody set another
 -- size (212,992 bytes, of which Linux counts 2,304 for a packet of 1,232)
 abbrev pub refilled : (now : ℕ) → ToMember → ToMember
 refilled now o = if nat_le 5 (now - o.since) then record o { since = now; left = 92 } else o
@@ -68,7 +68,7 @@ next_after (Some t) same = min (t + (if same then 1000 else 20)) (2 ^ 64 - 1)
 abbrev pub next_state : ToMember → Start → ℕ
 next_state o start = next_after o.stated (is_start start o.echoed)
 
--- how many of so many milliseconds are left before something is due
+-- how many of n milliseconds are left before something is due
 abbrev pub time_left : (due now milliseconds : ℕ) → ℕ
 time_left due now milliseconds = min (due - now) milliseconds
 
@@ -152,7 +152,7 @@ abbrev pub piece : (to : ℕ) → (echo : Start) → (name : ℕ) → List ℕ �
 piece to echo name m k =
     record { to = to; echo = echo; kind = kinds.Piece; body = piece_bytes (piece_of name m k) }
 
--- of so many numbers of pieces, from one on, those whose bit is 0
+-- of n numbers of pieces, from one on, those whose bit is 0
 abbrev pub lacked : (bits from count : ℕ) → List ℕ
 lacked bits from count = filter (λ k. not (has_bit bits k)) (range_with_len from count)
 

@@ -8,7 +8,7 @@ ghost use Rattle.px_transport.specs.Faulty.{WentFaulty};
 
 use crate::wire::Wire;
 
-/// A wire of which each `k`-th receive and each `k`-th send fails, is counted, and doesn't come to the wire below; the
+/// A wire of which each `k`-th receive and each `k`-th send fails, is counted, and doesn't reach the wire below; the
 /// others are that wire's. A poll is a receive; what isn't one of the two never fails. For tests of what lost datagrams
 /// do.
 #[derive(Drop)]

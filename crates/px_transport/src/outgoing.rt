@@ -15,7 +15,7 @@ const STATE_EACH: u64 = 1_000;
 /// How many, where the receiver showed a new start since.
 const STATE_SOONEST: u64 = 20;
 
-/// How many packets may go to a receiver in [`BURST_TIME`]: a socket takes in so many before they are read, where
+/// How many packets may go to a receiver in [`BURST_TIME`]: a socket buffers that many before they are read, where
 /// nobody set another size (212,992 bytes, of which Linux counts 2,304 for a packet of 1,232).
 const BURST: u8 = 92;
 

@@ -340,7 +340,7 @@ impl<W: Wire, C: Clock> PacketWire<W, C> {
         came
     }
 
-    /// Takes a packet that has come to the wire below, and counts what it failed at.
+    /// Takes a packet that has reached the wire below, and counts what it failed at.
     fn poll_below(&mut self) -> Option<usize>
         ensures gave { Adds (W.traffic (inner_of self.old)) (W.traffic (inner_of self.new))
             (gives (option_map (λ n. take n self.new.incoming.items) result)) }

@@ -136,7 +136,7 @@ pub struct Receiver {
 }
 
 impl Receiver {
-    /// A member with this start, in a cluster of so many. Nobody was heard.
+    /// A member with this start, in a cluster of n. Nobody was heard.
     pub fn new(alloc: Global, members: u8, start: Start) -> Result<Receiver, AllocError>
         ensures { IfOk result (λ r. Hears start (replicate members unheard) r) }
     {

@@ -159,7 +159,7 @@ impl Sender {
         }
     }
 
-    /// Sends the pieces of a datagram that a receiver lacks, so many at most, up to the first that isn't sent. Whether
+    /// Sends the pieces of a datagram that a receiver lacks, at most n, up to the first that isn't sent. Whether
     /// these were.
     pub(crate) fn send_pieces<W: Wire>(
         &mut self,

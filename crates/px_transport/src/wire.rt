@@ -4,8 +4,8 @@ ghost use Rattle.std.specs.Prelude.{◌≡◌, ◌≤◌, ℕ, List, [], ◌∷�
 ghost use Rattle.px_transport.specs.Identities.{Identity};
 ghost use Rattle.px_transport.specs.Wires.{Adds, Counts, IsQuiet, WireEvent, Handed, gives};
 
-/// Where datagrams come from and go to. Members are told apart by their numbers; 255 is whoever sent the datagram that
-/// came last. A datagram that isn't sent is lost, as it may be on its way: nothing else follows from it. Of what
+/// Where datagrams come from and go to. Members are distinguished by their numbers; 255 is whoever sent the datagram
+/// that came last. A datagram that isn't sent is lost, as it may be on its way: nothing else follows from it. Of what
 /// it is handed a wire sends nothing again of its own accord: node_loop hands it again. A wire of packets adds packets
 /// that its layer needs.
 pub trait Wire {

@@ -72,6 +72,6 @@ as_heard (promise_all b p top a) = PromiseAll b p top (proposal_heard a)
 abbrev pub Passing : (members from to : ℕ) → node.Message Bytes → Type 0
 Passing n from to x = EnvelopeFits (Passes is_command) n (record { sender = from; addressee = to; message = x })
 
--- such a message from there comes to this member
+-- such a message from there arrives at this member
 abbrev pub Comes : Membership → (from : ℕ) → declared.Message EntryView → Type 0
 Comes m from x = Passing m.members from m.me (come_of x)

@@ -73,7 +73,7 @@ MessageFits n from to (prepare_all b p) = IsBallotOf n from b × IsPosition p
 MessageFits n from to (promise_all b p top a) =
     IsBallotOf n to b × IsPosition p × (top ≤ 1_000_000) × ReportFits n b a
 
--- who sends it to whom: whoever asks from outside only asks, and is only told
+-- who sends it to whom: a client only asks, and is only answered
 abbrev pub IsBetween : (n from to : ℕ) → Message → Type 0
 IsBetween n from to (ask e) = (from ≡ 255) × (to < n)
 IsBetween n from to (asked t k) = (from < n) × (to ≡ 255)

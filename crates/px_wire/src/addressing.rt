@@ -6,7 +6,7 @@ ghost use Rattle.px_wire.specs.declared.limits.TheConstants.{ADDRESSEE};
 
 use crate::limits::ADDRESSEE;
 
-/// Addresses an encoded datagram to another member, or to 255, an asker. It changes one byte, so a message to all
+/// Addresses an encoded datagram to another member, or to 255, a client. It changes one byte, so a message to all
 /// members is encoded once: `address` and send it, for one after the other.
 ///
 /// The datagram spells the same message of the same sender, now to this addressee, if the message has a spelling to it

@@ -26,7 +26,7 @@ pub fn decode<'a>(m: &Membership, bytes: &'a [u8]) -> Result<(u8, MessageView<'a
     // A fault is the first one.
     ensures fault { IfErr result (λ f. WireFaultAt m.now bytes.now f.code f.offset) }
     ensures clean { OnOk result (first_fault (fields m.now bytes.now) 0 bytes.now ≡ None) }
-    // What is answered may come to a member.
+    // What is answered may reach a member.
     ensures fits { IfOk result (λ x. Comes m.now x.0 x.1) }
     ensures exact { ReadsDatagram bytes.now result (fields m.now bytes.now) (datagram bytes.now) }
 {

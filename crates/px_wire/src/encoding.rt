@@ -224,7 +224,7 @@ fn put_header(out: &mut Vec<u8>, m: &Membership, to: u8, kind: Kind) -> Result<(
     Ok(())
 }
 
-/// The one spelling of a message to a member, or to 255, an asker. The message has one: its ballots, position and
+/// The one spelling of a message to a member, or to 255, a client. The message has one: its ballots, position and
 /// entry are allowed for the sender `m.me()` and the addressee. Its entry's bytes are copied.
 ///
 /// Fails for lack of memory alone.

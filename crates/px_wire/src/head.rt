@@ -14,7 +14,7 @@ use crate::reading::{u8_in, u32_in, u64_in};
 /// What a datagram says before its entry: who sends it to whom, and what it is about.
 #[derive(Clone, Copy, PartialEq, Eq)]
 pub struct Head {
-    /// The sender: a member, or 255 for whoever asks from outside.
+    /// The sender: a member, or 255 for a client.
     pub from: u8,
     /// The addressee: a member, or 255.
     pub to: u8,

@@ -22,7 +22,7 @@
 //! | 4 | 1 | version 1 | 52 |
 //! | 5 | 4 | the cluster's number | 53 |
 //! | 9 | 1 | how many members it has, 1 to 15 | 54 |
-//! | 10 | 1 | from: a member, or 255 for whoever asks from outside | 54 |
+//! | 10 | 1 | from: a member, or 255 for a client | 54 |
 //! | 11 | 1 | to: a member, or 255 | 54 |
 //! | 12 | 1 | kind, 1 to 12. Only 8 is from 255, only 9 and 10 are to 255 | 55 |
 //! | 13 | | the kind's fields | 57 |
@@ -45,7 +45,7 @@
 //! 999,999, a top at most 1,000,000. Accepted is a ballot of 0 for none, else one below the promise's with a length and
 //! an entry behind it. Promised is a ballot not below the first. A length has four bytes and is 1 to 32,768, and so
 //! many bytes spell an entry ([`pf_entry`]): asked of a member, but in an Ask, where its origin is 255 and its number
-//! the asker's token. Tokens and numbers have eight bytes and are below 2^48. A code is one byte, 60 or 62.
+//! the client's token. Tokens and numbers have eight bytes and are below 2^48. A code is one byte, 60 or 62.
 //!
 //! Fields are read in this order. A field whose bytes aren't all there is 50 at its offset, a value that isn't allowed
 //! is refused at its offset, and 56 is at the first byte after the last field.
@@ -62,12 +62,17 @@
 //! - In definitions an entry in a datagram is its origin, its number and its bytes. What the bytes say is
 //!   pf_entry's; px_wire's proofs open it once, where an entry is read.
 //! - `encode` takes a message that has a spelling, and no test is offered for it: a member shows it by its plan
-//!   (`encode_sent`), an asker by the entry that it encoded.
-//! - What goes to all members is encoded once; `address` changes the one byte that tells them apart.
+//!   (`encode_sent`), a client by the entry that it encoded.
+//! - What goes to all members is encoded once; `address` changes the one byte that distinguishes them.
 //! - A ballot in a message is one number, as in the record. `Ballot` is for whoever shows one.
-//! - A table's name in an entry is no word that rules of the first profile reserve, whichever profile a text has.
-//! - The text of a load is bytes. That it can be read as rules is asked when the entry takes effect, in every node
+//! - A table's name in an entry is no word that rules of the first profile reserve, whichever profile a ruleset has.
+//! - The text of a load is bytes. That it can be read as rules is asked when the entry is applied, in every node
 //!   alike.
+//! - **A datagram's head is read in one place** (`Head`): what sends again, counts or warns looks at sender, kind,
+//!   ballot and position without decoding the entry, and nothing else knows an offset or the number of a kind. A law
+//!   says that it is the head of the message that `decode` answers. Below the seal nothing looks at a byte, but where
+//!   neither a key nor a control socket is used: there `UdpWire` asks, by `Head`, whether a datagram from elsewhere is
+//!   a request from outside. What follows a kind is a `match` without a wildcard.
 #![tactic(auto)]
 
 mod addressing;

@@ -8,7 +8,7 @@ use std::alloc::Global;
 pub struct Row {
     /// The reader, a member of three or 255.
     pub reader: Membership,
-    /// How many times it comes to a node; 0 where its fronts and bytes are tried.
+    /// How many times it arrives at a node; 0 where its fronts and bytes are tried.
     pub times: u32,
     /// The datagram's bytes.
     pub bytes: Vec<u8>,

@@ -1,4 +1,4 @@
-//! The words of a run.
+//! The words in a run.
 
 /// What happens at a member.
 #[derive(Clone, Copy)]

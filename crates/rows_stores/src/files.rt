@@ -38,7 +38,7 @@ fn say_done(out: &mut String, is_done: bool) -> bool {
     say(out, if is_done { "done" } else { "no file" })
 }
 
-/// Writes a text of some thousand bytes.
+/// Writes a file of some thousand bytes.
 pub(crate) fn text(rt: &HostRuntime, file: &str, out: &mut String) -> bool {
     match "pass in quick proto tcp from any to any port 22\n".repeat(rt.alloc(), 200) {
         Ok(text) => say_done(out, fs::write(rt, file, text.as_str()).is_ok()),

@@ -14,7 +14,7 @@
 //! | `stops BEFORE \| SQL \| RECORD \| CHANGE \| RECORD \| ..` | a run in files that stop (see [`stops`]) |
 //! | `node-stops BEFORE \| SQL \| RECORD \| STEP \| RECORD \| ..` | a node's run in files that stop |
 //! | `nodes in memory` | a run of three nodes over empty stores in memory, one of which stops (see [`cluster`]) |
-//! | `text FILE`, `folder FILE`, `cut FILE BYTES` | writes a text, makes a folder, leaves the first bytes of the file |
+//! | `text FILE`, `folder FILE`, `cut FILE BYTES` | writes a file, makes a folder, leaves the first bytes of the file |
 //!
 //! | Task | Does |
 //! |---|---|

@@ -17,7 +17,7 @@ use px_records::Records;
 use std::alloc::Global;
 use std::fmt::Write;
 
-/// The datagram of these digits comes to the node. Digits that are none are an empty datagram.
+/// The datagram of these digits arrives at the node. Digits that are none are an empty datagram.
 fn receive<R: Records>(
     alloc: Global,
     node: &mut Node<R>,

@@ -3,7 +3,7 @@ use px_model::{Entry, Slot};
 use px_records::StoreFault;
 use std::fmt::Write;
 
-/// Appends a text.
+/// Appends a string.
 pub(crate) fn say(out: &mut String, text: &str) -> bool {
     out.push_str(text).is_ok()
 }

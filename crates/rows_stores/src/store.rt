@@ -10,7 +10,7 @@ use sqlite::{Alter, Connection};
 use std::alloc::Global;
 use std::fmt::Write;
 
-/// Whose store it is by the word of the task: one of a member of three.
+/// Whose store it is by the task's name: one of a member of three.
 fn identity_of(word: &str) -> Option<Identity>
     ensures { IfSome result (λ i. i.members ≡ 3) }
 {

@@ -5,8 +5,8 @@ use std::alloc::{AllocError, Global};
 /// The bytes of an entry before its text: a load at the main ruleset, and the text's length.
 const FRONT: usize = 16;
 
-/// Member 2 votes in round 1 of 0 at position 5, for an entry of these bytes: a text of spaces that is loaded. From 17
-/// bytes on.
+/// Member 2 votes in round 1 of 0 at position 5, for an entry of these bytes: a ruleset of spaces that is loaded. From
+/// 17 bytes on.
 fn vote_for(alloc: Global, size: usize) -> Result<Vec<u8>, AllocError> {
     let mut bytes = Vec::new(alloc);
     let header = [0x50, 0x46, 0x58, 0x52, 1, 0, 0, 0, 7, 3, 2, 1, 4];

@@ -66,7 +66,7 @@ fn table_found(alloc: Global, words: &[&str]) -> Result<u64, Fault> {
     }
 }
 
-/// How often a text was read.
+/// How often a ruleset was read.
 fn packets_found(alloc: Global, words: &[&str]) -> Result<u64, Fault> {
     match (number(words, 1), words.get(2..)) {
         (Some(times), Some(texts)) => Ok(packets::packets_read(alloc, texts, times) as u64),
@@ -131,7 +131,7 @@ fn tell(rt: &HostRuntime, words: &[&str]) -> Result<(), Fault> {
     }
 }
 
-/// Writes what the words of a line give.
+/// Writes what the arguments of a line give.
 fn tell_line(rt: &HostRuntime, line: &str) -> Result<(), Fault> {
     let mut words = Vec::new(rt.alloc());
     for word in line.split('\t') {
@@ -153,7 +153,7 @@ fn tell_lines(rt: &HostRuntime) -> Result<(), Fault> {
     Ok(())
 }
 
-/// Writes what the words of the program give, or the lines.
+/// Writes what the arguments of the program give, or the lines.
 fn tell_all(rt: &HostRuntime, words: &[String]) -> Result<(), Fault> {
     let mut list = Vec::new(rt.alloc());
     for word in words {

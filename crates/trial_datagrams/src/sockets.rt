@@ -5,7 +5,7 @@ use px_transport::Wire;
 use std::cell::Cell;
 use std::test::Fail;
 
-/// The front of a datagram of one who asks: its sender is 255.
+/// The front of a datagram of a client: its sender is 255.
 const ASK: [u8; 13] = [0x50, 0x46, 0x58, 0x52, 1, 0, 0, 0, 7, 2, 255, 0, 8];
 
 /// The same with member 1 as its sender.
@@ -68,7 +68,7 @@ fn hears_each<W: Wire>(wire: &mut W, letters: &[u8], now: &Cell<u64>) -> bool {
     true
 }
 
-/// Whether what two members and one who asks send comes.
+/// Whether what two members and a client send comes.
 fn talk<W: Wire>(one: &mut W, other: &mut W, asker: &mut W) -> bool {
     let is_heard = hears_none(one) && one.send(1, b"hello") && hears(other, 8, b"hello");
     let is_asked = asker.send(1, &ASK) && hears(one, 20, &ASK);
@@ -217,7 +217,7 @@ fn a_clock_that_fails_or_goes_back_ends_no_wait(rt: HostRuntime) -> Result<(), F
     Ok(())
 }
 
-/// Whether three answers come to one who asks, and then none.
+/// Whether three answers reach a client, and then none.
 fn answers<A: Wire, B: Wire>(one: &mut A, asker: &mut B) -> bool {
     let is_asked = asker.send(0, &ASK) && hears(one, 20, &ASK);
     let is_sent = one.send(255, b"one") && one.send(255, b"two") && one.send(255, b"six");

@@ -16,7 +16,7 @@ pub(crate) struct Bus {
     messages: Vec<Message<Entry>>,
 }
 
-/// The message of this place comes to the member: what that sends.
+/// The message of this place arrives at the member: what that sends.
 fn delivered(
     members: &mut [Member],
     messages: &[Message<Entry>],
@@ -99,7 +99,7 @@ impl Bus {
         }
     }
 
-    /// The event comes to the member, and what it sends goes onto the bus.
+    /// The event arrives at the member, and what it sends goes onto the bus.
     fn happen(&mut self, member: u8, event: &Event) -> Result<(), Fail> {
         let sends = self.member(member)?.step(event)?;
         self.send(member, sends)
@@ -155,7 +155,7 @@ impl Bus {
         Ok(())
     }
 
-    /// A message of nobody on the bus comes to the first member, and what that sends goes onto it.
+    /// A message of nobody on the bus arrives at the first member, and what that sends goes onto it.
     pub(crate) fn receive(&mut self, sender: u8, message: Message<EntryView>) -> Result<(), Fail> {
         self.happen(0, &Event::Comes { sender, message })
     }

@@ -104,7 +104,7 @@ fn all_block(alloc: Global, parties: &[Party]) -> Result<bool, Fail> {
     Ok(parties.len() == 3)
 }
 
-/// Whether the first member answers an Ask as taken in.
+/// Whether the first member answers an Ask as accepted.
 fn is_asked<W: Wire>(parties: &mut [Party], asker: &mut W, room: &mut Room) -> Result<bool, Fail> {
     let is_sent = asker.send(0, &ASK);
     tick_timer(parties, 0, room)?;

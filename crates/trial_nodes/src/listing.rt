@@ -39,7 +39,7 @@ fn push_tables(
     Ok(())
 }
 
-/// What stands at each path of a configuration: its names, its rules, its tables; and first the interfaces that are
+/// What is at each path of a configuration: its names, its rules, its tables; and first the interfaces that are
 /// skipped. Two configurations with one text are equal.
 pub(crate) fn listing(alloc: Global, config: &Config) -> Result<String, AllocError> {
     let mut out = String::new(alloc);

@@ -10,7 +10,7 @@ use std::alloc::Global;
 use std::test::Fail;
 use std::time::Instant;
 
-/// The member with this number, of so many of cluster 7.
+/// The member with this number, of n of cluster 7.
 pub(crate) fn member(alloc: Global, members: u8, me: u8) -> Result<Node<MemoryRecords>, Fail> {
     let Some(m) = Membership::new(7, members, me) else {
         return Err(Fail::new("no member"));
@@ -32,7 +32,7 @@ pub(crate) fn ask(node: &mut Node<MemoryRecords>, command: Command) -> Result<()
     Ok(())
 }
 
-/// The node is asked a load of a text at main.
+/// The node is asked a load of a ruleset at main.
 pub(crate) fn ask_load(
     alloc: Global,
     node: &mut Node<MemoryRecords>,

@@ -94,7 +94,7 @@ fn agree(alloc: Global, parties: &[Party]) -> Result<bool, Fail> {
     Ok(zero.as_str() == one.as_str() && one.as_str() == two.as_str())
 }
 
-/// The member with this number is asked the load of a text, and each applies it.
+/// The member with this number is asked the load of a ruleset, and each applies it.
 fn spread(
     alloc: Global,
     parties: &mut [Party],

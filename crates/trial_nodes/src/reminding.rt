@@ -113,7 +113,7 @@ fn who_proposes_below_is_sent_from_there_on_again(rt: HostRuntime) -> Result<(),
 
 #[test]
 fn who_lacks_nothing_behind_is_sent_nothing_again(rt: HostRuntime) -> Result<(), Fail> {
-    // position 2 is told by its own entry, and is the last
+    // position 2 is known by its own entry, and is the last
     assert!(rt; reminded(&rt, &need(1, 2))?.is_empty());
     assert!(rt; reminded(&rt, &need(1, 3))?.is_empty());
     assert!(rt; reminded(&rt, &prepare_all(3))?.is_empty());

@@ -79,7 +79,7 @@ line 37 0>1 promiseall b2.1 p1 b1.0 e0.1 t2
 line 39 1>0 accept b2.1 p1 e0.1";
 
 // Ballot 257 is that of round 1 of member 1, and 256 that of member 0.
-/// Runs in which what comes to the first member is made by hand.
+/// Runs in which what arrives at the first member is made by hand.
 const SINGLE: &str = "\
 = 3 a_promise_counts_once
 ask 0 7
@@ -174,7 +174,7 @@ fn play(alloc: Global, members: u8, lines: &str) -> Result<(), Fail> {
     done
 }
 
-/// Each run of a text: how many there are.
+/// Each run of a script: how many there are.
 fn play_all(alloc: Global, text: &str) -> Result<usize, Fail> {
     let mut count = 0usize;
     for run in text.split("= ").skip(1) {

@@ -19,7 +19,7 @@ use px_model::{Entry, Event, Message};
 use std::alloc::Global;
 use std::test::Fail;
 
-/// A promise with nothing accepted comes to the first member.
+/// A promise with nothing accepted arrives at the first member.
 fn promise(bus: &mut Bus, sender: u8) -> Result<(), Fail> {
     let promise = Message::PromiseAll {
         ballot: 256,
@@ -42,7 +42,7 @@ fn ask_to_accept(bus: &mut Bus) -> Result<(), Fail> {
     bus.receive(0, accept)
 }
 
-/// A vote comes to the first member.
+/// A vote arrives at the first member.
 fn vote(bus: &mut Bus, sender: u8, position: u32) -> Result<(), Fail> {
     let bytes = spelling(0, 0, 7);
     let entry = entry(&bytes)?;
@@ -71,7 +71,7 @@ fn refusal_of(taken: &Result<Sends, CoreFault>) -> Option<u8> {
     }
 }
 
-/// Whether the event comes to this refusal, none where it is taken.
+/// Whether the event gives this refusal, none where it is taken.
 fn comes_to(member: &mut Member, event: &Event, code: Option<u8>) -> Result<bool, Fail> {
     let taken = member.take(event)?;
     let found = refusal_of(&taken);
@@ -79,7 +79,7 @@ fn comes_to(member: &mut Member, event: &Event, code: Option<u8>) -> Result<bool
     Ok(found == code)
 }
 
-/// The same of that many askings; 0 where each is taken in.
+/// The same of that many askings; 0 where each is accepted.
 fn all_come_to(member: &mut Member, code: u8, times: u64) -> Result<bool, Fail> {
     let bytes = spelling(0, 0, 7);
     let event = asked(&bytes)?;
@@ -142,7 +142,7 @@ fn place(number: u64) -> u32 {
     (number % 1_000_000) as u32
 }
 
-/// Something comes to the first member. None where the word is another.
+/// Something arrives at the first member. None where the word is another.
 fn come(bus: &mut Bus, word: &str, first: u64, second: u64) -> Option<Result<(), Fail>> {
     Some(match word {
         "promiseall" => promise(bus, byte(first)),

@@ -23,7 +23,7 @@ fn entry(alloc: Global, format: u8, text: &[u8]) -> Result<Vec<u8>, Fail> {
     Ok(bytes)
 }
 
-/// Whether an entry of these bytes comes to this.
+/// Whether an entry of these bytes gives this.
 fn is_applied(
     alloc: Global,
     config: &mut Config,
@@ -36,7 +36,7 @@ fn is_applied(
     }
 }
 
-/// Whether a load in a format comes to this, and the rules are these then.
+/// Whether a load in a format gives this, and the rules are these then.
 fn comes_to(
     alloc: Global,
     config: &mut Config,

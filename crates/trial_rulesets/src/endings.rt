@@ -20,7 +20,7 @@ fn unknown_words_are_told_apart(rt: HostRuntime) {
     }
 }
 
-/// Gives a part of a text, and then fails.
+/// Gives a part of a ruleset, and then fails.
 #[derive(Drop)]
 struct FailingReader {
     given: bool,
@@ -57,7 +57,7 @@ impl Write for FailingWriter {
     }
 }
 
-/// The words of a run that reads rules and one packet.
+/// The words in a run that reads rules and one packet.
 const WORDS: [&str; 3] = ["pfx", "test", SYN_PACKET];
 
 /// Whether a run whose reader fails ends as failed, and writes nothing.

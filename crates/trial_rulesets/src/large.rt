@@ -4,9 +4,9 @@ use crate::runs::checked;
 use std::fmt::Write;
 use std::test::Fail;
 
-/// Texts, each with what `check` writes: a text's parts, each with how many times it is there, a `%` for a newline.
-/// In a part with two `#` these stand for the two bytes of a number that counts from 0. A text that is accepted writes
-/// that many lines.
+/// Rulesets, each with what `check` writes: a ruleset's parts, each with how many times it is there, a `%` for a
+/// newline. In a part with two `#` these stand for the two bytes of a number that counts from 0. A text that is
+/// accepted writes that many lines.
 const ROWS: &str = "\
 pass~1~ x~65535>refused 12 line 1
 pass~1~ x~65536>refused 18 line 1

@@ -1,5 +1,5 @@
 //! Tests of addresses, tokens and rulesets, of `check` and `test` beyond the rows of pfx, and of files of settings.
-//! Texts at limits, reads and writes that fail, what the place and the profile decide, of texts and of loads as
+//! Rulesets at limits, reads and writes that fail, what the place and the profile decide, of rulesets and of loads as
 //! entries.
 //!
 //! The tests are in a crate of their own, since a crate with tests is proved twice.

@@ -1,10 +1,11 @@
-//! What the place and the profile of a text decide, and its rules alone.
+//! What the place and the profile of a ruleset decide, and its rules alone.
 
 use pf_grammar::{ParseFault, Place, Profile, parse, show_items};
 use std::alloc::Global;
 use std::test::Fail;
 
-/// Of a text that is accepted 0 and how many rules it comes to, of a refused one the number of the cause and the line.
+/// Of a ruleset that is accepted 0 and how many rules it comes to, of a refused one the number of the cause and the
+/// line.
 fn answer(alloc: Global, text: &str, place: Place, profile: Profile) -> Result<(u8, u64), Fail> {
     match parse(alloc, text.as_bytes(), place, profile) {
         Ok(loaded) => Ok((0, loaded.items.len() as u64)),
@@ -13,7 +14,7 @@ fn answer(alloc: Global, text: &str, place: Place, profile: Profile) -> Result<(
     }
 }
 
-/// The rules of a text, shown.
+/// The rules of a ruleset, shown.
 fn shown(alloc: Global, text: &[u8]) -> Result<String, Fail> {
     match parse(alloc, text, Place::Main, Profile::Two) {
         Ok(loaded) => Ok(show_items(alloc, loaded.items.as_slice())?),

@@ -21,7 +21,7 @@ pub(crate) fn ran<S: AsStr, R: Read, W: Write>(
     run(rt, &REFUSALS, words, reader, writer, &mut errors, false)
 }
 
-/// What the word `check` writes for this text, and the exit status.
+/// What the subcommand `check` writes for this text, and the exit status.
 pub(crate) fn checked(rt: &HostRuntime, text: &[u8]) -> (u8, Vec<u8>) {
     let mut reader = text;
     let mut out = Vec::new(rt.alloc());

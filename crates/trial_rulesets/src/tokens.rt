@@ -169,7 +169,7 @@ fn push_line<'t>(
     Ok(behind)
 }
 
-/// Appends the statements of a text.
+/// Appends the statements of a ruleset.
 fn push_lines<'t>(
     alloc: Global,
     out: &mut Vec<u8>,
@@ -192,7 +192,7 @@ fn push_text(alloc: Global, out: &mut Vec<u8>, text: &Text) -> Result<(), Fail> 
     push_lines(alloc, out, &mut macros, text.lexer())
 }
 
-/// The statements of a text, each with its line and a semicolon.
+/// The statements of a ruleset, each with its line and a semicolon.
 fn statements(alloc: Global, text: &Text) -> Result<Vec<u8>, Fail> {
     let mut out = Vec::new(alloc);
     push_text(alloc, &mut out, text)?;
@@ -371,7 +371,7 @@ fn expect_fault(alloc: Global, text: &Text, fault: Option<ReadingFault>) -> Resu
     expect(parser.fault() == fault, "another fault")
 }
 
-/// The same of a text of that many parts.
+/// The same of a ruleset of that many parts.
 fn expect_fault_of(
     alloc: Global,
     part: &str,

@@ -32,8 +32,8 @@ outcome_of fault.Store = Refused 70
 outcome_of fault.BadStore = Refused 72
 outcome_of fault.Failed = Refused 80
 
--- What a run is shown as whose store has so many failures: a member that had failed ends with what it failed of, 70
--- where a call on the store failed and 72 where a row was bad.
+-- What a run is shown as whose store has this number of failures: a member that had failed ends with what it failed of,
+-- 70 where a call on the store failed and 72 where a row was bad.
 abbrev pub ending_of : Outcome → (failures : ℕ) → Outcome
 ending_of outcome n = if is_refused 80 outcome then (if nat_lt 0 n then Refused 70 else Refused 72) else outcome
 

@@ -4,15 +4,15 @@ use Rattle.pf_addr.specs.declared.addr.Addr.{Addr}
 use Rattle.pf_addr.specs.declared.addr.Addr.TheVariants.{V4, V6}
 use Rattle.node_udp.specs.declared.address.Address.{Address}
 
--- so many members
+-- n members
 abbrev pub is_count : ℕ → Bool
 is_count n = nat_le 1 n && nat_le n 15
 
--- a member's number, of so many
+-- a member's number, of n
 abbrev pub has_place : (me n : ℕ) → Bool
 has_place me n = is_count n && nat_lt me n
 
--- so many turns, or as many as there can be
+-- n turns, or as many as there can be
 abbrev pub turns_or_all : Option ℕ → ℕ
 turns_or_all (Some turns) = turns
 turns_or_all None = 2 ^ 64 - 1

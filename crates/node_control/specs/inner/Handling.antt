@@ -17,7 +17,7 @@ use Rattle.node_requests.specs.Routing.{RoutedValue, Asked, Refused, Unread, req
 use Rattle.node_control.specs.declared.service.HttpService.{HttpService}
 use Rattle.node_control.specs.inner.Asking.{path_of, asked_for, is_of_figures}
 
--- a response says an answer, its status and its body; or it is 503 without one, where memory is wanting for that
+-- a response says an answer, its status and its body; or it is 503 without one, if memory runs out for it
 abbrev pub Says : Response → AnswerValue → Type 0
 Says r a = ((r.status ≡ a.code) × (r.body.items ≡ a.body)) ⊎ ((r.status ≡ 503) × (r.body.items ≡ []))
 

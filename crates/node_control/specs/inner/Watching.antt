@@ -1,4 +1,4 @@
--- What is told of how a node stands, from what came over its wire.
+-- What is reported of how a node stands, from what came over its wire.
 use Rattle.std.specs.Prelude.{ℕ, ◌-◌, ◌/◌, ◌==◌, ◌&&◌, Bool, true, false, List, [], ◌∷◌, Option, Some, None}
 use Rattle.std.specs.Prelude.{nat_le, nat_lt}
 use Rattle.std.specs.Prelude.{if◌then◌else◌}
@@ -52,7 +52,7 @@ stood_since true true since now = Some now
 stood_since false true None now = Some now
 stood_since false true (Some t) now = Some t
 
--- so many whole seconds, none where nothing stands
+-- n whole seconds, none where nothing stands
 abbrev pub seconds_since : Option ℕ → (now : ℕ) → ℕ
 seconds_since None now = 0
 seconds_since (Some t) now = (now - t) / 1000000

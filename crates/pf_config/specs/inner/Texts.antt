@@ -1,4 +1,4 @@
--- What a text defines.
+-- What a ruleset defines.
 use Rattle.pf_rules.specs.declared.ruleset.TableDef.{TableDef}
 use Rattle.pf_rules.specs.Rulesets.{table_of}
 use Rattle.pf_config.specs.Changes.{Definition}

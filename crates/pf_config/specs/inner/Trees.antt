@@ -84,7 +84,7 @@ sheds all a = is_nothing a || list_any (is_idle all a) a.tables
 abbrev pub any_sheds : List AnchorValue → List AnchorValue → Bool
 any_sheds all anchors = list_any (sheds all) anchors
 
--- ---- a text's rules and tables take their place at once
+-- ---- a ruleset's rules and tables are put in place at once
 
 abbrev pub with_text : Block → List Definition → List AnchorValue → List AnchorValue
 with_text own definitions anchors = with_anchor (record {

@@ -6,7 +6,7 @@ use Rattle.pf_eval.specs.declared.fault.PacketFault.TheVariants.{Memory, BadPack
 use Rattle.pf_eval.specs.declared.cursor.End as code
 use Rattle.pf_eval.specs.PacketTexts.{Word, End, is_blank, words}
 
--- the words of a text of which this word, if there is one, and what is behind it were cut
+-- the words in a string of which this word, if there is one, and what is behind it were cut
 abbrev pub cut_words : Option (Word × Word) → List Word
 cut_words None = []
 cut_words (Some cut) = cut.0 ∷ words cut.1

@@ -27,7 +27,7 @@ abbrev pub is_none : {X : Type 0} → Option X → Bool
 is_none None = true
 is_none (Some x) = false
 
--- where a text may stand, the file is standard input or there is none; under a stop there is none
+-- where a ruleset may stand, the file is standard input or there is none; under a stop there is none
 abbrev pub is_allowed : Option Text → Option (List ℕ) → Bool
 is_allowed file None = is_none file
 is_allowed file (Some text) = is_standard file

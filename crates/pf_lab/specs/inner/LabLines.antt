@@ -112,7 +112,7 @@ line_asked (w ∷ v ∷ ws) text =
     else if bytes_eq w (codes "log") then mapped Log (at_word node_of (only (v ∷ ws)))
     else mapped Happens (event_of (w ∷ v ∷ ws) text)
 
--- a text follows the line of an ask, ask in pfctl's place
+-- a ruleset follows the line of an ask, ask in pfctl's place
 abbrev pub is_followed : List Text → Bool
 is_followed [] = false
 is_followed (w ∷ ws) = bytes_eq w (codes "ask") && takes_text (w ∷ ws)

@@ -10,7 +10,7 @@ use Rattle.pf_tokens.specs.Tokens.{Token}
 use Rattle.pf_tokens.specs.Macros.{Definition}
 use Rattle.pf_tokens.specs.Defining.{is_refused_string, joined_items, are_items, is_too_long}
 
--- a text that may have begun
+-- a value that may have begun
 abbrev pub begun_text : Bool → List ℕ → Option (List ℕ)
 begun_text begun text = if begun then Some text else None
 

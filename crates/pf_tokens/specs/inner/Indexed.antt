@@ -8,7 +8,7 @@ use Rattle.std.specs.Global.{Vec}
 use Rattle.pf_tokens.specs.Tokens.{plain_tokens}
 use Rattle.pf_tokens.specs.Macros.{Definition, text_of}
 
--- both texts are there and have the same tokens, or neither is there
+-- both values are there and have the same tokens, or neither is there
 abbrev pub HasTokensOf : Option (List ℕ) → Option (List ℕ) → Type 0
 HasTokensOf one other = option_map plain_tokens one ≡ option_map plain_tokens other
 

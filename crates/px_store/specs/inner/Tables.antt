@@ -16,7 +16,7 @@ meta_schema = with_tables (meta ∷ [])
 abbrev pub IsPlain : Table → Type 0
 IsPlain t = (t.computed ≡ []) × (t.stamps ≡ record { places = []; terms = []; formats = [] })
 
--- ---- the texts
+-- ---- the statements
 
 abbrev pub make_meta : List ℕ
 make_meta = codes "CREATE TABLE meta (id INTEGER PRIMARY KEY CHECK (id = 1), format INTEGER NOT NULL, cluster INTEGER NOT NULL, members INTEGER NOT NULL, node INTEGER NOT NULL, round INTEGER NOT NULL, number INTEGER NOT NULL) STRICT"
@@ -63,7 +63,7 @@ get_end = codes "SELECT position FROM learned ORDER BY position DESC LIMIT 1"
 abbrev pub get_last : List ℕ
 get_last = codes "SELECT position FROM slots ORDER BY position DESC LIMIT 1"
 
--- ---- what the texts are given
+-- ---- what the statements are given
 
 abbrev pub meta_params : (cluster members node round number : ℕ) → Row
 meta_params c m n round number = Int (pos c) ∷ Int (pos m) ∷ Int (pos n) ∷ Int (pos round) ∷

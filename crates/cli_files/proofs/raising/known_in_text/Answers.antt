@@ -1,4 +1,4 @@
--- two texts of members are the same only of equally many
+-- two strings of members are the same only of equally many
 use Rattle.std.proofs.Common.{arith, sym, ◌∙◌, ◌≡◌, length}
 use Rattle.cli_files.proofs.StartsLines.{same_count}
 use Rattle.cli_files.proofs.raising.known_in_text.Goals as goal

@@ -1,4 +1,4 @@
--- of a text of some members each line is read
+-- of a string of some members each line is read
 use Rattle.std.proofs.Common.{arith, ap, sym, ◌∙◌, ◌≡◌, ◌+◌, ◌<◌, length}
 use Rattle.std.proofs.lemmas.List.{length_push, take_all}
 use Rattle.std.specs.Prelude.{not}

@@ -1,4 +1,4 @@
--- of a text of some members, the first of them were read
+-- of a string of some members, the first of them were read
 use Rattle.std.proofs.Common.{◌≡◌, List, length, take}
 use Rattle.cli_files.specs.declared.known.KnownMember as declared
 use Rattle.cli_files.specs.StartsTexts.{starts_text, AreFit}

@@ -1,4 +1,4 @@
--- the node's message is the answer that it tells
+-- the node's message is the answer that it gives
 use Rattle.std.proofs.Common.{rules}
 use Rattle.px_wire.specs.Message.{group}
 use Rattle.px_wire.specs.Seen.{message_of}

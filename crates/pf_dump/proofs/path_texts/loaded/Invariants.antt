@@ -4,6 +4,6 @@ use Rattle.pf_dump.specs.Texts.{after_text}
 use Rattle.pf_dump.specs.Seen.{text_of}
 use Rattle.pf_dump.proofs.path_texts.loaded.Given as goal
 
--- the texts that are left lead from here to where all of them lead
+-- the rulesets that are left lead from here to where all of them lead
 abbrev pub invariant-loop-text : goal.invariant-loop-text
 invariant-loop-text l = fold after_text l.config (map text_of (drop l.text-index l.texts)) ≡ fold after_text empty (map text_of l.texts)

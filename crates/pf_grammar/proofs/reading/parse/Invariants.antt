@@ -6,7 +6,7 @@ use Rattle.pf_grammar.specs.inner.Gathering.{sofar_of}
 use Rattle.pf_grammar.proofs.ReadingSteps.{from, Room}
 use Rattle.pf_grammar.proofs.reading.parse.Given as goal
 
--- what is left comes to what all comes to
+-- what is left gives what all gives
 abbrev pub invariant-statements : goal.invariant-statements
 invariant-statements l = record {
   same : from l.fn.place l.fn.profile (sofar_of l.gathered) (tokens_left l.lexer) ≡ from l.fn.place l.fn.profile nothing (tokens l.fn.text);

@@ -1,4 +1,4 @@
--- what comes to a member that runs happens in the world; nothing comes to one that is stopped
+-- what arrives at a member that runs happens in the world; nothing arrives at one that is stopped
 use Rattle.std.proofs.Common.{rules, ◌≡◌, ◌∙◌, ◌<◌, ap, sym, refl, true, Some, length, arith}
 use Rattle.std.proofs.lemmas.Option.{slice_get_read}
 use Rattle.pf_lab.specs.Labs.{state_of, group_of}

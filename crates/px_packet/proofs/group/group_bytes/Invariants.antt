@@ -1,4 +1,4 @@
--- what is left of the list stands behind what was written
+-- what is left of the list is behind what was written
 use Rattle.std.proofs.Common.{◌≡◌, ◌++◌, map, drop}
 use Rattle.px_packet.specs.Groups.{group_bytes, sized}
 use Rattle.px_packet.proofs.group.group_bytes.Given as goal

@@ -1,4 +1,4 @@
--- so many were made
+-- n were made
 use Rattle.std.proofs.Common.{◌≡◌, replicate}
 use Rattle.px_transport.specs.Sending.{new_to}
 use Rattle.px_transport.proofs.outgoing.none_sent.Given as goal

@@ -1,4 +1,4 @@
--- the state was sent, and so many reports
+-- the state was sent, and n reports
 use Rattle.std.proofs.Common.{◌≡◌, ◌≤◌, ◌∷◌, List, replicate}
 use Rattle.px_transport.specs.Wires.{WireEvent}
 use Rattle.px_transport.specs.Receiving.{Heard, Hears}

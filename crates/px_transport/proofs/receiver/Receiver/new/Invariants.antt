@@ -1,4 +1,4 @@
--- so many members were never heard
+-- n members were never heard
 use Rattle.std.specs.Prelude.{replicate}
 use Rattle.std.specs.List.{AllZip}
 use Rattle.px_transport.specs.Receiving.{unheard, IsHeard}
