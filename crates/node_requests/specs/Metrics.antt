@@ -101,7 +101,8 @@ heard_rows (p ∷ peers) = heard_row p.node p.heard (heard_rows peers)
 -- what came of each peer
 abbrev pub heard_metrics : List PeerCounters → List ℕ
 heard_metrics peers =
-    peers_of (codes "gauge") (codes "pfx_peer_heard_seconds") (codes "Whole seconds since a datagram came.") (heard_rows peers)
+    peers_of (codes "gauge") (codes "pfx_peer_heard_seconds") (codes "Whole seconds since a datagram came.")
+    (heard_rows peers)
 
 abbrev pub in_metrics : List PeerCounters → List ℕ
 in_metrics peers =

@@ -14,8 +14,8 @@ use std::alloc::Global;
 /// The positions of a stretch.
 const STRETCH: usize = 256;
 
-/// Bounds on the numbers of one member's requests that are applied. A request that waits has a greater number than those
-/// that were learned before it was asked, so it is sought in the last stretches of the log alone.
+/// Bounds on the numbers of one member's requests that are applied. A request that waits has a greater number than
+/// those that were learned before it was asked, so it is sought in the last stretches of the log alone.
 #[derive(Drop)]
 pub(crate) struct Numbers {
     pub(crate) origin: u8,
