@@ -210,8 +210,8 @@ fn code_of(reply: &Reply) -> u16 {
 }
 
 /// The line that a command was accepted, and behind it what came of it.
-fn joined(taken: Reply, reply: Reply) -> Result<Reply, AllocError> {
-    let mut body = taken.body;
+fn joined(first_reply: Reply, reply: Reply) -> Result<Reply, AllocError> {
+    let mut body = first_reply.body;
     body.extend_from_slice(behind(reply.body.as_slice(), APPLIED))?;
     Ok(Reply {
         code: code_of(&reply),
@@ -268,15 +268,15 @@ pub(crate) fn ask_at<RT: Net + Clock>(
     if call.kind == Kind::Test {
         return verdicts(rt, alloc, control, call, deadline, seconds == 0);
     }
-    let taken = ask_on(rt, alloc, control, call, deadline, seconds == 0)?;
+    let first_reply = ask_on(rt, alloc, control, call, deadline, seconds == 0)?;
     let is_command = call.kind == Kind::Change || call.kind == Kind::Sync;
     if !is_command || seconds == 0 {
-        return Ok(taken);
+        return Ok(first_reply);
     }
     let mut target = String::from_str(alloc, "/v1/requests/")?;
-    match request_of(taken.body.as_slice()) {
+    match request_of(first_reply.body.as_slice()) {
         Some(request) => target.push_str(request)?,
-        None => return Ok(taken),
+        None => return Ok(first_reply),
     }
     let mut call_of = Call::get(alloc, target, Kind::Read);
     call_of.is_repeatable = true;
@@ -288,5 +288,5 @@ pub(crate) fn ask_at<RT: Net + Clock>(
     if call.kind == Kind::Sync {
         return Ok(synced(alloc, reply)?);
     }
-    Ok(joined(taken, reply)?)
+    Ok(joined(first_reply, reply)?)
 }

@@ -21,7 +21,7 @@ const READS_MAX: u32 = 67;
 fn read_some<R: Read>(reader: &mut R, room: &mut [u8], text: &mut Vec<u8>) -> Result<bool, KeyFault>
     requires room { 0 < length room.old }
     requires few { length text.old.items ≤ TEXT_MAX }
-    ensures taken { (first : Option (List ℕ)) → Consumes first (R.remaining reader.old) text.old.items →
+    ensures consumed { (first : Option (List ℕ)) → Consumes first (R.remaining reader.old) text.old.items →
         OnOk result (Consumes first (R.remaining reader.new) text.new.items) }
     ensures end { result ≡ Ok false → IsAtEnd (R.remaining reader.new) }
     ensures few { OnOk result (length text.new.items ≤ TEXT_MAX) }

@@ -2,7 +2,7 @@ mod Ends
 mod Texts
 pub mod Following
 pub mod Same
-pub mod Told
+pub mod MembersRead
 pub mod Loads
 pub mod Runs
 pub mod Writes

@@ -62,19 +62,19 @@ next_of f (Ok bytes) = if nat_lt f.position 4294967295 then Some (record {
 }) else None
 
 -- after the lines up to the first that isn't taken, and whether all are
-pub record Taken : Type 0 where
+pub record LinesApplied : Type 0 where
   pub followed : Followed
   pub is_whole : Bool
 
 -- where a line isn't taken it ends there
-abbrev pub or_ends : Followed → Option Taken → Taken
+abbrev pub or_ends : Followed → Option LinesApplied → LinesApplied
 or_ends f None = record { followed = f; is_whole = false }
 or_ends f (Some t) = t
 
 -- Example: three lines of which the second has an odd digit: one is taken.
-abbrev pub taken : Followed → List ScriptLine → Taken
-taken f [] = record { followed = f; is_whole = true }
-taken f (l ∷ ls) = or_ends f (option_map (λ g. taken g ls) (next_of f (decode_of l.content)))
+abbrev pub lines_applied : Followed → List ScriptLine → LinesApplied
+lines_applied f [] = record { followed = f; is_whole = true }
+lines_applied f (l ∷ ls) = or_ends f (option_map (λ g. lines_applied g ls) (next_of f (decode_of l.content)))
 
 -- Lines were taken one after the other up to one that wasn't, or to the last: the configuration is then that after the
 -- lines before it, and it stands that many entries further.

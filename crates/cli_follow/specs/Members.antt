@@ -32,8 +32,8 @@ members_among [] = None
 members_among (l ∷ ls) = members_or (option_and_then texts_on (words_in l.content)) (members_among ls)
 
 -- the same of a status
-unfoldable pub members_told : List ℕ → Option (List Member)
-members_told status = members_among (lines status)
+unfoldable pub members_reported : List ℕ → Option (List Member)
+members_reported status = members_among (lines status)
 
 -- ---- what a node writes is read
 
@@ -49,4 +49,4 @@ members_line addresses = spaced (codes "members" ∷ map shown_address addresses
 -- read.
 abbrev pub AreRead : List Address → Type 0
 AreRead addresses = AllByRecursion IsAddress addresses → 1 ≤ length addresses → length addresses ≤ MEMBERS_MAX →
-    (text : List ℕ) → members_told (members_line addresses ++ 10 ∷ text) ≡ Some (map member_at addresses)
+    (text : List ℕ) → members_reported (members_line addresses ++ 10 ∷ text) ≡ Some (map member_at addresses)

@@ -17,8 +17,8 @@ use Rattle.cli_follow.specs.declared.follower.TheConstants.{AGAIN}
 use Rattle.cli_follow.specs.declared.follower.WriteFault.{WriteFault}
 use Rattle.cli_follow.specs.declared.follower.WriteFault.TheVariants as fault
 use Rattle.cli_follow.specs.Exchanges.{Question, Entries, Status, Exchange, Adds}
-use Rattle.cli_follow.specs.Following.{Followed, Taken, taken}
-use Rattle.cli_follow.specs.Members.{members_told}
+use Rattle.cli_follow.specs.Following.{Followed, LinesApplied, lines_applied}
+use Rattle.cli_follow.specs.Members.{members_reported}
 use Rattle.cli_follow.specs.Stepping.{two_lines, end_line}
 
 -- ---- what is kept
@@ -130,8 +130,8 @@ abbrev pub is_more : (from to : ℕ) → List ℕ → Bool
 is_more from to body = not (nat_lt (to - from) ENTRIES_MAX) || not (nat_lt (length body) ENTRIES_BYTES)
 
 -- the lines of an answer were taken
-abbrev pub taken_in : Wanted → Follower → List ℕ → Taken → Reached
-taken_in w f body t =
+abbrev pub after_reply : Wanted → Follower → List ℕ → LinesApplied → Reached
+after_reply w f body t =
     let g : Follower = record f { followed = t.followed; asks = f.asks + 1 } in
     if not t.is_whole || is_more f.followed.position t.followed.position body then silent g
     else caught_up w (is_again f.asks) g
@@ -145,7 +145,7 @@ is_behind (Some front) position = nat_lt front position
 abbrev pub after_entries : Wanted → Follower → Result Reply AskFault → Reached
 after_entries w f (Err fault) = silent (record f { asks = f.asks + 1 })
 after_entries w f (Ok reply) = if is_behind reply.front f.followed.position then record { stage = Ended; out = [] }
-    else taken_in w f reply.body.items (taken f.followed (lines reply.body.items))
+    else after_reply w f reply.body.items (lines_applied f.followed (lines reply.body.items))
 
 -- two lists name the same members
 abbrev pub same_member : Member → Member → Bool
@@ -166,7 +166,7 @@ informed w f (Some ms) = written_if w (f.followed.is_moved || (not (same_members
 -- after an answer to the question for the status
 abbrev pub after_status : Wanted → Follower → Result Reply AskFault → Reached
 after_status w f (Err fault) = silent f
-after_status w f (Ok reply) = informed w f (members_told reply.body.items)
+after_status w f (Ok reply) = informed w f (members_reported reply.body.items)
 
 -- ---- all answers
 

@@ -6,7 +6,7 @@ ghost use Rattle.pf_command.specs.Effect.{empty};
 ghost use Rattle.pf_entry.specs.Reading.{reading};
 ghost use Rattle.pf_node.specs.Applied.{after_read};
 ghost use Rattle.pf_scripts.specs.Lines.{lines};
-ghost use Rattle.cli_follow.specs.Following.{after_decoded, after_lines, Follows, StopsIn, does, next_of, taken};
+ghost use Rattle.cli_follow.specs.Following.{after_decoded, after_lines, Follows, StopsIn, does, next_of, lines_applied};
 ghost use Rattle.cli_follow.specs.Following.{followed_of};
 
 use hex::FromHexError;
@@ -106,9 +106,9 @@ impl FollowedConfiguration {
         ensures still { self.new.is_moved ≡ false → self.new.config ≡ self.old.config }
         ensures err { OnErr result (StopsIn self.old.config self.new.config self.old.position self.new.position
             (lines text.now)) }
-        ensures taken { OnOk result (taken (followed_of self.old) (lines text.now)
+        ensures lines_applied { OnOk result (lines_applied (followed_of self.old) (lines text.now)
             ≡ record { followed = followed_of self.new; is_whole = true }) }
-        ensures bad { result ≡ Err TakeFault.BadLine → taken (followed_of self.old) (lines text.now)
+        ensures bad { result ≡ Err TakeFault.BadLine → lines_applied (followed_of self.old) (lines text.now)
             ≡ record { followed = followed_of self.new; is_whole = false } }
         ensures follows { OnOk result (Follows self.old.config self.new.config self.old.position self.new.position
             text.now) }

@@ -11,7 +11,7 @@ ghost use Rattle.cli_follow.specs.inner.Seen.{follower_of, wanted_of, due_in, lo
 
 use crate::followed_configuration::{FollowedConfiguration, TakeFault};
 use crate::kernel::{Kernel, Step};
-use crate::members::members_told;
+use crate::members::members_reported;
 use cli_ask::{AskFault, Reply};
 use cli_io::write_bytes;
 use cli_nft::Member;
@@ -302,7 +302,7 @@ impl Follower {
             Err(AskFault::Memory) => return Err(AllocError),
             Err(fault) => return Ok(Due::Nothing(fault)),
         };
-        match members_told(alloc, reply.body.as_slice())? {
+        match members_reported(alloc, reply.body.as_slice())? {
             Some(members) => Ok(self.set_members(members)),
             None => Ok(Due::Nothing(AskFault::BadAnswer)),
         }

@@ -1,7 +1,7 @@
 //! Where a node says that its members listen.
 
 ghost use Rattle.std.specs.Prelude.{◌≡◌, IfOk, map, option_map};
-ghost use Rattle.cli_follow.specs.Members.{some_texts, texts_on, members_told};
+ghost use Rattle.cli_follow.specs.Members.{some_texts, texts_on, members_reported};
 
 use cli_nft::{Member, members_in};
 use pf_scripts::{cut_line, words_in};
@@ -33,9 +33,12 @@ fn texts_on<'w, 'a>(words: &'w [&'a str]) -> Option<&'w [&'a str]>
 }
 
 /// Where the members listen by a node's status, of which a line names them; none where it doesn't.
-#[tactic(auto, unfolding(crate::specs::Members::members_told))]
-pub(crate) fn members_told(alloc: Global, status: &[u8]) -> Result<Option<Vec<Member>>, AllocError>
-    ensures { IfOk result (λ o. option_map (λ v. v.items) o ≡ members_told status.now) }
+#[tactic(auto, unfolding(crate::specs::Members::members_reported))]
+pub(crate) fn members_reported(
+    alloc: Global,
+    status: &[u8],
+) -> Result<Option<Vec<Member>>, AllocError>
+    ensures { IfOk result (λ o. option_map (λ v. v.items) o ≡ members_reported status.now) }
 {
     let mut left = status;
     while let Some((line, rest)) = cut_line(left) {

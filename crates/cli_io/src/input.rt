@@ -33,7 +33,7 @@ fn read_some<R: Read>(
 ) -> Result<bool, InputFault>
     requires room { 0 < length room.old }
     requires few { length all.old.items ≤ BYTES_MAX }
-    ensures taken { (first : Option (List ℕ)) → Consumes first (R.remaining reader.old) all.old.items →
+    ensures consumed { (first : Option (List ℕ)) → Consumes first (R.remaining reader.old) all.old.items →
         OnOk result (Consumes first (R.remaining reader.new) all.new.items) }
     ensures end { result ≡ Ok false → IsAtEnd (R.remaining reader.new) }
     ensures more { result ≡ Ok true → length all.old.items < length all.new.items }

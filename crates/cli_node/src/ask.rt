@@ -7,7 +7,7 @@ ghost use Rattle.pf_arguments.specs.Asked.{asked, given_in, Change};
 ghost use Rattle.cli_node.specs.declared.outcome.Outcome.TheVariants.{Memory, Refused, Unread};
 ghost use Rattle.cli_node.specs.inner.Places.{has_place, waits_of};
 ghost use Rattle.cli_node.specs.inner.Asked.{IsAsked};
-ghost use Rattle.cli_node.specs.declared.ask.TheConstants.{ASKER};
+ghost use Rattle.cli_node.specs.declared.ask.TheConstants.{CLIENT};
 
 use crate::outcome::{Outcome, answer_outcome, fault_outcome};
 use clap::ArgMatches;
@@ -21,7 +21,7 @@ use std::io::Read;
 use std::net::UdpSocket;
 
 /// The number of whoever is no member.
-const ASKER: u8 = 255;
+const CLIENT: u8 = 255;
 
 /// How long each wait for an answer is, in milliseconds.
 const WAIT_MS: u32 = 200;
@@ -138,7 +138,7 @@ fn bind(
 ) -> Result<UdpWire<UdpSocket, HostRuntime>, Outcome>
     ensures { OnErr result ((result ≡ Err Memory) ⊎ (result ≡ Err (Refused 82))) }
 {
-    match UdpWire::bind(rt, alloc, &[to], ASKER, WAIT_MS) {
+    match UdpWire::bind(rt, alloc, &[to], CLIENT, WAIT_MS) {
         Ok(wire) => Ok(wire),
         Err(BindFault::Memory) => Err(Outcome::Memory),
         Err(BindFault::NoSocket) => Err(Outcome::Refused(82)),
@@ -153,7 +153,7 @@ fn asked_over<W: Wire>(
     command: &Command,
     wire: &mut W,
 ) -> Outcome
-    requires asker { m.now.me ≡ ASKER }
+    requires client { m.now.me ≡ CLIENT }
     requires member { words.node < m.now.members }
     ensures { IsAsked W.traffic wire.old wire.new m.now words.entry.node words.entry.waits command.now result }
 {
@@ -166,13 +166,13 @@ fn asked_over<W: Wire>(
 /// Who is asked: the cluster and how many members it has, and nobody of them; none where the node is none of them.
 fn membership(words: AskWords<'_>) -> Option<Membership>
     ensures some { IfSome result (λ m. (m.cluster ≡ words.entry.cluster) × (m.members ≡ words.entry.members) ×
-        (m.me ≡ ASKER)) }
+        (m.me ≡ CLIENT)) }
     ensures none { IsSome result ↔ IsTrue (has_place words.entry.node words.entry.members) }
 {
     if words.node >= words.members {
         return None;
     }
-    Membership::new(words.cluster, words.members, ASKER)
+    Membership::new(words.cluster, words.members, CLIENT)
 }
 
 /// What the node answers to a command.
@@ -183,7 +183,7 @@ fn asked(
     m: &Membership,
     command: &Command,
 ) -> Outcome
-    requires asker { m.now.me ≡ ASKER }
+    requires client { m.now.me ≡ CLIENT }
     requires member { words.node < m.now.members }
 {
     match bind(rt, alloc, words.to) {

@@ -285,7 +285,7 @@ fn run_plain<R: Records, T: Timer>(
     ensures turns { place.entry ≡ None → ComesTo R.Records m records result.0 result.1 }
     ensures ran { IsAlone R.Records m records result.0 result.1 ⊎
         RunsHere R.Records m None records result.0 result.1 (λ how. place.entry ≡ None →
-        OnFront how (MakesTurns words.entry.turns (T.told timer.old) (T.told timer.new))) }
+        OnFront how (MakesTurns words.entry.turns (T.timer_events timer.old) (T.timer_events timer.new))) }
 {
     let wire = match wire {
         Ok(wire) => wire,
@@ -330,7 +330,7 @@ fn run_with_key<R: Records, T: Timer>(
     ensures turns { place.entry ≡ None → ComesTo R.Records m records result.0 result.1 }
     ensures ran { IsAlone R.Records m records result.0 result.1 ⊎
         RunsHere R.Records m (Some sealing) records result.0 result.1 (λ how. place.entry ≡ None →
-        OnFront how (MakesTurns words.entry.turns (T.told timer.old) (T.told timer.new))) }
+        OnFront how (MakesTurns words.entry.turns (T.timer_events timer.old) (T.timer_events timer.new))) }
 {
     let wire = match sealed(rt, alloc, m, wire, sealing) {
         Ok(wire) => wire,
@@ -375,7 +375,7 @@ fn run_at<R: Records, T: Timer>(
     ensures turns { place.entry ≡ None → ComesTo R.Records m records result.0 result.1 }
     ensures ran { IsAlone R.Records m records result.0 result.1 ⊎
         RunsHere R.Records m sealing records result.0 result.1 (λ how. place.entry ≡ None →
-        OnFront how (MakesTurns words.entry.turns (T.told timer.old) (T.told timer.new))) }
+        OnFront how (MakesTurns words.entry.turns (T.timer_events timer.old) (T.timer_events timer.new))) }
 {
     match sealing {
         Some(sealing) => { run_with_key(rt, alloc, words, m, records, wire, sealing, timer, place) }
@@ -400,7 +400,7 @@ fn run_node<R: Records, T: Timer>(
     ensures turns { ComesTo R.Records m records result.0 result.1 }
     ensures ran { IsAlone R.Records m records result.0 result.1 ⊎
         RunsHere R.Records m sealing records result.0 result.1 (λ how.
-        OnFront how (MakesTurns words.entry.turns (T.told timer.old) (T.told timer.new))) }
+        OnFront how (MakesTurns words.entry.turns (T.timer_events timer.old) (T.timer_events timer.new))) }
 {
     let wire = bind(rt, alloc, words);
     run_at(rt, alloc, words, m, records, wire, sealing, timer, None)
@@ -505,7 +505,7 @@ fn run_member_in<R: Records, T: Timer>(
     ensures turns { words.entry.control ≡ None → ComesTo R.Records m records result.0 result.1 }
     ensures ran { IsUnrun R.Records m records result.0 result.1 ⊎
         RunsHere R.Records m sealing records result.0 result.1 (λ how. words.entry.control ≡ None →
-        OnFront how (MakesTurns words.entry.turns (T.told timer.old) (T.told timer.new))) }
+        OnFront how (MakesTurns words.entry.turns (T.timer_events timer.old) (T.timer_events timer.new))) }
 {
     match words.control {
         Some(path) => run_with_control(rt, alloc, words, path, m, records, sealing, timer),

@@ -47,7 +47,7 @@ fn identity_of(m: Membership) -> Identity
 }
 
 /// The record in a store: that of the rows that are there.
-fn taken<S: Alter + Drop>(
+fn adopted<S: Alter + Drop>(
     alloc: Global,
     conn: Connection<S>,
     identity: Identity,
@@ -90,7 +90,7 @@ pub fn show_store<S: Alter + Drop>(
         Ok(m) => m,
         Err(closed) => return Err(closed),
     };
-    let records = match taken(alloc, conn, identity_of(m)) {
+    let records = match adopted(alloc, conn, identity_of(m)) {
         Ok(records) => records,
         Err(closed) => return Err(closed),
     };

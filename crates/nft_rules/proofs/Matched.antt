@@ -37,7 +37,7 @@ use Rattle.nft_rules.specs.Subset.{Side, Source, Destination, Where, From, InSet
 use Rattle.nft_rules.specs.Cuts.{is_within, address, top, first_of, last_of}
 use Rattle.nft_rules.specs.Evaluation.{holds, turned, in_place, address_at, port_at, masked, flags_masked}
 use Rattle.nft_rules.specs.Alternatives.{both}
-use Rattle.nft_rules.specs.Rendering.{Machine, always, groups_in, names_of, names_in, known, interfaces_with, direction_alternatives, family_alternatives, protocol_alternatives, type_alternatives, masked_by, flag_alternatives, on_some, is_meant, interface_alternatives}
+use Rattle.nft_rules.specs.Rendering.{Machine, always, groups_in, names_of, names_in, known, interfaces_with, direction_alternatives, family_alternatives, protocol_alternatives, type_alternatives, masked_by, flag_alternatives, on_some, is_matched, interface_alternatives}
 use Rattle.nft_rules.specs.Rendering.{PortSpan, port_span, on_ports, port_alternatives, place_of, of_place, off_place, host_alternatives, such_alternatives, end_alternatives, alternatives, sets_of}
 use Rattle.nft_rules.specs.Deciding.{IsPacketOn}
 use Rattle.nft_rules.proofs.Cutting.{elements_hold, agree_in}
@@ -156,7 +156,7 @@ interface_holds : (sets : List NamedSet) (m : Machine) (k : PacketValue) (o : Op
     any_holds sets k (interface_alternatives m o) ≡ if_set (on_interface k) o
 unfolding on_interface
 interface_holds sets m k None h = refl
-interface_holds sets m k (Some i) h = on_passing sets m k (is_meant i) h
+interface_holds sets m k (Some i) h = on_passing sets m k (is_matched i) h
 
 -- ---- ports
 

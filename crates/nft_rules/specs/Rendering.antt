@@ -126,14 +126,14 @@ on_some [] = []
 on_some (n ∷ ns) = only_tests (OnInterface (n ∷ ns) false ∷ []) ∷ []
 
 -- one of the names is the interface's, or, negated, none
-abbrev pub is_meant : Interface → List Name → Bool
-is_meant i names = turned i.negated (list_any (λ n. bytes_eq n i.name) names)
+abbrev pub is_matched : Interface → List Name → Bool
+is_matched i names = turned i.negated (list_any (λ n. bytes_eq n i.name) names)
 
 -- the packet is on one of the machine's interfaces that the rule means, no alternative where it means none of them;
 -- where the rule names no interface nothing is asked
 abbrev pub interface_alternatives : Machine → Option Interface → List Alternative
 interface_alternatives m None = always ∷ []
-interface_alternatives m (Some i) = on_some (interfaces_with (is_meant i) m)
+interface_alternatives m (Some i) = on_some (interfaces_with (is_matched i) m)
 
 -- ---- ports
 

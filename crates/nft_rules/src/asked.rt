@@ -11,7 +11,7 @@ ghost use Rattle.nft_rules.specs.inner.Asked.{alternative_of};
 
 use crate::alternative::{Alternative, Protocol, both};
 use crate::hosts::host_alternatives;
-use crate::machine::{MachineInterface, interfaces_meant};
+use crate::machine::{MachineInterface, interfaces_matched};
 use crate::subset::{Match, Side};
 use pf_addr::Family;
 use pf_config::Config;
@@ -173,7 +173,7 @@ fn interface_alternatives<'c>(
 {
     match wanted {
         None => always(alloc),
-        Some(interface) => on_some(alloc, interfaces_meant(alloc, machine, interface)?),
+        Some(interface) => on_some(alloc, interfaces_matched(alloc, machine, interface)?),
     }
 }
 

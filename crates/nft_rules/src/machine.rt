@@ -4,7 +4,7 @@ ghost use Rattle.std.specs.Prelude.{◌≡◌, ◌≤◌, IfOk, length, map, opt
 ghost use Rattle.std.specs.List.{list_any};
 ghost use Rattle.std.specs.Str.{bytes_eq};
 ghost use Rattle.pf_eval.specs.Packets.{without_digits};
-ghost use Rattle.nft_rules.specs.Rendering.{groups_in, names_of, names_in, interfaces_with, is_meant, is_skipped};
+ghost use Rattle.nft_rules.specs.Rendering.{groups_in, names_of, names_in, interfaces_with, is_matched, is_skipped};
 ghost use Rattle.nft_rules.specs.Seen.{machine_of};
 
 use pf_rules::{Interface, InterfaceName};
@@ -76,8 +76,8 @@ fn is_named(machine: &[MachineInterface], interface: &InterfaceName, name: &[u8]
 }
 
 /// Whether a rule on this interface, group or stem, or on what isn't, is meant for the machine's interface.
-fn is_meant(machine: &[MachineInterface], interface: &InterfaceName, wanted: &Interface) -> bool
-    ensures { result ≡ is_meant wanted.now (names_in (machine_of machine.now) interface.now) }
+fn is_matched(machine: &[MachineInterface], interface: &InterfaceName, wanted: &Interface) -> bool
+    ensures { result ≡ is_matched wanted.now (names_in (machine_of machine.now) interface.now) }
 {
     let found = is_named(machine, interface, wanted.name.as_bytes());
     if wanted.negated { !found } else { found }
@@ -101,16 +101,16 @@ fn is_skipped(
 }
 
 /// The machine's interfaces for which a rule on this one is meant.
-pub(crate) fn interfaces_meant(
+pub(crate) fn interfaces_matched(
     alloc: Global,
     machine: &[MachineInterface],
     wanted: &Interface,
 ) -> Result<Vec<InterfaceName>, AllocError>
-    ensures { IfOk result (λ v. v.items ≡ interfaces_with (is_meant wanted.now) (machine_of machine.now)) }
+    ensures { IfOk result (λ v. v.items ≡ interfaces_with (is_matched wanted.now) (machine_of machine.now)) }
 {
     let mut names = Vec::new(alloc);
     for interface in machine {
-        if is_meant(machine, &interface.name, wanted) {
+        if is_matched(machine, &interface.name, wanted) {
             names.push(interface.name.copied())?;
         }
     }

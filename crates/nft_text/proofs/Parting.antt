@@ -6,10 +6,10 @@ use Rattle.pf_addr.specs.declared.addr.Family.{Family}
 use Rattle.nft_rules.specs.declared.subset.Interval.{Interval}
 use Rattle.nft_text.specs.Texts.{element_text, elements_text}
 
-pub first_taken : {A B : Type 0} (f : A → B) (n : ℕ) (xs : List A) → map f (take n xs) ≡ take n (map f xs)
-first_taken f zero xs = refl
-first_taken f (suc n) [] = refl
-first_taken f (suc n) (x ∷ xs) = ap (λ ys. f x ∷ ys) (first_taken f n xs)
+pub front_mapped : {A B : Type 0} (f : A → B) (n : ℕ) (xs : List A) → map f (take n xs) ≡ take n (map f xs)
+front_mapped f zero xs = refl
+front_mapped f (suc n) [] = refl
+front_mapped f (suc n) (x ∷ xs) = ap (λ ys. f x ∷ ys) (front_mapped f n xs)
 
 pub first_dropped : {A B : Type 0} (f : A → B) (n : ℕ) (xs : List A) → map f (drop n xs) ≡ drop n (map f xs)
 first_dropped f zero xs = refl
@@ -17,7 +17,7 @@ first_dropped f (suc n) [] = refl
 first_dropped f (suc n) (x ∷ xs) = first_dropped f n xs
 
 -- what the code uses
-pub ruleset parted = (first_taken, first_dropped)
+pub ruleset parted = (front_mapped, first_dropped)
 
 pub some_elements : (f : Family) (is : List Interval) → (is ≡ [] → ⊥) → codes "elements = { " ++ (flat_map (element_text f) is ++ codes "}; ") ≡ elements_text f is
 some_elements f [] h = absurd (h refl)

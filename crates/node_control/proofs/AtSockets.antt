@@ -8,7 +8,7 @@ use Rattle.px_model.specs.World.{NodeState, started}
 use Rattle.px_records.specs.declared.records.Records.{Ghosts}
 use Rattle.px_wire.specs.Message.{Group, group}
 use Rattle.px_wire.specs.declared.membership.Membership.{Membership}
-use Rattle.px_replica.specs.Lives.{Deed}
+use Rattle.px_replica.specs.Lives.{TraceEvent}
 use Rattle.px_transport.specs.Identities.{Identity, with_me}
 use Rattle.px_transport.specs.Loopback as loopback
 use Rattle.px_transport.specs.Loopback.{Looped}
@@ -20,7 +20,7 @@ use Rattle.px_transport.specs.Wiring.{WentSealed}
 use Rattle.px_transport.specs.declared.loopback.LoopbackWire.{LoopbackWire}
 use Rattle.px_transport.specs.declared.packet_wire.PacketWire.{PacketWire}
 use Rattle.node_loop.specs.Lives.{HostedRuns, HostedRunsAreLived, LivedOver}
-use Rattle.node_loop.specs.Living.{deeds_of}
+use Rattle.node_loop.specs.Living.{trace_of}
 use Rattle.node_loop.specs.declared.ended.Ended.{Ended}
 use Rattle.node_udp.specs.Members.{peers_of, me_of, socket_of}
 use Rattle.node_udp.specs.Sockets as sockets
@@ -31,22 +31,22 @@ use Rattle.node_control.specs.Sockets.{Ran, RanAbove, RanAt, RanSealed, Leaves, 
 use Rattle.node_control.specs.inner.Looping.{WentLooped}
 
 -- a run that handed over all
-abbrev AllRan : (g : Group) (m : ℕ) (first : Record Bytes) (es : List WireEvent) (deeds : List Deed) (end : NodeState Bytes)
+abbrev AllRan : (g : Group) (m : ℕ) (first : Record Bytes) (es : List WireEvent) (trace : List TraceEvent) (end : NodeState Bytes)
     (unanswered : List Bytes) → Type 0
-AllRan g m first es deeds end unanswered = (r : Ran g m first es deeds end unanswered) × (r.lost ≡ [])
+AllRan g m first es trace end unanswered = (r : Ran g m first es trace end unanswered) × (r.lost ≡ [])
 
-abbrev AllRanAbove : (g : Group) (m : ℕ) (first : Record Bytes) (es : List WireEvent) (deeds : List Deed) (end : NodeState Bytes)
+abbrev AllRanAbove : (g : Group) (m : ℕ) (first : Record Bytes) (es : List WireEvent) (trace : List TraceEvent) (end : NodeState Bytes)
     (unanswered : List Bytes) → Type 0
-AllRanAbove g m first es deeds end unanswered = (r : RanAbove g m first es deeds end unanswered) × (r.ran.lost ≡ [])
+AllRanAbove g m first es trace end unanswered = (r : RanAbove g m first es trace end unanswered) × (r.ran.lost ≡ [])
 
 abbrev AllRanSealed : (g : Group) (keys : List (List ℕ)) (s : Sealer) (m : ℕ) (first : Record Bytes) (es : List SocketEvent)
-    (deeds : List Deed) (end : NodeState Bytes) (unanswered : List Bytes) → Type 0
-AllRanSealed g keys s m first es deeds end unanswered =
-    (r : RanSealed g keys s m first es deeds end unanswered) × (r.ran.ran.lost ≡ [])
+    (trace : List TraceEvent) (end : NodeState Bytes) (unanswered : List Bytes) → Type 0
+AllRanSealed g keys s m first es trace end unanswered =
+    (r : RanSealed g keys s m first es trace end unanswered) × (r.ran.ran.lost ≡ [])
 
 -- what a run lived, a member ran
 ran : {R : Type 0} (G : Ghosts R) (m : Membership) (given back : R) (es : List WireEvent) (l : LivedOver G m given back [] es) →
-    AllRan (group m) m.me (G.stored given) es (deeds_of l.moves) l.then (given_in l.last)
+    AllRan (group m) m.me (G.stored given) es (trace_of l.moves) l.then (given_in l.last)
 ran G m given back es l = (
   record {
     moves = l.moves;
@@ -90,24 +90,24 @@ Settles {R} G =
 
 -- a run over a record, over some wire: what happened to the member, and how its record stands
 record RunsOver {R : Type 0} (G : Ghosts R) (m : Membership) (given back : R) (es : List WireEvent) : Type 0 where
-  pub deeds : List Deed
+  pub trace : List TraceEvent
   pub end : NodeState Bytes
   pub unanswered : List Bytes
-  pub ran : AllRan (group m) m.me (G.stored given) es deeds end unanswered
+  pub ran : AllRan (group m) m.me (G.stored given) es trace end unanswered
   pub leaves : Leaves G m back end unanswered
 
 runs_over : {R : Type 0} (G : Ghosts R) → Settles G → HostedRunsAreLived G → (m : Membership) (given back : R) (es : List WireEvent)
     (ended : Ended) → G.is_honest back → G.failed given ≡ 0 → HostedRuns G m given [] es ended back → RunsOver G m given back es
 runs_over G settles law m given back es ended honest fresh (inr life) =
     let l = law m given back [] es ended honest life in record {
-      deeds = deeds_of l.moves;
+      trace = trace_of l.moves;
       end = l.then;
       unanswered = given_in l.last;
       ran = ran G m given back es l;
       leaves = record { stays = l.stays; stop = l.stop };
     }
 runs_over G settles law m given back es ended honest fresh (inl (e, is, refused, same)) = record {
-  deeds = [];
+  trace = [];
   end = started (G.stored given);
   unanswered = [];
   ran = idle (group m) m.me (G.stored given) es same;
@@ -120,11 +120,11 @@ runs_over G settles law m given back es ended honest fresh (inl (e, is, refused,
 
 -- the same over the wire below
 above : {W : Type 0} (g : Group) (m : ℕ) (first : Record Bytes) (below : List WireEvent → Type 0) (w : LoopbackWire W)
-    (es : List WireEvent) (deeds : List Deed) (end : NodeState Bytes) (unanswered : List Bytes) (looped : Looped below w es) →
-    loopback.me_of w ≡ m → AllRan g m first es deeds end unanswered →
-    AllRanAbove g m first (loopback.below_in looped.loops) deeds end unanswered
-above g m first below w es deeds end unanswered looped me r =
-    let own = subst (λ (fs : List WireEvent). AllRan g m first fs deeds end unanswered)
+    (es : List WireEvent) (trace : List TraceEvent) (end : NodeState Bytes) (unanswered : List Bytes) (looped : Looped below w es) →
+    loopback.me_of w ≡ m → AllRan g m first es trace end unanswered →
+    AllRanAbove g m first (loopback.below_in looped.loops) trace end unanswered
+above g m first below w es trace end unanswered looped me r =
+    let own = subst (λ (fs : List WireEvent). AllRan g m first fs trace end unanswered)
     (looped.above_is ∙ ap (λ (k : ℕ). loopback.above_in k looped.loops) me) r in (
       record {
         loops = looped.loops;
@@ -144,13 +144,13 @@ pub runs_at : {R S C : Type 0} (G : Ghosts R) (H : socket.Ghosts S) → Settles 
 runs_at {R} {S} {C} G H settles law m given back ended wire honest fresh (w, es, is, me, looped, hosted) =
     let r = runs_over G settles law m given back es ended honest fresh hosted in
     let o = looped.below_is in
-    let own = subst (λ (fs : List WireEvent). AllRanAbove (group m) m.me (G.stored given) fs r.deeds r.end r.unanswered) o.above_is
+    let own = subst (λ (fs : List WireEvent). AllRanAbove (group m) m.me (G.stored given) fs r.trace r.end r.unanswered) o.above_is
     (above (group m) m.me (G.stored given) (WentOver (H.traffic (socket_of (loopback.below_of w))) (loopback.below_of w)) w es
-    r.deeds r.end r.unanswered looped me r.ran) in (
+    r.trace r.end r.unanswered looped me r.ran) in (
       sockets.below_in o.passages,
       subst (λ (u : UdpWire S C). H.traffic (socket_of u) (sockets.below_in o.passages)) is o.below_is,
       record {
-        deeds = r.deeds;
+        trace = r.trace;
         end = r.end;
         unanswered = r.unanswered;
         ran = record {
@@ -180,11 +180,11 @@ runs_sealed {R} {S} {C} {D} G H settles are_steps law m given back ended wire ho
     let o = sealed.state_is.traffic_is in
     let events = sockets.below_in o.passages in
     let made = are_steps (wiring.keys_of p) (wiring.sealer_of p) sealed.calls sealed.state (loopback.below_in looped.loops) sealed.made in
-    let own = subst (λ (fs : List WireEvent). AllRanAbove (group m) m.me (G.stored given) fs r.deeds r.end r.unanswered) (sym made.2)
+    let own = subst (λ (fs : List WireEvent). AllRanAbove (group m) m.me (G.stored given) fs r.trace r.end r.unanswered) (sym made.2)
     (above (group m) m.me (G.stored given) (WentSealed (WentOver (H.traffic (socket_of (wiring.inner_of p))) (wiring.inner_of p)) p)
-    w es r.deeds r.end r.unanswered looped me r.ran) in
+    w es r.trace r.end r.unanswered looped me r.ran) in
     let all = subst (λ (u : PacketWire (UdpWire S C) D). AllRanSealed (group m) (wiring.keys_of u) (wiring.sealer_of u) m.me (G.stored given)
-    events r.deeds r.end r.unanswered) is (
+    events r.trace r.end r.unanswered) is (
       record {
         addresses = peers_of (wiring.inner_of p);
         me = me_of (wiring.inner_of p);
@@ -201,7 +201,7 @@ runs_sealed {R} {S} {C} {D} G H settles are_steps law m given back ended wire ho
       events,
       subst (λ (u : PacketWire (UdpWire S C) D). H.traffic (socket_of (wiring.inner_of u)) events) is o.below_is,
       record {
-        deeds = r.deeds;
+        trace = r.trace;
         end = r.end;
         unanswered = r.unanswered;
         ran = all.0;

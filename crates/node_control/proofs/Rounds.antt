@@ -83,13 +83,13 @@ pub hosts : {R : Type 0} {G : Ghosts R} (x y s t : Node R G) (w v : List WireEve
     kept_of first.resender ≡ [] → requests_of first.resender ≡ [] → first.hears_asks ≡ hears →
     Hosted (standing x w first) (standing y v last) a → Tells (front (learned_by t)) (applied_of t) a ended →
     Hosts s t w v ended
-hosts {R} {G} x y s t w v first last hears a ended e f k q h hosted told = record {
+hosts {R} {G} x y s t w v first last hears a ended e f k q h hosted reported = record {
   answered = a;
   hears = hears;
   buffers = left_in last;
   hosted = subst (λ (p : Stand G). Hosted p (standing t v last) a) (begins x s w first hears e k q h)
       (subst (λ (n : Node R G). Hosted (standing x w first) (standing n v last) a) (sym f) hosted);
-  told = tells (front (learned_by t)) (applied_of t) a ended told;
+  reported = tells (front (learned_by t)) (applied_of t) a ended reported;
 }
 
 pub serves : {R : Type 0} {G : Ghosts R} (x y s t : Node R G) (w v : List WireEvent) (first last : Room) (hears : Bool)
@@ -97,13 +97,13 @@ pub serves : {R : Type 0} {G : Ghosts R} (x y s t : Node R G) (w v : List WireEv
     kept_of first.resender ≡ [] → requests_of first.resender ≡ [] → first.hears_asks ≡ hears →
     Served (standing x w first) (standing y v last) a → Tells (front (learned_by t)) (applied_of t) a ended →
     Serves s t w v ended
-serves {R} {G} x y s t w v first last hears a ended e f k q h served told = record {
+serves {R} {G} x y s t w v first last hears a ended e f k q h served reported = record {
   answered = a;
   hears = hears;
   buffers = left_in last;
   served = subst (λ (p : Stand G). Served p (standing t v last) a) (begins x s w first hears e k q h)
       (subst (λ (n : Node R G). Served (standing x w first) (standing n v last) a) (sym f) served);
-  told = told;
+  reported = reported;
 }
 
 -- there is no control socket
@@ -122,9 +122,9 @@ on_ok (Err e) f a = tt
 
 -- all turns were made where none ended with a fault
 pub on_front : {P : Type 0} (A : Type 0) (n applied : ℕ) (r : Result P NodeFault) (ended : Ended) → Tells n applied (fault_of r) ended → OnOk r A → OnFront ended A
-on_front A n applied (Ok p) (Front m k) told a = a
-on_front A n applied (Ok p) (Fault e) told a = tt
-on_front A n applied (Ok p) NoWire told a = tt
-on_front A n applied (Ok p) NoControlSocket told a = tt
-on_front A n applied (Ok p) NoPort told a = tt
-on_front A n applied (Err e) ended told a = subst (λ (x : Ended). OnFront x A) (sym told) tt
+on_front A n applied (Ok p) (Front m k) reported a = a
+on_front A n applied (Ok p) (Fault e) reported a = tt
+on_front A n applied (Ok p) NoWire reported a = tt
+on_front A n applied (Ok p) NoControlSocket reported a = tt
+on_front A n applied (Ok p) NoPort reported a = tt
+on_front A n applied (Err e) ended reported a = subst (λ (x : Ended). OnFront x A) (sym reported) tt

@@ -7,7 +7,7 @@ use Rattle.px_model.specs.World.{NodeState, started}
 use Rattle.px_records.specs.declared.records.Records.{Ghosts}
 use Rattle.px_wire.specs.Message.{Group, group}
 use Rattle.px_wire.specs.declared.membership.Membership.{Membership}
-use Rattle.px_replica.specs.Lives.{Deed, Lived}
+use Rattle.px_replica.specs.Lives.{TraceEvent, Lived}
 use Rattle.px_transport.specs.Wires.{WireEvent, given_in, handed_in, hands}
 use Rattle.px_transport.specs.Loopback as loopback
 use Rattle.px_transport.specs.Loopback.{Loop, IsQueue}
@@ -15,7 +15,7 @@ use Rattle.px_transport.specs.Sending.{Sealer}
 use Rattle.px_transport.specs.Steps as steps
 use Rattle.px_transport.specs.Steps.{Step, AreSteps}
 use Rattle.node_loop.specs.Again.{AreAmong}
-use Rattle.node_loop.specs.Living.{Move, LeavesThere, deeds_of, events_of, sent_by, AreMoves}
+use Rattle.node_loop.specs.Living.{Move, LeavesThere, trace_of, events_of, sent_by, AreMoves}
 use Rattle.node_udp.specs.Sockets as sockets
 use Rattle.node_udp.specs.Sockets.{SocketEvent, Passage, IsSound}
 use Rattle.node_udp.specs.declared.address.Address.{Address}
@@ -29,11 +29,11 @@ use Rattle.node_udp.specs.declared.address.Address.{Address}
 -- a datagram of which some packets were put is taken, and its other packets are no steps; one that the wire wasn't
 -- handed yet is lost here; and what the wire kept of the member's own is what it keeps then. A packet that came when
 -- nothing was made of it yet is given, and unanswered.
-pub record Ran (g : Group) (m : ℕ) (first : Record Bytes) (events : List WireEvent) (deeds : List Deed)
+pub record Ran (g : Group) (m : ℕ) (first : Record Bytes) (events : List WireEvent) (trace : List TraceEvent)
     (end : NodeState Bytes) (unanswered : List Bytes) : Type 0 where
   pub moves : List Move
-  pub does : deeds ≡ deeds_of moves
-  pub lived : Lived g m (started first) (deeds_of moves) end
+  pub does : trace ≡ trace_of moves
+  pub lived : Lived g m (started first) (trace_of moves) end
   pub up : end.is_up ≡ true
   pub hears : Bool
   pub are : AreMoves g m hears moves [] []
@@ -42,30 +42,30 @@ pub record Ran (g : Group) (m : ℕ) (first : Record Bytes) (events : List WireE
   -- what was still to be handed over when it stopped
   pub lost : List (ℕ × Bytes)
   pub went : events ++ hands lost ≡ events_of moves ++ last
-  pub again : AreAmong (handed_in last) (sent_by (deeds_of moves))
+  pub again : AreAmong (handed_in last) (sent_by (trace_of moves))
 
 -- The same over a wire that keeps what the member sends to itself: this went over the wire below.
-pub record RanAbove (g : Group) (m : ℕ) (first : Record Bytes) (events : List WireEvent) (deeds : List Deed)
+pub record RanAbove (g : Group) (m : ℕ) (first : Record Bytes) (events : List WireEvent) (trace : List TraceEvent)
     (end : NodeState Bytes) (unanswered : List Bytes) : Type 0 where
   pub loops : List Loop
   pub kept : List Bytes
   pub queue : IsQueue loops [] kept
   pub below_is : events ≡ loopback.below_in loops
-  pub ran : Ran g m first (loopback.above_in m loops) deeds end unanswered
+  pub ran : Ran g m first (loopback.above_in m loops) trace end unanswered
 
 -- The same over a wire with a socket, without a key: this went over the socket.
-pub record RanAt (g : Group) (m : ℕ) (first : Record Bytes) (events : List SocketEvent) (deeds : List Deed)
+pub record RanAt (g : Group) (m : ℕ) (first : Record Bytes) (events : List SocketEvent) (trace : List TraceEvent)
     (end : NodeState Bytes) (unanswered : List Bytes) : Type 0 where
   pub addresses : List Address
   pub me : ℕ
   pub passages : List Passage
   pub sound : AllByRecursion (IsSound addresses me) passages
   pub below_is : events ≡ sockets.below_in passages
-  pub ran : RanAbove g m first (sockets.above_in passages) deeds end unanswered
+  pub ran : RanAbove g m first (sockets.above_in passages) trace end unanswered
 
 -- The same with a key, over a wire of packets that are opened with these keys and sealed so: this went over the socket.
 pub record RanSealed (g : Group) (keys : List (List ℕ)) (s : Sealer) (m : ℕ) (first : Record Bytes)
-    (events : List SocketEvent) (deeds : List Deed) (end : NodeState Bytes) (unanswered : List Bytes) : Type 0 where
+    (events : List SocketEvent) (trace : List TraceEvent) (end : NodeState Bytes) (unanswered : List Bytes) : Type 0 where
   pub addresses : List Address
   pub me : ℕ
   pub passages : List Passage
@@ -74,7 +74,7 @@ pub record RanSealed (g : Group) (keys : List (List ℕ)) (s : Sealer) (m : ℕ)
   pub made : List Step
   pub packets_are : steps.below_in made ≡ sockets.above_in passages
   pub are : AreSteps keys s made []
-  pub ran : RanAbove g m first (steps.above_in made) deeds end unanswered
+  pub ran : RanAbove g m first (steps.above_in made) trace end unanswered
 
 -- How the member's record stands after what happened to it: so, unless a call on it failed; and whatever a stop leaves
 -- of it is that, or that with the change of one step more.
@@ -86,19 +86,19 @@ pub record Leaves {R : Type 0} (G : Ghosts R) (m : Membership) (back : R) (end :
 -- A run over a record, without a key, that ended: what went over its socket. All was handed over.
 pub record RunsAt {R : Type 0} (G : Ghosts R) (m : Membership) (given back : R) (events : List SocketEvent) :
     Type 0 where
-  pub deeds : List Deed
+  pub trace : List TraceEvent
   pub end : NodeState Bytes
   pub unanswered : List Bytes
-  pub ran : RanAt (group m) m.me (G.stored given) events deeds end unanswered
+  pub ran : RanAt (group m) m.me (G.stored given) events trace end unanswered
   pub whole : ran.ran.ran.lost ≡ []
   pub leaves : Leaves G m back end unanswered
 
 -- the same with a key
 pub record RunsSealed {R : Type 0} (G : Ghosts R) (m : Membership) (keys : List (List ℕ)) (s : Sealer)
     (given back : R) (events : List SocketEvent) : Type 0 where
-  pub deeds : List Deed
+  pub trace : List TraceEvent
   pub end : NodeState Bytes
   pub unanswered : List Bytes
-  pub ran : RanSealed (group m) keys s m.me (G.stored given) events deeds end unanswered
+  pub ran : RanSealed (group m) keys s m.me (G.stored given) events trace end unanswered
   pub whole : ran.ran.ran.lost ≡ []
   pub leaves : Leaves G m back end unanswered

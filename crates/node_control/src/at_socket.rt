@@ -48,7 +48,7 @@ where
     ensures turns { place.entry ≡ None → W.traffic wire [] → WentLooped W.traffic m.me result.2
         (λ es. Runs R.Records m records [] es result.0 result.1) }
     ensures made { place.entry ≡ None →
-        OnFront result.0 (MakesTurns turns (T.told timer.old) (T.told timer.new)) }
+        OnFront result.0 (MakesTurns turns (T.timer_events timer.old) (T.timer_events timer.new)) }
     ensures same { (W.identity result.2).sealing ≡ (W.identity wire).sealing }
 {
     let mut wire = LoopbackWire::new(alloc, wire, m.me());
@@ -87,7 +87,7 @@ where
     ensures turns { place.entry ≡ None → WentOver (S.traffic (socket_of wire)) wire [] → (events : List WireEvent) ×
         Runs R.Records m records [] events result.0 result.1 }
     ensures made { place.entry ≡ None →
-        OnFront result.0 (MakesTurns turns (T.told timer.old) (T.told timer.new)) }
+        OnFront result.0 (MakesTurns turns (T.timer_events timer.old) (T.timer_events timer.new)) }
 {
     hosted_runs_are_lived::<R>();
     run_over(
@@ -125,7 +125,7 @@ where
         WentSealed (WentOver (S.traffic (socket_of (inner_of wire))) (inner_of wire)) wire [] →
         (events : List WireEvent) × Runs R.Records m records [] events result.0 result.1 }
     ensures made { place.entry ≡ None →
-        OnFront result.0 (MakesTurns turns (T.told timer.old) (T.told timer.new)) }
+        OnFront result.0 (MakesTurns turns (T.timer_events timer.old) (T.timer_events timer.new)) }
     ensures same { (keys_of result.2 ≡ keys_of wire) × (sealer_of result.2 ≡ sealer_of wire) }
 {
     calls_are_steps();

@@ -116,7 +116,7 @@ fn run_node<R: Records, W: Wire, T: Timer, RT: Clock + Eprint>(
     ensures turns { control.old ≡ None →
         Moves (W.traffic wire.old) (W.traffic wire.new) (λ es es'. Serves node result.1 es es' result.0) }
     ensures made { control.old ≡ None →
-        OnFront result.0 (MakesTurns turns (T.told timer.old) (T.told timer.new)) }
+        OnFront result.0 (MakesTurns turns (T.timer_events timer.old) (T.timer_events timer.new)) }
     ensures same { W.identity wire.new ≡ W.identity wire.old }
 {
     let Ok(counters) = observer.first_counters(alloc, members) else {
@@ -158,7 +158,7 @@ where
     ensures turns { place.entry ≡ None →
         Moves (W.traffic wire.old) (W.traffic wire.new) (λ es es'. Serves node result.1 es es' result.0) }
     ensures made { place.entry ≡ None →
-        OnFront result.0 (MakesTurns turns (T.told timer.old) (T.told timer.new)) }
+        OnFront result.0 (MakesTurns turns (T.timer_events timer.old) (T.timer_events timer.new)) }
     ensures same { W.identity wire.new ≡ W.identity wire.old }
 {
     let mut control = match open_at(rt, alloc, place) {
@@ -211,7 +211,7 @@ where
     ensures turns { place.entry ≡ None → Moves (W.traffic wire.old) (W.traffic wire.new)
         (λ es es'. Runs R.Records m records es es' result.0 result.1) }
     ensures made { place.entry ≡ None →
-        OnFront result.0 (MakesTurns turns (T.told timer.old) (T.told timer.new)) }
+        OnFront result.0 (MakesTurns turns (T.timer_events timer.old) (T.timer_events timer.new)) }
     ensures same { W.identity wire.new ≡ W.identity wire.old }
 {
     let node = match Node::open(alloc, m, records) {

@@ -173,7 +173,7 @@ fn first_rows(alloc: Global, m: Membership) -> Result<Vec<Row>, AllocError> {
 
 impl Row {
     /// What is reported of the member, at this time.
-    fn told(&self, now: u64) -> PeerCounters {
+    fn peer_counters(&self, now: u64) -> PeerCounters {
         let [_, _, shown] = self.earlier;
         PeerCounters {
             node: self.node,
@@ -235,7 +235,7 @@ impl Observer {
     {
         let mut peers = Vec::new(alloc);
         for row in &self.rows {
-            peers.push(row.told(0))?;
+            peers.push(row.peer_counters(0))?;
         }
         Ok(Counters {
             up: 0,
@@ -287,7 +287,7 @@ impl Observer {
     fn tell_peers(&self, peers: &mut Vec<PeerCounters>) {
         for i in 0..self.rows.len() {
             if let (Some(peer), Some(row)) = (peers.get_mut(i), self.rows.get(i)) {
-                *peer = row.told(self.now);
+                *peer = row.peer_counters(self.now);
             }
         }
     }
@@ -350,7 +350,7 @@ impl Observer {
     }
 
     /// Counts what went over the wire in a round.
-    fn count_round(&mut self, taken: usize, counts: &RoundCounts)
+    fn count_round(&mut self, datagrams: usize, counts: &RoundCounts)
         ensures round { (self.new.front ≡ self.old.front) × (self.new.now ≡ self.old.now) }
         ensures proposed { self.new.proposed ≡ self.old.proposed }
     {
@@ -359,7 +359,7 @@ impl Observer {
         self.dropped = self.dropped.saturating_add(u64::from(counts.dropped));
         let known = u64::from(counts.dropped)
             .saturating_add(u64::from(counts.answered))
-            .saturating_add(taken as u64);
+            .saturating_add(datagrams as u64);
         let ignored = u64::from(counts.came).saturating_sub(known);
         self.ignored = self.ignored.saturating_add(ignored);
         if counts.longest >= LARGE && !self.has_packets {

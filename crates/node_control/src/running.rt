@@ -65,7 +65,7 @@ fn pass<R: Records, W: Wire, T: Timer, RT: Clock + Eprint>(
         (λ es es'. Served (standing service.old.handler.node es room.old)
         (standing service.new.handler.node es' room.new) (fault_of result)) × (control.new ≡ None) }
     ensures few { IfOk result (λ turns. turns ≤ 65) }
-    ensures looks { OnOk result (LooksTimes 1 (T.told timer.old) (T.told timer.new)) }
+    ensures looks { OnOk result (LooksTimes 1 (T.timer_events timer.old) (T.timer_events timer.new)) }
     ensures same { W.identity wire.new ≡ W.identity wire.old }
 {
     observer.begin(
@@ -115,7 +115,7 @@ fn passes<R: Records, W: Wire, T: Timer, RT: Clock + Eprint>(
     ensures turns { control.old ≡ None → Moves (W.traffic wire.old) (W.traffic wire.new)
         (λ es es'. Served (standing service.old.handler.node es room.old)
         (standing service.new.handler.node es' room.new) (fault_of result)) × (control.new ≡ None) }
-    ensures made { control.old ≡ None → OnOk result (MakesTurns turns (T.told timer.old) (T.told timer.new)) }
+    ensures made { control.old ≡ None → OnOk result (MakesTurns turns (T.timer_events timer.old) (T.timer_events timer.new)) }
     ensures same { W.identity wire.new ≡ W.identity wire.old }
 {
     let mut left = turns;
@@ -157,7 +157,7 @@ pub(crate) fn pass_on<R: Records, W: Wire, T: Timer, RT: Clock + Eprint>(
     ensures turns { control.old ≡ None → Moves (W.traffic wire.old) (W.traffic wire.new)
         (λ es es'. Served (standing service.old.handler.node es room.old)
         (standing service.new.handler.node es' room.new) (fault_of result)) }
-    ensures made { control.old ≡ None → OnOk result (MakesTurns turns (T.told timer.old) (T.told timer.new)) }
+    ensures made { control.old ≡ None → OnOk result (MakesTurns turns (T.timer_events timer.old) (T.timer_events timer.new)) }
     ensures same { W.identity wire.new ≡ W.identity wire.old }
 {
     let start = Instant::now(rt).ok();

@@ -24,7 +24,7 @@ use Rattle.node_loop.specs.Resending.{IsKnown}
 use Rattle.node_loop.specs.Turns.{Acts, Stand, Turned, Ticked, TickedIf, Took, TookAll, TookThenTicked, Same, Turns, Ends, Served}
 use Rattle.node_loop.specs.Turns.{Resent, Passed, Between, IsIdle, IsKnownTo}
 use Rattle.node_loop.specs.Progress.{IsNobodys, Saw, SawOne, SawAll, looked}
-use Rattle.node_loop.specs.Timing.{Told, SawThenLooked, looks, sends_if, view_of}
+use Rattle.node_loop.specs.Timing.{TimerEvent, SawThenLooked, looks, sends_if, view_of}
 use Rattle.px_model.specs.Step.{front}
 use Rattle.px_replica.specs.Replicas.{learned_by}
 use Rattle.node_loop.specs.inner.Turns.{SawIf}
@@ -190,7 +190,7 @@ pub nobodys_still : {R : Type 0} {G : Ghosts R} (s t : Replica R G) (bytes : Byt
     Acts s t (Some bytes) out None → IsNobodys s bytes → t ≡ s
 nobodys_still s t bytes out (_, inl lost, e) u = lost.still
 nobodys_still s t bytes out (_, inr (inl passed), e) u = passed.still
-nobodys_still s t bytes out (_, inr (inr taken), e) u = absurd (u taken.sender (as_sent taken.message) taken.spelled)
+nobodys_still s t bytes out (_, inr (inr handled), e) u = absurd (u handled.sender (as_sent handled.message) handled.spelled)
 
 -- ---- what is seen as datagrams are taken
 
@@ -229,23 +229,23 @@ pub round_took : {R : Type 0} {G : Ghosts R} (n : ℕ) (d : Bool) (w x y z v : S
 round_took n d w x y z v s t a b c e = (n, d, then_ticked n d w x y z v s t a b c e)
 
 -- what a timer is given at a look
-pub looked_so : (a b c : List Told → Type 0) (now : ℕ) (v : View) (t : PeerProgress) (q : Bool) → t.is_accepting ≡ q →
-    Adds a b (Told.Looks now v ∷ []) → Adds b c (sends_if q now) → Adds a c (looks now v t)
+pub looked_so : (a b c : List TimerEvent → Type 0) (now : ℕ) (v : View) (t : PeerProgress) (q : Bool) → t.is_accepting ≡ q →
+    Adds a b (TimerEvent.Looks now v ∷ []) → Adds b c (sends_if q now) → Adds a c (looks now v t)
 looked_so a b c now v t q e g h =
-    adds_then a b c (Told.Looks now v ∷ []) (sends_if t.is_accepting now) g
+    adds_then a b c (TimerEvent.Looks now v ∷ []) (sends_if t.is_accepting now) g
     (subst (λ (p : Bool). Adds b c (sends_if p now)) (sym e) h)
 
 -- what is seen in it, and what the timer is given
 pub round_saw : {R : Type 0} {G : Ghosts R} (n now was : ℕ) (w x y : Stand G) (o s t u : PeerProgress) (v : View)
-    (a b c : List Told → Type 0) → Same w x → s ≡ o → SawAll n x y s t → u ≡ looked t → was ≡ front (learned_by w.replica) →
-    v ≡ view_of y.replica was t → Adds a b (looks now v t) → Adds b c (Told.Repeats now ∷ []) →
+    (a b c : List TimerEvent → Type 0) → Same w x → s ≡ o → SawAll n x y s t → u ≡ looked t → was ≡ front (learned_by w.replica) →
+    v ≡ view_of y.replica was t → Adds a b (looks now v t) → Adds b c (TimerEvent.Repeats now ∷ []) →
     SawThenLooked n now w o u a c
 round_saw {R} {G} n now was w x y o s t u v a b c same seen saw e f g d h = record {
   then = y;
   seen = t;
   saw = subst (λ (q : PeerProgress). SawAll n w y q t) seen (subst (λ (p : Stand G). SawAll n p y s t) (same_is w x same) saw);
   looked = e;
-  told =
+  timer_events =
       adds_then a b c _ _
       (subst (λ (q : ℕ). Adds a b (looks now (view_of y.replica q t) t)) f (subst (λ (q : View). Adds a b (looks now q t)) g d))
       h;

@@ -7,13 +7,13 @@ use Rattle.px_records.specs.declared.records.Records.{Ghosts}
 use Rattle.px_wire.specs.Message.{group}
 use Rattle.px_wire.specs.declared.membership.Membership.{Membership}
 use Rattle.px_replica.specs.Lives.{Lived}
-use Rattle.px_replica.specs.Lives.Deed.{Stops, Opens}
+use Rattle.px_replica.specs.Lives.TraceEvent.{Stops, Opens}
 use Rattle.px_replica.specs.declared.fault.NodeFault.{NodeFault}
 use Rattle.px_replica.specs.declared.fault.NodeFault.TheVariants as fault
 use Rattle.pf_node.specs.Nodes.{records_of, state_in}
 use Rattle.pf_node.specs.declared.state.Node.{Node}
 use Rattle.px_transport.specs.Wires.{WireEvent, given_in}
-use Rattle.node_loop.specs.Living.{deeds_of, AreMoves, LeavesThere, Living, TurnsAreLived, HostingsAreLived}
+use Rattle.node_loop.specs.Living.{trace_of, AreMoves, LeavesThere, Living, TurnsAreLived, HostingsAreLived}
 use Rattle.node_loop.proofs.Lives.{lived_then, served_before}
 use Rattle.node_loop.proofs.Hosting.{hosted_before}
 use Rattle.node_loop.specs.Lives.{Buffers, new_buffers, stands, Tells, Serves, Hosts, Life, LivedOver, RunsAreLived, HostedRunsAreLived, OneLife, RunsGoOn}
@@ -37,8 +37,8 @@ module _ {R : Type 0} (G : Ghosts R) (How : (s t : Node R G) → Type 0)
       record {
         moves = living.moves;
         then = living.then;
-        lived = subst (λ (b : NodeState Bytes). Lived (group m) m.me b (deeds_of living.moves) living.then) began
-            (subst (λ (n : Membership). Lived (group n) n.me (state_in l.begun) (deeds_of living.moves) living.then) l.membership living.lived);
+        lived = subst (λ (b : NodeState Bytes). Lived (group m) m.me b (trace_of living.moves) living.then) began
+            (subst (λ (n : Membership). Lived (group n) n.me (state_in l.begun) (trace_of living.moves) living.then) l.membership living.lived);
         up = living.up;
         hears = hears;
         are = subst (λ (n : Membership). AreMoves (group n) n.me hears living.moves [] []) l.membership living.are;
@@ -53,8 +53,8 @@ module _ {R : Type 0} (G : Ghosts R) (How : (s t : Node R G) → Type 0)
 
 -- a run that doesn't end with a fault of the store has none
 not_store : (n k : ℕ) (a : Option NodeFault) (ended : Ended) → Tells n k a ended → ended ≢ Fault fault.Store → a ≢ Some fault.Store
-not_store n k None ended told other h = absurd cc
-not_store n k (Some e) ended told other h = other (told ∙ ap (λ (o : Option NodeFault). Fault (of o)) h)
+not_store n k None ended reported other h = absurd cc
+not_store n k (Some e) ended reported other h = other (reported ∙ ap (λ (o : Option NodeFault). Fault (of o)) h)
   where
     of : Option NodeFault → NodeFault
     of None = fault.Store
@@ -68,7 +68,7 @@ runs_lived {R} G law m given back w v ended honest l =
     let at_end = subst (λ (r : R). G.is_honest r) l.closed honest in
     let lives = law (stands l.begun w (new_buffers s.hears)) (stands l.done v s.buffers) s.answered at_end l.works s.served in (
       life_lived G (λ x y. Serves x y w v ended) before m given back w v s.answered honest l s.hears s.buffers lives.0,
-      λ other. ap G.failed l.closed ∙ lives.1 (not_store _ _ s.answered ended s.told other),
+      λ other. ap G.failed l.closed ∙ lives.1 (not_store _ _ s.answered ended s.reported other),
     )
 
 pub hosted_runs_lived : {R : Type 0} (G : Ghosts R) → HostingsAreLived G → HostedRunsAreLived G
@@ -85,7 +85,7 @@ hosted_runs_lived {R} G law m given back w v ended honest l =
 one_life : {R : Type 0} (G : Ghosts R) (m : Membership) (given back : R) (es : List WireEvent) → LivedOver G m given back [] es →
     OneLife G m (G.stored given) back (es ∷ [])
 one_life G m given back es l = record {
-  deeds = deeds_of l.moves;
+  trace = trace_of l.moves;
   then = l.then;
   lived = l.lived;
   up = l.up;
@@ -104,12 +104,12 @@ next_life G m first back given end runs es a may b =
     let s = a.stop left may in
     let start = Stops s.0 left ∷ Opens ∷ [] in
     record {
-      deeds = a.deeds ++ (start ++ deeds_of b.moves);
+      trace = a.trace ++ (start ++ trace_of b.moves);
       then = b.then;
-      lived = lived_then g m.me (started first) a.then b.then a.deeds (start ++ deeds_of b.moves) a.lived (a.up, s.1, s.3, b.lived);
+      lived = lived_then g m.me (started first) a.then b.then a.trace (start ++ trace_of b.moves) a.lived (a.up, s.1, s.3, b.lived);
       up = b.up;
       last = b.last;
-      over = (a.deeds, a.last, start, b.hears, b.moves, a.over, inr (s.0, left, s.2, refl), b.are, b.went, b.again, refl);
+      over = (a.trace, a.last, start, b.hears, b.moves, a.over, inr (s.0, left, s.2, refl), b.are, b.went, b.again, refl);
       stays = b.stays;
       stop = b.stop;
     }

@@ -12,8 +12,8 @@ use Rattle.node_loop.specs.Lives.{new_buffers, stands, Tells, HostTells, Serves,
 use Rattle.node_loop.specs.declared.ended.Ended.{Ended}
 
 pub tells : (n k : ℕ) (answered : Option NodeFault) (ended : Ended) → Tells n k answered ended → HostTells n k answered ended
-tells n k None ended told = inl told
-tells n k (Some e) ended told = told
+tells n k None ended reported = inl reported
+tells n k (Some e) ended reported = reported
 
 pub serves : {R : Type 0} {G : Ghosts R} (s t : Node R G) (w v : List WireEvent) (ended : Ended) → Serves s t w v ended → Hosts s t w v ended
 serves s t w v ended k = record {
@@ -21,7 +21,7 @@ serves s t w v ended k = record {
   hears = k.hears;
   buffers = k.buffers;
   hosted = hosted_served (stands s w (new_buffers k.hears)) (stands t v k.buffers) k.answered k.served;
-  told = tells (front (learned_by t)) (applied_of t) k.answered ended k.told;
+  reported = tells (front (learned_by t)) (applied_of t) k.answered ended k.reported;
 }
 
 pub runs : {R : Type 0} (G : Ghosts R) (m : Membership) (given back : R) (w v : List WireEvent) (ended : Ended) →

@@ -14,13 +14,13 @@ use Rattle.px_model.proofs.Basics.{among_cases}
 use Rattle.px_wire.specs.Message.{group}
 use Rattle.px_wire.specs.declared.membership.Membership.{Membership}
 use Rattle.px_transport.specs.Wires.{WireEvent}
-use Rattle.px_replica.specs.Lives.{Deed, Lived}
+use Rattle.px_replica.specs.Lives.{TraceEvent, Lived}
 use Rattle.node_loop.specs.Again.{AreAmong}
 use Rattle.node_loop.proofs.Among.{among_is, among_then, among_front, among_none}
 use Rattle.node_loop.specs.Turns.{Stand, Same, IsIdle, Between, Served}
 use Rattle.node_loop.specs.Hosting.{AskedOnce, AskedTimes, Goes, Steps, Stops, Hosted}
-use Rattle.node_loop.specs.Living.{sent_by, LeavesThere, deeds_of, events_of, came_by, AreMoves, Living, HostingsAreLived}
-use Rattle.node_loop.proofs.Traffic.{none_brought, among_chain, among_nil, deeds_then, events_then, came_then, moves_then, idly, idle_deeds, idle_events, idle_moves}
+use Rattle.node_loop.specs.Living.{sent_by, LeavesThere, trace_of, events_of, came_by, AreMoves, Living, HostingsAreLived}
+use Rattle.node_loop.proofs.Traffic.{none_brought, among_chain, among_nil, trace_then, events_then, came_then, moves_then, idly, idle_trace, idle_events, idle_moves}
 use Rattle.node_loop.proofs.Chains.{same_is, idle_from, between_all, went_then}
 use Rattle.node_loop.proofs.Lives.{Led, called, idles_in, led_between, led_then, served_before, served_led, served_ended, Ended, failed_call, between_lost, broken_served, broken_between, ended_more, led_living, ended_living}
 
@@ -221,21 +221,21 @@ module _ {R : Type 0} (G : Ghosts R)
       (subst (λ (n : Membership). AreMoves (group n) n.me b.stood.hears_asks on b.stood.requests b.stood.kept) l.membership
       (idle_moves (group (membership_of b.stood.replica)) (membership_of b.stood.replica).me b.stood.hears_asks d.last b.stood.requests b.stood.kept
       (λ e n. idles_in b.stood e (b.idle e n)))) in
-      let same : deeds_of (l.moves ++ on) ≡ deeds_of l.moves =
-      deeds_then l.moves on ∙ ap (λ (ds : List Deed). deeds_of l.moves ++ ds) (idle_deeds d.last) ∙ append-nil (deeds_of l.moves) in
+      let same : trace_of (l.moves ++ on) ≡ trace_of l.moves =
+      trace_then l.moves on ∙ ap (λ (ds : List TraceEvent). trace_of l.moves ++ ds) (idle_trace d.last) ∙ append-nil (trace_of l.moves) in
       record {
         moves = l.moves ++ on;
         then = state_in b.stood.replica;
-        lived = subst (λ (ds : List Deed). Lived (group m) m.me (state_in x.replica) ds (state_in b.stood.replica)) (sym same) l.lived;
+        lived = subst (λ (ds : List TraceEvent). Lived (group m) m.me (state_in x.replica) ds (state_in b.stood.replica)) (sym same) l.lived;
         up = refl;
         are = moves_then (group m) m.me x.hears_asks l.moves on x.requests b.stood.requests x.kept b.stood.kept l.are still l.requests l.kept;
         last = [];
         went = went_then x.traffic b.stood.traffic z.traffic (events_of l.moves) d.last l.went d.went
             ∙ ap (λ (es : List WireEvent). x.traffic ++ (events_of l.moves ++ es)) (sym (idle_events d.last))
             ∙ ap (λ (es : List WireEvent). x.traffic ++ es) (sym (events_then l.moves on) ∙ sym (append-nil (events_of (l.moves ++ on))));
-        again = among_none (x.kept ++ sent_by (deeds_of (l.moves ++ on)));
-        kept = subst (λ (ds : List Deed). AreAmong z.kept (x.kept ++ sent_by ds)) (sym same)
-            (among_then z.kept b.stood.kept (x.kept ++ sent_by (deeds_of l.moves)) d.kept l.kept);
+        again = among_none (x.kept ++ sent_by (trace_of (l.moves ++ on)));
+        kept = subst (λ (ds : List TraceEvent). AreAmong z.kept (x.kept ++ sent_by ds)) (sym same)
+            (among_then z.kept b.stood.kept (x.kept ++ sent_by (trace_of l.moves)) d.kept l.kept);
         requests = subst (λ (bs : List Bytes). AreAmong z.requests (x.requests ++ bs))
             (sym (append-nil (came_by (l.moves ++ on)) ∙ came_then l.moves on))
             (among_chain x.requests b.stood.requests z.requests (came_by l.moves) (came_by on) l.requests

@@ -14,8 +14,8 @@ use Rattle.px_wire.specs.Message.{Group, group}
 use Rattle.px_wire.specs.declared.membership.Membership.{Membership}
 use Rattle.px_replica.specs.Calls.{Call, Receives}
 use Rattle.px_replica.specs.Faults.{fault_of}
-use Rattle.px_replica.specs.Lives.{Deed, IsInput, Lived}
-use Rattle.px_replica.specs.Lives.Deed.{Calls, Stops, Opens}
+use Rattle.px_replica.specs.Lives.{TraceEvent, IsInput, Lived}
+use Rattle.px_replica.specs.Lives.TraceEvent.{Calls, Stops, Opens}
 use Rattle.px_replica.specs.Replicas.{records_of, membership_of, has_failed, state_in}
 use Rattle.px_replica.specs.declared.datagram.Datagram.{Datagram}
 use Rattle.px_replica.specs.declared.fault.NodeFault.{NodeFault}
@@ -27,13 +27,13 @@ use Rattle.node_loop.proofs.Among.{among_is, among_front, among_then, among_none
 use Rattle.node_loop.specs.Resending.{came_in}
 use Rattle.node_loop.specs.Turns.{Acts, Stand, IsIdle, Between, Turns, Ends, Served, handed_over}
 use Rattle.node_loop.specs.Living.{message_in, AreBrought, sent_by, LeavesThere, Living, TurnsAreLived}
-use Rattle.node_loop.specs.Living.{Move, Does, Passes, deeds_of, events_of, came_by, IsBrought, AreMoves}
-use Rattle.node_loop.proofs.Traffic.{sent_then, brought_more, none_brought, one_brought, among_chain, deeds_then, events_then, came_then, moves_then}
-use Rattle.node_loop.proofs.Traffic.{idly, idle_deeds, idle_events, Idles, idle_moves}
+use Rattle.node_loop.specs.Living.{Move, Does, Passes, trace_of, events_of, came_by, IsBrought, AreMoves}
+use Rattle.node_loop.proofs.Traffic.{sent_then, brought_more, none_brought, one_brought, among_chain, trace_then, events_then, came_then, moves_then}
+use Rattle.node_loop.proofs.Traffic.{idly, idle_trace, idle_events, Idles, idle_moves}
 use Rattle.node_loop.proofs.Chains.{between_then, went_then}
 
 -- one life behind the other
-pub lived_then : (g : Group) (me : ℕ) (s t u : NodeState Bytes) (xs ys : List Deed) → Lived g me s xs t → Lived g me t ys u →
+pub lived_then : (g : Group) (me : ℕ) (s t u : NodeState Bytes) (xs ys : List TraceEvent) → Lived g me s xs t → Lived g me t ys u →
     Lived g me s (xs ++ ys) u
 lived_then g me s t u [] ys a b = subst (λ (z : NodeState Bytes). Lived g me z ys u) a b
 lived_then g me s t u (Calls x w out ∷ xs) ys (up, input, makes, rest) b = (up, input, makes, lived_then g me w t u xs ys rest b)
@@ -43,10 +43,10 @@ lived_then g me s t u (Opens ∷ xs) ys rest b = lived_then g me _ t u xs ys res
 -- what calls without a fault lead to
 pub record Led {R : Type 0} {G : Ghosts R} (m : Membership) (x y : Stand G) : Type 0 where
   pub moves : List Move
-  pub lived : Lived (group m) m.me (state_in x.replica) (deeds_of moves) (state_in y.replica)
+  pub lived : Lived (group m) m.me (state_in x.replica) (trace_of moves) (state_in y.replica)
   pub are : AreMoves (group m) m.me x.hears_asks moves x.requests x.kept
   pub went : y.traffic ≡ x.traffic ++ events_of moves
-  pub kept : AreAmong y.kept (x.kept ++ sent_by (deeds_of moves))
+  pub kept : AreAmong y.kept (x.kept ++ sent_by (trace_of moves))
   pub requests : AreAmong y.requests (x.requests ++ came_by moves)
   pub hears : y.hears_asks ≡ x.hears_asks
   pub was : G.is_honest (records_of y.replica) → G.is_honest (records_of x.replica)
@@ -87,12 +87,12 @@ idles_in x (Handed to b) i = i
 pub led_between : {R : Type 0} {G : Ghosts R} (x y : Stand G) → Between x y → has_failed x.replica ≡ false → Led (membership_of x.replica) x y
 led_between {R} {G} x y b works = record {
   moves = idly b.events;
-  lived = subst (λ (ds : List Deed). Lived (group (membership_of x.replica)) (membership_of x.replica).me (state_in x.replica) ds (state_in y.replica))
-      (sym (idle_deeds b.events)) (ap (λ (z : Replica R G). state_in z) b.replica);
+  lived = subst (λ (ds : List TraceEvent). Lived (group (membership_of x.replica)) (membership_of x.replica).me (state_in x.replica) ds (state_in y.replica))
+      (sym (idle_trace b.events)) (ap (λ (z : Replica R G). state_in z) b.replica);
   are = idle_moves (group (membership_of x.replica)) (membership_of x.replica).me x.hears_asks b.events x.requests x.kept
       (λ e m. idles_in x e (b.idle e m));
   went = b.went ∙ ap (λ (es : List WireEvent). x.traffic ++ es) (sym (idle_events b.events));
-  kept = among_front y.kept x.kept (sent_by (deeds_of (idly b.events))) (among_is y.kept x.kept b.kept);
+  kept = among_front y.kept x.kept (sent_by (trace_of (idly b.events))) (among_is y.kept x.kept b.kept);
   requests = among_front y.requests x.requests (came_by (idly b.events)) (among_is y.requests x.requests b.requests);
   hears = b.hears;
   was = subst (λ (z : Replica R G). G.is_honest (records_of z) → G.is_honest (records_of x.replica)) (sym b.replica) (λ h. h);
@@ -119,9 +119,9 @@ received {R} {G} x y bytes out r works honest (inr (inl passed)) none went kept 
   works = ap (λ (z : Replica R G). has_failed z) passed.still ∙ works;
   membership = ap (λ (z : Replica R G). membership_of z) passed.still;
 }
-received {R} {G} x y bytes out r works honest (inr (inr taken)) none went kept requests hears =
-    called x y (Comes taken.sender taken.message) (Some bytes) out works honest taken.passes taken.spelled
-    (subst (λ (o : Option NodeFault). Call x.replica y.replica (Comes taken.sender taken.message) [] out o) none taken.call) went
+received {R} {G} x y bytes out r works honest (inr (inr handled)) none went kept requests hears =
+    called x y (Comes handled.sender handled.message) (Some bytes) out works honest handled.passes handled.spelled
+    (subst (λ (o : Option NodeFault). Call x.replica y.replica (Comes handled.sender handled.message) [] out o) none handled.call) went
     kept requests hears
 
 acted : {R : Type 0} {G : Ghosts R} (x y : Stand G) (came : Option Bytes) (out : List Datagram) → has_failed x.replica ≡ false →
@@ -133,26 +133,26 @@ acted x y None out works honest call went kept requests hears =
 acted x y (Some bytes) out works honest (r, receives, none) went kept requests hears =
     received x y bytes out r works honest receives none went kept requests hears
 
-sent_all : (ms ns : List Move) → sent_by (deeds_of (ms ++ ns)) ≡ sent_by (deeds_of ms) ++ sent_by (deeds_of ns)
-sent_all ms ns = ap sent_by (deeds_then ms ns) ∙ sent_then (deeds_of ms) (deeds_of ns)
+sent_all : (ms ns : List Move) → sent_by (trace_of (ms ++ ns)) ≡ sent_by (trace_of ms) ++ sent_by (trace_of ns)
+sent_all ms ns = ap sent_by (trace_then ms ns) ∙ sent_then (trace_of ms) (trace_of ns)
 
 -- one behind the other
 pub led_then : {R : Type 0} {G : Ghosts R} (m : Membership) (x y z : Stand G) → Led m x y → Led (membership_of y.replica) y z → Led m x z
 led_then {R} {G} m x y z a b =
-    let lived : Lived (group m) m.me (state_in y.replica) (deeds_of b.moves) (state_in z.replica) =
-    subst (λ (n : Membership). Lived (group n) n.me (state_in y.replica) (deeds_of b.moves) (state_in z.replica)) a.membership b.lived in
+    let lived : Lived (group m) m.me (state_in y.replica) (trace_of b.moves) (state_in z.replica) =
+    subst (λ (n : Membership). Lived (group n) n.me (state_in y.replica) (trace_of b.moves) (state_in z.replica)) a.membership b.lived in
     let are : AreMoves (group m) m.me x.hears_asks b.moves y.requests y.kept =
     subst (λ (h : Bool). AreMoves (group m) m.me h b.moves y.requests y.kept) a.hears
     (subst (λ (n : Membership). AreMoves (group n) n.me y.hears_asks b.moves y.requests y.kept) a.membership b.are) in
     record {
       moves = a.moves ++ b.moves;
-      lived = subst (λ (ds : List Deed). Lived (group m) m.me (state_in x.replica) ds (state_in z.replica)) (sym (deeds_then a.moves b.moves))
-          (lived_then (group m) m.me (state_in x.replica) (state_in y.replica) (state_in z.replica) (deeds_of a.moves) (deeds_of b.moves) a.lived lived);
+      lived = subst (λ (ds : List TraceEvent). Lived (group m) m.me (state_in x.replica) ds (state_in z.replica)) (sym (trace_then a.moves b.moves))
+          (lived_then (group m) m.me (state_in x.replica) (state_in y.replica) (state_in z.replica) (trace_of a.moves) (trace_of b.moves) a.lived lived);
       are = moves_then (group m) m.me x.hears_asks a.moves b.moves x.requests y.requests x.kept y.kept a.are are a.requests a.kept;
       went = went_then x.traffic y.traffic z.traffic (events_of a.moves) (events_of b.moves) a.went b.went
           ∙ ap (λ (es : List WireEvent). x.traffic ++ es) (sym (events_then a.moves b.moves));
       kept = subst (λ (ds : List (ℕ × Bytes)). AreAmong z.kept (x.kept ++ ds)) (sym (sent_all a.moves b.moves))
-          (among_chain x.kept y.kept z.kept (sent_by (deeds_of a.moves)) (sent_by (deeds_of b.moves)) a.kept b.kept);
+          (among_chain x.kept y.kept z.kept (sent_by (trace_of a.moves)) (sent_by (trace_of b.moves)) a.kept b.kept);
       requests = subst (λ (bs : List Bytes). AreAmong z.requests (x.requests ++ bs)) (sym (came_then a.moves b.moves))
           (among_chain x.requests y.requests z.requests (came_by a.moves) (came_by b.moves) a.requests b.requests);
       hears = b.hears ∙ a.hears;
@@ -169,7 +169,7 @@ acted_before {R} {G} x y (Some bytes) out a (r, inl lost, is) =
     subst (λ (z : Replica R G). G.is_honest (records_of z) → G.is_honest (records_of x)) (sym lost.still) (λ h. h)
 acted_before {R} {G} x y (Some bytes) out a (r, inr (inl passed), is) =
     subst (λ (z : Replica R G). G.is_honest (records_of z) → G.is_honest (records_of x)) (sym passed.still) (λ h. h)
-acted_before x y (Some bytes) out a (r, inr (inr taken), is) = taken.call.was
+acted_before x y (Some bytes) out a (r, inr (inr handled), is) = handled.call.was
 
 turns_before : {R : Type 0} {G : Ghosts R} (n : ℕ) (x y : Stand G) → Turns n x y → G.is_honest (records_of y.replica) →
     G.is_honest (records_of x.replica)
@@ -274,10 +274,10 @@ failed_turn w z (Some bytes) out e works honest (r, inl lost, is) went kept requ
     absurd (let h : true ≡ false = sym lost.failed ∙ works in cc)
 failed_turn w z (Some bytes) out e works honest (r, inr (inl passed), is) went kept requests hears =
     absurd (some_none e (sym is ∙ ap fault_of passed.answered))
-failed_turn w z (Some bytes) out e works honest (r, inr (inr taken), is) went kept requests hears =
-    failed_call w z (Comes taken.sender taken.message) (Some bytes) out e works honest taken.passes
-    (one_brought _ _ bytes taken.sender taken.message taken.spelled)
-    (subst (λ (o : Option NodeFault). Call w.replica z.replica (Comes taken.sender taken.message) [] out o) is taken.call) went
+failed_turn w z (Some bytes) out e works honest (r, inr (inr handled), is) went kept requests hears =
+    failed_call w z (Comes handled.sender handled.message) (Some bytes) out e works honest handled.passes
+    (one_brought _ _ bytes handled.sender handled.message handled.spelled)
+    (subst (λ (o : Option NodeFault). Call w.replica z.replica (Comes handled.sender handled.message) [] out o) is handled.call) went
     kept requests hears
 
 -- turns that end with a fault: those without, and the last one
@@ -355,7 +355,7 @@ no_turn : {R : Type 0} {G : Ghosts R} (x y : Replica R G) (came : Option Bytes) 
 no_turn x y None out broken call = none_failed fault.Failed (call.failed.1 broken)
 no_turn x y (Some bytes) out broken (r, inl lost, is) = none_failed fault.Failed (sym is ∙ ap fault_of lost.answered)
 no_turn x y (Some bytes) out broken (r, inr (inl passed), is) = absurd (let h : true ≡ false = sym broken ∙ passed.works in cc)
-no_turn x y (Some bytes) out broken (r, inr (inr taken), is) = absurd (let h : true ≡ false = sym broken ∙ taken.works in cc)
+no_turn x y (Some bytes) out broken (r, inr (inr handled), is) = absurd (let h : true ≡ false = sym broken ∙ handled.works in cc)
 
 broken_turns : {R : Type 0} {G : Ghosts R} (n : ℕ) (x y : Stand G) → has_failed x.replica ≡ true → Turns n x y → Between x y
 broken_turns zero x y broken b = b
@@ -393,8 +393,8 @@ broken_turn x y (Some bytes) out e broken (r, inl lost, is) went kept requests h
 }
 broken_turn x y (Some bytes) out e broken (r, inr (inl passed), is) went kept requests hears =
     absurd (let h : true ≡ false = sym broken ∙ passed.works in cc)
-broken_turn x y (Some bytes) out e broken (r, inr (inr taken), is) went kept requests hears =
-    absurd (let h : true ≡ false = sym broken ∙ taken.works in cc)
+broken_turn x y (Some bytes) out e broken (r, inr (inr handled), is) went kept requests hears =
+    absurd (let h : true ≡ false = sym broken ∙ handled.works in cc)
 
 -- turns that it makes, with whatever end
 pub broken_served : {R : Type 0} {G : Ghosts R} (x z : Stand G) (a : Option NodeFault) → has_failed x.replica ≡ true → Served x z a → Lost x z
@@ -443,7 +443,7 @@ module _ {R : Type 0} (G : Ghosts R)
     are = l.are;
     last = [];
     went = l.went ∙ ap (λ (es : List WireEvent). x.traffic ++ es) (sym (append-nil (events_of l.moves)));
-    again = among_none (x.kept ++ sent_by (deeds_of l.moves));
+    again = among_none (x.kept ++ sent_by (trace_of l.moves));
     kept = l.kept;
     requests = subst (λ (bs : List Bytes). AreAmong z.requests (x.requests ++ bs)) (sym (append-nil (came_by l.moves))) l.requests;
     hears = l.hears;
@@ -464,8 +464,8 @@ module _ {R : Type 0} (G : Ghosts R)
     are = l.are;
     last = d.last;
     went = went_then x.traffic w.traffic z.traffic (events_of l.moves) d.last l.went d.went;
-    again = among_then (handed_in d.last) w.kept (x.kept ++ sent_by (deeds_of l.moves)) d.again l.kept;
-    kept = among_then z.kept w.kept (x.kept ++ sent_by (deeds_of l.moves)) d.kept l.kept;
+    again = among_then (handed_in d.last) w.kept (x.kept ++ sent_by (trace_of l.moves)) d.again l.kept;
+    kept = among_then z.kept w.kept (x.kept ++ sent_by (trace_of l.moves)) d.kept l.kept;
     requests = among_chain x.requests w.requests z.requests (came_by l.moves) (given_in d.last) l.requests d.requests;
     hears = d.hears ∙ l.hears;
     stays = d.stays;

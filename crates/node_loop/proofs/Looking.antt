@@ -2,42 +2,42 @@
 use Rattle.std.proofs.Common.{◌≡◌, ◌∙◌, ℕ, suc, ◌+◌, ◌*◌, ◌≤◌, Bool, true, false, List, [], ◌∷◌, ◌++◌, refl, arith}
 use Rattle.px_transport.specs.Wires.{Adds}
 use Rattle.px_transport.proofs.Traffic.{adds_none, adds_then}
-use Rattle.node_loop.specs.Timing.{Told, looks, sends_if, looks_in, LooksTimes, MakesTurns}
+use Rattle.node_loop.specs.Timing.{TimerEvent, looks, sends_if, looks_in, LooksTimes, MakesTurns}
 use Rattle.node_loop.specs.declared.peer_progress.PeerProgress.{PeerProgress}
 use Rattle.node_loop.specs.declared.timer.View.{View}
 
-looks_append : (ts us : List Told) → looks_in (ts ++ us) ≡ looks_in ts + looks_in us
+looks_append : (ts us : List TimerEvent) → looks_in (ts ++ us) ≡ looks_in ts + looks_in us
 looks_append [] us = omega arith
-looks_append (Told.Looks now view ∷ ts) us = let r = looks_append ts us in omega (arith, r)
-looks_append (Told.Sends now ∷ ts) us = looks_append ts us
-looks_append (Told.Repeats now ∷ ts) us = looks_append ts us
-looks_append (Told.Ends ∷ ts) us = looks_append ts us
+looks_append (TimerEvent.Looks now view ∷ ts) us = let r = looks_append ts us in omega (arith, r)
+looks_append (TimerEvent.Sends now ∷ ts) us = looks_append ts us
+looks_append (TimerEvent.Repeats now ∷ ts) us = looks_append ts us
+looks_append (TimerEvent.Ends ∷ ts) us = looks_append ts us
 
 sends_none : (q : Bool) (now : ℕ) → looks_in (sends_if q now) ≡ 0
 sends_none true now = refl
 sends_none false now = refl
 
 -- never
-pub looks_never : (a : List Told → Type 0) → LooksTimes 0 a a
+pub looks_never : (a : List TimerEvent → Type 0) → LooksTimes 0 a a
 looks_never a = ([], refl, adds_none a a (λ ts t. t))
 
 -- once in a round
-pub looks_once : (a b c : List Told → Type 0) (now : ℕ) (v : View) (t : PeerProgress) → Adds a b (looks now v t) →
-    Adds b c (Told.Repeats now ∷ []) → LooksTimes 1 a c
+pub looks_once : (a b c : List TimerEvent → Type 0) (now : ℕ) (v : View) (t : PeerProgress) → Adds a b (looks now v t) →
+    Adds b c (TimerEvent.Repeats now ∷ []) → LooksTimes 1 a c
 looks_once a b c now v t g h =
     let none = sends_none t.is_accepting now in
-    let all = looks_append (looks now v t) (Told.Repeats now ∷ []) in
-    (looks now v t ++ Told.Repeats now ∷ [], omega (arith, none, all), adds_then a b c (looks now v t) (Told.Repeats now ∷ []) g h)
+    let all = looks_append (looks now v t) (TimerEvent.Repeats now ∷ []) in
+    (looks now v t ++ TimerEvent.Repeats now ∷ [], omega (arith, none, all), adds_then a b c (looks now v t) (TimerEvent.Repeats now ∷ []) g h)
 
 -- it is given something else
-pub looks_not : (a b : List Told → Type 0) (ts : List Told) → looks_in ts ≡ 0 → Adds a b ts → LooksTimes 0 a b
+pub looks_not : (a b : List TimerEvent → Type 0) (ts : List TimerEvent) → looks_in ts ≡ 0 → Adds a b ts → LooksTimes 0 a b
 looks_not a b ts none g = (ts, none, g)
 
 -- and then more often
-pub looks_then : (n k : ℕ) (a b c : List Told → Type 0) → LooksTimes n a b → LooksTimes k b c → LooksTimes (n + k) a c
+pub looks_then : (n k : ℕ) (a b c : List TimerEvent → Type 0) → LooksTimes n a b → LooksTimes k b c → LooksTimes (n + k) a c
 looks_then n k a b c (ts, is, g) (us, more, h) =
     let all = looks_append ts us in (ts ++ us, omega (arith, all, is, more), adds_then a b c ts us g h)
 
 -- turns, and then some more
-pub makes_then : (turns k : ℕ) (a b c : List Told → Type 0) → MakesTurns turns a b → LooksTimes k b c → MakesTurns turns a c
+pub makes_then : (turns k : ℕ) (a b c : List TimerEvent → Type 0) → MakesTurns turns a b → LooksTimes k b c → MakesTurns turns a c
 makes_then turns k a b c (n, few, l) more = (n + k, omega (arith, few), looks_then n k a b c l more)

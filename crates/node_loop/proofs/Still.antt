@@ -11,10 +11,10 @@ use Rattle.node_loop.specs.declared.ended.Ended.{Ended}
 
 pub still : {R : Type 0} {G : Ghosts R} (s : Node R G) (w : List WireEvent) (ended : Ended) →
     Tells (front (learned_by s)) (applied_of s) None ended → Serves s s w w ended
-still s w ended told = record {
+still s w ended reported = record {
   answered = None;
   hears = false;
   buffers = new_buffers false;
   served = served_none (stands s w (new_buffers false)) (stands s w (new_buffers false)) (same_all (stands s w (new_buffers false)));
-  told = told;
+  reported = reported;
 }

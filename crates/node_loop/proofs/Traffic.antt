@@ -10,12 +10,12 @@ use Rattle.node_loop.specs.Again.{AreAmong}
 use Rattle.px_transport.specs.Wires.{WireEvent, Gave, Handed, gives, hands}
 use Rattle.px_wire.specs.Message.{Group, DatagramBytes}
 use Rattle.px_wire.specs.Members.{as_sent}
-use Rattle.px_replica.specs.Lives.{Deed}
-use Rattle.px_replica.specs.Lives.Deed.{Calls, Stops, Opens}
+use Rattle.px_replica.specs.Lives.{TraceEvent}
+use Rattle.px_replica.specs.Lives.TraceEvent.{Calls, Stops, Opens}
 use Rattle.node_loop.specs.Resending.{IsKnown, IsPassedOver, came_in}
 use Rattle.node_loop.specs.Turns.{handed_over}
 use Rattle.node_loop.specs.Living.{Heard, message_in, messages_of, AreBrought, sent_by}
-use Rattle.node_loop.specs.Living.{Move, Does, Passes, Repeats, deeds_of, events_of, came_by, IsBrought, AreMoves}
+use Rattle.node_loop.specs.Living.{Move, Does, Passes, Repeats, trace_of, events_of, came_by, IsBrought, AreMoves}
 
 -- ---- lists of what is kept
 
@@ -35,7 +35,7 @@ among_one {X} xs y ys zs a = subst (λ (us : List X). AreAmong zs us) (sym (appe
 
 -- ---- messages and what is handed out, life behind life
 
-pub messages_then : (xs ys : List Deed) → messages_of (xs ++ ys) ≡ messages_of xs ++ messages_of ys
+pub messages_then : (xs ys : List TraceEvent) → messages_of (xs ++ ys) ≡ messages_of xs ++ messages_of ys
 messages_then [] ys = refl
 messages_then (Calls x t out ∷ xs) ys =
     ap (λ (ms : List Heard). message_in x ++ ms) (messages_then xs ys)
@@ -45,7 +45,7 @@ messages_then (Stops x left ∷ xs) ys =
     ∙ sym (append_assoc (message_in x) (messages_of xs) (messages_of ys))
 messages_then (Opens ∷ xs) ys = messages_then xs ys
 
-pub sent_then : (xs ys : List Deed) → sent_by (xs ++ ys) ≡ sent_by xs ++ sent_by ys
+pub sent_then : (xs ys : List TraceEvent) → sent_by (xs ++ ys) ≡ sent_by xs ++ sent_by ys
 sent_then [] ys = refl
 sent_then (Calls x t out ∷ xs) ys =
     ap (λ (ds : List (ℕ × Bytes)). handed_over out ++ ds) (sent_then xs ys)
@@ -55,11 +55,11 @@ sent_then (Opens ∷ xs) ys = sent_then xs ys
 
 -- ---- moves, one behind the other
 
-pub deeds_then : (ms ns : List Move) → deeds_of (ms ++ ns) ≡ deeds_of ms ++ deeds_of ns
-deeds_then [] ns = refl
-deeds_then (Does came i t out ∷ ms) ns = ap (λ (ds : List Deed). Calls i t out ∷ ds) (deeds_then ms ns)
-deeds_then (Passes b ∷ ms) ns = deeds_then ms ns
-deeds_then (Repeats to b ∷ ms) ns = deeds_then ms ns
+pub trace_then : (ms ns : List Move) → trace_of (ms ++ ns) ≡ trace_of ms ++ trace_of ns
+trace_then [] ns = refl
+trace_then (Does came i t out ∷ ms) ns = ap (λ (ds : List TraceEvent). Calls i t out ∷ ds) (trace_then ms ns)
+trace_then (Passes b ∷ ms) ns = trace_then ms ns
+trace_then (Repeats to b ∷ ms) ns = trace_then ms ns
 
 pub events_then : (ms ns : List Move) → events_of (ms ++ ns) ≡ events_of ms ++ events_of ns
 events_then [] ns = refl
@@ -106,7 +106,7 @@ among_behind {X} xs ys us zs a = subst (λ (vs : List X). AreAmong zs vs) (sym (
 
 pub moves_then : (g : Group) (me : ℕ) (hears : Bool) (ms ns : List Move) (before later : List Bytes)
     (kept keeps : List (ℕ × Bytes)) → AreMoves g me hears ms before kept → AreMoves g me hears ns later keeps →
-    AreAmong later (before ++ came_by ms) → AreAmong keeps (kept ++ sent_by (deeds_of ms)) →
+    AreAmong later (before ++ came_by ms) → AreAmong keeps (kept ++ sent_by (trace_of ms)) →
     AreMoves g me hears (ms ++ ns) before kept
 moves_then g me hears [] ns before later kept keeps a b r k =
     moves_after g me hears ns later before keeps kept
@@ -116,7 +116,7 @@ moves_then g me hears (Does came i t out ∷ ms) ns before later kept keeps a b 
   a.0,
   moves_then g me hears ms ns (before ++ came_in came) later (kept ++ handed_over out) keeps a.1 b
       (among_behind before (came_in came) (came_by ms) later r)
-      (among_behind kept (handed_over out) (sent_by (deeds_of ms)) keeps k),
+      (among_behind kept (handed_over out) (sent_by (trace_of ms)) keeps k),
 )
 moves_then g me hears (Passes c ∷ ms) ns before later kept keeps a b r k =
     (a.0, moves_then g me hears ms ns (before ++ c ∷ []) later kept keeps a.1 b (among_one before c (came_by ms) later r) k)
@@ -131,10 +131,10 @@ idly [] = []
 idly (Gave b ∷ es) = Passes b ∷ idly es
 idly (Handed to b ∷ es) = Repeats to b ∷ idly es
 
-pub idle_deeds : (es : List WireEvent) → deeds_of (idly es) ≡ []
-idle_deeds [] = refl
-idle_deeds (Gave b ∷ es) = idle_deeds es
-idle_deeds (Handed to b ∷ es) = idle_deeds es
+pub idle_trace : (es : List WireEvent) → trace_of (idly es) ≡ []
+idle_trace [] = refl
+idle_trace (Gave b ∷ es) = idle_trace es
+idle_trace (Handed to b ∷ es) = idle_trace es
 
 pub idle_events : (es : List WireEvent) → events_of (idly es) ≡ es
 idle_events [] = refl

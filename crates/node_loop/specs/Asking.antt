@@ -3,7 +3,7 @@ use Rattle.std.specs.Prelude.{◌≢◌, ℕ, List, Result}
 use Rattle.px_model.specs.Node.Message.{Ask}
 use Rattle.px_model.specs.Spelling.{Bytes}
 use Rattle.px_records.specs.declared.records.Records.{Ghosts}
-use Rattle.px_replica.specs.Calls.{IsTaken}
+use Rattle.px_replica.specs.Calls.{IsHandled}
 use Rattle.px_replica.specs.declared.datagram.Datagram.{Datagram}
 use Rattle.px_replica.specs.declared.fault.NodeFault.{NodeFault}
 use Rattle.px_replica.specs.declared.receiving.Received.{Received}
@@ -13,5 +13,5 @@ use Rattle.px_replica.specs.declared.state.Replica.{Replica}
 abbrev pub MembersAskNothing : {R : Type 0} → Ghosts R → Type 0
 MembersAskNothing {R} G =
     (s t : Replica R G) (bytes : Bytes) (old new : List Datagram) (result : Result Received NodeFault) →
-    (it : IsTaken s t bytes old new result) → it.sender ≢ 255 →
+    (it : IsHandled s t bytes old new result) → it.sender ≢ 255 →
     (token : ℕ) (command : Bytes) → it.message ≢ Ask token command

@@ -28,5 +28,5 @@ abbrev pub IsVoteAt : Latest → (member place : ℕ) → Type 0
 IsVoteAt l m i = (k : Kept) × (slice_get l.kept.items i ≡ Some k) × (k.kind ≡ kinds.Vote) × (k.to ≡ m)
 
 -- the member that sent the request that was taken last, if there is one
-abbrev pub asker_in : Latest → Option ℕ
-asker_in l = option_map (λ h. h.from) l.head
+abbrev pub client_in : Latest → Option ℕ
+client_in l = option_map (λ h. h.from) l.head

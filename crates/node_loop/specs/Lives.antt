@@ -9,8 +9,8 @@ use Rattle.px_transport.specs.Wires.{WireEvent, given_in, handed_in}
 use Rattle.px_wire.specs.Message.{Group, group}
 use Rattle.px_wire.specs.declared.membership.Membership.{Membership}
 use Rattle.px_replica.specs.Calls.{OpenRefused}
-use Rattle.px_replica.specs.Lives.{Deed, Lived}
-use Rattle.px_replica.specs.Lives.Deed.{Stops, Opens}
+use Rattle.px_replica.specs.Lives.{TraceEvent, Lived}
+use Rattle.px_replica.specs.Lives.TraceEvent.{Stops, Opens}
 use Rattle.node_loop.specs.Again.{AreAmong}
 use Rattle.px_replica.specs.declared.fault.NodeFault.{NodeFault}
 use Rattle.px_replica.specs.declared.fault.NodeFault.TheVariants as fault
@@ -18,7 +18,7 @@ use Rattle.pf_node.specs.Nodes.{replica_of, records_of, learned_by, membership_o
 use Rattle.pf_node.specs.declared.state.Node.{Node}
 use Rattle.node_loop.specs.Turns.{Stand, Served}
 use Rattle.node_loop.specs.Hosting.{Hosted}
-use Rattle.node_loop.specs.Living.{message_in, AreBrought, sent_by, LeavesThere, Move, deeds_of, events_of, AreMoves}
+use Rattle.node_loop.specs.Living.{message_in, AreBrought, sent_by, LeavesThere, Move, trace_of, events_of, AreMoves}
 use Rattle.node_loop.specs.declared.ended.Ended.{Ended}
 use Rattle.node_loop.specs.declared.ended.Ended.TheVariants.{Front, Fault, NoWire, NoControlSocket, NoPort}
 
@@ -66,7 +66,7 @@ pub record Serves {R : Type 0} {G : Ghosts R} (s t : Node R G) (w v : List WireE
   pub hears : Bool
   pub buffers : Buffers
   pub served : Served (stands s w (new_buffers hears)) (stands t v buffers) answered
-  pub told : Tells (front (learned_by t)) (applied_of t) answered ended
+  pub reported : Tells (front (learned_by t)) (applied_of t) answered ended
 
 -- the same where commands are asked between turns, as at a control socket; if that or its port is missing, none is made
 abbrev pub HostTells : (front applied : ℕ) → (answered : Option NodeFault) → Ended → Type 0
@@ -79,7 +79,7 @@ pub record Hosts {R : Type 0} {G : Ghosts R} (s t : Node R G) (w v : List WireEv
   pub hears : Bool
   pub buffers : Buffers
   pub hosted : Hosted (stands s w (new_buffers hears)) (stands t v buffers) answered
-  pub told : HostTells (front (learned_by t)) (applied_of t) answered ended
+  pub reported : HostTells (front (learned_by t)) (applied_of t) answered ended
 
 -- A record is opened, the node goes on in some way, and the record is given back.
 pub record Life {R : Type 0} (G : Ghosts R) (How : (s t : Node R G) → Type 0) (m : Membership) (given back : R) :
@@ -127,13 +127,13 @@ HostedRuns G m given w v ended back =
 pub record LivedOver {R : Type 0} (G : Ghosts R) (m : Membership) (given back : R) (w v : List WireEvent) : Type 0 where
   pub moves : List Move
   pub then : NodeState Bytes
-  pub lived : Lived (group m) m.me (started (G.stored given)) (deeds_of moves) then
+  pub lived : Lived (group m) m.me (started (G.stored given)) (trace_of moves) then
   pub up : then.is_up ≡ true
   pub hears : Bool
   pub are : AreMoves (group m) m.me hears moves [] []
   pub last : List WireEvent
   pub went : v ≡ w ++ (events_of moves ++ last)
-  pub again : AreAmong (handed_in last) (sent_by (deeds_of moves))
+  pub again : AreAmong (handed_in last) (sent_by (trace_of moves))
   pub stays : G.failed back ≡ 0 → G.stored back ≡ then.stored
   pub stop : (left : Record Bytes) → G.may_leave back left → LeavesThere (group m) m.me (given_in last) then left
 
@@ -155,7 +155,7 @@ HostedRunsAreLived {R} G =
 
 -- A run begins what happened to the member; or before it a stop cut a call short, for a message that one of these
 -- datagrams brought if it was for one, and the member was opened.
-abbrev pub IsStart : Group → (me : ℕ) → (gave : List Bytes) → List Deed → Type 0
+abbrev pub IsStart : Group → (me : ℕ) → (gave : List Bytes) → List TraceEvent → Type 0
 IsStart g me gave ds =
     (ds ≡ []) ⊎ ((input : Input Bytes) × (left : Record Bytes) × AreBrought g me gave (message_in input) ×
     (ds ≡ Stops input left ∷ Opens ∷ []))
@@ -163,24 +163,24 @@ IsStart g me gave ds =
 -- In these runs, the latest first, each over a wire of its own, this happened to the member, and these events are the
 -- last ones, since a call failed in the latest. A run is what went over its wire in it: the member's moves, and then,
 -- where a call failed, what came for it and after it, and what was handed over again.
-abbrev pub AreOver : Group → (me : ℕ) → (runs : List (List WireEvent)) → List Deed → (last : List WireEvent) → Type 0
+abbrev pub AreOver : Group → (me : ℕ) → (runs : List (List WireEvent)) → List TraceEvent → (last : List WireEvent) → Type 0
 AreOver g me [] ds last = (ds ≡ []) × (last ≡ [])
 AreOver g me (es ∷ runs) ds last =
-    (before : List Deed) × (lost : List WireEvent) × (start : List Deed) × (hears : Bool) × (moves : List Move) ×
+    (before : List TraceEvent) × (lost : List WireEvent) × (start : List TraceEvent) × (hears : Bool) × (moves : List Move) ×
     AreOver g me runs before lost × IsStart g me (given_in lost) start × AreMoves g me hears moves [] [] ×
-    (es ≡ events_of moves ++ last) × AreAmong (handed_in last) (sent_by (deeds_of moves)) ×
-    (ds ≡ before ++ (start ++ deeds_of moves))
+    (es ≡ events_of moves ++ last) × AreAmong (handed_in last) (sent_by (trace_of moves)) ×
+    (ds ≡ before ++ (start ++ trace_of moves))
 
 -- Steps of the model at this member, one after the other, from an opening of this record on, through these runs, the
 -- latest first.
 pub record OneLife {R : Type 0} (G : Ghosts R) (m : Membership) (first : Record Bytes) (back : R)
     (runs : List (List WireEvent)) : Type 0 where
-  pub deeds : List Deed
+  pub trace : List TraceEvent
   pub then : NodeState Bytes
-  pub lived : Lived (group m) m.me (started first) deeds then
+  pub lived : Lived (group m) m.me (started first) trace then
   pub up : then.is_up ≡ true
   pub last : List WireEvent
-  pub over : AreOver (group m) m.me runs deeds last
+  pub over : AreOver (group m) m.me runs trace last
   pub stays : G.failed back ≡ 0 → G.stored back ≡ then.stored
   pub stop : (left : Record Bytes) → G.may_leave back left → LeavesThere (group m) m.me (given_in last) then left
 

@@ -10,8 +10,8 @@ use Rattle.px_records.specs.declared.records.Records.{Ghosts}
 use Rattle.px_wire.specs.Message.{Group, group, DatagramBytes}
 use Rattle.px_wire.specs.Members.{as_sent}
 use Rattle.px_transport.specs.Wires.{WireEvent, Gave, Handed, given_in, handed_in, gives, hands}
-use Rattle.px_replica.specs.Lives.{Deed, IsInput, Lived}
-use Rattle.px_replica.specs.Lives.Deed.{Calls, Stops, Opens}
+use Rattle.px_replica.specs.Lives.{TraceEvent, IsInput, Lived}
+use Rattle.px_replica.specs.Lives.TraceEvent.{Calls, Stops, Opens}
 use Rattle.px_replica.specs.Made.{LeavesOne}
 use Rattle.px_replica.specs.Replicas.{records_of, membership_of, has_failed, state_in}
 use Rattle.px_replica.specs.declared.datagram.Datagram.{Datagram}
@@ -35,7 +35,7 @@ message_in Ticks = []
 message_in (Comes sender message) = (sender, message) ∷ []
 
 -- the messages that came to the member, in order: to calls that answered, and to those that a stop cut short
-abbrev pub messages_of : List Deed → List Heard
+abbrev pub messages_of : List TraceEvent → List Heard
 messages_of [] = []
 messages_of (Calls x t out ∷ ds) = message_in x ++ messages_of ds
 messages_of (Stops x left ∷ ds) = message_in x ++ messages_of ds
@@ -49,7 +49,7 @@ AreBrought g me gave xs =
 -- ---- what is sent
 
 -- what the member's calls handed out, as its wire is handed it, in order
-abbrev pub sent_by : List Deed → List (ℕ × Bytes)
+abbrev pub sent_by : List TraceEvent → List (ℕ × Bytes)
 sent_by [] = []
 sent_by (Calls x t out ∷ ds) = handed_over out ++ sent_by ds
 sent_by (Stops x left ∷ ds) = sent_by ds
@@ -67,11 +67,11 @@ pub data Move : Type 0 where
   Repeats : (to : ℕ) (bytes : Bytes) → Move
 
 -- its calls
-abbrev pub deeds_of : List Move → List Deed
-deeds_of [] = []
-deeds_of (Does came input then out ∷ ms) = Calls input then out ∷ deeds_of ms
-deeds_of (Passes bytes ∷ ms) = deeds_of ms
-deeds_of (Repeats to bytes ∷ ms) = deeds_of ms
+abbrev pub trace_of : List Move → List TraceEvent
+trace_of [] = []
+trace_of (Does came input then out ∷ ms) = Calls input then out ∷ trace_of ms
+trace_of (Passes bytes ∷ ms) = trace_of ms
+trace_of (Repeats to bytes ∷ ms) = trace_of ms
 
 -- what goes over the wire
 abbrev pub events_of : List Move → List WireEvent
@@ -126,15 +126,15 @@ pub record Living {R : Type 0} {G : Ghosts R} (x z : Stand G) (answered : Option
   pub moves : List Move
   pub then : NodeState Bytes
   pub lived : Lived (group (membership_of x.replica)) (membership_of x.replica).me (state_in x.replica)
-      (deeds_of moves) then
+      (trace_of moves) then
   pub up : then.is_up ≡ true
   -- the wire
   pub are : AreMoves (group (membership_of x.replica)) (membership_of x.replica).me x.hears_asks moves x.requests x.kept
   pub last : List WireEvent
   pub went : z.traffic ≡ x.traffic ++ (events_of moves ++ last)
-  pub again : AreAmong (handed_in last) (x.kept ++ sent_by (deeds_of moves))
+  pub again : AreAmong (handed_in last) (x.kept ++ sent_by (trace_of moves))
   -- the buffers
-  pub kept : AreAmong z.kept (x.kept ++ sent_by (deeds_of moves))
+  pub kept : AreAmong z.kept (x.kept ++ sent_by (trace_of moves))
   pub requests : AreAmong z.requests (x.requests ++ (came_by moves ++ given_in last))
   pub hears : z.hears_asks ≡ x.hears_asks
   -- the end

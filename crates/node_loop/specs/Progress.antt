@@ -38,7 +38,7 @@ heads_in room = room.heads.items
 abbrev pub reaching : (position : ℕ) → PeerProgress → PeerProgress
 reaching p s = record {
   reached = max s.reached p;
-  is_told = s.is_told;
+  has_learned = s.has_learned;
   is_accepting = s.is_accepting;
   lacking = s.lacking;
 }
@@ -47,20 +47,20 @@ reaching p s = record {
 abbrev pub lacking : (from next : ℕ) → PeerProgress → PeerProgress
 lacking from next s = record {
   reached = s.reached;
-  is_told = s.is_told;
+  has_learned = s.has_learned;
   is_accepting = s.is_accepting;
   lacking = slice_set s.lacking from next;
 }
 
 -- an entry came that this member had asked for
-abbrev pub told : PeerProgress → PeerProgress
-told s = record { reached = s.reached; is_told = true; is_accepting = s.is_accepting; lacking = s.lacking }
+abbrev pub with_learned : PeerProgress → PeerProgress
+with_learned s = record { reached = s.reached; has_learned = true; is_accepting = s.is_accepting; lacking = s.lacking }
 
 -- an accept request came, which counts where another member sent it
 abbrev pub accepting : (is_others : Bool) → PeerProgress → PeerProgress
 accepting o s = record {
   reached = s.reached;
-  is_told = s.is_told;
+  has_learned = s.has_learned;
   is_accepting = s.is_accepting || o;
   lacking = s.lacking;
 }
@@ -72,7 +72,7 @@ noted_by kinds.Prepare from to p s = lacking from (min (p + 1) 4294967295) s
 noted_by kinds.PrepareAll from to p s = lacking from (min (p + 1) 4294967295) s
 noted_by kinds.Need from to p s = lacking from (min (p + 2) 4294967295) s
 noted_by kinds.Accept from to p s = accepting (not (from == to)) s
-noted_by kinds.Learned from to p s = told s
+noted_by kinds.Learned from to p s = with_learned s
 noted_by kinds.Vote from to p s = s
 noted_by kinds.Promise from to p s = s
 noted_by kinds.PromiseAll from to p s = s
@@ -96,7 +96,7 @@ shown_by h s = noted_if h h.position (reaching (learned_below h) s)
 
 -- what was seen, once it was looked at: how far others are stays
 abbrev pub looked : PeerProgress → PeerProgress
-looked s = record { reached = s.reached; is_told = false; is_accepting = false; lacking = replicate 15 0 }
+looked s = record { reached = s.reached; has_learned = false; is_accepting = false; lacking = replicate 15 0 }
 
 -- ---- what is seen as datagrams are taken
 

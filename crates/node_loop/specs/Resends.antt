@@ -3,7 +3,7 @@ use Rattle.std.specs.Prelude.{◌≡◌, ℕ, ◌≤◌, List, ◌++◌, Option,
 use Rattle.px_transport.specs.Wires.{WireEvent}
 use Rattle.node_loop.specs.Again.{Addressed, HandsAt}
 use Rattle.node_loop.specs.Total.{total}
-use Rattle.node_loop.specs.Keeping.{IsVoteAt, asker_in, sent_in, requests_in, votes_in}
+use Rattle.node_loop.specs.Keeping.{IsVoteAt, client_in, sent_in, requests_in, votes_in}
 use Rattle.node_loop.specs.declared.resender.Resender.{Resender}
 
 -- the accept requests and votes of the last proposal, and its position
@@ -38,4 +38,4 @@ IsBounded r =
 -- it fits into a packet; else it or nothing
 abbrev pub HandsVote : Resender → (old new : List WireEvent → Type 0) → Type 0
 HandsVote r old new =
-    (m i : ℕ) × (asker_in r.latest ≡ Some m) × IsVoteAt r.latest m i × HandsAt i (sent_in r.latest) old new
+    (m i : ℕ) × (client_in r.latest ≡ Some m) × IsVoteAt r.latest m i × HandsAt i (sent_in r.latest) old new

@@ -20,15 +20,15 @@ IsShort actions.Tick = Unit {0}
 IsShort (actions.Wait milliseconds) = (1 ≤ milliseconds) × (milliseconds ≤ 100)
 
 -- what a timer is given
-pub data Told : Type 0 where
+pub data TimerEvent : Type 0 where
   -- what is seen at this time, so that it says whether the clock ticks
-  Looks : (now : ℕ) (view : View) → Told
+  Looks : (now : ℕ) (view : View) → TimerEvent
   -- votes were sent
-  Sends : (now : ℕ) → Told
+  Sends : (now : ℕ) → TimerEvent
   -- it is asked whether what was sent is sent again
-  Repeats : (now : ℕ) → Told
+  Repeats : (now : ℕ) → TimerEvent
   -- the node takes no more commands in
-  Ends : Told
+  Ends : TimerEvent
 
 -- what is seen of a node, whose front was there before the datagrams were taken
 abbrev pub view_of : {R : Type 0} {G : Ghosts R} → Replica R G → (was : ℕ) → PeerProgress → View
@@ -37,45 +37,45 @@ view_of s was t = record {
   is_attempting = is_some (state_in s).volatile.attempt;
   is_leading = is_some (state_in s).volatile.lead;
   front = front (learned_by s);
-  is_told = t.is_told && not (front (learned_by s) == was);
+  has_learned = t.has_learned && not (front (learned_by s) == was);
   reached = t.reached;
 }
 
 -- that votes were sent, if they were
-abbrev pub sends_if : Bool → (now : ℕ) → List Told
-sends_if true now = Told.Sends now ∷ []
+abbrev pub sends_if : Bool → (now : ℕ) → List TimerEvent
+sends_if true now = TimerEvent.Sends now ∷ []
 sends_if false now = []
 
 -- what it is given at a look
-abbrev pub looks : (now : ℕ) → View → PeerProgress → List Told
-looks now v t = Told.Looks now v ∷ sends_if t.is_accepting now
+abbrev pub looks : (now : ℕ) → View → PeerProgress → List TimerEvent
+looks now v t = TimerEvent.Looks now v ∷ sends_if t.is_accepting now
 
 -- n datagrams were taken, one after the other; then the timer was given what they left to see, and nothing else; and
 -- what was seen was looked at.
 pub record SawThenLooked {R : Type 0} {G : Ghosts R} (n now : ℕ) (x : Stand G) (s u : PeerProgress)
-    (before after : List Told → Type 0) : Type 0 where
+    (before after : List TimerEvent → Type 0) : Type 0 where
   pub then : Stand G
   pub seen : PeerProgress
   pub saw : SawAll n x then s seen
   pub looked : u ≡ looked seen
-  pub told : Adds before after (looks now (view_of then.replica (front (learned_by x.replica)) seen) seen ++
-      (Told.Repeats now ∷ []))
+  pub timer_events : Adds before after (looks now (view_of then.replica (front (learned_by x.replica)) seen) seen ++
+      (TimerEvent.Repeats now ∷ []))
 
 -- ---- how many rounds there were
 
 -- how often it was given what is seen
-abbrev pub looks_in : List Told → ℕ
+abbrev pub looks_in : List TimerEvent → ℕ
 looks_in [] = 0
-looks_in (Told.Looks now view ∷ ts) = suc (looks_in ts)
-looks_in (Told.Sends now ∷ ts) = looks_in ts
-looks_in (Told.Repeats now ∷ ts) = looks_in ts
-looks_in (Told.Ends ∷ ts) = looks_in ts
+looks_in (TimerEvent.Looks now view ∷ ts) = suc (looks_in ts)
+looks_in (TimerEvent.Sends now ∷ ts) = looks_in ts
+looks_in (TimerEvent.Repeats now ∷ ts) = looks_in ts
+looks_in (TimerEvent.Ends ∷ ts) = looks_in ts
 
 -- it was given what is seen n times from one to the other
-abbrev pub LooksTimes : (n : ℕ) → (before after : List Told → Type 0) → Type 0
-LooksTimes n before after = (more : List Told) × (looks_in more ≡ n) × Adds before after more
+abbrev pub LooksTimes : (n : ℕ) → (before after : List TimerEvent → Type 0) → Type 0
+LooksTimes n before after = (more : List TimerEvent) × (looks_in more ≡ n) × Adds before after more
 
 -- In each round it is given once what is seen, and a round is at most 65 turns: so a round at least was made for each
 -- 65.
-abbrev pub MakesTurns : (turns : ℕ) → (before after : List Told → Type 0) → Type 0
+abbrev pub MakesTurns : (turns : ℕ) → (before after : List TimerEvent → Type 0) → Type 0
 MakesTurns turns before after = (n : ℕ) × (turns ≤ 65 * n) × LooksTimes n before after

@@ -3,7 +3,7 @@
 ghost use Rattle.std.specs.Prelude.{◌≡◌, ◌≤◌, ◌<◌, ◌++◌, [], ◌∷◌, ℕ, List, OnOk, OnErr, IfSome, Some, length};
 ghost use Rattle.px_model.specs.Law.{Among};
 ghost use Rattle.node_loop.specs.Again.{AreAmong, HandsAt};
-ghost use Rattle.node_loop.specs.Keeping.{IsVoteAt, asker_in, sent_in, requests_in};
+ghost use Rattle.node_loop.specs.Keeping.{IsVoteAt, client_in, sent_in, requests_in};
 ghost use Rattle.node_loop.specs.Proposals.{proposal_of};
 
 use crate::packet::{MEMBERS, PACKET};
@@ -152,7 +152,7 @@ impl Latest {
     /// its vote is kept.
     pub(crate) fn vote_for(&self, bytes: &[u8]) -> Option<usize>
         ensures known { IfSome result (λ i. Among (requests_in self.now) bytes.now) }
-        ensures vote { IfSome result (λ i. (m : ℕ) × (asker_in self.now ≡ Some m) × IsVoteAt self.now m i) }
+        ensures vote { IfSome result (λ i. (m : ℕ) × (client_in self.now ≡ Some m) × IsVoteAt self.now m i) }
     {
         if bytes.is_empty() {
             return None;

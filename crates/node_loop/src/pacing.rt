@@ -353,7 +353,7 @@ impl TickTimer {
         if !self.is_behind {
             return self.asks;
         }
-        if view.is_told || view.front >= self.asked.saturating_add(STEP) {
+        if view.has_learned || view.front >= self.asked.saturating_add(STEP) {
             0
         } else {
             self.asks.min(self.fills())
@@ -434,7 +434,7 @@ impl TickTimer {
 
 impl Timer for TickTimer {
     // what it was given isn't kept, and is all that it decides by
-    ghost told = { λ p told. Unit {0} };
+    ghost timer_events = { λ p timer_events. Unit {0} };
 
     fn action(&mut self, now: u64, view: View) -> Action
         // The clock ticks in time, whatever is seen.
@@ -492,8 +492,8 @@ impl Timer for TickTimer {
     }
 
     fn is_listening(&self, now: u64) -> bool {
-        let is_told = self.is_behind && now < self.moved.saturating_add(BEHIND);
-        now < START || is_told || self.is_ending
+        let is_catching_up = self.is_behind && now < self.moved.saturating_add(BEHIND);
+        now < START || is_catching_up || self.is_ending
     }
 }
 

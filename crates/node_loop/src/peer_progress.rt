@@ -1,7 +1,7 @@
 //! What messages tell of how far other members have come.
 
 ghost use Rattle.std.specs.Prelude.{◌≡◌, ◌==◌, not};
-ghost use Rattle.node_loop.specs.Progress.{shown_by, noted, looked, reaching, lacking, told, accepting};
+ghost use Rattle.node_loop.specs.Progress.{shown_by, noted, looked, reaching, lacking, with_learned, accepting};
 
 use px_wire::{Head, Kind};
 
@@ -12,7 +12,7 @@ pub(crate) struct PeerProgress {
     /// A position below which some member has learned all, as far as is seen.
     pub(crate) reached: u32,
     /// Whether an entry that was asked for has come since the last look.
-    pub(crate) is_told: bool,
+    pub(crate) has_learned: bool,
     /// Whether another's accept request has come since the last look.
     pub(crate) is_accepting: bool,
     /// For each member that has told since the last look how far it is: one more than the position from which on it is
@@ -25,7 +25,7 @@ impl PeerProgress {
     pub(crate) fn new() -> PeerProgress {
         PeerProgress {
             reached: 0,
-            is_told: false,
+            has_learned: false,
             is_accepting: false,
             lacking: [0; 15],
         }
@@ -37,7 +37,7 @@ impl PeerProgress {
     {
         PeerProgress {
             reached: self.reached,
-            is_told: false,
+            has_learned: false,
             is_accepting: false,
             lacking: [0; 15],
         }
@@ -81,11 +81,11 @@ impl PeerProgress {
     }
 
     /// An entry came that this member had asked for.
-    fn told(self) -> PeerProgress
-        ensures { result ≡ told self }
+    fn with_learned(self) -> PeerProgress
+        ensures { result ≡ with_learned self }
     {
         PeerProgress {
-            is_told: true,
+            has_learned: true,
             ..self
         }
     }
@@ -111,7 +111,7 @@ impl PeerProgress {
             }
             Kind::Need => self.lacking(head.from, position.saturating_add(2)),
             Kind::Accept => self.accepting(head.from != head.to),
-            Kind::Learned => self.told(),
+            Kind::Learned => self.with_learned(),
             Kind::Vote
             | Kind::Promise
             | Kind::PromiseAll

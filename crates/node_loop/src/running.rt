@@ -40,7 +40,7 @@ fn view_of<R: Records>(node: &Node<R>, room: &Room, was: u32) -> View
         is_attempting: node.is_attempting(),
         is_leading: node.is_leading(),
         front: node.front(),
-        is_told: room.peer_progress.is_told && node.front() != was,
+        has_learned: room.peer_progress.has_learned && node.front() != was,
         reached: room.peer_progress.reached,
     }
 }
@@ -60,14 +60,14 @@ fn tick_if<R: Records, W: Wire>(
     wire: &mut W,
     room: &mut Room,
     action: Action,
-    taken: u32,
+    handled: u32,
     has_own: bool,
 ) -> Result<Progress, NodeFault>
     ensures served { Moves (W.traffic wire.old) (W.traffic wire.new)
         (λ es es'. Served (standing node.old es room.old) (standing node.new es' room.new) (fault_of result)) }
     ensures ticked { OnOk result (Moves (W.traffic wire.old) (W.traffic wire.new) (λ es es'. (is_due : Bool) ×
         TickedIf is_due (standing node.old es room.old) (standing node.new es' room.new))) }
-    ensures few { IfOk result (λ made. made.turns ≤ taken + 1) }
+    ensures few { IfOk result (λ made. made.turns ≤ handled + 1) }
     ensures unseen { seen_in room.new ≡ seen_in room.old }
     ensures wait { IsShort action → IfOk result (λ p. p.wait ≤ 100) }
     ensures grows { applied_of node.old ≤ applied_of node.new }
@@ -76,14 +76,14 @@ fn tick_if<R: Records, W: Wire>(
     match action {
         Action::Tick => match tick_now(node, wire, room) {
             Ok(()) => Ok(Progress {
-                turns: taken.saturating_add(1),
+                turns: handled.saturating_add(1),
                 wait: 0,
             }),
             Err(fault) => Err(fault),
         },
         Action::Wait(milliseconds) => Ok(Progress {
-            turns: taken.max(1),
-            wait: if taken == 0 && !has_own {
+            turns: handled.max(1),
+            wait: if handled == 0 && !has_own {
                 milliseconds
             } else {
                 0
@@ -95,7 +95,7 @@ fn tick_if<R: Records, W: Wire>(
 /// What the clock does, by what has come.
 fn action<T: Timer>(timer: &mut T, peer_progress: &mut PeerProgress, now: u64, view: View) -> Action
     ensures looked { peer_progress.new ≡ looked peer_progress.old }
-    ensures told { Adds (T.told timer.old) (T.told timer.new) (looks now view peer_progress.old) }
+    ensures timer_events { Adds (T.timer_events timer.old) (T.timer_events timer.new) (looks now view peer_progress.old) }
     ensures short { IsShort result }
 {
     let action = timer.action(now, view);
@@ -206,17 +206,17 @@ pub fn round<R: Records, W: Wire, T: Timer>(
     ensures took { OnOk result (Moves (W.traffic wire.old) (W.traffic wire.new) (λ es es'. (n : ℕ) × (is_due : Bool) ×
         TookThenTicked n is_due (standing node.old es room.old) (standing node.new es' room.new))) }
     ensures saw { OnOk result ((es : List WireEvent) → W.traffic wire.old es → (n : ℕ) × SawThenLooked n now
-        (standing node.old es room.old) (seen_in room.old) (seen_in room.new) (T.told timer.old) (T.told timer.new)) }
+        (standing node.old es room.old) (seen_in room.old) (seen_in room.new) (T.timer_events timer.old) (T.timer_events timer.new)) }
     ensures few { IfOk result (λ made. made.turns ≤ 65) }
-    ensures looks { OnOk result (LooksTimes 1 (T.told timer.old) (T.told timer.new)) }
+    ensures looks { OnOk result (LooksTimes 1 (T.timer_events timer.old) (T.timer_events timer.new)) }
     ensures wait { IfOk result (λ p. p.wait ≤ 100) }
     ensures grows { applied_of node.old ≤ applied_of node.new }
     ensures same { W.identity wire.new ≡ W.identity wire.old }
 {
     let was = node.front();
     begin(room, now);
-    let taken = match drain(node, wire, room, MOST) {
-        Ok(taken) => taken,
+    let handled = match drain(node, wire, room, MOST) {
+        Ok(handled) => handled,
         Err(fault) => return Err(fault),
     };
     let seen = room.peer_progress;
@@ -224,7 +224,7 @@ pub fn round<R: Records, W: Wire, T: Timer>(
     let action = action(timer, &mut room.peer_progress, now, view);
     let is_due = timer.repeats(now);
     let has_own = resend(wire, &mut room.resender, &seen, is_due, node.front());
-    tick_if(node, wire, room, action, taken, has_own)
+    tick_if(node, wire, room, action, handled, has_own)
 }
 
 /// Works off what waits to be proposed, before the node ends: rounds until nothing waits, 3,000 at most, of which one
@@ -242,7 +242,7 @@ pub fn finish<R: Records, W: Wire, T: Timer, C: Clock>(
     ensures served { Moves (W.traffic wire.old) (W.traffic wire.new)
         (λ es es'. Served (standing node.old es room.old) (standing node.new es' room.new) (fault_of result)) }
     ensures grows { applied_of node.old ≤ applied_of node.new }
-    ensures looks { OnOk result ((n : ℕ) × LooksTimes n (T.told timer.old) (T.told timer.new)) }
+    ensures looks { OnOk result ((n : ℕ) × LooksTimes n (T.timer_events timer.old) (T.timer_events timer.new)) }
     ensures same { W.identity wire.new ≡ W.identity wire.old }
 {
     timer.end();

@@ -20,7 +20,7 @@ use crate::peer_progress::PeerProgress;
 use crate::resender::Resender;
 use crate::room::Room;
 use crate::turning::{act, came, send_all};
-use pf_entry::ASKER;
+use pf_entry::CLIENT;
 use pf_node::Node;
 use px_records::Records;
 use px_replica::{Datagram, NodeFault, Received};
@@ -143,7 +143,7 @@ fn is_outside(bytes: &[u8]) -> bool
         DatagramBytes g from to message bytes.now → from ≢ 255 }
 {
     match Head::read(bytes) {
-        Some(head) => head.from == ASKER,
+        Some(head) => head.from == CLIENT,
         None => false,
     }
 }
@@ -243,11 +243,11 @@ pub(crate) fn drain<R: Records, W: Wire>(
     ensures same { W.identity wire.new ≡ W.identity wire.old }
 {
     room.heads.clear();
-    for taken in 0..most {
+    for handled in 0..most {
         match take_one(node, wire, room) {
             Ok(had) => {
                 if !had {
-                    return Ok(taken);
+                    return Ok(handled);
                 }
             }
             Err(fault) => return Err(fault),

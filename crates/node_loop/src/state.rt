@@ -45,7 +45,7 @@ pub(crate) struct Sent {
 
 /// What was sent to a member of the votes.
 #[derive(Clone, Copy)]
-pub(crate) struct Told {
+pub(crate) struct ResendProgress {
     /// The first position that it lacked when it was looked at last.
     pub(crate) from: u32,
     /// How many times in a row it has come on by just one since.
@@ -67,7 +67,7 @@ pub(crate) struct Votes {
     pub(crate) votes: VecDeque<Sent>,
     /// How many bytes they have.
     pub(crate) size: usize,
-    pub(crate) told: [Told; MEMBERS],
+    pub(crate) resent: [ResendProgress; MEMBERS],
     /// What of a member's socket is this member's to fill.
     pub(crate) room: usize,
     ghost few: { length votes.items ≤ 131072 },

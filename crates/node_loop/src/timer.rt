@@ -2,8 +2,8 @@
 
 ghost use Rattle.std.specs.Prelude.{ℕ, List, [], ◌∷◌};
 ghost use Rattle.px_transport.specs.Wires.{Adds};
-ghost use Rattle.node_loop.specs.Timing.{IsShort, Told};
-ghost use Rattle.node_loop.specs.Timing.Told.{Looks, Sends, Repeats, Ends};
+ghost use Rattle.node_loop.specs.Timing.{IsShort, TimerEvent};
+ghost use Rattle.node_loop.specs.Timing.TimerEvent.{Looks, Sends, Repeats, Ends};
 
 /// What is seen of a node when it is to be decided whether its clock ticks.
 #[derive(Clone, Copy, PartialEq, Eq)]
@@ -17,7 +17,7 @@ pub struct View {
     /// The least position not learned.
     pub front: u32,
     /// Whether an entry that was asked for has come since the last look.
-    pub is_told: bool,
+    pub has_learned: bool,
     /// A position below which another member has learned all, as far as is seen.
     pub reached: u32,
 }
@@ -35,25 +35,25 @@ pub enum Action {
 /// else. Times are in microseconds since the node started, and never go back.
 pub trait Timer {
     // it was given this so far, in order
-    ghost told: { Self → List Told → Type 0 };
+    ghost timer_events: { Self → List TimerEvent → Type 0 };
 
     /// What the node does next, at this time, where this is seen of it.
     fn action(&mut self, now: u64, view: View) -> Action
-        ensures told { Adds (told self.old) (told self.new) (Looks now view ∷ []) }
+        ensures timer_events { Adds (timer_events self.old) (timer_events self.new) (Looks now view ∷ []) }
         ensures short { IsShort result };
 
     /// Votes for what another proposes were sent, which may be lost.
     fn sent(&mut self, now: u64)
-        ensures told { Adds (told self.old) (told self.new) (Sends now ∷ []) };
+        ensures timer_events { Adds (timer_events self.old) (timer_events self.new) (Sends now ∷ []) };
 
     /// Whether the accept requests and votes that were sent of the front's position are sent again now, since they may
     /// be lost. It is asked after [`Timer::action`], at the same time.
     fn repeats(&mut self, now: u64) -> bool
-        ensures told { Adds (told self.old) (told self.new) (Repeats now ∷ []) };
+        ensures timer_events { Adds (timer_events self.old) (timer_events self.new) (Repeats now ∷ []) };
 
     /// From now on the node accepts no command.
     fn end(&mut self)
-        ensures told { Adds (told self.old) (told self.new) (Ends ∷ []) };
+        ensures timer_events { Adds (timer_events self.old) (timer_events self.new) (Ends ∷ []) };
 
     /// Whether the node listens, and accepts no command.
     fn is_listening(&self, now: u64) -> bool;

@@ -6,7 +6,7 @@ ghost use Rattle.node_loop.specs.Keeping.{votes_in};
 
 use crate::latest::proposal_of;
 use crate::packet::{MEMBERS, PACKET};
-use crate::state::{Sent, Told, Votes};
+use crate::state::{ResendProgress, Sent, Votes};
 use px_transport::Wire;
 use px_wire::{Head, Kind};
 use std::alloc::{AllocError, Global};
@@ -37,10 +37,10 @@ const ROOM: usize = 196_608;
 /// What such a socket counts for a datagram beside twice its bytes, over loopback and most devices, and twice a tag.
 const OVERHEAD: usize = 1_088;
 
-impl Told {
+impl ResendProgress {
     /// Nothing, with all of this room. Whatever it lacks, it is taken for one that went back.
-    fn new(room: usize) -> Told {
-        Told {
+    fn new(room: usize) -> ResendProgress {
+        ResendProgress {
             from: u32::MAX,
             steps: 0,
             end: 0,
@@ -51,11 +51,11 @@ impl Told {
     }
 
     /// The same with all of this room again, if it is time.
-    fn emptied(self, room: usize, now: u64) -> Told {
+    fn emptied(self, room: usize, now: u64) -> ResendProgress {
         if now < self.filled.saturating_add(FILLING) {
             return self;
         }
-        Told {
+        ResendProgress {
             room,
             filled: now,
             ..self
@@ -81,14 +81,14 @@ impl Told {
     }
 
     /// The same after votes up to before this position were sent, if any were.
-    fn after(self, from: u32, votes: Stretch, now: u64) -> Told {
-        let seen = Told {
+    fn after(self, from: u32, votes: Stretch, now: u64) -> ResendProgress {
+        let seen = ResendProgress {
             from,
             steps: self.steps(from),
             ..self
         };
         match votes.position {
-            Some(end) => Told {
+            Some(end) => ResendProgress {
                 end,
                 again: now.saturating_add(PAUSE),
                 room: votes.room,
@@ -129,7 +129,7 @@ impl Votes {
             alloc,
             votes: VecDeque::new(alloc),
             size: 0,
-            told: [Told::new(room); MEMBERS],
+            resent: [ResendProgress::new(room); MEMBERS],
             room,
         }
     }
@@ -287,16 +287,16 @@ impl Votes {
             position: None,
             room: 0,
         };
-        let told = match self.told.get(usize::from(to)) {
-            Some(told) => told.emptied(self.room, now),
+        let resent = match self.resent.get(usize::from(to)) {
+            Some(resent) => resent.emptied(self.room, now),
             None => return all,
         };
-        if let Some(start) = told.start(from, now) {
+        if let Some(start) = resent.start(from, now) {
             let before = from.saturating_add(WINDOW);
-            all = self.reach(to, self.place(start), before, told.room);
+            all = self.reach(to, self.place(start), before, resent.room);
         }
-        if let Some(place) = self.told.get_mut(usize::from(to)) {
-            *place = told.after(from, all, now);
+        if let Some(place) = self.resent.get_mut(usize::from(to)) {
+            *place = resent.after(from, all, now);
         }
         all
     }

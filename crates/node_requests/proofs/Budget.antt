@@ -160,5 +160,5 @@ pub ruleset some_rules = (nothing_met, nothing_less, most_at)
 pub ruleset one_member = (none_left, one_more, one_met)
 
 -- the first strings
-pub texts_taken : (n : ℕ) (ps : List (Bor (List ℕ))) → map (λ p. p.now) (take n ps) ≡ take n (map (λ p. p.now) ps)
-texts_taken n ps = sym (take-map (λ p. p.now) n ps)
+pub first_read : (n : ℕ) (ps : List (Bor (List ℕ))) → map (λ p. p.now) (take n ps) ≡ take n (map (λ p. p.now) ps)
+first_read n ps = sym (take-map (λ p. p.now) n ps)

@@ -71,8 +71,8 @@ Changes s t (Ok command) changed = ChangesIf (has_position s) s t command change
 -- the first and the last of them, with one more
 -- Example: 5 to 7 and then 9: 5 to 9.
 abbrev pub with_number : Option (ℕ × ℕ) → Changed → Option (ℕ × ℕ)
-with_number taken (Refused code) = taken
-with_number taken Memory = taken
+with_number accepted (Refused code) = accepted
+with_number accepted Memory = accepted
 with_number None (Asked origin number) = Some (number, number)
 with_number (Some t) (Asked origin number) = Some (t.0, number)
 

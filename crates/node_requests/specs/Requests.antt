@@ -61,15 +61,15 @@ pub record AreMetrics {R : Type 0} {G : Ghosts R} (n : Node R G) (t : Counters) 
 
 -- what a read answers
 abbrev pub IsRead : {R : Type 0} {G : Ghosts R} → Node R G → Option (ℕ × ℕ) → Counters → Read → AnswerValue → Type 0
-IsRead n taken t (read.List listing) a = a ≡ listed (config_of n) (words_of listing)
-IsRead n taken t (read.Test packets) a = a ≡ verdicts_within (config_of n) (map (λ p. p.now) packets.items)
-IsRead n taken t (read.Standing origin number) a = a ≡ standing n taken origin number
-IsRead n taken t (read.Log from) a = a ≡ log_answer n from
-IsRead n taken t (read.Entries from count) a = a ≡ entries_answer n from count
-IsRead n taken t (read.Status json) a = IsStatus n t json a
-IsRead n taken t read.Health a = a ≡ health_answer (health n t)
-IsRead n taken t read.Ready a = a ≡ ready_answer (health n t)
-IsRead n taken t read.Metrics a = AreMetrics n t a
+IsRead n accepted t (read.List listing) a = a ≡ listed (config_of n) (words_of listing)
+IsRead n accepted t (read.Test packets) a = a ≡ verdicts_within (config_of n) (map (λ p. p.now) packets.items)
+IsRead n accepted t (read.Standing origin number) a = a ≡ standing n accepted origin number
+IsRead n accepted t (read.Log from) a = a ≡ log_answer n from
+IsRead n accepted t (read.Entries from count) a = a ≡ entries_answer n from count
+IsRead n accepted t (read.Status json) a = IsStatus n t json a
+IsRead n accepted t read.Health a = a ≡ health_answer (health n t)
+IsRead n accepted t read.Ready a = a ≡ ready_answer (health n t)
+IsRead n accepted t read.Metrics a = AreMetrics n t a
 
 -- fewer positions are applied than the reader asks for
 -- Example: with 411 applied, a read at 412 is waiting, one at 411 is read.
@@ -79,8 +79,8 @@ not_yet = record { code = 503; body = codes "waiting\n" }
 -- the answer of a read, and `not_yet` where it is to wait
 abbrev pub IsReadIf : {R : Type 0} {G : Ghosts R} → Bool → Node R G → Option (ℕ × ℕ) → Counters → Read →
     AnswerValue → Type 0
-IsReadIf true n taken t r a = a ≡ not_yet
-IsReadIf false n taken t r a = IsRead n taken t r a
+IsReadIf true n accepted t r a = a ≡ not_yet
+IsReadIf false n accepted t r a = IsRead n accepted t r a
 
 -- ---- all requests
 
@@ -93,7 +93,7 @@ pub record IsChange {R : Type 0} {G : Ghosts R} (s t : RequestHandler R G) (aske
     Type 0 where
   pub changed : Changed
   pub changes : Changes s.node t.node asked changed
-  pub taken : t.taken ≡ with_number s.taken changed
+  pub accepted : t.accepted ≡ with_number s.accepted changed
   pub stopping : t.is_stopping ≡ s.is_stopping
   pub answered : (a ≡ change_answer changed) ⊎ (a ≡ no_memory)
 
@@ -103,5 +103,5 @@ abbrev pub Answers : {R : Type 0} {G : Ghosts R} → (s t : RequestHandler R G) 
 Answers s t counted (request.Change words text) a =
     IsChange s t (change_in (map (λ w. w.now) words.items) text.now) a
 Answers s t counted (request.Read at r) a =
-    (t ≡ s) × IsReadIf (nat_lt (applied_of s.node) at) s.node s.taken counted r a
+    (t ≡ s) × IsReadIf (nat_lt (applied_of s.node) at) s.node s.accepted counted r a
 Answers s t counted request.Stop a = (t ≡ record s { is_stopping = true }) × (a ≡ shown (codes "stopping\n"))

@@ -13,9 +13,9 @@ use Rattle.pf_node.specs.declared.state.Node.{Node}
 use Rattle.node_requests.specs.Answers.{AnswerValue, shown}
 
 -- the number is one of those that were given, from the first to the last
-abbrev pub is_taken : Option (ℕ × ℕ) → ℕ → Bool
-is_taken None number = false
-is_taken (Some (first, last)) number = nat_le first number && nat_le number last
+abbrev pub is_accepted : Option (ℕ × ℕ) → ℕ → Bool
+is_accepted None number = false
+is_accepted (Some (first, last)) number = nat_le first number && nat_le number last
 
 -- applied POSITION
 abbrev pub applied_line : ℕ → List ℕ
@@ -38,7 +38,7 @@ standing_at log applied kept ours None = if ours then waiting else unknown
 
 -- what became of a request, where these numbers were given here
 abbrev pub standing : {R : Type 0} {G : Ghosts R} → Node R G → Option (ℕ × ℕ) → (origin number : ℕ) → AnswerValue
-standing n taken origin number =
+standing n accepted origin number =
     standing_at (learned_by n) (applied_of n) (kept_of n)
-    ((origin == (membership_of n).me) && is_taken taken number)
+    ((origin == (membership_of n).me) && is_accepted accepted number)
     (place_below (learned_by n) origin number (front (learned_by n)))

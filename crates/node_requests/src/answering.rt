@@ -32,13 +32,13 @@ use px_records::Records;
 use std::alloc::{AllocError, Global};
 
 /// The first and the last number, with one more.
-fn with_number(taken: Option<(u64, u64)>, changed: Changed) -> Option<(u64, u64)>
-    ensures { result ≡ with_number taken changed }
+fn with_number(accepted: Option<(u64, u64)>, changed: Changed) -> Option<(u64, u64)>
+    ensures { result ≡ with_number accepted changed }
 {
     match changed {
-        Changed::Refused(_) => taken,
-        Changed::Memory => taken,
-        Changed::Asked(_, number) => match taken {
+        Changed::Refused(_) => accepted,
+        Changed::Memory => accepted,
+        Changed::Asked(_, number) => match accepted {
             Some((first, _)) => Some((first, number)),
             None => Some((number, number)),
         },
@@ -67,12 +67,12 @@ impl<R: Records> RequestHandler<R> {
     pub fn new(alloc: Global, node: Node<R>) -> RequestHandler<R>
         ensures node { result.node ≡ node }
         ensures works { result.is_stopping ≡ false }
-        ensures taken { result.taken ≡ None }
+        ensures accepted { result.accepted ≡ None }
     {
         RequestHandler {
             node,
             is_stopping: false,
-            taken: None,
+            accepted: None,
             alloc,
         }
     }
@@ -84,7 +84,7 @@ impl<R: Records> RequestHandler<R> {
         let RequestHandler {
             node,
             is_stopping: _,
-            taken: _,
+            accepted: _,
             alloc: _,
         } = self;
         node
@@ -110,9 +110,9 @@ impl<R: Records> RequestHandler<R> {
     /// What became of a request: `applied`, its position and what came of it where that is applied, `waiting` where it
     /// is learned, or was accepted here and isn't learned below the front, else 404 and `unknown`.
     pub fn standing(&self, origin: u8, number: u64) -> Result<Answer, AllocError>
-        ensures { IfOk result (λ a. answer_value a ≡ standing self.now.node self.now.taken origin number) }
+        ensures { IfOk result (λ a. answer_value a ≡ standing self.now.node self.now.accepted origin number) }
     {
-        standing(self.alloc, &self.node, self.taken, origin, number)
+        standing(self.alloc, &self.node, self.accepted, origin, number)
     }
 
     /// How the node stands among the others.
@@ -140,7 +140,7 @@ impl<R: Records> RequestHandler<R> {
 
     /// What a read answers. Nothing changes.
     pub fn read(&self, read: &Read, counters: &Counters) -> Result<Answer, AllocError>
-        ensures { IfOk result (λ a. IsRead self.now.node self.now.taken counters.now read.now (answer_value a)) }
+        ensures { IfOk result (λ a. IsRead self.now.node self.now.accepted counters.now read.now (answer_value a)) }
     {
         match read {
             Read::List(listing) => self.list(listing),
@@ -157,7 +157,7 @@ impl<R: Records> RequestHandler<R> {
 
     /// The same, once that many positions are applied; before that it is 503 and `waiting`.
     fn read_at(&self, at: u32, read: &Read, counters: &Counters) -> Result<Answer, AllocError>
-        ensures { IfOk result (λ a. IsReadIf (nat_lt (applied_of self.now.node) at) self.now.node self.now.taken
+        ensures { IfOk result (λ a. IsReadIf (nat_lt (applied_of self.now.node) at) self.now.node self.now.accepted
             counters.now read.now (answer_value a)) }
     {
         if self.node.applied() < at {
@@ -173,12 +173,12 @@ impl<R: Records> RequestHandler<R> {
     pub fn change(&mut self, words: &[&str], text: &[u8]) -> Result<Changed, AllocError>
         ensures changes { IfOk result (Changes self.old.node self.new.node
             (change_in (map (λ w. w.now) words.now) text.now)) }
-        ensures taken { IfOk result (λ c. self.new.taken ≡ with_number self.old.taken c) }
+        ensures accepted { IfOk result (λ c. self.new.accepted ≡ with_number self.old.accepted c) }
         ensures stopping { self.new.is_stopping ≡ self.old.is_stopping }
         ensures memory { OnErr result (self.new ≡ self.old) }
     {
         let changed = change_node(self.alloc, &mut self.node, words, text)?;
-        self.taken = with_number(self.taken, changed);
+        self.accepted = with_number(self.accepted, changed);
         Ok(changed)
     }
 

@@ -12,6 +12,6 @@ pub struct RequestHandler<R: Records> {
     /// Whether the node is to end after this turn.
     pub is_stopping: bool,
     /// The first and the last number that requests got here.
-    pub taken: Option<(u64, u64)>,
+    pub accepted: Option<(u64, u64)>,
     pub(crate) alloc: Global,
 }

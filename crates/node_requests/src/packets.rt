@@ -45,7 +45,7 @@ fn verdicts(alloc: Global, config: &Config, packets: &[&str]) -> Result<Answer, 
 }
 
 /// The same of as many packets as meet at most [`crate::MET_MAX`] rules together: 88 where one may meet more.
-#[tactic(auto, using(crate::proofs::Budget::texts_taken))]
+#[tactic(auto, using(crate::proofs::Budget::first_read))]
 pub(crate) fn test(alloc: Global, config: &Config, packets: &[&str]) -> Result<Answer, AllocError>
     ensures { IfOk result (λ a. answer_value a ≡ verdicts_within config.now (map (λ p. p.now) packets.now)) }
 {

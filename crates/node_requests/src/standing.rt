@@ -2,7 +2,7 @@
 
 ghost use Rattle.std.specs.Prelude.{◌≡◌, IfOk, string_bytes};
 ghost use Rattle.node_requests.specs.Answers.{answer_value};
-ghost use Rattle.node_requests.specs.Standing.{is_taken, applied_line, waiting, unknown};
+ghost use Rattle.node_requests.specs.Standing.{is_accepted, applied_line, waiting, unknown};
 ghost use Rattle.node_requests.specs.Standing.{standing};
 
 use crate::answer::Answer;
@@ -13,10 +13,10 @@ use px_records::Records;
 use std::alloc::{AllocError, Global};
 
 /// Whether a number is one of those that were given.
-fn is_taken(taken: Option<(u64, u64)>, number: u64) -> bool
-    ensures { result ≡ is_taken taken number }
+fn is_accepted(accepted: Option<(u64, u64)>, number: u64) -> bool
+    ensures { result ≡ is_accepted accepted number }
 {
-    match taken {
+    match accepted {
         Some((first, last)) => first <= number && number <= last,
         None => false,
     }
@@ -54,11 +54,11 @@ fn unknown(alloc: Global) -> Result<Answer, AllocError>
 pub(crate) fn standing<R: Records>(
     alloc: Global,
     node: &Node<R>,
-    taken: Option<(u64, u64)>,
+    accepted: Option<(u64, u64)>,
     origin: u8,
     number: u64,
 ) -> Result<Answer, AllocError>
-    ensures { IfOk result (λ a. answer_value a ≡ standing node.now taken origin number) }
+    ensures { IfOk result (λ a. answer_value a ≡ standing node.now accepted origin number) }
 {
     match node.position_of(origin, number) {
         Some(position) => {
@@ -70,7 +70,7 @@ pub(crate) fn standing<R: Records>(
             Ok(Answer { code: 200, body })
         }
         None => {
-            if origin == node.membership().me() && is_taken(taken, number) {
+            if origin == node.membership().me() && is_accepted(accepted, number) {
                 return waiting(alloc);
             }
             unknown(alloc)

@@ -55,12 +55,12 @@ view_lent e bytes (Some v) d same text =
 -- ---- answers
 
 -- a message of the node is the answer that it gives, or none
-pub answers_told : (g : Group) (from me n : ℕ) (bytes : List ℕ) (x : Message) (r : Option AskAnswer) → me ≡ 255 →
+pub answers_reported : (g : Group) (from me n : ℕ) (bytes : List ℕ) (x : Message) (r : Option AskAnswer) → me ≡ 255 →
     from ≡ n → DatagramBytes g from me x bytes → r ≡ ask_answer x →
     ((f : ℕ) (y : Message) → DatagramBytes g f me y bytes → (from ≡ f) × (x ≡ y)) → Answers g n (Some bytes) r
-answers_told g from me n bytes x (Some a) e f d t only =
+answers_reported g from me n bytes x (Some a) e f d t only =
     (x, subst (λ (k : ℕ). DatagramBytes g k 255 x bytes) f (subst (λ (m : ℕ). DatagramBytes g from m x bytes) e d), sym t)
-answers_told g from me n bytes x None e f d t only = λ a is.
+answers_reported g from me n bytes x None e f d t only = λ a is.
     let y = is.0 in
     let at_me : DatagramBytes g n me y bytes = subst (λ (m : ℕ). DatagramBytes g n m y bytes) (sym e) is.1 in
     let same : x ≡ y = (only n y at_me).1 in

@@ -82,12 +82,12 @@ over_hears t0 t1 t2 t3 w0 w1 w2 w3 from came given a comes p m b s es r =
 -- whole, or none of it
 pub whole_or_none : (r n : ℕ) (bytes came : List ℕ) → came ≡ take n bytes → (r ≡ length came) ⊎ (r ≡ 0) → n ≤ length bytes →
     (take r bytes ≡ came) ⊎ (take r bytes ≡ [])
-whole_or_none r n bytes came e (inl all) l = inl (ap (λ k. take k bytes) (all ∙ ap length e ∙ length_taken n bytes l) ∙ sym e)
+whole_or_none r n bytes came e (inl all) l = inl (ap (λ k. take k bytes) (all ∙ ap length e ∙ length_of_front n bytes l) ∙ sym e)
   where
-    length_taken : (n : ℕ) (bytes : List ℕ) → n ≤ length bytes → length (take n bytes) ≡ n
-    length_taken zero bytes l = refl
-    length_taken (suc n) [] l = absurd (omega (arith, l))
-    length_taken (suc n) (b ∷ bytes) l = ap suc (length_taken n bytes (omega (arith, l)))
+    length_of_front : (n : ℕ) (bytes : List ℕ) → n ≤ length bytes → length (take n bytes) ≡ n
+    length_of_front zero bytes l = refl
+    length_of_front (suc n) [] l = absurd (omega (arith, l))
+    length_of_front (suc n) (b ∷ bytes) l = ap suc (length_of_front n bytes (omega (arith, l)))
 whole_or_none r n bytes came e (inr none) l = inr (ap (λ k. take k bytes) none)
 
 -- a datagram goes over the socket to its address

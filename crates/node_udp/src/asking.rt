@@ -4,14 +4,14 @@ ghost use Rattle.std.specs.Prelude.{◌≡◌, ◌⊎◌, ◌<◌, Err, Some, fa
 ghost use Rattle.std.specs.Prelude.{◌++◌, [], ◌∷◌, ℕ, List};
 ghost use Rattle.pf_entry.specs.Entry.{EntryBytes};
 ghost use Rattle.pf_entry.specs.Owned.{is_over};
-ghost use Rattle.pf_entry.specs.declared.limits.TheConstants.{ASKER};
+ghost use Rattle.pf_entry.specs.declared.limits.TheConstants.{CLIENT};
 ghost use Rattle.px_wire.specs.Message.{group};
 ghost use Rattle.px_wire.specs.Seen.{lent_of, message_of};
 ghost use Rattle.px_transport.specs.Wires.{Handed, IsQuiet, Moves};
 ghost use Rattle.node_udp.specs.Asking.{asked_entry, lent_ask, IsAsk, ask_answer, Answers, Hears, Listens};
 
 use crate::answer::AskAnswer;
-use pf_entry::{ASKER, Command, EncodeFault, encode_asked};
+use pf_entry::{CLIENT, Command, EncodeFault, encode_asked};
 use px_model::EntryView;
 use px_replica::NodeFault;
 use px_transport::Wire;
@@ -31,7 +31,7 @@ fn asked_bytes(alloc: Global, command: &Command) -> Result<Vec<u8>, NodeFault>
     ensures short { OnOk result (is_over (asked_entry command.now) ≡ false) }
     ensures why { OnErr result ((result ≡ Err NodeFault.TooLong) ⊎ (result ≡ Err NodeFault.Memory)) }
 {
-    match encode_asked(alloc, ASKER, TOKEN, command) {
+    match encode_asked(alloc, CLIENT, TOKEN, command) {
         Ok(bytes) => Ok(bytes),
         Err(EncodeFault::Memory) => Err(NodeFault::Memory),
         Err(EncodeFault::TooLong) => Err(NodeFault::TooLong),
@@ -55,7 +55,7 @@ fn ask_bytes(
     node: u8,
     command: &Command,
 ) -> Result<Vec<u8>, NodeFault>
-    requires asker { m.now.me ≡ ASKER }
+    requires client { m.now.me ≡ CLIENT }
     requires member { node < m.now.members }
     ensures spelled { IfOk result (λ v. IsAsk (group m.now) node command.now v.items) }
     ensures long { result ≡ Err NodeFault.TooLong → IsTrue (is_over (asked_entry command.now)) }
@@ -104,7 +104,7 @@ fn ask_answer(message: &MessageView) -> Option<AskAnswer>
 
 /// What a datagram answers, if the node sent it and it answers.
 fn answer_in(m: &Membership, node: u8, bytes: &[u8]) -> Option<AskAnswer>
-    requires { m.now.me ≡ ASKER }
+    requires { m.now.me ≡ CLIENT }
     ensures { Answers (group m.now) node (Some bytes.now) result }
 {
     match decode(m, bytes) {
@@ -121,7 +121,7 @@ fn answer_in(m: &Membership, node: u8, bytes: &[u8]) -> Option<AskAnswer>
 
 /// Waits once: the node's answer, if it comes.
 fn listen<W: Wire>(m: &Membership, node: u8, wire: &mut W) -> Option<AskAnswer>
-    requires { m.now.me ≡ ASKER }
+    requires { m.now.me ≡ CLIENT }
     ensures heard { Moves (W.traffic wire.old) (W.traffic wire.new) (λ es es'. Hears (group m.now) node es result es') }
     ensures same { W.identity wire.new ≡ W.identity wire.old }
 {
@@ -134,7 +134,7 @@ fn listen<W: Wire>(m: &Membership, node: u8, wire: &mut W) -> Option<AskAnswer>
 
 /// Waits at most n times: the node's first answer.
 fn listen_on<W: Wire>(m: &Membership, node: u8, waits: u32, wire: &mut W) -> AskAnswer
-    requires { m.now.me ≡ ASKER }
+    requires { m.now.me ≡ CLIENT }
     ensures heard { Moves (W.traffic wire.old) (W.traffic wire.new)
         (λ es es'. Listens (group m.now) node waits es result es') }
     ensures same { W.identity wire.new ≡ W.identity wire.old }
@@ -160,7 +160,7 @@ pub fn ask_once<W: Wire>(
     waits: u32,
     wire: &mut W,
 ) -> Result<AskAnswer, NodeFault>
-    requires asker { m.now.me ≡ ASKER }
+    requires client { m.now.me ≡ CLIENT }
     requires member { node < m.now.members }
     ensures asked { IfOk result (λ a. (bytes : List ℕ) × IsAsk (group m.now) node command.now bytes ×
         Moves (W.traffic wire.old) (W.traffic wire.new)

@@ -14,7 +14,7 @@ ghost use Rattle.node_udp.specs.inner.Heard.{address_at};
 use crate::address::Address;
 use crate::host::find;
 use crate::socket::Socket;
-use pf_entry::ASKER;
+use pf_entry::CLIENT;
 use px_transport::Wire;
 use px_wire::Head;
 use std::alloc::{AllocError, AllocFailed, Global};
@@ -101,7 +101,7 @@ fn addresses<R: Net>(rt: &R, alloc: Global, texts: &[&str]) -> Result<Vec<Addres
 
 /// Where a member listens, or a client: at any free port, with addresses of the kind that the first is of.
 fn own_address(peers: &[Address], me: u8) -> Option<SocketAddr> {
-    if me != ASKER {
+    if me != CLIENT {
         return match peers.get(usize::from(me)) {
             Some(address) => Some(address.socket()),
             None => None,
@@ -115,7 +115,7 @@ fn own_address(peers: &[Address], me: u8) -> Option<SocketAddr> {
 
 /// The clock's reading, for a member.
 fn reading<C: Clock>(clock: &C, me: u8) -> Option<Instant> {
-    if me == ASKER {
+    if me == CLIENT {
         return None;
     }
     match Instant::now(clock) {
@@ -127,7 +127,7 @@ fn reading<C: Clock>(clock: &C, me: u8) -> Option<Instant> {
 /// Whether a datagram is of a client, by its head.
 fn is_asking(datagram: &[u8]) -> bool {
     match Head::read(datagram) {
-        Some(head) => head.from == ASKER,
+        Some(head) => head.from == CLIENT,
         None => false,
     }
 }
@@ -366,14 +366,14 @@ impl<S: Socket, C: Clock> UdpWire<S, C> {
         ensures failures { self.old.failures ≤ self.new.failures }
         ensures strangers { self.new.strangers ≡ self.old.strangers }
     {
-        if self.me != ASKER {
+        if self.me != CLIENT {
             self.pass(self.since, now, self.wait / PART);
             if self.left.is_zero() {
                 return false;
             }
         }
         let _is_blocking = self.set_blocking(true);
-        let timeout = if self.me == ASKER {
+        let timeout = if self.me == CLIENT {
             self.wait
         } else {
             self.left
@@ -386,10 +386,14 @@ impl<S: Socket, C: Clock> UdpWire<S, C> {
     fn address(&self, to: u8) -> Option<SocketAddr>
         ensures { IfSome result (λ there. GoesTo (peers_of self.now) (me_of self.now) to there) }
     {
-        if self.me != ASKER && to == ASKER {
+        if self.me != CLIENT && to == CLIENT {
             return self.last;
         }
-        let place = if self.me == ASKER { 0 } else { usize::from(to) };
+        let place = if self.me == CLIENT {
+            0
+        } else {
+            usize::from(to)
+        };
         match self.peers.get(place) {
             Some(address) => Some(address.socket()),
             None => None,

@@ -215,8 +215,8 @@ has_place n at ks s e h = go (find (is_named n) (shared ks)) refl h
         omega (arith, long, parts, same, e)
 
 -- it is taken out, and the others close up
-pub taken_out : {Z : Type 0} (n : Name) (at : ℕ) (ks rest : List (Rc AnchorTree Z)) (k : Rc AnchorTree Z) → AreInOrder (shared ks) → at ≡ length (kids_before n (shared ks)) → is_some (find (is_named n) (shared ks)) ≡ true → drop at ks ≡ k ∷ rest → (Some k.value ≡ find (is_named n) (shared ks)) × (shared (take at ks ++ rest) ≡ kids_before n (shared ks) ++ kids_behind n (shared ks))
-taken_out {Z} n at ks rest k s e h c =
+pub removed_at : {Z : Type 0} (n : Name) (at : ℕ) (ks rest : List (Rc AnchorTree Z)) (k : Rc AnchorTree Z) → AreInOrder (shared ks) → at ≡ length (kids_before n (shared ks)) → is_some (find (is_named n) (shared ks)) ≡ true → drop at ks ≡ k ∷ rest → (Some k.value ≡ find (is_named n) (shared ks)) × (shared (take at ks ++ rest) ≡ kids_before n (shared ks) ++ kids_behind n (shared ks))
+removed_at {Z} n at ks rest k s e h c =
     let there = stands n at (shared ks) s e in
     let d : drop at (shared ks) ≡ k.value ∷ shared rest = drop-map (λ k. k.value) at ks ∙ ap shared c in
     (elim (is_named n k.value) as (λ b. is_named n k.value ≡ b → (Some k.value ≡ find (is_named n) (shared ks)) × (shared (take at ks ++ rest) ≡ kids_before n (shared ks) ++ kids_behind n (shared ks))) [

@@ -458,8 +458,8 @@ pub(crate) fn with_entry(
                 mut kids,
             } = anchor;
             let at = count_before(&kids, name);
-            let taken = take_named(&mut kids, at, name);
-            let kid = owned_or_empty(alloc, &names, name, taken)?;
+            let removed = take_named(&mut kids, at, name);
+            let kid = owned_or_empty(alloc, &names, name, removed)?;
             let changed = with_entry(alloc, kid, more, rules, tables)?;
             put_kid(&mut kids, at, Rc::new(alloc, changed)?)?;
             Ok(Anchor {

@@ -98,7 +98,7 @@ pub(crate) fn stands_at(kids: &[Rc<Anchor>], at: usize, name: &Name) -> bool
 pub(crate) fn take_named(kids: &mut Vec<Rc<Anchor>>, at: usize, name: &Name) -> Option<Rc<Anchor>>
     requires order { AreInOrder (shared kids.old.items) }
     requires place { at ≡ length (kids_before name.now (shared kids.old.items)) }
-    ensures taken { option_map (λ k. k.value) result ≡ find (is_named name.now) (shared kids.old.items) }
+    ensures removed { option_map (λ k. k.value) result ≡ find (is_named name.now) (shared kids.old.items) }
     ensures left { shared kids.new.items ≡ kids_before name.now (shared kids.old.items) ++
         kids_behind name.now (shared kids.old.items) }
 {

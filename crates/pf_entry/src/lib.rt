@@ -41,7 +41,7 @@ pub use command::{Command, Entry, SomeAddresses};
 pub use decoding::{decode, no_spelling_begins_another, what_is_spelled_is_read};
 pub use encoding::{encode, encode_asked};
 pub use fault::{BadEntry, EncodeFault};
-pub use limits::{ADDRESSES, ASKER, ENTRY_BYTES};
+pub use limits::{ADDRESSES, CLIENT, ENTRY_BYTES};
 pub use owning::{addresses_owned, path_owned, table_owned};
 pub use pf_rules::{Name, Path, Profile, TableEntry, TableName};
 pub use view::{Addresses, CommandView, EntryView, Names};

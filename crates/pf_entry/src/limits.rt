@@ -9,7 +9,7 @@ pub(crate) const NAMES: u8 = 8;
 /// The last member.
 pub(crate) const LAST_MEMBER: u8 = 14;
 /// Who is no member: a client.
-pub const ASKER: u8 = 255;
+pub const CLIENT: u8 = 255;
 /// An entry's number is below this: it has six bytes.
 pub(crate) const NUMBERS: u64 = 0x1_0000_0000_0000;
 /// The addresses of half an IPv6 address.

@@ -10,7 +10,7 @@ ghost use Rattle.pf_entry.specs.Reading.{add_at, delete_at, replace_at, flush_ta
 ghost use Rattle.pf_entry.specs.Reading.{entry_at, reading};
 ghost use Rattle.pf_entry.specs.Seen.{address_of, names_of, addresses_of, command_of, entry_of};
 
-use crate::limits::{ADDRESSES, ASKER, ENTRY_BYTES, HALF, LAST_MEMBER, NAMES, NUMBERS};
+use crate::limits::{ADDRESSES, CLIENT, ENTRY_BYTES, HALF, LAST_MEMBER, NAMES, NUMBERS};
 use crate::view::{Addresses, CommandView, EntryView, Names};
 use pf_addr::{Addr, Prefix};
 use pf_rules::{Profile, TableEntry, is_anchor_text, is_table_name};
@@ -330,7 +330,7 @@ fn asked_at(bytes: &[u8]) -> Option<((u8, u64), &[u8])>
 {
     let (origin, rest) = byte_at(bytes)?;
     let (number, rest) = u64_at(rest)?;
-    if (origin <= LAST_MEMBER || origin == ASKER) && number < NUMBERS {
+    if (origin <= LAST_MEMBER || origin == CLIENT) && number < NUMBERS {
         Some(((origin, number), rest))
     } else {
         None

@@ -82,12 +82,12 @@ unfolding value
 direction_took [] x e = absurd cc
 direction_took (w ∷ ws) x e = cases (bytes_eq w (codes "in")) (bytes_eq w (codes "out")) refl refl e
   where
-    taken : (word : Word) (d : Direction) → w ≡ word → IsDirection (word ∷ []) d → Some (d, ws) ≡ Some x → Took IsDirection (w ∷ ws) x
-    taken word d same is e = subst (λ z. Took IsDirection (w ∷ ws) z) (some_is (d, ws) x e) (record { piece = word ∷ []; whole = ap (λ (v : Word). v ∷ ws) same; is = is })
+    direction_read : (word : Word) (d : Direction) → w ≡ word → IsDirection (word ∷ []) d → Some (d, ws) ≡ Some x → Took IsDirection (w ∷ ws) x
+    direction_read word d same is e = subst (λ z. Took IsDirection (w ∷ ws) z) (some_is (d, ws) x e) (record { piece = word ∷ []; whole = ap (λ (v : Word). v ∷ ws) same; is = is })
 
     cases : (a b : Bool) → bytes_eq w (codes "in") ≡ a → bytes_eq w (codes "out") ≡ b → (cond a (Some In) (cond b (Some Out) None) >>= λ y. Some (y, ws)) ≡ Some x → Took IsDirection (w ∷ ws) x
-    cases true b ea eb e = taken (codes "in") In ((bytes_eq-Decides w (codes "in")).0 ea) InWord e
-    cases false true ea eb e = taken (codes "out") Out ((bytes_eq-Decides w (codes "out")).0 eb) OutWord e
+    cases true b ea eb e = direction_read (codes "in") In ((bytes_eq-Decides w (codes "in")).0 ea) InWord e
+    cases false true ea eb e = direction_read (codes "out") Out ((bytes_eq-Decides w (codes "out")).0 eb) OutWord e
     cases false false ea eb e = absurd cc
 
 direction_reads : (ws rest : List Word) (d : Direction) → IsDirection ws d → value direction_of (ws ++ rest) ≡ Some (d, rest)

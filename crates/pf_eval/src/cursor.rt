@@ -70,7 +70,7 @@ impl<'t> Cursor<'t> {
     /// The next word.
     fn word(&mut self) -> Option<&'t [u8]>
         ensures read { Reads (option_copied result) (left self.new) (word_at (left self.old)) }
-        ensures taken { IsSome result → length (left self.new) < length (left self.old) }
+        ensures consumed { IsSome result → length (left self.new) < length (left self.old) }
     {
         let (word, rest) = first_word(self.rest)?;
         self.rest = rest;
@@ -84,7 +84,7 @@ impl<'t> Cursor<'t> {
         requires some { 0 < length key.now }
         requires plain { list_all (λ b. not (is_blank b)) key.now ≡ true }
         ensures read { Reads (option_copied result) (left self.new) (word_after key.now (left self.old)) }
-        ensures taken { IsSome result → length (left self.new) < length (left self.old) }
+        ensures consumed { IsSome result → length (left self.new) < length (left self.old) }
     {
         if !self.passes(key) {
             return None;
@@ -111,7 +111,7 @@ impl<'t> Cursor<'t> {
     #[tactic(auto, unfolding(crate::specs::PacketTexts::value, pf_rules::specs::Words::is_interface_name))]
     fn name(&mut self) -> Option<InterfaceName>
         ensures read { Reads result (left self.new) (value name_of (left self.old)) }
-        ensures taken { IsSome result → length (left self.new) < length (left self.old) }
+        ensures consumed { IsSome result → length (left self.new) < length (left self.old) }
     {
         let word = self.word()?;
         if is_reserved(Profile::One, word) {

@@ -25,7 +25,7 @@ use Rattle.pf_expansion.specs.Anchors.{anchor_flags, heading_with, headings}
 use Rattle.pf_expansion.specs.Causes.{bad_ports, bad_types}
 use Rattle.pf_grammar.proofs.Made.{interface_fits, some_fits}
 use Rattle.pf_grammar.proofs.PartsFit.{protocol_fits, flags_fit}
-use Rattle.pf_grammar.proofs.Told.{FitsIf, FitsFlags, FitsConditions}
+use Rattle.pf_grammar.proofs.ShownTokens.{FitsIf, FitsFlags, FitsConditions}
 use Rattle.pf_grammar.proofs.RuleFits.{FitsName, AllFit, FitsText, behind_fits, hosts_fit, flags_ok, combined_fit, all_flat}
 use Rattle.pf_grammar.proofs.Targets.{AreAnchorNames, FitsTarget}
 use Rattle.pf_grammar.proofs.AnchorLine.{FitsHeading}

@@ -25,7 +25,7 @@ use Rattle.pf_grammar.specs.declared.fault.Refusal.{Refusal}
 use Rattle.pf_grammar.specs.declared.place.Place.{Place}
 use Rattle.pf_grammar.specs.Causes.{statement_cause}
 use Rattle.pf_grammar.specs.Reading.{Sofar, macros_of, judge, statement_outcome, answered}
-use Rattle.pf_grammar.proofs.Told.{FitsRule, FitsConditions, FitsFlags, direction_tokens, quick_tokens, interface_tokens, family_tokens, protocol_tokens, ends_tokens, type_tokens, flags_tokens, test_of_tokens, option_tokens, common_tokens, written_flags, written_types, written_conditions, direction_told, quick_told, flags_told, common_told, common_split}
+use Rattle.pf_grammar.proofs.ShownTokens.{FitsRule, FitsConditions, FitsFlags, direction_tokens, quick_tokens, interface_tokens, family_tokens, protocol_tokens, ends_tokens, type_tokens, flags_tokens, test_of_tokens, option_tokens, common_tokens, written_flags, written_types, written_conditions, direction_spelled, quick_spelled, flags_spelled, common_spelled, common_split}
 use Rattle.pf_grammar.proofs.Expanded.{combined_again, no_bad_ports, some_combination, not_too_many, no_bad_types}
 use Rattle.pf_grammar.proofs.Parts.{lexed, with_newline, AreParts, OnePart, word_part, line_lexes}
 use Rattle.pf_grammar.proofs.RuleParts.{more_tokens, more_are}
@@ -87,7 +87,7 @@ written_anchor h = record { target = h.target; quick = h.quick; conditions = wri
 
 pub flags_behind : (test : FlagTest) → FitsFlags test → IsBehind (codes "flags") IsFlags (flags_tokens act.Drop test) (written_flags act.Drop test)
 flags_behind flags.Any fits = Missing
-flags_behind (flags.Just set of) fits = Behind (test_of_tokens (flags.Just set of)) (flags.Just set of) (flags_told (flags.Just set of) fits)
+flags_behind (flags.Just set of) fits = Behind (test_of_tokens (flags.Just set of)) (flags.Just set of) (flags_spelled (flags.Just set of) fits)
 
 pub no_types_left : (types : Option ℕ) (ts : List Token) → types ≡ None → type_tokens types ++ (ts ++ []) ≡ ts
 no_types_left None ts e = append-nil ts
@@ -97,8 +97,8 @@ pub types_unwritten : (types : Option ℕ) → types ≡ None → written_types 
 types_unwritten None e = refl
 types_unwritten (Some n) e = absurd cc
 
-pub anchor_told : (profile : Profile) (h : Heading) → FitsHeading profile h → IsAnchor profile (Quoted (target_text h.target) ∷ more_tokens (as_rule h)) (written_anchor h)
-anchor_told profile h fits = record {
+pub anchor_spelled : (profile : Profile) (h : Heading) → FitsHeading profile h → IsAnchor profile (Quoted (target_text h.target) ∷ more_tokens (as_rule h)) (written_anchor h)
+anchor_spelled profile h fits = record {
   target = Quoted (target_text h.target) ∷ [];
   direction = direction_tokens h.conditions.direction;
   quick = quick_tokens h.quick;
@@ -108,15 +108,15 @@ anchor_told profile h fits = record {
       ap (λ (us : List Token). Quoted (target_text h.target) ∷ (direction_tokens h.conditions.direction ++ (quick_tokens h.quick ++ us)))
       (sym (common_split (as_rule h)) ∙ ap (λ (us : List Token). common_tokens h.conditions ++ us) (no_types_left h.conditions.icmp_type (flags_tokens act.Drop h.conditions.flags) fits.no_type));
   is_target = TargetString (target_text h.target) h.target (target_again h.target fits.target);
-  is_direction = direction_told h.conditions.direction;
-  is_quick = quick_told h.quick;
-  is_common = common_told profile h.conditions fits.conditions;
+  is_direction = direction_spelled h.conditions.direction;
+  is_quick = quick_spelled h.quick;
+  is_common = common_spelled profile h.conditions fits.conditions;
   are_flags = flags_behind h.conditions.flags fits.conditions.flags;
   no_types = types_unwritten h.conditions.icmp_type fits.no_type;
 }
 
 anchor_value : (profile : Profile) (h : Heading) → FitsHeading profile h → value_of profile (anchor_tokens h) ≡ Some (Anchors (written_anchor h))
-anchor_value profile h fits = statement_reads profile (anchor_tokens h) (Anchors (written_anchor h)) (AnchorStatement _ (written_anchor h) (anchor_told profile h fits))
+anchor_value profile h fits = statement_reads profile (anchor_tokens h) (Anchors (written_anchor h)) (AnchorStatement _ (written_anchor h) (anchor_spelled profile h fits))
 
 -- ---- it comes to itself
 
@@ -133,8 +133,8 @@ no_cause place profile tables before h fits free room =
 abbrev pub anchor_added : Policy → List Name → List TableValue → List ItemValue → Heading → Result Sofar Refusal
 anchor_added p skip tables items h = Ok (so_far p skip tables (items ++ item.Anchors h ∷ []))
 
-anchor_meant : (place : Place) (profile : Profile) (p : Policy) (skip : List Name) (tables : List TableValue) (items : List ItemValue) (n : ℕ) (h : Heading) → FitsHeading profile h → is_misnamed (unnamed_in 0 items) h.target ≡ false → length items < 1024 → statement_outcome place profile (so_far p skip tables items) n false (anchor_tokens h) ≡ anchor_added p skip tables items h
-anchor_meant place profile p skip tables items n h fits free room =
+anchor_outcome : (place : Place) (profile : Profile) (p : Policy) (skip : List Name) (tables : List TableValue) (items : List ItemValue) (n : ℕ) (h : Heading) → FitsHeading profile h → is_misnamed (unnamed_in 0 items) h.target ≡ false → length items < 1024 → statement_outcome place profile (so_far p skip tables items) n false (anchor_tokens h) ≡ anchor_added p skip tables items h
+anchor_outcome place profile p skip tables items n h fits free room =
     ap (λ (value : Option Statement). answered n (so_far p skip tables items) value (statement_cause place tables items value)) (anchor_value profile h fits)
     ∙ ap (answered n (so_far p skip tables items) (Some (Anchors (written_anchor h)))) (no_cause place profile tables items h fits free room)
     ∙ ap (λ (hs : List Heading). let next : Result Sofar Refusal = Ok (so_far p skip tables (items ++ map (λ (h : Heading). item.Anchors h) hs)) in next) (headings_again profile h fits)
@@ -144,4 +144,4 @@ pub anchor_is_added : (place : Place) (profile : Profile) (p : Policy) (skip : L
 anchor_is_added place profile p skip tables items n h fits free room =
     let short = anchor_short h in
     line_judged place profile p skip tables items n (anchor_tokens h) (omega arith) (not_definition n (Word (codes "anchor")) (Quoted (target_text h.target) ∷ more_tokens (as_rule h)) refl) (no_fault (anchor_tokens h) 0 short.simple (let k = short.short in omega (arith, k)))
-    ∙ anchor_meant place profile p skip tables items n h fits free room
+    ∙ anchor_outcome place profile p skip tables items n h fits free room

@@ -23,7 +23,7 @@ use Rattle.pf_expansion.specs.Causes.{bad_ports, bad_types, has_no_combination, 
 use Rattle.pf_expansion.specs.Anchors.{anchor_flags, given_name, headings, heading_with, is_reserved, is_given, is_misnamed}
 use Rattle.pf_expansion.specs.Blocks.{given_target, next_unnamed, target_or_given, named, unnamed_after, carried, item_values, block_values, both, conditions_judged, ruleset_judged, item_judged, block_judged, nothing_wrong, is_reserved_name, item_misnamed, block_misnamed, is_unnamed, unnamed_with, unnamed_in}
 use Rattle.pf_expansion.proofs.Given.{given_form}
-use Rattle.pf_grammar.proofs.Told.{FitsRule}
+use Rattle.pf_grammar.proofs.ShownTokens.{FitsRule}
 use Rattle.pf_grammar.proofs.RuleFits.{text_fits, expanded_fit}
 use Rattle.pf_grammar.proofs.AnchorLine.{FitsHeading}
 use Rattle.pf_grammar.proofs.AnchorFits.{FitsAnchorText, anchor_text_fits, heading_text_fits, said_text_fits, headings_fit}

@@ -24,7 +24,7 @@ use Rattle.pf_expansion.specs.Blocks.{is_unnamed}
 use Rattle.pf_grammar.specs.declared.fault.Refusal.{Refusal}
 use Rattle.pf_grammar.specs.declared.place.Place.{Place}
 use Rattle.pf_grammar.specs.Reading.{Sofar, macros_of, judge}
-use Rattle.pf_grammar.proofs.Told.{rule_tokens}
+use Rattle.pf_grammar.proofs.ShownTokens.{rule_tokens}
 use Rattle.pf_grammar.proofs.Parts.{lexed, at_line, with_newline, AreParts, NoPart, IsPart, parts_append, word_part, open_part, close_part, line_lexes}
 use Rattle.pf_grammar.proofs.RuleParts.{more_tokens, one_part, rule_line}
 use Rattle.pf_grammar.proofs.Lines.{Simple, all_append, simple_word, flattened_none, rule_short, tokens_at, so_far}

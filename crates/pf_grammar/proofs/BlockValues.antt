@@ -19,11 +19,11 @@ use Rattle.pf_expansion.specs.Causes.{is_too_wide, has_deep_list, has_too_many}
 use Rattle.pf_expansion.specs.Anchors.{headings, is_reserved, is_misnamed}
 use Rattle.pf_expansion.specs.Blocks.{given_target, next_unnamed, target_or_given, named, unnamed_after, item_values, block_values, rule_count, conditions_judged, item_judged, block_judged, is_reserved_name, item_misnamed, block_misnamed, Path, item_paths, block_paths, paths_in, paths_within, is_unnamed, unnamed_with}
 use Rattle.pf_show.specs.Shown.{target_text}
-use Rattle.pf_grammar.proofs.Told.{FitsRule, rule_told, written, written_conditions, rule_tokens, direction_tokens, quick_tokens, common_tokens, flags_tokens, direction_told, quick_told, common_told, common_split}
+use Rattle.pf_grammar.proofs.ShownTokens.{FitsRule, rule_spelled, written, written_conditions, rule_tokens, direction_tokens, quick_tokens, common_tokens, flags_tokens, direction_spelled, quick_spelled, common_spelled, common_split}
 use Rattle.pf_grammar.proofs.Expanded.{combined_again, expanded_again, no_bad_ports, some_combination, not_too_many, no_bad_types}
 use Rattle.pf_grammar.proofs.RuleParts.{more_tokens}
 use Rattle.pf_grammar.proofs.Targets.{FitsTarget, target_again}
-use Rattle.pf_grammar.proofs.AnchorLine.{as_rule, FitsHeading, as_fitting, anchor_tokens, written_anchor, anchor_told, flags_behind, no_types_left, types_unwritten, headings_again}
+use Rattle.pf_grammar.proofs.AnchorLine.{as_rule, FitsHeading, as_fitting, anchor_tokens, written_anchor, anchor_spelled, flags_behind, no_types_left, types_unwritten, headings_again}
 
 -- ---- rules that a source gives
 
@@ -82,15 +82,15 @@ abbrev mutual
 
 -- ---- they spell it
 
-name_told : (profile : Profile) (t : Target) → FitsTarget t → IsOptional (IsTarget profile) (name_tokens t) (said_name t)
-name_told profile t fits = cases (is_unnamed t.names)
+name_spelled : (profile : Profile) (t : Target) → FitsTarget t → IsOptional (IsTarget profile) (name_tokens t) (said_name t)
+name_spelled profile t fits = cases (is_unnamed t.names)
   where
     cases : (b : Bool) → IsOptional (IsTarget profile) (cond b [] (Quoted (target_text t) ∷ [])) (cond b None (Some t))
     cases true = LeftOut
     cases false = Given (Quoted (target_text t) ∷ []) t (TargetString (target_text t) t (target_again t fits))
 
-pub heading_told : (profile : Profile) (h : Heading) → FitsHeading profile h → IsHeading profile (heading_tokens h) (written_heading h)
-heading_told profile h fits = record {
+pub heading_spelled : (profile : Profile) (h : Heading) → FitsHeading profile h → IsHeading profile (heading_tokens h) (written_heading h)
+heading_spelled profile h fits = record {
   target = name_tokens h.target;
   direction = direction_tokens h.conditions.direction;
   quick = quick_tokens h.quick;
@@ -99,10 +99,10 @@ heading_told profile h fits = record {
   whole =
       ap (λ (us : List Token). name_tokens h.target ++ (direction_tokens h.conditions.direction ++ (quick_tokens h.quick ++ us)))
       (sym (common_split (as_rule h)) ∙ ap (λ (us : List Token). common_tokens h.conditions ++ us) (no_types_left h.conditions.icmp_type (flags_tokens act.Drop h.conditions.flags) fits.no_type));
-  is_target = name_told profile h.target fits.target;
-  is_direction = direction_told h.conditions.direction;
-  is_quick = quick_told h.quick;
-  is_common = common_told profile h.conditions fits.conditions;
+  is_target = name_spelled profile h.target fits.target;
+  is_direction = direction_spelled h.conditions.direction;
+  is_quick = quick_spelled h.quick;
+  is_common = common_spelled profile h.conditions fits.conditions;
   are_flags = flags_behind h.conditions.flags fits.conditions.flags;
   no_types = types_unwritten h.conditions.icmp_type fits.no_type;
 }
@@ -115,15 +115,15 @@ not_wild t plain = cases (is_unnamed t.names)
     cases false = plain
 
 mutual
-  pub item_told : (profile : Profile) (u : ℕ) (i : ItemValue) → FitsItem profile u i → IsItem profile (item_tokens i) (written_item i)
-  item_told profile u (Filters r) fits = ARule (rule_tokens r) (written r) (rule_told profile r fits)
-  item_told profile u (Anchors h) fits = AnAnchor _ (written_anchor h) (anchor_told profile h fits.0)
-  item_told profile u (Blocks h block) fits = ABlock (heading_tokens h) (Newline ∷ block_tokens block) (written_heading h) (written_block block) (heading_told profile h fits.0) (not_wild h.target fits.1.plain) (EmptyLine (block_tokens block) (written_block block) (block_told profile 0 block fits.3))
+  pub item_spelled : (profile : Profile) (u : ℕ) (i : ItemValue) → FitsItem profile u i → IsItem profile (item_tokens i) (written_item i)
+  item_spelled profile u (Filters r) fits = ARule (rule_tokens r) (written r) (rule_spelled profile r fits)
+  item_spelled profile u (Anchors h) fits = AnAnchor _ (written_anchor h) (anchor_spelled profile h fits.0)
+  item_spelled profile u (Blocks h block) fits = ABlock (heading_tokens h) (Newline ∷ block_tokens block) (written_heading h) (written_block block) (heading_spelled profile h fits.0) (not_wild h.target fits.1.plain) (EmptyLine (block_tokens block) (written_block block) (block_spelled profile 0 block fits.3))
 
-  pub block_told : (profile : Profile) (u : ℕ) (is : ItemValues) → FitsItems profile u is → AreItems profile (block_tokens is) (written_block is)
-  block_told profile u no_items fits = NoItem
-  block_told profile u (one_more i is) fits =
-      OneItem (item_tokens i) (Newline ∷ block_tokens is) (written_item i) (written_block is) (item_told profile u i fits.0) refl (EmptyLine (block_tokens is) (written_block is) (block_told profile (unnamed_with u i) is fits.1))
+  pub block_spelled : (profile : Profile) (u : ℕ) (is : ItemValues) → FitsItems profile u is → AreItems profile (block_tokens is) (written_block is)
+  block_spelled profile u no_items fits = NoItem
+  block_spelled profile u (one_more i is) fits =
+      OneItem (item_tokens i) (Newline ∷ block_tokens is) (written_item i) (written_block is) (item_spelled profile u i fits.0) refl (EmptyLine (block_tokens is) (written_block is) (block_spelled profile (unnamed_with u i) is fits.1))
 
 -- ---- what is wrong with them: nothing
 

@@ -22,7 +22,7 @@ use Rattle.pf_expansion.specs.Expansion.{choices, type_family, resolved, keeps_s
 use Rattle.pf_expansion.specs.Causes.{any_listed, all_listed, is_deep_list, is_bad_port, has_ports, bad_ports, is_too_wide, has_no_combination, has_deep_list, has_too_many, is_bad_type, is_icmp, bad_types}
 use Rattle.pf_rules.specs.Items.{ItemValue}
 use Rattle.pf_grammar.specs.Causes.{statement_cause}
-use Rattle.pf_grammar.proofs.Told.{FitsRule, FitsIf, FitsType, FitsState, ported, one_if, written_action, written_flags, written_state, written_protocol, written_conditions, written}
+use Rattle.pf_grammar.proofs.ShownTokens.{FitsRule, FitsIf, FitsType, FitsState, ported, one_if, written_action, written_flags, written_state, written_protocol, written_conditions, written}
 use Rattle.pf_rules.specs.Rulesets.{TableValue}
 
 -- ---- one combination

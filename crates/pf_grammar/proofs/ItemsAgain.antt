@@ -31,12 +31,12 @@ use Rattle.pf_grammar.specs.declared.fault.Refusal.{Refusal}
 use Rattle.pf_grammar.specs.declared.place.Place.{Place}
 use Rattle.pf_grammar.specs.Causes.{statement_cause}
 use Rattle.pf_grammar.specs.Reading.{Sofar, macros_of, judge, statement_outcome, answered, unless_fault}
-use Rattle.pf_grammar.proofs.Told.{told_rank, rule_tokens}
+use Rattle.pf_grammar.proofs.ShownTokens.{shown_rank, rule_tokens}
 use Rattle.pf_grammar.proofs.Parts.{lexed, at_line}
 use Rattle.pf_grammar.proofs.RuleParts.{more_tokens, rule_line}
 use Rattle.pf_grammar.proofs.Lines.{so_far, line_read, simple_in_line, simple_level, rule_short, rule_added, flattened_none, not_equals}
 use Rattle.pf_grammar.proofs.AnchorLine.{as_rule, as_fitting, anchor_tokens, anchor_line, anchor_short, anchor_is_added}
-use Rattle.pf_grammar.proofs.BlockValues.{FitsItem, written_heading, written_block, written_item, heading_tokens, item_tokens, block_tokens, heading_told, not_wild, block_told, item_clean, item_named, item_made, item_pathed}
+use Rattle.pf_grammar.proofs.BlockValues.{FitsItem, written_heading, written_block, written_item, heading_tokens, item_tokens, block_tokens, heading_spelled, not_wild, block_spelled, item_clean, item_named, item_made, item_pathed}
 use Rattle.pf_grammar.proofs.BlockLines.{end_line, placed_item, placed_block, item_lexes, item_tokens_of, item_goes, statement_read}
 
 -- ---- rules that a source gives, one after another
@@ -88,13 +88,13 @@ module _ (place : Place) (profile : Profile) (p : Policy) (skip : List Name) (ta
 
   value : value_of profile (item_tokens (Blocks h block)) ≡ Some (AnchorBlocks (written_heading h) (written_block block))
   value = statement_reads profile (item_tokens (Blocks h block)) (AnchorBlocks (written_heading h) (written_block block))
-      (BlockStatement (heading_tokens h) (Newline ∷ block_tokens block) (written_heading h) (written_block block) (heading_told profile h fits.0) (not_wild h.target fits.1.plain) (EmptyLine (block_tokens block) (written_block block) (block_told profile 0 block fits.3)))
+      (BlockStatement (heading_tokens h) (Newline ∷ block_tokens block) (written_heading h) (written_block block) (heading_spelled profile h fits.0) (not_wild h.target fits.1.plain) (EmptyLine (block_tokens block) (written_block block) (block_spelled profile 0 block fits.3)))
 
   abbrev added : List ItemValue → Result Sofar Refusal
   added items = Ok (so_far p skip tables (before ++ items))
 
-  is_meant : statement_outcome place profile (so_far p skip tables before) n false (item_tokens (Blocks h block)) ≡ added (Blocks h block ∷ [])
-  is_meant =
+  is_outcome : statement_outcome place profile (so_far p skip tables before) n false (item_tokens (Blocks h block)) ≡ added (Blocks h block ∷ [])
+  is_outcome =
       ap (λ (v : Option Statement). answered n (so_far p skip tables before) v (statement_cause place tables before v)) value
       ∙ ap (answered n (so_far p skip tables before) (Some (AnchorBlocks (written_heading h) (written_block block)))) no_cause
       ∙ ap added (item_made profile p (unnamed_in 0 before) (Blocks h block) fits)
@@ -106,7 +106,7 @@ module _ (place : Place) (profile : Profile) (p : Policy) (skip : List Name) (ta
   first_same (t ∷ ts) e = e
 
   behind_named : (b : Bool) → begins_symbol Equals (cond b [] (Quoted (target_text h.target) ∷ []) ++ (more_tokens (as_rule h))) ≡ false
-  behind_named true = let r : 1 < rank (more_tokens (as_rule h)) = told_rank profile (as_rule h) (as_fitting profile h fits.0) in no_symbol Equals (more_tokens (as_rule h)) (omega arith) (omega (arith, r))
+  behind_named true = let r : 1 < rank (more_tokens (as_rule h)) = shown_rank profile (as_rule h) (as_fitting profile h fits.0) in no_symbol Equals (more_tokens (as_rule h)) (omega arith) (omega (arith, r))
   behind_named false = refl
 
   defines_none : (ts : List Token) (rest : List Placed) → begins_symbol Equals ts ≡ false → is_definition (at_line n (Word (codes "anchor")) ∷ (map (at_line n) (ts ++ (Mark Open ∷ [])) ++ rest)) ≡ false
@@ -126,7 +126,7 @@ module _ (place : Place) (profile : Profile) (p : Policy) (skip : List Name) (ta
       ∙ ap (statement_judged (judge place profile) (so_far p skip tables before) n false) (flattened_none ps false)
       ∙ ap (λ (ts : List Token). unless_fault n (reading_fault [] 0 0 ts) (statement_outcome place profile (so_far p skip tables before) n false ts)) (item_tokens_of n (Blocks h block))
       ∙ ap (λ (o : Option ReadingFault). unless_fault n o (statement_outcome place profile (so_far p skip tables before) n false (item_tokens (Blocks h block)))) fine
-      ∙ is_meant
+      ∙ is_outcome
 
 -- ---- items
 

@@ -44,7 +44,7 @@ use Rattle.pf_grammar.specs.Reading.{Sofar, macros_of, judge, statement_outcome,
 use Rattle.pf_show.specs.Shown.{letters}
 use Rattle.pf_statements.proofs.Fronts.{rank, no_symbol}
 use Rattle.pf_statements.proofs.StatementsSpelled.{statement_reads}
-use Rattle.pf_grammar.proofs.Told.{FitsRule, rule_told, told_rank, written, action_tokens, direction_tokens, quick_tokens, negated_tokens, interface_tokens, family_tokens, protocol_tokens, length_tokens, addresses_tokens, host_tokens, test_tokens, port_tokens, end_tokens, both_tokens, ends_tokens, type_tokens, letters_token, test_of_tokens, flags_tokens, state_tokens, option_tokens, rule_tokens}
+use Rattle.pf_grammar.proofs.ShownTokens.{FitsRule, rule_spelled, shown_rank, written, action_tokens, direction_tokens, quick_tokens, negated_tokens, interface_tokens, family_tokens, protocol_tokens, length_tokens, addresses_tokens, host_tokens, test_tokens, port_tokens, end_tokens, both_tokens, ends_tokens, type_tokens, letters_token, test_of_tokens, flags_tokens, state_tokens, option_tokens, rule_tokens}
 use Rattle.pf_grammar.proofs.Expanded.{expanded_again, no_cause}
 use Rattle.pf_grammar.proofs.Parts.{at_line}
 use Rattle.pf_grammar.proofs.RuleParts.{more_tokens}
@@ -312,7 +312,7 @@ not_definition n t (u ∷ us) e = not_equals (is_some_word t) u e
 
 rule_no_definition : (profile : Profile) (r : Rule) (n : ℕ) → FitsRule profile r → is_definition (map (at_line n) (rule_tokens r)) ≡ false
 rule_no_definition profile r n fits =
-    let h : 1 < rank (more_tokens r) = told_rank profile r fits in
+    let h : 1 < rank (more_tokens r) = shown_rank profile r fits in
     cases r.action (more_tokens r) (no_symbol Equals (more_tokens r) (omega arith) (omega (arith, h)))
   where
     cases : (a : Action) (us : List Token) → begins_symbol Equals us ≡ false → is_definition (map (at_line n) (action_tokens a ++ us)) ≡ false
@@ -323,13 +323,13 @@ rule_no_definition profile r n fits =
 -- ---- a rule is added
 
 rule_value : (profile : Profile) (r : Rule) → FitsRule profile r → value_of profile (rule_tokens r) ≡ Some (Rules (written r))
-rule_value profile r fits = statement_reads profile (rule_tokens r) (Rules (written r)) (RuleStatement (rule_tokens r) (written r) (rule_told profile r fits))
+rule_value profile r fits = statement_reads profile (rule_tokens r) (Rules (written r)) (RuleStatement (rule_tokens r) (written r) (rule_spelled profile r fits))
 
 abbrev pub added : Policy → List Name → List TableValue → List ItemValue → Rule → Result Sofar Refusal
 added p skip tables items r = Ok (so_far p skip tables (items ++ Filters r ∷ []))
 
-rule_meant : (place : Place) (profile : Profile) (p : Policy) (skip : List Name) (tables : List TableValue) (items : List ItemValue) (n : ℕ) (r : Rule) → FitsRule profile r → length items < 1024 → statement_outcome place profile (so_far p skip tables items) n false (rule_tokens r) ≡ added p skip tables items r
-rule_meant place profile p skip tables items n r fits room =
+rule_outcome : (place : Place) (profile : Profile) (p : Policy) (skip : List Name) (tables : List TableValue) (items : List ItemValue) (n : ℕ) (r : Rule) → FitsRule profile r → length items < 1024 → statement_outcome place profile (so_far p skip tables items) n false (rule_tokens r) ≡ added p skip tables items r
+rule_outcome place profile p skip tables items n r fits room =
     ap (λ (value : Option Statement). answered n (so_far p skip tables items) value (statement_cause place tables items value)) (rule_value profile r fits)
     ∙ ap (answered n (so_far p skip tables items) (Some (Rules (written r)))) (no_cause place profile tables items r fits room)
     ∙ ap (λ (rs : List Rule). let next : Result Sofar Refusal = Ok (so_far p skip tables (items ++ map (λ (r : Rule). Filters r) rs)) in next) (expanded_again profile p r fits)
@@ -362,4 +362,4 @@ pub rule_added : (place : Place) (profile : Profile) (p : Policy) (skip : List N
 rule_added place profile p skip tables items n r fits room =
     let short = rule_short r in
     line_judged place profile p skip tables items n (rule_tokens r) (some_action r.action _) (rule_no_definition profile r n fits) (no_fault (rule_tokens r) 0 short.simple (let h = short.short in omega (arith, h)))
-    ∙ rule_meant place profile p skip tables items n r fits room
+    ∙ rule_outcome place profile p skip tables items n r fits room

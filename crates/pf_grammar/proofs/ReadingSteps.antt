@@ -152,19 +152,19 @@ few_headings : (items unnamed : ℕ) (text : AnchorText) → lowest (anchor_caus
 unfolding headings
 few_headings items unnamed text e = omega (arith, few_found (anchor_flags text) items (is_misnamed unnamed text.target) text.conditions e, length-map (combined (anchor_flags text) text.conditions) (heading_with text))
 
-few_taken : (line : ℕ) (place : Place) (sofar next : Sofar) (value : Option Statement) → Room sofar.content.items → answered line sofar value (statement_cause place sofar.content.tables sofar.content.items value) ≡ Ok next → Room next.content.items
-few_taken line place sofar next None few e = absurd (let h = e in cc)
-few_taken line place sofar next (Some (Sets (SetPolicy policy))) few e = subst (λ (s : Sofar). Room s.content.items) (answered_ok line sofar next (Some (Sets (SetPolicy policy))) (lowest (setting_causes place (SetPolicy policy))) e).1 few
-few_taken line place sofar next (Some (Sets (SetSkip names))) few e = subst (λ (s : Sofar). Room s.content.items) (answered_ok line sofar next (Some (Sets (SetSkip names))) (lowest (setting_causes place (SetSkip names))) e).1 few
-few_taken line place sofar next (Some (Tables t)) few e = subst (λ (s : Sofar). Room s.content.items) (answered_ok line sofar next (Some (Tables t)) (lowest (table_causes sofar.content.tables t)) e).1 few
-few_taken line place sofar next (Some (Rules text)) few e =
+few_answered : (line : ℕ) (place : Place) (sofar next : Sofar) (value : Option Statement) → Room sofar.content.items → answered line sofar value (statement_cause place sofar.content.tables sofar.content.items value) ≡ Ok next → Room next.content.items
+few_answered line place sofar next None few e = absurd (let h = e in cc)
+few_answered line place sofar next (Some (Sets (SetPolicy policy))) few e = subst (λ (s : Sofar). Room s.content.items) (answered_ok line sofar next (Some (Sets (SetPolicy policy))) (lowest (setting_causes place (SetPolicy policy))) e).1 few
+few_answered line place sofar next (Some (Sets (SetSkip names))) few e = subst (λ (s : Sofar). Room s.content.items) (answered_ok line sofar next (Some (Sets (SetSkip names))) (lowest (setting_causes place (SetSkip names))) e).1 few
+few_answered line place sofar next (Some (Tables t)) few e = subst (λ (s : Sofar). Room s.content.items) (answered_ok line sofar next (Some (Tables t)) (lowest (table_causes sofar.content.tables t)) e).1 few
+few_answered line place sofar next (Some (Rules text)) few e =
     let a = answered_ok line sofar next (Some (Rules text)) (lowest (rule_causes (length sofar.content.items) text)) e in
     let rules = expanded sofar.policy text in
     subst (λ (s : Sofar). Room s.content.items) a.1 (room_added sofar.content.items (map (λ (r : Rule). item.Filters r) rules) few (omega (arith, few_rules sofar.policy (length sofar.content.items) text a.0, length-map rules (λ (r : Rule). item.Filters r))) (filters_fine rules))
-few_taken line place sofar next (Some (Anchors text)) few e =
+few_answered line place sofar next (Some (Anchors text)) few e =
     let a = answered_ok line sofar next (Some (Anchors text)) (lowest (anchor_causes (length sofar.content.items) (unnamed_in 0 sofar.content.items) text)) e in
     subst (λ (s : Sofar). Room s.content.items) a.1 (room_added sofar.content.items (map (λ (h : Heading). item.Anchors h) (headings text)) few (omega (arith, few_headings (length sofar.content.items) (unnamed_in 0 sofar.content.items) text a.0, length-map (headings text) (λ (h : Heading). item.Anchors h))) (anchors_fine (headings text)))
-few_taken line place sofar next (Some (AnchorBlocks heading block)) few e =
+few_answered line place sofar next (Some (AnchorBlocks heading block)) few e =
     let item = BlockItem heading block in
     let a = answered_ok line sofar next (Some (AnchorBlocks heading block)) (lowest (block_causes sofar.content.items item)) e in
     let values = item_values sofar.policy (unnamed_in 0 sofar.content.items) item in
@@ -184,13 +184,13 @@ few_defined line sofar next (Err defining.Memory) few e = absurd (let h = e in c
 few_defined line sofar next (Err defining.Macro) few e = absurd (let h = e in cc)
 few_defined line sofar next (Err defining.Syntax) few e = absurd (let h = e in cc)
 
-few_meant : (place : Place) (profile : Profile) (sofar next : Sofar) (line : ℕ) (defines : Bool) (ts : List Token) → Room sofar.content.items → statement_outcome place profile sofar line defines ts ≡ Ok next → Room next.content.items
-few_meant place profile sofar next line true ts few e = few_defined line sofar next _ few e
-few_meant place profile sofar next line false ts few e = few_taken line place sofar next _ few e
+few_outcome : (place : Place) (profile : Profile) (sofar next : Sofar) (line : ℕ) (defines : Bool) (ts : List Token) → Room sofar.content.items → statement_outcome place profile sofar line defines ts ≡ Ok next → Room next.content.items
+few_outcome place profile sofar next line true ts few e = few_defined line sofar next _ few e
+few_outcome place profile sofar next line false ts few e = few_answered line place sofar next _ few e
 
 unless : (line : ℕ) (fault : Option ReadingFault) (result : Result Sofar Refusal) (next : Sofar) → unless_fault line fault result ≡ Ok next → result ≡ Ok next
 unless line None result next e = e
 unless line (Some fault) result next e = absurd (let h = e in cc)
 
 pub few_stay : (place : Place) (profile : Profile) (sofar next : Sofar) (line : ℕ) (defines : Bool) (statement : List Placed) → Room sofar.content.items → judge place profile sofar line defines statement ≡ Ok next → Room next.content.items
-few_stay place profile sofar next line defines statement few e = few_meant place profile sofar next line defines (tokens_of statement) few (unless line _ _ next e)
+few_stay place profile sofar next line defines statement few e = few_outcome place profile sofar next line defines (tokens_of statement) few (unless line _ _ next e)

@@ -28,7 +28,7 @@ use Rattle.pf_expansion.specs.Expansion.{choices, host_family, type_family, with
 use Rattle.pf_expansion.specs.Causes.{any_listed, all_listed, is_bad_port, has_ports, says_ports, bad_ports, is_bad_type, is_icmp, bad_types}
 use Rattle.pf_grammar.proofs.Made.{interface_fits, some_fits, list_fits}
 use Rattle.pf_grammar.proofs.PartsFit.{host_fits, port_fits, protocol_fits, type_fits, type_of_fits, flags_fit}
-use Rattle.pf_grammar.proofs.Told.{FitsHost, FitsTest, FitsIf, FitsFlags, FitsState, FitsType, FitsConditions, FitsRule, ported}
+use Rattle.pf_grammar.proofs.ShownTokens.{FitsHost, FitsTest, FitsIf, FitsFlags, FitsState, FitsType, FitsConditions, FitsRule, ported}
 use Rattle.pf_rules.specs.declared.rule.Conditions.{Conditions}
 use Rattle.pf_statements.specs.Conditions.{ConditionsText}
 

@@ -85,8 +85,8 @@ skip_value profile name names fits =
 abbrev skipping : Policy → List Name → Result Sofar Refusal
 skipping p names = Ok (so_far p names [] [])
 
-skip_meant : (profile : Profile) (p : Policy) (name : Name) (names : List Name) (n : ℕ) → AreNames profile (name ∷ names) → statement_outcome Main profile (so_far p [] [] []) n false (skip_tokens (name ∷ names)) ≡ skipping p (name ∷ names)
-skip_meant profile p name names n fits =
+skip_outcome : (profile : Profile) (p : Policy) (name : Name) (names : List Name) (n : ℕ) → AreNames profile (name ∷ names) → statement_outcome Main profile (so_far p [] [] []) n false (skip_tokens (name ∷ names)) ≡ skipping p (name ∷ names)
+skip_outcome profile p name names n fits =
     ap (λ (value : Option Statement). answered n (so_far p [] [] []) value (statement_cause Main [] [] value)) (skip_value profile name names fits)
 
 -- with at most 65,531 names the line sets them
@@ -97,4 +97,4 @@ skip_again profile p name names rest fits few =
     let fault : reading_fault [] 0 0 ts ≡ None = closed_fault (name ∷ names) 4 (omega (arith, few)) in
     ap (reading_from macros_of (judge Main profile) (so_far p [] [] []) []) (skip_lexes profile name names 1 rest fits)
     ∙ line_read Main profile p [] [] [] 1 ts [] (lexed 2 rest) (refl, (refl, (refl, (refl, closed_in_line (name ∷ names))))) (closed_level 1 (name ∷ names))
-    ∙ ap (λ (o : Result Sofar Refusal). o >>= λ next. reading_from macros_of (judge Main profile) next [] (lexed 2 rest)) (line_judged Main profile p [] [] [] 1 ts (omega arith) (not_definition 1 (Word (codes "set")) (Word (codes "skip") ∷ Word (codes "on") ∷ Mark Open ∷ closed (name ∷ names)) refl) fault ∙ skip_meant profile p name names 1 fits)
+    ∙ ap (λ (o : Result Sofar Refusal). o >>= λ next. reading_from macros_of (judge Main profile) next [] (lexed 2 rest)) (line_judged Main profile p [] [] [] 1 ts (omega arith) (not_definition 1 (Word (codes "set")) (Word (codes "skip") ∷ Word (codes "on") ∷ Mark Open ∷ closed (name ∷ names)) refl) fault ∙ skip_outcome profile p name names 1 fits)

@@ -32,7 +32,7 @@ use Rattle.pf_grammar.specs.declared.fault.Refusal.{Refusal}
 use Rattle.pf_grammar.specs.declared.place.Place.{Place}
 use Rattle.pf_grammar.specs.Causes.{statement_cause}
 use Rattle.pf_grammar.specs.Reading.{Sofar, macros_of, judge, statement_outcome, answered}
-use Rattle.pf_grammar.proofs.Told.{FitsIf, negated_tokens, prefix_tokens, table_tokens, block_told}
+use Rattle.pf_grammar.proofs.ShownTokens.{FitsIf, negated_tokens, prefix_tokens, table_tokens, block_spelled}
 use Rattle.pf_grammar.proofs.Parts.{lexed, at_line, with_newline, IsPart, AreParts, NoPart, OnePart, word_part, open_part, close_part, parts_append, line_lexes}
 use Rattle.pf_grammar.proofs.RuleParts.{one_part, prefix_parts, negated_prefix, table_name_word, table_part}
 use Rattle.pf_grammar.proofs.Lines.{Simple, simple_word, simple_mark, Short, short_append, none_short, word_short, mark_short, more_short, then_short, length_short, AreInLine, not_full, not_definition, line_judged, line_read, so_far}
@@ -221,42 +221,42 @@ written t = said t.name t.persist t.is_const t.entries
 abbrev entry_of : Bool → Block → TableEntry
 entry_of b block = record { negated = b; prefix = block }
 
-entry_told : (b : Bool) (block : Block) → FitsBlock block → IsEntry (negated_tokens b (prefix_tokens block)) (entry_of b block)
-entry_told true block fits = EntryOut (prefix_tokens block) block (block_told block fits)
-entry_told false block fits = EntryIn (prefix_tokens block) block (block_told block fits)
+entry_spelled : (b : Bool) (block : Block) → FitsBlock block → IsEntry (negated_tokens b (prefix_tokens block)) (entry_of b block)
+entry_spelled true block fits = EntryOut (prefix_tokens block) block (block_spelled block fits)
+entry_spelled false block fits = EntryIn (prefix_tokens block) block (block_spelled block fits)
 
-elements_told : (e : TableEntry) (es : List TableEntry) → AllByRecursion FitsEntry (e ∷ es) → IsElements IsEntry (all_tokens (e ∷ es)) (e ∷ es) 0
-elements_told e [] fits = subst (λ (ts : List Token). IsElements IsEntry ts (e ∷ []) 0) (sym (append-nil (entry_tokens e))) (LastOne (entry_tokens e) e (entry_told e.negated e.prefix fits.0))
-elements_told e (f ∷ es) fits = OneMore (entry_tokens e) [] (all_tokens (f ∷ es)) e (f ∷ es) 0 (entry_told e.negated e.prefix fits.0) NoComma (elements_told f es fits.1)
+elements_spelled : (e : TableEntry) (es : List TableEntry) → AllByRecursion FitsEntry (e ∷ es) → IsElements IsEntry (all_tokens (e ∷ es)) (e ∷ es) 0
+elements_spelled e [] fits = subst (λ (ts : List Token). IsElements IsEntry ts (e ∷ []) 0) (sym (append-nil (entry_tokens e))) (LastOne (entry_tokens e) e (entry_spelled e.negated e.prefix fits.0))
+elements_spelled e (f ∷ es) fits = OneMore (entry_tokens e) [] (all_tokens (f ∷ es)) e (f ∷ es) 0 (entry_spelled e.negated e.prefix fits.0) NoComma (elements_spelled f es fits.1)
 
 blanked_simple : (ts us : List Token) → AllByRecursion Simple ts → blanked 1 (ts ++ us) ≡ ts ++ blanked 1 us
 blanked_simple [] us simple = refl
 blanked_simple (t ∷ ts) us simple = rw (simple.0.in_line, simple.0.level 1) (ap (λ (vs : List Token). t ∷ vs) (blanked_simple ts us simple.1))
 
-entries_told : (es : List TableEntry) → AllByRecursion FitsEntry es → AreEntries (Mark Open ∷ closed es) (listed es)
-entries_told [] fits = NoEntries [] NoNewline
-entries_told (e ∷ es) fits =
+entries_spelled : (es : List TableEntry) → AllByRecursion FitsEntry es → AreEntries (Mark Open ∷ closed es) (listed es)
+entries_spelled [] fits = NoEntries [] NoNewline
+entries_spelled (e ∷ es) fits =
     subst (λ (ts : List Token). AreEntries (Mark Open ∷ ts) (listed (e ∷ es))) (closed_is (e ∷ es))
-    (SomeEntries _ (listed (e ∷ es)) (Braces (all_tokens (e ∷ es)) (all_tokens (e ∷ es)) (e ∷ es) 0 (blanked_simple (all_tokens (e ∷ es)) (Mark Close ∷ []) (entries_short (e ∷ es)).simple) (elements_told e es fits)))
+    (SomeEntries _ (listed (e ∷ es)) (Braces (all_tokens (e ∷ es)) (all_tokens (e ∷ es)) (e ∷ es) 0 (blanked_simple (all_tokens (e ∷ es)) (Mark Close ∷ []) (entries_short (e ∷ es)).simple) (elements_spelled e es fits)))
 
-list_told : (name : Name) (p c : Bool) (o : Option (List TableEntry)) → FitsIf FitsEntries o → AreTableOptions (base name p c) (entries_tokens o) (said name p c o)
-list_told name p c None fits = NoTableOption (base name p c)
-list_told name p c (Some es) fits =
+list_spelled : (name : Name) (p c : Bool) (o : Option (List TableEntry)) → FitsIf FitsEntries o → AreTableOptions (base name p c) (entries_tokens o) (said name p c o)
+list_spelled name p c None fits = NoTableOption (base name p c)
+list_spelled name p c (Some es) fits =
     subst (λ (ts : List Token). AreTableOptions (base name p c) ts (said name p c (Some es))) (append-nil (Mark Open ∷ closed es))
-    (EntriesOption (base name p c) (said name p c (Some es)) (Mark Open ∷ closed es) [] (listed es) refl (entries_told es fits.each) (NoTableOption (said name p c (Some es))))
+    (EntriesOption (base name p c) (said name p c (Some es)) (Mark Open ∷ closed es) [] (listed es) refl (entries_spelled es fits.each) (NoTableOption (said name p c (Some es))))
 
-const_told : (name : Name) (p c : Bool) (o : Option (List TableEntry)) → FitsIf FitsEntries o → AreTableOptions (base name p false) (said_tokens c (codes "const") ++ entries_tokens o) (said name p c o)
-const_told name p true o fits = ConstOption (base name p false) (said name p true o) (entries_tokens o) (list_told name p true o fits)
-const_told name p false o fits = list_told name p false o fits
+const_spelled : (name : Name) (p c : Bool) (o : Option (List TableEntry)) → FitsIf FitsEntries o → AreTableOptions (base name p false) (said_tokens c (codes "const") ++ entries_tokens o) (said name p c o)
+const_spelled name p true o fits = ConstOption (base name p false) (said name p true o) (entries_tokens o) (list_spelled name p true o fits)
+const_spelled name p false o fits = list_spelled name p false o fits
 
-options_told : (name : Name) (p c : Bool) (o : Option (List TableEntry)) → FitsIf FitsEntries o → AreTableOptions (new_table name) (said_tokens p (codes "persist") ++ (said_tokens c (codes "const") ++ entries_tokens o)) (said name p c o)
-options_told name true c o fits = PersistOption (new_table name) (said name true c o) _ (const_told name true c o fits)
-options_told name false c o fits = const_told name false c o fits
+options_spelled : (name : Name) (p c : Bool) (o : Option (List TableEntry)) → FitsIf FitsEntries o → AreTableOptions (new_table name) (said_tokens p (codes "persist") ++ (said_tokens c (codes "const") ++ entries_tokens o)) (said name p c o)
+options_spelled name true c o fits = PersistOption (new_table name) (said name true c o) _ (const_spelled name true c o fits)
+options_spelled name false c o fits = const_spelled name false c o fits
 
 line_value : (profile : Profile) (t : TableValue) → FitsTable profile t → value_of profile (line_tokens t) ≡ Some (Tables (written t))
 line_value profile t fits =
     statement_reads profile (line_tokens t) (Tables (written t))
-    (TableStatement _ (written t) (TableOptions (table_tokens t.name) (option_tokens t) t.name (written t) (TableSign t.name fits.name) (options_told t.name t.persist t.is_const t.entries fits.entries)))
+    (TableStatement _ (written t) (TableOptions (table_tokens t.name) (option_tokens t) t.name (written t) (TableSign t.name fits.name) (options_spelled t.name t.persist t.is_const t.entries fits.entries)))
 
 -- ---- it is added
 
@@ -280,8 +280,8 @@ not_long (Some es) fits = ap (λ (fs : List TableEntry). nat_lt 4096 (length fs)
 abbrev added : Policy → List Name → List TableValue → TableValue → Result Sofar Refusal
 added p skip before t = Ok (so_far p skip (before ++ t ∷ []) [])
 
-line_meant : (place : Place) (profile : Profile) (p : Policy) (skip : List Name) (before : List TableValue) (n : ℕ) (t : TableValue) → FitsTable profile t → is_defined before t.name ≡ false → statement_outcome place profile (so_far p skip before []) n false (line_tokens t) ≡ added p skip before t
-line_meant place profile p skip before n t fits free =
+line_outcome : (place : Place) (profile : Profile) (p : Policy) (skip : List Name) (before : List TableValue) (n : ℕ) (t : TableValue) → FitsTable profile t → is_defined before t.name ≡ false → statement_outcome place profile (so_far p skip before []) n false (line_tokens t) ≡ added p skip before t
+line_outcome place profile p skip before n t fits free =
     ap (λ (value : Option Statement). answered n (so_far p skip before []) value (statement_cause place before [] value)) (line_value profile t fits)
     ∙ rw (free, not_long t.entries fits.entries) (ap (added p skip before) (table_again_value profile t fits))
 
@@ -293,7 +293,7 @@ table_again place profile p skip before n t rest fits free =
     ∙ line_read place profile p skip before [] n (line_tokens t) [] (lexed (n + 1) rest) g.in_line (g.level n)
     ∙ ap (λ (o : Result Sofar Refusal). o >>= λ next. reading_from macros_of (judge place profile) next [] (lexed (n + 1) rest)) (
     line_judged place profile p skip before [] n (line_tokens t) (omega arith) (not_definition n (Word (codes "table")) (table_tokens t.name ++ option_tokens t) refl) g.fault
-    ∙ line_meant place profile p skip before n t fits free)
+    ∙ line_outcome place profile p skip before n t fits free)
 
 -- shown tables are read as themselves
 pub tables_again : (place : Place) (profile : Profile) (p : Policy) (skip : List Name) (before ts : List TableValue) (n : ℕ) (rest : List ℕ) → FitTables profile before ts

@@ -16,7 +16,7 @@ use Rattle.pf_statements.specs.Tables.{TableText, new_table}
 use Rattle.pf_statements.specs.Grammar.{IsEntry, EntryIn, EntryOut, AreEntries, NoEntries, SomeEntries, AreTableOptions, NoTableOption, PersistOption, ConstOption, CountersOption, EntriesOption, IsTableText, TableOptions}
 use Rattle.pf_expansion.specs.Tables.{same_prefix, with_first, first_of_each, table_value, is_defined, is_too_long}
 use Rattle.pf_expansion.specs.Causes.{is_deep}
-use Rattle.pf_grammar.proofs.Told.{FitsIf}
+use Rattle.pf_grammar.proofs.ShownTokens.{FitsIf}
 use Rattle.pf_grammar.proofs.Made.{list_fits}
 use Rattle.pf_grammar.proofs.PartsFit.{prefix_fits}
 use Rattle.pf_grammar.proofs.TableLine.{FitsEntry, FitsEntries, FitsTable, FitTables}

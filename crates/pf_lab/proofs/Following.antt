@@ -26,7 +26,7 @@ use Rattle.px_replica.proofs.Telling.{are_append, are_members}
 
 pub record Ran (g : Group) (m : ℕ) (w' w : World Bytes) (st : NodeState Bytes) (sent : List Datagram) : Type 0 where
   pub nodes : w'.nodes ≡ put w.nodes m st
-  pub told : AreSpelled g w'.sent sent
+  pub is_spelled : AreSpelled g w'.sent sent
 
 put_nothing : (map : ℕ → NodeState Bytes) (m : ℕ) (st : NodeState Bytes) → map m ≡ st → map ≡ put map m st
 put_nothing map m st is = fun_ext (λ q. at q (nat_eq q m) refl)
@@ -38,14 +38,14 @@ put_nothing map m st is = fun_ext (λ q. at q (nat_eq q m) refl)
 goes : (g : Group) (m : ℕ) (w : World Bytes) (x : Input Bytes) (s t : NodeState Bytes) (sent out : List Datagram) (a : Answer Bytes) →
     w.nodes m ≡ s → IsAnswered g a s t out → AreSpelled g w.sent sent →
     Ran g m (goes_on w m x a) w t (sent ++ for_members out)
-goes g m w x s t sent out (Refused code) here is told = record {
+goes g m w x s t sent out (Refused code) here is is_spelled = record {
   nodes = put_nothing w.nodes m t (here ∙ sym is.0);
-  told = subst (λ (z : List Datagram). AreSpelled g w.sent (sent ++ for_members z)) (sym is.1)
-      (subst (λ (z : List Datagram). AreSpelled g w.sent z) (sym (append-nil sent)) told);
+  is_spelled = subst (λ (z : List Datagram). AreSpelled g w.sent (sent ++ for_members z)) (sym is.1)
+      (subst (λ (z : List Datagram). AreSpelled g w.sent z) (sym (append-nil sent)) is_spelled);
 }
-goes g m w x s t sent out (Planned plan) here is told = record {
+goes g m w x s t sent out (Planned plan) here is is_spelled = record {
   nodes = ap (put w.nodes m) (ap (λ (z : NodeState Bytes). follows z plan) here ∙ sym is.0);
-  told = are_append g w.sent (to_members plan.sends) sent (for_members out) told (are_members g plan.sends out is.1);
+  is_spelled = are_append g w.sent (to_members plan.sends) sent (for_members out) is_spelled (are_members g plan.sends out is.1);
 }
 
 -- a member that has lost all but its record
@@ -62,14 +62,14 @@ ran : (g : Group) (m : ℕ) (w : World Bytes) (a : Action Bytes) (x : Input Byte
     IsAnswered g (answer g.members m s x) s t out → AreSpelled g w.sent sent →
     Ran g m (happens same g.members w (Runs a)) w t (sent ++ for_members out)
 unfolding happens
-ran g m w a x s t sent out come below here up is told =
+ran g m w a x s t sent out come below here up is is_spelled =
     let n = g.members in
     let F : ℕ → Input Bytes → World Bytes = λ k y. goes_on w k y (step_in same n w k y) in
     let steps : step_in same n w m x ≡ answer n m s x = ap (λ (z : NodeState Bytes). step_of same n m z x) here in
     let e : happens same n w (Runs a) ≡ goes_on w m x (answer n m s x) =
     ap (λ (t : Option (ℕ × Input Bytes)). at_member n w t F) come ∙ cond-true _ (F m x) w (tested n m w s below here up)
     ∙ ap (goes_on w m x) steps in
-    subst (λ (z : World Bytes). Ran g m z w t (sent ++ for_members out)) (sym e) (goes g m w x s t sent out (answer n m s x) here is told)
+    subst (λ (z : World Bytes). Ran g m z w t (sent ++ for_members out)) (sym e) (goes g m w x s t sent out (answer n m s x) here is is_spelled)
 
 and_not : (b t : Bool) → t ≡ false → (b && t) ≡ false
 and_not true t e = e
@@ -137,7 +137,7 @@ module _ {M : Type 0} (members : List M) (state_of : M → NodeState Bytes) (gro
             | inr above ↦ host_other m k w w' y z sent more world ran (λ e. omega (arith, e)) h
           ])
         ];
-    told = ran.told;
+    is_spelled = ran.is_spelled;
   }
 
   inside : (m : ℕ) (w : World Bytes) (x : M) (sent : List Datagram) → AreWorld members state_of group_of g sent w →
@@ -174,7 +174,7 @@ module _ {M : Type 0} (members : List M) (state_of : M → NodeState Bytes) (gro
       let host = world.hosts m y at in
       lab_ran m w (happens same g.members w (Runs a)) y z sent (sent ++ for_members out) world at same_group
       (ran g m w a x (state_of y) (state_of z) sent out come (inside m w y sent world at) host.here up
-      (answered_at m (group_of y) x (state_of y) (state_of z) out host.group host.me is) world.told)
+      (answered_at m (group_of y) x (state_of y) (state_of z) out host.group host.me is) world.is_spelled)
 
   -- a member that is as it was leaves the world as it was
   pub lab_same : (m : ℕ) (w : World Bytes) (y z : M) (sent : List Datagram) →
@@ -183,16 +183,16 @@ module _ {M : Type 0} (members : List M) (state_of : M → NodeState Bytes) (gro
   lab_same m w y z sent world at is same_group =
       let host = world.hosts m y at in
       lab_ran m w w y z sent sent world at same_group
-      (record { nodes = put_nothing w.nodes m (state_of z) (host.here ∙ sym is); told = world.told })
+      (record { nodes = put_nothing w.nodes m (state_of z) (host.here ∙ sym is); is_spelled = world.is_spelled })
 
   -- ---- stops and restarts
 
   emptied_ran : (m : ℕ) (w : World Bytes) (up : Bool) (st : NodeState Bytes) (sent : List Datagram) →
       record { is_up = up; stored = (w.nodes m).stored; volatile = nothing_volatile } ≡ st → AreSpelled g w.sent sent →
       Ran g m (emptied w m up) w st sent
-  emptied_ran m w up st sent is told = record {
+  emptied_ran m w up st sent is is_spelled = record {
     nodes = ap (put w.nodes m) is;
-    told = subst (λ (z : List (Envelope Bytes)). AreSpelled g z sent) (sym (append-nil w.sent)) told;
+    is_spelled = subst (λ (z : List (Envelope Bytes)). AreSpelled g z sent) (sym (append-nil w.sent)) is_spelled;
   }
 
   pub lab_emptied : (m : ℕ) (w : World Bytes) (y z : M) (up : Bool) (sent : List Datagram) →
@@ -203,16 +203,16 @@ module _ {M : Type 0} (members : List M) (state_of : M → NodeState Bytes) (gro
       let host = world.hosts m y at in
       lab_ran m w (emptied w m up) y z sent sent world at same_group
       (emptied_ran m w up (state_of z) sent
-      (ap (λ (q : NodeState Bytes). emptied_state up q) host.here ∙ sym after) world.told)
+      (ap (λ (q : NodeState Bytes). emptied_state up q) host.here ∙ sym after) world.is_spelled)
 
   stops : (m : ℕ) (w : World Bytes) (x : Input Bytes) (s t : NodeState Bytes) (sent out : List Datagram) (a : Answer Bytes) →
       w.nodes m ≡ s → IsAnswered g a s t out → AreSpelled g w.sent sent →
       Ran g m (stops_after w m x a) w (emptied_state false t) sent
-  stops m w x s t sent out (Refused code) here is told =
-      emptied_ran m w false (emptied_state false t) sent (ap (emptied_state false) (here ∙ sym is.0)) told
-  stops m w x s t sent out (Planned plan) here is told = record {
+  stops m w x s t sent out (Refused code) here is is_spelled =
+      emptied_ran m w false (emptied_state false t) sent (ap (emptied_state false) (here ∙ sym is.0)) is_spelled
+  stops m w x s t sent out (Planned plan) here is is_spelled = record {
     nodes = ap (put w.nodes m) (ap (λ (z : NodeState Bytes). emptied_state false (follows z plan)) here ∙ ap (emptied_state false) (sym is.0));
-    told = subst (λ (z : List (Envelope Bytes)). AreSpelled g z sent) (sym (append-nil w.sent)) told;
+    is_spelled = subst (λ (z : List (Envelope Bytes)). AreSpelled g z sent) (sym (append-nil w.sent)) is_spelled;
   }
 
   stopped_ran : (m : ℕ) (w : World Bytes) (a : Action Bytes) (x : Input Bytes) (s t : NodeState Bytes) (sent out : List Datagram) →
@@ -220,14 +220,14 @@ module _ {M : Type 0} (members : List M) (state_of : M → NodeState Bytes) (gro
       IsAnswered g (answer g.members m s x) s t out → AreSpelled g w.sent sent →
       Ran g m (happens same g.members w (StopAfter a)) w (emptied_state false t) sent
   unfolding happens
-  stopped_ran m w a x s t sent out come below here up is told =
+  stopped_ran m w a x s t sent out come below here up is is_spelled =
       let n = g.members in
       let F : ℕ → Input Bytes → World Bytes = λ k y. stops_after w k y (step_in same n w k y) in
       let steps : step_in same n w m x ≡ answer n m s x = ap (λ (z : NodeState Bytes). step_of same n m z x) here in
       let e : happens same n w (StopAfter a) ≡ stops_after w m x (answer n m s x) =
       ap (λ (t : Option (ℕ × Input Bytes)). at_member n w t F) come ∙ cond-true _ (F m x) w (tested n m w s below here up)
       ∙ ap (stops_after w m x) steps in
-      subst (λ (z : World Bytes). Ran g m z w (emptied_state false t) sent) (sym e) (stops m w x s t sent out (answer n m s x) here is told)
+      subst (λ (z : World Bytes). Ran g m z w (emptied_state false t) sent) (sym e) (stops m w x s t sent out (answer n m s x) here is is_spelled)
 
   pub lab_stops_after : (m : ℕ) (w : World Bytes) (a : Action Bytes) (x : Input Bytes) (y z q : M) (sent out : List Datagram) →
       AreWorld members state_of group_of g sent w → slice_get members m ≡ Some y → (state_of y).is_up ≡ true →
@@ -236,10 +236,10 @@ module _ {M : Type 0} (members : List M) (state_of : M → NodeState Bytes) (gro
       AreWorld (set members m q) state_of group_of g sent (happens same g.members w (StopAfter a))
   lab_stops_after m w a x y z q sent out world at up after same_group come is =
       let host = world.hosts m y at in
-      let told = stopped_ran m w a x (state_of y) (state_of z) sent out come (inside m w y sent world at) host.here up
-      (answered_at m (group_of y) x (state_of y) (state_of z) out host.group host.me is) world.told in
+      let is_spelled = stopped_ran m w a x (state_of y) (state_of z) sent out come (inside m w y sent world at) host.here up
+      (answered_at m (group_of y) x (state_of y) (state_of z) out host.group host.me is) world.is_spelled in
       lab_ran m w (happens same g.members w (StopAfter a)) y q sent sent world at same_group
-      (subst (λ (st : NodeState Bytes). Ran g m (happens same g.members w (StopAfter a)) w st sent) (sym after) told)
+      (subst (λ (st : NodeState Bytes). Ran g m (happens same g.members w (StopAfter a)) w st sent) (sym after) is_spelled)
 
 -- an action before which a running member stops, and one that arrives at a stopped one
 pub stops_before : (n m : ℕ) (w : World Bytes) (a : Action Bytes) (x : Input Bytes) → comes_to w a ≡ Some (m, x) → m < n → (w.nodes m).is_up ≡ true → happens same n w (StopBefore a) ≡ emptied w m false

@@ -40,26 +40,26 @@ pub outcome_down : (w : World Bytes) (m : ℕ) (a : Action Bytes) (x : Input Byt
 outcome_down w m a x does come down = ap (λ (t : Option (ℕ × Input Bytes)). outcome_at w t does) come ∙ cond-false _ (does m x) outcome.Stopped down
 
 -- what a member that runs answers
-pub takes_told : (r : Result Outcome LabFault) (bad : Bool) (o p : Outcome) → OnErr r (r ≡ Err fault.Memory) → IfOk r (λ q. q ≡ o) → bad ≡ false → o ≡ p → Tells r bad p
-takes_told (Ok q) bad o p e h k l = (k, h ∙ l)
-takes_told (Err fault.Memory) bad o p e h k l = tt
-takes_told (Err fault.BadEvent) bad o p e h k l = absurd cc
+pub takes_reported : (r : Result Outcome LabFault) (bad : Bool) (o p : Outcome) → OnErr r (r ≡ Err fault.Memory) → IfOk r (λ q. q ≡ o) → bad ≡ false → o ≡ p → Tells r bad p
+takes_reported (Ok q) bad o p e h k l = (k, h ∙ l)
+takes_reported (Err fault.Memory) bad o p e h k l = tt
+takes_reported (Err fault.BadEvent) bad o p e h k l = absurd cc
 
 -- an action happens at a member that runs
-pub runs_told : (r : Result Outcome LabFault) (n m : ℕ) (w : World Bytes) (s : NodeState Bytes) (a : Action Bytes) (x : Input Bytes) →
+pub runs_reported : (r : Result Outcome LabFault) (n m : ℕ) (w : World Bytes) (s : NodeState Bytes) (a : Action Bytes) (x : Input Bytes) →
     comes_to w a ≡ Some (m, x) → m < n → w.nodes m ≡ s → s.is_up ≡ true → OnErr r (r ≡ Err fault.Memory) →
     IfOk r (λ q. q ≡ outcome_of s.stored.meta x (answer n m s x)) → Tells r (is_unknown n w (Runs a)) (outcome_in n w (Runs a))
 unfolding outcome_in
-runs_told r n m w s a x come below here up e h =
+runs_reported r n m w s a x come below here up e h =
     let D : NodeState Bytes → Outcome = λ z. outcome_of z.stored.meta x (step_of same n m z x) in
-    takes_told r _ (outcome_of s.stored.meta x (answer n m s x)) _ e h (addressed n m w a x come below)
+    takes_reported r _ (outcome_of s.stored.meta x (answer n m s x)) _ e h (addressed n m w a x come below)
     (sym (outcome_up w m a x (λ k y. outcome_of (w.nodes k).stored.meta y (step_in same n w k y)) come (ap (λ (z : NodeState Bytes). z.is_up) here ∙ up) ∙ ap D here))
 
 -- one that is stopped
-pub down_told : (n m : ℕ) (w : World Bytes) (a : Action Bytes) (x : Input Bytes) → comes_to w a ≡ Some (m, x) → m < n → (w.nodes m).is_up ≡ false →
+pub down_reported : (n m : ℕ) (w : World Bytes) (a : Action Bytes) (x : Input Bytes) → comes_to w a ≡ Some (m, x) → m < n → (w.nodes m).is_up ≡ false →
     Tells (Ok outcome.Stopped) (is_unknown n w (Runs a)) (outcome_in n w (Runs a))
 unfolding outcome_in
-down_told n m w a x come below down = (addressed n m w a x come below, sym (outcome_down w m a x _ come down))
+down_reported n m w a x come below down = (addressed n m w a x come below, sym (outcome_down w m a x _ come down))
 
 pub down_before : (n m : ℕ) (w : World Bytes) (a : Action Bytes) (x : Input Bytes) → comes_to w a ≡ Some (m, x) → m < n → (w.nodes m).is_up ≡ false →
     Tells (Ok outcome.Stopped) (is_unknown n w (StopBefore a)) (outcome_in n w (StopBefore a))
@@ -99,15 +99,15 @@ unknown_stays n w (StopBefore a) h = nowhere n w (comes_to w a) _ h
 unknown_stays n w (StopAfter a) h = nowhere n w (comes_to w a) _ h
 unknown_stays n w (Restart m) h = cond-false _ (emptied w m true) w (le-ltb m n (leb-true n m h))
 
-pub restart_told : (n m : ℕ) (w : World Bytes) → m < n → Tells (Ok outcome.Nothing) (is_unknown n w (Restart m)) (outcome_in n w (Restart m))
+pub restart_reported : (n m : ℕ) (w : World Bytes) → m < n → Tells (Ok outcome.Nothing) (is_unknown n w (Restart m)) (outcome_in n w (Restart m))
 unfolding outcome_in
-restart_told n m w below = (lt-leb n m below, refl)
+restart_reported n m w below = (lt-leb n m below, refl)
 
 -- ---- in the lab
 
-pub err_told : (e : LabFault) (bad : Bool) (o : Outcome) → ◌≡◌ {A = Result Outcome LabFault} (Err e) (Err fault.Memory) → Tells (Err e) bad o
-err_told fault.Memory bad o h = tt
-err_told fault.BadEvent bad o h = absurd cc
+pub err_reported : (e : LabFault) (bad : Bool) (o : Outcome) → ◌≡◌ {A = Result Outcome LabFault} (Err e) (Err fault.Memory) → Tells (Err e) bad o
+err_reported fault.Memory bad o h = tt
+err_reported fault.BadEvent bad o h = absurd cc
 
 -- what arrives at one of the members that runs
 pub takes_at : (r : Result Outcome LabFault) (hosts : List Host) (g : Group) (m : ℕ) (w : World Bytes) (a : Action Bytes) (what : What) (y : Host) (sent : List Datagram) →
@@ -115,7 +115,7 @@ pub takes_at : (r : Result Outcome LabFault) (hosts : List Host) (g : Group) (m 
     ((x : Input Bytes) → IsInput (group (group_of y)) (group_of y).me what x →
     IfOk r (λ o. o ≡ outcome_of (state_in y.node).stored.meta x (answer (group_of y).members (group_of y).me (state_in y.node) x))) →
     Tells r (is_unknown g.members w (Runs a)) (outcome_in g.members w (Runs a))
-takes_at r hosts g m w a what y sent world at up came memory told =
+takes_at r hosts g m w a what y sent world at up came memory reported =
     let host = world.hosts m y at in
     let p = group_of y in
     let x = came.input in
@@ -123,10 +123,10 @@ takes_at r hosts g m w a what y sent world at up came memory told =
     let within = slice_get_within hosts m y at in
     let inside : m < g.members = omega (arith, within, world.count) in
     let e : p.members ≡ g.members = ap (λ (h : Group). h.members) host.group in
-    let here = told x (input_here g m p what x host.group host.me came.told) in
+    let here = reported x (input_here g m p what x host.group host.me came.is_spelled) in
     let mine = subst (λ (j : ℕ). IfOk r (λ (o : Outcome). o ≡ outcome_of S.stored.meta x (answer p.members j S x))) host.me here in
     let all = subst (λ (k : ℕ). IfOk r (λ (o : Outcome). o ≡ outcome_of S.stored.meta x (answer k m S x))) e mine in
-    runs_told r g.members m w (state_of y) a x came.comes inside host.here up memory all
+    runs_reported r g.members m w (state_of y) a x came.comes inside host.here up memory all
 
 -- ---- an event and its action
 
@@ -137,17 +137,17 @@ long_of (event.StopAfter b) a h = ap is_too_long h
 long_of (event.Restart m) a h = absurd h
 
 -- a command that is too long
-pub refused_told : (n : ℕ) (w : World Bytes) (e : LabEvent) (a : LabAction) → IsOf e a → is_too_long a ≡ true →
+pub refused_reported : (n : ℕ) (w : World Bytes) (e : LabEvent) (a : LabAction) → IsOf e a → is_too_long a ≡ true →
     Tells (Ok (outcome.Refused 41)) (is_bad n w e) (becomes n w e)
-refused_told n w e a is long =
+refused_reported n w e a is long =
     let all : is_long e ≡ true = long_of e a is ∙ long in
     (cond-true _ false (is_unknown n w (event_of e)) all, sym (cond-true _ (outcome.Refused 41) (outcome_in n w (event_of e)) all))
 
 -- any other
-pub told_of : (r : Result Outcome LabFault) (n : ℕ) (w : World Bytes) (e : LabEvent) (a : LabAction) (x : Event Bytes) → IsOf e a → is_too_long a ≡ false → event_of e ≡ x →
+pub reported_of : (r : Result Outcome LabFault) (n : ℕ) (w : World Bytes) (e : LabEvent) (a : LabAction) (x : Event Bytes) → IsOf e a → is_too_long a ≡ false → event_of e ≡ x →
     Tells r (is_unknown n w x) (outcome_in n w x) → Tells r (is_bad n w e) (becomes n w e)
-told_of r n w e a x is short same told =
+reported_of r n w e a x is short same reported =
     let none : is_long e ≡ false = long_of e a is ∙ short in
     let bad : is_bad n w e ≡ is_unknown n w x = cond-false _ false (is_unknown n w (event_of e)) none ∙ ap (is_unknown n w) same in
     let out : becomes n w e ≡ outcome_in n w x = cond-false _ (outcome.Refused 41) (outcome_in n w (event_of e)) none ∙ ap (outcome_in n w) same in
-    subst (λ (b : Bool). Tells r b (becomes n w e)) (sym bad) (subst (λ (o : Outcome). Tells r (is_unknown n w x) o) (sym out) told)
+    subst (λ (b : Bool). Tells r b (becomes n w e)) (sym bad) (subst (λ (o : Outcome). Tells r (is_unknown n w x) o) (sym out) reported)

@@ -30,7 +30,7 @@ use Rattle.px_replica.specs.Spelled.{AreSpelled}
 use Rattle.px_replica.specs.declared.datagram.Datagram.{Datagram}
 use Rattle.px_replica.specs.declared.receiving.Received.{Received}
 use Rattle.pf_node.specs.Nodes.{state_in}
-use Rattle.pf_lab.specs.Coming.{happenings}
+use Rattle.pf_lab.specs.Coming.{model_events}
 use Rattle.pf_lab.specs.inner.Coming.{IsInput, Came}
 use Rattle.pf_lab.specs.Outcomes.{are_known, is_bad, Tells}
 use Rattle.pf_lab.specs.declared.event.LabFault.{LabFault}
@@ -66,14 +66,14 @@ received_answered x y bytes old new r from message none works honest (inl lost) 
     let is : true ≡ false = sym lost.failed ∙ works in absurd (cc)
 received_answered x y bytes old new r from message none works honest (inr (inl passed)) passes spells =
     absurd (passed.unspelled from (as_sent message) spells)
-received_answered x y bytes old new r from message none works honest (inr (inr taken)) passes spells =
+received_answered x y bytes old new r from message none works honest (inr (inr handled)) passes spells =
     let g = group (membership_of x) in
     let me = (membership_of x).me in
     let s = replicas.state_in x in
     let t = replicas.state_in y in
     subst (λ (z : Input Bytes). IsAnswered g (answer g.members me s z) s t new)
-    (one_message g me taken.sender from taken.message message bytes taken.passes passes taken.spelled spells)
-    (answered_made g me s t (Comes taken.sender taken.message) old new (taken.call.made honest refl) none)
+    (one_message g me handled.sender from handled.message message bytes handled.passes passes handled.spelled spells)
+    (answered_made g me s t (Comes handled.sender handled.message) old new (handled.call.made honest refl) none)
 
 -- ---- refusals of a record that never fails
 
@@ -103,8 +103,8 @@ pub received_unmoved : {R : Type 0} {G : Ghosts R} (x y : Replica R G) (bytes : 
 received_unmoved x y bytes old new e works honest sound never (inl lost) =
     let is : true ≡ false = sym lost.failed ∙ works in absurd (cc)
 received_unmoved x y bytes old new e works honest sound never (inr (inl passed)) = absurd (let h = passed.answered in cc)
-received_unmoved x y bytes old new e works honest sound never (inr (inr taken)) =
-    call_unmoved x y (Comes taken.sender taken.message) old new e works honest sound never taken.call
+received_unmoved x y bytes old new e works honest sound never (inr (inr handled)) =
+    call_unmoved x y (Comes handled.sender handled.message) old new e works honest sound never handled.call
 
 -- a record that can be told stays one where a datagram is done or passed over
 pub received_sound : {R : Type 0} {G : Ghosts R} (x y : Replica R G) (bytes : List ℕ) (old new : List Datagram) (r : Received) →
@@ -114,9 +114,9 @@ received_sound x y bytes old new r works honest sound (inl lost) =
     let is : true ≡ false = sym lost.failed ∙ works in absurd (cc)
 received_sound {R} {G} x y bytes old new r works honest sound (inr (inl passed)) =
     subst (λ (z : Replica R G). IsSound (membership_of z).members (replicas.state_in z).stored) (sym passed.still) sound
-received_sound x y bytes old new r works honest sound (inr (inr taken)) =
-    subst (λ (m : Membership). IsSound m.members (replicas.state_in y).stored) (sym taken.call.membership)
-    (taken.call.sound honest sound refl)
+received_sound x y bytes old new r works honest sound (inr (inr handled)) =
+    subst (λ (m : Membership). IsSound m.members (replicas.state_in y).stored) (sym handled.call.membership)
+    (handled.call.sound honest sound refl)
 
 -- ---- one of the members
 
@@ -128,8 +128,8 @@ state_up y up = ap (λ (b : Bool). state_as b (state_in y.node)) up
 
 pub input_here : (g : Group) (m : ℕ) (p : Membership) (what : What) (x : Input Bytes) → group p ≡ g → p.me ≡ m →
     IsInput g m what x → IsInput (group p) p.me what x
-input_here g m p what x e f told =
-    subst (λ (k : ℕ). IsInput (group p) k what x) (sym f) (subst (λ (h : Group). IsInput h m what x) (sym e) told)
+input_here g m p what x e f is_spelled =
+    subst (λ (k : ℕ). IsInput (group p) k what x) (sym f) (subst (λ (h : Group). IsInput h m what x) (sym e) is_spelled)
 
 answered_up : (g : Group) (y z : Host) (a : NodeState Bytes → Answer Bytes) (out : List Datagram) → y.is_up ≡ true → z.is_up ≡ y.is_up →
     IsAnswered g (a (state_in y.node)) (state_in y.node) (state_in z.node) out →
@@ -153,7 +153,7 @@ runs_at (Ok v) hosts g m w a what y z sent out world at up kept same_group came 
     let p = group_of y in
     lab_runs hosts state_of group_of g m w a x y z sent out world at up same_group came.comes
     (answered_up (group p) y z (λ s. answer p.members p.me s x) out up kept
-    (went x (input_here g m p what x host.group host.me came.told)))
+    (went x (input_here g m p what x host.group host.me came.is_spelled)))
 
 -- a member that is as it was leaves the world as it was
 pub same_at : {X E : Type 0} (r : Result X E) (hosts : List Host) (g : Group) (m : ℕ) (w : World Bytes)
@@ -179,7 +179,7 @@ stops_at hosts g m w a what y z q sent out world at up kept same_group still aft
     let p = group_of y in
     lab_stops_after hosts state_of group_of g m w a x y z q sent out world at up after (still ∙ same_group) came.comes
     (answered_up (group p) y z (λ s. answer p.members p.me s x) out up kept
-    (went x (input_here g m p what x host.group host.me came.told)))
+    (went x (input_here g m p what x host.group host.me came.is_spelled)))
 
 -- ---- the beginning
 
@@ -231,12 +231,12 @@ run_append n [] ys w = refl
 run_append n (x ∷ xs) ys w = run_append n xs ys (happens same n w x)
 
 pub one_more_event : (n : ℕ) (xs : List LabEvent) (x : LabEvent) (w : World Bytes) →
-    run same n (flat_map happenings (xs ++ x ∷ [])) w ≡ run same n (happenings x) (run same n (flat_map happenings xs) w)
-one_more_event n [] x w = ap (λ (es : List (Event Bytes)). run same n es w) (append-nil (happenings x))
+    run same n (flat_map model_events (xs ++ x ∷ [])) w ≡ run same n (model_events x) (run same n (flat_map model_events xs) w)
+one_more_event n [] x w = ap (λ (es : List (Event Bytes)). run same n es w) (append-nil (model_events x))
 one_more_event n (y ∷ ys) x w =
-    run_append n (happenings y) (flat_map happenings (ys ++ x ∷ [])) w
-    ∙ one_more_event n ys x (run same n (happenings y) w)
-    ∙ ap (run same n (happenings x)) (sym (run_append n (happenings y) (flat_map happenings ys) w))
+    run_append n (model_events y) (flat_map model_events (ys ++ x ∷ [])) w
+    ∙ one_more_event n ys x (run same n (model_events y) w)
+    ∙ ap (run same n (model_events x)) (sym (run_append n (model_events y) (flat_map model_events ys) w))
 
 -- ---- events that name a member and a message
 
@@ -250,26 +250,26 @@ unknown_behind false c e = e
 
 -- the next one is known too
 pub known_more : (n : ℕ) (xs : List LabEvent) (x : LabEvent) (w : World Bytes) → are_known n xs w ≡ true →
-    is_bad n (run same n (flat_map happenings xs) w) x ≡ false → are_known n (xs ++ x ∷ []) w ≡ true
+    is_bad n (run same n (flat_map model_events xs) w) x ≡ false → are_known n (xs ++ x ∷ []) w ≡ true
 known_more n [] x w known good = ap (λ (b : Bool). cond b false true) good
 known_more n (y ∷ ys) x w known good =
-    let v = run same n (happenings y) w in
+    let v = run same n (model_events y) w in
     known_before (is_bad n w y) (are_known n ys v) (are_known n (ys ++ x ∷ []) v) known
-    (λ so. known_more n ys x v so (ap (λ (u : World Bytes). is_bad n u x) (sym (run_append n (happenings y) (flat_map happenings ys) w)) ∙ good))
+    (λ so. known_more n ys x v so (ap (λ (u : World Bytes). is_bad n u x) (sym (run_append n (model_events y) (flat_map model_events ys) w)) ∙ good))
 
 -- the next one isn't
 pub known_no_more : (n : ℕ) (xs : List LabEvent) (x : LabEvent) (ys : List LabEvent) (w : World Bytes) →
-    is_bad n (run same n (flat_map happenings xs) w) x ≡ true → are_known n (xs ++ x ∷ ys) w ≡ false
-known_no_more n [] x ys w bad = ap (λ (b : Bool). cond b false (are_known n ys (run same n (happenings x) w))) bad
+    is_bad n (run same n (flat_map model_events xs) w) x ≡ true → are_known n (xs ++ x ∷ ys) w ≡ false
+known_no_more n [] x ys w bad = ap (λ (b : Bool). cond b false (are_known n ys (run same n (model_events x) w))) bad
 known_no_more n (y ∷ zs) x ys w bad =
-    let v = run same n (happenings y) w in
+    let v = run same n (model_events y) w in
     unknown_behind (is_bad n w y) (are_known n (zs ++ x ∷ ys) v)
-    (known_no_more n zs x ys v (ap (λ (u : World Bytes). is_bad n u x) (sym (run_append n (happenings y) (flat_map happenings zs) w)) ∙ bad))
+    (known_no_more n zs x ys v (ap (λ (u : World Bytes). is_bad n u x) (sym (run_append n (model_events y) (flat_map model_events zs) w)) ∙ bad))
 
 -- 81 comes of an event that isn't known
-pub told_bad : {X : Type 0} (r : Result X LabFault) (f : LabFault) (bad : Bool) (o : Outcome) → r ≡ Err f → r ≡ Err fault.BadEvent → Tells (Err f) bad o → bad ≡ true
-told_bad r fault.BadEvent bad o same is told = told
-told_bad r fault.Memory bad o same is told = absurd cc
+pub bad_reported : {X : Type 0} (r : Result X LabFault) (f : LabFault) (bad : Bool) (o : Outcome) → r ≡ Err f → r ≡ Err fault.BadEvent → Tells (Err f) bad o → bad ≡ true
+bad_reported r fault.BadEvent bad o same is is_spelled = is_spelled
+bad_reported r fault.Memory bad o same is is_spelled = absurd cc
 
 -- a list around one of its places
 pub cut_at : (xs : List LabEvent) (i : ℕ) (x : LabEvent) → i < length xs → x ≡ get_or xs i x → take i xs ++ x ∷ drop (i + 1) xs ≡ xs

@@ -37,5 +37,5 @@ is_long (event.StopAfter a) = is_too_long a
 is_long (event.Restart m) = false
 
 -- what happens in the world: a command that is too long is refused before it is an event
-abbrev pub happenings : LabEvent → List (Event Bytes)
-happenings e = if is_long e then [] else event_of e ∷ []
+abbrev pub model_events : LabEvent → List (Event Bytes)
+model_events e = if is_long e then [] else event_of e ∷ []

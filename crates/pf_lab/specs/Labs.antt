@@ -33,7 +33,7 @@ pub record AreWorld {M : Type 0} (members : List M) (state_of : M → NodeState 
     (g : Group) (sent : List Datagram) (w : World Bytes) : Type 0 where
   pub count : length members ≡ g.members
   pub hosts : (m : ℕ) (x : M) → slice_get members m ≡ Some x → IsHost w g m (state_of x) (group_of x)
-  pub told : AreSpelled g w.sent sent
+  pub is_spelled : AreSpelled g w.sent sent
 
 -- the nodes of the hosts, with the datagrams sent, are the world's
 abbrev pub HostsAre : List Host → Group → List Datagram → World Bytes → Type 0

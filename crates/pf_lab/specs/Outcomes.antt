@@ -13,7 +13,7 @@ use Rattle.pf_lab.specs.declared.event.LabFault.{LabFault}
 use Rattle.pf_lab.specs.declared.event.LabFault.TheVariants as fault
 use Rattle.pf_lab.specs.declared.event.Outcome.{Outcome}
 use Rattle.pf_lab.specs.declared.event.Outcome.TheVariants as outcome
-use Rattle.pf_lab.specs.Coming.{event_of, is_long, happenings}
+use Rattle.pf_lab.specs.Coming.{event_of, is_long, model_events}
 
 -- nobody of n members is addressed
 abbrev pub is_nobodys : (n : ℕ) → Option (ℕ × Input Bytes) → Bool
@@ -66,4 +66,4 @@ Tells (Err fault.Memory) bad becomes = Unit {0}
 -- each event in its turn names a member, and a message that was sent
 abbrev pub are_known : (n : ℕ) → List LabEvent → World Bytes → Bool
 are_known n [] w = true
-are_known n (e ∷ es) w = if is_bad n w e then false else are_known n es (run same n (happenings e) w)
+are_known n (e ∷ es) w = if is_bad n w e then false else are_known n es (run same n (model_events e) w)

@@ -19,7 +19,7 @@ ghost use Rattle.px_core.specs.declared.limits.TheConstants.{MEMBERS};
 use crate::coming::What;
 use crate::event::{LabFault, Outcome};
 use crate::host::Host;
-use pf_entry::ASKER;
+use pf_entry::CLIENT;
 use px_replica::Datagram;
 use std::alloc::Global;
 
@@ -36,7 +36,7 @@ pub(crate) fn run_at(
         HostsAre hosts.old.items g sent w → Came g w a m what.entry →
         OnOk result (HostsAre hosts.new.items g (sent ++ for_members out.new.items)
         (happens same g.members w (Runs a))) }
-    ensures told { (g : Group) (w : World Bytes) (a : Action Bytes) (sent : List datagrams.Datagram) →
+    ensures reported { (g : Group) (w : World Bytes) (a : Action Bytes) (sent : List datagrams.Datagram) →
         HostsAre hosts.old.items g sent w → Came g w a m what.entry →
         Tells result (is_unknown g.members w (Runs a)) (outcome_in g.members w (Runs a)) }
     ensures stays { (g : Group) (w : World Bytes) (sent : List datagrams.Datagram) →
@@ -71,7 +71,7 @@ pub(crate) fn stop_before_at(hosts: &mut Vec<Host>, m: u8) -> Result<Outcome, La
         (sent : List datagrams.Datagram) →
         HostsAre hosts.old.items g sent w → comes_to w a ≡ Some (m, x) →
         OnOk result (HostsAre hosts.new.items g sent (happens same g.members w (StopBefore a))) }
-    ensures told { (g : Group) (w : World Bytes) (a : Action Bytes) (x : Input Bytes)
+    ensures reported { (g : Group) (w : World Bytes) (a : Action Bytes) (x : Input Bytes)
         (sent : List datagrams.Datagram) →
         HostsAre hosts.old.items g sent w → comes_to w a ≡ Some (m, x) →
         Tells result (is_unknown g.members w (StopBefore a)) (outcome_in g.members w (StopBefore a)) }
@@ -102,7 +102,7 @@ pub(crate) fn stop_after_at(
     ensures happens { (g : Group) (w : World Bytes) (a : Action Bytes) (sent : List datagrams.Datagram) →
         HostsAre hosts.old.items g sent w → Came g w a m what.entry →
         OnOk result (HostsAre hosts.new.items g sent (happens same g.members w (StopAfter a))) }
-    ensures told { (g : Group) (w : World Bytes) (a : Action Bytes) (sent : List datagrams.Datagram) →
+    ensures reported { (g : Group) (w : World Bytes) (a : Action Bytes) (sent : List datagrams.Datagram) →
         HostsAre hosts.old.items g sent w → Came g w a m what.entry →
         Tells result (is_unknown g.members w (StopAfter a)) (outcome_in g.members w (StopAfter a)) }
     ensures stays { (g : Group) (w : World Bytes) (sent : List datagrams.Datagram) →
@@ -132,7 +132,7 @@ fn keep_members(out: &mut Vec<Datagram>)
     ensures items { out.new.items ≡ for_members out.old.items }
     ensures len { vec_len out.new ≤ vec_len out.old }
 {
-    out.retain(|d| d.to != ASKER);
+    out.retain(|d| d.to != CLIENT);
 }
 
 /// Moves datagrams to the end of a list that has room for them.

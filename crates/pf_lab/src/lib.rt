@@ -70,9 +70,9 @@ mod event;
 mod events;
 mod ever;
 mod fault;
-mod happening;
 mod host;
 mod hosts;
+mod lab_events;
 pub mod laws;
 mod messages;
 mod numbers;
@@ -88,6 +88,6 @@ mod stepping;
 
 pub use event::{LabAction, LabEvent, LabFault, Outcome};
 pub use ever::EverLearned;
-pub use happening::lab;
+pub use lab_events::lab;
 pub use script::lab_script;
 pub use state::Lab;

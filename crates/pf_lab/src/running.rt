@@ -59,7 +59,7 @@ fn ask(node: &mut Node<MemoryRecords>, entry: &EntryView) -> Result<Outcome, Lab
     ensures went { OnOk result (IsAnswered (group (membership_of node.old))
         (answer (membership_of node.old).members (membership_of node.old).me (state_in node.old)
         (Asks (view_of entry.now).command)) (state_in node.old) (state_in node.new) []) }
-    ensures told { IfOk result (λ o. o ≡ outcome_of (state_in node.old).stored.meta (Asks (view_of entry.now).command)
+    ensures reported { IfOk result (λ o. o ≡ outcome_of (state_in node.old).stored.meta (Asks (view_of entry.now).command)
         (answer (membership_of node.old).members (membership_of node.old).me (state_in node.old)
         (Asks (view_of entry.now).command))) }
     ensures stays { OnErr result (state_in node.new ≡ state_in node.old) }
@@ -82,7 +82,7 @@ fn tick(node: &mut Node<MemoryRecords>, out: &mut Vec<Datagram>) -> Result<Outco
     ensures went { OnOk result (IsAnswered (group (membership_of node.old))
         (answer (membership_of node.old).members (membership_of node.old).me (state_in node.old) Ticks)
         (state_in node.old) (state_in node.new) out.new.items) }
-    ensures told { IfOk result (λ o. o ≡ outcome_of (state_in node.old).stored.meta Ticks
+    ensures reported { IfOk result (λ o. o ≡ outcome_of (state_in node.old).stored.meta Ticks
         (answer (membership_of node.old).members (membership_of node.old).me (state_in node.old) Ticks)) }
     ensures stays { OnErr result (state_in node.new ≡ state_in node.old) }
     ensures memory { OnErr result (result ≡ Err LabFault.Memory) }
@@ -112,7 +112,7 @@ fn receive(
         OnOk result (IsAnswered (group (membership_of node.old))
         (answer (membership_of node.old).members (membership_of node.old).me (state_in node.old) (Comes from message))
         (state_in node.old) (state_in node.new) out.new.items) }
-    ensures told { IfOk result (λ o. o ≡ Outcome.Nothing) }
+    ensures reported { IfOk result (λ o. o ≡ Outcome.Nothing) }
     ensures stays { OnErr result (state_in node.new ≡ state_in node.old) }
     ensures memory { OnErr result (result ≡ Err LabFault.Memory) }
     ensures few { OnOk result (length out.new.items ≤ MEMBERS) }
@@ -135,7 +135,7 @@ impl Host {
             OnOk result (IsAnswered (group (group_of self.old))
             (answer (group_of self.old).members (group_of self.old).me (state_in self.old.node) x)
             (state_in self.old.node) (state_in self.new.node) out.new.items) }
-        ensures told { (x : Input Bytes) → IsInput (group (group_of self.old)) (group_of self.old).me what.entry x →
+        ensures reported { (x : Input Bytes) → IsInput (group (group_of self.old)) (group_of self.old).me what.entry x →
             IfOk result (λ o. o ≡ outcome_of (state_in self.old.node).stored.meta x
             (answer (group_of self.old).members (group_of self.old).me (state_in self.old.node) x)) }
         ensures stays { OnErr result (state_in self.new.node ≡ state_in self.old.node) }

@@ -121,7 +121,7 @@ impl<R: Records> Node<R> {
     {
         match self.replica.receive(bytes, out) {
             Ok(Received::Done) => {
-                let _taken = take_up(
+                let _outcome = take_up(
                     self.alloc,
                     &self.replica,
                     &mut self.config,

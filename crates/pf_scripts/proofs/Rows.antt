@@ -16,9 +16,9 @@ simple : is_simple pfctl_app ≡ true
 simple = refl
 
 -- words that clap takes have its rows
-pub rows_taken : (a : App) (words : List Text) (m : ArgMatches) → a ≡ pfctl_app → (is_simple_and_free a ≡ true → fault_of a words ≡ []) → HasMatchesOf a words m → Some (rows_of (found_of m)) ≡ rows_in words
+pub rows_accepted : (a : App) (words : List Text) (m : ArgMatches) → a ≡ pfctl_app → (is_simple_and_free a ≡ true → fault_of a words ≡ []) → HasMatchesOf a words m → Some (rows_of (found_of m)) ≡ rows_in words
 unfolding rows_in
-rows_taken a words m same h k =
+rows_accepted a words m same h k =
     let P : App → Type 0 = λ b. is_simple_and_free b ≡ true → fault_of b words ≡ [] in
     let Q : App → Type 0 = λ b. HasMatchesOf b words m in
     rw (subst P same h simple_and_free, (subst Q same k simple).0) refl

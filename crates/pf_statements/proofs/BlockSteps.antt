@@ -8,7 +8,7 @@ use Rattle.pf_tokens.specs.declared.symbol.Symbol.TheVariants.{Open, Close}
 use Rattle.pf_tokens.specs.declared.stop.Stop.{Stop}
 use Rattle.pf_tokens.specs.declared.stop.Stop.TheVariants as stops
 use Rattle.pf_tokens.specs.Tokens.{Token, Mark, is_newline}
-use Rattle.pf_tokens.specs.Productions.{Read, ◌>>=◌, begins, begins_symbol, option_at, symbol_at, starts, taken_if}
+use Rattle.pf_tokens.specs.Productions.{Read, ◌>>=◌, begins, begins_symbol, option_at, symbol_at, starts, accepted_if}
 use Rattle.pf_tokens.specs.inner.Shorter.{begins_shorter, symbol_shorter}
 use Rattle.pf_tokens.specs.Parsing.{Parses}
 use Rattle.pf_statements.specs.declared.written.WrittenItem.{WrittenItem}
@@ -27,34 +27,34 @@ pair_is r b new old e = (ap (λ (p : Bool × List Token). p.0) e, ap (λ (p : Bo
 abbrev may_take : Bool → List Token → Bool × List Token
 may_take b ts = cond b (true, drop 1 ts) (false, ts)
 
-may_taken : (b r : Bool) (old new : List Token) → (let given : Bool × List Token = (r, new) in given) ≡ may_take b old → r ≡ true → (b ≡ true) × (new ≡ drop 1 old)
-may_taken true r old new e is = (refl, (pair_is r true new (drop 1 old) e).1)
-may_taken false r old new e is = absurd (false≢true (sym (pair_is r false new old e).0 ∙ is))
+option_accepted : (b r : Bool) (old new : List Token) → (let given : Bool × List Token = (r, new) in given) ≡ may_take b old → r ≡ true → (b ≡ true) × (new ≡ drop 1 old)
+option_accepted true r old new e is = (refl, (pair_is r true new (drop 1 old) e).1)
+option_accepted false r old new e is = absurd (false≢true (sym (pair_is r false new old e).0 ∙ is))
 
 may_kept : (b r : Bool) (old new : List Token) → (let given : Bool × List Token = (r, new) in given) ≡ may_take b old → r ≡ false → (b ≡ false) × (new ≡ old)
 may_kept true r old new e is = absurd (false≢true (sym is ∙ (pair_is r true new (drop 1 old) e).0))
 may_kept false r old new e is = (refl, (pair_is r false new old e).1)
 
-pub word_taken : (word : List ℕ) (r : Bool) (old new : List Token) → (let given : Bool × List Token = (r, new) in given) ≡ option_at word old → r ≡ true → (begins word old ≡ true) × (new ≡ drop 1 old)
+pub word_accepted : (word : List ℕ) (r : Bool) (old new : List Token) → (let given : Bool × List Token = (r, new) in given) ≡ option_at word old → r ≡ true → (begins word old ≡ true) × (new ≡ drop 1 old)
 unfolding option_at
-word_taken word r old new e is = may_taken (begins word old) r old new e is
+word_accepted word r old new e is = option_accepted (begins word old) r old new e is
 
 pub word_kept : (word : List ℕ) (r : Bool) (old new : List Token) → (let given : Bool × List Token = (r, new) in given) ≡ option_at word old → r ≡ false → (begins word old ≡ false) × (new ≡ old)
 unfolding option_at
 word_kept word r old new e is = may_kept (begins word old) r old new e is
 
-pub symbol_taken : (symbol : Symbol) (r : Bool) (old new : List Token) → (let given : Bool × List Token = (r, new) in given) ≡ symbol_at symbol old → r ≡ true → (begins_symbol symbol old ≡ true) × (new ≡ drop 1 old)
+pub symbol_accepted : (symbol : Symbol) (r : Bool) (old new : List Token) → (let given : Bool × List Token = (r, new) in given) ≡ symbol_at symbol old → r ≡ true → (begins_symbol symbol old ≡ true) × (new ≡ drop 1 old)
 unfolding symbol_at
-symbol_taken symbol r old new e is = may_taken (begins_symbol symbol old) r old new e is
+symbol_accepted symbol r old new e is = option_accepted (begins_symbol symbol old) r old new e is
 
 pub symbol_kept : (symbol : Symbol) (r : Bool) (old new : List Token) → (let given : Bool × List Token = (r, new) in given) ≡ symbol_at symbol old → r ≡ false → (begins_symbol symbol old ≡ false) × (new ≡ old)
 unfolding symbol_at
 symbol_kept symbol r old new e is = may_kept (begins_symbol symbol old) r old new e is
 
-pub line_taken : (r : Bool) (old new : List Token) → (let given : Bool × List Token = (r, new) in given) ≡ taken_if is_newline old → r ≡ true → (starts is_newline old ≡ true) × (new ≡ drop 1 old)
-line_taken r old new e is = may_taken (starts is_newline old) r old new e is
+pub line_accepted : (r : Bool) (old new : List Token) → (let given : Bool × List Token = (r, new) in given) ≡ accepted_if is_newline old → r ≡ true → (starts is_newline old ≡ true) × (new ≡ drop 1 old)
+line_accepted r old new e is = option_accepted (starts is_newline old) r old new e is
 
-pub line_kept : (r : Bool) (old new : List Token) → (let given : Bool × List Token = (r, new) in given) ≡ taken_if is_newline old → r ≡ false → (starts is_newline old ≡ false) × (new ≡ old)
+pub line_kept : (r : Bool) (old new : List Token) → (let given : Bool × List Token = (r, new) in given) ≡ accepted_if is_newline old → r ≡ false → (starts is_newline old ≡ false) × (new ≡ old)
 line_kept r old new e is = may_kept (starts is_newline old) r old new e is
 
 pub line_shorter : (ts : List Token) → starts is_newline ts ≡ true → length (drop 1 ts) < length ts

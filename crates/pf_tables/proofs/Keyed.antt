@@ -112,7 +112,7 @@ pub record Search (es : List TableEntry) (keys : List ℕ) (q : Block) (r : Resu
 pub by_search : (v : Bool) (l : ℕ) (es : List TableEntry) (keys : List ℕ) (q : Block) (x : ℕ) (r : Result ℕ ℕ) →
     list_all (is_of v l) es ≡ true → IsOrdered es → version q.base ≡ version_of v → q.len ≡ l →
     keys ≡ map key_of es → x ≡ bits_of q.base → IsBinarySearchResult (λ y. nat_cmp y x) keys r → Search es keys q r
-by_search v l es keys q x r h s a b k e p = told r (searched keys x r p (subst (λ (ks : List ℕ). (i j : ℕ) → i ≤ j → j < length ks → get_or ks i 0 ≤ get_or ks j 0) (sym k) (rising v l es h s)))
+by_search v l es keys q x r h s a b k e p = searched_is r (searched keys x r p (subst (λ (ks : List ℕ). (i j : ℕ) → i ≤ j → j < length ks → get_or ks i 0 ≤ get_or ks j 0) (sym k) (rising v l es h s)))
   where
     no_key : (i : ℕ) → ((n : ℕ) → n < i → get_or keys n 0 < x) → ((n : ℕ) → i ≤ n → n < length keys → x < get_or keys n 0) → (n : ℕ) → n < length (map key_of es) → get_or (map key_of es) n 0 ≡ bits_of q.base → ⊥
     no_key i below above_i n m g =
@@ -122,12 +122,12 @@ by_search v l es keys q x r h s a b k e p = told r (searched keys x r p (subst (
           | inr y ↦ (let z = above_i n y (subst (λ (ks : List ℕ). n < length ks) (sym k) m) in omega (arith, z, w))
         ]
 
-    told : (r : Result ℕ ℕ) → MatchResult r (λ i. (i < length keys) × (get_or keys i 0 ≡ x)) (λ i. (i ≤ length keys) × ((n : ℕ) → n < i → get_or keys n 0 < x) × ((n : ℕ) → i ≤ n → n < length keys → x < get_or keys n 0)) → Search es keys q r
-    told (Ok i) m = record {
+    searched_is : (r : Result ℕ ℕ) → MatchResult r (λ i. (i < length keys) × (get_or keys i 0 ≡ x)) (λ i. (i ≤ length keys) × ((n : ℕ) → n < i → get_or keys n 0 < x) × ((n : ℕ) → i ≤ n → n < length keys → x < get_or keys n 0)) → Search es keys q r
+    searched_is (Ok i) m = record {
       at = λ j o. (let f : slice_get es i ≡ entry_at q es = found v l es q h s a b i (subst (λ (ks : List ℕ). i < length ks) k m.0) (ap (λ (ks : List ℕ). get_or ks i 0) (sym k) ∙ m.1 ∙ e) in let y : i ≡ j = same_ok i j o in subst (λ z. slice_get es z ≡ entry_at q es) y f);
       nowhere = λ j o. cc;
     }
-    told (Err i) m = record {
+    searched_is (Err i) m = record {
       at = λ j o. cc;
       nowhere = λ j o. sym (absent es q (no_key i m.1 m.2));
     }

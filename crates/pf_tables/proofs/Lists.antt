@@ -10,11 +10,11 @@ got_dropped zero xs k = let e : k ≡ 0 + k = omega arith in ap (slice_get xs) e
 got_dropped (suc n) [] k = refl
 got_dropped (suc n) (x ∷ xs) k = let e : suc (n + k) ≡ suc n + k = omega arith in got_dropped n xs k ∙ ap (slice_get (x ∷ xs)) e
 
-pub got_taken : {X : Type 0} → (n : ℕ) (xs : List X) (k : ℕ) → k < n → slice_get (take n xs) k ≡ slice_get xs k
-got_taken zero xs k h = absurd (omega (arith, h))
-got_taken (suc n) [] k h = refl
-got_taken (suc n) (x ∷ xs) zero h = refl
-got_taken (suc n) (x ∷ xs) (suc k) h = got_taken n xs k (omega (arith, h))
+pub got_in_front : {X : Type 0} → (n : ℕ) (xs : List X) (k : ℕ) → k < n → slice_get (take n xs) k ≡ slice_get xs k
+got_in_front zero xs k h = absurd (omega (arith, h))
+got_in_front (suc n) [] k h = refl
+got_in_front (suc n) (x ∷ xs) zero h = refl
+got_in_front (suc n) (x ∷ xs) (suc k) h = got_in_front n xs k (omega (arith, h))
 
 pub dropped_twice : {X : Type 0} → (n m : ℕ) (xs : List X) → drop m (drop n xs) ≡ drop (n + m) xs
 dropped_twice zero m xs = let e : m ≡ 0 + m = omega arith in ap (λ k. drop k xs) e

@@ -29,26 +29,26 @@ after a n f (e ∷ es) =
     else (if (e.prefix.len == n) && not e.negated then after a n true es else after a n f es))
     else after a n f es
 
-abbrev told : (ℕ → Bool) → ℕ → ℕ → Bool → Bool
-told P m n f = if nat_lt n m then P m else (f || P n)
+abbrev settled : (ℕ → Bool) → ℕ → ℕ → Bool → Bool
+settled P m n f = if nat_lt n m then P m else (f || P n)
 
 step : (P : ℕ → Bool) (l m n : ℕ) (q f : Bool) →
-    (if nat_lt n l then told P m l q else (if (l == n) && q then told P m n true else told P m n f))
-    ≡ told (λ k. (q && true && (l == k)) || P k) (longer l m) n f
+    (if nat_lt n l then settled P m l q else (if (l == n) && q then settled P m n true else settled P m n f))
+    ≡ settled (λ k. (q && true && (l == k)) || P k) (longer l m) n f
 step P l m n true true = elim (cases_lt n l) [ inl a ↦ elim (cases_lt l m) [ inl b ↦ grind (arith, nat_tests) | inr b ↦ grind (arith, nat_tests) ] | inr a ↦ elim (cases_lt n m) [ inl b ↦ grind (arith, nat_tests) | inr b ↦ grind (arith, nat_tests) ] ]
 step P l m n true false = elim (cases_lt n l) [ inl a ↦ elim (cases_lt l m) [ inl b ↦ grind (arith, nat_tests) | inr b ↦ grind (arith, nat_tests) ] | inr a ↦ elim (cases_lt n m) [ inl b ↦ grind (arith, nat_tests) | inr b ↦ grind (arith, nat_tests) ] ]
 step P l m n false true = elim (cases_lt n l) [ inl a ↦ elim (cases_lt l m) [ inl b ↦ grind (arith, nat_tests) | inr b ↦ grind (arith, nat_tests) ] | inr a ↦ elim (cases_lt n m) [ inl b ↦ grind (arith, nat_tests) | inr b ↦ grind (arith, nat_tests) ] ]
 step P l m n false false = elim (cases_lt n l) [ inl a ↦ elim (cases_lt l m) [ inl b ↦ grind (arith, nat_tests) | inr b ↦ grind (arith, nat_tests) ] | inr a ↦ elim (cases_lt n m) [ inl b ↦ grind (arith, nat_tests) | inr b ↦ grind (arith, nat_tests) ] ]
 
-after_told : (a : Addr) (n : ℕ) (f : Bool) (es : List TableEntry) → after a n f es ≡ told (λ k. plain_at a k es) (best a es) n f
-after_told a n true [] = grind (arith, nat_tests)
-after_told a n false [] = grind (arith, nat_tests)
-after_told a n f (e ∷ es) =
+after_settled : (a : Addr) (n : ℕ) (f : Bool) (es : List TableEntry) → after a n f es ≡ settled (λ k. plain_at a k es) (best a es) n f
+after_settled a n true [] = grind (arith, nat_tests)
+after_settled a n false [] = grind (arith, nat_tests)
+after_settled a n f (e ∷ es) =
     elim (contains a e) as (λ c.
     (if c then (if nat_lt n e.prefix.len then after a e.prefix.len (not e.negated) es else (if (e.prefix.len == n) && not e.negated then after a n true es else after a n f es)) else after a n f es)
-    ≡ told (λ k. (not e.negated && c && (e.prefix.len == k)) || plain_at a k es) (if c then longer e.prefix.len (best a es) else best a es) n f) [
-      | true ↦ rw (after_told a e.prefix.len (not e.negated) es, after_told a n true es, after_told a n f es) (step (λ k. plain_at a k es) e.prefix.len (best a es) n (not e.negated) f)
-      | false ↦ elim (e.negated) as (λ v. after a n f es ≡ told (λ k. (not v && false && (e.prefix.len == k)) || plain_at a k es) (best a es) n f) [ true ↦ after_told a n f es | false ↦ after_told a n f es ]
+    ≡ settled (λ k. (not e.negated && c && (e.prefix.len == k)) || plain_at a k es) (if c then longer e.prefix.len (best a es) else best a es) n f) [
+      | true ↦ rw (after_settled a e.prefix.len (not e.negated) es, after_settled a n true es, after_settled a n f es) (step (λ k. plain_at a k es) e.prefix.len (best a es) n (not e.negated) f)
+      | false ↦ elim (e.negated) as (λ v. after a n f es ≡ settled (λ k. (not v && false && (e.prefix.len == k)) || plain_at a k es) (best a es) n f) [ true ↦ after_settled a n f es | false ↦ after_settled a n f es ]
     ]
 
 both_le : (l m n : ℕ) → (nat_le l n && nat_le m n) ≡ nat_le (longer l m) n
@@ -79,4 +79,4 @@ in_table_is a es = simp all_le (plain_longest a (best a es) es (omega arith))
 
 -- what is found behind no entries is the definition's answer
 pub found : (a : Addr) (es : List TableEntry) → after a 0 false es ≡ in_table a es
-found a es = rw (after_told a 0 false es, in_table_is a es) (elim (cases_lt 0 (best a es)) [ inl b ↦ grind (arith, nat_tests) | inr b ↦ (let e : best a es ≡ 0 = omega arith in rw e refl) ])
+found a es = rw (after_settled a 0 false es, in_table_is a es) (elim (cases_lt 0 (best a es)) [ inl b ↦ grind (arith, nat_tests) | inr b ↦ (let e : best a es ≡ 0 = omega arith in rw e refl) ])

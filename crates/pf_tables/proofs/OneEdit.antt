@@ -298,14 +298,14 @@ pub by_search : (p : Part) (e : TableEntry) (keys : List ℕ) (x : ℕ) (r : Res
 by_search p e keys x r q o k n h =
     let es = p.entries.items in
     let ks : keys ≡ map key_of es = k ∙ p.keyed in
-    told r (subst (λ z. MatchResult r (λ i. (i < length (map key_of es)) × (get_or (map key_of es) i 0 ≡ z)) (λ i. (i ≤ length (map key_of es)) × ((j : ℕ) → j < i → get_or (map key_of es) j 0 < z) × ((j : ℕ) → i ≤ j → j < length (map key_of es) → z < get_or (map key_of es) j 0))) n
+    searched_is r (subst (λ z. MatchResult r (λ i. (i < length (map key_of es)) × (get_or (map key_of es) i 0 ≡ z)) (λ i. (i ≤ length (map key_of es)) × ((j : ℕ) → j < i → get_or (map key_of es) j 0 < z) × ((j : ℕ) → i ≤ j → j < length (map key_of es) → z < get_or (map key_of es) j 0))) n
     (searched (map key_of es) x r (subst (λ z. IsBinarySearchResult (λ y. nat_cmp y x) z r) ks h) (rising p.v6 p.len es q.0 q.2)))
   where
     long : length (map key_of p.entries.items) ≡ length p.entries.items
     long = length-map p.entries.items key_of
 
-    told : (r : Result ℕ ℕ) → MatchResult r (λ i. (i < length (map key_of p.entries.items)) × (get_or (map key_of p.entries.items) i 0 ≡ key_of e)) (λ i. (i ≤ length (map key_of p.entries.items)) × ((j : ℕ) → j < i → get_or (map key_of p.entries.items) j 0 < key_of e) × ((j : ℕ) → i ≤ j → j < length (map key_of p.entries.items) → key_of e < get_or (map key_of p.entries.items) j 0)) → Search e p.entries.items r
-    told (Ok i) m =
+    searched_is : (r : Result ℕ ℕ) → MatchResult r (λ i. (i < length (map key_of p.entries.items)) × (get_or (map key_of p.entries.items) i 0 ≡ key_of e)) (λ i. (i ≤ length (map key_of p.entries.items)) × ((j : ℕ) → j < i → get_or (map key_of p.entries.items) j 0 < key_of e) × ((j : ℕ) → i ≤ j → j < length (map key_of p.entries.items) → key_of e < get_or (map key_of p.entries.items) j 0)) → Search e p.entries.items r
+    searched_is (Ok i) m =
         let es = p.entries.items in
         let n : i < length es = (let l = m.0 in omega (arith, long, l)) in
         let y = got es i n in
@@ -318,7 +318,7 @@ by_search p e keys x r q o k n h =
           comes = λ j f. cc;
           none = λ j f. cc;
         }
-    told (Err i) m =
+    searched_is (Err i) m =
         let es = p.entries.items in
         record {
           within = λ j f. cc;

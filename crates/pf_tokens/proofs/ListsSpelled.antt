@@ -182,17 +182,17 @@ ran_one : {X : Type 0} {element : List Token → Read X} {Is : List Token → X 
 ran_one {element = element} {Is = Is} readable b n runs fits depth deepest some deep w ts y e =
     let a = bind_some (element ts) (λ x. elements element n depth deepest false x.1 >>= put x.0) y e in
     let q = bind_some (elements element n depth deepest false a.0.1) (put a.0.0) y a.2 in
-    let taken = readable.took ts a.0 a.1 in
+    let first_item = readable.took ts a.0 a.1 in
     let inner = runs n fits depth deepest some deep false a.0.1 q.0 q.1 in
     record {
-      piece = taken.piece ++ inner.piece;
+      piece = first_item.piece ++ inner.piece;
       xs = a.0.0 ∷ inner.xs;
       d = inner.d;
       behind = inner.behind;
       m = inner.m;
       z = inner.z;
-      whole = taken.whole ∙ ap (λ (us : List Token). taken.piece ++ us) inner.whole ∙ sym (append_assoc taken.piece inner.piece (Mark Close ∷ inner.behind));
-      is = any_tail w _ _ _ (one_before taken.piece a.0.0 taken.is false inner.piece inner.xs inner.d inner.is refl);
+      whole = first_item.whole ∙ ap (λ (us : List Token). first_item.piece ++ us) inner.whole ∙ sym (append_assoc first_item.piece inner.piece (Mark Close ∷ inner.behind));
+      is = any_tail w _ _ _ (one_before first_item.piece a.0.0 first_item.is false inner.piece inner.xs inner.d inner.is refl);
       fewer = (let h = inner.fewer in omega (arith, h));
       closed = inner.closed;
       value = prefixed_twice (a.0.0 ∷ []) inner.xs y q.0 inner.z (sym (some_is (prefixed (a.0.0 ∷ []) q.0) y q.2)) inner.value;

@@ -32,9 +32,9 @@ same_tokens p None (Some text) same = absurd cc
 same_tokens p (Some text) None same = absurd cc
 same_tokens p (Some text) (Some there) same = let tokens : plain_tokens text ≡ plain_tokens there = cc in ap (map (unwritten p.line)) tokens
 
-pub inside_taken : (line : ℕ) (l next : Lexed) (ts rest : List Placed) → option_map placed_of (Some l) ≡ first ts → rest ≡ drop 1 ts → placed_of next ≡ unwritten line (placed_of l) → behind (Some next) (map (unwritten line) rest) ≡ map (unwritten line) ts
-inside_taken line l next [] rest is_first is_rest is_next = absurd cc
-inside_taken line l next (t ∷ ts) rest is_first is_rest is_next =
+pub inside_passed : (line : ℕ) (l next : Lexed) (ts rest : List Placed) → option_map placed_of (Some l) ≡ first ts → rest ≡ drop 1 ts → placed_of next ≡ unwritten line (placed_of l) → behind (Some next) (map (unwritten line) rest) ≡ map (unwritten line) ts
+inside_passed line l next [] rest is_first is_rest is_next = absurd cc
+inside_passed line l next (t ∷ ts) rest is_first is_rest is_next =
     let same : placed_of l ≡ t = cc in
     rw is_rest (ap (λ (p : Placed). p ∷ map (unwritten line) ts) (is_next ∙ ap (unwritten line) same))
 

@@ -152,17 +152,17 @@ module _ (parser : Parser) (l : Lexed) (at_hand : parser.stream.next ≡ Some l)
       tokens_drop [] = refl
       tokens_drop (p ∷ ps) = refl
 
-      pub taken_left : left new ≡ blanked new.braces (drop 1 (tokens_of (placed_left parser)))
+      pub passed_left : left new ≡ blanked new.braces (drop 1 (tokens_of (placed_left parser)))
       unfolding left
-      taken_left =
+      passed_left =
           ap (λ (ps : List Placed). blanked new.braces (tokens_of ps)) same_left
           ∙ blanks.statement depth within
           ∙ ap (λ (ps : List Placed). blanked new.braces (tokens_of ps)) mid_left
           ∙ ap (blanked new.braces) (tokens_drop (placed_left parser))
 
-      taken_behind : (later new).behind ≡ (later parser).behind
+      passed_behind : (later new).behind ≡ (later parser).behind
       unfolding later
-      taken_behind =
+      passed_behind =
           ap (λ (ds : List Definition). ending_left ds new.stream.defining new.depth (pending new.stream).0 (pending new.stream).1) moved.known
           ∙ ap (λ (w : Bool). ending_left (known mid) w new.depth (pending new.stream).0 (pending new.stream).1) moved.defining
           ∙ ap (λ (d : ℕ). ending_left (known mid) mid.defining d (pending new.stream).0 (pending new.stream).1) deeper
@@ -177,8 +177,8 @@ module _ (parser : Parser) (l : Lexed) (at_hand : parser.stream.next ≡ Some l)
         blank_there : carried (known mid) new.passed depth (statement_tokens (known mid) mid.defining depth (pending new.stream)) ≡ carried (known mid) passed depth (statement_tokens (known mid) mid.defining depth (pending mid))
         blank_there = rw deeper at blank
 
-        taken_fault : carried (definitions new) new.passed new.depth (tokens_of (placed_left new)) ≡ carried (definitions parser) parser.passed parser.depth (tokens_of (placed_left parser))
-        taken_fault =
+        passed_fault : carried (definitions new) new.passed new.depth (tokens_of (placed_left new)) ≡ carried (definitions parser) parser.passed parser.depth (tokens_of (placed_left parser))
+        passed_fault =
             ap (λ (ds : List Definition). carried ds new.passed new.depth (tokens_of (placed_left new))) moved.known
             ∙ ap (λ (ps : List Placed). carried (known mid) new.passed new.depth (tokens_of ps)) same_left
             ∙ ap (λ (d : ℕ). carried (known mid) new.passed d (statement_tokens (known mid) mid.defining depth (pending new.stream))) deeper
@@ -190,10 +190,10 @@ module _ (parser : Parser) (l : Lexed) (at_hand : parser.stream.next ≡ Some l)
 
         fault_same : (later new).fault ≡ (later parser).fault
         unfolding later
-        fault_same = taken_fault
+        fault_same = passed_fault
 
-        pub taken_later : later new ≡ later parser
-        taken_later = both (later new) (later parser) taken_behind fault_same
+        pub passed_later : later new ≡ later parser
+        passed_later = both (later new) (later parser) passed_behind fault_same
           where
             both : (a b : Later) → a.behind ≡ b.behind → a.fault ≡ b.fault → a ≡ b
             both a b e f = ap (λ (ps : List Placed). made ps a.fault) e ∙ ap (λ (o : Option ReadingFault). made b.behind o) f
@@ -233,9 +233,9 @@ nothing_placed parser nothing = cases parser.stream.next refl
     cases (Some l) e = ended l e (ends parser.depth (placed_of l)) refl
 
 -- once one was found, or nothing is left, it is known
-pub fault_told : (parser : Parser) → (is_some parser.passed.fault ≡ false → left parser ≡ []) → parser.passed.fault ≡ (later parser).fault
+pub fault_reported : (parser : Parser) → (is_some parser.passed.fault ≡ false → left parser ≡ []) → parser.passed.fault ≡ (later parser).fault
 unfolding later
-fault_told parser none = cases parser.passed.fault refl
+fault_reported parser none = cases parser.passed.fault refl
   where
     rest : List Token → Option ReadingFault
     rest ts = reading_fault (definitions parser) parser.passed.count parser.depth ts
@@ -325,10 +325,10 @@ text_nested t braces depth is le = rw (text_depth t depth is) le
 
 pub text_passed : (parser new : Parser) (l : Lexed) → parser.stream.next ≡ Some l → IsText (token_of l.lexeme)
     → left new ≡ blanked parser.braces (drop 1 (tokens_of (placed_left parser))) → left parser ≡ token_of l.lexeme ∷ left new
-text_passed parser new l at_hand is taken =
+text_passed parser new l at_hand is first_item =
     left_is parser l at_hand (text_inner l parser.depth is)
     ∙ ap (λ (n : ℕ). token_of l.lexeme ∷ blanked n (drop 1 (tokens_of (placed_left parser)))) (text_open (token_of l.lexeme) parser.braces is)
-    ∙ sym (ap (λ (ts : List Token). token_of l.lexeme ∷ ts) taken)
+    ∙ sym (ap (λ (ts : List Token). token_of l.lexeme ∷ ts) first_item)
 
 -- what is read of the first token alone isn't read where it can't be read of the token at hand
 reads_none : (read : List Token → Option (List ℕ × List Token)) (of : Token → Option (List ℕ)) → read [] ≡ None → of Newline ≡ None

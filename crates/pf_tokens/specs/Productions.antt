@@ -29,8 +29,8 @@ starts test [] = false
 starts test (t ∷ ts) = test t
 
 -- whether it does, and what is left if it is taken then
-abbrev pub taken_if : (Token → Bool) → List Token → Bool × List Token
-taken_if test ts = if starts test ts then (true, drop 1 ts) else (false, ts)
+abbrev pub accepted_if : (Token → Bool) → List Token → Bool × List Token
+accepted_if test ts = if starts test ts then (true, drop 1 ts) else (false, ts)
 
 -- ---- words
 

@@ -53,7 +53,7 @@ where
     ghost use Rattle.pf_tokens.specs.Defining.{item_of};
     ghost use Rattle.pf_tokens.specs.Productions.{begins, begins_symbol, option_at, symbol_at, word_at};
     ghost use Rattle.pf_tokens.specs.Productions.{name_at, name_of};
-    ghost use Rattle.pf_tokens.specs.Productions.{is_end, taken_if, list_opened};
+    ghost use Rattle.pf_tokens.specs.Productions.{is_end, accepted_if, list_opened};
     ghost use Rattle.pf_tokens.specs.Parsing.{tokens_of, definitions, is_defining, placed_left, left, later, Reads};
 
     /// At the start of a statement, where these macros are known.
@@ -227,7 +227,7 @@ where
 
     /// Goes past a newline, if it comes next: within braces that are no list, newlines are tokens.
     pub fn accept_newline(&mut self) -> bool
-        ensures read { (result, left self.new) ≡ taken_if is_newline (left self.old) }
+        ensures read { (result, left self.new) ≡ accepted_if is_newline (left self.old) }
         ensures later { later self.new ≡ later self.old }
         ensures definitions { definitions self.new ≡ definitions self.old }
     {

@@ -91,10 +91,10 @@ where
     }
 
     /// Takes a token of the macro's text to hand, if one is left.
-    #[tactic(auto, using(crate::proofs::Pulling::inside_taken, crate::proofs::Pulling::inside_none, crate::proofs::Pulling::inside_some), unfolding(crate::specs::Pending::pending))]
+    #[tactic(auto, using(crate::proofs::Pulling::inside_passed, crate::proofs::Pulling::inside_none, crate::proofs::Pulling::inside_some), unfolding(crate::specs::Pending::pending))]
     fn take_inside(&mut self) -> bool
         ensures some { OnTrue result (0 < length (tokens_left self.old.inside)) }
-        ensures taken { OnTrue result (pending self.new ≡
+        ensures first_item { OnTrue result (pending self.new ≡
             (map (unwritten self.old.line) (tokens_left self.old.inside), tokens_left self.old.text)) }
         ensures none { OnFalse result ((tokens_left self.old.inside ≡ []) × (tokens_left self.new.inside ≡ [])) }
         ensures text { self.new.text ≡ self.old.text }

@@ -32,12 +32,12 @@ struct Refused {
 
 /// The refusal that a printed line is, none where it is another line.
 fn refusal_in(printed: &str) -> Option<Refused> {
-    let Some(told) = printed.strip_prefix("refused ") else {
+    let Some(code_and_line) = printed.strip_prefix("refused ") else {
         return None;
     };
-    let (code, line) = match told.split_once(" line ") {
+    let (code, line) = match code_and_line.split_once(" line ") {
         Some((code, line)) => (code, line.parse::<u64>().ok()),
-        None => (told, None),
+        None => (code_and_line, None),
     };
     match code.parse::<u8>() {
         Ok(code) => Some(Refused { code, line }),

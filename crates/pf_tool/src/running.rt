@@ -37,7 +37,7 @@ fn answer<R: Read, W: Write, E: Write>(
     match write_bytes(writer, output.text.as_bytes()) {
         Ok(()) => {
             // that people can't be told changes nothing
-            let _told = errors.write_all(remarks.as_str().as_bytes());
+            let _code_and_line = errors.write_all(remarks.as_str().as_bytes());
             match output.ending {
                 Ending::Done => Status::Done,
                 Ending::Refused => Status::Refused,

@@ -154,7 +154,7 @@ fn run_one<W: Write>(
         Err(LineFault::Memory) => out_of_memory(writer),
         Err(LineFault::Refused(code, why)) => {
             // that people can't be told changes nothing
-            let _told = errors.extend_from_slice(why.as_bytes());
+            let _written = errors.extend_from_slice(why.as_bytes());
             after(writeln!(writer, "refused {code}"), Status::Refused)
         }
     };
@@ -182,7 +182,7 @@ fn run_all<W: Write, E: Write>(
         if (status == Status::Done) == line.must_fail {
             ending = Status::Refused;
             // that people can't be told changes nothing
-            let _told = write_line(errors, b"pfx: not as marked: ==", line.header);
+            let _written = write_line(errors, b"pfx: not as marked: ==", line.header);
         }
     }
     Ok(ending)

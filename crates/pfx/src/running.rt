@@ -101,7 +101,7 @@ fn run_plain<S: AsStr, R: Read, W: Write, E: Write>(
 }
 
 /// The same on a terminal, with what the refusal means.
-fn run_told<S: AsStr, R: Read, W: Write, E: Write>(
+fn run_explained<S: AsStr, R: Read, W: Write, E: Write>(
     rt: &HostRuntime,
     arguments: &[S],
     reader: &mut R,
@@ -128,7 +128,7 @@ pub(crate) fn run_line<S: AsStr, R: Read, W: Write, E: Write>(
     is_terminal: bool,
 ) -> Status {
     match subcommand_of(arguments) {
-        "ask" | "show" if is_terminal => run_told(rt, arguments, reader, writer, errors),
+        "ask" | "show" if is_terminal => run_explained(rt, arguments, reader, writer, errors),
         _ => run_plain(rt, arguments, reader, writer, errors, is_terminal),
     }
 }

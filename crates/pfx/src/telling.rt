@@ -81,11 +81,11 @@ pub(crate) fn tell<S: AsStr, E: Write>(
     if code == NOBODY {
         if let Some(path) = value_of(arguments, "--control") {
             if let Err(error) = knock(rt, path) {
-                let _told = writeln!(errors, "pfx: {}: {error}", Shown(path));
+                let _written = writeln!(errors, "pfx: {}: {error}", Shown(path));
             }
         }
     }
     if let Some(row) = explanation(&REFUSALS, code) {
-        let _told = writeln!(errors, "pfx: {} ({code}), see pfx explain {code}", row.name);
+        let _written = writeln!(errors, "pfx: {} ({code}), see pfx explain {code}", row.name);
     }
 }

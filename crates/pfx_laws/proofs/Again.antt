@@ -44,7 +44,7 @@ use Rattle.pf_grammar.specs.declared.place.Place.TheVariants.{Main, Anchor}
 use Rattle.pf_grammar.specs.Causes.{is_anchor, setting_causes, statement_cause}
 use Rattle.pf_grammar.specs.Reading.{Sofar, nothing, macros_of, judge, statement_outcome, defined, answered, unless_fault, after_statement, ruleset_if, reading}
 use Rattle.pf_grammar.proofs.Made.{reading_keeps, some_fits, name_fits}
-use Rattle.pf_grammar.proofs.Told.{rule_tokens}
+use Rattle.pf_grammar.proofs.ShownTokens.{rule_tokens}
 use Rattle.pf_grammar.proofs.RuleFits.{text_fits, expanded_fit}
 use Rattle.pf_grammar.proofs.RuleParts.{more_tokens}
 use Rattle.pf_grammar.proofs.Lines.{Simple, so_far, rule_short}

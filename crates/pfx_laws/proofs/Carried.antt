@@ -5,12 +5,12 @@ use Rattle.px_model.specs.Spelling.{Bytes}
 use Rattle.px_model.specs.World.{NodeState, nothing_stored, started}
 use Rattle.px_records.specs.declared.records.Records.{Ghosts}
 use Rattle.px_wire.specs.Message.{Group}
-use Rattle.px_replica.specs.Lives.{Deed, Lived}
+use Rattle.px_replica.specs.Lives.{TraceEvent, Lived}
 use Rattle.pf_node.specs.declared.state.Node.{Node}
 use Rattle.node_loop.specs.Living.{sent_by}
 use Rattle.pfx_laws.specs.Clusters.{Cluster, ClusterEvent, MayAllHappen, after, begun}
 use Rattle.pfx_laws.specs.Promised.{IsNode}
-use Rattle.pfx_laws.specs.Wires.{Stretch, AreStretches, AreCarried, deeds_in, stand, cluster_event, history_of}
+use Rattle.pfx_laws.specs.Wires.{Stretch, AreStretches, AreCarried, trace_in, stand, cluster_event, history_of}
 use Rattle.pfx_laws.specs.Carried.{Goes, WiresNeverDiffer, WiresLearnWhatWasAsked, EquallyAppliedOverWires, StandsSo}
 use Rattle.pfx_laws.proofs.Agreeing.{never_differ, learn_what_was_asked, equally_applied}
 use Rattle.pfx_laws.proofs.Carrying.{wires_are_histories, lived_front}
@@ -23,17 +23,17 @@ are_first g (x ∷ xs) ys a = (a.0, a.1, are_first g xs ys a.2)
 
 carried_first : (g : Group) (xs ys : List Stretch) (handed : List (ℕ × Bytes)) → AreCarried g (xs ++ ys) handed → AreCarried g xs handed
 carried_first g [] ys handed c = tt
-carried_first g (x ∷ xs) ys handed c = (c.0, carried_first g xs ys (handed ++ sent_by x.deeds) c.1)
+carried_first g (x ∷ xs) ys handed c = (c.0, carried_first g xs ys (handed ++ sent_by x.trace) c.1)
 
-deeds_more : (m : ℕ) (x : Stretch) (xs ys : List Stretch) (b : Bool) → deeds_in m (xs ++ ys) ≡ deeds_in m xs ++ deeds_in m ys →
-    cond b (x.deeds ++ deeds_in m (xs ++ ys)) (deeds_in m (xs ++ ys)) ≡ cond b (x.deeds ++ deeds_in m xs) (deeds_in m xs) ++ deeds_in m ys
-deeds_more m x xs ys true e =
-    ap (λ (ds : List Deed). x.deeds ++ ds) e ∙ sym (append_assoc x.deeds (deeds_in m xs) (deeds_in m ys))
-deeds_more m x xs ys false e = e
+trace_more : (m : ℕ) (x : Stretch) (xs ys : List Stretch) (b : Bool) → trace_in m (xs ++ ys) ≡ trace_in m xs ++ trace_in m ys →
+    cond b (x.trace ++ trace_in m (xs ++ ys)) (trace_in m (xs ++ ys)) ≡ cond b (x.trace ++ trace_in m xs) (trace_in m xs) ++ trace_in m ys
+trace_more m x xs ys true e =
+    ap (λ (ds : List TraceEvent). x.trace ++ ds) e ∙ sym (append_assoc x.trace (trace_in m xs) (trace_in m ys))
+trace_more m x xs ys false e = e
 
-deeds_then : (m : ℕ) (xs ys : List Stretch) → deeds_in m (xs ++ ys) ≡ deeds_in m xs ++ deeds_in m ys
-deeds_then m [] ys = refl
-deeds_then m (x ∷ xs) ys = deeds_more m x xs ys (nat_eq m x.member) (deeds_then m xs ys)
+trace_then : (m : ℕ) (xs ys : List Stretch) → trace_in m (xs ++ ys) ≡ trace_in m xs ++ trace_in m ys
+trace_then m [] ys = refl
+trace_then m (x ∷ xs) ys = trace_more m x xs ys (nat_eq m x.member) (trace_then m xs ys)
 
 goes_first : (g : Group) (xs ys : List Stretch) → Goes g (xs ++ ys) → Goes g xs
 goes_first g xs ys goes = record {
@@ -41,16 +41,16 @@ goes_first g xs ys goes = record {
   are = are_first g xs ys goes.are;
   lived = λ m below.
       let s = started nothing_stored in
-      lived_front g m s (stand (xs ++ ys) m) (deeds_in m xs) (deeds_in m ys)
-      (subst (λ (ds : List Deed). Lived g m s ds (stand (xs ++ ys) m)) (deeds_then m xs ys) (goes.lived m below));
+      lived_front g m s (stand (xs ++ ys) m) (trace_in m xs) (trace_in m ys)
+      (subst (λ (ds : List TraceEvent). Lived g m s ds (stand (xs ++ ys) m)) (trace_then m xs ys) (goes.lived m below));
   carried = carried_first g xs ys [] goes.carried;
 }
 
 history_then : (xs ys : List Stretch) → history_of (xs ++ ys) ≡ history_of xs ++ history_of ys
 history_then [] ys = refl
 history_then (x ∷ xs) ys =
-    ap (λ (hs : List ClusterEvent). map (cluster_event x.member) x.deeds ++ hs) (history_then xs ys)
-    ∙ sym (append_assoc (map (cluster_event x.member) x.deeds) (history_of xs) (history_of ys))
+    ap (λ (hs : List ClusterEvent). map (cluster_event x.member) x.trace ++ hs) (history_then xs ys)
+    ∙ sym (append_assoc (map (cluster_event x.member) x.trace) (history_of xs) (history_of ys))
 
 -- ---- two moments
 

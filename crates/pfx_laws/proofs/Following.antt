@@ -4,7 +4,7 @@ use Rattle.std.specs.Prelude.{IfSome}
 use Rattle.std.proofs.lemmas.Bool.{and_from, cond-true, cond-false, false_from_ne_true, eqb-true, eq-eqb}
 use Rattle.std.proofs.lemmas.List.{append-nil}
 use Rattle.px_model.specs.Node as node
-use Rattle.px_model.specs.Node.{Envelope, Entry, Input, Answer, Plan, Record, Change, asker}
+use Rattle.px_model.specs.Node.{Envelope, Entry, Input, Answer, Plan, Record, Change, client}
 use Rattle.px_model.specs.Node.Change.{NewRound, NewNumber, NewFloor, NewPromise, NewAccepted, NewLearned}
 use Rattle.px_model.specs.Node.Answer.{Refused, Planned}
 use Rattle.px_model.specs.Node.Input.{Asks, Ticks, Comes}
@@ -35,30 +35,30 @@ record IsAction (w : World Bytes) (m : ℕ) (x : Input Bytes) : Type 0 where
   action : Action Bytes
   comes : comes_to w action ≡ Some (m, x)
 
-no_asker : (n : ℕ) → n ≤ 15 → asker < n → ⊥
-no_asker n few below = omega (arith, few, below)
+no_client : (n : ℕ) → n ≤ 15 → client < n → ⊥
+no_client n few below = omega (arith, few, below)
 
 -- whoever isn't a member only asks
 asked_from : (g : Group) (w : World Bytes) (m : ℕ) (message : node.Message Bytes) → g.members ≤ 15 →
-    Passing g.members asker m message → IsAction w m (Comes asker message)
+    Passing g.members client m message → IsAction w m (Comes client message)
 asked_from g w m (Ask token c) few p = record { action = world.Action.AskFrom m token c; comes = refl }
-asked_from g w m (Prepare b q) few p = absurd (no_asker g.members few p.between.0)
-asked_from g w m (Promise b q a) few p = absurd (no_asker g.members few p.between.0)
-asked_from g w m (PrepareAll b q) few p = absurd (no_asker g.members few p.between.0)
-asked_from g w m (PromiseAll b q t a) few p = absurd (no_asker g.members few p.between.0)
-asked_from g w m (Accept b q e) few p = absurd (no_asker g.members few p.between.0)
-asked_from g w m (Vote b q e) few p = absurd (no_asker g.members few p.between.0)
-asked_from g w m (Nack b q r) few p = absurd (no_asker g.members few p.between.0)
-asked_from g w m (Need q) few p = absurd (no_asker g.members few p.between.0)
-asked_from g w m (Learned q e) few p = absurd (no_asker g.members few p.between.0)
-asked_from g w m (Asked t k) few p = absurd (no_asker g.members few p.between.0)
-asked_from g w m (AskRefused t k) few p = absurd (no_asker g.members few p.between.0)
+asked_from g w m (Prepare b q) few p = absurd (no_client g.members few p.between.0)
+asked_from g w m (Promise b q a) few p = absurd (no_client g.members few p.between.0)
+asked_from g w m (PrepareAll b q) few p = absurd (no_client g.members few p.between.0)
+asked_from g w m (PromiseAll b q t a) few p = absurd (no_client g.members few p.between.0)
+asked_from g w m (Accept b q e) few p = absurd (no_client g.members few p.between.0)
+asked_from g w m (Vote b q e) few p = absurd (no_client g.members few p.between.0)
+asked_from g w m (Nack b q r) few p = absurd (no_client g.members few p.between.0)
+asked_from g w m (Need q) few p = absurd (no_client g.members few p.between.0)
+asked_from g w m (Learned q e) few p = absurd (no_client g.members few p.between.0)
+asked_from g w m (Asked t k) few p = absurd (no_client g.members few p.between.0)
+asked_from g w m (AskRefused t k) few p = absurd (no_client g.members few p.between.0)
 
 sent_to : (g : Group) (w : World Bytes) (sent : List Datagram) (m sender : ℕ) (message : node.Message Bytes) →
     AreSpelled g w.sent sent → Passing g.members sender m message → WasSent g sent m sender message →
     IsAction w m (Comes sender message)
-sent_to g w sent m sender message told passes was =
-    let d = comes_spelled g w sent was.place was.datagram told was.there in
+sent_to g w sent m sender message spelled_so passes was =
+    let d = comes_spelled g w sent was.place was.datagram spelled_so was.there in
     let passes' : Passing g.members d.sender m d.message =
     subst (λ (to : ℕ). Passing g.members d.sender to d.message) was.to_it d.passes in
     let bytes' = subst (λ (to : ℕ). DatagramBytes g d.sender to (as_sent d.message) was.datagram.bytes.items) was.to_it d.bytes in
@@ -70,10 +70,10 @@ sent_to g w sent m sender message told passes was =
 
 comes_in : (g : Group) (w : World Bytes) (sent : List Datagram) (m : ℕ) (x : Input Bytes) → g.members ≤ 15 →
     AreSpelled g w.sent sent → MayCome g sent m x → IsAction w m x
-comes_in g w sent m (Asks c) few told may = record { action = world.Action.Ask m c; comes = refl }
-comes_in g w sent m Ticks few told may = record { action = world.Action.Tick m; comes = refl }
-comes_in g w sent m (Comes sender message) few told may = elim may.1 [
-  | inl was ↦ sent_to g w sent m sender message told may.0 was
+comes_in g w sent m (Asks c) few spelled_so may = record { action = world.Action.Ask m c; comes = refl }
+comes_in g w sent m Ticks few spelled_so may = record { action = world.Action.Tick m; comes = refl }
+comes_in g w sent m (Comes sender message) few spelled_so may = elim may.1 [
+  | inl was ↦ sent_to g w sent m sender message spelled_so may.0 was
   | inr is ↦ subst (λ (k : ℕ). IsAction w m (Comes k message)) (sym is)
       (asked_from g w m message few (subst (λ (k : ℕ). Passing g.members k m message) is may.0))
 ]

@@ -9,15 +9,15 @@ use Rattle.px_model.specs.Node.Input.{Asks, Ticks, Comes}
 use Rattle.px_model.specs.Spelling.{Bytes}
 use Rattle.px_model.specs.World.{NodeState, started}
 use Rattle.px_wire.specs.Message.{Group}
-use Rattle.px_replica.specs.Lives.{Deed, Lived}
-use Rattle.px_replica.specs.Lives.Deed.{Calls}
+use Rattle.px_replica.specs.Lives.{TraceEvent, Lived}
+use Rattle.px_replica.specs.Lives.TraceEvent.{Calls}
 use Rattle.px_replica.specs.declared.datagram.Datagram.{Datagram}
 use Rattle.px_transport.specs.Wires.{WireEvent, Gave, Handed, given_in, handed_in, gives, hands}
 use Rattle.node_loop.specs.Again.{AreAmong}
 use Rattle.node_loop.specs.Resending.{came_in}
 use Rattle.node_loop.specs.Turns.{handed_over}
 use Rattle.node_loop.specs.Living as living
-use Rattle.node_loop.specs.Living.{Move, deeds_of, events_of, sent_by, message_in, AreMoves, IsBrought, AreBrought, LeavesThere}
+use Rattle.node_loop.specs.Living.{Move, trace_of, events_of, sent_by, message_in, AreMoves, IsBrought, AreBrought, LeavesThere}
 use Rattle.node_loop.proofs.Traffic.{one_brought}
 use Rattle.px_transport.specs.Loopback as loopback
 use Rattle.px_transport.specs.Loopback.{Loop, IsQueue}
@@ -37,10 +37,10 @@ hands_both [] ys = refl
 hands_both (d ∷ xs) ys = ap (λ (es : List WireEvent). Handed d.0 d.1 ∷ es) (hands_both xs ys)
 
 -- A run that stops before its last datagrams are handed over is one to which the same happened.
-pub fronts_are_runs : (g : Group) (m : ℕ) (first : Record Bytes) (events : List WireEvent) (more : List (ℕ × Bytes)) (deeds : List Deed)
-    (end : NodeState Bytes) (unanswered : List Bytes) → Ran g m first (events ++ hands more) deeds end unanswered →
-    Ran g m first events deeds end unanswered
-fronts_are_runs g m first events more deeds end unanswered r = record {
+pub fronts_are_runs : (g : Group) (m : ℕ) (first : Record Bytes) (events : List WireEvent) (more : List (ℕ × Bytes)) (trace : List TraceEvent)
+    (end : NodeState Bytes) (unanswered : List Bytes) → Ran g m first (events ++ hands more) trace end unanswered →
+    Ran g m first events trace end unanswered
+fronts_are_runs g m first events more trace end unanswered r = record {
   moves = r.moves;
   does = r.does;
   lived = r.lived;
@@ -75,7 +75,7 @@ split {X} (e ∷ front) rest (x ∷ xs) ys h =
       | inr s ↦ inr (s.0, ap (λ (zs : List X). e ∷ zs) s.1 ∙ ap (λ (z : X). z ∷ xs) one)
     ]
 
-up_before : (g : Group) (m : ℕ) (ms : List Move) (s t : NodeState Bytes) → Lived g m s (deeds_of ms) t → t.is_up ≡ true → s.is_up ≡ true
+up_before : (g : Group) (m : ℕ) (ms : List Move) (s t : NodeState Bytes) → Lived g m s (trace_of ms) t → t.is_up ≡ true → s.is_up ≡ true
 up_before g m [] s t v up = ap (λ (u : NodeState Bytes). u.is_up) (sym v) ∙ up
 up_before g m (living.Does came i u out ∷ ms) s t v up = v.0
 up_before g m (living.Passes b ∷ ms) s t v up = up_before g m ms s t v up
@@ -92,20 +92,20 @@ record Cut (g : Group) (m : ℕ) (hears : Bool) (ms : List Move) (s t : NodeStat
     (front : List WireEvent) : Type 0 where
   moves : List Move
   then : NodeState Bytes
-  lived : Lived g m s (deeds_of moves) then
+  lived : Lived g m s (trace_of moves) then
   up : then.is_up ≡ true
   are : AreMoves g m hears moves before kept
   last : List WireEvent
   lost : List (ℕ × Bytes)
   went : front ++ hands lost ≡ events_of moves ++ last
-  again : AreAmong (handed_in last) (kept ++ sent_by (deeds_of moves))
-  later : List Deed
-  all : deeds_of ms ≡ deeds_of moves ++ later
+  again : AreAmong (handed_in last) (kept ++ sent_by (trace_of moves))
+  later : List TraceEvent
+  all : trace_of ms ≡ trace_of moves ++ later
   goes_on : Lived g m then later t
 
 -- nothing went yet
 none_yet : (g : Group) (m : ℕ) (hears : Bool) (ms : List Move) (s t : NodeState Bytes) (before : List Bytes) (kept : List (ℕ × Bytes)) →
-    Lived g m s (deeds_of ms) t → t.is_up ≡ true → Cut g m hears ms s t before kept []
+    Lived g m s (trace_of ms) t → t.is_up ≡ true → Cut g m hears ms s t before kept []
 none_yet g m hears ms s t before kept v up = record {
   moves = [];
   then = s;
@@ -116,7 +116,7 @@ none_yet g m hears ms s t before kept v up = record {
   lost = [];
   went = refl;
   again = λ d n. absurd n;
-  later = deeds_of ms;
+  later = trace_of ms;
   all = refl;
   goes_on = v;
 }
@@ -124,7 +124,7 @@ none_yet g m hears ms s t before kept v up = record {
 -- a call answered, and of what it sends this wasn't handed over
 within_one : (g : Group) (m : ℕ) (hears : Bool) (came : Option Bytes) (i : Input Bytes) (u : NodeState Bytes)
     (out : List Datagram) (ms : List Move) (s t : NodeState Bytes) (before : List Bytes) (kept : List (ℕ × Bytes)) (front : List WireEvent)
-    (lost : List (ℕ × Bytes)) → Lived g m s (deeds_of (living.Does came i u out ∷ ms)) t → t.is_up ≡ true →
+    (lost : List (ℕ × Bytes)) → Lived g m s (trace_of (living.Does came i u out ∷ ms)) t → t.is_up ≡ true →
     AreMoves g m hears (living.Does came i u out ∷ ms) before kept → front ++ hands lost ≡ gives came ++ hands (handed_over out) →
     Cut g m hears (living.Does came i u out ∷ ms) s t before kept front
 within_one g m hears came i u out ms s t before kept front lost v up a h =
@@ -139,7 +139,7 @@ within_one g m hears came i u out ms s t before kept front lost v up a h =
       lost = lost;
       went = h ∙ sym (append-nil all) ∙ sym (append-nil (all ++ []));
       again = λ d n. absurd n;
-      later = deeds_of ms;
+      later = trace_of ms;
       all = refl;
       goes_on = v.3;
     }
@@ -154,8 +154,8 @@ went_more own front behind events last lost is h =
     ∙ ap (λ (es : List WireEvent). own ++ es) h ∙ sym (append_assoc own events last)
 
 cut : (g : Group) (m : ℕ) (hears : Bool) (ms : List Move) (s t : NodeState Bytes) (before : List Bytes) (kept : List (ℕ × Bytes))
-    (front rest last : List WireEvent) → front ++ rest ≡ events_of ms ++ last → Lived g m s (deeds_of ms) t → t.is_up ≡ true →
-    AreMoves g m hears ms before kept → AreAmong (handed_in last) (kept ++ sent_by (deeds_of ms)) → Cut g m hears ms s t before kept front
+    (front rest last : List WireEvent) → front ++ rest ≡ events_of ms ++ last → Lived g m s (trace_of ms) t → t.is_up ≡ true →
+    AreMoves g m hears ms before kept → AreAmong (handed_in last) (kept ++ sent_by (trace_of ms)) → Cut g m hears ms s t before kept front
 cut g m hears [] s t before kept front rest last h v up a k = record {
   moves = [];
   then = t;
@@ -216,7 +216,7 @@ cut g m hears (living.Does came i u out ∷ ms) s t before kept front rest last 
     elim at [
       | inl b ↦ (
           let c = cut g m hears ms u t (before ++ came_in came) (kept ++ ds) b.0 rest last b.2 v.3 up a.1
-          (subst (λ (es : List (ℕ × Bytes)). AreAmong (handed_in last) es) (sym (append_assoc kept ds (sent_by (deeds_of ms)))) k) in
+          (subst (λ (es : List (ℕ × Bytes)). AreAmong (handed_in last) es) (sym (append_assoc kept ds (sent_by (trace_of ms)))) k) in
           record {
             moves = living.Does came i u out ∷ c.moves;
             then = c.then;
@@ -226,16 +226,16 @@ cut g m hears (living.Does came i u out ∷ ms) s t before kept front rest last 
             last = c.last;
             lost = c.lost;
             went = went_more own front b.0 (events_of c.moves) c.last c.lost b.1 c.went;
-            again = subst (λ (es : List (ℕ × Bytes)). AreAmong (handed_in c.last) es) (append_assoc kept ds (sent_by (deeds_of c.moves))) c.again;
+            again = subst (λ (es : List (ℕ × Bytes)). AreAmong (handed_in c.last) es) (append_assoc kept ds (sent_by (trace_of c.moves))) c.again;
             later = c.later;
-            all = ap (λ (es : List Deed). Calls i u out ∷ es) c.all;
+            all = ap (λ (es : List TraceEvent). Calls i u out ∷ es) c.all;
             goes_on = c.goes_on;
           }
           )
       | inr w ↦ ends came front w.0 v a w.1
     ]
   where
-    ends : (came' : Option Bytes) (front' lack : List WireEvent) → Lived g m s (deeds_of (living.Does came' i u out ∷ ms)) t →
+    ends : (came' : Option Bytes) (front' lack : List WireEvent) → Lived g m s (trace_of (living.Does came' i u out ∷ ms)) t →
         AreMoves g m hears (living.Does came' i u out ∷ ms) before kept → front' ++ lack ≡ gives came' ++ hands (handed_over out) →
         Cut g m hears (living.Does came' i u out ∷ ms) s t before kept front'
     ends c [] lack v' a' e = none_yet g m hears (living.Does c i u out ∷ ms) s t before kept v' up
@@ -249,9 +249,9 @@ cut g m hears (living.Does came i u out ∷ ms) s t before kept front rest last 
         within_one g m hears (Some b) i u out ms s t before kept (x ∷ f) r.0 v' up a'
         (ap (λ (es : List WireEvent). (x ∷ f) ++ es) (sym r.1) ∙ e)
 
-so_is : (g : Group) (m : ℕ) (Is Are : List Deed → NodeState Bytes → List Bytes → Type 0) (deeds : List Deed) (end : NodeState Bytes) →
-    ((ds : List Deed) (t : NodeState Bytes) (bs : List Bytes) → Is ds t bs → Are ds t bs) → Front g m Is deeds end → Front g m Are deeds end
-so_is g m Is Are deeds end more f = record {
+so_is : (g : Group) (m : ℕ) (Is Are : List TraceEvent → NodeState Bytes → List Bytes → Type 0) (trace : List TraceEvent) (end : NodeState Bytes) →
+    ((ds : List TraceEvent) (t : NodeState Bytes) (bs : List Bytes) → Is ds t bs → Are ds t bs) → Front g m Is trace end → Front g m Are trace end
+so_is g m Is Are trace end more f = record {
   before = f.before;
   then = f.then;
   unanswered = f.unanswered;
@@ -262,15 +262,15 @@ so_is g m Is Are deeds end more f = record {
 }
 
 -- over the member's wire
-pub front_of_wire : (g : Group) (m : ℕ) (first : Record Bytes) (front back : List WireEvent) (deeds : List Deed)
-    (end : NodeState Bytes) (unanswered : List Bytes) → Ran g m first (front ++ back) deeds end unanswered →
-    Front g m (λ ds t bs. Ran g m first front ds t bs) deeds end
-front_of_wire g m first front back deeds end unanswered r =
+pub front_of_wire : (g : Group) (m : ℕ) (first : Record Bytes) (front back : List WireEvent) (trace : List TraceEvent)
+    (end : NodeState Bytes) (unanswered : List Bytes) → Ran g m first (front ++ back) trace end unanswered →
+    Front g m (λ ds t bs. Ran g m first front ds t bs) trace end
+front_of_wire g m first front back trace end unanswered r =
     let c = cut g m r.hears r.moves (started first) end [] [] front (back ++ hands r.lost) r.last
     (sym (append_assoc front back (hands r.lost)) ∙ r.went)
     r.lived r.up r.are r.again in
     record {
-      before = deeds_of c.moves;
+      before = trace_of c.moves;
       then = c.then;
       unanswered = given_in c.last;
       ran = record {
@@ -339,16 +339,16 @@ queue_front (loopback.Keeps b ∷ xs) ys kept then q = queue_front xs ys (kept +
 queue_front (loopback.Returns b ∷ xs) ys [] then q = absurd q
 queue_front (loopback.Returns b ∷ xs) ys (d ∷ ds) then q = let r = queue_front xs ys ds then q.1 in (r.0, (q.0, r.1))
 
-pub front_below : (g : Group) (m : ℕ) (first : Record Bytes) (front back : List WireEvent) (deeds : List Deed)
-    (end : NodeState Bytes) (unanswered : List Bytes) → RanAbove g m first (front ++ back) deeds end unanswered →
-    Front g m (λ ds t bs. RanAbove g m first front ds t bs) deeds end
-front_below g m first front back deeds end unanswered r =
+pub front_below : (g : Group) (m : ℕ) (first : Record Bytes) (front back : List WireEvent) (trace : List TraceEvent)
+    (end : NodeState Bytes) (unanswered : List Bytes) → RanAbove g m first (front ++ back) trace end unanswered →
+    Front g m (λ ds t bs. RanAbove g m first front ds t bs) trace end
+front_below g m first front back trace end unanswered r =
     let c = cut_loops r.loops front back r.below_is in
     let q = queue_front c.before c.behind [] r.kept (subst (λ (ls : List Loop). IsQueue ls [] r.kept) c.all r.queue) in
-    so_is g m (λ ds t bs. Ran g m first (loopback.above_in m c.before) ds t bs) (λ ds t bs. RanAbove g m first front ds t bs) deeds end
+    so_is g m (λ ds t bs. Ran g m first (loopback.above_in m c.before) ds t bs) (λ ds t bs. RanAbove g m first front ds t bs) trace end
     (λ ds t bs ran. record { loops = c.before; kept = q.0; queue = q.1; below_is = c.front_is; ran = ran })
-    (front_of_wire g m first (loopback.above_in m c.before) (loopback.above_in m c.behind) deeds end unanswered
-    (subst (λ (es : List WireEvent). Ran g m first es deeds end unanswered)
+    (front_of_wire g m first (loopback.above_in m c.before) (loopback.above_in m c.behind) trace end unanswered
+    (subst (λ (es : List WireEvent). Ran g m first es trace end unanswered)
     (ap (λ (ls : List Loop). loopback.above_in m ls) c.all ∙ loops_both m c.before c.behind) r.ran))
 
 -- ---- over the socket
@@ -384,14 +384,14 @@ sound_front addresses me [] ys s = tt
 sound_front addresses me (x ∷ xs) ys s = (s.0, sound_front addresses me xs ys s.1)
 
 -- Without a key: every front of a run at a socket is one.
-pub front_at_socket : (g : Group) (m : ℕ) (first : Record Bytes) (front back : List SocketEvent) (deeds : List Deed)
-    (end : NodeState Bytes) (unanswered : List Bytes) → RanAt g m first (front ++ back) deeds end unanswered →
-    Front g m (λ ds t bs. RanAt g m first front ds t bs) deeds end
-front_at_socket g m first front back deeds end unanswered r =
+pub front_at_socket : (g : Group) (m : ℕ) (first : Record Bytes) (front back : List SocketEvent) (trace : List TraceEvent)
+    (end : NodeState Bytes) (unanswered : List Bytes) → RanAt g m first (front ++ back) trace end unanswered →
+    Front g m (λ ds t bs. RanAt g m first front ds t bs) trace end
+front_at_socket g m first front back trace end unanswered r =
     let c = cut_passages r.passages front back r.below_is in
     let all = ap (λ (ps : List Passage). sockets.above_in ps) c.all ∙ passages_both c.before c.behind in
     let sound = subst (λ (ps : List Passage). AllByRecursion (sockets.IsSound r.addresses r.me) ps) c.all r.sound in
-    so_is g m (λ ds t bs. RanAbove g m first (sockets.above_in c.before) ds t bs) (λ ds t bs. RanAt g m first front ds t bs) deeds end
+    so_is g m (λ ds t bs. RanAbove g m first (sockets.above_in c.before) ds t bs) (λ ds t bs. RanAt g m first front ds t bs) trace end
     (λ ds t bs ran. record {
       addresses = r.addresses;
       me = r.me;
@@ -400,8 +400,8 @@ front_at_socket g m first front back deeds end unanswered r =
       below_is = c.front_is;
       ran = ran;
     })
-    (front_below g m first (sockets.above_in c.before) (sockets.above_in c.behind) deeds end unanswered
-    (subst (λ (es : List WireEvent). RanAbove g m first es deeds end unanswered) all r.ran))
+    (front_below g m first (sockets.above_in c.before) (sockets.above_in c.behind) trace end unanswered
+    (subst (λ (es : List WireEvent). RanAbove g m first es trace end unanswered) all r.ran))
 
 -- ---- with packets between
 
@@ -439,16 +439,16 @@ steps_front keys s (x ∷ xs) ys before a = (a.0, steps_front keys s xs ys (x �
 
 -- With a key: every front of a run at a socket is one.
 pub front_at_sealed_socket : (g : Group) (keys : List (List ℕ)) (s : Sealer) (m : ℕ) (first : Record Bytes)
-    (front back : List SocketEvent) (deeds : List Deed) (end : NodeState Bytes) (unanswered : List Bytes) →
-    RanSealed g keys s m first (front ++ back) deeds end unanswered →
-    Front g m (λ ds t bs. RanSealed g keys s m first front ds t bs) deeds end
-front_at_sealed_socket g keys s m first front back deeds end unanswered r =
+    (front back : List SocketEvent) (trace : List TraceEvent) (end : NodeState Bytes) (unanswered : List Bytes) →
+    RanSealed g keys s m first (front ++ back) trace end unanswered →
+    Front g m (λ ds t bs. RanSealed g keys s m first front ds t bs) trace end
+front_at_sealed_socket g keys s m first front back trace end unanswered r =
     let c = cut_passages r.passages front back r.below_is in
     let sound = subst (λ (ps : List Passage). AllByRecursion (sockets.IsSound r.addresses r.me) ps) c.all r.sound in
     let k = cut_steps r.made (sockets.above_in c.before) (sockets.above_in c.behind)
     (sym (passages_both c.before c.behind) ∙ ap (λ (ps : List Passage). sockets.above_in ps) (sym c.all) ∙ sym r.packets_are) in
     let all = ap (λ (xs : List Step). steps.above_in xs) k.all ∙ steps_both k.before k.behind in
-    so_is g m (λ ds t bs. RanAbove g m first (steps.above_in k.before) ds t bs) (λ ds t bs. RanSealed g keys s m first front ds t bs) deeds end
+    so_is g m (λ ds t bs. RanAbove g m first (steps.above_in k.before) ds t bs) (λ ds t bs. RanSealed g keys s m first front ds t bs) trace end
     (λ ds t bs ran. record {
       addresses = r.addresses;
       me = r.me;
@@ -460,8 +460,8 @@ front_at_sealed_socket g keys s m first front back deeds end unanswered r =
       are = steps_front keys s k.before k.behind [] (subst (λ (xs : List Step). AreSteps keys s xs []) k.all r.are);
       ran = ran;
     })
-    (front_below g m first (steps.above_in k.before) (steps.above_in k.behind) deeds end unanswered
-    (subst (λ (es : List WireEvent). RanAbove g m first es deeds end unanswered) all r.ran))
+    (front_below g m first (steps.above_in k.before) (steps.above_in k.behind) trace end unanswered
+    (subst (λ (es : List WireEvent). RanAbove g m first es trace end unanswered) all r.ran))
 
 -- ---- any moment of a run
 
@@ -469,15 +469,15 @@ front_at_sealed_socket g keys s m first front back deeds end unanswered r =
 record Moment (g : Group) (m : ℕ) (hears : Bool) (done rest : List Move) (s t : NodeState Bytes) (before : List Bytes)
     (kept : List (ℕ × Bytes)) : Type 0 where
   then : NodeState Bytes
-  lived : Lived g m s (deeds_of done) then
-  goes_on : Lived g m then (deeds_of rest) t
+  lived : Lived g m s (trace_of done) then
+  goes_on : Lived g m then (trace_of rest) t
   are : AreMoves g m hears done before kept
   came : List Bytes
   sent : List (ℕ × Bytes)
   next : AreMoves g m hears rest came sent
 
 moment : (g : Group) (m : ℕ) (hears : Bool) (done rest : List Move) (s t : NodeState Bytes) (before : List Bytes) (kept : List (ℕ × Bytes)) →
-    Lived g m s (deeds_of (done ++ rest)) t → AreMoves g m hears (done ++ rest) before kept → Moment g m hears done rest s t before kept
+    Lived g m s (trace_of (done ++ rest)) t → AreMoves g m hears (done ++ rest) before kept → Moment g m hears done rest s t before kept
 moment g m hears [] rest s t before kept v a =
     record { then = s; lived = refl; goes_on = v; are = tt; came = before; sent = kept; next = a }
 moment g m hears (living.Does b i u out ∷ done) rest s t before kept v a =
@@ -511,20 +511,20 @@ moment g m hears (living.Repeats to b ∷ done) rest s t before kept v a =
       next = r.next;
     }
 
-at_moment : (g : Group) (m : ℕ) (first : Record Bytes) (events : List WireEvent) (deeds : List Deed) (end : NodeState Bytes)
-    (unanswered : List Bytes) (r : Ran g m first events deeds end unanswered) (done rest : List Move) → r.moves ≡ done ++ rest →
+at_moment : (g : Group) (m : ℕ) (first : Record Bytes) (events : List WireEvent) (trace : List TraceEvent) (end : NodeState Bytes)
+    (unanswered : List Bytes) (r : Ran g m first events trace end unanswered) (done rest : List Move) → r.moves ≡ done ++ rest →
     Moment g m r.hears done rest (started first) end [] []
-at_moment g m first events deeds end unanswered r done rest is =
+at_moment g m first events trace end unanswered r done rest is =
     moment g m r.hears done rest (started first) end [] []
-    (subst (λ (ms : List Move). Lived g m (started first) (deeds_of ms) end) is r.lived)
+    (subst (λ (ms : List Move). Lived g m (started first) (trace_of ms) end) is r.lived)
     (subst (λ (ms : List Move). AreMoves g m r.hears ms [] []) is r.are)
 
 -- A run that is killed between two moves, or, as `fronts_are_runs` has it, before all of the one before is handed over.
-pub killed_between : (g : Group) (m : ℕ) (first : Record Bytes) (events : List WireEvent) (deeds : List Deed) (end : NodeState Bytes)
-    (unanswered : List Bytes) (r : Ran g m first events deeds end unanswered) (done rest : List Move) → r.moves ≡ done ++ rest →
-    (then : NodeState Bytes) × Ran g m first (events_of done) (deeds_of done) then [] × Lived g m then (deeds_of rest) end
-killed_between g m first events deeds end unanswered r done rest is =
-    let o = at_moment g m first events deeds end unanswered r done rest is in (
+pub killed_between : (g : Group) (m : ℕ) (first : Record Bytes) (events : List WireEvent) (trace : List TraceEvent) (end : NodeState Bytes)
+    (unanswered : List Bytes) (r : Ran g m first events trace end unanswered) (done rest : List Move) → r.moves ≡ done ++ rest →
+    (then : NodeState Bytes) × Ran g m first (events_of done) (trace_of done) then [] × Lived g m then (trace_of rest) end
+killed_between g m first events trace end unanswered r done rest is =
+    let o = at_moment g m first events trace end unanswered r done rest is in (
       o.then,
       record {
         moves = done;
@@ -560,13 +560,13 @@ brought g m (Some b) (Comes sender message) is = one_brought g m b sender messag
 
 -- A run that is killed in a call: what came for it is unanswered, and whether the call had committed or not, what it
 -- left of the record is what a stop may leave.
-pub killed_in_call : (g : Group) (m : ℕ) (first : Record Bytes) (events : List WireEvent) (deeds : List Deed) (end : NodeState Bytes)
-    (unanswered : List Bytes) (r : Ran g m first events deeds end unanswered) (done later : List Move) (came : Option Bytes)
+pub killed_in_call : (g : Group) (m : ℕ) (first : Record Bytes) (events : List WireEvent) (trace : List TraceEvent) (end : NodeState Bytes)
+    (unanswered : List Bytes) (r : Ran g m first events trace end unanswered) (done later : List Move) (came : Option Bytes)
     (i : Input Bytes) (u : NodeState Bytes) (out : List Datagram) → r.moves ≡ done ++ living.Does came i u out ∷ later →
-    (then : NodeState Bytes) × Ran g m first (events_of done ++ gives came) (deeds_of done) then (came_in came) ×
+    (then : NodeState Bytes) × Ran g m first (events_of done ++ gives came) (trace_of done) then (came_in came) ×
     LeavesThere g m (came_in came) then then.stored × LeavesThere g m (came_in came) then u.stored
-killed_in_call g m first events deeds end unanswered r done later came i u out is =
-    let o = at_moment g m first events deeds end unanswered r done (living.Does came i u out ∷ later) is in
+killed_in_call g m first events trace end unanswered r done later came i u out is =
+    let o = at_moment g m first events trace end unanswered r done (living.Does came i u out ∷ later) is in
     let v = o.goes_on in
     let makes = v.2 in
     let comes = brought g m came i o.next.0 in (
@@ -582,14 +582,14 @@ killed_in_call g m first events deeds end unanswered r done later came i u out i
         came = came_is came;
         lost = [];
         went = append-nil (events_of done ++ gives came);
-        again = none_handed came (sent_by (deeds_of done));
+        again = none_handed came (sent_by (trace_of done));
       },
       (i, v.1, comes, inl refl),
       (i, v.1, comes, inr (makes.plan, makes.steps, ap (λ (w : NodeState Bytes). w.stored) makes.follows)),
     )
 
 pub at_sockets : FrontsAreRuns
-at_sockets g m first front back deeds end unanswered = (
-  λ r. front_at_socket g m first front back deeds end unanswered r,
-  λ keys s r. front_at_sealed_socket g keys s m first front back deeds end unanswered r,
+at_sockets g m first front back trace end unanswered = (
+  λ r. front_at_socket g m first front back trace end unanswered r,
+  λ keys s r. front_at_sealed_socket g keys s m first front back trace end unanswered r,
 )

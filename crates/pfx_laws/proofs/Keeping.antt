@@ -12,8 +12,8 @@ use Rattle.px_model.specs.Spelling.{Bytes}
 use Rattle.px_model.specs.Step.{commit}
 use Rattle.px_model.specs.World.{NodeState, started}
 use Rattle.px_wire.specs.Message.{Group}
-use Rattle.px_replica.specs.Lives.{Deed, Lived, stopped}
-use Rattle.px_replica.specs.Lives.Deed.{Calls, Stops, Opens}
+use Rattle.px_replica.specs.Lives.{TraceEvent, Lived, stopped}
+use Rattle.px_replica.specs.Lives.TraceEvent.{Calls, Stops, Opens}
 use Rattle.px_replica.specs.Made.{same, answer, LeavesOne}
 use Rattle.node_loop.specs.Living.{LeavesThere}
 use Rattle.pfx_laws.specs.Carried.{HasLearned}
@@ -44,7 +44,7 @@ stop_keeps : (n me : ℕ) (s : NodeState Bytes) (x : Input Bytes) (left : Record
 stop_keeps n me s x left p e (inl same) h = ap (λ (d : Record Bytes). d.learned p) same ∙ h
 stop_keeps n me s x left p e (inr (plan, is, change)) h = ap (λ (d : Record Bytes). d.learned p) change ∙ plan_keeps n me s x plan p e is h
 
-pub lived_keeps : (g : Group) (me : ℕ) (s t : NodeState Bytes) (ds : List Deed) (p : ℕ) (e : Entry Bytes) → Lived g me s ds t →
+pub lived_keeps : (g : Group) (me : ℕ) (s t : NodeState Bytes) (ds : List TraceEvent) (p : ℕ) (e : Entry Bytes) → Lived g me s ds t →
     HasLearned s p e → HasLearned t p e
 lived_keeps g me s t [] p e l h = ap (λ (u : NodeState Bytes). u.stored.learned p) l ∙ h
 lived_keeps g me s t (Calls x u out ∷ ds) p e l h =

@@ -69,9 +69,9 @@ same_letter Out Out h = refl
 same_letter In Out h = absurd (omega (arith, h))
 same_letter Out In h = absurd (omega (arith, h))
 
-pub told_apart : (p q : ℕ) (d e : Direction) (r s : NftRuleset) (n m : ChainName) → p < 2 ^ 32 → q < 2 ^ 32 →
+pub chains_apart_by_position : (p q : ℕ) (d e : Direction) (r s : NftRuleset) (n m : ChainName) → p < 2 ^ 32 → q < 2 ^ 32 →
     chain_label p d r n ≡ chain_label q e s m → (p ≡ q) × (d ≡ e)
-told_apart p q d e r s n m few small h =
+chains_apart_by_position p q d e r s n m few small h =
     let k = generations p q _ _ few small (sym (label_is p d r n) ∙ h ∙ label_is q e s m) in
     (k.0, same_letter d e (ap (λ l. get_or l 0 0) k.1))
 
@@ -131,8 +131,8 @@ chains_apart p d r n m few h k e =
 
 -- ---- sets
 
-pub sets_told_apart : (p q : ℕ) (r s : NftRuleset) (n m : SetName) → p < 2 ^ 32 → q < 2 ^ 32 → set_label p r n ≡ set_label q s m → p ≡ q
-sets_told_apart p q r s n m few small h = (generations p q _ _ few small h).0
+pub sets_apart_by_position : (p q : ℕ) (r s : NftRuleset) (n m : SetName) → p < 2 ^ 32 → q < 2 ^ 32 → set_label p r n ≡ set_label q s m → p ≡ q
+sets_apart_by_position p q r s n m few small h = (generations p q _ _ few small h).0
 
 family_same : (a b : Family) → family_eq a b ≡ true → a ≡ b
 family_same Inet Inet h = refl

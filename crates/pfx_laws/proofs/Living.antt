@@ -6,45 +6,45 @@ use Rattle.px_model.specs.Step.{put}
 use Rattle.px_model.specs.World.{NodeState, started}
 use Rattle.px_model.specs.Spelling.{Bytes}
 use Rattle.px_wire.specs.Message.{Group}
-use Rattle.px_replica.specs.Lives.{Deed, Lived, stopped}
+use Rattle.px_replica.specs.Lives.{TraceEvent, Lived, stopped}
 use Rattle.pfx_laws.specs.Clusters as clusters
 use Rattle.pfx_laws.specs.Clusters.{Cluster, ClusterEvent, MayAllHappen, next}
 use Rattle.pfx_laws.specs.Clusters.ClusterEvent.{Calls, Stops, Opens}
-use Rattle.pfx_laws.specs.Lives.{member_of, deed, deeds_of, AreOfMembers, AreDelivered, LivesAreHistories}
+use Rattle.pfx_laws.specs.Lives.{member_of, trace_event, trace_of, AreOfMembers, AreDelivered, LivesAreHistories}
 
 -- how the members stand, and what happens to each from there on
 abbrev Live : Group → (ℕ → NodeState Bytes) → List ClusterEvent → Type 0
-Live g nodes hs = (m : ℕ) → m < g.members → (t : NodeState Bytes) × Lived g m (nodes m) (deeds_of m hs) t
+Live g nodes hs = (m : ℕ) → m < g.members → (t : NodeState Bytes) × Lived g m (nodes m) (trace_of m hs) t
 
 -- what happens to a member first is what happens to it first
 own : (g : Group) (nodes : ℕ → NodeState Bytes) (h : ClusterEvent) (hs : List ClusterEvent) → member_of h < g.members → Live g nodes (h ∷ hs) →
-    (t : NodeState Bytes) × Lived g (member_of h) (nodes (member_of h)) (deed h ∷ deeds_of (member_of h) hs) t
+    (t : NodeState Bytes) × Lived g (member_of h) (nodes (member_of h)) (trace_event h ∷ trace_of (member_of h) hs) t
 own g nodes h hs below live =
     let m = member_of h in
     let l = live m below in (
       l.0,
-      subst (λ (ds : List Deed). Lived g m (nodes m) ds l.0)
-          (cond-true (nat_eq m m) (deed h ∷ deeds_of m hs) (deeds_of m hs) (eq-eqb m m refl)) l.1,
+      subst (λ (ds : List TraceEvent). Lived g m (nodes m) ds l.0)
+          (cond-true (nat_eq m m) (trace_event h ∷ trace_of m hs) (trace_of m hs) (eq-eqb m m refl)) l.1,
     )
 
 -- the others go on as they stood
 on : (g : Group) (nodes : ℕ → NodeState Bytes) (h : ClusterEvent) (hs : List ClusterEvent) (s t : NodeState Bytes) →
-    Live g nodes (h ∷ hs) → Lived g (member_of h) s (deeds_of (member_of h) hs) t → Live g (put nodes (member_of h) s) hs
+    Live g nodes (h ∷ hs) → Lived g (member_of h) s (trace_of (member_of h) hs) t → Live g (put nodes (member_of h) s) hs
 on g nodes h hs s t live mine m below =
     let k = member_of h in
-    let yes = deed h ∷ deeds_of m hs in
-    let none = deeds_of m hs in
+    let yes = trace_event h ∷ trace_of m hs in
+    let none = trace_of m hs in
     elim (eqb_tells m k) [
       | inl is ↦ (
         t,
         subst (λ (z : NodeState Bytes). Lived g m z none t) (sym (cond-true (nat_eq m k) s (nodes m) is.0))
-            (subst (λ (j : ℕ). Lived g j s (deeds_of j hs) t) (sym is.1) mine),
+            (subst (λ (j : ℕ). Lived g j s (trace_of j hs) t) (sym is.1) mine),
       )
       | inr other ↦ (
           let l = live m below in (
             l.0,
             subst (λ (z : NodeState Bytes). Lived g m z none l.0) (sym (cond-false (nat_eq m k) s (nodes m) other.0))
-                (subst (λ (ds : List Deed). Lived g m (nodes m) ds l.0) (cond-false (nat_eq m k) yes none other.0) l.1),
+                (subst (λ (ds : List TraceEvent). Lived g m (nodes m) ds l.0) (cond-false (nat_eq m k) yes none other.0) l.1),
           ))
     ]
 

@@ -9,7 +9,7 @@ use Rattle.px_model.specs.Step.{put}
 use Rattle.node_loop.specs.Again.{AreAmong}
 use Rattle.node_loop.proofs.Among.{among_all, among_front, among_none, among_sides}
 use Rattle.px_model.specs.World.{started}
-use Rattle.node_loop.specs.Living.{deeds_of}
+use Rattle.node_loop.specs.Living.{trace_of}
 use Rattle.px_transport.specs.Wires.{WireEvent, Gave, Handed}
 use Rattle.px_transport.specs.Loopback.{Loop, Passes, Keeps, Returns, IsQueue, above_in, below_in}
 use Rattle.std.specs.Int.{w32, to_be_bytes}
@@ -177,7 +177,7 @@ are_below g ((m, During (Handed to b)) ∷ xs) handed c = (c.0, are_below g xs _
 
 -- a run over a wire that keeps what the member sends to itself
 abbrev pub IsAbove : {K : Type 0} → Group → (m : ℕ) → Run K → List WireEvent → Type 0
-IsAbove g m r events = RanAbove g m r.first events r.deeds r.end r.unanswered
+IsAbove g m r events = RanAbove g m r.first events r.trace r.end r.unanswered
 
 raises : {K : Type 0} (g : Group) (m : ℕ) → lifting.Raises {K = K} low high m (IsAbove g m) (IsRun g m) Return
 raises g m r own ran = (
@@ -198,4 +198,4 @@ loops_go {K} g network runs few carries are =
 
 -- a run keeps what its record has as learned
 pub above_keeps : {K : Type 0} (g : Group) (m : ℕ) → KeepsLearned {K = K} (IsAbove g m)
-above_keeps g m r own p e is h = let ran = is.ran in lived_keeps g m (started r.first) r.end (deeds_of ran.moves) p e ran.lived h
+above_keeps g m r own p e is h = let ran = is.ran in lived_keeps g m (started r.first) r.end (trace_of ran.moves) p e ran.lived h

@@ -16,19 +16,19 @@ use Rattle.px_transport.specs.Wires.{WireEvent, Gave, Handed, given_in, handed_i
 use Rattle.px_wire.specs.Message.{Group, Message, DatagramBytes}
 use Rattle.px_wire.specs.Members.{as_sent}
 use Rattle.px_replica.specs.Spelled.{AreSpelled}
-use Rattle.px_replica.specs.Lives.{Deed, Lived}
-use Rattle.px_replica.specs.Lives.Deed.{Calls, Stops, Opens}
+use Rattle.px_replica.specs.Lives.{TraceEvent, Lived}
+use Rattle.px_replica.specs.Lives.TraceEvent.{Calls, Stops, Opens}
 use Rattle.px_replica.specs.declared.datagram.Datagram.{Datagram}
 use Rattle.node_loop.specs.Resending.{came_in}
 use Rattle.node_loop.specs.Turns.{handed_over}
 use Rattle.node_loop.specs.Living as living
 use Rattle.node_loop.specs.Living.{Heard, message_in, messages_of, AreBrought, sent_by, LeavesThere}
-use Rattle.node_loop.specs.Living.{Move, deeds_of, events_of, IsBrought, AreMoves}
+use Rattle.node_loop.specs.Living.{Move, trace_of, events_of, IsBrought, AreMoves}
 use Rattle.node_loop.proofs.Traffic.{one_brought, none_brought, brought_more, brought_then}
 use Rattle.node_loop.proofs.Lives.{lived_then}
 use Rattle.node_control.specs.Sockets.{Ran}
 use Rattle.pfx_laws.specs.Promised.{IsGroup}
-use Rattle.pfx_laws.specs.Wires.{Stretch, AreStretches, IsCarried, AreCarried, deeds_in, led_to}
+use Rattle.pfx_laws.specs.Wires.{Stretch, AreStretches, IsCarried, AreCarried, trace_in, led_to}
 use Rattle.pfx_laws.specs.Members.{RunEvent, Starts, During, Run, AreRuns, IsEmpty, events_at, stands, stands_after, IsTrace, IsLaterTrace, InStretches}
 use Rattle.pfx_laws.specs.Sockets.{WasHanded}
 use Rattle.pfx_laws.proofs.Carrying.{lived_to}
@@ -44,14 +44,14 @@ data Act (K : Type 0) : Type 0 where
   -- a datagram that was sent is handed over, at first or again
   Resends : (to : ℕ) (bytes : Bytes) → Act K
   -- a run starts; before it this happened to the member
-  Begins : (key : K) (deeds : List Deed) → Act K
+  Begins : (key : K) (trace : List TraceEvent) → Act K
 
-abbrev befall : {K : Type 0} → List (Act K) → List Deed
-befall [] = []
-befall (Answers came i t out ∷ xs) = Calls i t out ∷ befall xs
-befall (Skips b ∷ xs) = befall xs
-befall (Resends to b ∷ xs) = befall xs
-befall (Begins k ds ∷ xs) = ds ++ befall xs
+abbrev trace_of_acts : {K : Type 0} → List (Act K) → List TraceEvent
+trace_of_acts [] = []
+trace_of_acts (Answers came i t out ∷ xs) = Calls i t out ∷ trace_of_acts xs
+trace_of_acts (Skips b ∷ xs) = trace_of_acts xs
+trace_of_acts (Resends to b ∷ xs) = trace_of_acts xs
+trace_of_acts (Begins k ds ∷ xs) = ds ++ trace_of_acts xs
 
 abbrev happen : {K : Type 0} → List (Act K) → List (RunEvent K WireEvent)
 happen [] = []
@@ -120,14 +120,14 @@ messages_both g xs ys a b d n = elim (among_cases xs ys d n) [ inl here ↦ a d 
 -- The next thing that happens at a member: what happens to the member by then, and what it still does.
 record Stepped {K : Type 0} (g : Group) (m : ℕ) (came : List Bytes) (sent : List (ℕ × Bytes)) (xs : List (Act K)) (e : RunEvent K WireEvent)
     (es : List (RunEvent K WireEvent)) : Type 0 where
-  deeds : List Deed
+  trace : List TraceEvent
   then : List (Act K)
   rest_is : happen then ≡ es
-  all : befall xs ≡ deeds ++ befall then
-  brought : AreBrought g m (came ++ given_by e) (messages_of deeds)
-  sound : AreSound g m then (came ++ given_by e) (sent ++ sent_by deeds)
-  handed : AreAmong (handed_by e) (sent ++ sent_by deeds)
-  spelled : AreMessages g (sent_by deeds)
+  all : trace_of_acts xs ≡ trace ++ trace_of_acts then
+  brought : AreBrought g m (came ++ given_by e) (messages_of trace)
+  sound : AreSound g m then (came ++ given_by e) (sent ++ sent_by trace)
+  handed : AreAmong (handed_by e) (sent ++ sent_by trace)
+  spelled : AreMessages g (sent_by trace)
 
 stepped_is : {K : Type 0} (g : Group) (m : ℕ) (came : List Bytes) (sent : List (ℕ × Bytes)) (xs : List (Act K)) (e f : RunEvent K WireEvent)
     (es fs : List (RunEvent K WireEvent)) → (f ∷ fs) ≡ (e ∷ es) → Stepped g m came sent xs f fs → Stepped g m came sent xs e es
@@ -139,10 +139,10 @@ stepped_is {K} g m came sent xs e f es fs h s =
 
 -- no event
 idle : {K : Type 0} (g : Group) (m : ℕ) (came : List Bytes) (sent : List (ℕ × Bytes)) (xs ys : List (Act K)) (e : RunEvent K WireEvent) →
-    befall xs ≡ befall ys → AreSound g m ys (came ++ given_by e) sent → AreAmong (handed_by e) sent →
+    trace_of_acts xs ≡ trace_of_acts ys → AreSound g m ys (came ++ given_by e) sent → AreAmong (handed_by e) sent →
     Stepped g m came sent xs e (happen ys)
 idle g m came sent xs ys e same sound handed = record {
-  deeds = [];
+  trace = [];
   then = ys;
   rest_is = refl;
   all = same;
@@ -191,7 +191,7 @@ step g m came sent (Resends to b ∷ xs) e es s h =
 step g m came sent (Begins k ds ∷ xs) e es s h =
     stepped_is g m came sent _ e (Starts k) es (happen xs) h
     (record {
-      deeds = ds;
+      trace = ds;
       then = xs;
       rest_is = refl;
       all = refl;
@@ -204,7 +204,7 @@ step g m came sent (Begins k ds ∷ xs) e es s h =
 step g m came sent (Answers (Some b) i t out ∷ xs) e es s h =
     stepped_is g m came sent _ e (During (Gave b)) es (happen xs) h
     (record {
-      deeds = Calls i t out ∷ [];
+      trace = Calls i t out ∷ [];
       then = xs;
       rest_is = refl;
       all = refl;
@@ -216,37 +216,37 @@ step g m came sent (Answers (Some b) i t out ∷ xs) e es s h =
 step g m came sent (Answers None i t out ∷ xs) e es s h =
     let all = sent ++ handed_over out in
     let r = step g m came all xs e es (sound_more g m xs (came ++ []) came all all (and_none came) (among_all all) s.2) h in
-    let same = append_assoc sent (handed_over out) (sent_by r.deeds) in
+    let same = append_assoc sent (handed_over out) (sent_by r.trace) in
     record {
-      deeds = Calls i t out ∷ r.deeds;
+      trace = Calls i t out ∷ r.trace;
       then = r.then;
       rest_is = r.rest_is;
-      all = ap (λ (ds : List Deed). Calls i t out ∷ ds) r.all;
-      brought = subst (λ (ms : List _). AreBrought g m (came ++ given_by e) (ms ++ messages_of r.deeds)) (sym (none_given None g m i refl s.0)) r.brought;
+      all = ap (λ (ds : List TraceEvent). Calls i t out ∷ ds) r.all;
+      brought = subst (λ (ms : List _). AreBrought g m (came ++ given_by e) (ms ++ messages_of r.trace)) (sym (none_given None g m i refl s.0)) r.brought;
       sound = subst (λ (ds : List (ℕ × Bytes)). AreSound g m r.then (came ++ given_by e) ds) same r.sound;
       handed = subst (λ (ds : List (ℕ × Bytes)). AreAmong (handed_by e) ds) same r.handed;
-      spelled = messages_both g (handed_over out) (sent_by r.deeds) s.1 r.spelled;
+      spelled = messages_both g (handed_over out) (sent_by r.trace) s.1 r.spelled;
     }
 
 -- ---- where nothing more happens
 
 silent : {K : Type 0} (g : Group) (m : ℕ) (xs : List (Act K)) (came : List Bytes) (sent : List (ℕ × Bytes)) → AreSound g m xs came sent →
-    happen xs ≡ [] → messages_of (befall xs) ≡ []
+    happen xs ≡ [] → messages_of (trace_of_acts xs) ≡ []
 silent g m [] came sent s h = refl
 silent g m (Skips b ∷ xs) came sent s h = absurd (cc)
 silent g m (Resends to b ∷ xs) came sent s h = absurd (cc)
 silent g m (Begins k ds ∷ xs) came sent s h = absurd (cc)
 silent g m (Answers (Some b) i t out ∷ xs) came sent s h = absurd (cc)
 silent g m (Answers None i t out ∷ xs) came sent s h =
-    ap (λ (ys : List _). ys ++ messages_of (befall xs)) (none_given None g m i refl s.0)
+    ap (λ (ys : List _). ys ++ messages_of (trace_of_acts xs)) (none_given None g m i refl s.0)
     ∙ silent g m xs (came ++ []) (sent ++ handed_over out) s.2 h
 
 -- what is left of the members before this one
 abbrev finals : {K : Type 0} → (plans : ℕ → List (Act K)) → ℕ → List Stretch
 finals plans zero = []
-finals plans (suc k) = record { member = k; deeds = befall (plans k); gave = [] } ∷ finals plans k
+finals plans (suc k) = record { member = k; trace = trace_of_acts (plans k); gave = [] } ∷ finals plans k
 
-finals_above : {K : Type 0} (plans : ℕ → List (Act K)) (k m : ℕ) → k ≤ m → deeds_in m (finals plans k) ≡ []
+finals_above : {K : Type 0} (plans : ℕ → List (Act K)) (k m : ℕ) → k ≤ m → trace_in m (finals plans k) ≡ []
 finals_above plans zero m le = refl
 finals_above plans (suc k) m le =
     elim (eqb_tells m k) [
@@ -254,14 +254,14 @@ finals_above plans (suc k) m le =
       | inr other ↦ cond-false (nat_eq m k) _ _ other.0 ∙ finals_above plans k m (omega (arith, le))
     ]
 
-finals_below : {K : Type 0} (plans : ℕ → List (Act K)) (k m : ℕ) → m < k → deeds_in m (finals plans k) ≡ befall (plans m)
+finals_below : {K : Type 0} (plans : ℕ → List (Act K)) (k m : ℕ) → m < k → trace_in m (finals plans k) ≡ trace_of_acts (plans m)
 finals_below plans zero m l = absurd (omega (arith, l))
 finals_below plans (suc k) m l =
     elim (eqb_tells m k) [
       | inl is ↦ cond-true (nat_eq m k) _ _ is.0
-          ∙ ap (λ (ds : List Deed). befall (plans k) ++ ds) (finals_above plans k m (let same = is.1 in omega (arith, same)))
-          ∙ append-nil (befall (plans k))
-          ∙ ap (λ (i : ℕ). befall (plans i)) (sym is.1)
+          ∙ ap (λ (ds : List TraceEvent). trace_of_acts (plans k) ++ ds) (finals_above plans k m (let same = is.1 in omega (arith, same)))
+          ∙ append-nil (trace_of_acts (plans k))
+          ∙ ap (λ (i : ℕ). trace_of_acts (plans i)) (sym is.1)
       | inr other ↦ cond-false (nat_eq m k) _ _ other.0 ∙ finals_below plans k m (let differ = other.1 in omega (arith, l, differ))
     ]
 
@@ -279,7 +279,7 @@ finals_are {K} g plans came sent (suc k) le sound none =
 
 finals_carried : {K : Type 0} (g : Group) (plans : ℕ → List (Act K)) (k : ℕ) (sent : List (ℕ × Bytes)) → AreCarried g (finals plans k) sent
 finals_carried g plans zero sent = tt
-finals_carried g plans (suc k) sent = (λ bytes n. absurd n, finals_carried g plans k (sent ++ sent_by (befall (plans k))))
+finals_carried g plans (suc k) sent = (λ bytes n. absurd n, finals_carried g plans k (sent ++ sent_by (trace_of_acts (plans k))))
 
 -- ---- the whole network
 
@@ -344,7 +344,7 @@ record Whole {K : Type 0} (g : Group) (plans : ℕ → List (Act K)) (sent : Lis
   stretches : List Stretch
   are : AreStretches g stretches
   carried : AreCarried g stretches sent
-  deeds : (m : ℕ) → m < g.members → deeds_in m stretches ≡ befall (plans m)
+  trace : (m : ℕ) → m < g.members → trace_in m stretches ≡ trace_of_acts (plans m)
 
 -- what came to each member was carried
 abbrev HasCome : Group → (came : ℕ → List Bytes) → (sent : List (ℕ × Bytes)) → Type 0
@@ -358,7 +358,7 @@ whole g [] handed sent came plans sound rests has a spelled c = record {
   stretches = finals plans g.members;
   are = finals_are g plans came sent g.members (omega arith) sound rests;
   carried = finals_carried g plans g.members sent;
-  deeds = λ m below. finals_below plans g.members m below;
+  trace = λ m below. finals_below plans g.members m below;
 }
 whole {K} g ((m, e) ∷ xs) handed sent came plans sound rests has a spelled c =
     let f = carries_first g m e xs handed c in
@@ -367,8 +367,8 @@ whole {K} g ((m, e) ∷ xs) handed sent came plans sound rests has a spelled c =
     let then = put plans m s.then in
     let here = came m ++ given_by e in
     let gone = put came m here in
-    let later = sent ++ sent_by s.deeds in
-    let on : AreAmong sent later = among_front sent sent (sent_by s.deeds) (among_all sent) in
+    let later = sent ++ sent_by s.trace in
+    let on : AreAmong sent later = among_front sent sent (sent_by s.trace) (among_all sent) in
     let more = map (λ (d : ℕ × Bytes). d.1) (handed_by e) in
     let carried : (bytes : Bytes) → Among here bytes → IsCarried g sent m bytes =
     λ b n. elim (among_cases (came m) (given_by e) b n) [
@@ -394,20 +394,20 @@ whole {K} g ((m, e) ∷ xs) handed sent came plans sound rests has a spelled c =
       | inr other ↦ has k b below (subst (λ (bs : List Bytes). Among bs b) (cond-false (nat_eq k m) here (came k) other.0) n)
     ]))
     (λ b n. elim (among_cases handed more b n) [
-      | inl before ↦ (let w = a b before in (w.0, among_left sent (sent_by s.deeds) (w.0, b) w.1))
+      | inl before ↦ (let w = a b before in (w.0, among_left sent (sent_by s.trace) (w.0, b) w.1))
       | inr now ↦ (let w = bytes_among (handed_by e) b now in (w.0, s.handed (w.0, b) w.1))
     ])
-    (messages_both g sent (sent_by s.deeds) spelled s.spelled) f.2 in
+    (messages_both g sent (sent_by s.trace) spelled s.spelled) f.2 in
     record {
-      stretches = record { member = m; deeds = s.deeds; gave = here } ∷ r.stretches;
+      stretches = record { member = m; trace = s.trace; gave = here } ∷ r.stretches;
       are = (f.0, s.brought, r.are);
       carried = (carried, r.carried);
-      deeds = λ k below. elim (eqb_tells k m) [
+      trace = λ k below. elim (eqb_tells k m) [
         | inl is ↦ cond-true (nat_eq k m) _ _ is.0
-            ∙ ap (λ (ds : List Deed). s.deeds ++ ds) (r.deeds k below ∙ ap (λ (q : List (Act K)). befall q) (cond-true (nat_eq k m) s.then (plans k) is.0))
-            ∙ sym s.all ∙ ap (λ (j : ℕ). befall (plans j)) (sym is.1)
-        | inr other ↦ cond-false (nat_eq k m) _ _ other.0 ∙ r.deeds k below
-            ∙ ap (λ (q : List (Act K)). befall q) (cond-false (nat_eq k m) s.then (plans k) other.0)
+            ∙ ap (λ (ds : List TraceEvent). s.trace ++ ds) (r.trace k below ∙ ap (λ (q : List (Act K)). trace_of_acts q) (cond-true (nat_eq k m) s.then (plans k) is.0))
+            ∙ sym s.all ∙ ap (λ (j : ℕ). trace_of_acts (plans j)) (sym is.1)
+        | inr other ↦ cond-false (nat_eq k m) _ _ other.0 ∙ r.trace k below
+            ∙ ap (λ (q : List (Act K)). trace_of_acts q) (cond-false (nat_eq k m) s.then (plans k) other.0)
       ];
     }
 
@@ -451,18 +451,18 @@ last_happens [] later = refl
 last_happens (Gave b ∷ es) later = ap (λ (fs : List (RunEvent _ WireEvent)). During (Gave b) ∷ fs) (last_happens es later)
 last_happens (Handed to b ∷ es) later = ap (λ (fs : List (RunEvent _ WireEvent)). During (Handed to b) ∷ fs) (last_happens es later)
 
-hands_befall : {K : Type 0} (ds : List (ℕ × Bytes)) (later : List (Act K)) → befall (hands_then ds later) ≡ befall later
+hands_befall : {K : Type 0} (ds : List (ℕ × Bytes)) (later : List (Act K)) → trace_of_acts (hands_then ds later) ≡ trace_of_acts later
 hands_befall [] later = refl
 hands_befall (d ∷ ds) later = hands_befall ds later
 
-moves_befall : {K : Type 0} (ms : List Move) (later : List (Act K)) → befall (moves_then ms later) ≡ deeds_of ms ++ befall later
+moves_befall : {K : Type 0} (ms : List Move) (later : List (Act K)) → trace_of_acts (moves_then ms later) ≡ trace_of ms ++ trace_of_acts later
 moves_befall [] later = refl
 moves_befall (living.Does came i t out ∷ ms) later =
-    ap (λ (ds : List Deed). Calls i t out ∷ ds) (hands_befall (handed_over out) (moves_then ms later) ∙ moves_befall ms later)
+    ap (λ (ds : List TraceEvent). Calls i t out ∷ ds) (hands_befall (handed_over out) (moves_then ms later) ∙ moves_befall ms later)
 moves_befall (living.Passes b ∷ ms) later = moves_befall ms later
 moves_befall (living.Repeats to b ∷ ms) later = moves_befall ms later
 
-last_befalls : {K : Type 0} (es : List WireEvent) (later : List (Act K)) → befall (last_then es later) ≡ befall later
+last_befalls : {K : Type 0} (es : List WireEvent) (later : List (Act K)) → trace_of_acts (last_then es later) ≡ trace_of_acts later
 last_befalls [] later = refl
 last_befalls (Gave b ∷ es) later = last_befalls es later
 last_befalls (Handed to b ∷ es) later = last_befalls es later
@@ -482,9 +482,9 @@ hands_sound g m [] later came sent a s = s
 hands_sound g m (d ∷ ds) later came sent a s = (a d (inl refl), hands_sound g m ds later came sent (λ x n. a x (inr n)) s)
 
 moves_sound : {K : Type 0} (g : Group) (m : ℕ) (hears : Bool) (ms : List Move) (before : List Bytes) (kept : List (ℕ × Bytes))
-    (later : List (Act K)) (came : List Bytes) (sent : List (ℕ × Bytes)) (from then : NodeState Bytes) → Lived g m from (deeds_of ms) then →
+    (later : List (Act K)) (came : List Bytes) (sent : List (ℕ × Bytes)) (from then : NodeState Bytes) → Lived g m from (trace_of ms) then →
     AreMoves g m hears ms before kept → AreAmong kept sent →
-    ((more : List Bytes) (many : List (ℕ × Bytes)) → AreAmong (kept ++ sent_by (deeds_of ms)) many → AreSound g m later more many) →
+    ((more : List Bytes) (many : List (ℕ × Bytes)) → AreAmong (kept ++ sent_by (trace_of ms)) many → AreSound g m later more many) →
     AreSound g m (moves_then ms later) came sent
 moves_sound g m hears [] before kept later came sent from then v a k s = s came sent (among_then (kept ++ []) kept sent (and_none kept) k)
 moves_sound g m hears (living.Does b i t out ∷ ms) before kept later came sent from then v a k s =
@@ -496,7 +496,7 @@ moves_sound g m hears (living.Does b i t out ∷ ms) before kept later came sent
           (moves_sound g m hears ms (before ++ came_in b) (kept ++ handed_over out) later (came ++ came_in b) (sent ++ handed_over out) t then v.3 a.1
           (among_sides kept (handed_over out) sent (handed_over out) k (among_all (handed_over out)))
           (λ more many c. s more many
-          (subst (λ (ds : List (ℕ × Bytes)). AreAmong ds many) (append_assoc kept (handed_over out) (sent_by (deeds_of ms))) c))),
+          (subst (λ (ds : List (ℕ × Bytes)). AreAmong ds many) (append_assoc kept (handed_over out) (sent_by (trace_of ms))) c))),
     )
 moves_sound g m hears (living.Passes b ∷ ms) before kept later came sent from then v a k s =
     moves_sound g m hears ms (before ++ b ∷ []) kept later (came ++ b ∷ []) sent from then v a.1 k s
@@ -514,13 +514,13 @@ happen_append (Skips b ∷ xs) ys = ap (λ (fs : List (RunEvent _ WireEvent)). D
 happen_append (Resends to b ∷ xs) ys = ap (λ (fs : List (RunEvent _ WireEvent)). During (Handed to b) ∷ fs) (happen_append xs ys)
 happen_append (Begins k ds ∷ xs) ys = ap (λ (fs : List (RunEvent _ WireEvent)). Starts k ∷ fs) (happen_append xs ys)
 
-befall_append : {K : Type 0} (xs ys : List (Act K)) → befall (xs ++ ys) ≡ befall xs ++ befall ys
+befall_append : {K : Type 0} (xs ys : List (Act K)) → trace_of_acts (xs ++ ys) ≡ trace_of_acts xs ++ trace_of_acts ys
 befall_append [] ys = refl
-befall_append (Answers came i t out ∷ xs) ys = ap (λ (ds : List Deed). Calls i t out ∷ ds) (befall_append xs ys)
+befall_append (Answers came i t out ∷ xs) ys = ap (λ (ds : List TraceEvent). Calls i t out ∷ ds) (befall_append xs ys)
 befall_append (Skips b ∷ xs) ys = befall_append xs ys
 befall_append (Resends to b ∷ xs) ys = befall_append xs ys
 befall_append (Begins k ds ∷ xs) ys =
-    ap (λ (es : List Deed). ds ++ es) (befall_append xs ys) ∙ sym (append_assoc ds (befall xs) (befall ys))
+    ap (λ (es : List TraceEvent). ds ++ es) (befall_append xs ys) ∙ sym (append_assoc ds (trace_of_acts xs) (trace_of_acts ys))
 
 hands_apart : {K : Type 0} (ds : List (ℕ × Bytes)) (xs ys : List (Act K)) → hands_then ds (xs ++ ys) ≡ hands_then ds xs ++ ys
 hands_apart [] xs ys = refl
@@ -589,14 +589,14 @@ only_happens (Begins k ds ∷ xs) [] [] h = absurd (cc)
 only_happens (Begins k ds ∷ xs) [] (d ∷ es) h = absurd (cc)
 only_happens (Begins k ds ∷ xs) (e ∷ own) lost h = absurd (cc)
 
-only_befalls : {K : Type 0} (xs : List (Act K)) (own : List WireEvent) → befall (only xs own) ≡ befall xs
+only_befalls : {K : Type 0} (xs : List (Act K)) (own : List WireEvent) → trace_of_acts (only xs own) ≡ trace_of_acts xs
 only_befalls [] own = refl
-only_befalls (Answers None i t out ∷ xs) own = ap (λ (ds : List Deed). Calls i t out ∷ ds) (only_befalls xs own)
-only_befalls (Answers (Some b) i t out ∷ xs) own = ap (λ (ds : List Deed). Calls i t out ∷ ds) (only_befalls xs (behind own))
+only_befalls (Answers None i t out ∷ xs) own = ap (λ (ds : List TraceEvent). Calls i t out ∷ ds) (only_befalls xs own)
+only_befalls (Answers (Some b) i t out ∷ xs) own = ap (λ (ds : List TraceEvent). Calls i t out ∷ ds) (only_befalls xs (behind own))
 only_befalls (Skips b ∷ xs) own = only_befalls xs (behind own)
 only_befalls (Resends to b ∷ xs) [] = only_befalls xs []
 only_befalls (Resends to b ∷ xs) (e ∷ own) = only_befalls xs own
-only_befalls (Begins k ds ∷ xs) own = ap (λ (es : List Deed). ds ++ es) (only_befalls xs own)
+only_befalls (Begins k ds ∷ xs) own = ap (λ (es : List TraceEvent). ds ++ es) (only_befalls xs own)
 
 only_sound : {K : Type 0} (g : Group) (m : ℕ) (xs : List (Act K)) (own : List WireEvent) (later : List (Act K)) (came : List Bytes)
     (sent : List (ℕ × Bytes)) → AreSound g m (xs ++ later) came sent → AreSound g m (only xs own ++ later) came sent
@@ -613,7 +613,7 @@ only_sound g m (Begins k ds ∷ xs) own later came sent s = (s.0, s.1, only_soun
 -- ---- runs of a member
 
 abbrev pub IsRun : {K : Type 0} → Group → (m : ℕ) → Run K → List WireEvent → Type 0
-IsRun g m r events = Ran g m r.first events r.deeds r.end r.unanswered
+IsRun g m r events = Ran g m r.first events r.trace r.end r.unanswered
 
 module _ {K : Type 0} (g : Group) (m : ℕ) where
   -- all that a member would do in a run, and what it does there, and later
@@ -642,23 +642,23 @@ module _ {K : Type 0} (g : Group) (m : ℕ) where
       (only_happens (whole_run r own ran) own ran.lost (whole_happens r own ran))
 
   run_befalls : (r : Run K) (own : List WireEvent) (ran : IsRun g m r own) (later : List (Act K)) →
-      befall (run_then r own ran later) ≡ r.deeds ++ befall later
+      trace_of_acts (run_then r own ran later) ≡ r.trace ++ trace_of_acts later
   unfolding run_then
   run_befalls r own ran later =
       befall_append (only (whole_run r own ran) own) later
-      ∙ ap (λ (ds : List Deed). ds ++ befall later)
+      ∙ ap (λ (ds : List TraceEvent). ds ++ trace_of_acts later)
       (only_befalls (whole_run r own ran) own
       ∙ moves_befall ran.moves (last_then ran.last [])
-      ∙ ap (λ (ds : List Deed). deeds_of ran.moves ++ ds) (last_befalls ran.last [])
-      ∙ append-nil (deeds_of ran.moves)
+      ∙ ap (λ (ds : List TraceEvent). trace_of ran.moves ++ ds) (last_befalls ran.last [])
+      ∙ append-nil (trace_of ran.moves)
       ∙ sym ran.does)
 
   run_lives : (r : Run K) (own : List WireEvent) (ran : IsRun g m r own) (later : List (Act K)) (then : NodeState Bytes) →
-      Lived g m r.end (befall later) then → Lived g m (started r.first) (befall (run_then r own ran later)) then
+      Lived g m r.end (trace_of_acts later) then → Lived g m (started r.first) (trace_of_acts (run_then r own ran later)) then
   run_lives r own ran later then v =
-      let ds : r.deeds ++ befall later ≡ deeds_of ran.moves ++ befall later = ap (λ (ds : List Deed). ds ++ befall later) ran.does in
-      subst (λ (ds : List Deed). Lived g m (started r.first) ds then) (sym ds ∙ sym (run_befalls r own ran later))
-      (lived_then g m (started r.first) r.end then (deeds_of ran.moves) (befall later) ran.lived v)
+      let ds : r.trace ++ trace_of_acts later ≡ trace_of ran.moves ++ trace_of_acts later = ap (λ (ds : List TraceEvent). ds ++ trace_of_acts later) ran.does in
+      subst (λ (ds : List TraceEvent). Lived g m (started r.first) ds then) (sym ds ∙ sym (run_befalls r own ran later))
+      (lived_then g m (started r.first) r.end then (trace_of ran.moves) (trace_of_acts later) ran.lived v)
 
   -- sound, where this came and more
   abbrev SoundAfter : List (Act K) → (unanswered : List Bytes) → Type 0
@@ -672,7 +672,7 @@ module _ {K : Type 0} (g : Group) (m : ℕ) where
       (subst (λ (xs : List (Act K)). AreSound g m xs came sent)
       (ap (λ (xs : List (Act K)). moves_then ran.moves xs) (last_apart ran.last later) ∙ moves_apart ran.moves (last_then ran.last []) later)
       (moves_sound g m ran.hears ran.moves [] [] (last_then ran.last later) came sent (started r.first) r.end ran.lived ran.are (among_none sent)
-      (λ more many c. last_sound g m ran.last later more many (among_then (handed_in ran.last) (sent_by (deeds_of ran.moves)) many ran.again c)
+      (λ more many c. last_sound g m ran.last later more many (among_then (handed_in ran.last) (sent_by (trace_of ran.moves)) many ran.again c)
       (λ all d. s all many (subst (λ (bs : List Bytes). AreAmong bs all) (sym ran.came)
       (among_then (given_in ran.last) (more ++ given_in ran.last) all (among_back (given_in ran.last) more (given_in ran.last) (among_all (given_in ran.last))) d))))))
 
@@ -681,13 +681,13 @@ module _ {K : Type 0} (g : Group) (m : ℕ) where
     acts : List (Act K)
     happens : happen acts ≡ events
     sound : SoundAfter acts unanswered
-    lived : Lived g m s (befall acts) (stands_after s runs)
-    befell : IsLaterTrace runs (befall acts)
+    lived : Lived g m s (trace_of_acts acts) (stands_after s runs)
+    happened : IsLaterTrace runs (trace_of_acts acts)
 
   later : (s : NodeState Bytes) (unanswered : List Bytes) (runs : List (Run K)) (events : List (RunEvent K WireEvent)) → s.is_up ≡ true →
       AreRuns g m (IsRun g m) (LeavesThere g m unanswered s) runs events → Later s unanswered runs events
   later s unanswered [] events up are =
-      record { acts = []; happens = sym are; sound = λ came sent a. tt; lived = refl; befell = refl }
+      record { acts = []; happens = sym are; sound = λ came sent a. tt; lived = refl; happened = refl }
   later s unanswered (r ∷ rs) events up (left, own, more, ran, all, are) =
       let x = left.0 in
       let l = later r.end r.unanswered rs more ran.up are in
@@ -704,7 +704,7 @@ module _ {K : Type 0} (g : Group) (m : ℕ) where
           run_sound r own ran l.acts l.sound came sent,
         );
         lived = (up, left.1, left.3, run_lives r own ran l.acts (stands_after r.end rs) l.lived);
-        befell = (x, befall l.acts, ap (λ (ds : List Deed). Stops x r.first ∷ (Opens ∷ ds)) (run_befalls r own ran l.acts), l.befell);
+        happened = (x, trace_of_acts l.acts, ap (λ (ds : List TraceEvent). Stops x r.first ∷ (Opens ∷ ds)) (run_befalls r own ran l.acts), l.happened);
       }
 
   -- what a member does in all its runs
@@ -712,11 +712,11 @@ module _ {K : Type 0} (g : Group) (m : ℕ) where
     pub acts : List (Act K)
     pub happens : happen acts ≡ events
     pub sound : AreSound g m acts [] []
-    pub lived : Lived g m (started nothing_stored) (befall acts) (stands_after (started nothing_stored) runs)
-    pub befell : IsTrace runs (befall acts)
+    pub lived : Lived g m (started nothing_stored) (trace_of_acts acts) (stands_after (started nothing_stored) runs)
+    pub happened : IsTrace runs (trace_of_acts acts)
 
   acted : (runs : List (Run K)) (events : List (RunEvent K WireEvent)) → AreRuns g m (IsRun g m) IsEmpty runs events → Acted runs events
-  acted [] events are = record { acts = []; happens = sym are; sound = tt; lived = refl; befell = refl }
+  acted [] events are = record { acts = []; happens = sym are; sound = tt; lived = refl; happened = refl }
   acted (r ∷ rs) events (empty, own, more, ran, all, are) =
       let l = later r.end r.unanswered rs more ran.up are in
       let acts = run_then r own ran l.acts in
@@ -725,14 +725,14 @@ module _ {K : Type 0} (g : Group) (m : ℕ) where
         happens = ap (λ (es : List (RunEvent K WireEvent)). Starts r.key ∷ es)
             (run_happens r own ran l.acts ∙ ap (λ (es : List (RunEvent K WireEvent)). during own ++ es) l.happens) ∙ sym all;
         sound = (none_brought g m [], refl, run_sound r own ran l.acts l.sound [] []);
-        lived = subst (λ (d : Record Bytes). Lived g m (started d) (befall acts) (stands_after r.end rs)) empty
+        lived = subst (λ (d : Record Bytes). Lived g m (started d) (trace_of_acts acts) (stands_after r.end rs)) empty
             (run_lives r own ran l.acts (stands_after r.end rs) l.lived);
-        befell = (befall l.acts, run_befalls r own ran l.acts, l.befell);
+        happened = (trace_of_acts l.acts, run_befalls r own ran l.acts, l.happened);
       }
 
 -- ---- all members
 
-as_led : (g : Group) (me : ℕ) (s t : NodeState Bytes) (ds : List Deed) → Lived g me s ds t → Lived g me s ds (led_to s ds)
+as_led : (g : Group) (me : ℕ) (s t : NodeState Bytes) (ds : List TraceEvent) → Lived g me s ds t → Lived g me s ds (led_to s ds)
 as_led g me s t ds l = subst (λ (u : NodeState Bytes). Lived g me s ds u) (lived_to g me s t ds l) l
 
 module _ {K : Type 0} (g : Group) (network : List (ℕ × RunEvent K WireEvent)) (runs : ℕ → List (Run K))
@@ -753,11 +753,11 @@ module _ {K : Type 0} (g : Group) (network : List (ℕ × RunEvent K WireEvent))
   rest_at m (inl b) below = (acted_at m b).happens
   rest_at m (inr above) below = absurd (omega (arith, above, below))
 
-  lived_at : (m : ℕ) (w : (m < g.members) ⊎ (g.members ≤ m)) → m < g.members → (ds : List Deed) → ds ≡ befall (plan_of m w) →
+  lived_at : (m : ℕ) (w : (m < g.members) ⊎ (g.members ≤ m)) → m < g.members → (ds : List TraceEvent) → ds ≡ trace_of_acts (plan_of m w) →
       Lived g m (started nothing_stored) ds (stands runs m) × IsTrace (runs m) ds
   lived_at m (inl b) below ds e = (
-    subst (λ (xs : List Deed). Lived g m (started nothing_stored) xs (stands runs m)) (sym e) (acted_at m b).lived,
-    subst (λ (xs : List Deed). IsTrace (runs m) xs) (sym e) (acted_at m b).befell,
+    subst (λ (xs : List TraceEvent). Lived g m (started nothing_stored) xs (stands runs m)) (sym e) (acted_at m b).lived,
+    subst (λ (xs : List TraceEvent). IsTrace (runs m) xs) (sym e) (acted_at m b).happened,
   )
   lived_at m (inr above) below ds e = absurd (omega (arith, above, below))
 
@@ -766,16 +766,16 @@ module _ {K : Type 0} (g : Group) (network : List (ℕ × RunEvent K WireEvent))
       let w = whole g network [] [] (λ m. []) (λ m. plan_of m (below_or m g.members))
       (λ m below. sound_at m (below_or m g.members) below) (λ m below. rest_at m (below_or m g.members) below)
       (λ m b below n. absurd n) (λ b n. absurd n) (λ d n. absurd n) carries in
-      let lived = λ (m : ℕ) (below : m < g.members). lived_at m (below_or m g.members) below (deeds_in m w.stretches) (w.deeds m below) in (
+      let lived = λ (m : ℕ) (below : m < g.members). lived_at m (below_or m g.members) below (trace_in m w.stretches) (w.trace m below) in (
         w.stretches,
         record {
           goes = record {
             group = few;
             are = w.are;
-            lived = λ m below. as_led g m (started nothing_stored) (stands runs m) (deeds_in m w.stretches) (lived m below).0;
+            lived = λ m below. as_led g m (started nothing_stored) (stands runs m) (trace_in m w.stretches) (lived m below).0;
             carried = w.carried;
           };
-          befell = λ m below. (lived m below).1;
-          leaves = λ m below. sym (lived_to g m (started nothing_stored) (stands runs m) (deeds_in m w.stretches) (lived m below).0);
+          happened = λ m below. (lived m below).1;
+          leaves = λ m below. sym (lived_to g m (started nothing_stored) (stands runs m) (trace_in m w.stretches) (lived m below).0);
         },
       )

@@ -8,34 +8,34 @@ use Rattle.px_records.specs.declared.records.Records.{Ghosts}
 use Rattle.px_model.specs.Node.Input.{Asks, Ticks, Comes}
 use Rattle.px_transport.specs.Wires.{given_in}
 use Rattle.px_wire.specs.Message.{Group, group}
-use Rattle.px_replica.specs.Lives.{Deed, Lived, stopped}
-use Rattle.px_replica.specs.Lives.Deed.{Stops}
+use Rattle.px_replica.specs.Lives.{TraceEvent, Lived, stopped}
+use Rattle.px_replica.specs.Lives.TraceEvent.{Stops}
 use Rattle.px_replica.specs.Replicas.{records_of, membership_of, state_in}
 use Rattle.px_replica.specs.declared.fault.NodeFault.{NodeFault}
 use Rattle.node_loop.specs.Turns.{Stand}
 use Rattle.node_loop.specs.Resending.{came_in}
 use Rattle.node_loop.specs.Living.{Heard, message_in, messages_of, AreBrought, Living}
-use Rattle.node_loop.specs.Living.{Move, Does, Passes, Repeats, deeds_of, came_by, IsBrought, AreMoves}
+use Rattle.node_loop.specs.Living.{Move, Does, Passes, Repeats, trace_of, came_by, IsBrought, AreMoves}
 use Rattle.node_loop.proofs.Traffic.{messages_then, one_brought, none_brought, brought_then}
 use Rattle.node_loop.proofs.Lives.{lived_then}
-use Rattle.pfx_laws.specs.Wires.{deeds_in, led_to}
+use Rattle.pfx_laws.specs.Wires.{trace_in, led_to}
 use Rattle.pfx_laws.specs.Runs.{IsStretch, IsNew, LivesGo, stretch_of, stretch_to, LivesAreStretches, OpeningsAreStretches}
 use Rattle.pfx_laws.proofs.Carrying.{lived_to}
 
 -- ---- lives
 
-as_led : (g : Group) (me : ℕ) (s t : NodeState Bytes) (ds : List Deed) → Lived g me s ds t → Lived g me s ds (led_to s ds)
+as_led : (g : Group) (me : ℕ) (s t : NodeState Bytes) (ds : List TraceEvent) → Lived g me s ds t → Lived g me s ds (led_to s ds)
 as_led g me s t ds l = subst (λ (u : NodeState Bytes). Lived g me s ds u) (lived_to g me s t ds l) l
 
 -- each message that comes is spelled by a datagram that is given
 moves_brought : (g : Group) (me : ℕ) (hears : Bool) (ms : List Move) (before : List Bytes) (kept : List (ℕ × Bytes)) →
-    AreMoves g me hears ms before kept → AreBrought g me (came_by ms) (messages_of (deeds_of ms))
+    AreMoves g me hears ms before kept → AreBrought g me (came_by ms) (messages_of (trace_of ms))
 moves_brought g me hears [] before kept a = none_brought g me []
 moves_brought g me hears (Passes b ∷ ms) before kept a =
-    brought_then g me (b ∷ []) (came_by ms) [] (messages_of (deeds_of ms)) (none_brought g me (b ∷ [])) (moves_brought g me hears ms _ kept a.1)
+    brought_then g me (b ∷ []) (came_by ms) [] (messages_of (trace_of ms)) (none_brought g me (b ∷ [])) (moves_brought g me hears ms _ kept a.1)
 moves_brought g me hears (Repeats to b ∷ ms) before kept a = moves_brought g me hears ms before kept a.1
 moves_brought g me hears (Does came i t out ∷ ms) before kept a =
-    brought_then g me (came_in came) (came_by ms) (message_in i) (messages_of (deeds_of ms)) (one_brings g me came i a.0) (moves_brought g me hears ms _ _ a.1)
+    brought_then g me (came_in came) (came_by ms) (message_in i) (messages_of (trace_of ms)) (one_brings g me came i a.0) (moves_brought g me hears ms _ _ a.1)
   where
     one_brings : (g : Group) (me : ℕ) (came : Option Bytes) (i : Input Bytes) → IsBrought g me came i → AreBrought g me (came_in came) (message_in i)
     one_brings g me None (Asks command) b = none_brought g me []
@@ -53,7 +53,7 @@ whole x z a l below =
     let me = (membership_of x.replica).me in
     record {
       below = below;
-      lived = as_led g me (state_in x.replica) l.then (deeds_of l.moves) l.lived;
+      lived = as_led g me (state_in x.replica) l.then (trace_of l.moves) l.lived;
       brought = moves_brought g me x.hears_asks l.moves x.requests x.kept l.are;
     }
 
@@ -64,7 +64,7 @@ cut x z a l below left may =
     let g = group (membership_of x.replica) in
     let me = (membership_of x.replica).me in
     let s = l.stop left may in
-    let ds = deeds_of l.moves in
+    let ds = trace_of l.moves in
     let end = Stops s.0 left ∷ [] in
     let last : AreBrought g me (given_in l.last) (message_in s.0 ++ []) =
     subst (λ (ms : List Heard). AreBrought g me (given_in l.last) ms) (sym (append-nil (message_in s.0))) s.2 in (
@@ -82,7 +82,7 @@ cut x z a l below left may =
 pub lives_are_stretches : {R : Type 0} (G : Ghosts R) → LivesAreStretches G
 lives_are_stretches G x z a l below = (
   whole x z a l below,
-  lived_to (group (membership_of x.replica)) (membership_of x.replica).me (state_in x.replica) l.then (deeds_of l.moves) l.lived,
+  lived_to (group (membership_of x.replica)) (membership_of x.replica).me (state_in x.replica) l.then (trace_of l.moves) l.lived,
   λ left may. cut x z a l below left may,
 )
 
@@ -92,23 +92,23 @@ openings_are_stretches g s x i = record { below = i.below; lived = i.lived; brou
 -- ---- members side by side
 
 new_lived : {R : Type 0} {G : Ghosts R} (g : Group) (m : ℕ) (x z : Stand G) (a : Option NodeFault) (l : Living x z a) → IsNew g m x →
-    Lived g m (started nothing_stored) (deeds_of l.moves) l.then
+    Lived g m (started nothing_stored) (trace_of l.moves) l.then
 new_lived {R} {G} g m x z a l new =
-    subst (λ (s : NodeState Bytes). Lived g m s (deeds_of l.moves) l.then) new.empty
-    (subst (λ (k : Group). Lived k m (state_in x.replica) (deeds_of l.moves) l.then) new.cluster
-    (subst (λ (j : ℕ). Lived (group (membership_of x.replica)) j (state_in x.replica) (deeds_of l.moves) l.then) new.me l.lived))
+    subst (λ (s : NodeState Bytes). Lived g m s (trace_of l.moves) l.then) new.empty
+    (subst (λ (k : Group). Lived k m (state_in x.replica) (trace_of l.moves) l.then) new.cluster
+    (subst (λ (j : ℕ). Lived (group (membership_of x.replica)) j (state_in x.replica) (trace_of l.moves) l.then) new.me l.lived))
 
 pub lives_go : {R : Type 0} (G : Ghosts R) → LivesGo G
-lives_go G g few from to a lives new xs deeds are carried =
+lives_go G g few from to a lives new xs trace are carried =
     let s = started nothing_stored in
     let lived = λ (m : ℕ) (below : m < g.members).
-    subst (λ (ds : List Deed). Lived g m s ds (lives m below).then) (sym (deeds m below))
+    subst (λ (ds : List TraceEvent). Lived g m s ds (lives m below).then) (sym (trace m below))
     (new_lived g m (from m) (to m) (a m) (lives m below) (new m below)) in (
       record {
         group = few;
         are = are;
-        lived = λ m below. as_led g m s (lives m below).then (deeds_in m xs) (lived m below);
+        lived = λ m below. as_led g m s (lives m below).then (trace_in m xs) (lived m below);
         carried = carried;
       },
-      λ m below. sym (lived_to g m s (lives m below).then (deeds_in m xs) (lived m below)),
+      λ m below. sym (lived_to g m s (lives m below).then (trace_in m xs) (lived m below)),
     )

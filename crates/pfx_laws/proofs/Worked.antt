@@ -7,7 +7,7 @@ use Rattle.px_model.specs.Node.Input.{Ticks}
 use Rattle.px_model.specs.Spelling.{Bytes}
 use Rattle.px_model.specs.World.{NodeState, nothing_stored, started}
 use Rattle.px_wire.specs.Message.{Group, group, Message, DatagramBytes}
-use Rattle.px_replica.specs.Lives.Deed.{Calls, Stops, Opens}
+use Rattle.px_replica.specs.Lives.TraceEvent.{Calls, Stops, Opens}
 use Rattle.node_loop.specs.Resending.{IsOutside}
 use Rattle.px_replica.specs.declared.datagram.Datagram.{Datagram}
 use Rattle.std.specs.declared.net.socket_addr.SocketAddr.{SocketAddr}
@@ -29,9 +29,9 @@ empty_is_nobodys g m from x spelled = let e : 0 ≡ 0x50 = ap (λ (b : Bytes). s
 -- request from outside that nobody handed over, and an empty datagram in place of one that it dropped. A network may
 -- carry all of this.
 pub may_be_carried : (g : Group) (t u v : NodeState Bytes) (d : Datagram) (ask : Bytes) → d.to ≡ 1 → IsOutside g 2 ask →
-    AreCarried g (record { member = 0; deeds = Calls Ticks t (d ∷ []) ∷ []; gave = [] }
-    ∷ record { member = 1; deeds = []; gave = d.bytes.items ∷ d.bytes.items ∷ [] }
-    ∷ record { member = 2; deeds = []; gave = ask ∷ [] ∷ [] } ∷ []) []
+    AreCarried g (record { member = 0; trace = Calls Ticks t (d ∷ []) ∷ []; gave = [] }
+    ∷ record { member = 1; trace = []; gave = d.bytes.items ∷ d.bytes.items ∷ [] }
+    ∷ record { member = 2; trace = []; gave = ask ∷ [] ∷ [] } ∷ []) []
 may_be_carried g t u v d ask to asks = (
   λ bytes among. absurd among,
   (
@@ -51,7 +51,7 @@ may_be_carried g t u v d ask to asks = (
 
 -- A member's message to this member that nobody handed over it may not bring.
 pub forged_is_not : (g : Group) (m sender : ℕ) (x : Message) (forged : Bytes) → DatagramBytes g sender m x forged → sender ≢ 255 →
-    AreCarried g (record { member = m; deeds = []; gave = forged ∷ [] } ∷ []) [] → ⊥
+    AreCarried g (record { member = m; trace = []; gave = forged ∷ [] } ∷ []) [] → ⊥
 forged_is_not g m sender x forged spelled other carried =
     elim (carried.0 forged (inl refl)) [
       | inl none ↦ none
@@ -61,8 +61,8 @@ forged_is_not g m sender x forged spelled other carried =
 -- Nor one that was handed over for another member, and is a message to this one.
 pub misled_is_not : (g : Group) (t : NodeState Bytes) (d : Datagram) (sender : ℕ) (x : Message) → d.to ≡ 1 →
     DatagramBytes g sender 2 x d.bytes.items → sender ≢ 255 →
-    AreCarried g (record { member = 0; deeds = Calls Ticks t (d ∷ []) ∷ []; gave = [] }
-    ∷ record { member = 2; deeds = []; gave = d.bytes.items ∷ [] } ∷ []) [] → ⊥
+    AreCarried g (record { member = 0; trace = Calls Ticks t (d ∷ []) ∷ []; gave = [] }
+    ∷ record { member = 2; trace = []; gave = d.bytes.items ∷ [] } ∷ []) [] → ⊥
 misled_is_not g t d sender x to spelled other carried = elim (carried.1.0 d.bytes.items (inl refl)) [
   | inl among ↦ (elim among [
     | inl is ↦ (let one : d.to ≡ 2 = ap (λ (p : ℕ × Bytes). p.0) is in cc)
@@ -132,7 +132,7 @@ nothing_yet g m first = record {
 
 -- a run that does nothing, over this record
 abbrev idle : Record Bytes → Run (Unit {0})
-idle d = record { key = tt; first = d; deeds = []; end = started d; unanswered = [] }
+idle d = record { key = tt; first = d; trace = []; end = started d; unanswered = [] }
 
 -- A member starts, stops at some moment of a tick that changes nothing, and starts again over the record that this left.
 pub starts_again : (g : Group) (m : ℕ) →
@@ -151,7 +151,7 @@ starts_again g m = (
 -- another.
 abbrev run_of : {R : Type 0} {G : Ghosts R} {m : Membership} {given back : R} {events : List SocketEvent} → RunsAt G m given back events →
     Run (Unit {0})
-run_of {R} {G} {m} {given} {back} {events} a = record { key = tt; first = G.stored given; deeds = a.deeds; end = a.end; unanswered = a.unanswered }
+run_of {R} {G} {m} {given} {back} {events} a = record { key = tt; first = G.stored given; trace = a.trace; end = a.end; unanswered = a.unanswered }
 
 pub store_goes_on : {R : Type 0} (G : Ghosts R) (m : Membership) (given back next end : R) (events later : List SocketEvent)
     (a : RunsAt G m given back events) (b : RunsAt G m next end later) → G.stored given ≡ nothing_stored → G.may_leave back (G.stored next) →
@@ -192,7 +192,7 @@ forged_packet_never_comes n m k from forged opens carried =
 abbrev sealed_run_of : {R : Type 0} {G : Ghosts R} {m : Membership} {keys : List (List ℕ)} {s : Sealer} {given back : R}
     {events : List SocketEvent} → RunsSealed G m keys s given back events → Run Keyed
 sealed_run_of {R} {G} {m} {keys} {s} {given} {back} {events} a =
-    record { key = record { keys = keys; sealer = s }; first = G.stored given; deeds = a.deeds; end = a.end; unanswered = a.unanswered }
+    record { key = record { keys = keys; sealer = s }; first = G.stored given; trace = a.trace; end = a.end; unanswered = a.unanswered }
 
 pub sealed_store_goes_on : {R : Type 0} (G : Ghosts R) (m : Membership) (k l : Keyed) (given back next end : R) (events later : List SocketEvent)
     (a : RunsSealed G m k.keys k.sealer given back events) (b : RunsSealed G m l.keys l.sealer next end later) →

@@ -13,7 +13,7 @@ use Rattle.pf_node.specs.declared.state.Node.{Node}
 use Rattle.pf_node.specs.Nodes.{applied_of, config_of, has_failed, records_of, state_in}
 use Rattle.pfx_laws.specs.Clusters.{MayAllHappen, after, begun}
 use Rattle.pfx_laws.specs.Promised.{IsGroup}
-use Rattle.pfx_laws.specs.Wires.{Stretch, AreStretches, AreCarried, deeds_in, stand, history_of}
+use Rattle.pfx_laws.specs.Wires.{Stretch, AreStretches, AreCarried, trace_in, stand, history_of}
 
 -- These stretches happened in a cluster, in this order. What happened to each member in its own, one after another, are
 -- steps of the model from an empty record on. And the network gave a member no datagram but those that had been handed
@@ -21,7 +21,7 @@ use Rattle.pfx_laws.specs.Wires.{Stretch, AreStretches, AreCarried, deeds_in, st
 pub record Goes (g : Group) (stretches : List Stretch) : Type 0 where
   pub group : IsGroup g
   pub are : AreStretches g stretches
-  pub lived : (m : ℕ) → m < g.members → Lived g m (started nothing_stored) (deeds_in m stretches) (stand stretches m)
+  pub lived : (m : ℕ) → m < g.members → Lived g m (started nothing_stored) (trace_in m stretches) (stand stretches m)
   pub carried : AreCarried g stretches []
 
 -- what happened to the members is a history of the cluster, which leaves each of them as it stands

@@ -2,7 +2,7 @@
 use Rattle.std.specs.Prelude.{◌≡◌, ◌⊎◌, ◌<◌, ℕ, true, List, [], ◌∷◌, ◌++◌, Option, None, Some}
 use Rattle.std.specs.Prelude.{slice_get, nat_eq, if◌then◌else◌}
 use Rattle.px_model.specs.Node as node
-use Rattle.px_model.specs.Node.{Record, Input, Entry, asker}
+use Rattle.px_model.specs.Node.{Record, Input, Entry, client}
 use Rattle.px_model.specs.Node.Input.{Asks, Ticks, Comes}
 use Rattle.px_model.specs.Step.{put}
 use Rattle.px_model.specs.World.{NodeState, nothing_stored, started, command_of}
@@ -54,7 +54,7 @@ pub record WasSent (g : Group) (sent : List Datagram) (m sender : ℕ) (message 
 abbrev pub IsDelivered : Group → List Datagram → (m : ℕ) → Input Bytes → Type 0
 IsDelivered g sent m (Asks command) = Unit {0}
 IsDelivered g sent m Ticks = Unit {0}
-IsDelivered g sent m (Comes sender message) = WasSent g sent m sender message ⊎ (sender ≡ asker)
+IsDelivered g sent m (Comes sender message) = WasSent g sent m sender message ⊎ (sender ≡ client)
 
 -- What may reach a member: a command that is asked, its clock, a message that was sent to it, or a request from
 -- outside.

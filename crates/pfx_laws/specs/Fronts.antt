@@ -4,30 +4,30 @@ use Rattle.px_model.specs.Node.{Record}
 use Rattle.px_model.specs.Spelling.{Bytes}
 use Rattle.px_model.specs.World.{NodeState}
 use Rattle.px_wire.specs.Message.{Group}
-use Rattle.px_replica.specs.Lives.{Deed, Lived}
+use Rattle.px_replica.specs.Lives.{TraceEvent, Lived}
 use Rattle.px_transport.specs.Sending.{Sealer}
 use Rattle.node_udp.specs.Sockets.{SocketEvent}
 use Rattle.node_control.specs.Sockets.{RanAt, RanSealed}
 
 -- Of what happened to the member a front, of which this holds, with how the member is behind it and what is unanswered
 -- then. From there on the rest happened to it.
-pub record Front (g : Group) (m : ℕ) (Is : List Deed → NodeState Bytes → List Bytes → Type 0) (deeds : List Deed)
+pub record Front (g : Group) (m : ℕ) (Is : List TraceEvent → NodeState Bytes → List Bytes → Type 0) (trace : List TraceEvent)
     (end : NodeState Bytes) : Type 0 where
-  pub before : List Deed
+  pub before : List TraceEvent
   pub then : NodeState Bytes
   pub unanswered : List Bytes
   pub ran : Is before then unanswered
-  pub later : List Deed
-  pub all : deeds ≡ before ++ later
+  pub later : List TraceEvent
+  pub all : trace ≡ before ++ later
   pub goes_on : Lived g m then later end
 
 -- Wherever what went over a run's socket is cut off, without a key or with one, the front of it is what went over the
 -- socket of a run: a front of what happened to the member happened to it.
 abbrev pub FrontsAreRuns : Type 0
 FrontsAreRuns =
-    (g : Group) (m : ℕ) (first : Record Bytes) (front back : List SocketEvent) (deeds : List Deed)
+    (g : Group) (m : ℕ) (first : Record Bytes) (front back : List SocketEvent) (trace : List TraceEvent)
     (end : NodeState Bytes) (unanswered : List Bytes) →
-    (RanAt g m first (front ++ back) deeds end unanswered →
-    Front g m (λ ds s came. RanAt g m first front ds s came) deeds end) ×
-    ((keys : List (List ℕ)) (s : Sealer) → RanSealed g keys s m first (front ++ back) deeds end unanswered →
-    Front g m (λ ds t came. RanSealed g keys s m first front ds t came) deeds end)
+    (RanAt g m first (front ++ back) trace end unanswered →
+    Front g m (λ ds s came. RanAt g m first front ds s came) trace end) ×
+    ((keys : List (List ℕ)) (s : Sealer) → RanSealed g keys s m first (front ++ back) trace end unanswered →
+    Front g m (λ ds t came. RanSealed g keys s m first front ds t came) trace end)

@@ -3,7 +3,7 @@ use Rattle.std.specs.Prelude.{◌<◌, ℕ, List, [], ◌∷◌, ◌++◌, nat_e
 use Rattle.px_model.specs.Spelling.{Bytes}
 use Rattle.px_model.specs.World.{NodeState, nothing_stored, started}
 use Rattle.px_wire.specs.Message.{Group}
-use Rattle.px_replica.specs.Lives.{Deed, Lived}
+use Rattle.px_replica.specs.Lives.{TraceEvent, Lived}
 use Rattle.px_replica.specs.Spelled.{for_members}
 use Rattle.px_replica.specs.declared.datagram.Datagram.{Datagram}
 use Rattle.pfx_laws.specs.Clusters.{ClusterEvent, IsDelivered, MayAllHappen, begun}
@@ -15,15 +15,15 @@ member_of (ClusterEvent.Stops m x left) = m
 member_of (ClusterEvent.Opens m) = m
 
 -- what happens to a member, of an event of the cluster
-abbrev pub deed : ClusterEvent → Deed
-deed (ClusterEvent.Calls m x t out) = Deed.Calls x t out
-deed (ClusterEvent.Stops m x left) = Deed.Stops x left
-deed (ClusterEvent.Opens m) = Deed.Opens
+abbrev pub trace_event : ClusterEvent → TraceEvent
+trace_event (ClusterEvent.Calls m x t out) = TraceEvent.Calls x t out
+trace_event (ClusterEvent.Stops m x left) = TraceEvent.Stops x left
+trace_event (ClusterEvent.Opens m) = TraceEvent.Opens
 
 -- of all that happened, what happened to this member
-abbrev pub deeds_of : (m : ℕ) → List ClusterEvent → List Deed
-deeds_of m [] = []
-deeds_of m (h ∷ hs) = if nat_eq m (member_of h) then deed h ∷ deeds_of m hs else deeds_of m hs
+abbrev pub trace_of : (m : ℕ) → List ClusterEvent → List TraceEvent
+trace_of m [] = []
+trace_of m (h ∷ hs) = if nat_eq m (member_of h) then trace_event h ∷ trace_of m hs else trace_of m hs
 
 -- it happens to members alone
 abbrev pub AreOfMembers : Group → List ClusterEvent → Type 0
@@ -43,5 +43,5 @@ AreDelivered g (ClusterEvent.Opens m ∷ hs) sent = AreDelivered g hs sent
 abbrev pub LivesAreHistories : Type 0
 LivesAreHistories =
     (g : Group) (history : List ClusterEvent) → AreOfMembers g history →
-    ((m : ℕ) → m < g.members → (t : NodeState Bytes) × Lived g m (started nothing_stored) (deeds_of m history) t) →
+    ((m : ℕ) → m < g.members → (t : NodeState Bytes) × Lived g m (started nothing_stored) (trace_of m history) t) →
     AreDelivered g history [] → MayAllHappen g history begun

@@ -6,14 +6,14 @@ use Rattle.px_model.specs.Spelling.{Bytes}
 use Rattle.px_model.specs.World.{NodeState, nothing_stored, started}
 use Rattle.px_records.specs.declared.records.Records.{Ghosts}
 use Rattle.px_wire.specs.Message.{Group}
-use Rattle.px_replica.specs.Lives.{Deed}
-use Rattle.px_replica.specs.Lives.Deed.{Stops, Opens}
+use Rattle.px_replica.specs.Lives.{TraceEvent}
+use Rattle.px_replica.specs.Lives.TraceEvent.{Stops, Opens}
 use Rattle.node_loop.specs.Living.{LeavesThere}
 use Rattle.pf_eval.specs.Verdicts.{judgement}
 use Rattle.pf_eval.specs.declared.packet.Packet.{Packet}
 use Rattle.pf_node.specs.declared.state.Node.{Node}
 use Rattle.pf_node.specs.Nodes.{applied_of, config_of}
-use Rattle.pfx_laws.specs.Wires.{Stretch, deeds_in, stand}
+use Rattle.pfx_laws.specs.Wires.{Stretch, trace_in, stand}
 use Rattle.pfx_laws.specs.Carried.{Goes, HasLearned, StandsSo, asked_in}
 
 -- ---- runs
@@ -33,7 +33,7 @@ events_at m (x ∷ xs) = if nat_eq m x.0 then x.1 ∷ events_at m xs else events
 pub record Run (K : Type 0) : Type 0 where
   pub key : K
   pub first : Record Bytes
-  pub deeds : List Deed
+  pub trace : List TraceEvent
   pub end : NodeState Bytes
   pub unanswered : List Bytes
 
@@ -65,16 +65,16 @@ stands runs m = stands_after (started nothing_stored) (runs m)
 
 -- a member's trace in runs behind another one: before each a stop, at some moment of a call, and the opening of what
 -- that left
-abbrev pub IsLaterTrace : {K : Type 0} → List (Run K) → List Deed → Type 0
-IsLaterTrace [] deeds = deeds ≡ []
-IsLaterTrace (r ∷ rs) deeds =
-    (x : Input Bytes) × (later : List Deed) × (deeds ≡ Stops x r.first ∷ (Opens ∷ (r.deeds ++ later))) ×
+abbrev pub IsLaterTrace : {K : Type 0} → List (Run K) → List TraceEvent → Type 0
+IsLaterTrace [] trace = trace ≡ []
+IsLaterTrace (r ∷ rs) trace =
+    (x : Input Bytes) × (later : List TraceEvent) × (trace ≡ Stops x r.first ∷ (Opens ∷ (r.trace ++ later))) ×
     IsLaterTrace rs later
 
 -- a member's trace in all its runs
-abbrev pub IsTrace : {K : Type 0} → List (Run K) → List Deed → Type 0
-IsTrace [] deeds = deeds ≡ []
-IsTrace (r ∷ rs) deeds = (later : List Deed) × (deeds ≡ r.deeds ++ later) × IsLaterTrace rs later
+abbrev pub IsTrace : {K : Type 0} → List (Run K) → List TraceEvent → Type 0
+IsTrace [] trace = trace ≡ []
+IsTrace (r ∷ rs) trace = (later : List TraceEvent) × (trace ≡ r.trace ++ later) × IsLaterTrace rs later
 
 -- ---- what is promised of them
 
@@ -82,7 +82,7 @@ IsTrace (r ∷ rs) deeds = (later : List Deed) × (deeds ≡ r.deeds ++ later) �
 -- what is promised of stretches is promised of them.
 pub record InStretches {K : Type 0} (g : Group) (runs : Runs K) (stretches : List Stretch) : Type 0 where
   pub goes : Goes g stretches
-  pub befell : (m : ℕ) → m < g.members → IsTrace (runs m) (deeds_in m stretches)
+  pub happened : (m : ℕ) → m < g.members → IsTrace (runs m) (trace_in m stretches)
   pub leaves : (m : ℕ) → m < g.members → stand stretches m ≡ stands runs m
 
 -- in the end of one of its runs a member had the entry as learned

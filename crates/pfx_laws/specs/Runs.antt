@@ -6,14 +6,14 @@ use Rattle.px_model.specs.World.{NodeState, nothing_stored, started}
 use Rattle.px_records.specs.declared.records.Records.{Ghosts}
 use Rattle.px_wire.specs.Message.{Group, group}
 use Rattle.px_replica.specs.Lives.{Lived}
-use Rattle.px_replica.specs.Lives.Deed.{Stops, Opens}
+use Rattle.px_replica.specs.Lives.TraceEvent.{Stops, Opens}
 use Rattle.px_replica.specs.Replicas.{records_of, membership_of, state_in}
 use Rattle.px_replica.specs.declared.fault.NodeFault.{NodeFault}
 use Rattle.node_loop.specs.Turns.{Stand}
 use Rattle.px_transport.specs.Wires.{given_in}
-use Rattle.node_loop.specs.Living.{messages_of, deeds_of, came_by, AreBrought, Living}
+use Rattle.node_loop.specs.Living.{messages_of, trace_of, came_by, AreBrought, Living}
 use Rattle.pfx_laws.specs.Promised.{IsGroup}
-use Rattle.pfx_laws.specs.Wires.{Stretch, AreStretches, AreCarried, deeds_in, led_to, stand}
+use Rattle.pfx_laws.specs.Wires.{Stretch, AreStretches, AreCarried, trace_in, led_to, stand}
 use Rattle.pfx_laws.specs.Carried.{Goes}
 
 -- ---- from a life to a stretch
@@ -22,15 +22,15 @@ use Rattle.pfx_laws.specs.Carried.{Goes}
 -- to it its wire gave it in a datagram.
 pub record IsStretch (g : Group) (from : NodeState Bytes) (x : Stretch) : Type 0 where
   pub below : x.member < g.members
-  pub lived : Lived g x.member from x.deeds (led_to from x.deeds)
-  pub brought : AreBrought g x.member x.gave (messages_of x.deeds)
+  pub lived : Lived g x.member from x.trace (led_to from x.trace)
+  pub brought : AreBrought g x.member x.gave (messages_of x.trace)
 
 -- the stretch that it lived, up to the call that failed, if one did
 abbrev pub stretch_of : {R : Type 0} {G : Ghosts R} (x z : Stand G) (answered : Option NodeFault) →
     Living x z answered → Stretch
 stretch_of x z answered l = record {
   member = (membership_of x.replica).me;
-  deeds = deeds_of l.moves;
+  trace = trace_of l.moves;
   gave = came_by l.moves;
 }
 
@@ -39,7 +39,7 @@ abbrev pub stretch_to : {R : Type 0} {G : Ghosts R} (x z : Stand G) (answered : 
     Living x z answered → Input Bytes → Record Bytes → Stretch
 stretch_to x z answered l input left = record {
   member = (membership_of x.replica).me;
-  deeds = deeds_of l.moves ++ Stops input left ∷ [];
+  trace = trace_of l.moves ++ Stops input left ∷ [];
   gave = came_by l.moves ++ given_in l.last;
 }
 
@@ -50,14 +50,14 @@ LivesAreStretches G =
     (x z : Stand G) (answered : Option NodeFault) (l : Living x z answered) →
     (membership_of x.replica).me < (membership_of x.replica).members →
     IsStretch (group (membership_of x.replica)) (state_in x.replica) (stretch_of x z answered l) ×
-    (l.then ≡ led_to (state_in x.replica) (deeds_of l.moves)) ×
+    (l.then ≡ led_to (state_in x.replica) (trace_of l.moves)) ×
     ((left : Record Bytes) → G.may_leave (records_of z.replica) left →
     (input : Input Bytes) ×
     IsStretch (group (membership_of x.replica)) (state_in x.replica) (stretch_to x z answered l input left))
 
 -- the same stretch, begun by an opening of what the record was left as
 abbrev pub opened : Stretch → Stretch
-opened x = record x { deeds = Opens ∷ x.deeds }
+opened x = record x { trace = Opens ∷ x.trace }
 
 -- what a member lived from an opening on is a stretch from wherever it stood before, running or stopped
 abbrev pub OpeningsAreStretches : Type 0
@@ -80,6 +80,6 @@ LivesGo G =
     (g : Group) → IsGroup g → (from to : (m : ℕ) → Stand G) (answered : (m : ℕ) → Option NodeFault)
     (lives : (m : ℕ) → m < g.members → Living (from m) (to m) (answered m)) →
     ((m : ℕ) → m < g.members → IsNew g m (from m)) →
-    (stretches : List Stretch) → ((m : ℕ) (it : m < g.members) → deeds_in m stretches ≡ deeds_of (lives m it).moves) →
+    (stretches : List Stretch) → ((m : ℕ) (it : m < g.members) → trace_in m stretches ≡ trace_of (lives m it).moves) →
     AreStretches g stretches → AreCarried g stretches [] →
     Goes g stretches × ((m : ℕ) (it : m < g.members) → stand stretches m ≡ (lives m it).then)

@@ -40,7 +40,7 @@ PacketsCarry n run ((m, During (Went to bytes)) ∷ xs) handed = (m < n) × Pack
 
 -- a run of the member with a key, over a socket over which this went: it seals as this member
 pub record IsSealed (g : Group) (m : ℕ) (r : Run Keyed) (events : List SocketEvent) : Type 0 where
-  pub ran : RanSealed g r.key.keys r.key.sealer m r.first events r.deeds r.end r.unanswered
+  pub ran : RanSealed g r.key.keys r.key.sealer m r.first events r.trace r.end r.unanswered
   pub me : r.key.sealer.me ≡ m
 
 -- These are the members' runs over such sockets, each over its own, the first of each over a new store. No two runs of

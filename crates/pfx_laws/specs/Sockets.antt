@@ -33,7 +33,7 @@ SocketsCarry g ((m, During (Went to bytes)) ∷ xs) handed =
 
 -- a run of the member without a key, over a socket over which this went
 abbrev pub IsRun : Group → (m : ℕ) → Run (Unit {0}) → List SocketEvent → Type 0
-IsRun g m r events = RanAt g m r.first events r.deeds r.end r.unanswered
+IsRun g m r events = RanAt g m r.first events r.trace r.end r.unanswered
 
 -- These are the members' runs over such sockets, each over its own, the first of each over a new store.
 pub record RanOver (g : Group) (network : Network) (runs : Runs (Unit {0})) : Type 0 where

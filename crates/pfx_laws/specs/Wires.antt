@@ -4,7 +4,7 @@ use Rattle.px_model.specs.Law.{Among}
 use Rattle.px_model.specs.World.{NodeState, nothing_stored, started}
 use Rattle.px_model.specs.Spelling.{Bytes}
 use Rattle.px_wire.specs.Message.{Group}
-use Rattle.px_replica.specs.Lives.{Deed, stopped}
+use Rattle.px_replica.specs.Lives.{TraceEvent, stopped}
 use Rattle.node_loop.specs.Living.{messages_of, AreBrought, sent_by}
 use Rattle.node_loop.specs.Resending.{IsOutside}
 use Rattle.pfx_laws.specs.Clusters.{ClusterEvent}
@@ -13,30 +13,30 @@ use Rattle.pfx_laws.specs.Clusters.{ClusterEvent}
 -- meanwhile. What the wire was handed meanwhile is what the member sent (`sent_by`), and some of that again.
 pub record Stretch : Type 0 where
   pub member : ℕ
-  pub deeds : List Deed
+  pub trace : List TraceEvent
   pub gave : List Bytes
 
 -- in all stretches, what happened to this member
-abbrev pub deeds_in : (member : ℕ) → List Stretch → List Deed
-deeds_in m [] = []
-deeds_in m (x ∷ xs) = if nat_eq m x.member then x.deeds ++ deeds_in m xs else deeds_in m xs
+abbrev pub trace_in : (member : ℕ) → List Stretch → List TraceEvent
+trace_in m [] = []
+trace_in m (x ∷ xs) = if nat_eq m x.member then x.trace ++ trace_in m xs else trace_in m xs
 
 -- how a member stands after what happened to it
-abbrev pub led_to : NodeState Bytes → List Deed → NodeState Bytes
+abbrev pub led_to : NodeState Bytes → List TraceEvent → NodeState Bytes
 led_to s [] = s
-led_to s (Deed.Calls x t out ∷ ds) = led_to t ds
-led_to s (Deed.Stops x left ∷ ds) = led_to (stopped left) ds
-led_to s (Deed.Opens ∷ ds) = led_to (started s.stored) ds
+led_to s (TraceEvent.Calls x t out ∷ ds) = led_to t ds
+led_to s (TraceEvent.Stops x left ∷ ds) = led_to (stopped left) ds
+led_to s (TraceEvent.Opens ∷ ds) = led_to (started s.stored) ds
 
 -- how a member stands after these stretches, of one that began with an empty record
 abbrev pub stand : List Stretch → (member : ℕ) → NodeState Bytes
-stand stretches m = led_to (started nothing_stored) (deeds_in m stretches)
+stand stretches m = led_to (started nothing_stored) (trace_in m stretches)
 
 -- each stretch is one of a member, and each message that came to it there its wire gave it there, in a datagram
 abbrev pub AreStretches : Group → List Stretch → Type 0
 AreStretches g [] = Unit {0}
 AreStretches g (x ∷ xs) =
-    (x.member < g.members) × AreBrought g x.member x.gave (messages_of x.deeds) × AreStretches g xs
+    (x.member < g.members) × AreBrought g x.member x.gave (messages_of x.trace) × AreStretches g xs
 
 -- ---- the network
 
@@ -52,17 +52,17 @@ abbrev pub AreCarried : Group → List Stretch → (handed : List (ℕ × Bytes)
 AreCarried g [] handed = Unit {0}
 AreCarried g (x ∷ xs) handed =
     ((bytes : Bytes) → Among x.gave bytes → IsCarried g handed x.member bytes) ×
-    AreCarried g xs (handed ++ sent_by x.deeds)
+    AreCarried g xs (handed ++ sent_by x.trace)
 
 -- ---- what happens in the cluster
 
 -- what happens to this member
-abbrev pub cluster_event : (member : ℕ) → Deed → ClusterEvent
-cluster_event m (Deed.Calls x t out) = ClusterEvent.Calls m x t out
-cluster_event m (Deed.Stops x left) = ClusterEvent.Stops m x left
-cluster_event m Deed.Opens = ClusterEvent.Opens m
+abbrev pub cluster_event : (member : ℕ) → TraceEvent → ClusterEvent
+cluster_event m (TraceEvent.Calls x t out) = ClusterEvent.Calls m x t out
+cluster_event m (TraceEvent.Stops x left) = ClusterEvent.Stops m x left
+cluster_event m TraceEvent.Opens = ClusterEvent.Opens m
 
 -- what happens to the members in these stretches, in order
 abbrev pub history_of : List Stretch → List ClusterEvent
 history_of [] = []
-history_of (x ∷ xs) = map (cluster_event x.member) x.deeds ++ history_of xs
+history_of (x ∷ xs) = map (cluster_event x.member) x.trace ++ history_of xs

@@ -30,7 +30,7 @@ fn use_lead_plan(position: u32, entry: &Entry, lead: Lead) -> Result<Plan, Alloc
         plan_of n me log v plan ≡ use_lead n me position v (entry_of entry.now) (lead_of lead)) }
 {
     let kept = entry.share()?;
-    let told = entry.share()?;
+    let shared = entry.share()?;
     let attempt = Attempt {
         position,
         ballot: lead.ballot,
@@ -46,7 +46,7 @@ fn use_lead_plan(position: u32, entry: &Entry, lead: Lead) -> Result<Plan, Alloc
             message: Message::Accept {
                 ballot: lead.ballot,
                 position,
-                entry: told,
+                entry: shared,
             },
         },
         next: Next::Leads {

@@ -160,7 +160,7 @@ fn phase_two_plan(
             },
         }),
         Some(entry) => {
-            let told = entry.share()?;
+            let shared = entry.share()?;
             let attempt = Some(Attempt {
                 position,
                 ballot,
@@ -172,7 +172,7 @@ fn phase_two_plan(
                     message: Message::Accept {
                         ballot,
                         position,
-                        entry: told,
+                        entry: shared,
                     },
                 },
                 next: Next::Leads { attempt, lead },

@@ -2,7 +2,7 @@
 use Rattle.std.proofs.Common.{◌≡◌, ℕ, zero, suc, ◌+◌, ◌*◌, ◌<◌, Bool, true, false, cond, ◌⊎◌, inl, inr, List, [], ◌∷◌, ◌++◌, Some, slice_get, eqb, arith, refl, sym, ap, subst, ltb-true, eqb-true, eq-eqb, ne_eqb, lt-suc_self}
 use Rattle.std.proofs.lemmas.Bool.{cond_both, eqb-false}
 use Rattle.px_model.specs.Step.{count, IsMajority, is_majority, put}
-use Rattle.px_model.specs.Node.{Envelope, asker}
+use Rattle.px_model.specs.Node.{Envelope, client}
 use Rattle.px_model.specs.World.{to_members}
 use Rattle.px_model.specs.Law.{Among}
 
@@ -31,7 +31,7 @@ among_get (y ∷ ys) (suc k) x h = inr (among_get ys k x h)
 pub among_to_members : {C : Type 0} (xs : List (Envelope C)) (x : Envelope C) → Among (to_members xs) x → Among xs x
 among_to_members [] x h = absurd h
 among_to_members {C} (y ∷ ys) x h =
-    cond_both (eqb y.addressee asker) (to_members ys) (y ∷ to_members ys) (λ (zs : List (Envelope C)). Among zs x → Among (y ∷ ys) x)
+    cond_both (eqb y.addressee client) (to_members ys) (y ∷ to_members ys) (λ (zs : List (Envelope C)). Among zs x → Among (y ∷ ys) x)
     (λ t b. inr (among_to_members ys x b))
     (λ f b. elim b [ inl is ↦ inl is | inr c ↦ inr (among_to_members ys x c) ]) h
 

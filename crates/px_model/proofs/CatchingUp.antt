@@ -105,9 +105,9 @@ module _ {C : Type 0} (same : C → C → Bool) (n : ℕ) (w : World C) where
   unfolding step on_need
   tells m from p x is = ap (λ (o : Option (Entry C)). Planned (need_of m (w.nodes m).volatile from p o)) is
 
-  is_told : (m from p : ℕ) (x : Entry C) → learned_of w m p ≡ None → front (learned_of w m) ≡ p → p < positions → step_in same n w m (Comes from (Learned p x)) ≡ Planned (learning_plan same (learned_of w m) (w.nodes m).volatile p x)
+  step_learns : (m from p : ℕ) (x : Entry C) → learned_of w m p ≡ None → front (learned_of w m) ≡ p → p < positions → step_in same n w m (Comes from (Learned p x)) ≡ Planned (learning_plan same (learned_of w m) (w.nodes m).volatile p x)
   unfolding step on_learned learn
-  is_told m from p x none at under =
+  step_learns m from p x none at under =
       let log = learned_of w m in
       ap (λ (z : Plan C). Planned z) (if_true (is_none (log p) && in_window (front log) p) _ _
       (and_from (is_none (log p)) (in_window (front log) p)
@@ -118,7 +118,7 @@ module _ {C : Type 0} (same : C → C → Bool) (n : ℕ) (w : World C) where
 -- ---- one position
 
 -- j learned x at the position p, and nothing else was recorded
-pub record Told {C : Type 0} (w w' : World C) (j p : ℕ) (x : Entry C) : Type 0 where
+pub record LearnedAt {C : Type 0} (w w' : World C) (j p : ℕ) (x : Entry C) : Type 0 where
   pub slots : (i : ℕ) → (record_of w' i).slots ≡ (record_of w i).slots
   pub meta : (i : ℕ) → (record_of w' i).meta ≡ (record_of w i).meta
   pub seen : (i : ℕ) → (w'.nodes i).volatile.seen ≡ (w.nodes i).volatile.seen
@@ -130,7 +130,7 @@ there {C} a b p o is at = ap (λ (z : Log C). z p) is ∙ at
 
 module _ {C : Type 0} (w : World C) (j : ℕ) (input : Input C) (v : Volatile C) (p : ℕ) (x : Entry C) where
   -- what stays where j learns
-  pub learns : v.waiting ≡ [] → v.seen ≡ (w.nodes j).volatile.seen → Told w (moved w j input (Some (NewLearned p x)) true v []) j p x
+  pub learns : v.waiting ≡ [] → v.seen ≡ (w.nodes j).volatile.seen → LearnedAt w (moved w j input (Some (NewLearned p x)) true v []) j p x
   learns idle_ seen =
       let is = now w j input (Some (NewLearned p x)) v [] in
       record {
@@ -141,8 +141,8 @@ module _ {C : Type 0} (w : World C) (j : ℕ) (input : Input C) (v : Volatile C)
         learned = ap (λ (z : NodeState C). z.stored.learned p) is ∙ put_same (learned_of w j) p (Some x);
       }
 
-told_later : {C : Type 0} (w w1 w2 : World C) (j p : ℕ) (x : Entry C) → ((i : ℕ) → record_of w1 i ≡ record_of w i) → ((i : ℕ) → (w1.nodes i).volatile ≡ (w.nodes i).volatile) → Told w1 w2 j p x → Told w w2 j p x
-told_later {C} w w1 w2 j p x stored volatile t = record {
+learned_later : {C : Type 0} (w w1 w2 : World C) (j p : ℕ) (x : Entry C) → ((i : ℕ) → record_of w1 i ≡ record_of w i) → ((i : ℕ) → (w1.nodes i).volatile ≡ (w.nodes i).volatile) → LearnedAt w1 w2 j p x → LearnedAt w w2 j p x
+learned_later {C} w w1 w2 j p x stored volatile t = record {
   slots = λ i. t.slots i ∙ ap (λ (d : Record C). d.slots) (stored i);
   meta = λ i. t.meta i ∙ ap (λ (d : Record C). d.meta) (stored i);
   seen = λ i. t.seen i ∙ ap (λ (v : Volatile C). v.seen) (volatile i);
@@ -152,18 +152,18 @@ told_later {C} w w1 w2 j p x stored volatile t = record {
 
 module _ {C : Type 0} (same : C → C → Bool) (exact : IsEquality same) (n : ℕ) (small : n ≤ 15) (since : ℕ) (clocks members : ℕ → Bool) (m : ℕ) (member : m < n) (belongs : members m ≡ true) (j : ℕ) (lt : j < n) (q : members j ≡ true) (clock : clocks j ≡ true) where
   -- m's answer comes
-  answered_ : (w : World C) → Live n since members w → (w.nodes j).volatile.waiting ≡ [] → (x : Entry C) → front (learned_of w j) < positions → IsFresh since w.sent (record { sender = m; addressee = j; message = Learned (front (learned_of w j)) x }) → Reaches same n since clocks members w 1 (λ z. Told w z j (front (learned_of w j)) x)
+  answered_ : (w : World C) → Live n since members w → (w.nodes j).volatile.waiting ≡ [] → (x : Entry C) → front (learned_of w j) < positions → IsFresh since w.sent (record { sender = m; addressee = j; message = Learned (front (learned_of w j)) x }) → Reaches same n since clocks members w 1 (λ z. LearnedAt w z j (front (learned_of w j)) x)
   answered_ w l idle_ x under sent =
       let p = front (learned_of w j) in
       let v = (w.nodes j).volatile in
       let back : Input C = Comes m (Learned p x) in
       let learning = learning_plan same (learned_of w j) v p x in
       let w' = after w j back learning in
-      deliver same exact n small since clocks members w m j (Learned p x) learning 0 (λ z. Told w z j p x) l lt belongs q sent (is_told same n w j m p x (at_front (learned_of w j) under) refl under) (λ l'.
-      already same exact n small since clocks members w' 0 (λ z. Told w z j p x) (learns w j back learning.volatile p x (ap (λ (ws : List (Entry C)). without same x ws) idle_) refl))
+      deliver same exact n small since clocks members w m j (Learned p x) learning 0 (λ z. LearnedAt w z j p x) l lt belongs q sent (step_learns same n w j m p x (at_front (learned_of w j) under) refl under) (λ l'.
+      already same exact n small since clocks members w' 0 (λ z. LearnedAt w z j p x) (learns w j back learning.volatile p x (ap (λ (ws : List (Entry C)). without same x ws) idle_) refl))
 
   -- m is asked
-  asked_ : (w : World C) → Live n since members w → (w.nodes j).volatile.waiting ≡ [] → (x : Entry C) → learned_of w m (front (learned_of w j)) ≡ Some x → front (learned_of w j) < positions → IsFresh since w.sent (record { sender = j; addressee = m; message = Need (front (learned_of w j)) }) → Reaches same n since clocks members w 2 (λ z. Told w z j (front (learned_of w j)) x)
+  asked_ : (w : World C) → Live n since members w → (w.nodes j).volatile.waiting ≡ [] → (x : Entry C) → learned_of w m (front (learned_of w j)) ≡ Some x → front (learned_of w j) < positions → IsFresh since w.sent (record { sender = j; addressee = m; message = Need (front (learned_of w j)) }) → Reaches same n since clocks members w 2 (λ z. LearnedAt w z j (front (learned_of w j)) x)
   asked_ w l idle_ x known under sent =
       let p = front (learned_of w j) in
       let v = (w.nodes m).volatile in
@@ -175,15 +175,15 @@ module _ {C : Type 0} (same : C → C → Bool) (exact : IsEquality same) (n : �
       let volatile = volatile_stays w m come None answer.sends in
       let at : learned_of w' j ≡ learned_of w j = ap (λ (d : Record C). d.learned) (stored j) in
       let front_at : front (learned_of w' j) ≡ p = ap (λ (z : Log C). front z) at in
-      deliver same exact n small since clocks members w j m (Need p) answer 1 (λ z. Told w z j p x) l member q belongs sent (tells same n w m j p x known) (λ l'.
-      weaker same exact n small since clocks members w' 1 1 (λ z. Told w' z j (front (learned_of w' j)) x) (λ z. Told w z j p x) (omega arith)
-      (λ z t. told_later w w' z j p x stored volatile (subst (λ (k : ℕ). Told w' z j k x) front_at t))
+      deliver same exact n small since clocks members w j m (Need p) answer 1 (λ z. LearnedAt w z j p x) l member q belongs sent (tells same n w m j p x known) (λ l'.
+      weaker same exact n small since clocks members w' 1 1 (λ z. LearnedAt w' z j (front (learned_of w' j)) x) (λ z. LearnedAt w z j p x) (omega arith)
+      (λ z t. learned_later w w' z j p x stored volatile (subst (λ (k : ℕ). LearnedAt w' z j k x) front_at t))
       (answered_ w' l' (ap (λ (z : Volatile C). z.waiting) (volatile j) ∙ idle_) x (omega arith)
       (subst (λ (k : ℕ). IsFresh since w'.sent (record { sender = m; addressee = j; message = Learned k x })) (sym front_at) (sent_one w m come n small since l.sent None v saying j lt))))
 
   -- j's clock ticks
-  pub told : (w : World C) → Live n since members w → (w.nodes j).volatile.waiting ≡ [] → (x : Entry C) → learned_of w m (front (learned_of w j)) ≡ Some x → front (learned_of w j) < positions → Reaches same n since clocks members w 3 (λ z. Told w z j (front (learned_of w j)) x)
-  told w l idle_ x known under =
+  pub learned_next : (w : World C) → Live n since members w → (w.nodes j).volatile.waiting ≡ [] → (x : Entry C) → learned_of w m (front (learned_of w j)) ≡ Some x → front (learned_of w j) < positions → Reaches same n since clocks members w 3 (λ z. LearnedAt w z j (front (learned_of w j)) x)
+  learned_next w l idle_ x known under =
       let p = front (learned_of w j) in
       let v = (w.nodes j).volatile in
       let asking : Message C = Need p in
@@ -194,9 +194,9 @@ module _ {C : Type 0} (same : C → C → Bool) (exact : IsEquality same) (n : �
       let at : learned_of w' j ≡ learned_of w j = ap (λ (d : Record C). d.learned) (stored j) in
       let front_at : front (learned_of w' j) ≡ p = ap (λ (z : Log C). front z) at in
       let known' : learned_of w' m (front (learned_of w' j)) ≡ Some x = subst (λ (k : ℕ). learned_of w' m k ≡ Some x) (sym front_at) (there (learned_of w' m) (learned_of w m) p (Some x) (ap (λ (d : Record C). d.learned) (stored m)) known) in
-      tick same exact n small since clocks members w j plan 2 (λ z. Told w z j p x) l lt q clock (asks same n w j idle_ under) (λ l'.
-      weaker same exact n small since clocks members w' 2 2 (λ z. Told w' z j (front (learned_of w' j)) x) (λ z. Told w z j p x) (omega arith)
-      (λ z t. told_later w w' z j p x stored volatile (subst (λ (k : ℕ). Told w' z j k x) front_at t))
+      tick same exact n small since clocks members w j plan 2 (λ z. LearnedAt w z j p x) l lt q clock (asks same n w j idle_ under) (λ l'.
+      weaker same exact n small since clocks members w' 2 2 (λ z. LearnedAt w' z j (front (learned_of w' j)) x) (λ z. LearnedAt w z j p x) (omega arith)
+      (λ z t. learned_later w w' z j p x stored volatile (subst (λ (k : ℕ). LearnedAt w' z j k x) front_at t))
       (asked_ w' l' (ap (λ (z : Volatile C). z.waiting) (volatile j) ∙ idle_) x known' (omega arith)
       (subst (λ (k : ℕ). IsFresh since w'.sent (record { sender = j; addressee = m; message = Need k })) (sym front_at) (sent_all w j Ticks n small since l.sent None v asking m member))))
 
@@ -213,15 +213,15 @@ module _ {C : Type 0} (same : C → C → Bool) (exact : IsEquality same) (n : �
             let under : p < positions = (let u = front_within (learned_of w m) in omega arith) in
             let known = below_front (learned_of w m) p (omega arith) in
             weaker same exact n small since clocks members w (3 + 3 * d) (3 * suc d) P P (omega arith) (λ z g. g)
-            (then same exact n small since clocks members w 3 (3 * d) (λ z. Told w z j p known.0 × Keeps w z) P l
-            (keeping same exact n small since clocks members w 3 (λ z. Told w z j p known.0) l (told w l idle_ known.0 known.1 under))
+            (then same exact n small since clocks members w 3 (3 * d) (λ z. LearnedAt w z j p known.0 × Keeps w z) P l
+            (keeping same exact n small since clocks members w 3 (λ z. LearnedAt w z j p known.0) l (learned_next w l idle_ known.0 known.1 under))
             (λ w' l' a.
             let rises = front_passed w w' a.1 j known.0 under a.0.learned in
             catches_up goal d w' l' a.0.waiting (omega arith) (front_stays w w' a.1 m goal passed)))
       ]
 
-  pub all_told : (w : World C) → Live n since members w → (w.nodes j).volatile.waiting ≡ [] → Reaches same n since clocks members w (3 * (front (learned_of w m) - front (learned_of w j))) (λ z. front (learned_of w m) ≤ front (learned_of z j))
-  all_told w l idle_ = catches_up (front (learned_of w m)) (front (learned_of w m) - front (learned_of w j)) w l idle_ (omega arith) (omega arith)
+  pub all_learned : (w : World C) → Live n since members w → (w.nodes j).volatile.waiting ≡ [] → Reaches same n since clocks members w (3 * (front (learned_of w m) - front (learned_of w j))) (λ z. front (learned_of w m) ≤ front (learned_of z j))
+  all_learned w l idle_ = catches_up (front (learned_of w m)) (front (learned_of w m) - front (learned_of w j)) w l idle_ (omega arith) (omega arith)
 
 pub member_catches_up : {C : Type 0} → CatchesUp C
 member_catches_up {C} same exact n some small events k m lk lm uk um idle_ =
@@ -230,7 +230,7 @@ member_catches_up {C} same exact n some small events k m lk lm uk um idle_ =
     let mine : both k ≡ true = if_true (eqb k k) _ _ (eq-eqb k k refl) in
     let its : both m ≡ true = cond_both (eqb m k) true (eqb m m) (λ (b : Bool). b ≡ true) (λ t. refl) (λ f. eq-eqb m m refl) in
     all_new same n (only k) both w _ _
-    (all_told same exact n small (length w.sent) (only k) both m lm its k lk mine (eq-eqb k k refl) w (record {
+    (all_learned same exact n small (length w.sent) (only k) both m lm its k lk mine (eq-eqb k k refl) w (record {
       good = always_good same exact n small events;
       up = λ i lt q. elim (yes_no (eqb i k)) [
         | inl t ↦ subst (λ (a : ℕ). (w.nodes a).is_up ≡ true) (sym (eqb-true i k t)) uk

@@ -2,12 +2,12 @@
 use Rattle.std.proofs.Common.{◌≡◌, ℕ, ◌+◌, ◌^◌, ◌<◌, ◌≤◌, max, Bool, true, cond, ◌&&◌, inl, inr, List, [], ◌∷◌, length, Option, Some, None, IfSome, is_none, arith, refl, sym, subst, ◌∙◌, eqb, ltb, leb, eqb-true, ltb-true, ltb-false, leb-false}
 use Rattle.std.proofs.lemmas.Bool.{cond_both, and_parts, eqb-false}
 use Rattle.px_model.specs.Node as node
-use Rattle.px_model.specs.Node.{Entry, Proposal, Record, Phase, Attempt, Lead, Volatile, Envelope, Input, Plan, Answer, ballot_of, asker}
+use Rattle.px_model.specs.Node.{Entry, Proposal, Record, Phase, Attempt, Lead, Volatile, Envelope, Input, Plan, Answer, ballot_of, client}
 use Rattle.px_model.specs.Node.Phase.{Preparing, Accepting}
 use Rattle.px_model.specs.Node.Message.{Prepare, Promise, PrepareAll, PromiseAll, Accept, Vote, Nack, Need, Learned, Asked, AskRefused}
 use Rattle.px_model.specs.Node.Input.{Asks, Ticks, Comes}
 use Rattle.px_model.specs.Node.Answer.{Refused, Planned}
-use Rattle.px_model.specs.Step.{put, positions, promised_at, top, front, in_window, to_all, entry_for, taken_in, on_ask, ask_answered, next_round, new_round, use_lead, propose, tick_for, on_tick, on_prepare, on_prepare_all, on_accept, better, choice, phase_two, gathered, promise_in, promise_to, on_promise_all, learn, keep, with_vote, on_vote, on_learned, need_of, on_need, on_nack, is_majority, position_of, step}
+use Rattle.px_model.specs.Step.{put, positions, promised_at, top, front, in_window, to_all, entry_for, queued, on_ask, ask_answered, next_round, new_round, use_lead, propose, tick_for, on_tick, on_prepare, on_prepare_all, on_accept, better, choice, phase_two, gathered, promise_in, promise_to, on_promise_all, learn, keep, with_vote, on_vote, on_learned, need_of, on_need, on_nack, is_majority, position_of, step}
 use Rattle.px_model.specs.World.{NodeState, step_of}
 use Rattle.px_model.specs.Law.{Among}
 use Rattle.px_model.specs.Fits.{IsNumber, IsPosition, IsBallot, IsBallotOf, IsPromise, EntryFits, ProposalFits, ReportFits, InputFits, PhaseFits, AttemptFits, LeadFits, VolatileFits, NodeFits, SendsFit, AnswerFits}
@@ -261,11 +261,11 @@ module _ {C : Type 0} (S : C → Type 0) (n : ℕ) (small : n ≤ 15) (me : ℕ)
 
   -- ---- a command is asked
 
-  abbrev Told : (token : ℕ) → Answer C → Type 0
-  Told token a = FinePlan (ask_answered me token d.meta.number v a)
+  abbrev FitsAnswered : (token : ℕ) → Answer C → Type 0
+  FitsAnswered token a = FinePlan (ask_answered me token d.meta.number v a)
 
-  taken_fits : (c : C) → S c → length v.waiting < 64 → IsNumber d.meta.number → (sends : List (Envelope C)) → SendsFit S n me sends → FinePlan (record { change = (taken_in me d.meta v c).change; volatile = (taken_in me d.meta v c).volatile; sends = sends })
-  taken_fits c fits room low sends sent = record {
+  queued_fits : (c : C) → S c → length v.waiting < 64 → IsNumber d.meta.number → (sends : List (Envelope C)) → SendsFit S n me sends → FinePlan (record { change = (queued me d.meta v c).change; volatile = (queued me d.meta v c).volatile; sends = sends })
+  queued_fits c fits room low sends sent = record {
     change = omega arith;
     sends = sent;
     state = record {
@@ -287,7 +287,7 @@ module _ {C : Type 0} (S : C → Type 0) (n : ℕ) (small : n ≤ 15) (me : ℕ)
   }
 
   -- whatever holds of the refusals and of the plan holds of the answer
-  ask_cases : (P : Answer C → Type 0) (c : C) → P (Refused 60) → P (Refused 62) → (length v.waiting < 64 → IsNumber d.meta.number → P (Planned (taken_in me d.meta v c))) → P (on_ask me d.meta d.learned v c)
+  ask_cases : (P : Answer C → Type 0) (c : C) → P (Refused 60) → P (Refused 62) → (length v.waiting < 64 → IsNumber d.meta.number → P (Planned (queued me d.meta v c))) → P (on_ask me d.meta d.learned v c)
   unfolding on_ask
   ask_cases P c full spent planned =
       cond_both (leb 64 (length v.waiting)) _ _ P (λ t. full)
@@ -296,14 +296,14 @@ module _ {C : Type 0} (S : C → Type 0) (n : ℕ) (small : n ≤ 15) (me : ℕ)
       (λ f3. planned (let a = leb-false 64 (length v.waiting) f in omega arith) (let b = leb-false (2 ^ 48) d.meta.number f3 in omega arith))))
 
   ask_fits : (c : C) → S c → Fine (on_ask me d.meta d.learned v c)
-  ask_fits c fits = ask_cases Fine c (record { change = tt; sends = nothing_sent; state = g }) (record { change = tt; sends = nothing_sent; state = g }) (λ room low. taken_fits c fits room low [] nothing_sent)
+  ask_fits c fits = ask_cases Fine c (record { change = tt; sends = nothing_sent; state = g }) (record { change = tt; sends = nothing_sent; state = g }) (λ room low. queued_fits c fits room low [] nothing_sent)
 
-  told_fits : (token : ℕ) (c : C) → IsNumber token → S c → Told token (on_ask me d.meta d.learned v c)
-  told_fits token c low fits =
-      ask_cases (Told token) c
-      (says v _ g.volatile (one_fits S n me asker (AskRefused token 60) (record { between = (member, refl); message = (low, inl refl) })))
-      (says v _ g.volatile (one_fits S n me asker (AskRefused token 62) (record { between = (member, refl); message = (low, inr refl) })))
-      (λ room number. taken_fits c fits room number _ (one_fits S n me asker (Asked token d.meta.number) (record { between = (member, refl); message = (low, number) })))
+  ask_answered_fits : (token : ℕ) (c : C) → IsNumber token → S c → FitsAnswered token (on_ask me d.meta d.learned v c)
+  ask_answered_fits token c low fits =
+      ask_cases (FitsAnswered token) c
+      (says v _ g.volatile (one_fits S n me client (AskRefused token 60) (record { between = (member, refl); message = (low, inl refl) })))
+      (says v _ g.volatile (one_fits S n me client (AskRefused token 62) (record { between = (member, refl); message = (low, inr refl) })))
+      (λ room number. queued_fits c fits room number _ (one_fits S n me client (Asked token d.meta.number) (record { between = (member, refl); message = (low, number) })))
 
   -- ---- all cases
 
@@ -321,7 +321,7 @@ module _ {C : Type 0} (S : C → Type 0) (n : ℕ) (small : n ≤ 15) (me : ℕ)
   step_fits_with same t within (Comes from (Nack b p q)) fits = nack_fits b p q fits.message.2
   step_fits_with same t within (Comes from (Need p)) fits = need_fits from p fits.between.0 fits.message
   step_fits_with same t within (Comes from (Learned p e)) fits = learned_fits same p e fits.message.0 fits.message.1
-  step_fits_with same t within (Comes from (node.Message.Ask u c)) fits = told_fits u c fits.message.0 fits.message.1
+  step_fits_with same t within (Comes from (node.Message.Ask u c)) fits = ask_answered_fits u c fits.message.0 fits.message.1
   step_fits_with same t within (Comes from (Asked u k)) fits = idle_fits v g.volatile
   step_fits_with same t within (Comes from (AskRefused u k)) fits = idle_fits v g.volatile
 

@@ -40,8 +40,8 @@ others_that_fit = record {
   nobody = λ g. (let u = g.between.1 in absurd (omega arith));
   from_outside = record { between = (refl, omega arith); message = (omega arith, refl) };
   from_a_member = λ g. (let u = g.between.0 in absurd (omega arith));
-  told = record { between = (omega arith, refl); message = (omega arith, omega arith) };
-  told_a_member = λ g. (let u = g.between.1 in absurd (omega arith));
+  answers_a_client = record { between = (omega arith, refl); message = (omega arith, omega arith) };
+  answers_a_member = λ g. (let u = g.between.1 in absurd (omega arith));
   refused = record { between = (omega arith, refl); message = (omega arith, inr refl) };
   refused_otherwise = λ g. elim g.message.1 [ inl u ↦ absurd (omega arith) | inr u ↦ absurd (omega arith) ];
 }

@@ -13,14 +13,14 @@ use Rattle.px_model.proofs.Plans.{front_within, below_front}
 use Rattle.px_model.proofs.Runs.{always_good}
 use Rattle.px_model.proofs.Going.{Live, Reaches, all_new, already, weaker, then, each}
 use Rattle.px_model.proofs.Attempts.{AllUpTo, up_to_weaker}
-use Rattle.px_model.proofs.CatchingUp.{Keeps, keeping, front_kept, front_passed, Told, told}
+use Rattle.px_model.proofs.CatchingUp.{Keeps, keeping, front_kept, front_passed, LearnedAt, learned_next}
 use Rattle.px_model.proofs.Finishing.{Attempted, attempt, Finished, finish, learned_low}
 
 -- ---- a member goes one position on
 
 -- a member that learned something got no further in anything else
-up_to_told : {C : Type 0} (n : ℕ) (members : ℕ → Bool) (top r : ℕ) (w w' : World C) (j p : ℕ) (x : Entry C) → Told w w' j p x → AllUpTo n members top r w → AllUpTo n members top r w'
-up_to_told {C} n members top r w w' j p x t all k lt q =
+up_to_one_more : {C : Type 0} (n : ℕ) (members : ℕ → Bool) (top r : ℕ) (w w' : World C) (j p : ℕ) (x : Entry C) → LearnedAt w w' j p x → AllUpTo n members top r w → AllUpTo n members top r w'
+up_to_one_more {C} n members top r w w' j p x t all k lt q =
     let g = all k lt q in
     let slots = t.slots k in
     let meta = t.meta k in
@@ -45,9 +45,9 @@ module _ {C : Type 0} (same : C → C → Bool) (exact : IsEquality same) (n : �
       let p = front (learned_of w j) in
       let under : p < positions = (let u = front_within (learned_of w m) in omega arith) in
       let known = below_front (learned_of w m) p behind in
-      weaker same exact n small since members members w 3 3 (λ z. Told w z j p known.0) (At j p r) (omega arith)
-      (λ z t. (up_to_told n members top r w z j p known.0 t up_to, (known.0, t.learned)))
-      (told same exact n small since members members m member belongs j lt q q w l idle_ known.0 known.1 under)
+      weaker same exact n small since members members w 3 3 (λ z. LearnedAt w z j p known.0) (At j p r) (omega arith)
+      (λ z t. (up_to_one_more n members top r w z j p known.0 t up_to, (known.0, t.learned)))
+      (learned_next same exact n small since members members m member belongs j lt q q w l idle_ known.0 known.1 under)
 
   -- j waits: it makes an attempt
   tries : (j : ℕ) → j < n → members j ≡ true → (r : ℕ) (e : Entry C) (rest : List (Entry C)) (w : World C) → Live n since members w → (w.nodes j).volatile.waiting ≡ e ∷ rest → front (learned_of w j) < front (learned_of w m) → AllUpTo n members top r w → r + 2 < 2 ^ 48 → Goes w (6 * n + 3) (At j (front (learned_of w j)) (r + 2))

@@ -1,7 +1,7 @@
 -- Going on from a world by ticks and messages within a group: steps one after another, and what stays meanwhile.
 use Rattle.std.proofs.Common.{◌≡◌, ℕ, zero, suc, ◌+◌, ◌-◌, ◌*◌, ◌<◌, ◌≤◌, Bool, true, false, cond, ◌&&◌, inl, inr, List, [], ◌∷◌, ◌++◌, length, Option, Some, None, slice_get, arith, refl, sym, ap, subst, ◌∙◌, eqb, ltb, lt-ltb, ltb-true, ltb-false, ne_eqb, length-append}
 use Rattle.std.proofs.lemmas.Bool.{cond_both, and_from}
-use Rattle.px_model.specs.Node.{IsEquality, Message, Envelope, Input, Plan, Answer, asker}
+use Rattle.px_model.specs.Node.{IsEquality, Message, Envelope, Input, Plan, Answer, client}
 use Rattle.px_model.specs.Node.Input.{Ticks, Comes}
 use Rattle.px_model.specs.Node.Answer.{Refused, Planned}
 use Rattle.px_model.specs.Step.{to_all}
@@ -25,16 +25,16 @@ get_among {X} (y ∷ ys) x a =
       | inr t ↦ (let r = get_among ys x t in (suc r.0, r.1))
     ]
 
-pub kept_for_members : {C : Type 0} (xs : List (Envelope C)) (x : Envelope C) → (x.addressee ≡ asker → ⊥) → Among xs x → Among (to_members xs) x
+pub kept_for_members : {C : Type 0} (xs : List (Envelope C)) (x : Envelope C) → (x.addressee ≡ client → ⊥) → Among xs x → Among (to_members xs) x
 kept_for_members [] x ne a = absurd a
 kept_for_members {C} (y ∷ ys) x ne a =
     elim a [
       | inl is ↦
-          let other : eqb y.addressee asker ≡ false = subst (λ (z : Envelope C). eqb z.addressee asker ≡ false) (sym is) (ne_eqb x.addressee asker ne) in
+          let other : eqb y.addressee client ≡ false = subst (λ (z : Envelope C). eqb z.addressee client ≡ false) (sym is) (ne_eqb x.addressee client ne) in
           subst (λ (b : Bool). Among (cond b (to_members ys) (y ∷ to_members ys)) x) (sym other) (inl is)
       | inr t ↦
           let rest = kept_for_members ys x ne t in
-          cond_both (eqb y.addressee asker) (to_members ys) (y ∷ to_members ys) (λ (zs : List (Envelope C)). Among zs x) (λ e. rest) (λ e. inr rest)
+          cond_both (eqb y.addressee client) (to_members ys) (y ∷ to_members ys) (λ (zs : List (Envelope C)). Among zs x) (λ e. rest) (λ e. inr rest)
     ]
 
 pub among_all : {C : Type 0} (n m k : ℕ) (x : Message C) → k < n → Among (to_all n m x) (record { sender = m; addressee = k; message = x })

@@ -30,7 +30,7 @@
 -- | `Replies` | what a member answers in an attempt that succeeds, as a plan |
 -- | `Attempts`, `Promising`, `Voting` | one attempt: a round begins (`begin`), the refusals raise the round (`all_refuse`), the group promises (`all_promise`), accepts and votes (`all_vote`) |
 -- | `Finishing` | `attempt`: the member's front is learned; the law `never_stuck` by a measure, the positions left (`finish`) |
--- | `CatchingUp` | what is learned stays learned (`keeping`); a member at which nothing waits is sent the entry of a position (`told`); the law `catches_up` |
+-- | `CatchingUp` | what is learned stays learned (`keeping`); a member at which nothing waits is sent the entry of a position (`learned_next`); the law `catches_up` |
 -- | `Following` | a member of the group that is behind is sent an entry, or makes an attempt (`advances`); the law `all_learn` |
 -- | `ProgressCases` | two worked cases of progress |
 -- | `Weaker` | for the crates above: what fits by one predicate on commands fits by another (`entry_passes`, `slot_passes`, `log_weaker`, `change_weaker`) |

@@ -41,7 +41,7 @@ pub nothing_is_learned_twice : NothingIsLearnedTwice
 unfolding happens front first_gap top_below step on_ask on_tick new_round use_lead on_prepare on_prepare_all on_accept on_promise_all gathered on_nack on_need on_vote with_vote on_learned learn
 nothing_is_learned_twice = record {
   vote = refl;
-  told = refl;
+  hears_learned = refl;
 }
 
 pub a_promise_here_binds_too : APromiseHereBindsToo

@@ -79,22 +79,22 @@ module _ {C : Type 0} (same : C → C → Bool) (exact : IsEquality same) (n : �
   }
 
   -- m counts a promise
-  heard : (j : ℕ) (w : World C) → Live n since members w → (said : Message C) (told : ℕ) (report : Option (Proposal C)) → j < n → members j ≡ true → IsFresh since w.sent (record { sender = j; addressee = m; message = said }) → learned_of w m ≡ log → (w.nodes m).volatile.waiting ≡ e ∷ rest → AllUpTo n members top_ r w → ((k : ℕ) → k < n → IsFresh since w.sent (record { sender = m; addressee = k; message = PrepareAll b (front log) })) → ((k : ℕ) → k < n → members k ≡ true → promised_in w k (front log) ≤ b) → ((k : ℕ) → suc j ≤ k → k < n → members k ≡ true → promised_in w k (front log) < b) → (old : ℕ → Bool) (old_top : ℕ) (old_best : Option (Proposal C)) → said ≡ PromiseAll b (front log) told report → (w.nodes m).volatile.attempt ≡ Some (record { position = front log; ballot = b; phase = Preparing old old_top old_best }) → (top_ ≤ front log → better old_best report ≡ None) → ((k : ℕ) → k < suc j → members k ≡ true → put old j true k ≡ true) → Reaches same n since clocks members w 1 (Gather (suc j))
-  heard j w l said told report lt q sent log_is waits up_to asked within below old old_top old_best saying attempt open_ has =
+  heard : (j : ℕ) (w : World C) → Live n since members w → (said : Message C) (reported_top : ℕ) (report : Option (Proposal C)) → j < n → members j ≡ true → IsFresh since w.sent (record { sender = j; addressee = m; message = said }) → learned_of w m ≡ log → (w.nodes m).volatile.waiting ≡ e ∷ rest → AllUpTo n members top_ r w → ((k : ℕ) → k < n → IsFresh since w.sent (record { sender = m; addressee = k; message = PrepareAll b (front log) })) → ((k : ℕ) → k < n → members k ≡ true → promised_in w k (front log) ≤ b) → ((k : ℕ) → suc j ≤ k → k < n → members k ≡ true → promised_in w k (front log) < b) → (old : ℕ → Bool) (old_top : ℕ) (old_best : Option (Proposal C)) → said ≡ PromiseAll b (front log) reported_top report → (w.nodes m).volatile.attempt ≡ Some (record { position = front log; ballot = b; phase = Preparing old old_top old_best }) → (top_ ≤ front log → better old_best report ≡ None) → ((k : ℕ) → k < suc j → members k ≡ true → put old j true k ≡ true) → Reaches same n since clocks members w 1 (Gather (suc j))
+  heard j w l said reported_top report lt q sent log_is waits up_to asked within below old old_top old_best saying attempt open_ has =
       let p = front log in
       let v = (w.nodes m).volatile in
-      let come : Input C = Comes j (PromiseAll b p told report) in
+      let come : Input C = Comes j (PromiseAll b p reported_top report) in
       let counted = put old j true in
-      let counted_top = cond (old j) old_top (max old_top told) in
+      let counted_top = cond (old j) old_top (max old_top reported_top) in
       let best = better old_best report in
-      let is = counts same n w m j b p told old_top report old_best old attempt in
-      let arrives : IsFresh since w.sent (record { sender = j; addressee = m; message = PromiseAll b p told report }) = subst (λ (x : Message C). IsFresh since w.sent (record { sender = j; addressee = m; message = x })) saying sent in
+      let is = counts same n w m j b p reported_top old_top report old_best old attempt in
+      let arrives : IsFresh since w.sent (record { sender = j; addressee = m; message = PromiseAll b p reported_top report }) = subst (λ (x : Message C). IsFresh since w.sent (record { sender = j; addressee = m; message = x })) saying sent in
       elim (yes_no (is_majority n counted)) [
         | inl many ↦
             let x = has_choice best v.waiting e rest waits in
             let plan = proposing_plan n m v b p (max (p + 1) counted_top) x.0 in
             let w' = after w m come plan in
-            deliver same exact n small since clocks members w j m (PromiseAll b p told report) plan 0 (Gather (suc j)) l member q belongs arrives (is ∙ ap (λ (z : Plan C). Planned z) (proposes n m v b p counted counted_top best x.0 many x.1)) (λ l'.
+            deliver same exact n small since clocks members w j m (PromiseAll b p reported_top report) plan 0 (Gather (suc j)) l member q belongs arrives (is ∙ ap (λ (z : Plan C). Planned z) (proposes n m v b p counted counted_top best x.0 many x.1)) (λ l'.
             already same exact n small since clocks members w' 0 (Gather (suc j)) (record {
               log_is = log_stays w m come None plan.volatile plan.sends refl m ∙ log_is;
               waits = ap (λ (z : NodeState C). z.volatile.waiting) (now w m come None plan.volatile plan.sends) ∙ waits;
@@ -111,7 +111,7 @@ module _ {C : Type 0} (same : C → C → Bool) (exact : IsEquality same) (n : �
         | inr few ↦
             let plan = counted_plan v b p counted counted_top best in
             let w' = after w m come plan in
-            deliver same exact n small since clocks members w j m (PromiseAll b p told report) plan 0 (Gather (suc j)) l member q belongs arrives (is ∙ ap (λ (z : Plan C). Planned z) (gathers n m v b p counted counted_top best few)) (λ l'.
+            deliver same exact n small since clocks members w j m (PromiseAll b p reported_top report) plan 0 (Gather (suc j)) l member q belongs arrives (is ∙ ap (λ (z : Plan C). Planned z) (gathers n m v b p counted counted_top best few)) (λ l'.
             already same exact n small since clocks members w' 0 (Gather (suc j)) (record {
               log_is = log_stays w m come None plan.volatile plan.sends refl m ∙ log_is;
               waits = ap (λ (z : NodeState C). z.volatile.waiting) (now w m come None plan.volatile plan.sends) ∙ waits;
@@ -148,9 +148,9 @@ module _ {C : Type 0} (same : C → C → Bool) (exact : IsEquality same) (n : �
             let p = front log in
             let d = record_of w j in
             let come : Input C = Comes m (PrepareAll b p) in
-            let told = top d.slots in
+            let reported_top = top d.slots in
             let report = (d.slots p).accepted in
-            let said : Message C = PromiseAll b p told report in
+            let said : Message C = PromiseAll b p reported_top report in
             let vj = (w.nodes j).volatile in
             let plan = answered (Some (NewFloor b)) vj j m said in
             let w1 = after w j come plan in
@@ -168,7 +168,7 @@ module _ {C : Type 0} (same : C → C → Bool) (exact : IsEquality same) (n : �
             let open1 : top_ ≤ p → best ≡ None = λ over. none_better c.best report (c.open_ over) ((g.up_to j lt q).accepted p over under) in
             let has1 : (k : ℕ) → k < suc j → members k ≡ true → counted k ≡ true = put_all (λ (k : ℕ) (z : Bool). k < suc j → members k ≡ true → z ≡ true) c.counted j true (λ klt kq. refl) (λ k ne klt kq. c.has k (omega arith) kq) in
             deliver same exact n small since clocks members w m j (PrepareAll b p) plan 1 (Gather (suc j)) l lt belongs q (g.asked j lt) (promises same n w j m b p less) (λ l1.
-            heard j w1 l1 said told report lt q (sent_one w j come n small since l.sent plan.change vj said m member) log1 waits1 up1 asked1 within1 below1 c.counted c.counted_top c.best refl attempt1 open1 has1)
+            heard j w1 l1 said reported_top report lt q (sent_one w j come n small since l.sent plan.change vj said m member) log1 waits1 up1 asked1 within1 below1 c.counted c.counted_top c.best refl attempt1 open1 has1)
       ]
 
   pub all_promise : (w : World C) → IsMajority n members → Live n since members w → Gather 0 w → Reaches same n since clocks members w (2 * n) (Gather n)

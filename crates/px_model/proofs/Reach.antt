@@ -70,9 +70,9 @@ module _ {C : Type 0} (same : C → C → Bool) (n me : ℕ) (meta : Meta) (log 
       (λ f. cond_both (nat_eq (front log) positions) _ _ (λ (z : Answer C). WithinAnswer log z) (λ t. tt)
       (λ g. cond_both (nat_le (2 ^ 48) meta.number) _ _ (λ (z : Answer C). WithinAnswer log z) (λ t. tt) (λ h. tt)))
 
-  told_within : (t k : ℕ) (v : Volatile C) (a : Answer C) → WithinAnswer log a → WithinPlan log (ask_answered me t k v a)
-  told_within t k v (Refused code) g = tt
-  told_within t k v (Planned plan) g = g
+  ask_answered_within : (t k : ℕ) (v : Volatile C) (a : Answer C) → WithinAnswer log a → WithinPlan log (ask_answered me t k v a)
+  ask_answered_within t k v (Refused code) g = tt
+  ask_answered_within t k v (Planned plan) g = g
 
   round_within : (f : ℕ) (v : Volatile C) → WithinAnswer log (new_round n me meta f v)
   unfolding new_round
@@ -142,7 +142,7 @@ module _ {C : Type 0} (same : C → C → Bool) (n me : ℕ) (meta : Meta) (log 
   step_within slot top v (Comes from (Nack b p q)) = tt
   step_within slot top v (Comes from (Need p)) = need_within v from p (log p)
   step_within slot top v (Comes from (Learned p e)) = learned_within v p e
-  step_within slot top v (Comes from (Ask t c)) = told_within t meta.number v (on_ask me meta log v c) (ask_within v c)
+  step_within slot top v (Comes from (Ask t c)) = ask_answered_within t meta.number v (on_ask me meta log v c) (ask_within v c)
   step_within slot top v (Comes from (Asked t k)) = tt
   step_within slot top v (Comes from (AskRefused t k)) = tt
 

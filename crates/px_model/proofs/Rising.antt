@@ -28,9 +28,9 @@ module _ {C : Type 0} (same : C → C → Bool) (n me : ℕ) (d : Record C) wher
       (λ f. cond_both (nat_eq (front d.learned) positions) _ _ (λ (z : Answer C). RisesAnswer d z) (λ t. tt)
       (λ g. cond_both (nat_le (2 ^ 48) d.meta.number) _ _ (λ (z : Answer C). RisesAnswer d z) (λ t. tt) (λ h. refl)))
 
-  told_rises : (t k : ℕ) (v : Volatile C) (a : Answer C) → RisesAnswer d a → RisesPlan d (ask_answered me t k v a)
-  told_rises t k v (Refused code) g = tt
-  told_rises t k v (Planned plan) g = g
+  ask_answered_rises : (t k : ℕ) (v : Volatile C) (a : Answer C) → RisesAnswer d a → RisesPlan d (ask_answered me t k v a)
+  ask_answered_rises t k v (Refused code) g = tt
+  ask_answered_rises t k v (Planned plan) g = g
 
   round_rises : (f : ℕ) (v : Volatile C) → RisesAnswer d (new_round n me d.meta f v)
   unfolding new_round
@@ -100,7 +100,7 @@ module _ {C : Type 0} (same : C → C → Bool) (n me : ℕ) (d : Record C) wher
   step_rises t v (Comes from (Nack b p q)) = tt
   step_rises t v (Comes from (Need p)) = need_rises v from p (d.learned p)
   step_rises t v (Comes from (Learned p e)) = learned_rises v p e
-  step_rises t v (Comes from (Ask k c)) = told_rises k d.meta.number v (on_ask me d.meta d.learned v c) (ask_rises v c)
+  step_rises t v (Comes from (Ask k c)) = ask_answered_rises k d.meta.number v (on_ask me d.meta d.learned v c) (ask_rises v c)
   step_rises t v (Comes from (Asked k j)) = tt
   step_rises t v (Comes from (AskRefused k j)) = tt
 

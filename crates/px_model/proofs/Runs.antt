@@ -1,7 +1,7 @@
 -- Every event keeps the invariant, so it holds of every world that is reached.
 use Rattle.std.proofs.Common.{◌≡◌, ℕ, ◌<◌, ◌≤◌, Bool, true, false, ◌&&◌, List, [], ◌∷◌, ◌++◌, Option, Some, None, slice_get, refl, subst, ltb, ltb-true}
 use Rattle.std.proofs.lemmas.Bool.{cond_both, and_parts}
-use Rattle.px_model.specs.Node.{IsEquality, Message, Envelope, Input, Answer, asker}
+use Rattle.px_model.specs.Node.{IsEquality, Message, Envelope, Input, Answer, client}
 use Rattle.px_model.specs.Node.Input.{Asks, Ticks, Comes}
 use Rattle.px_model.specs.Node.Answer.{Refused, Planned}
 use Rattle.px_model.specs.Node as node
@@ -21,7 +21,7 @@ use Rattle.px_model.proofs.Plans.{idle_ok, none_sent, volatile_nothing}
 use Rattle.px_model.proofs.Acceptor.{prepare_ok, prepare_all_ok, accept_ok}
 use Rattle.px_model.proofs.Learner.{vote_ok, learned_ok, need_ok}
 use Rattle.px_model.proofs.Proposer.{nack_seen_ok, promise_all_ok}
-use Rattle.px_model.proofs.Ticks.{AnswerOk, ask_ok, told_ok, tick_ok}
+use Rattle.px_model.proofs.Ticks.{AnswerOk, ask_ok, ask_answered_ok, tick_ok}
 
 -- some history goes with the world
 abbrev pub Good : {C : Type 0} → ℕ → World C → Type 0
@@ -79,7 +79,7 @@ module _ {C : Type 0} (same : C → C → Bool) (exact : IsEquality same) (n : �
   step_ok w h m inv (Comes from (Nack b p q)) ok = nack_seen_ok n w h m _ inv b p q
   step_ok w h m inv (Comes from (Need p)) ok = need_ok same exact n w h m _ inv from p
   step_ok w h m inv (Comes from (Learned p e)) ok = learned_ok same exact n w h m _ inv p e (inv.sent from (Learned p e) ok)
-  step_ok w h m inv (Comes from (node.Message.Ask t c)) ok = told_ok n w h m inv from t c
+  step_ok w h m inv (Comes from (node.Message.Ask t c)) ok = ask_answered_ok n w h m inv from t c
   step_ok w h m inv (Comes from (Asked t k)) ok = idle_ok n w h m _ (w.nodes m).volatile (inv.volatile m)
   step_ok w h m inv (Comes from (AskRefused t k)) ok = idle_ok n w h m _ (w.nodes m).volatile (inv.volatile m)
 

@@ -3,10 +3,10 @@ use Rattle.std.proofs.Common.{◌≡◌, ℕ, ◌^◌, [], ◌∷◌, Some, arit
 use Rattle.px_model.specs.Step.{front, first_gap, step, on_ask, on_tick, new_round, use_lead, on_prepare, on_prepare_all, on_accept, on_promise_all, gathered, on_nack, on_vote, with_vote, on_learned, learn}
 use Rattle.px_model.specs.Node.{Volatile}
 use Rattle.px_model.specs.Node.Answer.{Refused, Planned}
-use Rattle.px_model.specs.Step.{positions, idle, taken_in, tick_for}
+use Rattle.px_model.specs.Step.{positions, idle, queued, tick_for}
 use Rattle.px_model.specs.Worked.{entry}
 use Rattle.px_model.proofs.Reading.{front_is}
-use Rattle.px_model.specs.Cases.{NothingAfterTheLastPosition, numbers, waits, RefusalsComeInOrder, AnAskerIsTold, TheClockMakesProposals, APromiseBinds, APromiseCountsOnce, ANackDropsItsOwn, VotesCountInTheWindow, TheLearnedEntryLeaves}
+use Rattle.px_model.specs.Cases.{NothingAfterTheLastPosition, numbers, waits, RefusalsComeInOrder, AClientIsAnswered, TheClockMakesProposals, APromiseBinds, APromiseCountsOnce, ANackDropsItsOwn, VotesCountInTheWindow, TheLearnedEntryLeaves}
 
 pub refusals_come_in_order : RefusalsComeInOrder
 unfolding step on_ask on_tick new_round use_lead on_prepare on_prepare_all on_accept on_promise_all gathered on_nack on_vote with_vote on_learned learn front first_gap
@@ -31,14 +31,14 @@ pub nothing_after_the_last_position : NothingAfterTheLastPosition
 unfolding step on_ask on_tick
 nothing_after_the_last_position = record {
   full = refl;
-  spent = subst (λ (k : ℕ). (if nat_eq k positions then Refused 62 else (if nat_le (2 ^ 48) 1 then Refused 62 else Planned (taken_in 0 (numbers 1 1 0) (waits []) 7))) ≡ Refused 62) (sym end_of) refl;
+  spent = subst (λ (k : ℕ). (if nat_eq k positions then Refused 62 else (if nat_le (2 ^ 48) 1 then Refused 62 else Planned (queued 0 (numbers 1 1 0) (waits []) 7))) ≡ Refused 62) (sym end_of) refl;
   idles = subst (λ (k : ℕ). (if nat_eq k positions then Planned (idle ticking) else tick_for 3 0 (numbers 1 1 0) k ticking ticking.waiting) ≡ Planned (idle ticking)) (sym end_of) refl;
 }
 
-pub an_asker_is_told : AnAskerIsTold
+pub a_client_is_answered : AClientIsAnswered
 unfolding step on_ask on_tick new_round use_lead on_prepare on_prepare_all on_accept on_promise_all gathered on_nack on_vote with_vote on_learned learn front first_gap
-an_asker_is_told = record {
-  taken = refl;
+a_client_is_answered = record {
+  numbered = refl;
   full = refl;
   spent = refl;
 }
@@ -68,7 +68,7 @@ pub a_promise_counts_once : APromiseCountsOnce
 unfolding step on_ask on_tick new_round use_lead on_prepare on_prepare_all on_accept on_promise_all gathered on_nack on_vote with_vote on_learned learn front first_gap
 a_promise_counts_once = record {
   again = refl;
-  report_taken = refl;
+  report_adopted = refl;
   earlier_of_two = refl;
   majority = refl;
   highest_report = refl;
@@ -95,8 +95,8 @@ votes_count_in_the_window = record {
   majority = refl;
   other_ballots = refl;
   lower_ballot_still_asked = refl;
-  told = refl;
-  told_outside = refl;
+  hears_learned = refl;
+  hears_outside = refl;
 }
 
 pub the_learned_entry_leaves : TheLearnedEntryLeaves

@@ -54,16 +54,16 @@ module _ {C : Type 0} (same : C → C → Bool) (n : ℕ) where
 -- ---- equal entries make equal states
 
 module _ {C S : Type 0} (f : S → Entry C → S) (s : S) where
-  taken_parts : (o : Option S) (e : Option (Entry C)) (x : S) → next_state f o e ≡ Some x → (t : S) × (u : Entry C) × (o ≡ Some t) × (e ≡ Some u) × (f t u ≡ x)
-  taken_parts None e x is = absurd (cc)
-  taken_parts (Some t) None x is = absurd (cc)
-  taken_parts (Some t) (Some u) x is = (t, u, refl, refl, cc)
+  stepped_parts : (o : Option S) (e : Option (Entry C)) (x : S) → next_state f o e ≡ Some x → (t : S) × (u : Entry C) × (o ≡ Some t) × (e ≡ Some u) × (f t u ≡ x)
+  stepped_parts None e x is = absurd (cc)
+  stepped_parts (Some t) None x is = absurd (cc)
+  stepped_parts (Some t) (Some u) x is = (t, u, refl, refl, cc)
 
   states_same : (a b : Log C) → ((p : ℕ) (e u : Entry C) → a p ≡ Some e → b p ≡ Some u → e ≡ u) → (k : ℕ) (x y : S) → state_after f s a k ≡ Some x → state_after f s b k ≡ Some y → x ≡ y
   states_same a b one zero x y ix iy = cc
   states_same a b one (suc k) x y ix iy =
-      let p = taken_parts (state_after f s a k) (a k) x ix in
-      let q = taken_parts (state_after f s b k) (b k) y iy in
+      let p = stepped_parts (state_after f s a k) (a k) x ix in
+      let q = stepped_parts (state_after f s b k) (b k) y iy in
       let state : p.0 ≡ q.0 = states_same a b one k p.0 q.0 p.2 q.2 in
       let entry : p.1 ≡ q.1 = one k p.1 q.1 p.3 q.3 in
       sym p.4 ∙ (ap (λ (z : S). f z p.1) state ∙ (ap (λ (z : Entry C). f q.0 z) entry ∙ q.4))

@@ -1,13 +1,13 @@
 -- A new request and the clock keep the invariant.
 use Rattle.std.proofs.Common.{◌≡◌, ℕ, ◌+◌, ◌*◌, ◌^◌, ◌<◌, ◌≤◌, true, false, inl, inr, List, [], ◌∷◌, ◌++◌, length, Option, Some, None, arith, refl, sym, ap, subst, eqb, ltb, leb, leb-true}
 use Rattle.std.proofs.lemmas.Bool.{cond_both, eqb-false}
-use Rattle.px_model.specs.Node.{Entry, Change, Lead, Volatile, Message, Envelope, Input, Answer, ballot_of, asker}
+use Rattle.px_model.specs.Node.{Entry, Change, Lead, Volatile, Message, Envelope, Input, Answer, ballot_of, client}
 use Rattle.px_model.specs.Node.Change.{NewRound}
 use Rattle.px_model.specs.Node.Phase.{Preparing}
 use Rattle.px_model.specs.Node.Input.{Asks, Comes}
 use Rattle.px_model.specs.Node.Message.{PrepareAll, Accept, Need, Ask, Asked, AskRefused}
 use Rattle.px_model.specs.Node.Answer.{Refused, Planned}
-use Rattle.px_model.specs.Step.{commit, positions, front, to_all, next_round, new_round, propose, tick_for, on_tick, entry_for, taken_in, on_ask, ask_answered}
+use Rattle.px_model.specs.Step.{commit, positions, front, to_all, next_round, new_round, propose, tick_for, on_tick, entry_for, queued, on_ask, ask_answered}
 use Rattle.px_model.specs.World.{World, NodeState, moved, command_of, asked_by}
 use Rattle.px_model.specs.Law.{Among}
 use Rattle.px_model.proofs.Basics.{among_cases, put_same}
@@ -104,8 +104,8 @@ module _ {C : Type 0} (n : ℕ) (w : World C) (h : List (Acceptance C)) (m : ℕ
 
   -- a request is accepted, and perhaps somebody is answered
   asked_ok : (input : Input C) (c : C) → command_of input ≡ Some c → (sends : List (Envelope C)) (x : Message C) → AllAre m x sends → is_accept x ≡ false → ((w' : World C) (h' : List (Acceptance C)) → SentOk n w' h' m x) → PlanOk n w h m input (record {
-    change = (taken_in m (record_of w m).meta (w.nodes m).volatile c).change;
-    volatile = (taken_in m (record_of w m).meta (w.nodes m).volatile c).volatile;
+    change = (queued m (record_of w m).meta (w.nodes m).volatile c).change;
+    volatile = (queued m (record_of w m).meta (w.nodes m).volatile c).volatile;
     sends = sends;
   })
   asked_ok input c asks sends x all nil said =
@@ -113,8 +113,8 @@ module _ {C : Type 0} (n : ℕ) (w : World C) (h : List (Acceptance C)) (m : ℕ
       let v = (w.nodes m).volatile in
       let g = inv.volatile m in
       let e = entry_for m d.meta c in
-      let v' : Volatile C = (taken_in m d.meta v c).volatile in
-      let ch : Option (Change C) = (taken_in m d.meta v c).change in
+      let v' : Volatile C = (queued m d.meta v c).volatile in
+      let ch : Option (Change C) = (queued m d.meta v c).change in
       let w' = moved w m input ch true v' sends in
       let l = later_moved n w h m input ch true v' sends refl in
       let back = learned_back n w h m input ch true v' sends (λ q. refl) in
@@ -147,7 +147,7 @@ module _ {C : Type 0} (n : ℕ) (w : World C) (h : List (Acceptance C)) (m : ℕ
       }
 
   -- whatever holds of the refusals and of the plan holds of the answer
-  ask_cases : (P : Answer C → Type 0) (c : C) → ((code : ℕ) → P (Refused code)) → P (Planned (taken_in m (record_of w m).meta (w.nodes m).volatile c)) → P (on_ask m (record_of w m).meta (record_of w m).learned (w.nodes m).volatile c)
+  ask_cases : (P : Answer C → Type 0) (c : C) → ((code : ℕ) → P (Refused code)) → P (Planned (queued m (record_of w m).meta (w.nodes m).volatile c)) → P (on_ask m (record_of w m).meta (record_of w m).learned (w.nodes m).volatile c)
   unfolding on_ask
   ask_cases P c refused planned =
       let d = record_of w m in
@@ -159,10 +159,10 @@ module _ {C : Type 0} (n : ℕ) (w : World C) (h : List (Acceptance C)) (m : ℕ
   ask_ok c = ask_cases (λ (z : Answer C). AnswerOk n w h m (Asks c) z) c (λ code. tt)
       (asked_ok (Asks c) c refl [] (Need 0) (none_sent m (Need 0)) refl (λ w' h'. tt))
 
-  pub told_ok : (from token : ℕ) (c : C) → PlanOk n w h m (Comes from (Ask token c)) (ask_answered m token (record_of w m).meta.number (w.nodes m).volatile (on_ask m (record_of w m).meta (record_of w m).learned (w.nodes m).volatile c))
-  told_ok from token c =
+  pub ask_answered_ok : (from token : ℕ) (c : C) → PlanOk n w h m (Comes from (Ask token c)) (ask_answered m token (record_of w m).meta.number (w.nodes m).volatile (on_ask m (record_of w m).meta (record_of w m).learned (w.nodes m).volatile c))
+  ask_answered_ok from token c =
       let input : Input C = Comes from (Ask token c) in
       let v = (w.nodes m).volatile in
       ask_cases (λ (z : Answer C). PlanOk n w h m input (ask_answered m token (record_of w m).meta.number v z)) c
-      (λ code. says_ok n w h m input None v _ (AskRefused token code) tt (one_sent m asker (AskRefused token code)) refl (λ q. refl) tt (inv.volatile m))
-      (asked_ok input c refl _ (Asked token (record_of w m).meta.number) (one_sent m asker (Asked token (record_of w m).meta.number)) refl (λ w' h'. tt))
+      (λ code. says_ok n w h m input None v _ (AskRefused token code) tt (one_sent m client (AskRefused token code)) refl (λ q. refl) tt (inv.volatile m))
+      (asked_ok input c refl _ (Asked token (record_of w m).meta.number) (one_sent m client (Asked token (record_of w m).meta.number)) refl (λ w' h'. tt))

@@ -69,6 +69,6 @@ learned_out_of_order = record {
 pub no_lead_below_a_counted_top : worked.NoLeadBelowACountedTop
 unfolding front first_gap top_below step on_ask on_tick new_round use_lead on_prepare_all on_accept on_promise_all gathered on_vote with_vote learn
 no_lead_below_a_counted_top = record {
-  front_before = computed (λ (w : World ℕ). worked.front_of w 1) 3 worked.told_of_a_top _ refl refl;
+  front_before = computed (λ (w : World ℕ). worked.front_of w 1) 3 worked.top_is_reported _ refl refl;
   sent = computed (λ (w : World ℕ). w.sent) 3 worked.above_the_top _ refl refl;
 }

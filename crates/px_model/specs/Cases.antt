@@ -2,7 +2,7 @@
 use Rattle.std.specs.Prelude.{◌≡◌, ℕ, zero, suc, ◌^◌, Bool, true, false, List, [], ◌∷◌, ◌++◌}
 use Rattle.std.specs.Prelude.{Option, Some, None, nat_eq}
 use Rattle.px_model.specs.Node.{Entry, Proposal, Slot, Meta, Change, Attempt, Volatile, Input, Plan, Answer, ballot_of}
-use Rattle.px_model.specs.Node.{asker}
+use Rattle.px_model.specs.Node.{client}
 use Rattle.px_model.specs.Node.Change.{NewRound, NewNumber, NewFloor, NewPromise, NewAccepted, NewLearned}
 use Rattle.px_model.specs.Node.Phase.{Preparing, Accepting}
 use Rattle.px_model.specs.Node.Message.{Prepare, Promise, PrepareAll, PromiseAll, Accept, Vote, Nack, Need, Learned}
@@ -76,18 +76,18 @@ pub record NothingAfterTheLastPosition : Type 0 where
   pub idles : does_at_the_end (waits (entry 0 1 8 ∷ [])) Ticks ≡ Planned (idle (waits (entry 0 1 8 ∷ [])))
 
 -- a client is answered, and no member
-pub record AnAskerIsTold : Type 0 where
-  pub taken : does (numbers 0 4 0) (waits []) (Comes asker (Ask 9 7)) ≡ Planned (record {
+pub record AClientIsAnswered : Type 0 where
+  pub numbered : does (numbers 0 4 0) (waits []) (Comes client (Ask 9 7)) ≡ Planned (record {
     change = Some (NewNumber 5);
     volatile = waits (entry 0 4 7 ∷ []);
-    sends = one 0 asker (Asked 9 4);
+    sends = one 0 client (Asked 9 4);
   })
   pub full :
-      does (numbers 0 4 0) (waits (repeated 64 (entry 0 0 7))) (Comes asker (Ask 9 7)) ≡
-      Planned (answered None (waits (repeated 64 (entry 0 0 7))) 0 asker (AskRefused 9 60))
+      does (numbers 0 4 0) (waits (repeated 64 (entry 0 0 7))) (Comes client (Ask 9 7)) ≡
+      Planned (answered None (waits (repeated 64 (entry 0 0 7))) 0 client (AskRefused 9 60))
   pub spent :
-      does (numbers 0 (2 ^ 48) 0) (waits []) (Comes asker (Ask 9 7)) ≡
-      Planned (answered None (waits []) 0 asker (AskRefused 9 62))
+      does (numbers 0 (2 ^ 48) 0) (waits []) (Comes client (Ask 9 7)) ≡
+      Planned (answered None (waits []) 0 client (AskRefused 9 62))
 
 -- an entry waits, and round 1 is led from this position on
 abbrev pub leads : (from : ℕ) → Volatile ℕ
@@ -172,7 +172,7 @@ proposes from e = record {
 pub record APromiseCountsOnce : Type 0 where
   pub again : does (numbers 2 1 0) (prepared 4 None counted) (Comes 1 (PromiseAll 512 0 9 None)) ≡
       Planned (idle (prepared 4 None (put counted 1 true)))
-  pub report_taken :
+  pub report_adopted :
       does (numbers 2 1 0) (prepared 4 None counted)
       (Comes 1 (PromiseAll 512 0 9 (proposal 257 (entry 1 0 8)))) ≡
       Planned (idle (prepared 4 (proposal 257 (entry 1 0 8)) (put counted 1 true)))
@@ -251,9 +251,9 @@ pub record VotesCountInTheWindow : Type 0 where
   pub lower_ballot_still_asked :
       change_of (does (numbers 0 0 0) (record nothing_volatile { kept = keep (known 256).kept 0 2 512 })
       (Comes 2 (Vote 256 0 (entry 0 0 7)))) ≡ Some (NewLearned 0 (entry 0 0 7))
-  pub told : change_of (does (numbers 0 0 0) (waits []) (Comes 1 (Learned 63 (entry 0 0 7)))) ≡
+  pub hears_learned : change_of (does (numbers 0 0 0) (waits []) (Comes 1 (Learned 63 (entry 0 0 7)))) ≡
       Some (NewLearned 63 (entry 0 0 7))
-  pub told_outside : does (numbers 0 0 0) (waits []) (Comes 1 (Learned 64 (entry 0 0 7))) ≡
+  pub hears_outside : does (numbers 0 0 0) (waits []) (Comes 1 (Learned 64 (entry 0 0 7))) ≡
       Planned (idle (waits []))
 
 -- an entry leaves `waiting` only as a whole: another of its name stays

@@ -5,7 +5,7 @@ use Rattle.std.specs.Prelude.{◌≡◌, ℕ, ◌%◌, ◌^◌, ◌<◌, ◌≤�
 use Rattle.std.specs.Prelude.{length, Option, Some, None, IfSome}
 use Rattle.px_model.specs.Node as node
 use Rattle.px_model.specs.Node.{Entry, Proposal, Slot, Meta, Log, Record, Change, Phase, Attempt, Lead, Volatile}
-use Rattle.px_model.specs.Node.{Message, Envelope, Input, Answer, round_of, asker}
+use Rattle.px_model.specs.Node.{Message, Envelope, Input, Answer, round_of, client}
 use Rattle.px_model.specs.Node.Change.{NewRound, NewNumber, NewFloor, NewPromise, NewAccepted, NewLearned}
 use Rattle.px_model.specs.Node.Phase.{Preparing, Accepting}
 use Rattle.px_model.specs.Node.Message.{Prepare, Promise, PrepareAll, PromiseAll, Accept, Vote, Nack, Need, Learned}
@@ -82,9 +82,9 @@ MessageFits S n from to (AskRefused token code) = IsNumber token × ((code ≡ 6
 
 -- who sends it to whom: a client only asks, and is only answered
 abbrev pub IsBetween : {C : Type 0} → (n from to : ℕ) → Message C → Type 0
-IsBetween n from to (node.Message.Ask token c) = (from ≡ asker) × (to < n)
-IsBetween n from to (Asked token k) = (from < n) × (to ≡ asker)
-IsBetween n from to (AskRefused token code) = (from < n) × (to ≡ asker)
+IsBetween n from to (node.Message.Ask token c) = (from ≡ client) × (to < n)
+IsBetween n from to (Asked token k) = (from < n) × (to ≡ client)
+IsBetween n from to (AskRefused token code) = (from < n) × (to ≡ client)
 IsBetween n from to _ = (from < n) × (to < n)
 
 -- a message on its way that can be spelled

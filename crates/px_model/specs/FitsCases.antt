@@ -1,6 +1,6 @@
 -- What fits and what doesn't, among three members, where commands below 100 have a spelling.
 use Rattle.std.specs.Prelude.{◌≡◌, ℕ, ◌-◌, ◌^◌, true, None, nat_lt}
-use Rattle.px_model.specs.Node.{Message, ballot_of, asker}
+use Rattle.px_model.specs.Node.{Message, ballot_of, client}
 use Rattle.px_model.specs.Node.Message.{PrepareAll, PromiseAll, Vote, Nack, Learned, Ask, Asked, AskRefused}
 use Rattle.px_model.specs.Fits.{EnvelopeFits, MetaFits, SlotFits}
 use Rattle.px_model.specs.Worked.{entry, proposal}
@@ -39,12 +39,12 @@ pub record OthersThatFit : Type 0 where
   pub number_spent : Goes 0 1 (Learned 0 (entry 1 (2 ^ 48) 7)) → ⊥
   pub not_spelled : Goes 0 1 (Learned 0 (entry 1 0 100)) → ⊥
   pub nobody : Goes 0 3 (Learned 0 (entry 1 0 7)) → ⊥
-  pub from_outside : Goes asker 1 (Ask 5 7)
+  pub from_outside : Goes client 1 (Ask 5 7)
   pub from_a_member : Goes 0 1 (Ask 5 7) → ⊥
-  pub told : Goes 0 asker (Asked 5 (2 ^ 48 - 1))
-  pub told_a_member : Goes 0 1 (Asked 5 0) → ⊥
-  pub refused : Goes 0 asker (AskRefused 5 62)
-  pub refused_otherwise : Goes 0 asker (AskRefused 5 61) → ⊥
+  pub answers_a_client : Goes 0 client (Asked 5 (2 ^ 48 - 1))
+  pub answers_a_member : Goes 0 1 (Asked 5 0) → ⊥
+  pub refused : Goes 0 client (AskRefused 5 62)
+  pub refused_otherwise : Goes 0 client (AskRefused 5 61) → ⊥
 
 -- a record's numbers and slots at the borders of what fits
 pub record RowsThatFit : Type 0 where

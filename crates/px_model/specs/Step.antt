@@ -4,7 +4,7 @@ use Rattle.std.specs.Prelude.{ℕ, zero, suc, ◌+◌, ◌*◌, ◌^◌, ◌<◌
 use Rattle.std.specs.Prelude.{◌∷◌, ◌++◌, length, Option, Some, None, max, if◌then◌else◌, nat_lt, nat_le}
 use Rattle.std.specs.Prelude.{nat_eq, is_none}
 use Rattle.px_model.specs.Node.{Entry, Proposal, Slot, Meta, Log, Record, Change, Phase, Attempt, Lead, Volatile}
-use Rattle.px_model.specs.Node.{Message, Envelope, Input, Plan, Answer, same_entry, ballot_of, round_of, asker}
+use Rattle.px_model.specs.Node.{Message, Envelope, Input, Plan, Answer, same_entry, ballot_of, round_of, client}
 use Rattle.px_model.specs.Node.Change.{NewRound, NewNumber, NewFloor, NewPromise, NewAccepted, NewLearned}
 use Rattle.px_model.specs.Node.Phase.{Preparing, Accepting}
 use Rattle.px_model.specs.Node.Message.{Prepare, Promise, PrepareAll, PromiseAll, Accept, Vote, Nack, Need, Learned}
@@ -107,8 +107,8 @@ abbrev pub entry_for : {C : Type 0} → (me : ℕ) → Meta → C → Entry C
 entry_for me meta c = record { origin = me; number = meta.number; command = c }
 
 -- the number is recorded, and the entry waits behind the others
-abbrev pub taken_in : {C : Type 0} → (me : ℕ) → Meta → Volatile C → C → Plan C
-taken_in me meta v c = record {
+abbrev pub queued : {C : Type 0} → (me : ℕ) → Meta → Volatile C → C → Plan C
+queued me meta v c = record {
   change = Some (NewNumber (meta.number + 1));
   volatile = record v { waiting = v.waiting ++ entry_for me meta c ∷ [] };
   sends = [];
@@ -120,12 +120,12 @@ on_ask me meta learned v c =
     if nat_le 64 (length v.waiting) then Refused 60
     else if nat_eq (front learned) positions then Refused 62
     else if nat_le (2 ^ 48) meta.number then Refused 62
-    else Planned (taken_in me meta v c)
+    else Planned (queued me meta v c)
 
 -- the client is answered with the number that the entry got, or the refusal
 abbrev pub ask_answered : {C : Type 0} → (me token number : ℕ) → Volatile C → Answer C → Plan C
-ask_answered me token number v (Refused code) = answered None v me asker (AskRefused token code)
-ask_answered me token number v (Planned plan) = answered plan.change plan.volatile me asker (Asked token number)
+ask_answered me token number v (Refused code) = answered None v me client (AskRefused token code)
+ask_answered me token number v (Planned plan) = answered plan.change plan.volatile me client (Asked token number)
 
 -- ---- the proposer begins (2.2, phase 1a; section 3 where a majority has promised for all positions)
 

@@ -260,8 +260,8 @@ pub record LearnedOutOfOrder : Type 0 where
 -- ---- no lead below a counted top
 
 -- 0 alone has accepted at position 1. Then 1 has a ballot promised, and learns position 0 by it
-abbrev pub told_of_a_top : List (List (Event ℕ))
-told_of_a_top =
+abbrev pub top_is_reported : List (List (Event ℕ))
+top_is_reported =
     ask 0 7 ∷ ask 0 8 ∷ ask 1 9 ∷
     tick 0 ∷ deliver (0 ∷ 1 ∷ 3 ∷ 4 ∷ 5 ∷ 6 ∷ 8 ∷ 11 ∷ []) ∷
     tick 0 ∷ deliver (14 ∷ []) ∷
@@ -269,11 +269,11 @@ told_of_a_top =
 
 -- its lead begins above position 1, so it prepares anew, and learns what was accepted there
 abbrev pub above_the_top : List (List (Event ℕ))
-above_the_top = told_of_a_top ++ tick 1 ∷ deliver (34 ∷ 35 ∷ 37 ∷ 38 ∷ []) ∷ []
+above_the_top = top_is_reported ++ tick 1 ∷ deliver (34 ∷ 35 ∷ 37 ∷ 38 ∷ []) ∷ []
 
 -- 1 heard that position 1 has something accepted: it prepares there anew, and proposes that
 pub record NoLeadBelowACountedTop : Type 0 where
-  pub front_before : front_of (world 3 told_of_a_top) 1 ≡ 1
+  pub front_before : front_of (world 3 top_is_reported) 1 ≡ 1
   pub sent : (world 3 above_the_top).sent ≡ joined (first_sent ++
       three 1 (PrepareAll (ballot_of 1 1) 0) ∷
       one 0 1 (PromiseAll (ballot_of 1 1) 0 2 (proposal (ballot_of 1 0) (entry 0 0 7))) ∷

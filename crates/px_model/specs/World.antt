@@ -3,7 +3,7 @@
 use Rattle.std.specs.Prelude.{ℕ, Bool, true, false, ◌&&◌, List, [], ◌∷◌, ◌++◌, Option, Some, None}
 use Rattle.std.specs.Prelude.{if◌then◌else◌, nat_lt, nat_eq, slice_get}
 use Rattle.px_model.specs.Node as node
-use Rattle.px_model.specs.Node.{Entry, Meta, Record, Change, Volatile, Envelope, Input, Plan, Answer, asker}
+use Rattle.px_model.specs.Node.{Entry, Meta, Record, Change, Volatile, Envelope, Input, Plan, Answer, client}
 use Rattle.px_model.specs.Node.Change.{NewNumber, NewLearned}
 use Rattle.px_model.specs.Node.Input.{Asks, Ticks, Comes}
 use Rattle.px_model.specs.Node.Answer.{Refused, Planned}
@@ -67,7 +67,7 @@ delivered (Some x) = Some (x.addressee, Comes x.sender x.message)
 -- to which member an action comes, and as what; none where no such message was sent
 abbrev pub comes_to : {C : Type 0} → World C → Action C → Option (ℕ × Input C)
 comes_to w (Ask m c) = Some (m, Asks c)
-comes_to w (AskFrom m token c) = Some (m, Comes asker (node.Message.Ask token c))
+comes_to w (AskFrom m token c) = Some (m, Comes client (node.Message.Ask token c))
 comes_to w (Tick m) = Some (m, Ticks)
 comes_to w (Deliver k) = delivered (slice_get w.sent k)
 
@@ -93,7 +93,7 @@ step_in same n w m input = step_of same n m (w.nodes m) input
 -- the messages that go to members; what goes to a client is nobody's to deliver
 abbrev pub to_members : {C : Type 0} → List (Envelope C) → List (Envelope C)
 to_members [] = []
-to_members (x ∷ xs) = if nat_eq x.addressee asker then to_members xs else x ∷ to_members xs
+to_members (x ∷ xs) = if nat_eq x.addressee client then to_members xs else x ∷ to_members xs
 
 -- what a change adds to what was ever learned
 abbrev pub learned_by : {C : Type 0} → (m : ℕ) → Option (Change C) → List (Learning C)

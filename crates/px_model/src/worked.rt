@@ -1,5 +1,5 @@
 //! Worked cases of the replicated log, computed on the definitions: whole runs, message by message, and single steps.
-ghost use Rattle.px_model.specs.Cases.{ANackDropsItsOwn, APromiseBinds, APromiseCountsOnce, AnAskerIsTold};
+ghost use Rattle.px_model.specs.Cases.{ANackDropsItsOwn, APromiseBinds, APromiseCountsOnce, AClientIsAnswered};
 ghost use Rattle.px_model.specs.Cases.{NothingAfterTheLastPosition, RefusalsComeInOrder, TheClockMakesProposals};
 ghost use Rattle.px_model.specs.Cases.{TheLearnedEntryLeaves, VotesCountInTheWindow};
 ghost use Rattle.px_model.specs.FitsCases.{BallotsThatFit, OthersThatFit, RowsThatFit};
@@ -52,8 +52,8 @@ pub fn nothing_after_the_last_position()
 {}
 
 /// A client is answered with the entry's number, or the refusal.
-pub fn an_asker_is_told()
-    ensures { AnAskerIsTold }
+pub fn a_client_is_answered()
+    ensures { AClientIsAnswered }
 {}
 
 /// The clock asks for what is missing, begins a round, or uses a lead that has reached the front and no other.

@@ -9,8 +9,8 @@ use Rattle.std.proofs.lemmas.Nat.{be_bytes_2, be_bytes_4}
 abbrev pub AreBytes : List ℕ → Type 0
 AreBytes b = (i : ℕ) → get_or b i 0 < 256
 
-pub bytes_taken : (n : ℕ) (b : List ℕ) → AreBytes b → AreBytes (take n b)
-bytes_taken n b h i =
+pub bytes_in_front : (n : ℕ) (b : List ℕ) → AreBytes b → AreBytes (take n b)
+bytes_in_front n b h i =
     let P : ℕ → Type 0 = λ x. x < 256 in
     elim (cases_lt i n) [
       | inl l ↦ subst P (sym (get_or-take n b i 0 l)) (h i)
@@ -26,14 +26,14 @@ pub four_first : (b : List ℕ) (n : ℕ) → AreBytes b → 4 ≤ length b → 
     b ≡ to_be_bytes w32 n ++ drop 4 b
 four_first b n bytes l e =
     let same : to_be_bytes w32 n ≡ take 4 b =
-    be_bytes_4 (take 4 b) n (omega (arith, length-take 4 b)) (bytes_taken 4 b bytes) e in
+    be_bytes_4 (take 4 b) n (omega (arith, length-take 4 b)) (bytes_in_front 4 b bytes) e in
     sym (ap (λ x. x ++ drop 4 b) same ∙ take-append-drop 4 b)
 
 pub two_first : (b : List ℕ) (n : ℕ) → AreBytes b → 2 ≤ length b → n ≡ from_be_bytes w16 (take 2 b) →
     b ≡ to_be_bytes w16 n ++ drop 2 b
 two_first b n bytes l e =
     let same : to_be_bytes w16 n ≡ take 2 b =
-    be_bytes_2 (take 2 b) n (omega (arith, length-take 2 b)) (bytes_taken 2 b bytes) e in
+    be_bytes_2 (take 2 b) n (omega (arith, length-take 2 b)) (bytes_in_front 2 b bytes) e in
     sym (ap (λ x. x ++ drop 2 b) same ∙ take-append-drop 2 b)
 
 -- the bytes of two numbers

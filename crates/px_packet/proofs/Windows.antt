@@ -129,10 +129,10 @@ last_more n r ns h = elim (cases_Bool (n % 2048 == r)) [
   | inr e ↦ rw e refl
 ]
 
-pub taken : (ns : List ℕ) (n slot : ℕ) (w v : Window) → slot ≡ n % 2048 → last_of (n % 2048) ns < n →
+pub set_last : (ns : List ℕ) (n slot : ℕ) (w v : Window) → slot ≡ n % 2048 → last_of (n % 2048) ns < n →
     top_of ns < n + 2048 → v.top ≡ max w.top n → v.last.items ≡ set w.last.items slot n → Remembers ns w →
     Remembers (accepted_with ns n) v
-taken ns n slot w v at less inside t l h = with_at ns n true v (fresh ns n less inside) (record {
+set_last ns n slot w v at less inside t l h = with_at ns n true v (fresh ns n less inside) (record {
   top_is = t ∙ (let e : max w.top n ≡ max n (top_of ns) = omega (arith, h.top_is) in e);
   last_is = λ r k.
       let there : get_or (set w.last.items slot n) r 0 ≡ last_of r (n ∷ ns) = elim (cases_eq r slot) [

@@ -152,7 +152,7 @@ impl Partial {
         piece: &Piece<'_>,
         now: u64,
     ) -> Result<(), AllocError>
-        ensures taken { OnOk result (self.new ≡ with_part self.old (seen piece.now) now) }
+        ensures kept_part { OnOk result (self.new ≡ with_part self.old (seen piece.now) now) }
         ensures refused { OnErr result (self.new ≡ self.old) }
     {
         let index = usize::from(piece.index);

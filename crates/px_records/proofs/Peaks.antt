@@ -5,11 +5,11 @@ use Rattle.px_model.specs.Node.{Slot, Proposal}
 use Rattle.px_model.specs.Step.{put, top_below, top, positions}
 
 -- by whether something is accepted
-abbrev taken : {C : Type 0} → Option (Proposal C) → ℕ → ℕ → ℕ
-taken None below here = below
-taken (Some x) below here = here
+abbrev peak_with : {C : Type 0} → Option (Proposal C) → ℕ → ℕ → ℕ
+peak_with None below here = below
+peak_with (Some x) below here = here
 
-pub below_is : {C : Type 0} (slots : ℕ → Slot C) (n : ℕ) (a : Option (Proposal C)) → (slots n).accepted ≡ a → top_below slots (suc n) ≡ taken a (top_below slots n) (suc n)
+pub below_is : {C : Type 0} (slots : ℕ → Slot C) (n : ℕ) (a : Option (Proposal C)) → (slots n).accepted ≡ a → top_below slots (suc n) ≡ peak_with a (top_below slots n) (suc n)
 unfolding top_below
 below_is {C} slots n None e = ap (λ (b : Option (Proposal C)). elim b [ None ↦ top_below slots n | Some x ↦ suc n ]) e
 below_is {C} slots n (Some x) e = ap (λ (b : Option (Proposal C)). elim b [ None ↦ top_below slots n | Some x ↦ suc n ]) e
@@ -21,14 +21,14 @@ none_below slots = refl
 -- slots that accepted alike have one top
 same_below : {C : Type 0} (a b : ℕ → Slot C) → ((p : ℕ) → (a p).accepted ≡ (b p).accepted) → (n : ℕ) → top_below a n ≡ top_below b n
 same_below a b same zero = none_below a ∙ sym (none_below b)
-same_below a b same (suc n) = below_is a n (b n).accepted (same n) ∙ ap (λ t. taken (b n).accepted t (suc n)) (same_below a b same n) ∙ sym (below_is b n (b n).accepted refl)
+same_below a b same (suc n) = below_is a n (b n).accepted (same n) ∙ ap (λ t. peak_with (b n).accepted t (suc n)) (same_below a b same n) ∙ sym (below_is b n (b n).accepted refl)
 
 pub same_top : {C : Type 0} (a b : ℕ → Slot C) → ((p : ℕ) → (a p).accepted ≡ (b p).accepted) → top a ≡ top b
 unfolding top
 same_top a b same = same_below a b same positions
 
 -- nothing is accepted from the top on
-low : {C : Type 0} (a : Option (Proposal C)) (t n : ℕ) → t ≤ n → taken a t (suc n) ≤ suc n
+low : {C : Type 0} (a : Option (Proposal C)) (t n : ℕ) → t ≤ n → peak_with a t (suc n) ≤ suc n
 low None t n le = let h : t ≤ suc n = omega (arith, le) in h
 low (Some x) t n le = let h : suc n ≤ suc n = omega arith in h
 
@@ -57,7 +57,7 @@ module _ {C : Type 0} (slots : ℕ → Slot C) (p : ℕ) (s : Slot C) (x : Propo
   at_most : (m : ℕ) → p < suc m → suc m ≤ p + 1 → m ≡ p
   at_most m up low = omega (arith, up, low)
 
-  stays : (a : Option (Proposal C)) (m before after : ℕ) → (m ≡ p → ⊥) → Raised p m before after → Raised p (suc m) (taken a before (suc m)) (taken a after (suc m))
+  stays : (a : Option (Proposal C)) (m before after : ℕ) → (m ≡ p → ⊥) → Raised p m before after → Raised p (suc m) (peak_with a before (suc m)) (peak_with a after (suc m))
   stays None m before after ne h = (λ up. h.0 (omega (arith, up)), (λ up low. h.1.0 (between m up ne) low, λ up high. h.1.1 (between m up ne) high))
   stays (Some y) m before after ne h = (λ up. refl, (λ up low. absurd (ne (at_most m up low)), λ up high. refl))
 

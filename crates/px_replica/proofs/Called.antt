@@ -130,7 +130,7 @@ pub received_below : {R : Type 0} {G : Ghosts R} (s t : Replica R G) (bytes : By
     (p : ℕ) → p < front (learned_by s) → learned_by t p ≡ learned_by s p
 received_below s t bytes old new result (inl lost) p h = unmoved s t lost.still p
 received_below s t bytes old new result (inr (inl passed)) p h = unmoved s t passed.still p
-received_below s t bytes old new result (inr (inr taken)) p h = taken.call.below p h
+received_below s t bytes old new result (inr (inr handled)) p h = handled.call.below p h
 
 pub received_front : {R : Type 0} {G : Ghosts R} (s t : Replica R G) (bytes : Bytes) (old new : List Datagram)
     (result : Result Received NodeFault) → Receives s t bytes old new result →
@@ -139,4 +139,4 @@ received_front {R} {G} s t bytes old new result (inl lost) =
     subst (λ (r : Replica R G). front (learned_by s) ≤ front (learned_by r)) (sym lost.still) (omega arith)
 received_front {R} {G} s t bytes old new result (inr (inl passed)) =
     subst (λ (r : Replica R G). front (learned_by s) ≤ front (learned_by r)) (sym passed.still) (omega arith)
-received_front s t bytes old new result (inr (inr taken)) = taken.call.front
+received_front s t bytes old new result (inr (inr handled)) = handled.call.front

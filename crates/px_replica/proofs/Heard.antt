@@ -6,7 +6,7 @@ use Rattle.px_model.specs.Node as node
 use Rattle.px_model.specs.Node.{Record, Volatile, Meta, Log, Plan, Answer, Input, Envelope}
 use Rattle.px_model.specs.Node.Input.{Asks, Ticks, Comes}
 use Rattle.px_model.specs.Node.Answer.{Refused, Planned}
-use Rattle.px_model.specs.Step.{step, on_ask, front, positions, taken_in}
+use Rattle.px_model.specs.Step.{step, on_ask, front, positions, queued}
 use Rattle.px_model.specs.World.{NodeState}
 use Rattle.px_model.specs.Fits.{sends_of}
 use Rattle.px_model.specs.Spelling.{Bytes, spelled}
@@ -93,7 +93,7 @@ ask_sends_nothing me meta log v c =
     let P : Answer Bytes → Type 0 = λ a. sends_of a ≡ [] in
     cond_both (nat_le 64 (length v.waiting)) (Refused 60) _ P (λ _. refl) (λ _.
     cond_both (nat_eq (front log) positions) (Refused 62) _ P (λ _. refl) (λ _.
-    cond_both (nat_le (2 ^ 48) meta.number) (Refused 62) (Planned (taken_in me meta v c)) P (λ _. refl) (λ _. refl)))
+    cond_both (nat_le (2 ^ 48) meta.number) (Refused 62) (Planned (queued me meta v c)) P (λ _. refl) (λ _. refl)))
 
 asks_send_nothing : (n me : ℕ) (s : NodeState Bytes) (c : Bytes) (plan : Plan Bytes) →
     answer n me s (Asks c) ≡ Planned plan → plan.sends ≡ []

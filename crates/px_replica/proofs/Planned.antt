@@ -38,10 +38,10 @@ pub handed : (s : State) (n me : ℕ) (seen : Seen) (event : Event) → s.member
     InputFits (Passes is_command) n me (input_of event) →
     HandedFits is_command s seen.meta seen.slot seen.top event
 handed s n me seen event members here fits input =
-    let told = subst (λ (k : ℕ). SeenFits k seen) (sym members) fits in
+    let seen_fits = subst (λ (k : ℕ). SeenFits k seen) (sym members) fits in
     record {
-      meta = told.meta;
-      here = told.here;
+      meta = seen_fits.meta;
+      here = seen_fits.here;
       top_within = fits.top_within;
       input = input_for s n me (input_of event) members here input;
     }
@@ -86,21 +86,21 @@ answered s n me core d seen event members here same (Err fault) h agree is =
     subst (λ (a : node.Answer Bytes). IsRefusal fault a) (same_answer s n me d seen event members here agree is) h
 
 -- what is written can be told
-pub change_told : (s : State) (n : ℕ) (core : Core) → s.members ≡ n → state_of core ≡ s → (r : Result Plan CoreFault) →
+pub change_spelled : (s : State) (n : ℕ) (core : Core) → s.members ≡ n → state_of core ≡ s → (r : Result Plan CoreFault) →
     IfOk r (λ plan. PlanFits is_command (state_of core) (planned core plan)) →
     IfOk r (λ plan. IfSome (option_map change_of plan.change) (λ x. ChangeFits (Passes is_command) n x))
-change_told s n core members same (Ok plan) h =
+change_spelled s n core members same (Ok plan) h =
     subst (λ (k : ℕ). IfSome (option_map change_of plan.change) (λ x. ChangeFits (Passes is_command) k x))
     (ap (λ (t : State). t.members) same ∙ members) h.change
-change_told s n core members same (Err fault) h = tt
+change_spelled s n core members same (Err fault) h = tt
 
 -- what is sent can be told
-pub sends_told : (s : State) (n me : ℕ) (core : Core) → s.members ≡ n → s.me ≡ me → state_of core ≡ s →
+pub sends_spelled : (s : State) (n me : ℕ) (core : Core) → s.members ≡ n → s.me ≡ me → state_of core ≡ s →
     (r : Result Plan CoreFault) → IfOk r (λ plan. PlanFits is_command (state_of core) (planned core plan)) →
     IfOk r (λ plan. SendsFit (Passes is_command) n me (sends_of n me plan.sends))
-sends_told s n me core members here same (Ok plan) h =
+sends_spelled s n me core members here same (Ok plan) h =
     subst (λ (k : ℕ). SendsFit (Passes is_command) n k (sends_of n k plan.sends))
     (ap (λ (t : State). t.me) same ∙ here)
     (subst (λ (k : ℕ). SendsFit (Passes is_command) k (state_of core).me (sends_of k (state_of core).me plan.sends))
     (ap (λ (t : State). t.members) same ∙ members) h.sends)
-sends_told s n me core members here same (Err fault) h = tt
+sends_spelled s n me core members here same (Err fault) h = tt

@@ -99,9 +99,9 @@ few_sent n me (sends.One to x) h = omega arith
 few_sent n me (sends.All x) h = let e = to_all_length n me (message_of x) in omega (arith, e)
 
 -- a step sends fifteen messages at most
-pub few_told : (g : Group) (n me : ℕ) (s : Sends) (ds old new : List Datagram) → n ≤ 15 →
+pub few_handed_out : (g : Group) (n me : ℕ) (s : Sends) (ds old new : List Datagram) → n ≤ 15 →
     AreSpelled g (sends_of n me s) ds → new ≡ old ++ ds → length new ≤ length old + 15
-few_told g n me s ds old new few are is =
+few_handed_out g n me s ds old new few are is =
     let a : length ds ≡ length (sends_of n me s) = are_length g (sends_of n me s) ds are in
     let b = few_sent n me s few in
     let c : length new ≡ length old + length ds = ap length is ∙ length-append old ds in

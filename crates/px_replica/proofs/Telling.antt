@@ -1,7 +1,7 @@
 -- What was sent, in the world and as datagrams.
 use Rattle.std.proofs.Common.{◌≡◌, ◌∙◌, sym, ap, subst, refl, ℕ, zero, suc, Bool, true, false, not, cond, nat_eq, List, [], ◌∷◌, ◌++◌, Some, None, slice_get, length, ◌≤◌, arith}
 use Rattle.px_model.specs.Node as node
-use Rattle.px_model.specs.Node.{Envelope, asker}
+use Rattle.px_model.specs.Node.{Envelope, client}
 use Rattle.px_model.specs.Node.Input.{Comes}
 use Rattle.px_model.specs.World as world
 use Rattle.px_model.specs.World.{World, to_members, delivered, comes_to}
@@ -31,8 +31,8 @@ pub are_members : (g : Group) (xs : List (Envelope Bytes)) (ds : List Datagram) 
     AreSpelled g xs ds → AreSpelled g (to_members xs) (for_members ds)
 are_members g [] [] a = tt
 are_members g (x ∷ xs) (d ∷ ds) a =
-    let P : ℕ → Type 0 = λ to. AreSpelled g (cond (nat_eq x.addressee asker) (to_members xs) (x ∷ to_members xs)) (cond (not (nat_eq to asker)) (d ∷ for_members ds) (for_members ds)) in
-    subst P (sym a.0.addressee) (one_more g x xs d ds (nat_eq x.addressee asker) a.0 (are_members g xs ds a.1))
+    let P : ℕ → Type 0 = λ to. AreSpelled g (cond (nat_eq x.addressee client) (to_members xs) (x ∷ to_members xs)) (cond (not (nat_eq to client)) (d ∷ for_members ds) (for_members ds)) in
+    subst P (sym a.0.addressee) (one_more g x xs d ds (nat_eq x.addressee client) a.0 (are_members g xs ds a.1))
 are_members g [] (d ∷ ds) a = absurd a
 are_members g (x ∷ xs) [] a = absurd a
 

@@ -110,13 +110,13 @@ pub record IsPassedOver {R : Type 0} {G : Ghosts R} (s t : Replica R G) (bytes :
   pub works : has_failed s ≡ false
   pub unspelled : IsUnspelled (group (membership_of s)) (membership_of s).me bytes
   pub fault : WireFault
-  pub told : WireFaultAt (membership_of s) bytes fault.code fault.offset
+  pub reported : WireFaultAt (membership_of s) bytes fault.code fault.offset
   pub answered : result ≡ Ok (received.Ignored fault)
   pub still : t ≡ s
   pub silent : new ≡ old
 
 -- the datagram spells a message of somebody to this member, which is called for it; no message is refused
-pub record IsTaken {R : Type 0} {G : Ghosts R} (s t : Replica R G) (bytes : Bytes) (old new : List Datagram)
+pub record IsHandled {R : Type 0} {G : Ghosts R} (s t : Replica R G) (bytes : Bytes) (old new : List Datagram)
     (result : Result Received NodeFault) : Type 0 where
   pub works : has_failed s ≡ false
   pub sender : ℕ
@@ -131,7 +131,7 @@ pub record IsTaken {R : Type 0} {G : Ghosts R} (s t : Replica R G) (bytes : Byte
 abbrev pub Receives : {R : Type 0} {G : Ghosts R} → (s t : Replica R G) → Bytes → (old new : List Datagram) →
     Result Received NodeFault → Type 0
 Receives s t bytes old new result =
-    IsLost s t old new result ⊎ (IsPassedOver s t bytes old new result ⊎ IsTaken s t bytes old new result)
+    IsLost s t old new result ⊎ (IsPassedOver s t bytes old new result ⊎ IsHandled s t bytes old new result)
 
 -- ---- openings
 

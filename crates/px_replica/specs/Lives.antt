@@ -15,13 +15,13 @@ abbrev pub stopped : Record Bytes → NodeState Bytes
 stopped d = record { is_up = false; stored = d; volatile = nothing_volatile }
 
 -- What happens to a member.
-pub data Deed : Type 0 where
+pub data TraceEvent : Type 0 where
   -- a call for this input answered Ok: it stands so then, and handed out these datagrams
-  Calls : (input : Input Bytes) (after : NodeState Bytes) (out : List Datagram) → Deed
+  Calls : (input : Input Bytes) (after : NodeState Bytes) (out : List Datagram) → TraceEvent
   -- it stopped at some moment of a call for this input, or its store failed, and its record was left so
-  Stops : (input : Input Bytes) (left : Record Bytes) → Deed
+  Stops : (input : Input Bytes) (left : Record Bytes) → TraceEvent
   -- it was opened with the record that was left
-  Opens : Deed
+  Opens : TraceEvent
 
 -- what may reach a member, if it was sent: a message comes from somebody who may send it
 abbrev pub IsInput : Group → (me : ℕ) → Input Bytes → Type 0
@@ -30,7 +30,7 @@ IsInput g me Ticks = Unit {0}
 IsInput g me (Comes sender message) = Passing g.members sender me message
 
 -- these happened to the member one after the other, each a step of the model, and led it from s to t
-abbrev pub Lived : Group → (me : ℕ) → (s : NodeState Bytes) → List Deed → (t : NodeState Bytes) → Type 0
+abbrev pub Lived : Group → (me : ℕ) → (s : NodeState Bytes) → List TraceEvent → (t : NodeState Bytes) → Type 0
 Lived g me s [] t = t ≡ s
 Lived g me s (Calls x u out ∷ ds) t =
     (s.is_up ≡ true) × IsInput g me x × Makes g me s u x [] out × Lived g me u ds t

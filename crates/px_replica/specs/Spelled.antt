@@ -1,6 +1,6 @@
 -- Messages on their way as bytes.
 use Rattle.std.specs.Prelude.{◌≡◌, not, nat_eq, filter, List, [], ◌∷◌}
-use Rattle.px_model.specs.Node.{Envelope, asker}
+use Rattle.px_model.specs.Node.{Envelope, client}
 use Rattle.px_model.specs.Fits.{Passes, EnvelopeFits}
 use Rattle.px_model.specs.Spelling.{Bytes}
 use Rattle.px_wire.specs.Message.{Group, DatagramBytes}
@@ -23,4 +23,4 @@ AreSpelled g (x ∷ xs) (d ∷ ds) = IsSpelled g x d × AreSpelled g xs ds
 
 -- the datagrams that go to members; what goes to a client is nobody's to deliver
 abbrev pub for_members : List Datagram → List Datagram
-for_members out = filter (λ (d : Datagram). not (nat_eq d.to asker)) out
+for_members out = filter (λ (d : Datagram). not (nat_eq d.to client)) out

@@ -50,7 +50,7 @@ pub(crate) fn is_spelled(entry: &Entry) -> bool
 }
 
 /// Whether what was accepted there has a spelling.
-fn is_told(members: u8, slot: &Slot) -> bool
+fn has_spelling(members: u8, slot: &Slot) -> bool
     requires few { members ≤ MEMBERS }
     requires fits { SlotFits AnyCommand members (slot_of slot.now) }
     ensures { IsTrue result ↔ SlotFits (Passes is_command) members (slot_of slot.now) }
@@ -76,7 +76,7 @@ fn slot_at<R: Records>(records: &mut R, members: u8, position: u32) -> Result<Sl
     ensures same { R.members records.new ≡ R.members records.old }
 {
     let slot = records.read_slot(position)?;
-    if !is_told(members, &slot) {
+    if !has_spelling(members, &slot) {
         return Err(StoreFault::BadStore);
     }
     Ok(slot)

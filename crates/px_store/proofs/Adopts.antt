@@ -25,20 +25,20 @@ use Rattle.px_store.specs.inner.Effect.{IsAlike}
 use Rattle.px_store.specs.declared.calls.Identity.{Identity}
 use Rattle.px_store.proofs.Above.{number_is}
 
-told : (r : Row) (at n : ℕ) → Tells r at n → column r at ≡ Int (pos n)
-told r at n h = number_is (column r at) h.0 ∙ ap (λ k. Int (pos k)) h.1
+number_in_row : (r : Row) (at n : ℕ) → Tells r at n → column r at ≡ Int (pos n)
+number_in_row r at n h = number_is (column r at) h.0 ∙ ap (λ k. Int (pos k)) h.1
 
 module _ (c m n round number : ℕ) where
   one_row : (x : Row) → IsMetaIn c m n round number (shown meta_columns x ∷ []) → shown meta_columns x ≡ meta_row 3 c m n round number
   one_row x h =
       let r = shown meta_columns x in
-      let a : column x 0 ≡ Int (pos 1) = told r 0 1 h.0 in
-      let b : column x 2 ≡ Int (pos 3) = told r 1 3 h.1.0 in
-      let d : column x 3 ≡ Int (pos c) = told r 2 c h.1.1.0 in
-      let e : column x 4 ≡ Int (pos m) = told r 3 m h.1.1.1.0 in
-      let f : column x 5 ≡ Int (pos n) = told r 4 n h.1.1.1.1.0 in
-      let i : column x 6 ≡ Int (pos round) = told r 5 round h.1.1.1.1.1.0 in
-      let j : column x 7 ≡ Int (pos number) = told r 6 number h.1.1.1.1.1.1 in
+      let a : column x 0 ≡ Int (pos 1) = number_in_row r 0 1 h.0 in
+      let b : column x 2 ≡ Int (pos 3) = number_in_row r 1 3 h.1.0 in
+      let d : column x 3 ≡ Int (pos c) = number_in_row r 2 c h.1.1.0 in
+      let e : column x 4 ≡ Int (pos m) = number_in_row r 3 m h.1.1.1.0 in
+      let f : column x 5 ≡ Int (pos n) = number_in_row r 4 n h.1.1.1.1.0 in
+      let i : column x 6 ≡ Int (pos round) = number_in_row r 5 round h.1.1.1.1.1.0 in
+      let j : column x 7 ≡ Int (pos number) = number_in_row r 6 number h.1.1.1.1.1.1 in
       rw (a, b, d, e, f, i, j) refl
 
   meta_from : (found answer : List Row) → map (shown meta_columns) found ≡ answer → IsMetaIn c m n round number answer → map (shown meta_columns) found ≡ meta_row 3 c m n round number ∷ []
@@ -62,8 +62,8 @@ floor_from b found answer same h = go found (subst (IsFloorIn b) (sym same) h)
     go [] h = rw h refl
     go (x ∷ []) h =
         let r = shown floor_columns x in
-        let a : column x 0 ≡ Int (pos 1) = told r 0 1 h.0 in
-        let d : column x 2 ≡ Int (pos b) = told r 1 b h.1.0 in
+        let a : column x 0 ≡ Int (pos 1) = number_in_row r 0 1 h.0 in
+        let d : column x 2 ≡ Int (pos b) = number_in_row r 1 b h.1.0 in
         let more = h.1.1 in
         rw (a, d, ne_eqb b 0 (λ e. omega (arith, e, more))) refl
     go (x ∷ y ∷ more) h = absurd h
@@ -120,11 +120,11 @@ none_refused : (a b c : Bool) → a ≡ true → b ≡ true → c ≡ true → c
 none_refused a b c p q r = rw (p, q, r) refl
 
 -- a store that isn't refused has a floor that the node may have promised
-floor_taken : (format : ℕ) (id : Identity) (meta floor : List Row) (more : Bool) → refusal_of format id meta floor more ≡ None → are_floor_rows id.members floor ≡ true
-floor_taken format id [] [] more e = refl
-floor_taken format id [] (r ∷ rest) more e = absurd cc
-floor_taken format id (r ∷ x ∷ rest) floor more e = absurd cc
-floor_taken format id (r ∷ []) floor more e =
+floor_accepted : (format : ℕ) (id : Identity) (meta floor : List Row) (more : Bool) → refusal_of format id meta floor more ≡ None → are_floor_rows id.members floor ≡ true
+floor_accepted format id [] [] more e = refl
+floor_accepted format id [] (r ∷ rest) more e = absurd cc
+floor_accepted format id (r ∷ x ∷ rest) floor more e = absurd cc
+floor_accepted format id (r ∷ []) floor more e =
     let held = both_hold (says_format format r) (says_member r && says_numbers r && are_floor_rows (number_in (column r 3)) floor) (says_owner id r) e in
     let owner = and_parts _ _ (and_parts _ _ held.1).1 in
     let members : number_in (column r 3) ≡ id.members = eqb-true (number_in (column r 3)) id.members owner.0 in
@@ -143,9 +143,9 @@ again id round number s f l db b low most floor member =
 
 pub whole_from : (f : Format) (id : Identity) (was : Trees) (round number : ℕ) → refusal f id was ≡ None → number_at 5 (seen meta_columns (was 0) 1) ≡ round → number_at 6 (seen meta_columns (was 0) 1) ≡ number
     → round < 2 ^ 48 → number ≤ 2 ^ 48 → (db : Trees) → AreBrought id round number (was 1) (trees_at f was 2) (trees_at f was 3) db → IsBrought f id was db
-whole_from f id was round number taken r k low most db b =
+whole_from f id was round number adopted r k low most db b =
     let here = subst₂ (λ (x y : ℕ). AreBrought id x y (was 1) (trees_at f was 2) (trees_at f was 3) db) (sym r) (sym k) b in
-    let floor = floor_taken (number_of f) id (seen meta_columns (was 0) 1) (seen floor_columns (trees_at f was 2) 1) _ taken in
+    let floor = floor_accepted (number_of f) id (seen meta_columns (was 0) 1) (seen floor_columns (trees_at f was 2) 1) _ adopted in
     record { rows = here; shows = brought_shows f id was db here; again = again id round number (was 1) (trees_at f was 2) (trees_at f was 3) db b low most floor }
 
 pub whole_anew : (id : Identity) (db : Trees) → AreBrought id 0 0 [] [] [] db → IsMade id db

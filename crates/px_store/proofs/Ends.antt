@@ -23,8 +23,8 @@ pub no_end : (test : Row → Bool) (good : ℕ → Type 0) (rows answer : List R
 no_end test good rows [] last none h = none 0 refl
 no_end test good rows (a ∷ []) (r, has, there, key, most) none h =
     let (p, within, at, is) = h r (has, there, most) in
-    let told : column a 0 ≡ Int (pos p) = ap (λ x. column x 0) key ∙ at in
-    none (suc p) (ap is_number told, (ap (λ v. suc (number_in v)) (sym told), subst (λ (n : ℕ). n < positions) (sym (ap number_in told)) within))
+    let position_is : column a 0 ≡ Int (pos p) = ap (λ x. column x 0) key ∙ at in
+    none (suc p) (ap is_number position_is, (ap (λ v. suc (number_in v)) (sym position_is), subst (λ (n : ℕ). n < positions) (sym (ap number_in position_is)) within))
 no_end test good rows (a ∷ b ∷ more) last none h = last
 
 -- what is at the last position is good where the last row is

@@ -85,20 +85,20 @@ module _ (id : Identity) (r : NewRow) (bytes : Bytes) (old mid : State) (began :
 
 -- ---- what it makes of the record
 
-abbrev pub told_of : Result (Unit {0}) Trouble → Result (Unit {0}) StoreFault
-told_of (Ok x) = Ok x
-told_of (Err Memory) = Err fault.Memory
-told_of (Err Failed) = Err fault.Failed
+abbrev pub store_result : Result (Unit {0}) Trouble → Result (Unit {0}) StoreFault
+store_result (Ok x) = Ok x
+store_result (Err Memory) = Err fault.Memory
+store_result (Err Failed) = Err fault.Failed
 
-told_ok : (r : Result (Unit {0}) Trouble) (A B : Type 0) → (A → B) → OnOk r A → OnOk (told_of r) B
-told_ok (Ok x) A B f h = f h
-told_ok (Err Memory) A B f h = h
-told_ok (Err Failed) A B f h = h
+store_result_ok : (r : Result (Unit {0}) Trouble) (A B : Type 0) → (A → B) → OnOk r A → OnOk (store_result r) B
+store_result_ok (Ok x) A B f h = f h
+store_result_ok (Err Memory) A B f h = h
+store_result_ok (Err Failed) A B f h = h
 
-told_memory : (r : Result (Unit {0}) Trouble) → told_of r ≡ Err fault.Memory → r ≡ Err Memory
-told_memory (Ok x) e = absurd cc
-told_memory (Err Memory) e = refl
-told_memory (Err Failed) e = absurd cc
+store_memory : (r : Result (Unit {0}) Trouble) → store_result r ≡ Err fault.Memory → r ≡ Err Memory
+store_memory (Ok x) e = absurd cc
+store_memory (Err Memory) e = refl
+store_memory (Err Failed) e = absurd cc
 
 row_kept : (members f : ℕ) (id : Identity) (r : NewRow) (bytes : Bytes) (old : State) (db : Trees) → Replaces r (stored_of members f old) → IsPut id r bytes old.committed.trees db
     → record_in db ≡ with_row r bytes (record_in old.committed.trees)
@@ -108,10 +108,10 @@ row_kept members f id (Floor ballot) bytes old db good h = floor_kept old.commit
 row_kept members f id (Learned p) bytes old db good h = learned_kept old.committed.trees db p bytes (learned_keyed members p _ good) h
 
 pub changed : (members f g : ℕ) (id : Identity) (r : NewRow) (bytes : Bytes) (answer : Result (Unit {0}) Trouble) (old new : State) → Replaces r (stored_of members f old) → Wrote id r bytes answer old new
-    → Changed (with_row r bytes (record_in old.committed.trees)) (told_of answer) (stored_of members f old) (stored_of members g new)
+    → Changed (with_row r bytes (record_in old.committed.trees)) (store_result answer) (stored_of members f old) (stored_of members g new)
 changed members f g id r bytes answer old new good w = record {
-  ok = told_ok answer (IsPut id r bytes old.committed.trees new.committed.trees × IsSettled new) _ (λ h. row_kept members f id r bytes old new.committed.trees good h.0) w.ok;
-  memory = λ is. all_kept members f g old new (w.memory (told_memory answer is)).committed;
+  ok = store_result_ok answer (IsPut id r bytes old.committed.trees new.committed.trees × IsSettled new) _ (λ h. row_kept members f id r bytes old new.committed.trees good h.0) w.ok;
+  memory = λ is. all_kept members f g old new (w.memory (store_memory answer is)).committed;
   stop = λ d left. elim (w.stop left.0 left.1) [
     | inl was ↦ inl (left.0, was, left.2)
     | inr made ↦ inr (left.2 ∙ row_kept members f id r bytes old left.0 good made)

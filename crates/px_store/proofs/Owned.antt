@@ -66,7 +66,7 @@ three_is Three e = refl
 -- a store whose rows are those of format 3 is taken as one of format 3
 pub own_three : (f : Format) (id : Identity) (db : Trees) → IsOwn id db → refusal f id db ≡ None → f ≡ Three
 own_three f id db own h =
-    three_is f (none_other (number_of f) id (seen meta_columns (db 0) 1) (seen floor_columns (trees_at Three db 2) 1) (seen floor_columns (trees_at f db 2) 1) _ _ own.row own.taken h)
+    three_is f (none_other (number_of f) id (seen meta_columns (db 0) 1) (seen floor_columns (trees_at Three db 2) 1) (seen floor_columns (trees_at f db 2) 1) _ _ own.row own.adopted h)
 
 none_some : (e : AdoptFault) → None ≡ Some e → ⊥
 none_some e h = cc
@@ -74,10 +74,10 @@ none_some e h = cc
 -- else it is refused with 73
 pub own_refused : (f : Format) (id : Identity) (db : Trees) → IsOwn id db → (e : AdoptFault) → refusal f id db ≡ Some e → e ≡ StoreVersion
 own_refused One id db own e h =
-    other 1 id (seen meta_columns (db 0) 1) (seen floor_columns (trees_at Three db 2) 1) (seen floor_columns (trees_at One db 2) 1) _ _ (λ x. cc) own.row own.taken e h
+    other 1 id (seen meta_columns (db 0) 1) (seen floor_columns (trees_at Three db 2) 1) (seen floor_columns (trees_at One db 2) 1) _ _ (λ x. cc) own.row own.adopted e h
 own_refused Two id db own e h =
-    other 2 id (seen meta_columns (db 0) 1) (seen floor_columns (trees_at Three db 2) 1) (seen floor_columns (trees_at Two db 2) 1) _ _ (λ x. cc) own.row own.taken e h
-own_refused Three id db own e h = absurd (none_some e (sym own.taken ∙ h))
+    other 2 id (seen meta_columns (db 0) 1) (seen floor_columns (trees_at Three db 2) 1) (seen floor_columns (trees_at Two db 2) 1) _ _ (λ x. cc) own.row own.adopted e h
+own_refused Three id db own e h = absurd (none_some e (sym own.adopted ∙ h))
 
 pub judged_own : {X : Type 0} (r : Result X AdoptFault) (f : Format) (id : Identity) (db : Trees) → IfErr r (λ e. IsVerdict e → refusal f id db ≡ Some e) → IsOwn id db
     → IfErr r (λ e. IsVerdict e → e ≡ StoreVersion)

@@ -82,9 +82,9 @@ has_filter t (x ∷ rows) r (inr later) it = go (t x) (has_filter t rows r later
     go true h = inr h
     go false h = h
 
-not_taken : (b : Bool) → (not b && true) ≡ true → b ≡ false
-not_taken true e = absurd cc
-not_taken false e = refl
+not_and_true : (b : Bool) → (not b && true) ≡ true → b ≡ false
+not_and_true true e = absurd cc
+not_and_true false e = refl
 
 -- where no row has the new one's key, none is found under it
 free : (p : ℕ) (rest : Row) (rows : List Row) → is_taken rows (Int (pos p) ∷ rest) ≡ false → rows_at rows p ≡ []
@@ -131,16 +131,16 @@ module _ (limit : Option ℕ) (keys : Keys) (table : Table) (params : Row) (p : 
       let g = went h in
       let a = one_step schema_3 keys db g.0 (edit_of db table [] Given 0 (new ∷ [])) refl g.1 in
       let same : one.trees ≡ g.0 = ap (λ (w : Written). w.trees) (same_value g.2) in
-      let taken : is_taken (db table.tree) new ≡ false =
-      not_taken _ (subst (λ r. (not (is_taken (db table.tree) r) && true) ≡ true) casts a.fresh) in
+      let is_used : is_taken (db table.tree) new ≡ false =
+      not_and_true _ (subst (λ r. (not (is_taken (db table.tree) r) && true) ≡ true) casts a.fresh) in
       let rows : one.trees table.tree ≡ put_row new (db table.tree) =
       ap (λ (t : Trees). t table.tree) same ∙ a.rows ∙ ap (λ r. put_row r (db table.tree)) casts in
       let it : has_rowid (pos p) new ≡ true = ap is_eq (value_cmp-Int (pos p) (pos p) ∙ sym (int_cmp_is (pos p) (pos p) Equal refl)) in
-      let none = free p rest (db table.tree) taken in
+      let none = free p rest (db table.tree) is_used in
       let others : (q : ℕ) → q ≢ p → rows_at (one.trees table.tree) q ≡ rows_at (db table.tree) q = λ q ne.
-      ap (λ rows. rows_at rows q) rows ∙ put_other (has_rowid (pos q)) new (db table.tree) (not_equal _ (apart q p (λ e. ne (sym e)))) taken in (
+      ap (λ rows. rows_at rows q) rows ∙ put_other (has_rowid (pos q)) new (db table.tree) (not_equal _ (apart q p (λ e. ne (sym e)))) is_used in (
         record {
-          alone = ap (λ rows. rows_at rows p) rows ∙ put_same (has_rowid (pos p)) new (db table.tree) it taken none;
+          alone = ap (λ rows. rows_at rows p) rows ∙ put_same (has_rowid (pos p)) new (db table.tree) it is_used none;
           others = λ _. others;
           trees = λ t ne. ap (λ (db : Trees). db t) same ∙ a.others t ne tt;
         },
@@ -185,9 +185,9 @@ module _ (limit : Option ℕ) (keys : Keys) (table : Table) (params : Row) (p : 
         ∙ ap (with_rowid Chosen rows) (ap (cast_row table) mends ∙ casts)
 
     -- what the statement means, for the rows of the table
-    pub replaced : (mode : Mode) (db : Trees) (tally : Tally) (after : Database)
-        → OnRows task mode None (replace place terms width) db (Ok (tally, after)) → IsIn db after.trees × (after.schema ≡ schema_3)
-    replaced mode db tally after h =
+    pub replaced : (mode : Mode) (db : Trees) (counts : Tally) (after : Database)
+        → OnRows task mode None (replace place terms width) db (Ok (counts, after)) → IsIn db after.trees × (after.schema ≡ schema_3)
+    replaced mode db counts after h =
         let done = went h in
         let now = ap (λ (p : Tally × Database). p.1) (same_value (went (went done.2).2).2) in
         let given = went done.1 in
@@ -212,8 +212,8 @@ at_schema schema trees = record { schema = schema; trees = trees }
 -- what the text means of these trees
 abbrev pub Goes : (text : List ℕ) (command : Command) (params : Row) (tree p : ℕ) (columns : List ℕ) → Row → Type 0
 Goes text command params tree p columns row =
-    (limit : Option ℕ) (mode : Mode) (db : Trees) (tally : Tally) (after : Database)
-    → Does limit mode params (at_schema schema_3 db) (statement_of text (understood schema_3 text)) None command (Ok (tally, after))
+    (limit : Option ℕ) (mode : Mode) (db : Trees) (counts : Tally) (after : Database)
+    → Does limit mode params (at_schema schema_3 db) (statement_of text (understood schema_3 text)) None command (Ok (counts, after))
     → Puts tree p columns row db after.trees × (after.schema ≡ schema_3)
 
 module _ (text : List ℕ) (place width : ℕ) (terms : List Term) (means : Means schema_3 text (replace place terms width)) (params : Row) (tree p : ℕ) (columns : List ℕ) (row : Row)
@@ -221,17 +221,17 @@ module _ (text : List ℕ) (place width : ℕ) (terms : List Term) (means : Mean
   abbrev whole : List ℕ
   whole = statement_of text (understood schema_3 text)
 
-  does : (tally : Tally) (after : Database) → Does old.step_limit (mode_of old) params old.now whole None (replace place terms width) (Ok (tally, after))
+  does : (counts : Tally) (after : Database) → Does old.step_limit (mode_of old) params old.now whole None (replace place terms width) (Ok (counts, after))
       → Puts tree p columns row old.now.trees after.trees × (after.schema ≡ schema_3)
-  does tally after h =
-      goes old.step_limit (mode_of old) old.now.trees tally after
-      (subst (λ s. Does old.step_limit (mode_of old) params (at_schema s old.now.trees) whole None (replace place terms width) (Ok (tally, after))) has h)
+  does counts after h =
+      goes old.step_limit (mode_of old) old.now.trees counts after
+      (subst (λ s. Does old.step_limit (mode_of old) params (at_schema s old.now.trees) whole None (replace place terms width) (Ok (counts, after))) has h)
 
   pub keeps : (new : State) (count : ℕ) → old.in_transaction ≡ false → Executes text params old new (Ok count)
       → Puts tree p columns row old.now.trees new.now.trees × IsSettled new
   keeps new count auto h =
       let w = runs_as text params old new schema_3 has (replace place terms width) means.is means.plain count h in
-      let d = does w.tally new.now w.changed in (
+      let d = does w.counts new.now w.changed in (
         d.0,
         record {
           committed = w.shown.committed_is ∙ ap (λ c. cond c old.committed new.now) auto;
@@ -245,7 +245,7 @@ module _ (text : List ℕ) (place width : ℕ) (terms : List Term) (means : Mean
   pub inside : (new : State) (count : ℕ) → Executes text params old new (Ok count) → Puts tree p columns row old.now.trees new.now.trees × (new.now.schema ≡ schema_3)
   inside new count h =
       let w = runs_as text params old new schema_3 has (replace place terms width) means.is means.plain count h in
-      does w.tally new.now w.changed
+      does w.counts new.now w.changed
 
   -- and so is what a crash in the midst may leave
   pub leaves : (db : Trees) → CommitsBy text params old db → Puts tree p columns row old.now.trees db

@@ -81,4 +81,4 @@ refusal f i db = refusal_of (number_of f) i (seen meta_columns (db 0) 1) (seen f
 -- the rows of a store of format 3 that is this node's
 pub record IsOwn (i : Identity) (db : Trees) : Type 0 where
   pub row : has_rows (seen meta_columns (db 0) 1) ≡ true
-  pub taken : refusal Three i db ≡ None
+  pub adopted : refusal Three i db ≡ None

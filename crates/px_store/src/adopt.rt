@@ -65,7 +65,7 @@ fn bring_at<S: Alter>(
     ensures stop { HasCleanDisk (state S.Store conn.new) → Began format (state S.Store conn.old) →
         LeavesOr (IsBrought format identity (state S.Store conn.old).now.trees) (state S.Store conn.old)
         (state S.Store conn.new) }
-    ensures taken { HasCleanDisk (state S.Store conn.new) → Began format (state S.Store conn.old) →
+    ensures adopted { HasCleanDisk (state S.Store conn.new) → Began format (state S.Store conn.old) →
         OnOk result (refusal format identity (state S.Store conn.old).now.trees ≡ None) }
     ensures judged { HasCleanDisk (state S.Store conn.new) → Began format (state S.Store conn.old) →
         IfErr result (λ e. IsVerdict e → refusal format identity (state S.Store conn.old).now.trees ≡ Some e) }
@@ -113,7 +113,7 @@ pub(crate) fn bring<S: Alter>(
         LeavesOr (IsBrought f identity (state S.Store conn.old).now.trees) (state S.Store conn.old)
         (state S.Store conn.new) }
     ensures never { (state S.Store conn.old).now.schema ≡ no_schema → IfErr result (λ e. IsVerdict e → ⊥) }
-    ensures taken { HasCleanDisk (state S.Store conn.new) → (f : Format) → Began f (state S.Store conn.old) →
+    ensures adopted { HasCleanDisk (state S.Store conn.new) → (f : Format) → Began f (state S.Store conn.old) →
         OnOk result (refusal f identity (state S.Store conn.old).now.trees ≡ None) }
     ensures judged { HasCleanDisk (state S.Store conn.new) → (f : Format) → Began f (state S.Store conn.old) →
         IfErr result (λ e. IsVerdict e → refusal f identity (state S.Store conn.old).now.trees ≡ Some e) }

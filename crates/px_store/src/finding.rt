@@ -204,7 +204,7 @@ fn is_owner(found: &Found, identity: Identity) -> bool
 
 /// Judges a store that has a row for the whole node: 73, 72, 71, in this order.
 fn judge_row(row: &Row, floor: &[Row], format: u64, identity: Identity) -> Result<Found, AdoptFault>
-    ensures taken { OnOk result (row_refusal format identity floor.now row.now ≡ None) }
+    ensures adopted { OnOk result (row_refusal format identity floor.now row.now ≡ None) }
     ensures refused { IfErr result (λ e. IsVerdict e → row_refusal format identity floor.now row.now ≡ Some e) }
     ensures round { IfOk result (λ f. number_at 5 (row.now ∷ []) ≡ f.round) }
     ensures number { IfOk result (λ f. number_at 6 (row.now ∷ []) ≡ f.number) }
@@ -238,7 +238,7 @@ fn judge_rows(
     format: u64,
     identity: Identity,
 ) -> Result<Found, AdoptFault>
-    ensures taken { OnOk result (refusal_of format identity meta.now floor.now has_more ≡ None) }
+    ensures adopted { OnOk result (refusal_of format identity meta.now floor.now has_more ≡ None) }
     ensures refused { IfErr result (λ e. IsVerdict e →
         refusal_of format identity meta.now floor.now has_more ≡ Some e) }
     ensures few { IfOk result (λ f. length meta.now < 2) }
@@ -278,7 +278,7 @@ pub(crate) fn rows_in(rows: &Option<Vec<Row>>) -> &[Row]
 
 /// Judges a store: 73, 72, 71, in this order.
 pub(crate) fn judge(read: &Read, format: u64, identity: Identity) -> Result<Found, AdoptFault>
-    ensures taken { OnOk result (refusal_of format identity (rows_in read.now.meta) (rows_in read.now.floor)
+    ensures adopted { OnOk result (refusal_of format identity (rows_in read.now.meta) (rows_in read.now.floor)
         (read.now.has_slot || read.now.has_entry) ≡ None) }
     ensures refused { IfErr result (λ e. IsVerdict e →
         refusal_of format identity (rows_in read.now.meta) (rows_in read.now.floor)

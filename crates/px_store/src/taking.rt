@@ -53,7 +53,7 @@ impl<S: Alter> SqlRecords<S> {
             IsOpened S.Store r nothing_stored) }
         ensures rows { IfOk result (λ r. HasCleanDisk (state S.Store (connection_of r)) → (f : Format) →
             Began f (state S.Store conn) → IsOpened S.Store r (record_at f (state S.Store conn).now.trees)) }
-        ensures taken { IfOk result (λ r. HasCleanDisk (state S.Store (connection_of r)) → (f : Format) →
+        ensures adopted { IfOk result (λ r. HasCleanDisk (state S.Store (connection_of r)) → (f : Format) →
             Began f (state S.Store conn) → refusal f identity (state S.Store conn).now.trees ≡ None) }
         ensures judged { IfErr result (λ e. HasCleanDisk (state S.Store e.1) → (f : Format) →
             Began f (state S.Store conn) →

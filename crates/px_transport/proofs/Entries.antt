@@ -130,10 +130,10 @@ abbrev Takes : Heard → Option Piece → (now : ℕ) → Entry → Given → Ty
 Takes h o now e g =
     (m : Memory) × IsHeard (with_piece m h o now).heard e × (g ≡ (with_piece m h o now).given)
 
-pub piece_taken : (h : Heard) (p : Peer) (us vs : List Unfinished) (o : Option Piece) (q : Piece) (now : ℕ)
+pub piece_handled : (h : Heard) (p : Peer) (us vs : List Unfinished) (o : Option Piece) (q : Piece) (now : ℕ)
     (d : Option (List ℕ)) (g : Given) → IsHeard h (entry_of p us) → o ≡ Some q → d ≡ finished_by us q now →
     vs ≡ unfinished_after us q now → g ≡ as_joined d → Takes h o now (entry_of p vs) g
-piece_taken h p us vs o q now d g is read given after same =
+piece_handled h p us vs o q now d g is read given after same =
     let P : Option Piece → Type 0 = λ x. Takes h x now (entry_of p vs) g in
     subst P (sym read) (
       Enough,
@@ -163,15 +163,15 @@ piece_refused h p us vs o q now is read same =
     )
 
 -- the body of a packet that is accepted is taken
-pub body_taken : (mine : Start) (h : Heard) (g : Header) (b : List ℕ) (now : ℕ) (e : Entry) (x : Given) →
+pub body_handled : (mine : Start) (h : Heard) (g : Header) (b : List ℕ) (now : ℕ) (e : Entry) (x : Given) →
     arrival_of mine h.known g ≡ arrivals.Accepted → (m : Memory) ×
     IsHeard (with_body m (with_header mine h g) g.kind b now).heard e × (x ≡ (with_body m (with_header mine h g) g.kind b now).given) →
     (m : Memory) × IsHeard (heard_by mine m h g b now).heard e × (x ≡ (heard_by mine m h g b now).given)
-body_taken mine h g b now e x accepted taken =
+body_handled mine h g b now e x accepted packet_outcome =
     let rest = unchanged (with_header mine h g) (Dropped (arrival_of mine h.known g)) in
     let P : Bool → Type 0 = λ c. (let o = λ (m : Memory). if c then with_body m (with_header mine h g) g.kind b now else rest in
     (m : Memory) × IsHeard (o m).heard e × (x ≡ (o m).given)) in
-    subst P (sym (ap is_accepted accepted)) taken
+    subst P (sym (ap is_accepted accepted)) packet_outcome
 
 -- ---- all members
 
@@ -198,19 +198,19 @@ hears_set mine hs r s i j h e is here same start items =
     }
 
 -- a packet of a member is taken
-abbrev IsTaken : (mine : Start) → List Heard → Header → List ℕ → (now : ℕ) → Receiver → Given → Type 0
-IsTaken mine hs g b now s x =
+abbrev IsHandled : (mine : Start) → List Heard → Header → List ℕ → (now : ℕ) → Receiver → Given → Type 0
+IsHandled mine hs g b now s x =
     (m : Memory) × Hears mine (heard_after mine m hs g b now) s × (x ≡ given_by mine m hs g b now)
 
-pub packet_taken : (mine : Start) (hs : List Heard) (r s : Receiver) (i : ℕ) (g : Header) (b : List ℕ) (now : ℕ) (e : Entry)
+pub packet_handled : (mine : Start) (hs : List Heard) (r s : Receiver) (i : ℕ) (g : Header) (b : List ℕ) (now : ℕ) (e : Entry)
     (x : Given) → Hears mine hs r → i ≡ g.from → i < length r.entries.items → s.start ≡ r.start →
     s.entries.items ≡ set r.entries.items i e → (m : Memory) ×
     IsHeard (heard_by r.start m (of_member hs g.from) g b now).heard e ×
-    (x ≡ (heard_by r.start m (of_member hs g.from) g b now).given) → IsTaken mine hs g b now s x
-packet_taken mine hs r s i g b now e x is same l start items taken =
+    (x ≡ (heard_by r.start m (of_member hs g.from) g b now).given) → IsHandled mine hs g b now s x
+packet_handled mine hs r s i g b now e x is same l start items packet_outcome =
     let P : Start → Type 0 = λ t. (m : Memory) × IsHeard (heard_by t m (of_member hs g.from) g b now).heard e ×
     (x ≡ (heard_by t m (of_member hs g.from) g b now).given) in
-    let own = subst P is.start_is taken in
+    let own = subst P is.start_is packet_outcome in
     let m = own.0 in
     let o = heard_by mine m (of_member hs g.from) g b now in
     let inside : nat_lt g.from (length hs) ≡ true =
@@ -218,7 +218,7 @@ packet_taken mine hs r s i g b now e x is same l start items taken =
     (m, hears_set mine hs r s i g.from o.heard e is own.1 same start items, own.2 ∙ sym (chosen _ o.given Nothing inside))
 
 pub no_member : (mine : Start) (hs : List Heard) (r : Receiver) (g : Header) (b : List ℕ) (now : ℕ) → Hears mine hs r →
-    length r.entries.items ≤ g.from → IsTaken mine hs g b now r Nothing
+    length r.entries.items ≤ g.from → IsHandled mine hs g b now r Nothing
 no_member mine hs r g b now is l =
     let o = heard_by mine Enough (of_member hs g.from) g b now in
     let past : nat_lt g.from (length hs) ≡ false =

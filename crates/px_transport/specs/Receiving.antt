@@ -12,8 +12,8 @@ use Rattle.px_packet.specs.ReplayLaws.{is_accepted}
 use Rattle.px_packet.specs.Pieces.{Piece}
 use Rattle.px_packet.specs.declared.held.PiecesHeld.{PiecesHeld}
 use Rattle.px_packet.specs.Reassembling.{Unfinished, unfinished_after, finished_by, due_after, first_due, earlier}
-use Rattle.px_transport.specs.declared.taken.Taken.{Taken}
-use Rattle.px_transport.specs.declared.taken.Taken.TheVariants as taken
+use Rattle.px_transport.specs.declared.packet_outcome.PacketOutcome.{PacketOutcome}
+use Rattle.px_transport.specs.declared.packet_outcome.PacketOutcome.TheVariants as packet_outcome
 use Rattle.px_transport.specs.declared.receiver.Entry.{Entry}
 use Rattle.px_transport.specs.declared.receiver.Receiver.{Receiver}
 use Rattle.px_transport.specs.Bodies.{piece_in, held_in}
@@ -139,9 +139,9 @@ pub record Hears (mine : Start) (hs : List Heard) (r : Receiver) : Type 0 where
   pub heard : AllZip IsHeard hs r.entries.items
 
 -- what a value in code gives
-abbrev pub seen : Taken → Given
-seen (taken.Whole b) = Whole b.now
-seen (taken.Joined m) = Joined m.items
-seen (taken.Held held) = Held held
-seen taken.Nothing = Nothing
-seen (taken.Dropped a) = Dropped a
+abbrev pub seen : PacketOutcome → Given
+seen (packet_outcome.Whole b) = Whole b.now
+seen (packet_outcome.Joined m) = Joined m.items
+seen (packet_outcome.Held held) = Held held
+seen packet_outcome.Nothing = Nothing
+seen (packet_outcome.Dropped a) = Dropped a

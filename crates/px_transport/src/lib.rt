@@ -7,7 +7,7 @@
 //!   `k`-th receive and send fails, for tests of lost datagrams. [`LoopbackWire`]: any wire, which keeps what a member
 //!   sends to itself and gives it back.
 //! - [`PacketWire`]: any wire, over which datagrams go as sealed packets (`px_packet`), cut where they are longer than
-//!   a packet. [`Receiver`]: what a receiver does with packets that were opened; [`Taken`]: what comes of one.
+//!   a packet. [`Receiver`]: what a receiver does with packets that were opened; [`PacketOutcome`]: what comes of one.
 //! - [`laws`] and [`sending_laws`]: what is given was handed over, once; no counter is used twice.
 //! - `specs/Bodies` defines how bodies are read, `specs/Receiving` what a receiver does with packets, `specs/Sending`
 //!   which packets a member sends, `specs/Wiring` what a wire over packets does.
@@ -42,17 +42,17 @@ mod loopback;
 mod memory;
 mod opening;
 mod outgoing;
+mod packet_outcome;
 mod packet_wire;
 mod receiver;
 mod sender;
 pub mod sending_laws;
-mod taken;
 mod wire;
 
 pub use faulty::FaultyWire;
 pub use loopback::LoopbackWire;
 pub use memory::MemoryWire;
+pub use packet_outcome::PacketOutcome;
 pub use packet_wire::PacketWire;
 pub use receiver::Receiver;
-pub use taken::Taken;
 pub use wire::Wire;

@@ -9,9 +9,9 @@ ghost use Rattle.px_transport.specs.Wiring.{opened, given_of, heard_with, Comes,
 ghost use Rattle.px_transport.specs.Senders.{sealer_of};
 
 use crate::coming::Coming;
+use crate::packet_outcome::PacketOutcome;
 use crate::receiver::Receiver;
 use crate::sender::Sender;
-use crate::taken::Taken;
 use px_packet::{Arrival, Header};
 
 /// Copies the bytes to the room that there is, where they fit, or else none: how many these are.
@@ -42,11 +42,11 @@ fn take_opened(
         result into.new }
 {
     match receiver.take(header, body, now) {
-        Taken::Whole(datagram) => Coming::Given(put(datagram, into)),
-        Taken::Joined(datagram) => Coming::Given(put(datagram.as_slice(), into)),
-        Taken::Held(held) => Coming::Held(header.from, held),
-        Taken::Nothing => Coming::Given(0),
-        Taken::Dropped(arrival) => match arrival {
+        PacketOutcome::Whole(datagram) => Coming::Given(put(datagram, into)),
+        PacketOutcome::Joined(datagram) => Coming::Given(put(datagram.as_slice(), into)),
+        PacketOutcome::Held(held) => Coming::Held(header.from, held),
+        PacketOutcome::Nothing => Coming::Given(0),
+        PacketOutcome::Dropped(arrival) => match arrival {
             Arrival::OtherMachine => Coming::OtherMachine,
             _ => Coming::Dropped,
         },

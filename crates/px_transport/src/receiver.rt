@@ -8,7 +8,7 @@ ghost use Rattle.px_transport.specs.Receiving.{Heard, Memory, unheard, with_head
 ghost use Rattle.px_transport.specs.Receiving.{with_body, heard_by, of_member, heard_after, given_by, reported_of};
 ghost use Rattle.px_transport.specs.Receiving.{due_of, IsHeard, Hears, seen};
 
-use crate::taken::Taken;
+use crate::packet_outcome::PacketOutcome;
 use px_packet::{Arrival, Header, Kind, Peer, Piece, PiecesHeld, Reassembly, Start};
 use std::alloc::{AllocError, Global};
 
@@ -20,22 +20,22 @@ pub(crate) struct Entry {
 }
 
 /// What a body of kind pieces held gives.
-fn read_held<'a>(body: &[u8]) -> Taken<'a>
+fn read_held<'a>(body: &[u8]) -> PacketOutcome<'a>
     ensures { seen result ≡ read_held body.now }
 {
     match PiecesHeld::read(body) {
-        Some(held) => Taken::Held(held),
-        None => Taken::Nothing,
+        Some(held) => PacketOutcome::Held(held),
+        None => PacketOutcome::Nothing,
     }
 }
 
 /// What the datagram gives of which all pieces have come, where there is one.
-fn joined<'a>(datagram: Option<Vec<u8>>) -> Taken<'a>
+fn joined<'a>(datagram: Option<Vec<u8>>) -> PacketOutcome<'a>
     ensures { seen result ≡ as_joined (option_map (λ m. m.items) datagram) }
 {
     match datagram {
-        Some(datagram) => Taken::Joined(datagram),
-        None => Taken::Nothing,
+        Some(datagram) => PacketOutcome::Joined(datagram),
+        None => PacketOutcome::Nothing,
     }
 }
 
@@ -65,29 +65,29 @@ impl Entry {
     }
 
     /// Takes the body of kind piece of a packet that was accepted.
-    fn take_piece<'a>(&mut self, body: &[u8], now: u64) -> Taken<'a>
+    fn take_piece<'a>(&mut self, body: &[u8], now: u64) -> PacketOutcome<'a>
         ensures { (h : Heard) → IsHeard h self.old → (m : Memory) ×
             IsHeard (with_piece m h (piece_in body.now) now).heard self.new ×
             (seen result ≡ (with_piece m h (piece_in body.now) now).given) }
     {
         let Some(piece) = Piece::read(body) else {
-            return Taken::Nothing;
+            return PacketOutcome::Nothing;
         };
         match self.reassembly.take(&piece, now) {
             Ok(done) => joined(done),
-            Err(_) => Taken::Nothing,
+            Err(_) => PacketOutcome::Nothing,
         }
     }
 
     /// Takes the body of a packet that was accepted.
-    fn take_body<'a>(&mut self, kind: Kind, body: &'a [u8], now: u64) -> Taken<'a>
+    fn take_body<'a>(&mut self, kind: Kind, body: &'a [u8], now: u64) -> PacketOutcome<'a>
         ensures { (h : Heard) → IsHeard h self.old → (m : Memory) ×
             IsHeard (with_body m h kind body.now now).heard self.new ×
             (seen result ≡ (with_body m h kind body.now now).given) }
     {
         match kind {
-            Kind::State => Taken::Nothing,
-            Kind::Whole => Taken::Whole(body),
+            Kind::State => PacketOutcome::Nothing,
+            Kind::Whole => PacketOutcome::Whole(body),
             Kind::Piece => self.take_piece(body, now),
             Kind::PiecesHeld => read_held(body),
         }
@@ -101,14 +101,14 @@ impl Entry {
         header: &Header,
         body: &'a [u8],
         now: u64,
-    ) -> Taken<'a>
+    ) -> PacketOutcome<'a>
         ensures { (h : Heard) → IsHeard h self.old → (m : Memory) ×
             IsHeard (heard_by mine m h header.now body.now now).heard self.new ×
             (seen result ≡ (heard_by mine m h header.now body.now now).given) }
     {
         let arrival = self.take_header(alloc, mine, header);
         if arrival != Arrival::Accepted {
-            return Taken::Dropped(arrival);
+            return PacketOutcome::Dropped(arrival);
         }
         self.take_body(header.kind, body, now)
     }
@@ -174,14 +174,14 @@ impl Receiver {
 
     /// Takes an authentic packet, by its header and body, that came at a time in milliseconds. Where memory is refused
     /// a piece is lost, or the datagram of which it is the last, and nothing else changes.
-    pub fn take<'a>(&mut self, header: &Header, body: &'a [u8], now: u64) -> Taken<'a>
+    pub fn take<'a>(&mut self, header: &Header, body: &'a [u8], now: u64) -> PacketOutcome<'a>
         ensures { (mine : Start) (hs : List Heard) → Hears mine hs self.old → (m : Memory) ×
             Hears mine (heard_after mine m hs header.now body.now now) self.new ×
             (seen result ≡ given_by mine m hs header.now body.now now) }
     {
         let from = usize::from(header.from);
         if from >= self.entries.len() {
-            return Taken::Nothing;
+            return PacketOutcome::Nothing;
         }
         let entry = &mut self.entries[from];
         entry.take(self.alloc, self.start, header, body, now)

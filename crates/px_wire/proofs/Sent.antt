@@ -65,18 +65,18 @@ body_fits g from to (promise_all b p top a) le h = (own_fits g to b h.0, positio
 member_is_party : (g : Group) (m : ℕ) → m < g.members → is_party g m ≡ true
 member_is_party g m lt = ap (λ (b : Bool). b || eqb m 255) (lt-ltb m g.members lt)
 
-asker_is_party : (g : Group) (m : ℕ) → m ≡ 255 → is_party g m ≡ true
-asker_is_party g m is = grind (arith, nat_tests)
+client_is_party : (g : Group) (m : ℕ) → m ≡ 255 → is_party g m ≡ true
+client_is_party g m is = grind (arith, nat_tests)
 
-member_isnt_asker : (n m : ℕ) → n ≤ 15 → m < n → eqb m 255 ≡ false
-member_isnt_asker n m le lt = grind (arith, nat_tests)
+member_isnt_client : (n m : ℕ) → n ≤ 15 → m < n → eqb m 255 ≡ false
+member_isnt_client n m le lt = grind (arith, nat_tests)
 
 -- between members
 both_members : (g : Group) (from to : ℕ) (x : Message) → g.members ≤ 15 → (from < g.members) × (to < g.members) → (eqb from 255 ≡ false → eqb to 255 ≡ false → is_kind from to (messages.kind x) ≡ true) → IsBody g from to x → HasSpelling g from to x
 both_members g from to x le h kind body = record {
   sender = member_is_party g from h.0;
   addressee = member_is_party g to h.1;
-  kind = kind (member_isnt_asker g.members from le h.0) (member_isnt_asker g.members to le h.1);
+  kind = kind (member_isnt_client g.members from le h.0) (member_isnt_client g.members to le h.1);
   body = body;
 }
 
@@ -90,16 +90,16 @@ fits_has g from to (need p) le h = both_members g from to (need p) le h.between 
 fits_has g from to (learned p e) le h = both_members g from to (learned p e) le h.between (λ a c. rw (a, c) refl) (body_fits g from to (learned p e) le h.message)
 fits_has g from to (ask e) le h =
     let a : eqb from 255 ≡ true = eq-eqb _ _ h.between.0 in
-    let c : eqb to 255 ≡ false = member_isnt_asker g.members to le h.between.1 in
-    record { sender = asker_is_party g from h.between.0; addressee = member_is_party g to h.between.1; kind = rw (a, c) refl; body = body_fits g from to (ask e) le h.message }
+    let c : eqb to 255 ≡ false = member_isnt_client g.members to le h.between.1 in
+    record { sender = client_is_party g from h.between.0; addressee = member_is_party g to h.between.1; kind = rw (a, c) refl; body = body_fits g from to (ask e) le h.message }
 fits_has g from to (asked t k) le h =
-    let a : eqb from 255 ≡ false = member_isnt_asker g.members from le h.between.0 in
+    let a : eqb from 255 ≡ false = member_isnt_client g.members from le h.between.0 in
     let c : eqb to 255 ≡ true = eq-eqb _ _ h.between.1 in
-    record { sender = member_is_party g from h.between.0; addressee = asker_is_party g to h.between.1; kind = rw (a, c) refl; body = body_fits g from to (asked t k) le h.message }
+    record { sender = member_is_party g from h.between.0; addressee = client_is_party g to h.between.1; kind = rw (a, c) refl; body = body_fits g from to (asked t k) le h.message }
 fits_has g from to (ask_refused t code) le h =
-    let a : eqb from 255 ≡ false = member_isnt_asker g.members from le h.between.0 in
+    let a : eqb from 255 ≡ false = member_isnt_client g.members from le h.between.0 in
     let c : eqb to 255 ≡ true = eq-eqb _ _ h.between.1 in
-    record { sender = member_is_party g from h.between.0; addressee = asker_is_party g to h.between.1; kind = rw (a, c) refl; body = body_fits g from to (ask_refused t code) le h.message }
+    record { sender = member_is_party g from h.between.0; addressee = client_is_party g to h.between.1; kind = rw (a, c) refl; body = body_fits g from to (ask_refused t code) le h.message }
 fits_has g from to (prepare_all b p) le h = both_members g from to (prepare_all b p) le h.between (λ a c. rw (a, c) refl) (body_fits g from to (prepare_all b p) le h.message)
 fits_has g from to (promise_all b p top x) le h = both_members g from to (promise_all b p top x) le h.between (λ a c. rw (a, c) refl) (body_fits g from to (promise_all b p top x) le h.message)
 
@@ -116,7 +116,7 @@ sender_of from to x h =
     (both_true (leb 1 k && leb k 12) (cond (eqb k 8) (eqb from 255) (not (eqb from 255))) a.0).1
 
 other : (g : Group) (from to to' : ℕ) (x : Message) → g.members ≤ 15 → to' < g.members → HasSpelling g from to x → (eqb to' 255 ≡ false → is_kind from to' (messages.kind x) ≡ true) → IsBody g from to' x → HasSpelling g from to' x
-other g from to to' x le lt h kind body = record { sender = h.sender; addressee = member_is_party g to' lt; kind = kind (member_isnt_asker g.members to' le lt); body = body }
+other g from to to' x le lt h kind body = record { sender = h.sender; addressee = member_is_party g to' lt; kind = kind (member_isnt_client g.members to' le lt); body = body }
 
 pub to_each : (g : Group) (from to to' : ℕ) (x : Message) → g.members ≤ 15 → is_for_all x ≡ true → to' < g.members → HasSpelling g from to x → HasSpelling g from to' x
 to_each g from to to' (prepare b p) le all lt h = other g from to to' (prepare b p) le lt h (λ c. rw (not_true (eqb from 255) (sender_of from to (prepare b p) h.kind), c) refl) h.body

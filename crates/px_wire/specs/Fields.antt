@@ -8,7 +8,7 @@ use Rattle.pf_entry.specs.Reading as entry_reading
 use Rattle.px_wire.specs.declared.membership.Membership.{Membership}
 use Rattle.px_wire.specs.declared.fault.WireFault.{WireFault}
 use Rattle.px_wire.specs.Message.{group, Lent, Message, prepare, promise, accept, vote, nack, need, learned, ask, asked}
-use Rattle.px_wire.specs.Message.{ask_refused, prepare_all, promise_all, is_member, is_asker, is_party, is_kind}
+use Rattle.px_wire.specs.Message.{ask_refused, prepare_all, promise_all, is_member, is_client, is_party, is_kind}
 use Rattle.px_wire.specs.Message.{is_ballot, is_ballot_of, is_position, is_top, is_number, is_refusal, is_accepted}
 
 -- a field as it is in given bytes
@@ -147,7 +147,7 @@ learned_fields m bytes = position 13 bytes ∷ entry (is_member (group m)) 17 by
 
 -- of Ask: an entry of origin 255
 abbrev pub ask_fields : List ℕ → List Field
-ask_fields bytes = entry is_asker 13 bytes
+ask_fields bytes = entry is_client 13 bytes
 
 -- of Asked: the token, the number that the entry got
 abbrev pub asked_fields : List ℕ → List Field

@@ -90,8 +90,8 @@ abbrev pub is_member : Group → ℕ → Bool
 is_member g node = nat_lt node g.members
 
 -- 255 for who is none
-abbrev pub is_asker : ℕ → Bool
-is_asker node = node == 255
+abbrev pub is_client : ℕ → Bool
+is_client node = node == 255
 
 -- a member, or 255 for who is none
 abbrev pub is_party : Group → ℕ → Bool

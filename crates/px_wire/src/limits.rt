@@ -25,7 +25,7 @@ pub(crate) const ANSWER_AT: usize = 21;
 /// The most members of a cluster.
 pub(crate) const MEMBERS: u8 = 15;
 /// Who is no member: a client.
-pub(crate) const ASKER: u8 = 255;
+pub(crate) const CLIENT: u8 = 255;
 /// Rounds, tokens and the numbers of entries are below this: they have six bytes.
 pub(crate) const NUMBERS: u64 = 0x1_0000_0000_0000;
 /// The first ballot: round 1 of member 0.

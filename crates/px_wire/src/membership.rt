@@ -3,7 +3,7 @@
 ghost use Rattle.std.specs.Prelude.{◌≡◌, ◌≤◌, ◌<◌, ◌==◌, ◌||◌, ◌&&◌, nat_le, nat_lt};
 ghost use Rattle.std.specs.Prelude.{IsTrue, IsSome, IfSome, ◌↔◌};
 
-use crate::limits::{ASKER, MEMBERS};
+use crate::limits::{CLIENT, MEMBERS};
 
 /// A cluster's number, how many members it has, and the number of the one that reads and writes: a member's, or 255.
 #[derive(Clone, Copy, PartialEq, Eq)]
@@ -22,7 +22,7 @@ impl Membership {
         ensures none { IsSome result ↔
             IsTrue (nat_le 1 members && nat_le members 15 && (nat_lt me members || me == 255)) }
     {
-        if members >= 1 && members <= MEMBERS && (me < members || me == ASKER) {
+        if members >= 1 && members <= MEMBERS && (me < members || me == CLIENT) {
             Some(Membership {
                 cluster,
                 members,

@@ -2,7 +2,7 @@
 
 ghost use Rattle.std.specs.Prelude.{◌≡◌, ◌<◌, ◌+◌, ◌^◌, ◌==◌, Bool, [], ◌∷◌, true};
 ghost use Rattle.std.specs.Prelude.{◌≤◌, option_map, is_some, Some, None, IfOk, take, drop, if◌then◌else◌};
-ghost use Rattle.px_wire.specs.Message.{group, is_member, is_asker, is_party, is_kind, is_ballot, is_ballot_of};
+ghost use Rattle.px_wire.specs.Message.{group, is_member, is_client, is_party, is_kind, is_ballot, is_ballot_of};
 ghost use Rattle.px_wire.specs.Message.{is_position, is_top, is_number, is_refusal, is_accepted};
 ghost use Rattle.px_wire.specs.Fields.{field, fault_of, first_fault, u8, u32, u64, ballot, any_ballot, position, token};
 ghost use Rattle.px_wire.specs.Fields.{len, entry, lent_in, entry_value, accepted, accepted_value, promised};
@@ -24,7 +24,7 @@ use crate::MessageView;
 use crate::fault::WireFault;
 use crate::kind::Kind;
 use crate::limits::{
-    ADDRESSEE, ANSWER_AT, ASKER, BALLOTS, BODY_AT, CLUSTER_AT, ENTRY_BYTES, FIRST_BALLOT, KIND_AT,
+    ADDRESSEE, ANSWER_AT, BALLOTS, BODY_AT, CLIENT, CLUSTER_AT, ENTRY_BYTES, FIRST_BALLOT, KIND_AT,
     LAST_POSITION, LAST_TOP, MAGIC, MEMBERS_AT, NUMBERS, POSITION_AT, SENDER_AT, VERSION,
     VERSION_AT,
 };
@@ -268,13 +268,13 @@ fn members_entry_at<'a>(
 
 /// The length and the entry that end a datagram, asked by one who is no member.
 #[tactic(auto, unfolding(crate::specs::Fields::fault_of))]
-fn askers_entry_at(bytes: &[u8], at: usize) -> Result<EntryView<'_>, WireFault>
+fn clients_entry_at(bytes: &[u8], at: usize) -> Result<EntryView<'_>, WireFault>
     requires { at < 64 }
-    ensures { ReadsEntry bytes.now result (entry is_asker at bytes.now) at (entry_value at bytes.now) }
+    ensures { ReadsEntry bytes.now result (entry is_client at bytes.now) at (entry_value at bytes.now) }
 {
     let len = len_at(bytes, at)?;
     let entry = entry_of_len(bytes, at + 4, len)?;
-    if entry.origin() != ASKER {
+    if entry.origin() != CLIENT {
         return Err(fault(57, at + 4));
     }
     end_at(bytes, at + 4 + len)?;
@@ -402,7 +402,7 @@ fn learned_at<'a>(m: &Membership, bytes: &'a [u8]) -> Result<MessageView<'a>, Wi
 fn ask_at(bytes: &[u8]) -> Result<MessageView<'_>, WireFault>
     ensures { ReadsBody bytes.now result (ask_fields bytes.now) (ask_value bytes.now) }
 {
-    let entry = askers_entry_at(bytes, BODY_AT)?;
+    let entry = clients_entry_at(bytes, BODY_AT)?;
     Ok(Message::Ask { entry })
 }
 
@@ -511,7 +511,7 @@ fn sender_at(m: &Membership, bytes: &[u8], at: usize) -> Result<u8, WireFault>
     ensures { ReadsField bytes.now result (field at 1 54 (is_party (group m.now) (u8 at bytes.now))) (u8 at bytes.now) }
 {
     let from = u8_at(bytes, at)?;
-    if from >= m.members() && from != ASKER {
+    if from >= m.members() && from != CLIENT {
         return Err(fault(54, at));
     }
     Ok(from)
@@ -522,18 +522,18 @@ fn is_kind(from: u8, to: u8, kind: Kind) -> bool
     ensures { result ≡ is_kind from to (number_of kind) }
 {
     match kind {
-        Kind::Ask => from == ASKER && to != ASKER,
-        Kind::Asked => from != ASKER && to == ASKER,
-        Kind::AskRefused => from != ASKER && to == ASKER,
-        Kind::Prepare => from != ASKER && to != ASKER,
-        Kind::Promise => from != ASKER && to != ASKER,
-        Kind::Accept => from != ASKER && to != ASKER,
-        Kind::Vote => from != ASKER && to != ASKER,
-        Kind::Nack => from != ASKER && to != ASKER,
-        Kind::Need => from != ASKER && to != ASKER,
-        Kind::Learned => from != ASKER && to != ASKER,
-        Kind::PrepareAll => from != ASKER && to != ASKER,
-        Kind::PromiseAll => from != ASKER && to != ASKER,
+        Kind::Ask => from == CLIENT && to != CLIENT,
+        Kind::Asked => from != CLIENT && to == CLIENT,
+        Kind::AskRefused => from != CLIENT && to == CLIENT,
+        Kind::Prepare => from != CLIENT && to != CLIENT,
+        Kind::Promise => from != CLIENT && to != CLIENT,
+        Kind::Accept => from != CLIENT && to != CLIENT,
+        Kind::Vote => from != CLIENT && to != CLIENT,
+        Kind::Nack => from != CLIENT && to != CLIENT,
+        Kind::Need => from != CLIENT && to != CLIENT,
+        Kind::Learned => from != CLIENT && to != CLIENT,
+        Kind::PrepareAll => from != CLIENT && to != CLIENT,
+        Kind::PromiseAll => from != CLIENT && to != CLIENT,
     }
 }
 

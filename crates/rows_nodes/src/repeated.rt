@@ -23,17 +23,17 @@ pub fn repeated(rt: &HostRuntime, row: &Row) -> io::Result<()> {
         return println!(rt; "no node");
     };
     let mut out: Vec<Datagram> = Vec::new(rt.alloc());
-    let mut taken = 0u32;
+    let mut done = 0u32;
     let mut ignored = 0u32;
     for _ in 0..row.times {
         match node.receive(&row.bytes, &mut out) {
-            Ok(Received::Done) => taken = taken.saturating_add(1),
+            Ok(Received::Done) => done = done.saturating_add(1),
             Ok(Received::Ignored(_)) => ignored = ignored.saturating_add(1),
             Err(_) => {}
         }
     }
     println!(rt;
-        "taken {taken}, ignored {ignored}, handed out {}, learned {}, front {}, applied {}",
+        "taken {done}, ignored {ignored}, handed out {}, learned {}, front {}, applied {}",
         out.len(),
         learned(&node, 1_000),
         node.front(),

@@ -22,15 +22,15 @@ pub(crate) fn twice(rt: &HostRuntime, file: &str, tasks: &str, out: &mut String)
     let Some(conn) = opened(rt, file) else {
         return say(out, "doesn't open");
     };
-    let (is_told, conn) = work(rt.alloc(), conn, tasks, out);
+    let (is_written, conn) = work(rt.alloc(), conn, tasks, out);
     let is_open = opened(rt, file).is_some();
     let then = if is_open {
         "; opens; "
     } else {
         "; doesn't open; "
     };
-    let is_told = is_told && say(out, then);
-    work_once(rt.alloc(), conn, tasks, out) && is_told
+    let is_written = is_written && say(out, then);
+    work_once(rt.alloc(), conn, tasks, out) && is_written
 }
 
 /// Reports whether something was done with a file.

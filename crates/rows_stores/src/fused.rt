@@ -70,8 +70,8 @@ fn work_in<D: Disk + Drop>(
 ) -> (bool, Files<D>) {
     match opened(alloc, files) {
         Ok(conn) => {
-            let (is_told, conn) = work(alloc, conn, tasks, out);
-            (is_told, conn.into_store().close())
+            let (is_written, conn) = work(alloc, conn, tasks, out);
+            (is_written, conn.into_store().close())
         }
         Err(files) => (say(out, "refused"), files),
     }
@@ -112,12 +112,12 @@ pub(crate) fn attempt(
 ) -> Option<Held> {
     let log = file(alloc, &held.log, stop.log)?;
     let db = file(alloc, &held.db, stop.db)?;
-    let (is_told, files) = work_in(alloc, Files { log, db }, tasks, out);
+    let (is_written, files) = work_in(alloc, Files { log, db }, tasks, out);
     let Files { mut log, mut db } = files;
     let is_spent = is_spent(&mut log) || is_spent(&mut db);
     let log = left(alloc, log, stop.loses);
     let db = left(alloc, db, stop.loses);
-    if !is_told {
+    if !is_written {
         return None;
     }
     Some(Held {

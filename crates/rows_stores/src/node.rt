@@ -83,8 +83,8 @@ pub(crate) fn walked<R: Records>(
 {
     match opened(alloc, 0, records) {
         Ok(mut node) => {
-            let is_told = walk_all(alloc, &mut node, steps, out);
-            (is_told, node.close())
+            let is_written = walk_all(alloc, &mut node, steps, out);
+            (is_written, node.close())
         }
         Err((fault, records)) => (write!(out, "refused {fault}, ").is_ok(), records),
     }

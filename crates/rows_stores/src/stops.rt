@@ -94,7 +94,7 @@ fn made(said: &str) -> (usize, &str) {
     let mut count = 0usize;
     for _ in 0..100 {
         match rest.split_once(", ") {
-            Some((told, behind)) if told.starts_with("done") => {
+            Some((outcome, behind)) if outcome.starts_with("done") => {
                 rest = behind;
                 count = count.saturating_add(1);
             }

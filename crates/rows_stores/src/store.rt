@@ -59,8 +59,8 @@ fn take<S: Alter + Drop>(
 {
     match adopted(alloc, conn, identity) {
         Ok(mut records) => {
-            let is_told = follow(alloc, &mut records, steps, out);
-            (is_told, records.release())
+            let is_written = follow(alloc, &mut records, steps, out);
+            (is_written, records.release())
         }
         Err((fault, conn)) => (say_refused(out, fault), conn),
     }
@@ -82,9 +82,9 @@ fn take_node<S: Alter + Drop>(
     };
     match adopted(alloc, conn, identity) {
         Ok(records) => {
-            let (is_told, records) = walked(alloc, records, steps, out);
+            let (is_written, records) = walked(alloc, records, steps, out);
             let (is_shown, conn) = take(alloc, records.release(), identity, look, out);
-            (is_told && is_shown, conn)
+            (is_written && is_shown, conn)
         }
         Err((fault, conn)) => (say_refused(out, fault), conn),
     }
@@ -136,8 +136,8 @@ fn do_task<S: Alter + Drop>(
     match identity_of(word) {
         Some(identity) => take(alloc, conn, identity, rest, out),
         None => {
-            let is_told = handle(&mut conn, word, rest, out);
-            (is_told, conn)
+            let is_written = handle(&mut conn, word, rest, out);
+            (is_written, conn)
         }
     }
 }
@@ -150,14 +150,14 @@ pub(crate) fn work<S: Alter + Drop>(
     out: &mut String,
 ) -> (bool, Connection<S>) {
     let (first, rest) = tasks.split_once(" | ").unwrap_or((tasks, ""));
-    let (mut is_told, mut conn) = do_task(alloc, conn, first, out);
+    let (mut is_written, mut conn) = do_task(alloc, conn, first, out);
     for task in rest.split_terminator(" | ") {
-        is_told = is_told && say(out, "; ");
+        is_written = is_written && say(out, "; ");
         let done = do_task(alloc, conn, task, out);
-        is_told = is_told && done.0;
+        is_written = is_written && done.0;
         conn = done.1;
     }
-    (is_told, conn)
+    (is_written, conn)
 }
 
 /// Does the tasks with a store that nobody uses behind them.
@@ -167,9 +167,9 @@ pub(crate) fn work_once<S: Alter + Drop>(
     tasks: &str,
     out: &mut String,
 ) -> bool {
-    let (is_told, conn) = work(alloc, conn, tasks, out);
+    let (is_written, conn) = work(alloc, conn, tasks, out);
     drop(conn);
-    is_told
+    is_written
 }
 
 /// An empty record in memory of which the `K`-th commit fails `before` or `after` its change.
@@ -188,7 +188,7 @@ fn faulty(alloc: Global, fails: &str) -> FaultyRecords<MemoryRecords>
 pub(crate) fn plain(alloc: Global, fails: &str, line: &str, out: &mut String) -> bool {
     let mut records = faulty(alloc, fails);
     let (steps, then) = line.split_once(" | ").unwrap_or((line, ""));
-    let is_told = follow(alloc, &mut records, steps, out) && say(out, "; ");
+    let is_written = follow(alloc, &mut records, steps, out) && say(out, "; ");
     let mut inner = records.into_inner();
-    is_told && follow(alloc, &mut inner, then, out)
+    is_written && follow(alloc, &mut inner, then, out)
 }

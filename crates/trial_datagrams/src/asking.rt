@@ -67,7 +67,7 @@ fn is_answered(alloc: Global, coming: &[&[u8]], wanted: AskAnswer) -> Result<boo
 }
 
 #[test]
-fn an_answer_is_taken(rt: HostRuntime) -> Result<(), Fail> {
+fn an_answer_is_received(rt: HostRuntime) -> Result<(), Fail> {
     assert!(rt; is_answered(rt.alloc(), &[&ASKED], AskAnswer::Asked(0))?);
     assert!(rt; is_answered(rt.alloc(), &[&FULL], AskAnswer::Refused(60))?);
     Ok(())

@@ -187,7 +187,7 @@ fn is_ask_refused(bytes: &[u8]) -> Result<bool, Fail> {
 }
 
 #[test]
-fn askers_and_their_answers(_rt: HostRuntime) -> Result<(), Fail> {
+fn clients_and_their_answers(_rt: HostRuntime) -> Result<(), Fail> {
     expect_ask(ASK)?;
     expect(is_asked(ASKED)?, "another message")?;
     expect(is_ask_refused(ASK_REFUSED)?, "another message")

@@ -69,10 +69,10 @@ fn hears_each<W: Wire>(wire: &mut W, letters: &[u8], now: &Cell<u64>) -> bool {
 }
 
 /// Whether what two members and a client send comes.
-fn talk<W: Wire>(one: &mut W, other: &mut W, asker: &mut W) -> bool {
+fn talk<W: Wire>(one: &mut W, other: &mut W, client: &mut W) -> bool {
     let is_heard = hears_none(one) && one.send(1, b"hello") && hears(other, 8, b"hello");
-    let is_asked = asker.send(1, &ASK) && hears(one, 20, &ASK);
-    let is_answered = one.send(255, b"an answer") && hears(asker, 8, b"an answe");
+    let is_asked = client.send(1, &ASK) && hears(one, 20, &ASK);
+    let is_answered = one.send(255, b"an answer") && hears(client, 8, b"an answe");
     is_heard && is_asked && is_answered && !other.send(2, b"nobody") && other.failures() == 1
 }
 
@@ -81,8 +81,8 @@ fn datagrams_go_between_members_and_who_asks(rt: HostRuntime) -> Result<(), Fail
     let members = ["127.0.0.1:39471", "127.0.0.1:39472"];
     let mut one = UdpWire::bind(&rt, rt.alloc(), &members, 0, 10)?;
     let mut other = UdpWire::bind(&rt, rt.alloc(), &members, 1, 10)?;
-    let mut asker = UdpWire::bind(&rt, rt.alloc(), &members[..1], 255, 10)?;
-    assert!(rt; talk(&mut one, &mut other, &mut asker));
+    let mut client = UdpWire::bind(&rt, rt.alloc(), &members[..1], 255, 10)?;
+    assert!(rt; talk(&mut one, &mut other, &mut client));
     Ok(())
 }
 
@@ -218,15 +218,15 @@ fn a_clock_that_fails_or_goes_back_ends_no_wait(rt: HostRuntime) -> Result<(), F
 }
 
 /// Whether three answers reach a client, and then none.
-fn answers<A: Wire, B: Wire>(one: &mut A, asker: &mut B) -> bool {
-    let is_asked = asker.send(0, &ASK) && hears(one, 20, &ASK);
+fn answers<A: Wire, B: Wire>(one: &mut A, client: &mut B) -> bool {
+    let is_asked = client.send(0, &ASK) && hears(one, 20, &ASK);
     let is_sent = one.send(255, b"one") && one.send(255, b"two") && one.send(255, b"six");
-    let is_heard = hears(asker, 3, b"one") && hears(asker, 3, b"two") && hears(asker, 3, b"six");
-    is_asked && is_sent && is_heard && hears_none(asker)
+    let is_heard = hears(client, 3, b"one") && hears(client, 3, b"two") && hears(client, 3, b"six");
+    is_asked && is_sent && is_heard && hears_none(client)
 }
 
 #[test]
-fn each_receive_of_an_asker_waits(rt: HostRuntime) -> Result<(), Fail> {
+fn each_receive_of_a_client_waits(rt: HostRuntime) -> Result<(), Fail> {
     let members = ["127.0.0.1:39479"];
     let now = Cell::new(0);
     let step = Some(60_000);
@@ -236,8 +236,8 @@ fn each_receive_of_an_asker_waits(rt: HostRuntime) -> Result<(), Fail> {
         step,
     };
     let mut one = UdpWire::bind(&rt, rt.alloc(), &members, 0, 10)?;
-    let mut asker = UdpWire::bind(&bench, rt.alloc(), &members, 255, 10)?;
-    assert!(rt; answers(&mut one, &mut asker));
+    let mut client = UdpWire::bind(&bench, rt.alloc(), &members, 255, 10)?;
+    assert!(rt; answers(&mut one, &mut client));
     Ok(())
 }
 
@@ -331,9 +331,9 @@ fn datagrams_go_over_ipv6(rt: HostRuntime) -> Result<(), Fail> {
         return Ok(());
     };
     let mut other = UdpWire::bind(&rt, rt.alloc(), &members, 1, 10)?;
-    let mut asker = UdpWire::bind(&rt, rt.alloc(), &members[..1], 255, 10)?;
+    let mut client = UdpWire::bind(&rt, rt.alloc(), &members[..1], 255, 10)?;
     assert!(rt; other.send(0, b"hello") && hears(&mut one, 20, b"hello"));
-    assert!(rt; asker.send(0, &ASK) && hears(&mut one, 20, &ASK));
+    assert!(rt; client.send(0, &ASK) && hears(&mut one, 20, &ASK));
     assert!(rt; one.strangers() == 0);
     Ok(())
 }
@@ -345,7 +345,7 @@ fn a_name_is_looked_up(rt: HostRuntime) -> Result<(), Fail> {
     let Ok(mut one) = UdpWire::bind(&rt, rt.alloc(), &members, 0, 1000) else {
         return Ok(());
     };
-    let mut asker = UdpWire::bind(&rt, rt.alloc(), &members[..1], 255, 10)?;
-    assert!(rt; asker.send(0, &ASK) && hears(&mut one, 20, &ASK));
+    let mut client = UdpWire::bind(&rt, rt.alloc(), &members[..1], 255, 10)?;
+    assert!(rt; client.send(0, &ASK) && hears(&mut one, 20, &ASK));
     Ok(())
 }

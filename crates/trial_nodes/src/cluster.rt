@@ -105,11 +105,11 @@ fn all_block(alloc: Global, parties: &[Party]) -> Result<bool, Fail> {
 }
 
 /// Whether the first member answers an Ask as accepted.
-fn is_asked<W: Wire>(parties: &mut [Party], asker: &mut W, room: &mut Room) -> Result<bool, Fail> {
-    let is_sent = asker.send(0, &ASK);
+fn is_asked<W: Wire>(parties: &mut [Party], client: &mut W, room: &mut Room) -> Result<bool, Fail> {
+    let is_sent = client.send(0, &ASK);
     tick_timer(parties, 0, room)?;
     let mut answer = [0u8; 29];
-    let came = asker.recv(&mut answer);
+    let came = client.recv(&mut answer);
     Ok(is_sent && came == Some(29) && answer == ASKED)
 }
 
@@ -145,9 +145,9 @@ fn room(alloc: Global) -> Result<Room, Fail> {
 }
 
 /// Whether a load that is asked from outside is applied by each.
-fn is_spread<W: Wire>(alloc: Global, parties: &mut [Party], asker: &mut W) -> Result<bool, Fail> {
+fn is_spread<W: Wire>(alloc: Global, parties: &mut [Party], client: &mut W) -> Result<bool, Fail> {
     let mut room = room(alloc)?;
-    if !is_asked(parties, asker, &mut room)? {
+    if !is_asked(parties, client, &mut room)? {
         return Ok(false);
     }
     spread(parties, &mut room)?;
@@ -157,11 +157,11 @@ fn is_spread<W: Wire>(alloc: Global, parties: &mut [Party], asker: &mut W) -> Re
 #[test]
 fn loopback(rt: HostRuntime) -> Result<(), Fail> {
     let members = ["127.0.0.1:39481", "127.0.0.1:39482", "127.0.0.1:39483"];
-    let mut asker = UdpWire::bind(&rt, rt.alloc(), &members[..1], 255, 200)?;
+    let mut client = UdpWire::bind(&rt, rt.alloc(), &members[..1], 255, 200)?;
     let mut parties = grouped(&rt, &members, u64::MAX, 10)?;
-    let is_there = is_spread(rt.alloc(), &mut parties, &mut asker);
+    let is_there = is_spread(rt.alloc(), &mut parties, &mut client);
     drop(parties);
-    drop(asker);
+    drop(client);
     assert!(rt; is_there?);
     Ok(())
 }

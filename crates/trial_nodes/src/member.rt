@@ -48,7 +48,7 @@ pub(crate) fn asked(bytes: &[u8]) -> Result<Event<'_>, Fail> {
 
 /// What the event makes of what is stored; or the refusal.
 fn planned(core: &mut Core, stored: &Stored, event: &Event) -> Result<Result<Plan, CoreFault>, Fail>
-    ensures { IfOk result (λ taken. IfOk taken (λ plan. IsFor plan core.new)) }
+    ensures { IfOk result (λ outcome. IfOk outcome (λ plan. IsFor plan core.new)) }
 {
     if !core.takes(event) {
         return Err(Fail::new("no such event"));

@@ -129,7 +129,7 @@ unlearned 0 63
 vote 2 63
 learned 0 63 0 0 11
 front 0 0
-= 3 what_was_learned_is_told
+= 3 what_was_learned_is_reported
 remember
 front 0 1
 learned 0 0 2 5 11
@@ -149,7 +149,7 @@ forget
 front 0 1
 tick 0
 line 4 0>0 need p1
-= 3 an_asker_is_told
+= 3 a_client_is_answered
 outside
 line 0 0>255 asked 9 0
 numbers 0 281474976710656

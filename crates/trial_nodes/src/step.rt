@@ -62,8 +62,8 @@ fn ask_from_outside(bus: &mut Bus) -> Result<(), Fail> {
 }
 
 /// The number of the refusal.
-fn refusal_of(taken: &Result<Sends, CoreFault>) -> Option<u8> {
-    match taken {
+fn refusal_of(outcome: &Result<Sends, CoreFault>) -> Option<u8> {
+    match outcome {
         Err(CoreFault::Full) => Some(60),
         Err(CoreFault::BallotsSpent) => Some(61),
         Err(CoreFault::PositionsSpent) => Some(62),
@@ -73,9 +73,9 @@ fn refusal_of(taken: &Result<Sends, CoreFault>) -> Option<u8> {
 
 /// Whether the event gives this refusal, none where it is taken.
 fn comes_to(member: &mut Member, event: &Event, code: Option<u8>) -> Result<bool, Fail> {
-    let taken = member.take(event)?;
-    let found = refusal_of(&taken);
-    drop(taken);
+    let outcome = member.take(event)?;
+    let found = refusal_of(&outcome);
+    drop(outcome);
     Ok(found == code)
 }
 

@@ -8,7 +8,7 @@ const IDLE: View = View {
     is_attempting: false,
     is_leading: false,
     front: 0,
-    is_told: false,
+    has_learned: false,
     reached: 0,
 };
 
@@ -18,7 +18,7 @@ const ATTEMPTING: View = View {
     is_attempting: true,
     is_leading: false,
     front: 0,
-    is_told: false,
+    has_learned: false,
     reached: 0,
 };
 
@@ -28,7 +28,7 @@ const WAITING: View = View {
     is_attempting: false,
     is_leading: false,
     front: 0,
-    is_told: false,
+    has_learned: false,
     reached: 0,
 };
 
@@ -38,7 +38,7 @@ const LEADING: View = View {
     is_attempting: false,
     is_leading: true,
     front: 0,
-    is_told: false,
+    has_learned: false,
     reached: 0,
 };
 
@@ -48,7 +48,7 @@ const ACCEPTING: View = View {
     is_attempting: true,
     is_leading: true,
     front: 0,
-    is_told: false,
+    has_learned: false,
     reached: 0,
 };
 
@@ -58,7 +58,7 @@ const LEARNED: View = View {
     is_attempting: false,
     is_leading: true,
     front: 1,
-    is_told: false,
+    has_learned: false,
     reached: 0,
 };
 
@@ -68,7 +68,7 @@ const TOLD: View = View {
     is_attempting: false,
     is_leading: false,
     front: 7,
-    is_told: true,
+    has_learned: true,
     reached: 9,
 };
 
@@ -78,7 +78,7 @@ const BEHIND: View = View {
     is_attempting: false,
     is_leading: false,
     front: 3,
-    is_told: false,
+    has_learned: false,
     reached: 9,
 };
 
@@ -100,7 +100,7 @@ fn a_waiting_command_is_proposed_at_once(rt: HostRuntime) {
 }
 
 #[test]
-fn what_is_told_is_asked_on_at_once(rt: HostRuntime) {
+fn after_a_learned_entry_the_next_is_asked_at_once(rt: HostRuntime) {
     let mut tick_timer = TickTimer::new(2);
     assert!(rt; tick_timer.action(0, IDLE) == Action::Tick);
     assert!(rt; tick_timer.action(5, TOLD) == Action::Tick);
@@ -240,7 +240,7 @@ fn a_pause_ends_soon_where_the_front_moves(rt: HostRuntime) {
 }
 
 #[test]
-fn no_command_is_taken_in_at_the_start(rt: HostRuntime) {
+fn no_command_is_accepted_at_the_start(rt: HostRuntime) {
     let tick_timer = TickTimer::new(0);
     assert!(rt; tick_timer.is_listening(199_999));
     assert!(rt; !tick_timer.is_listening(200_000));
@@ -335,7 +335,7 @@ fn mistaken(tick_timer: &mut TickTimer) -> u64 {
 }
 
 #[test]
-fn an_answers_time_that_was_taken_too_short_grows(rt: HostRuntime) {
+fn an_answers_time_that_was_too_short_grows(rt: HostRuntime) {
     let mut tick_timer = TickTimer::new(0);
     let now = mistaken(&mut tick_timer);
     let learned = View {
@@ -387,7 +387,7 @@ fn who_lacks_entries_asks_on_after_16(rt: HostRuntime) {
 }
 
 #[test]
-fn no_command_is_taken_in_at_the_end(rt: HostRuntime) {
+fn no_command_is_accepted_at_the_end(rt: HostRuntime) {
     let mut tick_timer = TickTimer::new(0);
     assert!(rt; !tick_timer.is_listening(200_000));
     tick_timer.end();

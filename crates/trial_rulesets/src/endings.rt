@@ -5,7 +5,7 @@ use pf_tool::Status;
 use std::io::{self, Error, ErrorKind, Read, Write};
 
 /// What words that there aren't end with, and how many bytes are written.
-fn told(rt: &HostRuntime, words: &[&str]) -> (u8, usize) {
+fn printed(rt: &HostRuntime, words: &[&str]) -> (u8, usize) {
     let mut reader = QUICK;
     let mut out = Vec::new(rt.alloc());
     let status = ran(rt, words, &mut reader, &mut out);
@@ -13,9 +13,9 @@ fn told(rt: &HostRuntime, words: &[&str]) -> (u8, usize) {
 }
 
 #[test]
-fn unknown_words_are_told_apart(rt: HostRuntime) {
+fn unknown_arguments_are_distinguished(rt: HostRuntime) {
     for words in [["pfx", "labs"], ["pfx", "test"]] {
-        let (code, length) = told(&rt, &words);
+        let (code, length) = printed(&rt, &words);
         assert!(rt; code == 2 && length > 20);
     }
 }
@@ -40,15 +40,15 @@ impl Read for FailingReader {
 /// Takes a byte, and then fails.
 #[derive(Drop)]
 struct FailingWriter {
-    taken: usize,
+    written: usize,
 }
 
 impl Write for FailingWriter {
     fn write(&mut self, buf: &[u8]) -> io::Result<usize> {
-        if self.taken > 0 || buf.is_empty() {
+        if self.written > 0 || buf.is_empty() {
             return Err(Error::from(ErrorKind::Other));
         }
-        self.taken = 1;
+        self.written = 1;
         Ok(1)
     }
 
@@ -76,9 +76,9 @@ fn a_failed_read_writes_nothing(rt: HostRuntime) {
 /// Whether a run whose writer fails ends as failed, and writes nothing more.
 fn is_failed_write(rt: &HostRuntime) -> bool {
     let mut reader = QUICK;
-    let mut writer = FailingWriter { taken: 0 };
+    let mut writer = FailingWriter { written: 0 };
     let status = ran(rt, &WORDS, &mut reader, &mut writer);
-    status == Status::Failed && writer.taken == 1
+    status == Status::Failed && writer.written == 1
 }
 
 #[test]
@@ -90,7 +90,7 @@ fn a_failed_write_ends_the_run(rt: HostRuntime) {
 #[derive(Drop)]
 struct OnceFailingWriter {
     failed: bool,
-    taken: usize,
+    written: usize,
 }
 
 impl Write for OnceFailingWriter {
@@ -99,7 +99,7 @@ impl Write for OnceFailingWriter {
             self.failed = true;
             return Err(Error::from(ErrorKind::Other));
         }
-        self.taken = self.taken.saturating_add(buf.len());
+        self.written = self.written.saturating_add(buf.len());
         Ok(buf.len())
     }
 
@@ -113,10 +113,10 @@ fn is_silent(rt: &HostRuntime, words: &[&str]) -> bool {
     let mut reader = QUICK;
     let mut writer = OnceFailingWriter {
         failed: false,
-        taken: 0,
+        written: 0,
     };
     let status = ran(rt, words, &mut reader, &mut writer);
-    status == Status::Failed && writer.taken == 0
+    status == Status::Failed && writer.written == 0
 }
 
 #[test]

@@ -16,10 +16,10 @@ mod large;
 #[cfg(test)]
 mod profiles;
 #[cfg(test)]
+mod refusing;
+#[cfg(test)]
 mod runs;
 #[cfg(test)]
 mod settings;
 #[cfg(test)]
 mod tokens;
-#[cfg(test)]
-mod told;

@@ -2,7 +2,7 @@
 
 ghost use Rattle.trial_rulesets.specs.inner.Answers.{negated_at, negated_shorter};
 
-use crate::told::expect;
+use crate::refusing::expect;
 use pf_rules::Profile;
 use pf_tokens::{
     DefinitionFault, Element, Lexeme, Lexer, Macro, Macros, Parser, ReadingFault, Stop, Symbol,
@@ -520,7 +520,7 @@ fn take_all(text: &Text, macros: &Macros) -> Result<(), Fail> {
 }
 
 #[test]
-fn tokens_are_taken_one_by_one(rt: HostRuntime) -> Result<(), Fail> {
+fn tokens_are_read_one_by_one(rt: HostRuntime) -> Result<(), Fail> {
     let text = Text::new(rt.alloc(), b"set { lo0\n } \"a b\" != em0 em1\npass")?;
     let macros = Macros::new(rt.alloc());
     take_all(&text, &macros)

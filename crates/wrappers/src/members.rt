@@ -12,7 +12,7 @@ ghost use Rattle.px_wire.specs.Message.{group, DatagramBytes, Group};
 ghost use Rattle.px_wire.specs.Seen.{message_of};
 ghost use Rattle.px_replica.specs.Calls.{Receives};
 ghost use Rattle.px_replica.specs.Made.{same};
-ghost use Rattle.pf_lab.specs.Coming.{happenings};
+ghost use Rattle.pf_lab.specs.Coming.{model_events};
 ghost use Rattle.pf_lab.specs.Labs.{IsWorld};
 
 use pf_lab::{Lab, LabEvent, LabFault, Outcome};
@@ -59,7 +59,7 @@ pub fn receive<R: Records>(
 /// [`Lab::step`]: an event happens in the lab as in the model's world.
 pub fn step(lab: &mut Lab, event: &LabEvent) -> Result<Outcome, LabFault>
     ensures { (g : Group) (w : World Bytes) → IsWorld lab.old g w →
-        OnOk result (IsWorld lab.new g (run same g.members (happenings event.now) w)) }
+        OnOk result (IsWorld lab.new g (run same g.members (model_events event.now) w)) }
 {
     lab.step(event)
 }

@@ -49,7 +49,7 @@ IsInput g me (what.Datagram bytes) x =
 pub record Came (g : Group) (w : World Bytes) (a : Action Bytes) (me : ℕ) (what : What) : Type 0 where
   pub input : Input Bytes
   pub comes : comes_to w a ≡ Some (me, input)
-  pub told : IsInput g me what input
+  pub is_spelled : IsInput g me what input
 
 -- a command that comes has a spelling
 abbrev pub IsAskable : What → Type 0

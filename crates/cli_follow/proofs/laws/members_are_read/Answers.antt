@@ -1,5 +1,5 @@
 use Rattle.cli_ask.proofs.Lines.{args_read, text_read}
-use Rattle.cli_follow.proofs.Told.{are_read}
+use Rattle.cli_follow.proofs.MembersRead.{are_read}
 use Rattle.cli_follow.proofs.laws.members_are_read.Goals as goal
 
 pub returns : goal.returns

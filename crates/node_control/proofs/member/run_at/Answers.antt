@@ -14,7 +14,7 @@ returns-in-Err-clause-hosted g c es t = (
     hears = false;
     buffers = new_buffers false;
     hosted = hosted_none _ _ refl;
-    told = c.in-Err.ensures.fault _ _;
+    reported = c.in-Err.ensures.fault _ _;
   },
 )
 

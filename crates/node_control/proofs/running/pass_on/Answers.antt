@@ -24,5 +24,5 @@ returns-in-Err-clause-turns g c none = (c.in-Err.ensures.turns none).0
 
 pub returns-in-Ok-clause-made : goal.returns-in-Ok-clause-made
 returns-in-Ok-clause-made g c none =
-    on_ok c.finish.result (λ more. makes_then c.args.turns more.0 (g.T.Timer.told c.args.timer.now) (g.T.Timer.told c.passes.new.timer)
-    (g.T.Timer.told c.finish.new.timer) (c.in-Ok.ensures.made none) more.1) c.finish.ensures.looks
+    on_ok c.finish.result (λ more. makes_then c.args.turns more.0 (g.T.Timer.timer_events c.args.timer.now) (g.T.Timer.timer_events c.passes.new.timer)
+    (g.T.Timer.timer_events c.finish.new.timer) (c.in-Ok.ensures.made none) more.1) c.finish.ensures.looks

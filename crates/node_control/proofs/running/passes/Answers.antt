@@ -12,7 +12,7 @@ loop-round-init g c = record {
   hosted = λ es t. (es, t, hosted_none _ _ refl);
   turns = λ none. (λ es t. (es, t, served_none _ _ (same_all _)), none);
   left = omega arith;
-  looks = looks_never (g.T.Timer.told c.args.timer.now);
+  looks = looks_never (g.T.Timer.timer_events c.args.timer.now);
   same = refl;
 }
 
@@ -25,7 +25,7 @@ loop-round-preserved g c = record {
       (λ es. standing c.args.service.now.handler.node es c.args.room.now) (λ es. standing c.loop-round.service.handler.node es c.loop-round.room)
       (λ es. standing c.pass.new.service.handler.node es c.pass.new.room) _ c.loop-round.control c.pass.new.control (c.loop-round.invariant.turns none) c.in-Ok.ensures.turns;
   left = omega (arith, c.loop-round.invariant.left, c.in-Ok.ensures.few);
-  looks = looks_then c.loop-round._round 1 (g.T.Timer.told c.args.timer.now) (g.T.Timer.told c.loop-round.timer) (g.T.Timer.told c.pass.new.timer)
+  looks = looks_then c.loop-round._round 1 (g.T.Timer.timer_events c.args.timer.now) (g.T.Timer.timer_events c.loop-round.timer) (g.T.Timer.timer_events c.pass.new.timer)
       c.loop-round.invariant.looks c.in-Ok.ensures.looks;
   same = c.pass.ensures.same ∙ c.loop-round.invariant.same;
 }

@@ -14,6 +14,6 @@ invariant-loop-round g l = record {
       (λ es es'. Served (standing l.fn.service.handler.node es l.fn.room) (standing l.service.handler.node es' l.room) None)
       × (l.control ≡ None);
   left : l.turns ≤ l.left + 65 * l._round;
-  looks : LooksTimes l._round (g.T.Timer.told l.fn.timer) (g.T.Timer.told l.timer);
+  looks : LooksTimes l._round (g.T.Timer.timer_events l.fn.timer) (g.T.Timer.timer_events l.timer);
   same : g.W.Wire.identity l.wire ≡ g.W.Wire.identity l.fn.wire;
 }

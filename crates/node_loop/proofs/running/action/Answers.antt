@@ -7,11 +7,11 @@ use Rattle.node_loop.proofs.Chains.{looked_so}
 use Rattle.node_loop.proofs.running.action.Goals as goal
 use Rattle.node_loop.proofs.running.action.Goals.{then-peer_progress, else-peer_progress}
 
-pub returns-clause-told : goal.returns-clause-told
-returns-clause-told g c =
+pub returns-clause-timer_events : goal.returns-clause-timer_events
+returns-clause-timer_events g c =
     elim c.if-peer_progress.branch [
-      | then-peer_progress w ↦ looked_so (g.T.Timer.told c.args.timer.now) (g.T.Timer.told c.action-action.new.self) (g.T.Timer.told c.if-peer_progress.timer) c.args.now c.args.view c.args.peer_progress.now true w.if-peer_progress.true c.action-action.ensures.told
-          (subst (λ (z : _). Adds (g.T.Timer.told c.action-action.new.self) (g.T.Timer.told z) (sends_if true c.args.now)) (sym w.timer-is) w.sent.ensures.told)
-      | else-peer_progress w ↦ looked_so (g.T.Timer.told c.args.timer.now) (g.T.Timer.told c.action-action.new.self) (g.T.Timer.told c.if-peer_progress.timer) c.args.now c.args.view c.args.peer_progress.now false w.if-peer_progress.false c.action-action.ensures.told
-          (subst (λ (z : _). Adds (g.T.Timer.told c.action-action.new.self) (g.T.Timer.told z) (sends_if false c.args.now)) (sym w.timer-is) (adds_none (g.T.Timer.told c.action-action.new.self) (g.T.Timer.told c.action-action.new.self) (λ es h. h)))
+      | then-peer_progress w ↦ looked_so (g.T.Timer.timer_events c.args.timer.now) (g.T.Timer.timer_events c.action-action.new.self) (g.T.Timer.timer_events c.if-peer_progress.timer) c.args.now c.args.view c.args.peer_progress.now true w.if-peer_progress.true c.action-action.ensures.timer_events
+          (subst (λ (z : _). Adds (g.T.Timer.timer_events c.action-action.new.self) (g.T.Timer.timer_events z) (sends_if true c.args.now)) (sym w.timer-is) w.sent.ensures.timer_events)
+      | else-peer_progress w ↦ looked_so (g.T.Timer.timer_events c.args.timer.now) (g.T.Timer.timer_events c.action-action.new.self) (g.T.Timer.timer_events c.if-peer_progress.timer) c.args.now c.args.view c.args.peer_progress.now false w.if-peer_progress.false c.action-action.ensures.timer_events
+          (subst (λ (z : _). Adds (g.T.Timer.timer_events c.action-action.new.self) (g.T.Timer.timer_events z) (sends_if false c.args.now)) (sym w.timer-is) (adds_none (g.T.Timer.timer_events c.action-action.new.self) (g.T.Timer.timer_events c.action-action.new.self) (λ es h. h)))
     ]

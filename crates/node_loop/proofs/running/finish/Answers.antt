@@ -10,7 +10,7 @@ pub loop-round-init : goal.loop-round-init
 loop-round-init g c = record {
   served = λ es t. (es, t, served_none _ _ (same_all _));
   grows = omega arith;
-  looks = (0, looks_not (g.T.Timer.told c.args.timer.now) (g.T.Timer.told c.end.new.self) _ refl c.end.ensures.told);
+  looks = (0, looks_not (g.T.Timer.timer_events c.args.timer.now) (g.T.Timer.timer_events c.end.new.self) _ refl c.end.ensures.timer_events);
   same = refl;
 }
 
@@ -34,7 +34,7 @@ loop-round-preserved g c = record {
   grows = omega (arith, c.loop-round.invariant.grows, c.round.ensures.grows);
   looks = let r = c.loop-round.invariant.looks in (
     r.0 + 1,
-    looks_then r.0 1 (g.T.Timer.told c.args.timer.now) (g.T.Timer.told c.loop-round.timer) (g.T.Timer.told c.round.new.timer) r.1
+    looks_then r.0 1 (g.T.Timer.timer_events c.args.timer.now) (g.T.Timer.timer_events c.loop-round.timer) (g.T.Timer.timer_events c.round.new.timer) r.1
         c.in-Ok.ensures.looks,
   );
   same = c.wait.ensures.same ∙ (c.round.ensures.same ∙ c.loop-round.invariant.same);

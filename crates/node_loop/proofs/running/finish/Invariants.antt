@@ -11,6 +11,6 @@ invariant-loop-round g l = record {
   served : Moves (g.W.Wire.traffic l.fn.wire) (g.W.Wire.traffic l.wire)
       (λ es es'. Served (standing l.fn.node es l.fn.room) (standing l.node es' l.room) None);
   grows : applied_of l.fn.node ≤ applied_of l.node;
-  looks : (n : ℕ) × LooksTimes n (g.T.Timer.told l.fn.timer) (g.T.Timer.told l.timer);
+  looks : (n : ℕ) × LooksTimes n (g.T.Timer.timer_events l.fn.timer) (g.T.Timer.timer_events l.timer);
   same : g.W.Wire.identity l.wire ≡ g.W.Wire.identity l.fn.wire;
 }

@@ -65,7 +65,7 @@ returns-clause-took g c =
     let s = ticked _ (again.2 r.0 r.1) in (
       s.0,
       s.1,
-      round_took c.in-Ok.taken s.2.0 _ _ _ _ _ _ _ (record {
+      round_took c.in-Ok.handled s.2.0 _ _ _ _ _ _ _ (record {
         replica = refl;
         traffic = refl;
         kept = c.begin.ensures.kept;
@@ -86,19 +86,19 @@ pub returns-clause-saw : goal.returns-clause-saw
 returns-clause-saw g c =
     on_ok c.tick_if.result (λ ticked es t.
     let r = c.in-Ok.ensures.saw es t in (
-      c.in-Ok.taken,
-      round_saw c.in-Ok.taken _ _ _ _ _ _ _ _ _ _ (g.T.Timer.told c.args.timer.now) (g.T.Timer.told c.action-action.new.timer)
-          (g.T.Timer.told c.repeats-is_due.new.self) (record {
+      c.in-Ok.handled,
+      round_saw c.in-Ok.handled _ _ _ _ _ _ _ _ _ _ (g.T.Timer.timer_events c.args.timer.now) (g.T.Timer.timer_events c.action-action.new.timer)
+          (g.T.Timer.timer_events c.repeats-is_due.new.self) (record {
             replica = refl;
             traffic = refl;
             kept = c.begin.ensures.kept;
             requests = c.begin.ensures.requests;
             hears = c.begin.ensures.hears;
           }) c.begin.ensures.unseen r.2 (c.tick_if.ensures.unseen ∙ c.action-action.ensures.looked) c.front-was.ensures.front c.view_of-view.ensures
-          c.action-action.ensures.told c.repeats-is_due.ensures.told,
+          c.action-action.ensures.timer_events c.repeats-is_due.ensures.timer_events,
     )) c.tick_if.ensures.ticked
 
 pub returns-clause-looks : goal.returns-clause-looks
 returns-clause-looks g c =
-    on_ok c.tick_if.result (λ _. looks_once (g.T.Timer.told c.args.timer.now) (g.T.Timer.told c.action-action.new.timer)
-    (g.T.Timer.told c.repeats-is_due.new.self) c.args.now c.view_of-view.result c.drain.new.room.peer_progress c.action-action.ensures.told c.repeats-is_due.ensures.told) c.tick_if.ensures.ticked
+    on_ok c.tick_if.result (λ _. looks_once (g.T.Timer.timer_events c.args.timer.now) (g.T.Timer.timer_events c.action-action.new.timer)
+    (g.T.Timer.timer_events c.repeats-is_due.new.self) c.args.now c.view_of-view.result c.drain.new.room.peer_progress c.action-action.ensures.timer_events c.repeats-is_due.ensures.timer_events) c.tick_if.ensures.ticked

@@ -26,8 +26,8 @@ returns-then-not-has_own-clause-served g c es t = (es, t, served_none _ _ (same_
 pub returns-then-not-has_own-clause-ticked : goal.returns-then-not-has_own-clause-ticked
 returns-then-not-has_own-clause-ticked g c es t = (es, t, (false, same_all _))
 
-pub returns-else-taken-eq0-clause-served : goal.returns-else-taken-eq0-clause-served
-returns-else-taken-eq0-clause-served g c es t = (es, t, served_none _ _ (same_all _))
+pub returns-else-handled-eq0-clause-served : goal.returns-else-handled-eq0-clause-served
+returns-else-handled-eq0-clause-served g c es t = (es, t, served_none _ _ (same_all _))
 
-pub returns-else-taken-eq0-clause-ticked : goal.returns-else-taken-eq0-clause-ticked
-returns-else-taken-eq0-clause-ticked g c es t = (es, t, (false, same_all _))
+pub returns-else-handled-eq0-clause-ticked : goal.returns-else-handled-eq0-clause-ticked
+returns-else-handled-eq0-clause-ticked g c es t = (es, t, (false, same_all _))

@@ -5,41 +5,41 @@ use Rattle.node_loop.proofs.Chains.{served_none, same_all, saw_more, saw_no_more
 use Rattle.node_loop.proofs.Given.{over_then}
 use Rattle.node_loop.proofs.serving.drain.Goals as goal
 
-pub loop-taken-init : goal.loop-taken-init
-loop-taken-init g c = record {
+pub loop-handled-init : goal.loop-handled-init
+loop-handled-init g c = record {
   served = λ es t. (es, t, served_none _ _ (same_all _));
   saw = λ es t. (es, t, (same_all _, refl));
   grows = omega arith;
   same = refl;
 }
 
-pub loop-taken-preserved : goal.loop-taken-preserved
-loop-taken-preserved g c = record {
-  served = over_then (g.W.Wire.traffic c.args.wire.now) (g.W.Wire.traffic c.loop-taken.wire) (g.W.Wire.traffic c.take_one.new.wire)
-      (λ es. standing c.args.node.now es c.args.room.now) (λ es. standing c.loop-taken.node es c.loop-taken.room)
-      (λ es. standing c.take_one.new.node es c.take_one.new.room) _ c.loop-taken.invariant.served c.in-Ok.ensures.served;
+pub loop-handled-preserved : goal.loop-handled-preserved
+loop-handled-preserved g c = record {
+  served = over_then (g.W.Wire.traffic c.args.wire.now) (g.W.Wire.traffic c.loop-handled.wire) (g.W.Wire.traffic c.take_one.new.wire)
+      (λ es. standing c.args.node.now es c.args.room.now) (λ es. standing c.loop-handled.node es c.loop-handled.room)
+      (λ es. standing c.take_one.new.node es c.take_one.new.room) _ c.loop-handled.invariant.served c.in-Ok.ensures.served;
   saw = λ es t.
-      let r = c.loop-taken.invariant.saw es t in
+      let r = c.loop-handled.invariant.saw es t in
       let s = c.in-Ok.ensures.saw r.0 r.1 in
-      (s.0, s.1, saw_more c.loop-taken.taken _ _ _ _ _ _ _ c.in-Ok.had c.if-not-had.false (omega arith) r.2 s.2);
-  grows = omega (arith, c.loop-taken.invariant.grows, c.take_one.ensures.grows);
-  same = c.take_one.ensures.same ∙ c.loop-taken.invariant.same;
+      (s.0, s.1, saw_more c.loop-handled.handled _ _ _ _ _ _ _ c.in-Ok.had c.if-not-had.false (omega arith) r.2 s.2);
+  grows = omega (arith, c.loop-handled.invariant.grows, c.take_one.ensures.grows);
+  same = c.take_one.ensures.same ∙ c.loop-handled.invariant.same;
 }
 
 pub returns-then-not-had-clause-served : goal.returns-then-not-had-clause-served
 returns-then-not-had-clause-served g c =
-    over_then (g.W.Wire.traffic c.args.wire.now) (g.W.Wire.traffic c.loop-taken.wire) (g.W.Wire.traffic c.take_one.new.wire)
-    (λ es. standing c.args.node.now es c.args.room.now) (λ es. standing c.loop-taken.node es c.loop-taken.room)
-    (λ es. standing c.take_one.new.node es c.take_one.new.room) _ c.loop-taken.invariant.served c.in-Ok.ensures.served
+    over_then (g.W.Wire.traffic c.args.wire.now) (g.W.Wire.traffic c.loop-handled.wire) (g.W.Wire.traffic c.take_one.new.wire)
+    (λ es. standing c.args.node.now es c.args.room.now) (λ es. standing c.loop-handled.node es c.loop-handled.room)
+    (λ es. standing c.take_one.new.node es c.take_one.new.room) _ c.loop-handled.invariant.served c.in-Ok.ensures.served
 
 pub returns-then-not-had-clause-saw : goal.returns-then-not-had-clause-saw
 returns-then-not-had-clause-saw g c es t =
-    let r = c.loop-taken.invariant.saw es t in
+    let r = c.loop-handled.invariant.saw es t in
     let s = c.in-Ok.ensures.saw r.0 r.1 in
-    (s.0, s.1, saw_no_more c.loop-taken.taken _ _ _ _ _ _ c.in-Ok.had c.if-not-had.true r.2 s.2)
+    (s.0, s.1, saw_no_more c.loop-handled.handled _ _ _ _ _ _ c.in-Ok.had c.if-not-had.true r.2 s.2)
 
 pub returns-in-Err-clause-served : goal.returns-in-Err-clause-served
 returns-in-Err-clause-served g c =
-    over_then (g.W.Wire.traffic c.args.wire.now) (g.W.Wire.traffic c.loop-taken.wire) (g.W.Wire.traffic c.take_one.new.wire)
-    (λ es. standing c.args.node.now es c.args.room.now) (λ es. standing c.loop-taken.node es c.loop-taken.room)
-    (λ es. standing c.take_one.new.node es c.take_one.new.room) _ c.loop-taken.invariant.served c.in-Err.ensures.served
+    over_then (g.W.Wire.traffic c.args.wire.now) (g.W.Wire.traffic c.loop-handled.wire) (g.W.Wire.traffic c.take_one.new.wire)
+    (λ es. standing c.args.node.now es c.args.room.now) (λ es. standing c.loop-handled.node es c.loop-handled.room)
+    (λ es. standing c.take_one.new.node es c.take_one.new.room) _ c.loop-handled.invariant.served c.in-Err.ensures.served

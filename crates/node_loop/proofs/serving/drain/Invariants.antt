@@ -6,11 +6,11 @@ use Rattle.node_loop.specs.Progress.{SawAll, seen_in}
 use Rattle.node_loop.specs.Turns.{Served, standing}
 use Rattle.node_loop.proofs.serving.drain.Given as goal
 
-abbrev pub invariant-loop-taken : goal.invariant-loop-taken
-invariant-loop-taken g l = record {
+abbrev pub invariant-loop-handled : goal.invariant-loop-handled
+invariant-loop-handled g l = record {
   served : Moves (g.W.Wire.traffic l.fn.wire) (g.W.Wire.traffic l.wire)
       (λ es es'. Served (standing l.fn.node es l.fn.room) (standing l.node es' l.room) None);
-  saw : Moves (g.W.Wire.traffic l.fn.wire) (g.W.Wire.traffic l.wire) (λ es es'. SawAll l.taken
+  saw : Moves (g.W.Wire.traffic l.fn.wire) (g.W.Wire.traffic l.wire) (λ es es'. SawAll l.handled
       (standing l.fn.node es l.fn.room) (standing l.node es' l.room) (seen_in l.fn.room) (seen_in l.room));
   grows : applied_of l.fn.node ≤ applied_of l.node;
   same : g.W.Wire.identity l.wire ≡ g.W.Wire.identity l.fn.wire;

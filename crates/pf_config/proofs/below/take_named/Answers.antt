@@ -3,7 +3,7 @@ use Rattle.std.specs.Prelude.{find, is_some}
 use Rattle.pf_config.specs.Trees.{shared}
 use Rattle.pf_config.specs.inner.Trees.{is_named}
 use Rattle.pf_config.proofs.Cut.{next_kid}
-use Rattle.pf_config.proofs.KidPlaces.{left_whole, has_place, taken_out}
+use Rattle.pf_config.proofs.KidPlaces.{left_whole, has_place, removed_at}
 use Rattle.pf_config.proofs.below.take_named.Goals as goal
 
 pub returns-then-not-stands_at-clause-left : goal.returns-then-not-stands_at-clause-left
@@ -17,13 +17,13 @@ remove-kid-requires c =
     let less = has_place c.args.name.now c.args.at c.args.kids.now.items c.requires.order c.requires.place some in
     search rules
 
-pub returns-clause-taken : goal.returns-clause-taken
-returns-clause-taken c =
+pub returns-clause-removed : goal.returns-clause-removed
+returns-clause-removed c =
     let all = c.args.kids.now.items in
     let some : is_some (find (is_named c.args.name.now) (shared all)) ≡ true = search rules in
     let less = has_place c.args.name.now c.args.at all c.requires.order c.requires.place some in
     let next = next_kid all c.args.at c.remove-kid.result less c.remove-kid.ensures.value in
-    (taken_out c.args.name.now c.args.at all (drop (c.args.at + 1) all) c.remove-kid.result c.requires.order c.requires.place some next).0
+    (removed_at c.args.name.now c.args.at all (drop (c.args.at + 1) all) c.remove-kid.result c.requires.order c.requires.place some next).0
 
 pub returns-clause-left : goal.returns-clause-left
 returns-clause-left c =
@@ -31,4 +31,4 @@ returns-clause-left c =
     let some : is_some (find (is_named c.args.name.now) (shared all)) ≡ true = search rules in
     let less = has_place c.args.name.now c.args.at all c.requires.order c.requires.place some in
     let next = next_kid all c.args.at c.remove-kid.result less c.remove-kid.ensures.value in
-    ap shared c.remove-kid.ensures.by_index.2 ∙ (taken_out c.args.name.now c.args.at all (drop (c.args.at + 1) all) c.remove-kid.result c.requires.order c.requires.place some next).1
+    ap shared c.remove-kid.ensures.by_index.2 ∙ (removed_at c.args.name.now c.args.at all (drop (c.args.at + 1) all) c.remove-kid.result c.requires.order c.requires.place some next).1

@@ -20,7 +20,7 @@ returns-in-Some-get-clause-came c g w are =
     record {
       input = Comes f.sender f.message;
       comes = ap (λ (a : LabAction). comes_to w (action_of a)) c.in-Deliver.is ∙ f.comes;
-      told = (f.sender, f.message, (f.passes, (bytes, refl)));
+      is_spelled = (f.sender, f.message, (f.passes, (bytes, refl)));
     }
 
 pub returns-in-None-get-clause-none : goal.returns-in-None-get-clause-none

@@ -6,7 +6,7 @@ use Rattle.px_model.specs.Spelling.{Bytes}
 use Rattle.pf_lab.specs.Labs.{HostsAre}
 use Rattle.pf_lab.specs.declared.event.Outcome.{Outcome}
 use Rattle.pf_lab.specs.declared.event.LabFault.{LabFault}
-use Rattle.pf_lab.proofs.Outcomes.{down_after, up_after, err_told}
+use Rattle.pf_lab.proofs.Outcomes.{down_after, up_after, err_reported}
 use Rattle.pf_lab.proofs.Following.{stays_after}
 use Rattle.pf_lab.proofs.Taking.{stops_at, same_at}
 use Rattle.pf_lab.proofs.hosts.stop_after_at.Goals as goal
@@ -43,8 +43,8 @@ returns-clause-happens c g w a sent world came =
     let up : y.is_up ≡ true = cc (one, c.if-not-index.false) in
     stops_at hosts g c.args.m w a c.args.what y c.take.new.self c.empty.new.self sent c.take.new.out.items world at up c.take.ensures.up c.take.ensures.group c.empty.ensures.group c.empty.ensures.state came c.in-Ok.ensures.went
 
-pub returns-then-not-index-clause-told : goal.returns-then-not-index-clause-told
-returns-then-not-index-clause-told c g w a sent world came =
+pub returns-then-not-index-clause-reported : goal.returns-then-not-index-clause-reported
+returns-then-not-index-clause-reported c g w a sent world came =
     let hosts = c.args.hosts.now.items in
     let below : c.args.m < length hosts = search rules in
     let y = c.index.result.now in
@@ -52,11 +52,11 @@ returns-then-not-index-clause-told c g w a sent world came =
     let inside : c.args.m < g.members = omega (arith, below, world.count) in
     down_after g.members c.args.m w a came.input came.comes inside (ap (λ (s : NodeState Bytes). s.is_up) (world.hosts c.args.m y at).here ∙ c.if-not-index.true)
 
-pub returns-in-Err-clause-told : goal.returns-in-Err-clause-told
-returns-in-Err-clause-told c g w a sent world came = err_told c.in-Err.fault _ _ c.in-Err.ensures.memory
+pub returns-in-Err-clause-reported : goal.returns-in-Err-clause-reported
+returns-in-Err-clause-reported c g w a sent world came = err_reported c.in-Err.fault _ _ c.in-Err.ensures.memory
 
-pub returns-clause-told : goal.returns-clause-told
-returns-clause-told c g w a sent world came =
+pub returns-clause-reported : goal.returns-clause-reported
+returns-clause-reported c g w a sent world came =
     let hosts = c.args.hosts.now.items in
     let below : c.args.m < length hosts = search rules in
     let y = c.index.result.now in

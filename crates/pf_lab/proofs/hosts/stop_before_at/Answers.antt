@@ -27,8 +27,8 @@ returns-clause-happens c g w a x sent world come =
     let inside : c.args.m < g.members = omega (arith, below, world.count) in
     subst (λ (z : World Bytes). HostsAre c.empty_at.new.hosts.items g sent z) (sym (stops_before g.members c.args.m w a x come inside up)) (c.empty_at.ensures.empties g w sent world)
 
-pub returns-then-not-index-clause-told : goal.returns-then-not-index-clause-told
-returns-then-not-index-clause-told c g w a x sent world come =
+pub returns-then-not-index-clause-reported : goal.returns-then-not-index-clause-reported
+returns-then-not-index-clause-reported c g w a x sent world come =
     let hosts = c.args.hosts.now.items in
     let below : c.args.m < length hosts = search rules in
     let y = c.index.result.now in
@@ -36,8 +36,8 @@ returns-then-not-index-clause-told c g w a x sent world come =
     let inside : c.args.m < g.members = omega (arith, below, world.count) in
     down_before g.members c.args.m w a x come inside (ap (λ (s : NodeState Bytes). s.is_up) (world.hosts c.args.m y at).here ∙ c.if-not-index.true)
 
-pub returns-clause-told : goal.returns-clause-told
-returns-clause-told c g w a x sent world come =
+pub returns-clause-reported : goal.returns-clause-reported
+returns-clause-reported c g w a x sent world come =
     let hosts = c.args.hosts.now.items in
     let below : c.args.m < length hosts = search rules in
     let y = c.index.result.now in

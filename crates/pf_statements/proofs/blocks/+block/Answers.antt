@@ -9,7 +9,7 @@ use Rattle.pf_statements.specs.Anchors.{heading_at}
 use Rattle.pf_statements.specs.Statements.{ItemText, ItemTexts, anchor_item, block_item, item_at, items_at, rule_item_at}
 use Rattle.pf_statements.specs.Seen.{heading_text_of, item_text_of, item_texts_of}
 use Rattle.pf_statements.proofs.OverSteps.{stops_too}
-use Rattle.pf_statements.proofs.BlockSteps.{word_taken, word_kept, symbol_taken, symbol_kept, line_taken, line_kept, line_shorter, item_rule, item_no_heading, item_anchor, item_wild, item_block, item_not_over, item_whole, parsed_shorter, inner_shorter, items_shorter, nested_first, nested_newline, nested_close, nested_item, nested_none, stopped}
+use Rattle.pf_statements.proofs.BlockSteps.{word_accepted, word_kept, symbol_accepted, symbol_kept, line_accepted, line_kept, line_shorter, item_rule, item_no_heading, item_anchor, item_wild, item_block, item_not_over, item_whole, parsed_shorter, inner_shorter, items_shorter, nested_first, nested_newline, nested_close, nested_item, nested_none, stopped}
 use Rattle.pf_statements.proofs.blocks.+block.Goals as goal
 
 pub read_item-returns-then-not-accept-clause-read : goal.read_item-returns-then-not-accept-clause-read
@@ -24,14 +24,14 @@ read_item-returns-then-not-accept-clause-shorter t c =
 
 pub read_item-returns-in_err-heading-clause-read : goal.read_item-returns-in_err-heading-clause-read
 read_item-returns-in_err-heading-clause-read t c n enough =
-    let it = word_taken (codes "anchor") c.accept.result (left c.args.parser.now) (left c.accept.new.self) c.accept.ensures.read c.if-not-accept.false in
+    let it = word_accepted (codes "anchor") c.accept.result (left c.args.parser.now) (left c.accept.new.self) c.accept.ensures.read c.if-not-accept.false in
     let same : c.from_residual.result ≡ Err c.in_err-heading.field-0.0 = search rules in
     rw same (stops_too heading_text_of item_text_of c.in_err-heading.field-0.0 (left c.read_heading.new.parser) (left c.read_heading.new.parser) (heading_at c.args.profile (left c.accept.new.self)) (item_at n c.args.profile (left c.args.parser.now)) c.in_err-heading.ensures.read
     (λ none. item_no_heading n c.args.profile (left c.args.parser.now) it.0 (ap (heading_at c.args.profile) (sym it.1) ∙ none)))
 
 pub read_item-returns-then-not-accept_symbol-clause-read : goal.read_item-returns-then-not-accept_symbol-clause-read
 read_item-returns-then-not-accept_symbol-clause-read t c n enough =
-    let it = word_taken (codes "anchor") c.accept.result (left c.args.parser.now) (left c.accept.new.self) c.accept.ensures.read c.if-not-accept.false in
+    let it = word_accepted (codes "anchor") c.accept.result (left c.args.parser.now) (left c.accept.new.self) c.accept.ensures.read c.if-not-accept.false in
     let h = heading_text_of c.in_ok-heading.heading in
     let rest = left c.read_heading.new.parser in
     let kept = symbol_kept Open c.accept_symbol.result rest (left c.accept_symbol.new.self) c.accept_symbol.ensures.read c.if-not-accept_symbol.true in
@@ -45,22 +45,22 @@ read_item-returns-then-not-accept_symbol-clause-shorter t c =
 
 pub read_item-returns-then-is_wild-clause-read : goal.read_item-returns-then-is_wild-clause-read
 read_item-returns-then-is_wild-clause-read t c n enough =
-    let it = word_taken (codes "anchor") c.accept.result (left c.args.parser.now) (left c.accept.new.self) c.accept.ensures.read c.if-not-accept.false in
-    let opened = symbol_taken Open c.accept_symbol.result (left c.read_heading.new.parser) (left c.accept_symbol.new.self) c.accept_symbol.ensures.read c.if-not-accept_symbol.false in
+    let it = word_accepted (codes "anchor") c.accept.result (left c.args.parser.now) (left c.accept.new.self) c.accept.ensures.read c.if-not-accept.false in
+    let opened = symbol_accepted Open c.accept_symbol.result (left c.read_heading.new.parser) (left c.accept_symbol.new.self) c.accept_symbol.ensures.read c.if-not-accept_symbol.false in
     item_wild n c.args.profile (left c.args.parser.now) (left c.read_heading.new.parser) (heading_text_of c.in_ok-heading.heading) it.0 (ap (heading_at c.args.profile) (sym it.1) ∙ c.in_ok-heading.ensures.read) opened.0 (sym c.is_wild.ensures ∙ c.if-is_wild.true)
 
 pub read_item-read_items-requires : goal.read_item-read_items-requires
 read_item-read_items-requires t c =
-    let it = word_taken (codes "anchor") c.accept.result (left c.args.parser.now) (left c.accept.new.self) c.accept.ensures.read c.if-not-accept.false in
-    let opened = symbol_taken Open c.accept_symbol.result (left c.read_heading.new.parser) (left c.accept_symbol.new.self) c.accept_symbol.ensures.read c.if-not-accept_symbol.false in
+    let it = word_accepted (codes "anchor") c.accept.result (left c.args.parser.now) (left c.accept.new.self) c.accept.ensures.read c.if-not-accept.false in
+    let opened = symbol_accepted Open c.accept_symbol.result (left c.read_heading.new.parser) (left c.accept_symbol.new.self) c.accept_symbol.ensures.read c.if-not-accept_symbol.false in
     let inner = inner_shorter c.args.profile (left c.args.parser.now) (left c.accept.new.self) (left c.read_heading.new.parser) (left c.accept_symbol.new.self) (heading_text_of c.in_ok-heading.heading) it.0 it.1 c.in_ok-heading.ensures.read opened.0 opened.1 in
     let falls : 2 * length (left c.accept_symbol.new.self) + 1 < t = omega (arith, c.decreases, inner) in
     (falls, tt)
 
 pub read_item-returns-in_err-items-clause-read : goal.read_item-returns-in_err-items-clause-read
 read_item-returns-in_err-items-clause-read t c n enough =
-    let it = word_taken (codes "anchor") c.accept.result (left c.args.parser.now) (left c.accept.new.self) c.accept.ensures.read c.if-not-accept.false in
-    let opened = symbol_taken Open c.accept_symbol.result (left c.read_heading.new.parser) (left c.accept_symbol.new.self) c.accept_symbol.ensures.read c.if-not-accept_symbol.false in
+    let it = word_accepted (codes "anchor") c.accept.result (left c.args.parser.now) (left c.accept.new.self) c.accept.ensures.read c.if-not-accept.false in
+    let opened = symbol_accepted Open c.accept_symbol.result (left c.read_heading.new.parser) (left c.accept_symbol.new.self) c.accept_symbol.ensures.read c.if-not-accept_symbol.false in
     let h = heading_text_of c.in_ok-heading.heading in
     let inner = inner_shorter c.args.profile (left c.args.parser.now) (left c.accept.new.self) (left c.read_heading.new.parser) (left c.accept_symbol.new.self) h it.0 it.1 c.in_ok-heading.ensures.read opened.0 opened.1 in
     let fewer : length (left c.accept_symbol.new.self) < n = omega (arith, inner, enough) in
@@ -71,8 +71,8 @@ read_item-returns-in_err-items-clause-read t c n enough =
 
 pub read_item-returns-then-not-is_over-clause-read : goal.read_item-returns-then-not-is_over-clause-read
 read_item-returns-then-not-is_over-clause-read t c n enough =
-    let it = word_taken (codes "anchor") c.accept.result (left c.args.parser.now) (left c.accept.new.self) c.accept.ensures.read c.if-not-accept.false in
-    let opened = symbol_taken Open c.accept_symbol.result (left c.read_heading.new.parser) (left c.accept_symbol.new.self) c.accept_symbol.ensures.read c.if-not-accept_symbol.false in
+    let it = word_accepted (codes "anchor") c.accept.result (left c.args.parser.now) (left c.accept.new.self) c.accept.ensures.read c.if-not-accept.false in
+    let opened = symbol_accepted Open c.accept_symbol.result (left c.read_heading.new.parser) (left c.accept_symbol.new.self) c.accept_symbol.ensures.read c.if-not-accept_symbol.false in
     let h = heading_text_of c.in_ok-heading.heading in
     let inner = inner_shorter c.args.profile (left c.args.parser.now) (left c.accept.new.self) (left c.read_heading.new.parser) (left c.accept_symbol.new.self) h it.0 it.1 c.in_ok-heading.ensures.read opened.0 opened.1 in
     let fewer : length (left c.accept_symbol.new.self) < n = omega (arith, inner, enough) in
@@ -80,8 +80,8 @@ read_item-returns-then-not-is_over-clause-read t c n enough =
 
 pub read_item-returns-clause-read : goal.read_item-returns-clause-read
 read_item-returns-clause-read t c n enough =
-    let it = word_taken (codes "anchor") c.accept.result (left c.args.parser.now) (left c.accept.new.self) c.accept.ensures.read c.if-not-accept.false in
-    let opened = symbol_taken Open c.accept_symbol.result (left c.read_heading.new.parser) (left c.accept_symbol.new.self) c.accept_symbol.ensures.read c.if-not-accept_symbol.false in
+    let it = word_accepted (codes "anchor") c.accept.result (left c.args.parser.now) (left c.accept.new.self) c.accept.ensures.read c.if-not-accept.false in
+    let opened = symbol_accepted Open c.accept_symbol.result (left c.read_heading.new.parser) (left c.accept_symbol.new.self) c.accept_symbol.ensures.read c.if-not-accept_symbol.false in
     let h = heading_text_of c.in_ok-heading.heading in
     let inner = inner_shorter c.args.profile (left c.args.parser.now) (left c.accept.new.self) (left c.read_heading.new.parser) (left c.accept_symbol.new.self) h it.0 it.1 c.in_ok-heading.ensures.read opened.0 opened.1 in
     let fewer : length (left c.accept_symbol.new.self) < n = omega (arith, inner, enough) in
@@ -89,8 +89,8 @@ read_item-returns-clause-read t c n enough =
 
 pub read_item-returns-clause-shorter : goal.read_item-returns-clause-shorter
 read_item-returns-clause-shorter t c =
-    let it = word_taken (codes "anchor") c.accept.result (left c.args.parser.now) (left c.accept.new.self) c.accept.ensures.read c.if-not-accept.false in
-    let opened = symbol_taken Open c.accept_symbol.result (left c.read_heading.new.parser) (left c.accept_symbol.new.self) c.accept_symbol.ensures.read c.if-not-accept_symbol.false in
+    let it = word_accepted (codes "anchor") c.accept.result (left c.args.parser.now) (left c.accept.new.self) c.accept.ensures.read c.if-not-accept.false in
+    let opened = symbol_accepted Open c.accept_symbol.result (left c.read_heading.new.parser) (left c.accept_symbol.new.self) c.accept_symbol.ensures.read c.if-not-accept_symbol.false in
     let inner = inner_shorter c.args.profile (left c.args.parser.now) (left c.accept.new.self) (left c.read_heading.new.parser) (left c.accept_symbol.new.self) (heading_text_of c.in_ok-heading.heading) it.0 it.1 c.in_ok-heading.ensures.read opened.0 opened.1 in
     let fewer = c.in_ok-items.ensures.shorter in
     omega (arith, inner, fewer)
@@ -104,7 +104,7 @@ read_items-loop-parser-init t c = record {
 
 pub read_items-loop-parser-preserved-then-accept_newline : goal.read_items-loop-parser-preserved-then-accept_newline
 read_items-loop-parser-preserved-then-accept_newline t c =
-    let line = line_taken c.accept_newline.result (left c.loop-parser.parser) (left c.accept_newline.new.self) c.accept_newline.ensures.read c.if-accept_newline.true in
+    let line = line_accepted c.accept_newline.result (left c.loop-parser.parser) (left c.accept_newline.new.self) c.accept_newline.ensures.read c.if-accept_newline.true in
     let fewer = line_shorter (left c.loop-parser.parser) line.0 in
     let len = ap (λ (us : List Token). length us) line.1 in
     let before = c.loop-parser.invariant.no_longer in
@@ -117,7 +117,7 @@ read_items-loop-parser-preserved-then-accept_newline t c =
 pub read_items-returns-then-accept_symbol-clause-read : goal.read_items-returns-then-accept_symbol-clause-read
 read_items-returns-then-accept_symbol-clause-read t c n enough =
     let line = line_kept c.accept_newline.result (left c.loop-parser.parser) (left c.accept_newline.new.self) c.accept_newline.ensures.read c.if-accept_newline.false in
-    let close = symbol_taken Close c.accept_symbol.result (left c.accept_newline.new.self) (left c.accept_symbol.new.self) c.accept_symbol.ensures.read c.if-accept_symbol.true in
+    let close = symbol_accepted Close c.accept_symbol.result (left c.accept_newline.new.self) (left c.accept_symbol.new.self) c.accept_symbol.ensures.read c.if-accept_symbol.true in
     let here : left c.accept_symbol.new.self ≡ drop 1 (left c.loop-parser.parser) = close.1 ∙ ap (drop 1) line.1 in
     rw here (nested_close c.args.profile (items_at n c.args.profile (left c.args.parser.now)) _ (left c.loop-parser.parser) (c.loop-parser.invariant.going n enough) line.0 (ap (begins_symbol Close) (sym line.1) ∙ close.0))
 

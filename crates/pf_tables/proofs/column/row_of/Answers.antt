@@ -5,7 +5,7 @@ use Rattle.std.proofs.lemmas.Bool.{cases_lt, eqb-true, eqb-false}
 use Rattle.std.specs.Prelude.{slice_get}
 use Rattle.pf_tables.proofs.Words.{bit_in_front, bit_behind}
 use Rattle.pf_tables.proofs.Meeting.{within_meets}
-use Rattle.pf_tables.proofs.Lists.{got_dropped, got_taken, dropped_twice, dropped_least}
+use Rattle.pf_tables.proofs.Lists.{got_dropped, got_in_front, dropped_twice, dropped_least}
 use Rattle.pf_tables.proofs.column.row_of.Goals as goal
 
 pub loop-left-preserved : goal.loop-left-preserved
@@ -28,7 +28,7 @@ loop-left-preserved c =
             let k = i - 64 * length row in
             let within : k < min (length left) 64 = omega (arith, size, past, below, grown, slice_get_within all i x at) in
             let place : 64 * length row + k ≡ i = omega (arith, past) in
-            let got = ap (λ l. slice_get l k) c.split_at.ensures.front ∙ ap (λ n. slice_get (take n left) k) c.min.ensures ∙ got_taken (min (length left) 64) left k within ∙ ap (λ l. slice_get l k) c.loop-left.invariant.rest ∙ got_dropped (64 * length row) all k ∙ ap (slice_get all) place ∙ at in
+            let got = ap (λ l. slice_get l k) c.split_at.ensures.front ∙ ap (λ n. slice_get (take n left) k) c.min.ensures ∙ got_in_front (min (length left) 64) left k within ∙ ap (λ l. slice_get l k) c.loop-left.invariant.rest ∙ got_dropped (64 * length row) all k ∙ ap (slice_get all) place ∙ at in
             bit_behind row c.word_of.result i past (omega (arith, below, grown)) (c.word_of.ensures k x got is)
       ]);
     }

@@ -16,7 +16,7 @@ use Rattle.px_replica.specs.inner.Members.{planned_by}
 use Rattle.px_replica.specs.Seen.{IsSound}
 use Rattle.px_replica.specs.inner.Seen.{IsSeen}
 use Rattle.px_replica.specs.Spelled.{AreSpelled}
-use Rattle.px_replica.proofs.Sending.{few_told}
+use Rattle.px_replica.proofs.Sending.{few_handed_out}
 use Rattle.px_replica.proofs.Steps.{none_failed, plan_rises, commit_sound, why_failed}
 use Rattle.px_replica.proofs.act.act.Goals as goal
 
@@ -101,4 +101,4 @@ returns-clause-sound g c honest sound =
 pub returns-clause-few : goal.returns-clause-few
 returns-clause-few g c =
     let z = c.group-m.result in
-    few_told (group z) z.members z.me c.in-Ok-plan.plan.sends c.in-Ok-spelled.staged.items c.args.out.now.items c.hand_out.new.out.items c.group-m.ensures.few c.in-Ok-spelled.ensures (search (rules, c.hand_out.ensures, c.reserve.ensures.items))
+    few_handed_out (group z) z.members z.me c.in-Ok-plan.plan.sends c.in-Ok-spelled.staged.items c.args.out.now.items c.hand_out.new.out.items c.group-m.ensures.few c.in-Ok-spelled.ensures (search (rules, c.hand_out.ensures, c.reserve.ensures.items))

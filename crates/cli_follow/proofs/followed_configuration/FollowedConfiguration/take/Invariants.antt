@@ -1,7 +1,7 @@
 use Rattle.std.proofs.Common.{◌≡◌, ◌+◌, ℕ, false, length, fold}
 use Rattle.pf_config.specs.Map.{Configuration}
 use Rattle.pf_scripts.specs.Lines.{lines}
-use Rattle.cli_follow.specs.Following.{after_lines, StopsIn, taken}
+use Rattle.cli_follow.specs.Following.{after_lines, StopsIn, lines_applied}
 use Rattle.cli_follow.specs.Following.{followed_of}
 use Rattle.cli_follow.proofs.followed_configuration.FollowedConfiguration.take.Given as goal
 
@@ -13,7 +13,7 @@ invariant-loop-line l = record {
   still : l.self.is_moved ≡ false → l.self.config ≡ l.fn.self.config;
   stops : (c : Configuration) (p : ℕ) → StopsIn l.self.config c l.self.position p (lines l.left) →
       StopsIn l.fn.self.config c l.fn.self.position p (lines l.fn.text);
-  taken : taken (followed_of l.self) (lines l.left) ≡ taken (followed_of l.fn.self) (lines l.fn.text);
+  lines_applied : lines_applied (followed_of l.self) (lines l.left) ≡ lines_applied (followed_of l.fn.self) (lines l.fn.text);
   before : l.self.is_moved ≡ false → l.fn.self.is_moved ≡ false;
 }
 

@@ -7,32 +7,32 @@ use Rattle.pf_node.proofs.Recording.{recorded_kept}
 use Rattle.pf_node.proofs.Places.{within_kept, bounds_kept}
 use Rattle.pf_node.proofs.state.Node.receive.Goals as goal
 
-pub take_up-taken-requires-clause-configured : goal.take_up-taken-requires-clause-configured
-take_up-taken-requires-clause-configured g c =
+pub take_up-outcome-requires-clause-configured : goal.take_up-outcome-requires-clause-configured
+take_up-outcome-requires-clause-configured g c =
     let n = c.args.self.now in
     after_kept (learned_by n.replica) (learned_by c.receive.new.self) n.applied n.config n.configured n.behind
     (received_below n.replica c.receive.new.self _ _ _ _ c.receive.ensures.received)
 
-pub take_up-taken-requires-clause-behind : goal.take_up-taken-requires-clause-behind
-take_up-taken-requires-clause-behind g c =
+pub take_up-outcome-requires-clause-behind : goal.take_up-outcome-requires-clause-behind
+take_up-outcome-requires-clause-behind g c =
     let n = c.args.self.now in
     let h = received_front n.replica c.receive.new.self _ _ _ _ c.receive.ensures.received in
     omega (arith, n.behind, h)
 
-pub take_up-taken-requires-clause-recorded : goal.take_up-taken-requires-clause-recorded
-take_up-taken-requires-clause-recorded g c =
+pub take_up-outcome-requires-clause-recorded : goal.take_up-outcome-requires-clause-recorded
+take_up-outcome-requires-clause-recorded g c =
     let n = c.args.self.now in
     recorded_kept (learned_by n.replica) (learned_by c.receive.new.self) n.applied n.outcomes.kept.items n.recorded n.behind
     (received_below n.replica c.receive.new.self _ _ _ _ c.receive.ensures.received)
 
-pub take_up-taken-requires-clause-numbered : goal.take_up-taken-requires-clause-numbered
-take_up-taken-requires-clause-numbered g c =
+pub take_up-outcome-requires-clause-numbered : goal.take_up-outcome-requires-clause-numbered
+take_up-outcome-requires-clause-numbered g c =
     let n = c.args.self.now in
     within_kept (learned_by n.replica) (learned_by c.receive.new.self) n.numbers.origin n.applied n.numbers.last n.numbered n.behind
     (received_below n.replica c.receive.new.self _ _ _ _ c.receive.ensures.received)
 
-pub take_up-taken-requires-clause-bounded : goal.take_up-taken-requires-clause-bounded
-take_up-taken-requires-clause-bounded g c =
+pub take_up-outcome-requires-clause-bounded : goal.take_up-outcome-requires-clause-bounded
+take_up-outcome-requires-clause-bounded g c =
     let n = c.args.self.now in
     bounds_kept (learned_by n.replica) (learned_by c.receive.new.self) n.numbers.origin n.applied n.numbers.bounds.items n.bounded n.stretched n.behind
     (received_below n.replica c.receive.new.self _ _ _ _ c.receive.ensures.received)

@@ -23,4 +23,4 @@ returns-then-not-take_inside-clause-pulled c =
 pub returns-else-not-take_inside-clause-pulled : goal.returns-else-not-take_inside-clause-pulled
 returns-else-not-take_inside-clause-pulled c =
     let some = pending_some c.args.self.now c.if-is_none.ensures in
-    rw (some.0, some.1) (c.if-not-take_inside.ensures.taken ∙ sym (pulled_there (known c.args.self.now) c.args.self.now.defining c.args.self.now.line (tokens_left c.args.self.now.inside) (tokens_left c.args.self.now.text) c.if-not-take_inside.ensures.some))
+    rw (some.0, some.1) (c.if-not-take_inside.ensures.first_item ∙ sym (pulled_there (known c.args.self.now) c.args.self.now.defining c.args.self.now.line (tokens_left c.args.self.now.inside) (tokens_left c.args.self.now.text) c.if-not-take_inside.ensures.some))

@@ -24,7 +24,7 @@ pub returns-then-take_inside-clause-pulled : goal.returns-then-take_inside-claus
 returns-then-take_inside-clause-pulled c =
     let kept = c.loop-token.invariant in
     let text : map (unwritten c.in-Some.token.line) (tokens_left c.plain-self.result) ≡ replaced (known c.args.self.now) c.args.self.now.defining (placed_of c.in-Some.token) = ap (map (unwritten c.in-Some.token.line)) c.plain-self.ensures ∙ c.in-Some-replacement.ensures ∙ replaced_stays c.args.self.now c.loop-token.self (placed_of c.in-Some.token) kept.stays in
-    c.if-take_inside.ensures.taken ∙ sym (pulled_there (known c.args.self.now) c.args.self.now.defining c.in-Some.token.line (tokens_left c.plain-self.result) (tokens_left c.next_token.new.self) c.if-take_inside.ensures.some)
+    c.if-take_inside.ensures.first_item ∙ sym (pulled_there (known c.args.self.now) c.args.self.now.defining c.in-Some.token.line (tokens_left c.plain-self.result) (tokens_left c.next_token.new.self) c.if-take_inside.ensures.some)
     ∙ sym (pulled_text (known c.args.self.now) c.args.self.now.defining c.in-Some.token (tokens_left c.loop-token.self.text) (tokens_left c.next_token.new.self) (tokens_left c.plain-self.result) c.in-Some.ensures.token c.in-Some.ensures.left text) ∙ kept.same
 
 pub returns-clause-pulled : goal.returns-clause-pulled

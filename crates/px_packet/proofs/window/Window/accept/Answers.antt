@@ -1,7 +1,7 @@
 -- a counter is fresh where it is above the last of its rest, and not behind the window
 use Rattle.std.proofs.Common.{rules, arith, refl, sym, ◌+◌, ◌%◌, ◌<◌, ◌≤◌}
 use Rattle.px_packet.specs.Windows.{top_of, last_of}
-use Rattle.px_packet.proofs.Windows.{read_last, repeated, kept, fresh, taken}
+use Rattle.px_packet.proofs.Windows.{read_last, repeated, kept, fresh, set_last}
 use Rattle.px_packet.proofs.window.Window.accept.Goals as goal
 
 pub returns-then-counter-index-clause-fresh : goal.returns-then-counter-index-clause-fresh
@@ -34,4 +34,4 @@ returns-clause-after c ns h =
     let above : last_of (n % 2048) ns < n = omega (arith, last, c.if-counter-index.false) in
     let inside : top_of ns < n + 2048 =
     omega (arith, h.top_is, c.saturating_sub.ensures, c.if-saturating_sub-ge-WINDOW.false) in
-    taken ns n (n % 2048) c.args.self.now _ refl above inside (search rules) (search rules) h
+    set_last ns n (n % 2048) c.args.self.now _ refl above inside (search rules) (search rules) h

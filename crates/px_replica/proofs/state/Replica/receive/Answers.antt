@@ -51,7 +51,7 @@ returns-in-Err g c = record {
     unspelled = λ from x spells. c.in-Err.ensures.only from x
         (subst (λ (z : Membership). DatagramBytes (group z) from z.me x c.args.bytes.now) (sym c.group.ensures.group) spells);
     fault = c.in-Err.fault;
-    told = subst (λ (z : Membership). WireFaultAt z c.args.bytes.now c.in-Err.fault.code c.in-Err.fault.offset) c.group.ensures.group
+    reported = subst (λ (z : Membership). WireFaultAt z c.args.bytes.now c.in-Err.fault.code c.in-Err.fault.offset) c.group.ensures.group
         c.in-Err.ensures.fault;
     answered = refl;
     still = refl;

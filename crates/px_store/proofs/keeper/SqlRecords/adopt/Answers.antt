@@ -24,7 +24,7 @@ returns-in-Ok-clause-found g c = λ clean own some.
       | inl none ↦ absurd (some none)
       | inr known ↦
           let began : Began known.0 s = record { schema = known.1; auto = c.in_default.ensures.known.1 } in
-          let three : known.0 ≡ Three = own_three known.0 c.args.identity s.now.trees own (c.in_default.ensures.taken mid known.0 began) in
+          let three : known.0 ≡ Three = own_three known.0 c.args.identity s.now.trees own (c.in_default.ensures.adopted mid known.0 began) in
           let shows = c.in_default.ensures.made mid Three (subst (λ (f : Format). Began f s) three began) in
           (clean, ap (λ (d : Database). record_in d.trees) (c.in-Ok.ensures.stays clean) ∙ shows.is)
     ]

@@ -4,7 +4,7 @@ use Rattle.px_packet.specs.Seen.{seen}
 use Rattle.px_transport.specs.Receiving as receiving
 use Rattle.px_transport.specs.Bodies.{piece_in}
 use Rattle.px_transport.proofs.Bodies.{piece_read}
-use Rattle.px_transport.proofs.Entries.{piece_taken, piece_refused}
+use Rattle.px_transport.proofs.Entries.{piece_handled, piece_refused}
 use Rattle.px_transport.proofs.receiver.Entry.take_piece.Goals as goal
 
 pub returns-in-Ok : goal.returns-in-Ok
@@ -13,7 +13,7 @@ returns-in-Ok c h is =
     let read : piece_in c.args.body.now ≡ Some (seen p) =
     ap piece_in c.in-Some.ensures.read ∙ piece_read (seen p) (search rules)
     (record { short = p.short; inside = p.inside; long = p.long }) in
-    piece_taken h c.args.self.now.peer c.args.self.now.reassembly c.take.new.self (piece_in c.args.body.now) (seen p)
+    piece_handled h c.args.self.now.peer c.args.self.now.reassembly c.take.new.self (piece_in c.args.body.now) (seen p)
     c.args.now _ (receiving.seen c.joined.result) is read c.in-Ok.ensures.given c.in-Ok.ensures.after c.joined.ensures
 
 pub returns-in-Err : goal.returns-in-Err

@@ -7,7 +7,7 @@ ghost use Rattle.px_model.specs.World.{World, happens, run, start};
 ghost use Rattle.px_model.specs.World.Event.{Runs, StopBefore, StopAfter, Restart};
 ghost use Rattle.px_wire.specs.Message.{Group};
 ghost use Rattle.px_replica.specs.Made.{same};
-ghost use Rattle.pf_lab.specs.Coming.{action_of, happenings};
+ghost use Rattle.pf_lab.specs.Coming.{action_of, model_events};
 ghost use Rattle.pf_lab.specs.inner.Coming.{IsNamed, IsOf};
 ghost use Rattle.pf_lab.specs.Outcomes.{Tells, is_unknown, outcome_in, is_bad, becomes, are_known};
 ghost use Rattle.pf_lab.specs.Ever.{ever_of, IsEver, IsAgreed};
@@ -33,7 +33,7 @@ impl Lab {
         requires { IsNamed action.now bytes.now }
         ensures happens { (g : Group) (w : World Bytes) → IsWorld self.old g w →
             OnOk result (IsWorld self.new g (happens same g.members w (Runs (action_of action.now)))) }
-        ensures told { (g : Group) (w : World Bytes) → IsWorld self.old g w →
+        ensures reported { (g : Group) (w : World Bytes) → IsWorld self.old g w →
             Tells result (is_unknown g.members w (Runs (action_of action.now)))
             (outcome_in g.members w (Runs (action_of action.now))) }
         ensures stays { (g : Group) (w : World Bytes) → IsWorld self.old g w → OnErr result (IsWorld self.new g w) }
@@ -58,7 +58,7 @@ impl Lab {
         requires { IsNamed action.now bytes.now }
         ensures happens { (g : Group) (w : World Bytes) → IsWorld self.old g w →
             OnOk result (IsWorld self.new g (happens same g.members w (StopBefore (action_of action.now)))) }
-        ensures told { (g : Group) (w : World Bytes) → IsWorld self.old g w →
+        ensures reported { (g : Group) (w : World Bytes) → IsWorld self.old g w →
             Tells result (is_unknown g.members w (StopBefore (action_of action.now)))
             (outcome_in g.members w (StopBefore (action_of action.now))) }
         ensures stays { (g : Group) (w : World Bytes) → IsWorld self.old g w → OnErr result (IsWorld self.new g w) }
@@ -74,7 +74,7 @@ impl Lab {
         requires { IsNamed action.now bytes.now }
         ensures happens { (g : Group) (w : World Bytes) → IsWorld self.old g w →
             OnOk result (IsWorld self.new g (happens same g.members w (StopAfter (action_of action.now)))) }
-        ensures told { (g : Group) (w : World Bytes) → IsWorld self.old g w →
+        ensures reported { (g : Group) (w : World Bytes) → IsWorld self.old g w →
             Tells result (is_unknown g.members w (StopAfter (action_of action.now)))
             (outcome_in g.members w (StopAfter (action_of action.now))) }
         ensures stays { (g : Group) (w : World Bytes) → IsWorld self.old g w → OnErr result (IsWorld self.new g w) }
@@ -89,7 +89,7 @@ impl Lab {
     fn restart(&mut self, m: u8) -> Result<Outcome, LabFault>
         ensures happens { (g : Group) (w : World Bytes) → IsWorld self.old g w →
             OnOk result (IsWorld self.new g (happens same g.members w (Restart m))) }
-        ensures told { (g : Group) (w : World Bytes) → IsWorld self.old g w →
+        ensures reported { (g : Group) (w : World Bytes) → IsWorld self.old g w →
             Tells result (is_unknown g.members w (Restart m)) (outcome_in g.members w (Restart m)) }
         ensures stays { (g : Group) (w : World Bytes) → IsWorld self.old g w → OnErr result (IsWorld self.new g w) }
     {
@@ -105,8 +105,8 @@ impl Lab {
     fn act(&mut self, event: &LabEvent, action: &LabAction) -> Result<Outcome, LabFault>
         requires { IsOf event.now action.now }
         ensures happens { (g : Group) (w : World Bytes) → IsWorld self.old g w →
-            OnOk result (IsWorld self.new g (run same g.members (happenings event.now) w)) }
-        ensures told { (g : Group) (w : World Bytes) → IsWorld self.old g w →
+            OnOk result (IsWorld self.new g (run same g.members (model_events event.now) w)) }
+        ensures reported { (g : Group) (w : World Bytes) → IsWorld self.old g w →
             Tells result (is_bad g.members w event.now) (becomes g.members w event.now) }
         ensures stays { (g : Group) (w : World Bytes) → IsWorld self.old g w → OnErr result (IsWorld self.new g w) }
     {
@@ -129,8 +129,8 @@ impl Lab {
     /// It and `Memory` leave the same world: only what a tick applied before stays applied.
     pub fn step(&mut self, event: &LabEvent) -> Result<Outcome, LabFault>
         ensures happens { (g : Group) (w : World Bytes) → IsWorld self.old g w →
-            OnOk result (IsWorld self.new g (run same g.members (happenings event.now) w)) }
-        ensures told { (g : Group) (w : World Bytes) → IsWorld self.old g w →
+            OnOk result (IsWorld self.new g (run same g.members (model_events event.now) w)) }
+        ensures reported { (g : Group) (w : World Bytes) → IsWorld self.old g w →
             Tells result (is_bad g.members w event.now) (becomes g.members w event.now) }
         ensures stays { (g : Group) (w : World Bytes) → IsWorld self.old g w → OnErr result (IsWorld self.new g w) }
     {
@@ -193,11 +193,11 @@ pub fn lab(alloc: Global, members: u8, events: &[LabEvent]) -> Result<Lab, LabFa
     requires some { 1 ≤ members }
     requires few { members ≤ MEMBERS }
     ensures world { IfOk result (λ lab. IsWorld lab (cluster_of members)
-        (run same members (flat_map happenings events.now) start)) }
+        (run same members (flat_map model_events events.now) start)) }
     ensures ever { IfOk result (λ lab. IsEver (ever_of lab.hosts.items)
-        (run same members (flat_map happenings events.now) start)) }
+        (run same members (flat_map model_events events.now) start)) }
     ensures agreed { IfOk result (λ lab. IsAgreed members
-        (run same members (flat_map happenings events.now) start) (ever_of lab.hosts.items)) }
+        (run same members (flat_map model_events events.now) start) (ever_of lab.hosts.items)) }
     ensures equal { IfOk result (λ lab. AreEqual lab.hosts.items) }
     ensures known { OnOk result (are_known members events.now start ≡ true) }
     ensures unknown { result ≡ Err LabFault.BadEvent → are_known members events.now start ≡ false }

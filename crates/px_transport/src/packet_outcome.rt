@@ -4,7 +4,7 @@ use px_packet::{Arrival, PiecesHeld};
 
 /// What comes of a packet that a receiver took.
 #[derive(Drop)]
-pub enum Taken<'a> {
+pub enum PacketOutcome<'a> {
     /// A datagram that came in one packet: the body.
     Whole(&'a [u8]),
     /// A datagram of which the last piece came.

@@ -3,7 +3,7 @@ use Rattle.std.proofs.Common.{ap}
 use Rattle.px_wire.specs.declared.membership.Membership.{Membership}
 use Rattle.pf_node.specs.Nodes.{state_in, membership_of}
 use Rattle.pf_lab.proofs.Taking.{begun_sound}
-use Rattle.pf_lab.proofs.happening.host.Goals as goal
+use Rattle.pf_lab.proofs.lab_events.host.Goals as goal
 
 pub invariant_of-result : goal.invariant_of-result
 invariant_of-result c =

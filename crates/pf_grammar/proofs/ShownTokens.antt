@@ -285,53 +285,53 @@ written r = record { action = written_action r.action; quick = r.quick; conditio
 
 -- ---- the tokens spell it
 
-action_told : (a : Action) → IsAction (action_tokens a) (written_action a)
-action_told act.Pass = PassWord
-action_told act.Drop = BlockSaid _ policy.Drop DropWord
-action_told act.Return = BlockSaid _ policy.Return ReturnWord
+action_spelled : (a : Action) → IsAction (action_tokens a) (written_action a)
+action_spelled act.Pass = PassWord
+action_spelled act.Drop = BlockSaid _ policy.Drop DropWord
+action_spelled act.Return = BlockSaid _ policy.Return ReturnWord
 
-pub direction_told : (d : Option Direction) → IsDirection (direction_tokens d) d
-direction_told None = NoDirection
-direction_told (Some In) = InWord
-direction_told (Some Out) = OutWord
+pub direction_spelled : (d : Option Direction) → IsDirection (direction_tokens d) d
+direction_spelled None = NoDirection
+direction_spelled (Some In) = InWord
+direction_spelled (Some Out) = OutWord
 
-pub quick_told : (q : Bool) → IsSaid (codes "quick") (quick_tokens q) q
-quick_told true = Said
-quick_told false = Unsaid
+pub quick_spelled : (q : Bool) → IsSaid (codes "quick") (quick_tokens q) q
+quick_spelled true = Said
+quick_spelled false = Unsaid
 
-name_told : (profile : Profile) (negated : Bool) (name : List ℕ) → is_interface_name profile name ≡ true → IsInterface profile (negated_tokens negated (key name)) (record { negated = negated; name = name })
-name_told profile true name fits = NotOnInterface _ name (NameWord name fits)
-name_told profile false name fits = OnInterface _ name (NameWord name fits)
+name_spelled : (profile : Profile) (negated : Bool) (name : List ℕ) → is_interface_name profile name ≡ true → IsInterface profile (negated_tokens negated (key name)) (record { negated = negated; name = name })
+name_spelled profile true name fits = NotOnInterface _ name (NameWord name fits)
+name_spelled profile false name fits = OnInterface _ name (NameWord name fits)
 
-interface_told : (profile : Profile) (i : Option Interface) → FitsIf (λ (i : Interface). is_interface_name profile i.name ≡ true) i → IsBehind (codes "on") (IsSome (IsInterface profile)) (interface_tokens i) (one_if (λ (i : Interface). i) i)
-interface_told profile None fits = Missing
-interface_told profile (Some i) fits = Behind _ (one i) (One _ i (name_told profile i.negated i.name fits))
+interface_spelled : (profile : Profile) (i : Option Interface) → FitsIf (λ (i : Interface). is_interface_name profile i.name ≡ true) i → IsBehind (codes "on") (IsSome (IsInterface profile)) (interface_tokens i) (one_if (λ (i : Interface). i) i)
+interface_spelled profile None fits = Missing
+interface_spelled profile (Some i) fits = Behind _ (one i) (One _ i (name_spelled profile i.negated i.name fits))
 
-family_told : (f : Option Family) → IsFamily (family_tokens f) f
-family_told None = NoFamily
-family_told (Some Inet) = InetWord
-family_told (Some Inet6) = Inet6Word
+family_spelled : (f : Option Family) → IsFamily (family_tokens f) f
+family_spelled None = NoFamily
+family_spelled (Some Inet) = InetWord
+family_spelled (Some Inet6) = Inet6Word
 
-protocol_told : (p : Option ℕ) → FitsIf (λ n. n ≤ 255) p → IsBehind (codes "proto") (IsSome IsProtocol) (protocol_tokens p) (one_if written_protocol p)
-protocol_told None fits = Missing
-protocol_told (Some n) fits = Behind _ (one (written_protocol n)) (One _ (written_protocol n) (ProtocolWord (decimal n) n (protocol_again n fits)))
+protocol_spelled : (p : Option ℕ) → FitsIf (λ n. n ≤ 255) p → IsBehind (codes "proto") (IsSome IsProtocol) (protocol_tokens p) (one_if written_protocol p)
+protocol_spelled None fits = Missing
+protocol_spelled (Some n) fits = Behind _ (one (written_protocol n)) (One _ (written_protocol n) (ProtocolWord (decimal n) n (protocol_again n fits)))
 
-prefix_told : (block : Block) (full : Bool) → (block.len == width block.base) ≡ full → FitsBlock block → IsPrefix (key (shown_addr block.base) ++ length_tokens full block.len) block
-prefix_told block true is_full fits = WholeAddress (shown_addr block.base) block (let again = block_again block.base block.len fits.fits fits.block in rw is_full at again)
-prefix_told block false is_full fits = CutAddress (shown_addr block.base) (decimal block.len) block (let again = block_again block.base block.len fits.fits fits.block in rw is_full at again)
+prefix_spelled : (block : Block) (full : Bool) → (block.len == width block.base) ≡ full → FitsBlock block → IsPrefix (key (shown_addr block.base) ++ length_tokens full block.len) block
+prefix_spelled block true is_full fits = WholeAddress (shown_addr block.base) block (let again = block_again block.base block.len fits.fits fits.block in rw is_full at again)
+prefix_spelled block false is_full fits = CutAddress (shown_addr block.base) (decimal block.len) block (let again = block_again block.base block.len fits.fits fits.block in rw is_full at again)
 
-pub block_told : (block : Block) → FitsBlock block → IsPrefix (prefix_tokens block) block
-block_told block fits = prefix_told block (block.len == width block.base) refl fits
+pub block_spelled : (block : Block) → FitsBlock block → IsPrefix (prefix_tokens block) block
+block_spelled block fits = prefix_spelled block (block.len == width block.base) refl fits
 
-addresses_told : (profile : Profile) (set : Addresses) → FitsAddresses profile set → IsSet profile (addresses_tokens set) set
-addresses_told profile (Prefix block) fits = PrefixSet _ block (block_told block fits)
-addresses_told profile (Table name) fits = TableSet _ name (TableSign name fits)
-addresses_told profile (Range span) fits = RangeSet (shown_addr span.first) (shown_addr span.last) span.first span.last span (addr_again span.first fits.0) (addr_again span.last fits.1) fits.2
+addresses_spelled : (profile : Profile) (set : Addresses) → FitsAddresses profile set → IsSet profile (addresses_tokens set) set
+addresses_spelled profile (Prefix block) fits = PrefixSet _ block (block_spelled block fits)
+addresses_spelled profile (Table name) fits = TableSet _ name (TableSign name fits)
+addresses_spelled profile (Range span) fits = RangeSet (shown_addr span.first) (shown_addr span.last) span.first span.last span (addr_again span.first fits.0) (addr_again span.last fits.1) fits.2
 
-host_told : (profile : Profile) (h : Host) → FitsHost profile h → IsHost profile (host_tokens h) h
-host_told profile host.Any fits = AnyWord
-host_told profile (host.In set) fits = HostIn _ set (addresses_told profile set fits)
-host_told profile (host.NotIn set) fits = HostNotIn _ set (addresses_told profile set fits)
+host_spelled : (profile : Profile) (h : Host) → FitsHost profile h → IsHost profile (host_tokens h) h
+host_spelled profile host.Any fits = AnyWord
+host_spelled profile (host.In set) fits = HostIn _ set (addresses_spelled profile set fits)
+host_spelled profile (host.NotIn set) fits = HostNotIn _ set (addresses_spelled profile set fits)
 
 abbrev written_test : Option PortTest → WrittenPort
 written_test test = record { test = test }
@@ -339,11 +339,11 @@ written_test test = record { test = test }
 free : (profile : Profile) (n : ℕ) → n ≤ 65535 → is_reserved profile (decimal n) ≡ false
 free profile n fits = digit_free profile (decimal n) (decimal_begins n (omega (arith, fits)))
 
-compared_told : (profile : Profile) (ts : List Token) (test : ℕ → PortTest) (n : ℕ) → n ≤ 65535 → IsPort profile ts (record { test = one_port test (port_of (decimal n)) }) → IsPort profile ts (record { test = Some (test n) })
-compared_told profile ts test n fits is = subst (λ (o : Option ℕ). IsPort profile ts (written_test (one_port test o))) (port_again n fits) is
+compared_spelled : (profile : Profile) (ts : List Token) (test : ℕ → PortTest) (n : ℕ) → n ≤ 65535 → IsPort profile ts (record { test = one_port test (port_of (decimal n)) }) → IsPort profile ts (record { test = Some (test n) })
+compared_spelled profile ts test n fits is = subst (λ (o : Option ℕ). IsPort profile ts (written_test (one_port test o))) (port_again n fits) is
 
-bounds_told : (profile : Profile) (ts : List Token) (test : ℕ → ℕ → PortTest) (a b : ℕ) → a ≤ 65535 → b ≤ 65535 → IsPort profile ts (record { test = two_ports test (port_of (decimal a)) (port_of (decimal b)) }) → IsPort profile ts (record { test = Some (test a b) })
-bounds_told profile ts test a b fits_a fits_b is =
+bounds_spelled : (profile : Profile) (ts : List Token) (test : ℕ → ℕ → PortTest) (a b : ℕ) → a ≤ 65535 → b ≤ 65535 → IsPort profile ts (record { test = two_ports test (port_of (decimal a)) (port_of (decimal b)) }) → IsPort profile ts (record { test = Some (test a b) })
+bounds_spelled profile ts test a b fits_a fits_b is =
     subst (λ (o : Option ℕ). IsPort profile ts (written_test (two_ports test (Some a) o))) (port_again b fits_b) (subst (λ (o : Option ℕ). IsPort profile ts (written_test (two_ports test o (port_of (decimal b))))) (port_again a fits_a) is)
 
 -- ---- a port range
@@ -380,107 +380,107 @@ range_lone a b fits_a fits_b =
       port_again b fits_b,
     ) refl
 
-range_told : (profile : Profile) (a b : ℕ) → a ≤ 65535 → b ≤ 65535 → IsPort profile (test_tokens (FromTo a b)) (record { test = Some (FromTo a b) })
-range_told profile a b fits_a fits_b =
+range_spelled : (profile : Profile) (a b : ℕ) → a ≤ 65535 → b ≤ 65535 → IsPort profile (test_tokens (FromTo a b)) (record { test = Some (FromTo a b) })
+range_spelled profile a b fits_a fits_b =
     let is_free = digit_free profile (decimal a ++ 58 ∷ decimal b) (begins_more (decimal a) (58 ∷ decimal b) (decimal_begins a (omega (arith, fits_a)))) in
     subst (λ (o : Option PortTest). IsPort profile (key (decimal a ++ 58 ∷ decimal b)) (written_test o)) (range_lone a b fits_a fits_b) (PortAlone (decimal a ++ 58 ∷ decimal b) is_free)
 
-test_told : (profile : Profile) (test : PortTest) → FitsTest test → IsPort profile (test_tokens test) (record { test = Some test })
-test_told profile (Equal n) fits = compared_told profile _ Equal n fits (PortCompared mark.Equals Equal (decimal n) EqualsSign (free profile n fits))
-test_told profile (NotEqual n) fits = compared_told profile _ NotEqual n fits (PortCompared mark.NotEqual NotEqual (decimal n) NotEqualSign (free profile n fits))
-test_told profile (Less n) fits = compared_told profile _ Less n fits (PortCompared mark.Less Less (decimal n) LessSign (free profile n fits))
-test_told profile (LessEqual n) fits = compared_told profile _ LessEqual n fits (PortCompared mark.LessEqual LessEqual (decimal n) LessEqualSign (free profile n fits))
-test_told profile (Greater n) fits = compared_told profile _ Greater n fits (PortCompared mark.Greater Greater (decimal n) GreaterSign (free profile n fits))
-test_told profile (GreaterEqual n) fits = compared_told profile _ GreaterEqual n fits (PortCompared mark.GreaterEqual GreaterEqual (decimal n) GreaterEqualSign (free profile n fits))
-test_told profile (FromTo a b) fits = range_told profile a b fits.0 fits.1
-test_told profile (Between a b) fits = bounds_told profile _ Between a b fits.0 fits.1 (PortBounds mark.Between Between (decimal a) (decimal b) BetweenSign (free profile a fits.0) (free profile b fits.1))
-test_told profile (Outside a b) fits = bounds_told profile _ Outside a b fits.0 fits.1 (PortBounds mark.Outside Outside (decimal a) (decimal b) OutsideSign (free profile a fits.0) (free profile b fits.1))
+test_spelled : (profile : Profile) (test : PortTest) → FitsTest test → IsPort profile (test_tokens test) (record { test = Some test })
+test_spelled profile (Equal n) fits = compared_spelled profile _ Equal n fits (PortCompared mark.Equals Equal (decimal n) EqualsSign (free profile n fits))
+test_spelled profile (NotEqual n) fits = compared_spelled profile _ NotEqual n fits (PortCompared mark.NotEqual NotEqual (decimal n) NotEqualSign (free profile n fits))
+test_spelled profile (Less n) fits = compared_spelled profile _ Less n fits (PortCompared mark.Less Less (decimal n) LessSign (free profile n fits))
+test_spelled profile (LessEqual n) fits = compared_spelled profile _ LessEqual n fits (PortCompared mark.LessEqual LessEqual (decimal n) LessEqualSign (free profile n fits))
+test_spelled profile (Greater n) fits = compared_spelled profile _ Greater n fits (PortCompared mark.Greater Greater (decimal n) GreaterSign (free profile n fits))
+test_spelled profile (GreaterEqual n) fits = compared_spelled profile _ GreaterEqual n fits (PortCompared mark.GreaterEqual GreaterEqual (decimal n) GreaterEqualSign (free profile n fits))
+test_spelled profile (FromTo a b) fits = range_spelled profile a b fits.0 fits.1
+test_spelled profile (Between a b) fits = bounds_spelled profile _ Between a b fits.0 fits.1 (PortBounds mark.Between Between (decimal a) (decimal b) BetweenSign (free profile a fits.0) (free profile b fits.1))
+test_spelled profile (Outside a b) fits = bounds_spelled profile _ Outside a b fits.0 fits.1 (PortBounds mark.Outside Outside (decimal a) (decimal b) OutsideSign (free profile a fits.0) (free profile b fits.1))
 
-port_told : (profile : Profile) (port : Option PortTest) → FitsIf FitsTest port → IsBehind (codes "port") (IsSome (IsPort profile)) (port_tokens port) (one_if (λ (t : PortTest). record { test = Some t }) port)
-port_told profile None fits = Missing
-port_told profile (Some test) fits = Behind _ (one (written_test (Some test))) (One _ (written_test (Some test)) (test_told profile test fits))
+port_spelled : (profile : Profile) (port : Option PortTest) → FitsIf FitsTest port → IsBehind (codes "port") (IsSome (IsPort profile)) (port_tokens port) (one_if (λ (t : PortTest). record { test = Some t }) port)
+port_spelled profile None fits = Missing
+port_spelled profile (Some test) fits = Behind _ (one (written_test (Some test))) (One _ (written_test (Some test)) (test_spelled profile test fits))
 
-end_told : (profile : Profile) (h : Host) (port : Option PortTest) → FitsHost profile h → FitsIf FitsTest port → IsPart profile (end_tokens h port) (written_end h port)
-end_told profile h port fits_h fits_p = PartHosts (host_tokens h) (port_tokens port) (one h) _ (One (host_tokens h) h (host_told profile h fits_h)) (port_told profile port fits_p)
+end_spelled : (profile : Profile) (h : Host) (port : Option PortTest) → FitsHost profile h → FitsIf FitsTest port → IsPart profile (end_tokens h port) (written_end h port)
+end_spelled profile h port fits_h fits_p = PartHosts (host_tokens h) (port_tokens port) (one h) _ (One (host_tokens h) h (host_spelled profile h fits_h)) (port_spelled profile port fits_p)
 
-both_told : (profile : Profile) (s : Host) (sp : Option PortTest) (d : Host) (dp : Option PortTest) → FitsHost profile s → FitsIf FitsTest sp → FitsHost profile d → FitsIf FitsTest dp → IsHosts profile (both_tokens s sp d dp) (written_end s sp) (written_end d dp)
-both_told profile s sp d dp fits_s fits_sp fits_d fits_dp = FromToParts (end_tokens s sp) (end_tokens d dp) (written_end s sp) (written_end d dp) (end_told profile s sp fits_s fits_sp) (end_told profile d dp fits_d fits_dp)
+both_spelled : (profile : Profile) (s : Host) (sp : Option PortTest) (d : Host) (dp : Option PortTest) → FitsHost profile s → FitsIf FitsTest sp → FitsHost profile d → FitsIf FitsTest dp → IsHosts profile (both_tokens s sp d dp) (written_end s sp) (written_end d dp)
+both_spelled profile s sp d dp fits_s fits_sp fits_d fits_dp = FromToParts (end_tokens s sp) (end_tokens d dp) (written_end s sp) (written_end d dp) (end_spelled profile s sp fits_s fits_sp) (end_spelled profile d dp fits_d fits_dp)
 
 -- whether `all` says it
-ends_told : (profile : Profile) (s : Host) (sp : Option PortTest) (d : Host) (dp : Option PortTest) → FitsHost profile s → FitsIf FitsTest sp → FitsHost profile d → FitsIf FitsTest dp → IsHosts profile (ends_tokens s sp d dp) (written_end s sp) (written_end d dp)
-ends_told profile host.Any None host.Any None a b c d = AllWord
-ends_told profile host.Any None host.Any (Some t) a b c d = both_told profile host.Any None host.Any (Some t) a b c d
-ends_told profile host.Any None (host.In set) dp a b c d = both_told profile host.Any None (host.In set) dp a b c d
-ends_told profile host.Any None (host.NotIn set) dp a b c d = both_told profile host.Any None (host.NotIn set) dp a b c d
-ends_told profile host.Any (Some t) e dp a b c d = both_told profile host.Any (Some t) e dp a b c d
-ends_told profile (host.In set) sp e dp a b c d = both_told profile (host.In set) sp e dp a b c d
-ends_told profile (host.NotIn set) sp e dp a b c d = both_told profile (host.NotIn set) sp e dp a b c d
+ends_spelled : (profile : Profile) (s : Host) (sp : Option PortTest) (d : Host) (dp : Option PortTest) → FitsHost profile s → FitsIf FitsTest sp → FitsHost profile d → FitsIf FitsTest dp → IsHosts profile (ends_tokens s sp d dp) (written_end s sp) (written_end d dp)
+ends_spelled profile host.Any None host.Any None a b c d = AllWord
+ends_spelled profile host.Any None host.Any (Some t) a b c d = both_spelled profile host.Any None host.Any (Some t) a b c d
+ends_spelled profile host.Any None (host.In set) dp a b c d = both_spelled profile host.Any None (host.In set) dp a b c d
+ends_spelled profile host.Any None (host.NotIn set) dp a b c d = both_spelled profile host.Any None (host.NotIn set) dp a b c d
+ends_spelled profile host.Any (Some t) e dp a b c d = both_spelled profile host.Any (Some t) e dp a b c d
+ends_spelled profile (host.In set) sp e dp a b c d = both_spelled profile (host.In set) sp e dp a b c d
+ends_spelled profile (host.NotIn set) sp e dp a b c d = both_spelled profile (host.NotIn set) sp e dp a b c d
 
 -- ---- options
 
-letters_told : (set of : TcpFlags) (text : List ℕ) → letters set ≡ text → is_within set of ≡ true → nat_lt 0 (length (letters of)) ≡ true → IsFlags (letters_token text ++ (sign mark.Slash ++ key (letters of))) (flags.Just set of)
-letters_told set of [] e within some =
+letters_spelled : (set of : TcpFlags) (text : List ℕ) → letters set ≡ text → is_within set of ≡ true → nat_lt 0 (length (letters of)) ≡ true → IsFlags (letters_token text ++ (sign mark.Slash ++ key (letters of))) (flags.Just set of)
+letters_spelled set of [] e within some =
     let none : set ≡ no_flags = sym (flags_with_again set) ∙ ap flags_with e in
     subst (λ (f : TcpFlags). IsFlags (sign mark.Slash ++ key (letters of)) (flags.Just f of)) (sym none) (NoneOf (letters of) of (flags_again of some))
-letters_told set of (b ∷ text) e within some =
+letters_spelled set of (b ∷ text) e within some =
     let there : nat_lt 0 (length (letters set)) ≡ true = ap (λ (t : List ℕ). nat_lt 0 (length t)) e ∙ lt_is 0 (length (b ∷ text)) (omega arith) in
     SomeOf (b ∷ text) (letters of) set of (ap flags_of (sym e) ∙ flags_again set there) (flags_again of some) within
 
-pub flags_told : (test : FlagTest) → FitsFlags test → IsFlags (test_of_tokens test) test
-flags_told flags.Any fits = AnyFlags
-flags_told (flags.Just set of) fits = letters_told set of (letters set) refl fits.0 fits.1
+pub flags_spelled : (test : FlagTest) → FitsFlags test → IsFlags (test_of_tokens test) test
+flags_spelled flags.Any fits = AnyFlags
+flags_spelled (flags.Just set of) fits = letters_spelled set of (letters set) refl fits.0 fits.1
 
-state_told : (profile : Profile) (a : Action) (keep : Bool) (said : Options) → said.state ≡ None → IsOptions profile said (state_tokens a keep) (record said { state = written_state a keep })
-state_told profile act.Pass true said none = StateOption said _ (codes "keep") [] true none KeepWord (NoOption _)
-state_told profile act.Pass false said none = StateOption said _ (codes "no") [] false none NoWord (NoOption _)
-state_told profile act.Drop keep said none = subst (λ (o : Option Bool). IsOptions profile said [] (record said { state = o })) none (NoOption said)
-state_told profile act.Return keep said none = subst (λ (o : Option Bool). IsOptions profile said [] (record said { state = o })) none (NoOption said)
+state_spelled : (profile : Profile) (a : Action) (keep : Bool) (said : Options) → said.state ≡ None → IsOptions profile said (state_tokens a keep) (record said { state = written_state a keep })
+state_spelled profile act.Pass true said none = StateOption said _ (codes "keep") [] true none KeepWord (NoOption _)
+state_spelled profile act.Pass false said none = StateOption said _ (codes "no") [] false none NoWord (NoOption _)
+state_spelled profile act.Drop keep said none = subst (λ (o : Option Bool). IsOptions profile said [] (record said { state = o })) none (NoOption said)
+state_spelled profile act.Return keep said none = subst (λ (o : Option Bool). IsOptions profile said [] (record said { state = o })) none (NoOption said)
 
 abbrev with_flags : Options → Option FlagTest → Options
 with_flags said o = record said { flags = o }
 
 said_flags : (profile : Profile) (a : Action) (keep : Bool) (test : FlagTest) (said : Options) → said.flags ≡ None → said.state ≡ None → FitsFlags test → IsOptions profile said ((key (codes "flags") ++ test_of_tokens test) ++ state_tokens a keep) (record said { flags = Some test; state = written_state a keep })
-said_flags profile a keep test said no_flags no_state fits = FlagsOption said _ (test_of_tokens test) (state_tokens a keep) test no_flags (flags_told test fits) (state_told profile a keep (with_flags said (Some test)) no_state)
+said_flags profile a keep test said no_flags no_state fits = FlagsOption said _ (test_of_tokens test) (state_tokens a keep) test no_flags (flags_spelled test fits) (state_spelled profile a keep (with_flags said (Some test)) no_state)
 
 unsaid_flags : (profile : Profile) (a : Action) (keep : Bool) (said : Options) → said.flags ≡ None → said.state ≡ None → IsOptions profile said (state_tokens a keep) (record said { flags = None; state = written_state a keep })
-unsaid_flags profile a keep said no_flags no_state = subst (λ (o : Option FlagTest). IsOptions profile said (state_tokens a keep) (record said { flags = o; state = written_state a keep })) no_flags (state_told profile a keep said no_state)
+unsaid_flags profile a keep said no_flags no_state = subst (λ (o : Option FlagTest). IsOptions profile said (state_tokens a keep) (record said { flags = o; state = written_state a keep })) no_flags (state_spelled profile a keep said no_state)
 
-flags_state_told : (profile : Profile) (a : Action) (keep : Bool) (test : FlagTest) (said : Options) → said.flags ≡ None → said.state ≡ None → FitsFlags test → IsOptions profile said (flags_tokens a test ++ state_tokens a keep) (record said { flags = written_flags a test; state = written_state a keep })
-flags_state_told profile act.Pass keep test said no_flags no_state fits = said_flags profile act.Pass keep test said no_flags no_state fits
-flags_state_told profile act.Drop keep flags.Any said no_flags no_state fits = unsaid_flags profile act.Drop keep said no_flags no_state
-flags_state_told profile act.Drop keep (flags.Just set of) said no_flags no_state fits = said_flags profile act.Drop keep (flags.Just set of) said no_flags no_state fits
-flags_state_told profile act.Return keep flags.Any said no_flags no_state fits = unsaid_flags profile act.Return keep said no_flags no_state
-flags_state_told profile act.Return keep (flags.Just set of) said no_flags no_state fits = said_flags profile act.Return keep (flags.Just set of) said no_flags no_state fits
+flags_state_spelled : (profile : Profile) (a : Action) (keep : Bool) (test : FlagTest) (said : Options) → said.flags ≡ None → said.state ≡ None → FitsFlags test → IsOptions profile said (flags_tokens a test ++ state_tokens a keep) (record said { flags = written_flags a test; state = written_state a keep })
+flags_state_spelled profile act.Pass keep test said no_flags no_state fits = said_flags profile act.Pass keep test said no_flags no_state fits
+flags_state_spelled profile act.Drop keep flags.Any said no_flags no_state fits = unsaid_flags profile act.Drop keep said no_flags no_state
+flags_state_spelled profile act.Drop keep (flags.Just set of) said no_flags no_state fits = said_flags profile act.Drop keep (flags.Just set of) said no_flags no_state fits
+flags_state_spelled profile act.Return keep flags.Any said no_flags no_state fits = unsaid_flags profile act.Return keep said no_flags no_state
+flags_state_spelled profile act.Return keep (flags.Just set of) said no_flags no_state fits = said_flags profile act.Return keep (flags.Just set of) said no_flags no_state fits
 
 abbrev typed : Option (Elements WrittenType) → Options
 typed types = record no_options { types = types }
 
-options_told : (profile : Profile) (protocol : Option ℕ) (types : Option ℕ) (a : Action) (keep : Bool) (test : FlagTest) → FitsIf (FitsType profile protocol) types → FitsFlags test → IsOptions profile no_options (type_tokens types ++ (flags_tokens a test ++ state_tokens a keep)) (record { flags = written_flags a test; state = written_state a keep; types = written_types types })
-options_told profile protocol None a keep test fits_t fits = flags_state_told profile a keep test no_options refl refl fits
-options_told profile protocol (Some n) a keep test fits_t fits =
+options_spelled : (profile : Profile) (protocol : Option ℕ) (types : Option ℕ) (a : Action) (keep : Bool) (test : FlagTest) → FitsIf (FitsType profile protocol) types → FitsFlags test → IsOptions profile no_options (type_tokens types ++ (flags_tokens a test ++ state_tokens a keep)) (record { flags = written_flags a test; state = written_state a keep; types = written_types types })
+options_spelled profile protocol None a keep test fits_t fits = flags_state_spelled profile a keep test no_options refl refl fits
+options_spelled profile protocol (Some n) a keep test fits_t fits =
     let is_free = digit_free profile (decimal n) (decimal_begins n (let h = fits_t.1 in omega (arith, h))) in
     let type_is : IsTypes profile (key (decimal n)) (one (record { number = Some n })) = subst (λ (o : Option ℕ). IsTypes profile (key (decimal n)) (one (record { number = o }))) (type_again n fits_t.1) (TypeAlone (decimal n) is_free) in
-    TypesOption no_options _ (key (decimal n)) (flags_tokens a test ++ state_tokens a keep) (one (record { number = Some n })) fits_t.0 refl type_is (flags_state_told profile a keep test (typed (Some (one (record { number = Some n })))) refl refl fits)
+    TypesOption no_options _ (key (decimal n)) (flags_tokens a test ++ state_tokens a keep) (one (record { number = Some n })) fits_t.0 refl type_is (flags_state_spelled profile a keep test (typed (Some (one (record { number = Some n })))) refl refl fits)
 
-may_told : (a : Action) (keep : Bool) → may_keep (written_action a) (written_state a keep) ≡ true
-may_told act.Pass keep = refl
-may_told act.Drop keep = refl
-may_told act.Return keep = refl
+may_spelled : (a : Action) (keep : Bool) → may_keep (written_action a) (written_state a keep) ≡ true
+may_spelled act.Pass keep = refl
+may_spelled act.Drop keep = refl
+may_spelled act.Return keep = refl
 
 abbrev pub common_tokens : Conditions → List Token
 common_tokens c = interface_tokens c.interface ++ (family_tokens c.family ++ (protocol_tokens c.protocol ++ ends_tokens c.source c.source_port c.destination c.destination_port))
 
-pub common_told : (profile : Profile) (c : Conditions) → FitsConditions profile c → IsCommon profile (common_tokens c) (written_common c)
-common_told profile c fits = record {
+pub common_spelled : (profile : Profile) (c : Conditions) → FitsConditions profile c → IsCommon profile (common_tokens c) (written_common c)
+common_spelled profile c fits = record {
   interfaces = interface_tokens c.interface;
   family = family_tokens c.family;
   protocols = protocol_tokens c.protocol;
   hosts = ends_tokens c.source c.source_port c.destination c.destination_port;
   whole = refl;
-  are_interfaces = interface_told profile c.interface fits.interface;
-  is_family = family_told c.family;
-  are_protocols = protocol_told c.protocol fits.protocol;
-  are_hosts = ends_told profile c.source c.source_port c.destination c.destination_port fits.source fits.source_port fits.destination fits.destination_port;
+  are_interfaces = interface_spelled profile c.interface fits.interface;
+  is_family = family_spelled c.family;
+  are_protocols = protocol_spelled c.protocol fits.protocol;
+  are_hosts = ends_spelled profile c.source c.source_port c.destination c.destination_port fits.source fits.source_port fits.destination fits.destination_port;
 }
 
 -- its tokens, those of its conditions together
@@ -491,8 +491,8 @@ common_split r =
     four_parts (interface_tokens c.interface) (family_tokens c.family) (protocol_tokens c.protocol) (ends_tokens c.source c.source_port c.destination c.destination_port) (option_tokens r)
 
 -- a shown rule is one of the grammar
-pub rule_told : (profile : Profile) (r : Rule) → FitsRule profile r → IsRule profile (rule_tokens r) (written r)
-rule_told profile r fits = record {
+pub rule_spelled : (profile : Profile) (r : Rule) → FitsRule profile r → IsRule profile (rule_tokens r) (written r)
+rule_spelled profile r fits = record {
   action = action_tokens r.action;
   direction = direction_tokens r.conditions.direction;
   log = [];
@@ -501,13 +501,13 @@ rule_told profile r fits = record {
   common = common_tokens r.conditions;
   options = option_tokens r;
   whole = ap (λ (us : List Token). action_tokens r.action ++ (direction_tokens r.conditions.direction ++ ([] ++ (quick_tokens r.quick ++ us)))) (sym (common_split r));
-  is_action = action_told r.action;
-  is_direction = direction_told r.conditions.direction;
+  is_action = action_spelled r.action;
+  is_direction = direction_spelled r.conditions.direction;
   is_log = Unsaid;
-  is_quick = quick_told r.quick;
-  is_common = common_told profile r.conditions fits.conditions;
-  are_options = options_told profile r.conditions.protocol r.conditions.icmp_type r.action r.keeps_state r.conditions.flags fits.conditions.types fits.conditions.flags;
-  keeps = may_told r.action r.keeps_state;
+  is_quick = quick_spelled r.quick;
+  is_common = common_spelled profile r.conditions fits.conditions;
+  are_options = options_spelled profile r.conditions.protocol r.conditions.icmp_type r.action r.keeps_state r.conditions.flags fits.conditions.types fits.conditions.flags;
+  keeps = may_spelled r.action r.keeps_state;
 }
 
 -- what is behind the action
@@ -516,7 +516,7 @@ behind_action r =
     direction_tokens r.conditions.direction ++ ([] ++ (quick_tokens r.quick ++ (interface_tokens r.conditions.interface ++ (family_tokens r.conditions.family ++ (protocol_tokens r.conditions.protocol
     ++ (ends_tokens r.conditions.source r.conditions.source_port r.conditions.destination r.conditions.destination_port ++ option_tokens r))))))
 
-pub told_rank : (profile : Profile) (r : Rule) → FitsRule profile r → 1 < rank (behind_action r)
-unfolding rule_told
-told_rank profile r fits =
-    subst (λ (us : List Token). 1 < rank (direction_tokens r.conditions.direction ++ ([] ++ (quick_tokens r.quick ++ us)))) (common_split r) (rule_rank profile (rule_tokens r) (written r) (rule_told profile r fits))
+pub shown_rank : (profile : Profile) (r : Rule) → FitsRule profile r → 1 < rank (behind_action r)
+unfolding rule_spelled
+shown_rank profile r fits =
+    subst (λ (us : List Token). 1 < rank (direction_tokens r.conditions.direction ++ ([] ++ (quick_tokens r.quick ++ us)))) (common_split r) (rule_rank profile (rule_tokens r) (written r) (rule_spelled profile r fits))

@@ -17,7 +17,7 @@ use Rattle.node_udp.specs.Addresses.{address_of, shown_address, shown_ip}
 use Rattle.pf_scripts.specs.Lines.{lines, words_in, words_if}
 use Rattle.cli_ask.specs.Sending.{is_graphic, has_control, is_plain, change_line}
 use Rattle.cli_nft.specs.Words.{member_at, members_at, members_in}
-use Rattle.cli_follow.specs.Members.{texts_on, members_or, members_among, members_told, IsAddress, members_line, AreRead}
+use Rattle.cli_follow.specs.Members.{texts_on, members_or, members_among, members_reported, IsAddress, members_line, AreRead}
 
 -- ---- what the laws below say
 
@@ -113,7 +113,7 @@ texts_of [] some = absurd (omega (arith, some))
 texts_of (a ∷ ends) some = refl
 
 pub are_read : Reads → Graphic → Words → Lines → (ends : List Address) → AreRead ends
-unfolding members_told
+unfolding members_reported
 are_read reads graphic read cut ends fit some few text =
     ap members_among (cut (member_words ends) (members_line ends) text (line_of graphic ends fit))
     ∙ ap (λ (o : Option (List (List ℕ))). members_or (option_and_then texts_on o) (members_among (lines text))) (words_of graphic read ends fit)

@@ -1,6 +1,6 @@
 -- what opened the store says so
 use Rattle.px_store.specs.declared.formats.Format.TheVariants.{Three}
-use Rattle.cli_show.proofs.store.taken.Goals as goal
+use Rattle.cli_show.proofs.store.adopted.Goals as goal
 
 pub returns-in-Ok-clause-clean : goal.returns-in-Ok-clause-clean
 returns-in-Ok-clause-clean g c = λ honest. c.in-Ok.ensures.clean honest
