@@ -3,7 +3,7 @@
 ghost use Rattle.std.specs.Prelude.{◌≡◌, ◌≢◌, IfOk, string_bytes};
 ghost use Rattle.cli_node.specs.declared.outcome.Outcome.TheVariants.{Front, Asked, Refused, RefusedLine};
 ghost use Rattle.cli_node.specs.Outcomes.{line_of, status_of, Wrote};
-ghost use Rattle.cli_node.specs.inner.Outcomes.{outcome_of, ending_of, answer_outcome, ended_outcome};
+ghost use Rattle.cli_node.specs.inner.Outcomes.{numbered, outcome_of, ending_of, answer_outcome, ended_outcome};
 
 use cli_files::key_text;
 use cli_io::{Status, out_of_memory};
@@ -126,20 +126,21 @@ pub(crate) fn write_outcome<W: Write>(alloc: Global, outcome: Outcome, writer: &
     }
 }
 
-/// What a fault of a node comes to.
+/// What a refusal with this number is shown as; without one, that memory ran out.
+pub(crate) fn numbered(code: Option<u8>) -> Outcome
+    ensures { result ≡ numbered code }
+{
+    match code {
+        None => Outcome::Memory,
+        Some(code) => Outcome::Refused(code),
+    }
+}
+
+/// What a fault of a node is shown as.
 pub(crate) fn fault_outcome(fault: NodeFault) -> Outcome
     ensures { result ≡ outcome_of fault }
 {
-    match fault {
-        NodeFault::Memory => Outcome::Memory,
-        NodeFault::TooLong => Outcome::Refused(41),
-        NodeFault::Full => Outcome::Refused(60),
-        NodeFault::BallotsSpent => Outcome::Refused(61),
-        NodeFault::PositionsSpent => Outcome::Refused(62),
-        NodeFault::Store => Outcome::Refused(70),
-        NodeFault::BadStore => Outcome::Refused(72),
-        NodeFault::Failed => Outcome::Refused(80),
-    }
+    numbered(fault.code())
 }
 
 /// How a run ends whose store has this number of failures: a node that had failed ends with what it failed of, 70 or

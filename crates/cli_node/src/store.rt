@@ -9,7 +9,7 @@ ghost use Rattle.cli_node.specs.inner.Stores.{IsOpening, IsStoreless, is_made};
 use crate::database::open_database;
 use crate::faults::{say_closed, say_judged, say_storeless};
 use crate::node::NodeWords;
-use crate::outcome::Outcome;
+use crate::outcome::{Outcome, numbered};
 use cli_io::make_private;
 use node_loop::Membership;
 use px_records::Records;
@@ -109,10 +109,7 @@ pub(crate) fn found_at(rt: &HostRuntime, alloc: Global, path: &str) -> Result<Fo
 fn adopt_outcome(fault: AdoptFault) -> Outcome
     ensures { result ≡ adopt_outcome fault }
 {
-    match fault.code() {
-        Some(code) => Outcome::Refused(code),
-        None => Outcome::Memory,
-    }
+    numbered(fault.code())
 }
 
 /// What a store comes to that isn't taken; why is said on standard error.

@@ -7,7 +7,7 @@ use Rattle.px_model.specs.Step.{front, positions}
 use Rattle.px_records.specs.declared.records.Records.{Ghosts}
 use Rattle.px_replica.specs.Calls.{Call}
 use Rattle.px_replica.specs.declared.fault.NodeFault.{NodeFault}
-use Rattle.px_replica.specs.declared.fault.NodeFault.TheVariants as fault
+use Rattle.px_replica.specs.Codes.{node_fault_code}
 use Rattle.pf_entry.specs.Entry as entries
 use Rattle.pf_entry.specs.Entry.{spelling}
 use Rattle.pf_node.specs.Nodes.{replica_of, records_of, membership_of, applied_of, config_of, learned_by, state_in}
@@ -21,17 +21,15 @@ use Rattle.node_requests.specs.declared.changing.Changed.TheVariants.{Asked, Ref
 abbrev pub bytes_of : entries.Command → Bytes
 bytes_of command = command_in (spelling (record { origin = 0; number = 0; command = command }))
 
+-- what is answered where this number refuses an ask; none: out of memory
+abbrev pub refused_with : Option ℕ → Changed
+refused_with None = Memory
+refused_with (Some code) = Refused code
+
 -- what a fault of an ask is answered with
 -- Example: TooLong is 41.
 abbrev pub refused_by : NodeFault → Changed
-refused_by fault.Memory = Memory
-refused_by fault.TooLong = Refused 41
-refused_by fault.Full = Refused 60
-refused_by fault.BallotsSpent = Refused 61
-refused_by fault.PositionsSpent = Refused 62
-refused_by fault.Store = Refused 70
-refused_by fault.BadStore = Refused 72
-refused_by fault.Failed = Refused 80
+refused_by e = refused_with (node_fault_code e)
 
 -- what an ask is answered with: without a fault the node's number as a member, and the number that the record had next
 -- Example: member 0 whose record has 17 as the next number: 0 and 17.

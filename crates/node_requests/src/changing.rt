@@ -28,15 +28,9 @@ pub enum Changed {
 fn refused_by(fault: NodeFault) -> Changed
     ensures { result ≡ refused_by fault }
 {
-    match fault {
-        NodeFault::Memory => Changed::Memory,
-        NodeFault::TooLong => Changed::Refused(41),
-        NodeFault::Full => Changed::Refused(60),
-        NodeFault::BallotsSpent => Changed::Refused(61),
-        NodeFault::PositionsSpent => Changed::Refused(62),
-        NodeFault::Store => Changed::Refused(70),
-        NodeFault::BadStore => Changed::Refused(72),
-        NodeFault::Failed => Changed::Refused(80),
+    match fault.code() {
+        None => Changed::Memory,
+        Some(code) => Changed::Refused(code),
     }
 }
 

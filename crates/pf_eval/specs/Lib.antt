@@ -1,3 +1,4 @@
+pub mod Codes
 pub mod Packets
 pub mod PacketTexts
 pub mod Cursors

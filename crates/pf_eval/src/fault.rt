@@ -1,6 +1,7 @@
 //! Why a packet text is refused.
 
 ghost use Rattle.std.specs.Prelude.{◌≡◌};
+ghost use Rattle.pf_eval.specs.Codes.{packet_fault_code};
 ghost use Rattle.pf_eval.specs.declared.fault.PacketFault.TheVariants.{Memory};
 
 use std::alloc::{AllocError, AllocFailed};
@@ -12,9 +13,21 @@ pub enum PacketFault {
     /// A growth was refused.
     #[error("out of memory")]
     Memory,
-    /// The text isn't spelled as a packet (refusal 30).
+    /// 30: the text isn't spelled as a packet.
     #[error("not a packet")]
     BadPacket,
+}
+
+impl PacketFault {
+    /// The number of the refusal, 30; none for lack of memory.
+    pub fn code(self) -> Option<u8>
+        ensures { result ≡ packet_fault_code self }
+    {
+        match self {
+            PacketFault::Memory => None,
+            PacketFault::BadPacket => Some(30),
+        }
+    }
 }
 
 impl From<AllocError> for PacketFault {

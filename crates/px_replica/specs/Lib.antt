@@ -1,3 +1,4 @@
+pub mod Codes
 pub mod Spelled
 pub mod Seen
 pub mod Faults

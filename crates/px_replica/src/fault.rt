@@ -1,5 +1,8 @@
 //! Why a call of a node is refused.
 
+ghost use Rattle.std.specs.Prelude.{◌≡◌};
+ghost use Rattle.px_replica.specs.Codes.{node_fault_code};
+
 use thiserror::Error;
 
 /// Why a call of a node is refused. What is shown of a refusal is its number.
@@ -29,4 +32,22 @@ pub enum NodeFault {
     /// 80: the node has failed before.
     #[error("80")]
     Failed,
+}
+
+impl NodeFault {
+    /// The number of the refusal; none for lack of memory.
+    pub fn code(self) -> Option<u8>
+        ensures { result ≡ node_fault_code self }
+    {
+        match self {
+            NodeFault::Memory => None,
+            NodeFault::TooLong => Some(41),
+            NodeFault::Full => Some(60),
+            NodeFault::BallotsSpent => Some(61),
+            NodeFault::PositionsSpent => Some(62),
+            NodeFault::Store => Some(70),
+            NodeFault::BadStore => Some(72),
+            NodeFault::Failed => Some(80),
+        }
+    }
 }

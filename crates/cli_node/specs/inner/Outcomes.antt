@@ -1,11 +1,11 @@
 -- What only code and proofs use beside `Outcomes`.
-use Rattle.std.specs.Prelude.{◌≡◌, ◌⊎◌, ◌==◌, if◌then◌else◌, ℕ, Bool, false, nat_lt, List, []}
+use Rattle.std.specs.Prelude.{◌≡◌, ◌⊎◌, ◌==◌, if◌then◌else◌, ℕ, Bool, false, nat_lt, List, [], Option, Some, None}
 use Rattle.px_records.specs.declared.records.Records.{Ghosts}
 use Rattle.px_wire.specs.declared.membership.Membership.{Membership}
 use Rattle.px_replica.specs.declared.fault.NodeFault.{NodeFault}
-use Rattle.px_replica.specs.declared.fault.NodeFault.TheVariants as fault
+use Rattle.px_replica.specs.Codes.{node_fault_code}
 use Rattle.px_store.specs.declared.fault.AdoptFault.{AdoptFault}
-use Rattle.px_store.specs.declared.fault.AdoptFault.TheVariants as adopt
+use Rattle.px_store.specs.Adopting.{code_of}
 use Rattle.px_transport.specs.Wires.{WireEvent}
 use Rattle.node_loop.specs.Lives.{Runs, HostedRuns}
 use Rattle.node_loop.specs.declared.ended.Ended.{Ended}
@@ -21,16 +21,14 @@ abbrev pub is_refused : ℕ → Outcome → Bool
 is_refused code (Refused other) = other == code
 is_refused code outcome = false
 
+-- what a refusal with this number is shown as; none: out of memory
+abbrev pub numbered : Option ℕ → Outcome
+numbered None = Memory
+numbered (Some code) = Refused code
+
 -- the refusals that a fault of a node is shown as
 abbrev pub outcome_of : NodeFault → Outcome
-outcome_of fault.Memory = Memory
-outcome_of fault.TooLong = Refused 41
-outcome_of fault.Full = Refused 60
-outcome_of fault.BallotsSpent = Refused 61
-outcome_of fault.PositionsSpent = Refused 62
-outcome_of fault.Store = Refused 70
-outcome_of fault.BadStore = Refused 72
-outcome_of fault.Failed = Refused 80
+outcome_of e = numbered (node_fault_code e)
 
 -- What a run is shown as whose store has this number of failures: a member that had failed ends with what it failed of,
 -- 70 where a call on the store failed and 72 where a row was bad.
@@ -79,11 +77,7 @@ ComesOpenOr G m given outcome back = ComesOpen G m given outcome back ⊎ (IsWir
 
 -- the refusals of a store
 abbrev pub adopt_outcome : AdoptFault → Outcome
-adopt_outcome adopt.Memory = Memory
-adopt_outcome adopt.Failed = Refused 70
-adopt_outcome adopt.StoreVersion = Refused 73
-adopt_outcome adopt.BadStore = Refused 72
-adopt_outcome adopt.WrongNode = Refused 71
+adopt_outcome e = numbered (code_of e)
 
 -- what a node answers
 abbrev pub answer_outcome : ℕ → AskAnswer → Outcome
