@@ -47,8 +47,8 @@ cast_meta c m n round number =
     rw (cast_int (pos 1), cast_null, cast_int (pos 3), cast_int (pos c), cast_int (pos m), cast_int (pos n), cast_int (pos round), cast_int (pos number)) refl
 
 pub goes_meta : (c m n round number : ℕ) → Goes put_meta (replace 0 meta_terms 8) (meta_params c m n round number) 0 1 meta_columns (meta_row 3 c m n round number)
-goes_meta c m n round number limit mode db counts after h =
-    let r = replaced limit mode.keys meta (meta_params c m n round number) 1 (stored_meta c m n round number) (cast_meta c m n round number) refl refl 0 8 meta_terms refl mode db counts after h in
+goes_meta c m n round number limit mode db tally after h =
+    let r = replaced limit mode.keys meta (meta_params c m n round number) 1 (stored_meta c m n round number) (cast_meta c m n round number) refl refl 0 8 meta_terms refl mode db tally after h in
     (record { put = ap (map (shown meta_columns)) r.0.alone; others = λ keys. r.0.others (keyed (2 ∷ 3 ∷ 4 ∷ 5 ∷ 6 ∷ 7 ∷ []) 1 (rows_at (db 0) 1) keys); trees = r.0.trees }, r.1)
 
 abbrev stored_slot : (promised ballot : ℕ) → List ℕ → Row
@@ -58,24 +58,24 @@ cast_slot : (p a b : ℕ) (e : List ℕ) → cast_row slots (Int (pos p) ∷ sto
 cast_slot p a b e = rw (cast_int (pos p), cast_null, cast_int (pos a), cast_int (pos b)) refl
 
 pub goes_slot : (p a b : ℕ) (e : List ℕ) → Goes put_slot (replace 1 slot_terms 5) (slot_params p a b e) 1 p slot_columns (slot_row p a b e)
-goes_slot p a b e limit mode db counts after h =
-    let r = replaced limit mode.keys slots (slot_params p a b e) p (stored_slot a b e) (cast_slot p a b e) refl refl 1 5 slot_terms refl mode db counts after h in
+goes_slot p a b e limit mode db tally after h =
+    let r = replaced limit mode.keys slots (slot_params p a b e) p (stored_slot a b e) (cast_slot p a b e) refl refl 1 5 slot_terms refl mode db tally after h in
     (record { put = ap (map (shown slot_columns)) r.0.alone; others = λ keys. r.0.others (keyed (2 ∷ 3 ∷ 4 ∷ []) p (rows_at (db 1) p) keys); trees = r.0.trees }, r.1)
 
 cast_floor : (b : ℕ) → cast_row floor (Int (pos 1) ∷ Null ∷ Int (pos b) ∷ []) ≡ Int (pos 1) ∷ Null ∷ Int (pos b) ∷ []
 cast_floor b = rw (cast_int (pos 1), cast_null, cast_int (pos b)) refl
 
 pub goes_floor : (b : ℕ) → Goes put_floor (replace 2 floor_terms 3) (Int (pos b) ∷ []) 2 1 floor_columns (floor_row b)
-goes_floor b limit mode db counts after h =
-    let r = replaced limit mode.keys floor (Int (pos b) ∷ []) 1 (Null ∷ Int (pos b) ∷ []) (cast_floor b) refl refl 2 3 floor_terms refl mode db counts after h in
+goes_floor b limit mode db tally after h =
+    let r = replaced limit mode.keys floor (Int (pos b) ∷ []) 1 (Null ∷ Int (pos b) ∷ []) (cast_floor b) refl refl 2 3 floor_terms refl mode db tally after h in
     (record { put = ap (map (shown floor_columns)) r.0.alone; others = λ keys. r.0.others (keyed (2 ∷ []) 1 (rows_at (db 2) 1) keys); trees = r.0.trees }, r.1)
 
 cast_learned : (p : ℕ) (e : List ℕ) → cast_row learned (Int (pos p) ∷ Null ∷ Blob e ∷ []) ≡ Int (pos p) ∷ Null ∷ Blob e ∷ []
 cast_learned p e = rw (cast_int (pos p), cast_null) refl
 
 pub goes_learned : (p : ℕ) (e : List ℕ) → Goes put_learned (replace 3 learned_terms 3) (Int (pos p) ∷ Blob e ∷ []) 3 p learned_columns (learned_row p e)
-goes_learned p e limit mode db counts after h =
-    let r = replaced limit mode.keys learned (Int (pos p) ∷ Blob e ∷ []) p (Null ∷ Blob e ∷ []) (cast_learned p e) refl refl 3 3 learned_terms refl mode db counts after h in
+goes_learned p e limit mode db tally after h =
+    let r = replaced limit mode.keys learned (Int (pos p) ∷ Blob e ∷ []) p (Null ∷ Blob e ∷ []) (cast_learned p e) refl refl 3 3 learned_terms refl mode db tally after h in
     (record { put = ap (map (shown learned_columns)) r.0.alone; others = λ keys. r.0.others (keyed (2 ∷ []) p (rows_at (db 3) p) keys); trees = r.0.trees }, r.1)
 
 -- ---- and on the record

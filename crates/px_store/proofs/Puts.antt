@@ -185,9 +185,9 @@ module _ (limit : Option ℕ) (keys : Keys) (table : Table) (params : Row) (p : 
         ∙ ap (with_rowid Chosen rows) (ap (cast_row table) mends ∙ casts)
 
     -- what the statement means, for the rows of the table
-    pub replaced : (mode : Mode) (db : Trees) (counts : Tally) (after : Database)
-        → OnRows task mode None (replace place terms width) db (Ok (counts, after)) → IsIn db after.trees × (after.schema ≡ schema_3)
-    replaced mode db counts after h =
+    pub replaced : (mode : Mode) (db : Trees) (tally : Tally) (after : Database)
+        → OnRows task mode None (replace place terms width) db (Ok (tally, after)) → IsIn db after.trees × (after.schema ≡ schema_3)
+    replaced mode db tally after h =
         let done = went h in
         let now = ap (λ (p : Tally × Database). p.1) (same_value (went (went done.2).2).2) in
         let given = went done.1 in
@@ -212,8 +212,8 @@ at_schema schema trees = record { schema = schema; trees = trees }
 -- what the text means of these trees
 abbrev pub Goes : (text : List ℕ) (command : Command) (params : Row) (tree p : ℕ) (columns : List ℕ) → Row → Type 0
 Goes text command params tree p columns row =
-    (limit : Option ℕ) (mode : Mode) (db : Trees) (counts : Tally) (after : Database)
-    → Does limit mode params (at_schema schema_3 db) (statement_of text (understood schema_3 text)) None command (Ok (counts, after))
+    (limit : Option ℕ) (mode : Mode) (db : Trees) (tally : Tally) (after : Database)
+    → Does limit mode params (at_schema schema_3 db) (statement_of text (understood schema_3 text)) None command (Ok (tally, after))
     → Puts tree p columns row db after.trees × (after.schema ≡ schema_3)
 
 module _ (text : List ℕ) (place width : ℕ) (terms : List Term) (means : Means schema_3 text (replace place terms width)) (params : Row) (tree p : ℕ) (columns : List ℕ) (row : Row)
@@ -221,17 +221,17 @@ module _ (text : List ℕ) (place width : ℕ) (terms : List Term) (means : Mean
   abbrev whole : List ℕ
   whole = statement_of text (understood schema_3 text)
 
-  does : (counts : Tally) (after : Database) → Does old.step_limit (mode_of old) params old.now whole None (replace place terms width) (Ok (counts, after))
+  does : (tally : Tally) (after : Database) → Does old.step_limit (mode_of old) params old.now whole None (replace place terms width) (Ok (tally, after))
       → Puts tree p columns row old.now.trees after.trees × (after.schema ≡ schema_3)
-  does counts after h =
-      goes old.step_limit (mode_of old) old.now.trees counts after
-      (subst (λ s. Does old.step_limit (mode_of old) params (at_schema s old.now.trees) whole None (replace place terms width) (Ok (counts, after))) has h)
+  does tally after h =
+      goes old.step_limit (mode_of old) old.now.trees tally after
+      (subst (λ s. Does old.step_limit (mode_of old) params (at_schema s old.now.trees) whole None (replace place terms width) (Ok (tally, after))) has h)
 
   pub keeps : (new : State) (count : ℕ) → old.in_transaction ≡ false → Executes text params old new (Ok count)
       → Puts tree p columns row old.now.trees new.now.trees × IsSettled new
   keeps new count auto h =
       let w = runs_as text params old new schema_3 has (replace place terms width) means.is means.plain count h in
-      let d = does w.counts new.now w.changed in (
+      let d = does w.tally new.now w.changed in (
         d.0,
         record {
           committed = w.shown.committed_is ∙ ap (λ c. cond c old.committed new.now) auto;
@@ -245,7 +245,7 @@ module _ (text : List ℕ) (place width : ℕ) (terms : List Term) (means : Mean
   pub inside : (new : State) (count : ℕ) → Executes text params old new (Ok count) → Puts tree p columns row old.now.trees new.now.trees × (new.now.schema ≡ schema_3)
   inside new count h =
       let w = runs_as text params old new schema_3 has (replace place terms width) means.is means.plain count h in
-      does w.counts new.now w.changed
+      does w.tally new.now w.changed
 
   -- and so is what a crash in the midst may leave
   pub leaves : (db : Trees) → CommitsBy text params old db → Puts tree p columns row old.now.trees db
